@@ -1,6 +1,6 @@
 -- The text of a value (RFC 9651 section 4.1).
 use Rattle.std.specs.Prelude.{ℕ, ◌+◌, ◌/◌, ◌%◌, ℤ, pos, negsuc, Bool, true, false, ◌||◌, ◌==◌, unsigned_abs, List, [], ◌∷◌, ◌++◌, codes, if◌then◌else◌}
-use Rattle.std.specs.Fmt.{decimal, signed_decimal}
+use Rattle.std.specs.Fmt.{decimal}
 use Rattle.std.specs.List.{flat_map, join_by}
 use Rattle.base64.specs.Engines.{standard}
 use Rattle.base64.specs.GeneralPurpose.{encode_of}
@@ -18,6 +18,10 @@ use Rattle.sfv_text.specs.declared.value.Member.TheVariants.{Item as OneItem, In
 abbrev pub sign_text : ℤ → List ℕ
 sign_text (pos n) = []
 sign_text (negsuc n) = codes "-"
+
+-- an Integer (section 4.1.4)
+abbrev pub integer_text : ℤ → List ℕ
+integer_text z = sign_text z ++ decimal (unsigned_abs z)
 
 -- three digits of thousandths, without zeros at the end behind the first
 abbrev pub fraction_text : ℕ → List ℕ
@@ -47,7 +51,7 @@ bool_text false = codes "?0"
 bool_text true = codes "?1"
 
 abbrev pub bare_text : BareItem → List ℕ
-bare_text (Integer z) = signed_decimal z
+bare_text (Integer z) = integer_text z
 bare_text (Decimal z) = decimal_text z
 bare_text (Str text) = string_text text
 bare_text (Token text) = text
