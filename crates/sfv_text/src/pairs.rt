@@ -52,6 +52,13 @@ impl<V: Drop> Pairs<V> {
         }
     }
 
+    pub(crate) fn from_vec(pairs: Vec<Pair<V>>) -> Self
+        requires { have_distinct_keys pairs.items ≡ true }
+        ensures { result ≡ pairs.items }
+    {
+        Pairs { pairs }
+    }
+
     /// How many pairs it has.
     pub fn len(&self) -> usize
         ensures { result ≡ length self.now }
