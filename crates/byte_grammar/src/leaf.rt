@@ -54,7 +54,7 @@ pub fn read_run<C: ByteClass>(
     bytes: &[u8],
 ) -> Result<(&[u8], &[u8]), Left>
     ensures gives { Gives (λ x. (x.0.now, x.1.now)) result (run_read (C.members class) least most bytes.now) }
-    ensures kept { IfOk result (λ x. (list_all (C.members class) x.0.now ≡ true) × (least ≤ length x.0.now) × (length x.0.now ≤ most)) }
+    ensures all { IfOk result (λ x. (list_all (C.members class) x.0.now ≡ true) × (least ≤ length x.0.now) × (length x.0.now ≤ most)) }
 {
     let n = count(class, most, bytes);
     if n < least {
@@ -67,7 +67,8 @@ pub fn read_run<C: ByteClass>(
 /// Reads as many bytes of the class as there are.
 #[tactic(auto, unfolding(crate::specs::Walk::all_read))]
 pub fn read_all<C: ByteClass>(class: C, bytes: &[u8]) -> (&[u8], &[u8])
-    ensures { all_read (C.members class) bytes.now ≡ Ok (result.0.now, result.1.now) }
+    ensures gives { all_read (C.members class) bytes.now ≡ Ok (result.0.now, result.1.now) }
+    ensures all { list_all (C.members class) result.0.now ≡ true }
 {
     bytes.split_at(count(class, bytes.len(), bytes))
 }
