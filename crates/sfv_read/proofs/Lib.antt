@@ -8,3 +8,5 @@ pub mod Letters
 pub mod BareItems
 pub mod Items
 pub mod InnerLists
+pub mod PartedTexts
+pub mod Members

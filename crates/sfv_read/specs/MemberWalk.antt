@@ -1,11 +1,11 @@
 -- Lists and Dictionaries, read over lists from left to right.
 use Rattle.std.specs.Prelude.{◌≡◌, ℕ, Bool, true, List, [], ◌∷◌, Option, Some, None, Result, Ok}
-use Rattle.byte_grammar.specs.Walk.{◌>>=◌, byte_read, all_read, optional_read, choose_read, turns_read}
+use Rattle.byte_grammar.specs.Walk.{◌>>=◌, byte_read, all_read, optional_read, choose_read, turns_read, with_state}
 use Rattle.sfv_text.specs.declared.value.Member.{Member}
 use Rattle.sfv_text.specs.declared.value.Member.TheVariants.{Item as One, InnerList as Several}
 use Rattle.sfv_text.specs.declared.pair.Pair.{Pair}
 use Rattle.sfv_read.specs.Class.{is_space, is_blank, is_open, is_comma, is_equals}
-use Rattle.sfv_read.specs.Item.{kept}
+use Rattle.sfv_read.specs.Item.{put_pair}
 use Rattle.sfv_read.specs.Member.{true_item}
 use Rattle.sfv_read.specs.ItemWalk.{pair_of, key_read, item_read, params_read}
 use Rattle.sfv_read.specs.InnerWalk.{inner_read}
@@ -59,5 +59,12 @@ pair_read bytes = key_read bytes >>= λ k. pair_value k.1 >>= λ v. Ok (pair_of 
 abbrev pub list_read : List ℕ → Result (List Member × List ℕ) ℕ
 list_read bytes = parted_read member_read bytes
 
+-- pairs, put one after the other
+unfoldable pub pairs_read : List ℕ → Result (List (Pair Member) × List ℕ) ℕ
+pairs_read bytes = pair_read bytes >>= λ p. with_state put_pair (put_pair [] p.0) (turns_read (parted_turn pair_read) p.1)
+
+unfoldable pub some_pairs : List ℕ → Result (List (Pair Member) × List ℕ) ℕ
+some_pairs bytes = optional_read (λ _. true) pairs_read bytes >>= λ o. Ok (list_of o.0, o.1)
+
 unfoldable pub dict_read : List ℕ → Result (List (Pair Member) × List ℕ) ℕ
-dict_read bytes = parted_read pair_read bytes >>= λ ps. Ok (kept ps.0, ps.1)
+dict_read bytes = all_read is_space bytes >>= λ s. some_pairs s.1

@@ -4,8 +4,11 @@
 mod bare;
 mod byte_sequence;
 mod class;
+mod dict;
 mod inner;
 mod item;
+mod list;
+mod member;
 mod number;
 mod params;
 mod stop;
