@@ -4,7 +4,7 @@ use Rattle.std.specs.List.{list_all}
 use Rattle.std.proofs.lemmas.List.{append-nil, length-append, take_at, take-append-drop, length-drop}
 use Rattle.std.proofs.lemmas.Bool.{eqb-true}
 use Rattle.byte_grammar.specs.Language.{Begins, Then, Mapped, IsAll, Padded}
-use Rattle.byte_grammar.specs.Walk.{◌>>=◌, left, Next, all_read, padded_read, ended, whole_read}
+use Rattle.byte_grammar.specs.Walk.{◌>>=◌, left, Next, all_read, padded_read, ended, whole_read, unread}
 use Rattle.byte_grammar.proofs.Laws.{Meets, meets_then, meets_all, meets_same, meets_map, and_is, ok_is, not_err, left_less, bind_ok, bind_err}
 use Rattle.byte_grammar.specs.Place.{IsPlace}
 
@@ -100,11 +100,6 @@ module _ {V : Type 0} {L : List ℕ → V → Type 0} {p : List ℕ → Result (
       let s = m.ok text v (c ∷ rest) e in
       is_place text (length (c ∷ rest)) (ap (λ (r : Result (V × List ℕ) ℕ). left r) e) (rest_none text v c rest e)
       (subst (λ (y : List ℕ). Begins L y) (sym (take_front s.0 (c ∷ rest) text s.1)) ([], v, subst (λ (y : List ℕ). L y v) (sym (append-nil s.0)) s.2))
-
--- how many bytes of a whole text weren't read
-abbrev pub unread : {V : Type 0} → Result V ℕ → ℕ
-unread (Ok v) = 0
-unread (Err n) = n
 
 -- a reading of whole texts tells the language and the place of each fault
 pub record Judges {V : Type 0} (L : List ℕ → V → Type 0) (r : List ℕ → Result V ℕ) : Type 0 where

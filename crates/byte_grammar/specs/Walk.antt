@@ -112,3 +112,8 @@ ended v (c ∷ rest) = Err (length (c ∷ rest))
 -- a text to its end
 unfoldable pub whole_read : {V : Type 0} → (List ℕ → Result (V × List ℕ) ℕ) → List ℕ → Result V ℕ
 whole_read p bytes = p bytes >>= λ a. ended a.0 a.1
+
+-- how many bytes of a whole text weren't read
+abbrev pub unread : {V : Type 0} → Result V ℕ → ℕ
+unread (Ok v) = 0
+unread (Err n) = n

@@ -10,3 +10,4 @@ pub mod Items
 pub mod InnerLists
 pub mod PartedTexts
 pub mod Members
+pub mod Told

@@ -2,7 +2,7 @@
 use Rattle.std.specs.Prelude.{ℕ, Bool, ◌&&◌, ◌||◌, not, nat_le, nat_eq}
 use Rattle.sfv_text.specs.Range.{is_key_first, is_key_rest, is_token_first, is_token_rest}
 use Rattle.sfv_read.specs.declared.class.Class.{Class}
-use Rattle.sfv_read.specs.declared.class.Class.TheVariants.{Minus, Digit, Dot, Quote, Backslash, Escapable, Unescaped, KeyFirst, KeyRest, TokenFirst, TokenRest, Space, Blank, Semicolon, Comma, Equals, Question, Bit, Open, Close, Colon, Base64}
+use Rattle.sfv_read.specs.declared.class.Class.TheVariants.{Minus, Digit, Dot, Quote, Backslash, Escapable, Unescaped, KeyFirst, KeyRest, TokenFirst, TokenRest, Space, Blank, Semicolon, Comma, Equals, Question, Bit, Open, Close, Colon, Base64, Marker}
 
 abbrev pub between : ℕ → ℕ → ℕ → Bool
 between low high c = nat_le low c && nat_le c high
@@ -72,6 +72,10 @@ is_colon c = nat_eq c 58
 abbrev pub is_base64 : ℕ → Bool
 is_base64 c = is_letter c || (is_digit c || (nat_eq c 43 || nat_eq c 47))
 
+-- `@` or `%`, with which a Date or a Display String begins (RFC 9651 sections 3.3.7 and 3.3.8)
+abbrev pub is_marker : ℕ → Bool
+is_marker c = nat_eq c 64 || nat_eq c 37
+
 abbrev pub members : Class → ℕ → Bool
 members Minus c = is_minus c
 members Digit c = is_digit c
@@ -95,3 +99,4 @@ members Open c = is_open c
 members Close c = is_close c
 members Colon c = is_colon c
 members Base64 c = is_base64 c
+members Marker c = is_marker c

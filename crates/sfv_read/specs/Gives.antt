@@ -10,3 +10,8 @@ Stops (At n) read = read ≡ Err n
 abbrev pub Gives : {X Y : Type 0} → (X → Y) → Result X Stop → Result Y ℕ → Type 0
 Gives view (Ok x) read = read ≡ Ok (view x)
 Gives view (Err e) read = Stops e read
+
+-- of how many bytes were left
+abbrev pub IfAt : Stop → (ℕ → Type 0) → Type 0
+IfAt NoMemory P = Unit {0}
+IfAt (At n) P = P n

@@ -1,6 +1,6 @@
 -- Inner Lists, read over lists from left to right.
 use Rattle.std.specs.Prelude.{◌≡◌, ℕ, List, [], ◌∷◌, Option, Some, None, Result, Ok}
-use Rattle.byte_grammar.specs.Walk.{◌>>=◌, byte_read, all_read, choose_read, turns_read}
+use Rattle.byte_grammar.specs.Walk.{◌>>=◌, byte_read, all_read, choose_read, turns_read, padded_read, whole_read}
 use Rattle.sfv_text.specs.declared.value.BareItem.{BareItem}
 use Rattle.sfv_text.specs.declared.value.Item.{Item}
 use Rattle.sfv_text.specs.declared.value.InnerList.{InnerList}
@@ -37,3 +37,7 @@ items_read bytes = item_or_close bytes >>= λ o. items_after o.0 o.1
 
 unfoldable pub inner_read : List ℕ → Result (InnerList × List ℕ) ℕ
 inner_read bytes = byte_read is_open bytes >>= λ o. all_read is_space o.1 >>= λ s. items_read s.1 >>= λ i. params_read i.1 >>= λ p. Ok (inner_of i.0 p.0, p.1)
+
+-- a whole text of an Inner List
+unfoldable pub inner_whole : List ℕ → Result InnerList ℕ
+inner_whole text = whole_read (padded_read is_space inner_read) text

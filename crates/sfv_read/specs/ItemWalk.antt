@@ -1,6 +1,6 @@
 -- Parameters and Items, read over lists from left to right.
 use Rattle.std.specs.Prelude.{◌≡◌, ℕ, true, List, [], Option, Some, None, Result, Ok}
-use Rattle.byte_grammar.specs.Walk.{◌>>=◌, byte_read, all_read, word_read, optional_read, turns_read}
+use Rattle.byte_grammar.specs.Walk.{◌>>=◌, byte_read, all_read, word_read, optional_read, turns_read, padded_read, whole_read}
 use Rattle.sfv_text.specs.declared.value.BareItem.{BareItem}
 use Rattle.sfv_text.specs.declared.value.BareItem.TheVariants.{Bool as Boolean}
 use Rattle.sfv_text.specs.declared.value.Item.{Item}
@@ -41,3 +41,7 @@ params_read bytes = turns_read param_turn bytes >>= λ ps. Ok (kept ps.0, ps.1)
 
 unfoldable pub item_read : List ℕ → Result (Item × List ℕ) ℕ
 item_read bytes = bare_read bytes >>= λ b. params_read b.1 >>= λ p. Ok (item_of b.0 p.0, p.1)
+
+-- a whole text of an Item
+unfoldable pub item_whole : List ℕ → Result Item ℕ
+item_whole text = whole_read (padded_read is_space item_read) text

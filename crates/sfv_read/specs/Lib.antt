@@ -9,3 +9,4 @@ pub mod BareWalk
 pub mod ItemWalk
 pub mod InnerWalk
 pub mod MemberWalk
+pub mod Fault

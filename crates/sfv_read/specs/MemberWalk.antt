@@ -1,6 +1,6 @@
 -- Lists and Dictionaries, read over lists from left to right.
 use Rattle.std.specs.Prelude.{◌≡◌, ℕ, Bool, true, List, [], ◌∷◌, Option, Some, None, Result, Ok}
-use Rattle.byte_grammar.specs.Walk.{◌>>=◌, byte_read, all_read, optional_read, choose_read, turns_read, with_state}
+use Rattle.byte_grammar.specs.Walk.{◌>>=◌, byte_read, all_read, optional_read, choose_read, turns_read, with_state, whole_read}
 use Rattle.sfv_text.specs.declared.value.Member.{Member}
 use Rattle.sfv_text.specs.declared.value.Member.TheVariants.{Item as One, InnerList as Several}
 use Rattle.sfv_text.specs.declared.pair.Pair.{Pair}
@@ -68,3 +68,10 @@ some_pairs bytes = optional_read (λ _. true) pairs_read bytes >>= λ o. Ok (lis
 
 unfoldable pub dict_read : List ℕ → Result (List (Pair Member) × List ℕ) ℕ
 dict_read bytes = all_read is_space bytes >>= λ s. some_pairs s.1
+
+-- a whole text of a List, and of a Dictionary
+unfoldable pub list_whole : List ℕ → Result (List Member) ℕ
+list_whole text = whole_read list_read text
+
+unfoldable pub dict_whole : List ℕ → Result (List (Pair Member)) ℕ
+dict_whole text = whole_read dict_read text

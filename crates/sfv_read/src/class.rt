@@ -32,6 +32,8 @@ pub enum Class {
     Close,
     Colon,
     Base64,
+    /// What a Date or a Display String begins with.
+    Marker,
 }
 
 impl ByteClass for Class {
@@ -61,6 +63,7 @@ impl ByteClass for Class {
             Class::Open => byte == b'(',
             Class::Close => byte == b')',
             Class::Colon => byte == b':',
+            Class::Marker => byte == b'@' || byte == b'%',
             Class::Base64 => matches!(byte, b'a'..=b'z' | b'A'..=b'Z' | b'0'..=b'9' | b'+' | b'/'),
         }
     }

@@ -4,7 +4,7 @@ ghost use Rattle.std.specs.Prelude.{◌≡◌};
 ghost use Rattle.byte_grammar.specs.Walk.{turns_read, with_state};
 ghost use Rattle.sfv_read.specs.Gives.{Gives};
 ghost use Rattle.sfv_read.specs.Item.{put_pair};
-ghost use Rattle.sfv_read.specs.MemberWalk.{pair_read, further_read, parted_turn, pairs_read, dict_read};
+ghost use Rattle.sfv_read.specs.MemberWalk.{pair_read, further_read, parted_turn, pairs_read, dict_read, dict_whole};
 
 use crate::class::Class;
 use crate::member::read_pair;
@@ -13,10 +13,22 @@ use byte_grammar::{read_all, read_byte, starts_with};
 use sfv_text::{Dict, Member, Pair};
 use std::alloc::Global;
 
+/// A whole text of a Dictionary.
+#[tactic(auto, unfolding(crate::specs::MemberWalk::dict_whole, byte_grammar::specs::Walk::whole_read))]
+pub fn read_dict_text(alloc: Global, text: &[u8]) -> Result<Dict, Stop>
+    ensures { Gives (λ x. x) result (dict_whole text.now) }
+{
+    let (dict, rest) = read_pairs(alloc, text)?;
+    match rest {
+        [] => Ok(dict),
+        [_, ..] => Err(Stop::At(rest.len())),
+    }
+}
+
 /// Spaces, and nothing or pairs parted by commas. A repeated key has its first place and its last
 /// value.
 #[tactic(auto, unfolding(crate::specs::MemberWalk::dict_read, crate::specs::MemberWalk::some_pairs, byte_grammar::specs::Walk::optional_read))]
-pub fn read_pairs(alloc: Global, bytes: &[u8]) -> Result<(Dict, &[u8]), Stop>
+fn read_pairs(alloc: Global, bytes: &[u8]) -> Result<(Dict, &[u8]), Stop>
     ensures { Gives (λ x. (x.0, x.1.now)) result (dict_read bytes.now) }
 {
     let (_, rest) = read_all(Class::Space, bytes);

@@ -4,7 +4,7 @@ ghost use Rattle.std.specs.Prelude.{◌≡◌, List};
 ghost use Rattle.byte_grammar.specs.Gives.{Gives as GivesAll};
 ghost use Rattle.byte_grammar.specs.Walk.{turns_read, with_front};
 ghost use Rattle.sfv_read.specs.Gives.{Gives};
-ghost use Rattle.sfv_read.specs.InnerWalk.{close_only, some_item, item_or_close, inner_turn, items_read, inner_read};
+ghost use Rattle.sfv_read.specs.InnerWalk.{close_only, some_item, item_or_close, inner_turn, items_read, inner_read, inner_whole};
 
 use crate::class::Class;
 use crate::item::read_one;
@@ -13,6 +13,20 @@ use crate::stop::Stop;
 use byte_grammar::{Left, read_all, read_byte, starts_with};
 use sfv_text::{InnerList, Item, Items};
 use std::alloc::Global;
+
+/// A whole text: an Inner List with spaces at both ends.
+#[tactic(auto, unfolding(crate::specs::InnerWalk::inner_whole, byte_grammar::specs::Walk::whole_read, byte_grammar::specs::Walk::padded_read))]
+pub fn read_inner_text(alloc: Global, text: &[u8]) -> Result<InnerList, Stop>
+    ensures { Gives (λ x. x) result (inner_whole text.now) }
+{
+    let (_, rest) = read_all(Class::Space, text);
+    let (list, rest) = read_several(alloc, rest)?;
+    let (_, rest) = read_all(Class::Space, rest);
+    match rest {
+        [] => Ok(list),
+        [_, ..] => Err(Stop::At(rest.len())),
+    }
+}
 
 /// Items in parentheses, parted by spaces, and parameters.
 #[tactic(auto, unfolding(crate::specs::InnerWalk::inner_read))]

@@ -3,7 +3,7 @@
 ghost use Rattle.std.specs.Prelude.{◌≡◌, List as Items};
 ghost use Rattle.byte_grammar.specs.Walk.{turns_read, with_front};
 ghost use Rattle.sfv_read.specs.Gives.{Gives};
-ghost use Rattle.sfv_read.specs.MemberWalk.{member_read, further_read, parted_turn, members_read, list_read};
+ghost use Rattle.sfv_read.specs.MemberWalk.{member_read, further_read, parted_turn, members_read, list_read, list_whole};
 
 use crate::class::Class;
 use crate::member::read_member;
@@ -12,9 +12,21 @@ use byte_grammar::{read_all, read_byte, starts_with};
 use sfv_text::{List, Member};
 use std::alloc::Global;
 
+/// A whole text of a List.
+#[tactic(auto, unfolding(crate::specs::MemberWalk::list_whole, byte_grammar::specs::Walk::whole_read))]
+pub fn read_list_text(alloc: Global, text: &[u8]) -> Result<List, Stop>
+    ensures { Gives (λ x. x) result (list_whole text.now) }
+{
+    let (list, rest) = read_members(alloc, text)?;
+    match rest {
+        [] => Ok(list),
+        [_, ..] => Err(Stop::At(rest.len())),
+    }
+}
+
 /// Spaces, and nothing or members parted by commas.
 #[tactic(auto, unfolding(crate::specs::MemberWalk::list_read, crate::specs::MemberWalk::some_members, crate::specs::MemberWalk::parted_read, byte_grammar::specs::Walk::optional_read))]
-pub fn read_members(alloc: Global, bytes: &[u8]) -> Result<(List, &[u8]), Stop>
+fn read_members(alloc: Global, bytes: &[u8]) -> Result<(List, &[u8]), Stop>
     ensures { Gives (λ x. (x.0, x.1.now)) result (list_read bytes.now) }
 {
     let (_, rest) = read_all(Class::Space, bytes);
