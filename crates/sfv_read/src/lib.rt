@@ -20,3 +20,6 @@ mod whole;
 
 pub use fault::SfError;
 pub use read::{read_dict, read_inner, read_item, read_list};
+
+#[cfg(test)]
+mod tests;
