@@ -210,19 +210,17 @@ fn items_print_with_their_parameters(rt: HostRuntime) -> Result<(), Fail> {
     Ok(())
 }
 
-// Parts of the examples of RFC 9651 sections 3.1.1 and 3.2.
+// Parts of the examples of RFC 9651 sections 3.1, 3.1.1 and 3.2.
 #[test]
-fn lists_print_their_members_in_order(rt: HostRuntime) -> Result<(), Fail> {
+fn inner_lists_print_with_single_spaces(rt: HostRuntime) -> Result<(), Fail> {
     let alloc = rt.alloc();
-    let mut first = Item {
-        bare: BareItem::Str(text(alloc, b"foo")?),
-        params: Params::new(alloc),
-    };
-    first.params.put(text(alloc, b"a")?, BareItem::Integer(1))?;
     let mut inner = InnerList {
         items: Items::new(alloc),
         params: Params::new(alloc),
     };
+    assert_eq!(rt; print_inner(alloc, &inner)?.bytes(), b"()".as_slice());
+    let mut first = plain(alloc, BareItem::Str(text(alloc, b"foo")?));
+    first.params.put(text(alloc, b"a")?, BareItem::Integer(1))?;
     inner.items.push(first)?;
     inner
         .items
@@ -234,17 +232,25 @@ fn lists_print_their_members_in_order(rt: HostRuntime) -> Result<(), Fail> {
         print_inner(alloc, &inner)?.bytes(),
         br#"("foo";a=1 "bar");lvl=5"#.as_slice()
     );
+    Ok(())
+}
+
+#[test]
+fn lists_print_with_a_comma_and_a_space(rt: HostRuntime) -> Result<(), Fail> {
+    let alloc = rt.alloc();
     let mut list = List::new(alloc);
     assert_eq!(rt; print_list(alloc, &list)?.bytes(), b"".as_slice());
     list.push(Member::Item(plain(alloc, BareItem::Token(text(alloc, b"tea")?))))?;
-    list.push(Member::InnerList(inner))?;
     list.push(Member::InnerList(InnerList {
         items: Items::new(alloc),
         params: Params::new(alloc),
     }))?;
+    list.push(Member::Item(plain(alloc, BareItem::Bool(true))))?;
     assert_eq!(rt; list.len(), 3);
-    let want = br#"tea, ("foo";a=1 "bar");lvl=5, ()"#;
-    assert_eq!(rt; print_list(alloc, &list)?.bytes(), want.as_slice());
+    assert_eq!(rt;
+        print_list(alloc, &list)?.bytes(),
+        b"tea, (), ?1".as_slice()
+    );
     Ok(())
 }
 
