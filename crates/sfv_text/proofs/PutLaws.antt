@@ -122,3 +122,7 @@ put_kept test ps key v old new = elim (cases_Bool (list_any (has_key key) ps)) [
   | inl h ↦ rw h (with_values_kept test key v ps old new)
   | inr n ↦ rw (n, list_all-append test ps (record { key = key; value = v } ∷ []), old, new) refl
 ]
+
+pub put_found_kept : {V : Type 0} (test : Pair V → Bool) (ps : List (Pair V)) (key : List ℕ) (v : V) (place : ℕ) → have_distinct_keys ps ≡ true → IsFound ps key place
+    → list_all test ps ≡ true → test (record { key = key; value = v }) ≡ true → list_all test (set ps place (record { key = key; value = v })) ≡ true
+put_found_kept test ps key v place d f old new = rw (put_found ps key v place d f) (put_kept test ps key v old new)

@@ -12,6 +12,9 @@ use crate::text::Text;
 use crate::value::{BareItem, Dict, InnerList, Item, List, Member, Params};
 use std::alloc::Global;
 
+/// Stands between two members of a List or a Dictionary.
+const BETWEEN_MEMBERS: &[u8] = b", ";
+
 /// The strict text of an Item.
 #[tactic(auto, using(crate::proofs::Printable::item_is))]
 pub fn print_item(alloc: Global, value: &Item) -> Result<Text, Memory>
@@ -139,7 +142,7 @@ fn write_list(members: &[Member], text: &mut Text) -> Result<(), Memory>
     };
     write_member(first, text)?;
     for member in others {
-        text.append(b", ")?;
+        text.append(BETWEEN_MEMBERS)?;
         write_member(member, text)?;
     }
     Ok(())
@@ -185,7 +188,7 @@ fn write_dict(entries: &[Pair<Member>], text: &mut Text) -> Result<(), Memory>
     };
     write_entry(first, text)?;
     for entry in others {
-        text.append(b", ")?;
+        text.append(BETWEEN_MEMBERS)?;
         write_entry(entry, text)?;
     }
     Ok(())
