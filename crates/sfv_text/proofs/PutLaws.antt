@@ -1,10 +1,10 @@
 -- What holds of pairs when a key is put.
 use Rattle.std.proofs.Common.{◌≡◌, get_or, set, ℕ, zero, suc, ◌<◌, Bool, true, false, not, ◌&&◌, ◌||◌, take, map, List, [], ◌∷◌, ◌++◌, length, refl, sym, ap, subst, ◌∙◌, arith, inl, inr}
-use Rattle.std.specs.List.{list_any}
+use Rattle.std.specs.List.{list_all, list_any}
 use Rattle.std.specs.Str.{bytes_eq}
 use Rattle.std.proofs.lemmas.Bool.{cases_Bool, and_parts, false≢true}
 use Rattle.std.proofs.lemmas.Bool.Decides.{same_from_decides}
-use Rattle.std.proofs.lemmas.List.Folds.{list_any-append}
+use Rattle.std.proofs.lemmas.List.Folds.{list_all-append, list_any-append}
 use Rattle.std.proofs.lemmas.Slice.Eq.{bytes_eq-Decides}
 use Rattle.sfv_text.specs.declared.pair.Pair.{Pair}
 use Rattle.sfv_text.specs.Keys.{has_key, have_distinct_keys, with_value, put, IsFound}
@@ -103,3 +103,26 @@ put_found_distinct ps key v place d f = rw (put_found ps key v place d f) (put_d
 pub put_new_distinct : {V : Type 0} (ps : List (Pair V)) (key : List ℕ) (v : V) → have_distinct_keys ps ≡ true → list_any (has_key key) ps ≡ false
     → have_distinct_keys (ps ++ record { key = key; value = v } ∷ []) ≡ true
 put_new_distinct ps key v d none = rw (put_new ps key v none) (put_distinct ps key v d)
+
+with_value_kept : {V : Type 0} (test : Pair V → Bool) (key : List ℕ) (v : V) (p : Pair V) → test p ≡ true → test (record { key = key; value = v }) ≡ true → test (with_value key v p) ≡ true
+with_value_kept {V} test key v p old new = elim (cases_Bool (has_key key p)) [
+  | inl h ↦ rw h (rw (← (bytes_eq-Decides p.key key).0 h) at new)
+  | inr n ↦ rw n old
+]
+
+with_values_kept : {V : Type 0} (test : Pair V → Bool) (key : List ℕ) (v : V) (ps : List (Pair V)) → list_all test ps ≡ true → test (record { key = key; value = v }) ≡ true → list_all test (map (with_value key v) ps) ≡ true
+with_values_kept test key v [] old new = refl
+with_values_kept test key v (p ∷ ps) old new =
+    let h = and_parts (test p) (list_all test ps) old in
+    rw (with_value_kept test key v p h.0 new) (with_values_kept test key v ps h.1 new)
+
+-- a put keeps what holds of each pair and of the new one
+pub put_kept : {V : Type 0} (test : Pair V → Bool) (ps : List (Pair V)) (key : List ℕ) (v : V) → list_all test ps ≡ true → test (record { key = key; value = v }) ≡ true → list_all test (put ps key v) ≡ true
+put_kept test ps key v old new = elim (cases_Bool (list_any (has_key key) ps)) [
+  | inl h ↦ rw h (with_values_kept test key v ps old new)
+  | inr n ↦ rw (n, list_all-append test ps (record { key = key; value = v } ∷ []), old, new) refl
+]
+
+pub put_found_kept : {V : Type 0} (test : Pair V → Bool) (ps : List (Pair V)) (key : List ℕ) (v : V) (place : ℕ) → have_distinct_keys ps ≡ true → IsFound ps key place
+    → list_all test ps ≡ true → test (record { key = key; value = v }) ≡ true → list_all test (set ps place (record { key = key; value = v })) ≡ true
+put_found_kept test ps key v place d f old new = rw (put_found ps key v place d f) (put_kept test ps key v old new)

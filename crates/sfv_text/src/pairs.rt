@@ -1,7 +1,8 @@
 //! Lists of pairs with distinct keys.
 
-ghost use Rattle.std.specs.Prelude.{◌≡◌, ◌<◌, true, false, [], Some, IfSome, IfNone, length, slice_get, OnOk, OnErr};
-ghost use Rattle.std.specs.List.{list_any};
+ghost use Rattle.std.specs.Prelude.{◌≡◌, ◌<◌, Bool, true, false, [], Some, IfSome, IfNone, length, slice_get, OnOk, OnErr};
+ghost use Rattle.std.specs.List.{list_all, list_any};
+ghost use Rattle.sfv_text.specs.declared.pair.Pair.{Pair};
 ghost use Rattle.sfv_text.specs.Keys.{put, has_key, have_distinct_keys, IsFound};
 
 use crate::memory::Memory;
@@ -87,6 +88,8 @@ impl<V: Drop> Pairs<V> {
     pub fn put(&mut self, key: Text, value: V) -> Result<(), Memory>
         ensures ok { OnOk result (self.new ≡ put self.old key value) }
         ensures distinct { have_distinct_keys self.new ≡ true }
+        ensures each { (test : Pair V → Bool) → list_all test self.old ≡ true
+            → test (record { key = key; value = value }) ≡ true → list_all test self.new ≡ true }
         ensures err { OnErr result (self.new ≡ self.old) }
     {
         match place_of(self.pairs.as_slice(), key.bytes()) {

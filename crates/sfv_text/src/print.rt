@@ -1,9 +1,8 @@
 //! Values as text (RFC 9651 section 4.1).
 
-ghost use Rattle.std.specs.Prelude.{◌≡◌, ◌++◌, IsTrue, IfOk, OnOk};
-ghost use Rattle.std.specs.List.{join_by};
-ghost use Rattle.std.specs.Prelude.{codes};
-ghost use Rattle.sfv_text.specs.Range.{is_item_in_range, is_inner_in_range, is_list_in_range, is_dict_in_range};
+ghost use Rattle.std.specs.Prelude.{◌≡◌, ◌++◌, true, IsTrue, IfOk, OnOk, codes};
+ghost use Rattle.std.specs.List.{list_all, join_by};
+ghost use Rattle.sfv_text.specs.Range.{is_item_in_range, is_inner_in_range, is_list_in_range, is_dict_in_range, is_string_byte};
 ghost use Rattle.sfv_text.specs.Strict.{bare_text, param_value_text, param_text, params_text, item_text, inner_text, member_text, list_text, entry_item_text, entry_value_text, entry_text, dict_text};
 
 use crate::memory::Memory;
@@ -13,10 +12,15 @@ use crate::text::Text;
 use crate::value::{BareItem, Dict, InnerList, Item, List, Member, Params};
 use std::alloc::Global;
 
+/// Stands between two members of a List or a Dictionary.
+const BETWEEN_MEMBERS: &[u8] = b", ";
+
 /// The strict text of an Item.
+#[tactic(auto, using(crate::proofs::Printable::item_is))]
 pub fn print_item(alloc: Global, value: &Item) -> Result<Text, Memory>
     requires { IsTrue (is_item_in_range value.now) }
-    ensures { IfOk result (λ text. text ≡ item_text value.now) }
+    ensures is { IfOk result (λ text. text ≡ item_text value.now) }
+    ensures printable { IfOk result (λ text. list_all is_string_byte text ≡ true) }
 {
     let mut text = Text::new(alloc);
     write_item(value, &mut text)?;
@@ -24,9 +28,11 @@ pub fn print_item(alloc: Global, value: &Item) -> Result<Text, Memory>
 }
 
 /// The strict text of an Inner List.
+#[tactic(auto, using(crate::proofs::Printable::inner_is))]
 pub fn print_inner(alloc: Global, value: &InnerList) -> Result<Text, Memory>
     requires { IsTrue (is_inner_in_range value.now) }
-    ensures { IfOk result (λ text. text ≡ inner_text value.now) }
+    ensures is { IfOk result (λ text. text ≡ inner_text value.now) }
+    ensures printable { IfOk result (λ text. list_all is_string_byte text ≡ true) }
 {
     let mut text = Text::new(alloc);
     write_inner(value, &mut text)?;
@@ -34,9 +40,11 @@ pub fn print_inner(alloc: Global, value: &InnerList) -> Result<Text, Memory>
 }
 
 /// The strict text of a List. An empty List has the empty text.
+#[tactic(auto, using(crate::proofs::Printable::list_is))]
 pub fn print_list(alloc: Global, value: &List) -> Result<Text, Memory>
     requires { IsTrue (is_list_in_range value.now) }
-    ensures { IfOk result (λ text. text ≡ list_text value.now) }
+    ensures is { IfOk result (λ text. text ≡ list_text value.now) }
+    ensures printable { IfOk result (λ text. list_all is_string_byte text ≡ true) }
 {
     let mut text = Text::new(alloc);
     write_list(value.as_slice(), &mut text)?;
@@ -44,9 +52,11 @@ pub fn print_list(alloc: Global, value: &List) -> Result<Text, Memory>
 }
 
 /// The strict text of a Dictionary. An empty Dictionary has the empty text.
+#[tactic(auto, using(crate::proofs::Printable::dict_is))]
 pub fn print_dict(alloc: Global, value: &Dict) -> Result<Text, Memory>
     requires { IsTrue (is_dict_in_range value.now) }
-    ensures { IfOk result (λ text. text ≡ dict_text value.now) }
+    ensures is { IfOk result (λ text. text ≡ dict_text value.now) }
+    ensures printable { IfOk result (λ text. list_all is_string_byte text ≡ true) }
 {
     let mut text = Text::new(alloc);
     write_dict(value.as_slice(), &mut text)?;
@@ -132,7 +142,7 @@ fn write_list(members: &[Member], text: &mut Text) -> Result<(), Memory>
     };
     write_member(first, text)?;
     for member in others {
-        text.append(b", ")?;
+        text.append(BETWEEN_MEMBERS)?;
         write_member(member, text)?;
     }
     Ok(())
@@ -178,7 +188,7 @@ fn write_dict(entries: &[Pair<Member>], text: &mut Text) -> Result<(), Memory>
     };
     write_entry(first, text)?;
     for entry in others {
-        text.append(b", ")?;
+        text.append(BETWEEN_MEMBERS)?;
         write_entry(entry, text)?;
     }
     Ok(())

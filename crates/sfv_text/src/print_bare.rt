@@ -27,7 +27,7 @@ pub(crate) fn write_bare(bare: &BareItem, text: &mut Text) -> Result<(), Memory>
     }
 }
 
-#[tactic(auto, using(std::proofs::lemmas::Fmt::decimal_step, std::proofs::lemmas::Fmt::decimal_digit))]
+#[tactic(auto, using(std::proofs::lemmas::Fmt::decimal_digit))]
 fn write_number(value: u64, text: &mut Text) -> Result<(), Memory>
     ensures { OnOk result (text.new ≡ text.old ++ decimal value) }
 {

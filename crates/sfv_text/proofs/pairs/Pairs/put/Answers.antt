@@ -1,5 +1,5 @@
 use Rattle.std.proofs.Common.{sym, ◌∙◌}
-use Rattle.sfv_text.proofs.PutLaws.{put_found, put_found_distinct, put_new, put_new_distinct}
+use Rattle.sfv_text.proofs.PutLaws.{put_found, put_found_distinct, put_found_kept, put_new, put_new_distinct}
 use Rattle.sfv_text.proofs.pairs.Pairs.put.Goals as goal
 
 pub invariant_of-self : goal.invariant_of-self
@@ -26,3 +26,8 @@ pub returns-in_ok-push-in-None-clause-distinct : goal.returns-in_ok-push-in-None
 returns-in_ok-push-in-None-clause-distinct g c =
     let none = rw (c.bytes.ensures, c.as_slice.ensures.value) at c.in-None.ensures.none in
     rw c.in_ok-push-in-None.ensures.items (put_new_distinct c.self.inside.pairs.items c.args.key c.args.value c.self.invariant none)
+
+pub returns-in-Some-clause-each : goal.returns-in-Some-clause-each
+returns-in-Some-clause-each g c = λ test old new.
+    let found = rw (c.bytes.ensures, c.as_slice.ensures.value) at c.in-Some.ensures.some in
+    put_found_kept test c.self.inside.pairs.items c.args.key c.args.value c.in-Some.place c.self.invariant found (rw (← c.self.view_is) at old) new
