@@ -313,6 +313,21 @@ fn begins(kind: Kind, alloc: Global, alphabet: &[u8; 6], front: &[u8]) -> Result
     Ok(false)
 }
 
+// The longest front that begins some text that is read.
+fn longest(
+    kind: Kind,
+    alloc: Global,
+    alphabet: &[u8; 6],
+    text: &[u8],
+) -> Result<usize, AllocError> {
+    for place in 0..text.len() {
+        if !begins(kind, alloc, alphabet, &text[..place + 1])? {
+            return Ok(place);
+        }
+    }
+    Ok(text.len())
+}
+
 // The fault of a text that isn't read, by trying its fronts.
 fn tried(
     kind: Kind,
@@ -320,13 +335,7 @@ fn tried(
     alphabet: &[u8; 6],
     text: &[u8],
 ) -> Result<SfError, AllocError> {
-    let mut place = 0;
-    while place < text.len() {
-        if !begins(kind, alloc, alphabet, &text[..place + 1])? {
-            break;
-        }
-        place += 1;
-    }
+    let place = longest(kind, alloc, alphabet, text)?;
     if place < text.len() && (text[place] == b'@' || text[place] == b'%') {
         let mut probe = Vec::from_slice(alloc, &text[..place])?;
         probe.extend_from_slice(b"?1")?;
