@@ -4,8 +4,8 @@ use Rattle.std.proofs.lemmas.List.{length-append, take-append-drop, length-take,
 use Rattle.std.proofs.lemmas.List.Folds.{list_all-append}
 use Rattle.std.proofs.lemmas.Bool.{ltb-false, ltb-true, le-ltb, eqb-true}
 use Rattle.std.specs.List.{list_all, list_any}
-use Rattle.byte_grammar.specs.Language.{Begins, Then, Turns, IsByte, IsRun, IsAll, Among, Optional, Mapped, IsWord, Each}
-use Rattle.byte_grammar.specs.Walk.{◌>>=◌, left, Next, then_read, turned, turns_in, turns_read, taken_if, byte_read, run_length, cut_at, run_read, all_read, picked, kind_in, pick_read, optional_if, starts_in, optional_read, is_of, word_read, choose_read}
+use Rattle.byte_grammar.specs.Language.{starts_in, Begins, Then, Turns, IsByte, IsRun, IsAll, Among, Optional, Mapped, IsWord, Each}
+use Rattle.byte_grammar.specs.Walk.{◌>>=◌, left, Next, then_read, turned, turns_in, turns_read, taken_if, byte_read, run_length, cut_at, run_read, all_read, picked, kind_in, pick_read, optional_if, optional_read, is_of, word_read, choose_read}
 
 -- A reader reads a language: what it gives is spelled so, where it stops the text so far begins the
 -- language, a text of the language is read where its value's followers come, and no front of the language

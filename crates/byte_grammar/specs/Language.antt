@@ -1,5 +1,5 @@
 -- Texts of languages. A language is a relation between texts and the values that they spell.
-use Rattle.std.specs.Prelude.{◌≡◌, ℕ, ◌≤◌, Bool, true, List, [], ◌∷◌, ◌++◌, length, Option, Some, None}
+use Rattle.std.specs.Prelude.{◌≡◌, ℕ, ◌≤◌, Bool, true, false, List, [], ◌∷◌, ◌++◌, length, Option, Some, None}
 use Rattle.std.specs.List.{list_all}
 
 -- some text with this front is in the language
@@ -38,6 +38,11 @@ abbrev pub Turns : {V : Type 0} → (List ℕ → Option V → Type 0) → List 
 Turns L text [] = L text None
 Turns {V} L text (v ∷ vs) = (first second : List ℕ) × (text ≡ first ++ second) × L first (Some v) × Turns L second vs
 
+-- the text begins with a byte of the class
+abbrev pub starts_in : (ℕ → Bool) → List ℕ → Bool
+starts_in class [] = false
+starts_in class (c ∷ rest) = class c
+
 -- one byte of a class
 pub record IsByte (class : ℕ → Bool) (text : List ℕ) (c : ℕ) : Type 0 where
   pub same : text ≡ c ∷ []
@@ -54,6 +59,10 @@ pub record IsRun (class : ℕ → Bool) (lo hi : ℕ) (text : List ℕ) (v : Lis
   pub passes : list_all class v ≡ true
   pub least : lo ≤ length v
   pub most : length v ≤ hi
+
+-- the same, of a text as it stands
+abbrev pub AreOf : (ℕ → Bool) → ℕ → ℕ → List ℕ → Type 0
+AreOf class lo hi text = IsRun class lo hi text text
 
 -- a byte of one class and then bytes of another
 abbrev pub IsWord : (ℕ → Bool) → (ℕ → Bool) → List ℕ → List ℕ → Type 0

@@ -1,7 +1,7 @@
 -- Readers over lists, from left to right: what the code is compared with.
 use Rattle.std.specs.Prelude.{◌≡◌, ℕ, zero, suc, ◌-◌, nat_lt, nat_eq, Bool, true, false, List, [], ◌∷◌, ◌++◌, length, take, drop, Option, Some, None, Result, Ok, Err, if◌then◌else◌}
 use Rattle.std.specs.List.{list_any}
-use Rattle.byte_grammar.specs.Language.{after_all}
+use Rattle.byte_grammar.specs.Language.{after_all, starts_in}
 
 -- A reader gives a value and the bytes after its text, or how many bytes were left where it stopped.
 infixl 10 ◌>>=◌
@@ -71,11 +71,6 @@ choose_read class p q bytes = pick_read (λ c. Some (class c)) (λ b. if b then 
 abbrev pub optional_if : {V : Type 0} → Bool → (List ℕ → Result (V × List ℕ) ℕ) → List ℕ → Result (Option V × List ℕ) ℕ
 optional_if true p bytes = p bytes >>= λ a. Ok (Some a.0, a.1)
 optional_if false p bytes = Ok (None, bytes)
-
--- a byte of the class comes
-abbrev pub starts_in : (ℕ → Bool) → List ℕ → Bool
-starts_in class [] = false
-starts_in class (c ∷ rest) = class c
 
 -- where a byte of the class comes
 unfoldable pub optional_read : {V : Type 0} → (ℕ → Bool) → (List ℕ → Result (V × List ℕ) ℕ) → List ℕ → Result (Option V × List ℕ) ℕ

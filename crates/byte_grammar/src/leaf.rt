@@ -2,8 +2,9 @@
 
 ghost use Rattle.std.specs.Prelude.{◌≡◌, ◌≤◌, length, Ok, IfOk, true, take};
 ghost use Rattle.std.specs.List.{list_all};
+ghost use Rattle.byte_grammar.specs.Language.{starts_in};
 ghost use Rattle.byte_grammar.specs.Gives.{Gives};
-ghost use Rattle.byte_grammar.specs.Walk.{byte_read, run_length, run_read, all_read, word_read, starts_in};
+ghost use Rattle.byte_grammar.specs.Walk.{byte_read, run_length, run_read, all_read, word_read};
 
 use crate::class::ByteClass;
 use crate::left::Left;

@@ -14,8 +14,9 @@ use Rattle.sfv_read.specs.declared.fault.SfError.{SfError}
 use Rattle.sfv_read.specs.declared.fault.SfError.TheVariants.{Memory, Syntax, ItemKind}
 use Rattle.sfv_read.specs.declared.stop.Stop.{Stop}
 use Rattle.sfv_read.specs.declared.stop.Stop.TheVariants.{NoMemory, At}
-use Rattle.sfv_read.specs.Gives.{Gives, IfAt}
-use Rattle.sfv_read.specs.Fault.{IsRead, AtPlace, IfSyntax, IfItemKind, BeginsItemKind, StopsAt, MarksItemKind, Answers}
+use Rattle.sfv_read.specs.Gives.{GivesUnlessMemory, IfAt}
+use Rattle.sfv_read.specs.Fault.{IsRead, AtPlace, IfSyntax, IfItemKind, BeginsItemKind}
+use Rattle.sfv_read.specs.Answers.{StopsAt, MarksItemKind, Answers}
 use Rattle.sfv_read.specs.Reads.{ReadsItem, ReadsInner, ReadsList, ReadsDict}
 use Rattle.sfv_read.specs.ItemWalk.{item_whole}
 use Rattle.sfv_read.specs.InnerWalk.{inner_whole}
@@ -67,7 +68,7 @@ module _ {V : Type 0} {L : List ℕ → V → Type 0} {r : List ℕ → Result V
       record { ok = tt; only = p.none; none = p.none; within = p.within; begins = p.begins; longest = p.last; syntax_only = tt; item_kind = marked text place a.1 }
 
   -- a reading has no more bytes left than there are
-  pub gives_within : (text : List ℕ) (result : Result V Stop) → Gives (λ x. x) result (r text) → IfErr result (λ e. IfAt e (λ left. left ≤ length text))
+  pub gives_within : (text : List ℕ) (result : Result V Stop) → GivesUnlessMemory (λ x. x) result (r text) → IfErr result (λ e. IfAt e (λ left. left ≤ length text))
   gives_within text (Ok v) g = tt
   gives_within text (Err NoMemory) g = tt
   gives_within text (Err (At n)) g = j.within text n g

@@ -7,9 +7,9 @@ abbrev pub Stops : {Y : Type 0} → Stop → Result Y ℕ → Type 0
 Stops NoMemory read = Unit {0}
 Stops (At n) read = read ≡ Err n
 
-abbrev pub Gives : {X Y : Type 0} → (X → Y) → Result X Stop → Result Y ℕ → Type 0
-Gives view (Ok x) read = read ≡ Ok (view x)
-Gives view (Err e) read = Stops e read
+abbrev pub GivesUnlessMemory : {X Y : Type 0} → (X → Y) → Result X Stop → Result Y ℕ → Type 0
+GivesUnlessMemory view (Ok x) read = read ≡ Ok (view x)
+GivesUnlessMemory view (Err e) read = Stops e read
 
 -- of how many bytes were left
 abbrev pub IfAt : Stop → (ℕ → Type 0) → Type 0

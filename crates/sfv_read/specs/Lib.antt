@@ -10,6 +10,7 @@ pub mod ItemWalk
 pub mod InnerWalk
 pub mod MemberWalk
 pub mod Fault
+pub mod Answers
 pub mod Laws
 pub use Rattle.byte_grammar.specs.Language
 pub use Rattle.sfv_text.specs.Range

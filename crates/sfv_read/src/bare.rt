@@ -1,9 +1,9 @@
 //! Bare items (RFC 9651 section 3.3).
 
 ghost use Rattle.std.specs.Prelude.{◌≡◌};
-ghost use Rattle.byte_grammar.specs.Gives.{Gives as GivesAll};
+ghost use Rattle.byte_grammar.specs.Gives.{Gives};
 ghost use Rattle.byte_grammar.specs.Walk.{kind_in};
-ghost use Rattle.sfv_read.specs.Gives.{Gives};
+ghost use Rattle.sfv_read.specs.Gives.{GivesUnlessMemory};
 ghost use Rattle.sfv_read.specs.BareWalk.{bare_kind, bare_read, truth_read};
 
 use crate::byte_sequence::read_bytes;
@@ -34,7 +34,7 @@ pub enum BareKind {
 /// A bare item, by its first byte.
 #[tactic(auto, unfolding(crate::specs::BareWalk::bare_read, byte_grammar::specs::Walk::pick_read))]
 pub fn read_bare(alloc: Global, bytes: &[u8]) -> Result<(BareItem, &[u8]), Stop>
-    ensures { Gives (λ x. (x.0, x.1.now)) result (bare_read bytes.now) }
+    ensures { GivesUnlessMemory (λ x. (x.0, x.1.now)) result (bare_read bytes.now) }
 {
     match first_kind(bytes) {
         None => Err(Stop::At(bytes.len())),
@@ -58,7 +58,7 @@ pub fn read_bare(alloc: Global, bytes: &[u8]) -> Result<(BareItem, &[u8]), Stop>
 /// `?1` or `?0`.
 #[tactic(auto, unfolding(crate::specs::BareWalk::truth_read))]
 fn read_truth(bytes: &[u8]) -> Result<(BareItem, &[u8]), Left>
-    ensures { GivesAll (λ x. (x.0, x.1.now)) result (truth_read bytes.now) }
+    ensures { Gives (λ x. (x.0, x.1.now)) result (truth_read bytes.now) }
 {
     let (_, rest) = read_byte(Class::Question, bytes)?;
     let (bit, rest) = read_byte(Class::Bit, rest)?;

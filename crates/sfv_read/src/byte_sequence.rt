@@ -2,9 +2,9 @@
 
 ghost use Rattle.std.specs.Prelude.{◌≡◌, true, false, length, IfOk, IfErr, MatchOption};
 ghost use Rattle.std.specs.List.{list_all};
-ghost use Rattle.byte_grammar.specs.Gives.{Gives as GivesAll};
+ghost use Rattle.byte_grammar.specs.Gives.{Gives};
 ghost use Rattle.sfv_read.specs.declared.stop.Stop.TheVariants.{NoMemory};
-ghost use Rattle.sfv_read.specs.Gives.{Gives};
+ghost use Rattle.sfv_read.specs.Gives.{GivesUnlessMemory};
 ghost use Rattle.sfv_read.specs.Class.{is_base64};
 ghost use Rattle.sfv_read.specs.BareWalk.{decoded, are_whole, pads, filling_read, close_read, bytes_end, bytes_read};
 
@@ -20,7 +20,7 @@ use std::alloc::Global;
 /// Letters between colons, with all of the `=` that fill their last group or none.
 #[tactic(auto, unfolding(crate::specs::BareWalk::bytes_read))]
 pub fn read_bytes(alloc: Global, bytes: &[u8]) -> Result<(Text, &[u8]), Stop>
-    ensures { Gives (λ x. (x.0, x.1.now)) result (bytes_read bytes.now) }
+    ensures { GivesUnlessMemory (λ x. (x.0, x.1.now)) result (bytes_read bytes.now) }
 {
     let (_, rest) = read_byte(Class::Colon, bytes)?;
     let (letters, rest) = read_all(Class::Base64, rest);
@@ -31,7 +31,7 @@ pub fn read_bytes(alloc: Global, bytes: &[u8]) -> Result<(Text, &[u8]), Stop>
 #[tactic(auto, unfolding(crate::specs::BareWalk::bytes_end, crate::specs::BareWalk::end_read))]
 fn read_end<'a>(alloc: Global, letters: &[u8], bytes: &'a [u8]) -> Result<(Text, &'a [u8]), Stop>
     requires { list_all is_base64 letters.now ≡ true }
-    ensures { Gives (λ x. (x.0, x.1.now)) result (bytes_end letters.now bytes.now) }
+    ensures { GivesUnlessMemory (λ x. (x.0, x.1.now)) result (bytes_end letters.now bytes.now) }
 {
     match decode(alloc, letters)? {
         None => Err(Stop::At(bytes.len())),
@@ -59,7 +59,7 @@ fn decode(alloc: Global, letters: &[u8]) -> Result<Option<Text>, Stop>
 /// The filling, and a colon.
 #[tactic(auto, unfolding(crate::specs::BareWalk::close_read))]
 fn read_close(pads: usize, bytes: &[u8]) -> Result<(&[u8], &[u8]), Left>
-    ensures { GivesAll (λ x. (x.0.now, x.1.now)) result (close_read pads bytes.now) }
+    ensures { Gives (λ x. (x.0.now, x.1.now)) result (close_read pads bytes.now) }
 {
     let (filling, rest) = read_filling(pads, bytes)?;
     let (_, rest) = read_byte(Class::Colon, rest)?;
@@ -69,7 +69,7 @@ fn read_close(pads: usize, bytes: &[u8]) -> Result<(&[u8], &[u8]), Left>
 /// As many `=` as fill the last group, or none.
 #[tactic(auto, unfolding(crate::specs::BareWalk::filling_read, byte_grammar::specs::Walk::optional_read))]
 fn read_filling(pads: usize, bytes: &[u8]) -> Result<(&[u8], &[u8]), Left>
-    ensures { GivesAll (λ x. (x.0.now, x.1.now)) result (filling_read pads bytes.now) }
+    ensures { Gives (λ x. (x.0.now, x.1.now)) result (filling_read pads bytes.now) }
 {
     if pads == 0 {
         return Ok((&[], bytes));

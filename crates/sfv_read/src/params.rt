@@ -1,7 +1,7 @@
 //! Keys and parameters (RFC 9651 section 3.1.2).
 
 ghost use Rattle.std.specs.Prelude.{◌≡◌, List, ℕ};
-ghost use Rattle.sfv_read.specs.Gives.{Gives};
+ghost use Rattle.sfv_read.specs.Gives.{GivesUnlessMemory};
 ghost use Rattle.sfv_read.specs.ItemWalk.{equals_read, value_read, key_read, param_read, param_turn, params_read};
 
 use crate::bare::read_bare;
@@ -14,7 +14,7 @@ use std::alloc::Global;
 
 /// Parameters one after the other. A repeated key has its first place and its last value.
 pub fn read_params(alloc: Global, bytes: &[u8]) -> Result<(Params, &[u8]), Stop>
-    ensures { Gives (λ x. (x.0, x.1.now)) result (params_read bytes.now) }
+    ensures { GivesUnlessMemory (λ x. (x.0, x.1.now)) result (params_read bytes.now) }
 {
     let mut params = Params::new(alloc);
     let mut rest = bytes;
@@ -33,7 +33,7 @@ pub fn read_params(alloc: Global, bytes: &[u8]) -> Result<(Params, &[u8]), Stop>
 /// A parameter where a semicolon comes.
 #[tactic(auto, unfolding(crate::specs::ItemWalk::param_turn, byte_grammar::specs::Walk::optional_read))]
 fn read_turn(alloc: Global, bytes: &[u8]) -> Result<(Option<Pair<BareItem>>, &[u8]), Stop>
-    ensures { Gives (λ x. (x.0, x.1.now)) result (param_turn bytes.now) }
+    ensures { GivesUnlessMemory (λ x. (x.0, x.1.now)) result (param_turn bytes.now) }
 {
     if !starts_with(Class::Semicolon, bytes) {
         return Ok((None, bytes));
@@ -45,7 +45,7 @@ fn read_turn(alloc: Global, bytes: &[u8]) -> Result<(Option<Pair<BareItem>>, &[u
 /// A semicolon, spaces, a key and its value.
 #[tactic(auto, unfolding(crate::specs::ItemWalk::param_read))]
 fn read_param(alloc: Global, bytes: &[u8]) -> Result<(Pair<BareItem>, &[u8]), Stop>
-    ensures { Gives (λ x. (x.0, x.1.now)) result (param_read bytes.now) }
+    ensures { GivesUnlessMemory (λ x. (x.0, x.1.now)) result (param_read bytes.now) }
 {
     let (_, rest) = read_byte(Class::Semicolon, bytes)?;
     let (_, rest) = read_all(Class::Space, rest);
@@ -57,7 +57,7 @@ fn read_param(alloc: Global, bytes: &[u8]) -> Result<(Pair<BareItem>, &[u8]), St
 /// A key.
 #[tactic(auto, unfolding(crate::specs::ItemWalk::key_read))]
 pub fn read_key(alloc: Global, bytes: &[u8]) -> Result<(Text, &[u8]), Stop>
-    ensures { Gives (λ x. (x.0, x.1.now)) result (key_read bytes.now) }
+    ensures { GivesUnlessMemory (λ x. (x.0, x.1.now)) result (key_read bytes.now) }
 {
     let (key, rest) = read_word(Class::KeyFirst, Class::KeyRest, bytes)?;
     Ok((text_of(alloc, key)?, rest))
@@ -66,7 +66,7 @@ pub fn read_key(alloc: Global, bytes: &[u8]) -> Result<(Text, &[u8]), Stop>
 /// `=` and a bare item, or nothing for true.
 #[tactic(auto, unfolding(crate::specs::ItemWalk::value_read, byte_grammar::specs::Walk::optional_read))]
 fn read_value(alloc: Global, bytes: &[u8]) -> Result<(BareItem, &[u8]), Stop>
-    ensures { Gives (λ x. (x.0, x.1.now)) result (value_read bytes.now) }
+    ensures { GivesUnlessMemory (λ x. (x.0, x.1.now)) result (value_read bytes.now) }
 {
     if !starts_with(Class::Equals, bytes) {
         return Ok((BareItem::Bool(true), bytes));
@@ -77,7 +77,7 @@ fn read_value(alloc: Global, bytes: &[u8]) -> Result<(BareItem, &[u8]), Stop>
 /// `=` and a bare item.
 #[tactic(auto, unfolding(crate::specs::ItemWalk::equals_read))]
 fn read_equals(alloc: Global, bytes: &[u8]) -> Result<(BareItem, &[u8]), Stop>
-    ensures { Gives (λ x. (x.0, x.1.now)) result (equals_read bytes.now) }
+    ensures { GivesUnlessMemory (λ x. (x.0, x.1.now)) result (equals_read bytes.now) }
 {
     let (_, rest) = read_byte(Class::Equals, bytes)?;
     read_bare(alloc, rest)

@@ -1,9 +1,9 @@
 //! Strings (RFC 9651 section 3.3.3).
 
 ghost use Rattle.std.specs.Prelude.{◌≡◌, ◌++◌, ◌∷◌, [], length, List, ℕ};
-ghost use Rattle.byte_grammar.specs.Gives.{Gives as GivesAll};
+ghost use Rattle.byte_grammar.specs.Gives.{Gives};
 ghost use Rattle.byte_grammar.specs.Walk.{kind_in};
-ghost use Rattle.sfv_read.specs.Gives.{Gives};
+ghost use Rattle.sfv_read.specs.Gives.{GivesUnlessMemory};
 ghost use Rattle.sfv_read.specs.BareWalk.{char_kind, char_read, chars_read, string_read};
 
 use crate::class::Class;
@@ -26,7 +26,7 @@ pub enum CharKind {
 /// Characters in quotes, `"` and `\` behind a backslash.
 #[tactic(auto, unfolding(crate::specs::BareWalk::string_read))]
 pub fn read_string(alloc: Global, bytes: &[u8]) -> Result<(Text, &[u8]), Stop>
-    ensures { Gives (λ x. (x.0, x.1.now)) result (string_read bytes.now) }
+    ensures { GivesUnlessMemory (λ x. (x.0, x.1.now)) result (string_read bytes.now) }
 {
     let (_, rest) = read_byte(Class::Quote, bytes)?;
     read_chars(alloc, rest)
@@ -34,7 +34,7 @@ pub fn read_string(alloc: Global, bytes: &[u8]) -> Result<(Text, &[u8]), Stop>
 
 /// Characters up to the quote that ends them.
 fn read_chars(alloc: Global, bytes: &[u8]) -> Result<(Text, &[u8]), Stop>
-    ensures { Gives (λ x. (x.0, x.1.now)) result (chars_read bytes.now) }
+    ensures { GivesUnlessMemory (λ x. (x.0, x.1.now)) result (chars_read bytes.now) }
 {
     let mut text = Text::new(alloc);
     let mut rest = bytes;
@@ -53,7 +53,7 @@ fn read_chars(alloc: Global, bytes: &[u8]) -> Result<(Text, &[u8]), Stop>
 /// A character, or the quote behind the last.
 #[tactic(auto, unfolding(crate::specs::BareWalk::char_read, byte_grammar::specs::Walk::pick_read))]
 fn read_char(bytes: &[u8]) -> Result<(Option<u8>, &[u8]), Left>
-    ensures { GivesAll (λ x. (x.0, x.1.now)) result (char_read bytes.now) }
+    ensures { Gives (λ x. (x.0, x.1.now)) result (char_read bytes.now) }
 {
     match first_kind(bytes) {
         None => Err(Left(bytes.len())),

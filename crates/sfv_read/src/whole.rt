@@ -3,8 +3,8 @@
 ghost use Rattle.std.specs.Prelude.{◌≡◌, ◌≤◌, ◌↔◌, ◌++◌, ◌∷◌, [], ℕ, List as Items, Result, length, take, IfOk, IfErr, IsTrue};
 ghost use Rattle.byte_grammar.specs.Walk.{unread};
 ghost use Rattle.sfv_read.specs.declared.stop.Stop.TheVariants.{NoMemory};
-ghost use Rattle.sfv_read.specs.Fault.{IsFaultAt, Answers};
-ghost use Rattle.sfv_read.specs.Gives.{Gives, IfAt};
+ghost use Rattle.sfv_read.specs.Answers.{IsFaultAt, Answers};
+ghost use Rattle.sfv_read.specs.Gives.{GivesUnlessMemory, IfAt};
 ghost use Rattle.sfv_read.specs.ItemWalk.{item_whole};
 ghost use Rattle.sfv_read.specs.InnerWalk.{inner_whole};
 ghost use Rattle.sfv_read.specs.MemberWalk.{list_whole, dict_whole};
@@ -27,7 +27,7 @@ pub trait Field: Drop {
 
     /// Reads a text to its end.
     fn read(alloc: Global, text: &[u8]) -> Result<Self, Stop>
-        ensures gives { Gives (λ x. x) result (reading text.now) }
+        ensures gives { GivesUnlessMemory (λ x. x) result (reading text.now) }
         ensures within { IfErr result (λ e. IfAt e (λ left. left ≤ length text.now)) };
 }
 
