@@ -1,6 +1,6 @@
 //! Calls that are numbered, of which some are to fail.
 
-ghost use Rattle.std.specs.Prelude.{◌≡◌, [], IfOk, OnErr, is_err};
+ghost use Rattle.std.specs.Prelude.{◌≡◌, ◌≤◌, [], IfOk, OnErr, is_err};
 ghost use Rattle.hms_io.specs.Calls.{fails_next};
 ghost use Rattle.hms_io.specs.Cause.{HasCause, one_more};
 
@@ -56,7 +56,8 @@ impl Calls {
 
     // Counts a fault.
     pub fn fault(&mut self) -> Failed
-        ensures { self.new ≡ record self.old { faults = one_more self.old.faults } }
+        ensures counted { self.new ≡ record self.old { faults = one_more self.old.faults } }
+        ensures later { self.old.faults ≤ self.new.faults }
     {
         self.faults = self.faults.saturating_add(1);
         Failed

@@ -77,7 +77,7 @@ impl MemShelf {
         ensures { MatchOption result (map.get self.now.files name.now ≡ None)
             (λ file. map.get self.now.files name.now ≡ Some file.now) }
     {
-        for (key, file) in &self.log {
+        'files: for (key, file) in &self.log {
             if name.as_bytes() == key.bytes() {
                 return Some(file.bytes());
             }

@@ -15,7 +15,8 @@ use std::rt::Files;
 
 // Counts a fault.
 fn counted(faults: &mut u64) -> Failed
-    ensures { faults.new ≡ one_more faults.old }
+    ensures once { faults.new ≡ one_more faults.old }
+    ensures later { faults.old ≤ faults.new }
 {
     *faults = faults.saturating_add(1);
     Failed
