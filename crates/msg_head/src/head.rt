@@ -1,9 +1,10 @@
 //! Reads a head.
 
-ghost use Rattle.std.specs.Prelude.{◌≡◌, ℕ, ◌≤◌, ◌↔◌, length, take, IsTrue, IfOk, IfSome, IfNone, Ok, Err};
+ghost use Rattle.std.specs.Prelude.{◌≡◌, ℕ, ◌≤◌, ◌↔◌, length, IsTrue, IfOk, IfSome, IfNone, Ok, Err};
 ghost use Rattle.msg_head.specs.Heads.{Head, SpellsHead, BeginsWithNone, IsUnfinished, OneHead, NoHeadInFront};
 ghost use Rattle.msg_head.specs.Answers.{IfWhole, IsWholeUnlessMemory};
 
+use crate::front::front_of;
 use crate::line::read_lines;
 use crate::request::{VERSION, read_request};
 use crate::view::{HeadView, Start};
@@ -56,17 +57,6 @@ fn is_unfinished(bytes: &[u8]) -> bool
     bytes.len() < LONGEST && memmem::find(bytes, b"\r\n\r\n").is_none()
 }
 
-// The bytes that a head may have.
-fn front_of(bytes: &[u8]) -> &[u8]
-    ensures { result.now ≡ take 65536 bytes.now }
-{
-    if bytes.len() <= LONGEST {
-        bytes
-    } else {
-        &bytes[..LONGEST]
-    }
-}
-
 // The head that the bytes begin with, and how many of them spell it.
 fn read_whole<'m>(
     alloc: Global,
@@ -102,7 +92,7 @@ pub fn read_head<'m>(alloc: Global, bytes: &'m [u8]) -> Result<HeadRead<'m>, Hea
     if is_unfinished(bytes) {
         return Ok(HeadRead::Partial);
     }
-    match read_whole(alloc, front_of(bytes))? {
+    match read_whole(alloc, front_of(bytes, LONGEST))? {
         Some((view, used)) => Ok(HeadRead::Whole(view, used)),
         None => Err(HeadError::NotYet),
     }

@@ -5,6 +5,7 @@
 #![tactic(auto)]
 
 mod class;
+mod front;
 mod head;
 mod line;
 mod request;

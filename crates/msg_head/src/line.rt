@@ -1,11 +1,12 @@
 //! Field lines.
 
-ghost use Rattle.std.specs.Prelude.{◌≡◌, ℕ, ◌+◌, ◌≤◌, List, length, take, drop, IfSome, IfNone, IfOk};
+ghost use Rattle.std.specs.Prelude.{◌≡◌, ℕ, ◌+◌, ◌≤◌, List, ◌∷◌, length, take, drop, IsTrue, IfSome, IfNone, IfOk};
 ghost use Rattle.msg_head.specs.Lines.{FieldLine};
 ghost use Rattle.msg_head.specs.Fronts.{BeginsWithLine};
 ghost use Rattle.msg_head.specs.Views.{SpellLines, SpellNoLines};
 
 use crate::class::Class;
+use crate::front::rest_of;
 use std::alloc::{AllocError, Global};
 
 /// Where a field line stands in the bytes of its message.
@@ -48,7 +49,7 @@ fn read_line(bytes: &[u8]) -> Option<(usize, usize)>
     if name == 0 {
         return None;
     }
-    let raw = Class::Raw.cut(b'\r', &bytes[name + 1..])?;
+    let raw = Class::Raw.cut(b'\r', rest_of(bytes, name + 1))?;
     let end = name + raw + 2;
     if end < bytes.len() && bytes[end] == b'\n' {
         Some((name, raw))
@@ -57,12 +58,12 @@ fn read_line(bytes: &[u8]) -> Option<(usize, usize)>
     }
 }
 
-/// The bytes from that place on.
-fn rest_of(bytes: &[u8], at: usize) -> &[u8]
-    requires { at ≤ length bytes.now }
-    ensures { result.now ≡ drop at bytes.now }
+// Whether the bytes begin with the end of an empty line.
+fn is_end(bytes: &[u8]) -> bool
+    ensures some { IsTrue result → bytes.now ≡ 13 ∷ 10 ∷ drop 2 bytes.now }
+    ensures only { (more : List ℕ) → bytes.now ≡ 13 ∷ 10 ∷ more → IsTrue result }
 {
-    &bytes[at..]
+    bytes.starts_with(b"\r\n")
 }
 
 /// The field lines from that place on, up to the empty line.
@@ -79,7 +80,7 @@ pub(crate) fn read_lines(
     let mut at = from;
     'lines: loop {
         let rest = rest_of(bytes, at);
-        if rest.starts_with(b"\r\n") {
+        if is_end(rest) {
             return Ok(Some(Lines { spans, end: at + 2 }));
         }
         if spans.len() == MOST {

@@ -5,6 +5,7 @@ ghost use Rattle.msg_head.specs.Starts.{RequestLine};
 ghost use Rattle.msg_head.specs.Fronts.{BeginsWithVersion, BeginsWithTarget, BeginsWithRequest};
 
 use crate::class::Class;
+use crate::front::rest_of;
 
 /// How long the method and the target of a request line are.
 #[derive(Clone, Copy)]
@@ -34,7 +35,7 @@ fn read_target(bytes: &[u8]) -> Option<usize>
     if target == 0 {
         return None;
     }
-    if is_version(&bytes[target + 1..]) {
+    if is_version(rest_of(bytes, target + 1)) {
         Some(target)
     } else {
         None
@@ -51,6 +52,6 @@ pub(crate) fn read_request(bytes: &[u8]) -> Option<RequestLengths>
     if method == 0 {
         return None;
     }
-    let target = read_target(&bytes[method + 1..])?;
+    let target = read_target(rest_of(bytes, method + 1))?;
     Some(RequestLengths { method, target })
 }

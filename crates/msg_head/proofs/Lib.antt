@@ -1,0 +1,5 @@
+pub mod Cuts
+pub mod OneHeads
+pub mod Ends
+pub mod Requests
+pub mod Walks
