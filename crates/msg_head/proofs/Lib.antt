@@ -3,3 +3,4 @@ pub mod OneHeads
 pub mod Ends
 pub mod Requests
 pub mod Walks
+pub mod Wholes

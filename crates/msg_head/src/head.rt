@@ -4,7 +4,7 @@ ghost use Rattle.std.specs.Prelude.{◌≡◌, ℕ, ◌≤◌, ◌↔◌, length
 ghost use Rattle.msg_head.specs.Heads.{Head, SpellsHead, BeginsWithNone, IsUnfinished, OneHead, NoHeadInFront};
 ghost use Rattle.msg_head.specs.Answers.{IfWhole, IsWholeUnlessMemory};
 
-use crate::front::front_of;
+use crate::front::{front_of, part_of};
 use crate::line::read_lines;
 use crate::request::{VERSION, read_request};
 use crate::view::{HeadView, Start};
@@ -75,9 +75,9 @@ fn read_whole<'m>(
         return Ok(None);
     };
     let start = Start::Request {
-        method: &bytes[..lengths.method],
-        target: &bytes[target..target + lengths.target],
-        version: &bytes[version..version + VERSION],
+        method: front_of(bytes, lengths.method),
+        target: part_of(bytes, target, lengths.target),
+        version: part_of(bytes, version, VERSION),
     };
     Ok(Some((HeadView::new(bytes, start, lines.spans), lines.end)))
 }

@@ -1,1 +1,2 @@
 use super::*;
+use std::test::Fail;
