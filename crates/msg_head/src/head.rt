@@ -6,7 +6,7 @@ ghost use Rattle.msg_head.specs.Answers.{IfWhole, IsWholeUnlessMemory};
 
 use crate::front::{front_of, part_of};
 use crate::line::read_lines;
-use crate::request::{VERSION, read_request};
+use crate::request::{VERSION_LEN, read_request};
 use crate::view::{HeadView, Start};
 use memchr::memmem;
 use std::alloc::{AllocError, Global};
@@ -25,7 +25,7 @@ pub enum HeadRead<'m> {
 pub enum HeadError {
     /// No memory was found.
     Memory,
-    /// The bytes begin with no head that this crate reads yet, and more bytes make no difference.
+    /// The bytes begin with no head of the form that is read yet.
     NotYet,
 }
 
@@ -41,10 +41,10 @@ impl From<AllocError> for HeadError {
 }
 
 /// How many bytes a head may have, its end included.
-const LONGEST: usize = 65_536;
+const MOST_BYTES: usize = 65_536;
 
 /// The laws of heads: bytes begin with at most one head, and the text of no head goes on behind
-/// another head's text. So a head needs no bytes behind it to be read.
+/// another head's text.
 pub fn head_laws()
     ensures one { OneHead }
     ensures front { NoHeadInFront }
@@ -54,7 +54,7 @@ pub fn head_laws()
 fn is_unfinished(bytes: &[u8]) -> bool
     ensures { IsTrue result ↔ IsUnfinished bytes.now }
 {
-    bytes.len() < LONGEST && memmem::find(bytes, b"\r\n\r\n").is_none()
+    bytes.len() < MOST_BYTES && memmem::find(bytes, b"\r\n\r\n").is_none()
 }
 
 // The head that the bytes begin with, and how many of them spell it.
@@ -71,18 +71,18 @@ fn read_whole<'m>(
     };
     let target = lengths.method + 1;
     let version = target + lengths.target + 1;
-    let Some(lines) = read_lines(alloc, bytes, version + VERSION + 2)? else {
+    let Some(lines) = read_lines(alloc, bytes, version + VERSION_LEN + 2)? else {
         return Ok(None);
     };
     let start = Start::Request {
         method: front_of(bytes, lengths.method),
         target: part_of(bytes, target, lengths.target),
-        version: part_of(bytes, version, VERSION),
+        version: part_of(bytes, version, VERSION_LEN),
     };
     Ok(Some((HeadView::new(bytes, start, lines.spans), lines.end)))
 }
 
-/// Reads the head that the bytes begin with. It takes steps in proportion to the bytes.
+/// Reads the head that the bytes begin with.
 pub fn read_head<'m>(alloc: Global, bytes: &'m [u8]) -> Result<HeadRead<'m>, HeadError>
     ensures whole { IfWhole result (λ head used. SpellsHead head used bytes.now) }
     ensures found { (head : Head) (used : ℕ) → SpellsHead head used bytes.now → IsWholeUnlessMemory result head used }
@@ -92,7 +92,7 @@ pub fn read_head<'m>(alloc: Global, bytes: &'m [u8]) -> Result<HeadRead<'m>, Hea
     if is_unfinished(bytes) {
         return Ok(HeadRead::Partial);
     }
-    match read_whole(alloc, front_of(bytes, LONGEST))? {
+    match read_whole(alloc, front_of(bytes, MOST_BYTES))? {
         Some((view, used)) => Ok(HeadRead::Whole(view, used)),
         None => Err(HeadError::NotYet),
     }

@@ -37,7 +37,7 @@ pub(crate) struct Lines {
 }
 
 /// How many field lines a head may have.
-const MOST: usize = 256;
+const MOST_LINES: usize = 256;
 
 // How long the name and the raw value are of the field line that the bytes begin with.
 fn read_line(bytes: &[u8]) -> Option<(usize, usize)>
@@ -58,7 +58,7 @@ fn read_line(bytes: &[u8]) -> Option<(usize, usize)>
     }
 }
 
-// Whether the bytes begin with the end of an empty line.
+// Whether the bytes begin with an empty line.
 fn is_end(bytes: &[u8]) -> bool
     ensures some { IsTrue result → bytes.now ≡ 13 ∷ 10 ∷ drop 2 bytes.now }
     ensures only { (more : List ℕ) → bytes.now ≡ 13 ∷ 10 ∷ more → IsTrue result }
@@ -83,7 +83,7 @@ pub(crate) fn read_lines(
         if is_end(rest) {
             return Ok(Some(Lines { spans, end: at + 2 }));
         }
-        if spans.len() == MOST {
+        if spans.len() == MOST_LINES {
             return Ok(None);
         }
         let Some((name, raw)) = read_line(rest) else {

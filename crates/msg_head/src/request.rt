@@ -15,7 +15,7 @@ pub(crate) struct RequestLengths {
 }
 
 /// How long a version is.
-pub(crate) const VERSION: usize = 8;
+pub(crate) const VERSION_LEN: usize = 8;
 
 // Whether the bytes begin with a version and the line's end.
 fn is_version(bytes: &[u8]) -> bool
