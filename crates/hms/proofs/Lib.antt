@@ -1,0 +1,4 @@
+pub mod Joins
+pub mod NameLists
+pub mod NameTests
+pub mod WordLists
