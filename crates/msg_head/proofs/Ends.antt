@@ -1,13 +1,13 @@
 -- The end of a head: an empty line.
-use Rattle.std.proofs.Common.{◌≡◌, ℕ, ◌+◌, ◌<◌, ◌≤◌, ◌↔◌, Bool, true, false, not, IsTrue, is_some, is_none, List, [], ◌∷◌, ◌++◌, length, take, drop, get_or, Option, Some, None, refl, sym, ap, ◌∙◌, arith, append_assoc, length-append, codes}
-use Rattle.std.specs.List.{list_all, flat_map}
+use Rattle.std.proofs.Common.{◌≡◌, ℕ, ◌+◌, ◌<◌, ◌↔◌, Bool, true, false, not, IsTrue, is_some, is_none, List, [], ◌∷◌, ◌++◌, length, take, drop, get_or, Option, Some, None, refl, sym, ap, ◌∙◌, arith, append_assoc, length-append, codes}
+use Rattle.std.specs.List.{flat_map}
 use Rattle.std.proofs.Math.ListN.{get_or-append}
 use Rattle.std.proofs.lemmas.Bool.{false≢true}
-use Rattle.std.proofs.lemmas.List.{append-nil, get_or-append-add, take-append-drop, drop-drop}
+use Rattle.std.proofs.lemmas.List.{append-nil, get_or-append-add, take-append-drop}
 use Rattle.memchr.specs.Find.{OccursAt, FindsNeedle}
 use Rattle.memchr.proofs.lemmas.MatchLemmas.{OccursAt-split}
 use Rattle.msg_head.specs.Lines.{FieldLine, line_text}
-use Rattle.msg_head.specs.Starts.{RequestLine, StartLine, request, start_text, request_text}
+use Rattle.msg_head.specs.Starts.{StartLine, request, start_text}
 use Rattle.msg_head.specs.Heads.{Head, SpellsHead, IsUnfinished, head_text}
 use Rattle.msg_head.proofs.OneHeads.{spelled_front}
 

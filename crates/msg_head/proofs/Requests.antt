@@ -1,11 +1,11 @@
 -- The parts of a request line, joined and parted.
-use Rattle.std.proofs.Common.{◌≡◌, ℕ, ◌+◌, ◌<◌, ◌≤◌, Bool, true, ◌&&◌, List, [], ◌∷◌, ◌++◌, length, take, drop, nat_lt, refl, sym, ap, ◌∙◌, arith}
+use Rattle.std.proofs.Common.{◌≡◌, ℕ, ◌+◌, ◌<◌, Bool, true, ◌&&◌, List, ◌∷◌, ◌++◌, length, take, drop, nat_lt, sym, ap, ◌∙◌, arith}
 use Rattle.std.specs.List.{list_all}
 use Rattle.std.proofs.Math.Seq.{drop-append-add}
 use Rattle.std.proofs.lemmas.Bool.{and_parts, and_from, lt-ltb}
 use Rattle.std.proofs.lemmas.List.{drop-drop, length-take-le}
 use Rattle.msg_head.specs.Bytes.{is_tchar, is_visible}
-use Rattle.msg_head.specs.Starts.{RequestLine, request_text}
+use Rattle.msg_head.specs.Starts.{RequestLine}
 use Rattle.msg_head.specs.Fronts.{StandsBefore, BeginsWithVersion, BeginsWithTarget, BeginsWithRequest}
 use Rattle.msg_head.proofs.OneHeads.{opened_request}
 

@@ -1,6 +1,6 @@
 -- A walk over field lines.
-use Rattle.std.proofs.Common.{◌≡◌, ℕ, ◌+◌, ◌-◌, ◌<◌, ◌≤◌, Bool, true, false, ◌&&◌, ◌⊎◌, inl, inr, List, [], ◌∷◌, ◌++◌, length, map, take, drop, nat_le, nat_lt, refl, sym, ap, ◌∙◌, arith, append_assoc, length-append, length-drop}
-use Rattle.std.specs.List.{list_all, flat_map, slice_range}
+use Rattle.std.proofs.Common.{◌≡◌, ℕ, ◌+◌, ◌-◌, ◌<◌, ◌≤◌, true, ◌⊎◌, inl, inr, List, [], ◌∷◌, ◌++◌, length, map, take, drop, refl, sym, ap, ◌∙◌, arith, append_assoc, length-append, length-drop}
+use Rattle.std.specs.List.{list_all, flat_map}
 use Rattle.std.proofs.lemmas.Bool.{and_from, and_parts, lt-ltb, le-leb}
 use Rattle.std.proofs.lemmas.List.{append-nil, drop-drop, length-map, map-append}
 use Rattle.std.proofs.lemmas.List.Folds.{list_all-append}
@@ -9,7 +9,7 @@ use Rattle.msg_head.specs.declared.line.LineSpan.{LineSpan}
 use Rattle.msg_head.specs.Lines.{FieldLine, is_line, line_text}
 use Rattle.msg_head.specs.Fronts.{BeginsWithLine}
 use Rattle.msg_head.specs.Views.{spelled, lies_in, SpellLines, SpellNoLines}
-use Rattle.msg_head.proofs.OneHeads.{GoesOn, lines_on}
+use Rattle.msg_head.proofs.OneHeads.{lines_on}
 
 -- from one place on the bytes are the field lines at these places, up to another place
 pub record Walked (bytes : List ℕ) (from : ℕ) (spans : List LineSpan) (at : ℕ) : Type 0 where

@@ -13,7 +13,7 @@ pub record Head : Type 0 where
 abbrev pub head_text : Head → List ℕ
 head_text head = start_text head.start ++ (flat_map line_text head.lines ++ 13 ∷ 10 ∷ [])
 
--- the parts are those that a head has, within the limits of this program
+-- the parts are those that a head has, within the limits that are set here
 pub record IsHead (head : Head) : Type 0 where
   pub start : IsStartLine head.start
   pub lines : IsTrue (list_all is_line head.lines)

@@ -1,5 +1,5 @@
 -- What the places that a view keeps stand for.
-use Rattle.std.specs.Prelude.{◌≡◌, ◌≢◌, ℕ, ◌+◌, ◌≤◌, Bool, IsTrue, ◌&&◌, nat_le, nat_lt, List, [], ◌∷◌, ◌++◌, length, map, drop}
+use Rattle.std.specs.Prelude.{◌≡◌, ◌≢◌, ℕ, ◌+◌, ◌≤◌, Bool, IsTrue, ◌&&◌, nat_le, nat_lt, List, ◌∷◌, ◌++◌, length, map, drop}
 use Rattle.std.specs.List.{list_all, flat_map, slice_range}
 use Rattle.msg_head.specs.declared.line.LineSpan.{LineSpan}
 use Rattle.msg_head.specs.declared.view.Start.{Start}

@@ -1,4 +1,4 @@
-use Rattle.std.proofs.Common.{◌≡◌, Ok, inl, refl}
+use Rattle.std.proofs.Common.{Ok, inl, refl}
 use Rattle.std.proofs.lemmas.Bool.{false≢true}
 use Rattle.msg_head.specs.declared.head.HeadRead.TheVariants.{Whole}
 use Rattle.msg_head.proofs.Ends.{head_has_end}

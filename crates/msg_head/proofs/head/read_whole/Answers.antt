@@ -1,4 +1,4 @@
-use Rattle.std.proofs.Common.{◌≡◌, ◌+◌, drop, take, ap, sym, subst, ◌∙◌, arith}
+use Rattle.std.proofs.Common.{drop, take, ap, sym, subst, ◌∙◌, arith}
 use Rattle.msg_head.specs.Starts.{request}
 use Rattle.msg_head.specs.Heads.{Head, SpellsHead}
 use Rattle.msg_head.proofs.Wholes.{whole_head, no_request, no_whole}

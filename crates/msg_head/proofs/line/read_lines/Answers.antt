@@ -1,6 +1,6 @@
-use Rattle.std.proofs.Common.{◌≡◌, ◌+◌, ◌∷◌, drop, refl, sym, arith, ◌<◌, length}
+use Rattle.std.proofs.Common.{refl, arith, ◌<◌, length}
 use Rattle.std.proofs.lemmas.Bool.{false≢true}
-use Rattle.msg_head.proofs.Walks.{Walked, walk_more, walk_end, no_lines, too_many}
+use Rattle.msg_head.proofs.Walks.{walk_more, walk_end, no_lines, too_many}
 use Rattle.msg_head.proofs.line.read_lines.Goals as goal
 
 pub returns-then-is_end-clause-some : goal.returns-then-is_end-clause-some

@@ -1,4 +1,4 @@
-use Rattle.std.proofs.Common.{ℕ, ◌-◌, length}
+use Rattle.std.proofs.Common.{◌-◌, length}
 use Rattle.msg_head.proofs.Walks.{Walked}
 use Rattle.msg_head.proofs.line.read_lines.Given as goal
 

@@ -1,4 +1,4 @@
-use Rattle.std.proofs.Common.{◌≡◌, ◌<◌, length, Some, ap, arith}
+use Rattle.std.proofs.Common.{◌≡◌, ◌<◌, length, Some, arith}
 use Rattle.msg_head.proofs.Requests.{joined_request, request_stands, target_behind}
 use Rattle.msg_head.proofs.request.read_request.Goals as goal
 
