@@ -1,0 +1,3 @@
+pub mod Keys
+pub mod Range
+pub mod Strict

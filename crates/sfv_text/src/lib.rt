@@ -1,13 +1,25 @@
-//! Texts of bytes, and what takes in a text piece by piece.
+//! Texts of bytes, what takes in a text piece by piece, and the values of structured fields (RFC 9651)
+//! with their texts.
 #![tactic(auto)]
 
 mod absorb;
 mod memory;
+mod pair;
+mod pairs;
+mod print;
+mod print_bare;
+mod sequence;
 mod text;
+mod value;
 
 pub use absorb::Absorb;
 pub use memory::Memory;
+pub use pair::Pair;
+pub use pairs::Pairs;
+pub use print::{print_dict, print_inner, print_item, print_list};
+pub use sequence::Sequence;
 pub use text::Text;
+pub use value::{BareItem, Dict, InnerList, Item, Items, List, Member, Params};
 
 #[cfg(test)]
 mod tests;

@@ -1,6 +1,6 @@
 //! Bytes that are owned.
 
-ghost use Rattle.std.specs.Prelude.{◌≡◌, ◌++◌, [], OnOk, OnErr};
+ghost use Rattle.std.specs.Prelude.{◌≡◌, ◌++◌, [], IfOk, OnOk, OnErr};
 
 use crate::memory::Memory;
 use std::alloc::Global;
@@ -44,5 +44,14 @@ impl Text {
     {
         self.bytes.extend_from_slice(piece)?;
         Ok(())
+    }
+
+    /// An equal text of its own.
+    pub fn copy(&self, alloc: Global) -> Result<Text, Memory>
+        ensures { IfOk result (λ text. text ≡ self.now) }
+    {
+        let mut text = Text::new(alloc);
+        text.append(self.bytes())?;
+        Ok(text)
     }
 }

@@ -1,0 +1,3 @@
+pub mod Groups
+pub mod Printable
+pub mod PutLaws

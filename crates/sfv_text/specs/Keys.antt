@@ -1,0 +1,29 @@
+-- Lists of pairs by their keys (RFC 9651 sections 3.1.2 and 3.2).
+use Rattle.std.specs.Prelude.{◌≡◌, ℕ, ◌<◌, Bool, true, false, ◌&&◌, not, List, [], ◌∷◌, ◌++◌, length, take, map, slice_index_or, if◌then◌else◌}
+use Rattle.std.specs.List.{list_any}
+use Rattle.std.specs.Str.{bytes_eq}
+use Rattle.sfv_text.specs.declared.pair.Pair.{Pair}
+
+abbrev pub has_key : {V : Type 0} → List ℕ → Pair V → Bool
+has_key key pair = bytes_eq pair.key key
+
+-- no key stands twice
+abbrev pub have_distinct_keys : {V : Type 0} → List (Pair V) → Bool
+have_distinct_keys [] = true
+have_distinct_keys (pair ∷ pairs) = not (list_any (has_key pair.key) pairs) && have_distinct_keys pairs
+
+-- the pair, with the value where it has the key
+abbrev pub with_value : {V : Type 0} → List ℕ → V → Pair V → Pair V
+with_value key value pair = if has_key key pair then record pair { value = value } else pair
+
+-- the value takes the place of the key's value, or the pair comes at the end
+abbrev pub put : {V : Type 0} → List (Pair V) → List ℕ → V → List (Pair V)
+put pairs key value =
+    if list_any (has_key key) pairs then map (with_value key value) pairs
+    else pairs ++ record { key = key; value = value } ∷ []
+
+-- the first pair of the key stands there
+abbrev pub IsFound : {V : Type 0} → List (Pair V) → List ℕ → ℕ → Type 0
+IsFound {V} pairs key place =
+    (place < length pairs) × (list_any (has_key key) (take place pairs) ≡ false)
+    × ((d : Pair V) → has_key key (slice_index_or pairs place d) ≡ true)

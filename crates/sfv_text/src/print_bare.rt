@@ -1,0 +1,145 @@
+//! Bare items as text (RFC 9651 section 4.1.3.1).
+//!
+//! Each function adds its part at the end of the text.
+
+ghost use Rattle.std.specs.Prelude.{◌≡◌, ◌++◌, ◌≤◌, ◌<◌, length, OnOk};
+ghost use Rattle.std.specs.Fmt.{decimal};
+ghost use Rattle.std.specs.List.{flat_map};
+ghost use Rattle.base64.specs.Engines.{standard};
+ghost use Rattle.base64.specs.GeneralPurpose.{encode_of};
+ghost use Rattle.sfv_text.specs.Strict.{sign_text, integer_text, fraction_text, decimal_text, character_text, string_text, bytes_text, bool_text, bare_text};
+
+use crate::memory::Memory;
+use crate::text::Text;
+use crate::value::BareItem;
+use base64::engine::general_purpose::STANDARD;
+
+pub(crate) fn write_bare(bare: &BareItem, text: &mut Text) -> Result<(), Memory>
+    ensures { OnOk result (text.new ≡ text.old ++ bare_text bare.now) }
+{
+    match bare {
+        BareItem::Integer(value) => write_integer(*value, text),
+        BareItem::Decimal(thousandths) => write_decimal(*thousandths, text),
+        BareItem::Str(characters) => write_string(characters.bytes(), text),
+        BareItem::Token(token) => text.append(token.bytes()),
+        BareItem::Bytes(bytes) => write_bytes(bytes.bytes(), text),
+        BareItem::Bool(value) => write_bool(*value, text),
+    }
+}
+
+#[tactic(auto, using(std::proofs::lemmas::Fmt::decimal_digit))]
+fn write_number(value: u64, text: &mut Text) -> Result<(), Memory>
+    ensures { OnOk result (text.new ≡ text.old ++ decimal value) }
+{
+    if value >= 10 {
+        write_number(value / 10, text)?;
+        return text.append(&[b'0' + (value % 10) as u8]);
+    }
+    text.append(&[b'0' + value as u8])
+}
+
+fn write_sign(value: i64, text: &mut Text) -> Result<(), Memory>
+    ensures { OnOk result (text.new ≡ text.old ++ sign_text value) }
+{
+    if value < 0 {
+        return text.append(b"-");
+    }
+    Ok(())
+}
+
+fn write_integer(value: i64, text: &mut Text) -> Result<(), Memory>
+    ensures { OnOk result (text.new ≡ text.old ++ integer_text value) }
+{
+    write_sign(value, text)?;
+    write_number(value.unsigned_abs(), text)
+}
+
+/// The digits behind the point.
+fn write_fraction(thousandths: u64, text: &mut Text) -> Result<(), Memory>
+    requires { thousandths < 1000 }
+    ensures { OnOk result (text.new ≡ text.old ++ fraction_text thousandths) }
+{
+    let first = b'0' + (thousandths / 100) as u8;
+    let second = b'0' + (thousandths / 10 % 10) as u8;
+    let third = b'0' + (thousandths % 10) as u8;
+    if thousandths % 100 == 0 {
+        text.append(&[first])
+    } else if thousandths % 10 == 0 {
+        text.append(&[first, second])
+    } else {
+        text.append(&[first, second, third])
+    }
+}
+
+fn write_decimal(thousandths: i64, text: &mut Text) -> Result<(), Memory>
+    ensures { OnOk result (text.new ≡ text.old ++ decimal_text thousandths) }
+{
+    let size = thousandths.unsigned_abs();
+    write_sign(thousandths, text)?;
+    write_number(size / 1000, text)?;
+    text.append(b".")?;
+    write_fraction(size % 1000, text)
+}
+
+fn write_character(character: u8, text: &mut Text) -> Result<(), Memory>
+    ensures { OnOk result (text.new ≡ text.old ++ character_text character) }
+{
+    if character == b'"' || character == b'\\' {
+        text.append(&[b'\\', character])
+    } else {
+        text.append(&[character])
+    }
+}
+
+fn write_characters(characters: &[u8], text: &mut Text) -> Result<(), Memory>
+    ensures { OnOk result (text.new ≡ text.old ++ flat_map character_text characters.now) }
+{
+    for character in characters {
+        write_character(*character, text)?;
+    }
+    Ok(())
+}
+
+fn write_string(characters: &[u8], text: &mut Text) -> Result<(), Memory>
+    ensures { OnOk result (text.new ≡ text.old ++ string_text characters.now) }
+{
+    text.append(b"\"")?;
+    write_characters(characters, text)?;
+    text.append(b"\"")
+}
+
+/// Up to 48 bytes in base64, which are at most 64 symbols.
+fn write_group(group: &[u8], text: &mut Text) -> Result<(), Memory>
+    requires { length group.now ≤ 48 }
+    ensures { OnOk result (text.new ≡ text.old ++ encode_of standard group.now) }
+{
+    let mut symbols = [0; 64];
+    let Ok(count) = STANDARD.encode_slice(group, &mut symbols) else {
+        unreachable!();
+    };
+    text.append(&symbols[..count])
+}
+
+/// All but the last group are a multiple of three bytes, so only the last may have padding.
+fn write_base64(bytes: &[u8], text: &mut Text) -> Result<(), Memory>
+    ensures { OnOk result (text.new ≡ text.old ++ encode_of standard bytes.now) }
+{
+    for group in bytes.chunks(48) {
+        write_group(group, text)?;
+    }
+    Ok(())
+}
+
+fn write_bytes(bytes: &[u8], text: &mut Text) -> Result<(), Memory>
+    ensures { OnOk result (text.new ≡ text.old ++ bytes_text bytes.now) }
+{
+    text.append(b":")?;
+    write_base64(bytes, text)?;
+    text.append(b":")
+}
+
+fn write_bool(value: bool, text: &mut Text) -> Result<(), Memory>
+    ensures { OnOk result (text.new ≡ text.old ++ bool_text value) }
+{
+    text.append(if value { b"?1" } else { b"?0" })
+}

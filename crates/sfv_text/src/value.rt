@@ -1,0 +1,108 @@
+//! The values of structured fields (RFC 9651 section 3).
+
+ghost use Rattle.std.specs.Prelude.{◌≡◌, IfOk};
+
+use crate::memory::Memory;
+use crate::pair::Pair;
+use crate::pairs::Pairs;
+use crate::sequence::Sequence;
+use crate::text::Text;
+use std::alloc::Global;
+
+/// A bare item (RFC 9651 section 3.3).
+#[derive(Debug, Drop)]
+pub enum BareItem {
+    Integer(i64),
+    /// In thousandths.
+    Decimal(i64),
+    /// The characters, without quotes and escapes.
+    Str(Text),
+    Token(Text),
+    /// The bytes that a Byte Sequence spells in base64.
+    Bytes(Text),
+    Bool(bool),
+}
+
+impl BareItem {
+    /// An equal bare item of its own.
+    pub fn copy(&self, alloc: Global) -> Result<BareItem, Memory>
+        ensures { IfOk result (λ bare. bare ≡ self.now) }
+    {
+        match self {
+            BareItem::Integer(value) => Ok(BareItem::Integer(*value)),
+            BareItem::Decimal(thousandths) => Ok(BareItem::Decimal(*thousandths)),
+            BareItem::Str(text) => Ok(BareItem::Str(text.copy(alloc)?)),
+            BareItem::Token(text) => Ok(BareItem::Token(text.copy(alloc)?)),
+            BareItem::Bytes(bytes) => Ok(BareItem::Bytes(bytes.copy(alloc)?)),
+            BareItem::Bool(value) => Ok(BareItem::Bool(*value)),
+        }
+    }
+}
+
+/// Parameters (RFC 9651 section 3.1.2).
+pub type Params = Pairs<BareItem>;
+
+fn copy_of_param(alloc: Global, param: &Pair<BareItem>) -> Result<Pair<BareItem>, Memory>
+    ensures { IfOk result (λ copy. copy ≡ param.now) }
+{
+    Ok(Pair {
+        key: param.key.copy(alloc)?,
+        value: param.value.copy(alloc)?,
+    })
+}
+
+impl Pairs<BareItem> {
+    /// Equal parameters of their own.
+    pub fn copy(&self, alloc: Global) -> Result<Params, Memory>
+        ensures { IfOk result (λ params. params ≡ self.now) }
+    {
+        let params = self.as_slice();
+        let mut copies = Vec::new(alloc);
+        for param in params {
+            copies.push(copy_of_param(alloc, param)?)?;
+        }
+        Ok(Pairs::from_vec(copies))
+    }
+}
+
+/// A bare item with its parameters (RFC 9651 section 3.3).
+#[derive(Debug, Drop)]
+pub struct Item {
+    pub bare: BareItem,
+    pub params: Params,
+}
+
+impl Item {
+    /// An equal Item of its own.
+    pub fn copy(&self, alloc: Global) -> Result<Item, Memory>
+        ensures { IfOk result (λ item. item ≡ self.now) }
+    {
+        Ok(Item {
+            bare: self.bare.copy(alloc)?,
+            params: self.params.copy(alloc)?,
+        })
+    }
+}
+
+/// The Items of an Inner List.
+pub type Items = Sequence<Item>;
+
+/// Items with parameters of their own (RFC 9651 section 3.1.1).
+#[derive(Debug, Drop)]
+pub struct InnerList {
+    pub items: Items,
+    pub params: Params,
+}
+
+/// A member of a List or a Dictionary.
+#[derive(Debug, Drop)]
+pub enum Member {
+    Item(Item),
+    InnerList(InnerList),
+}
+
+/// A List (RFC 9651 section 3.1).
+pub type List = Sequence<Member>;
+
+/// A Dictionary (RFC 9651 section 3.2).
+pub type Dict = Pairs<Member>;
