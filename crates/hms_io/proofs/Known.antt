@@ -1,8 +1,8 @@
 -- Known bytes over more than one call, and the first entry of a name.
-use Rattle.std.proofs.Common.{◌≡◌, ℕ, ◌+◌, ◌-◌, ◌≤◌, List, [], ◌∷◌, ◌++◌, Bool, cond, length, take, drop, Option, Some, None, Result, Ok, Err, OnErr, refl, sym, ap, subst, ◌∙◌, arith, length-append}
+use Rattle.std.proofs.Common.{◌≡◌, ℕ, ◌+◌, ◌-◌, ◌≤◌, List, ◌∷◌, ◌++◌, Bool, cond, length, take, drop, Option, Some, None, Result, Ok, Err, OnErr, sym, ap, subst, ◌∙◌, arith, length-append}
 use Rattle.std.proofs.lemmas.List.{take-append-drop, take_rest, length-take-le, drop-drop, length-drop}
 use Rattle.std.proofs.lemmas.Map.Text.{is_eq-slice_cmp}
-use Rattle.std.proofs.Math.Seq.{take-add, drop-append_seam, take-append_seam}
+use Rattle.std.proofs.Math.Seq.{take-add, take-append-add, take-take, drop-append_seam, take-append_seam}
 use Rattle.std.proofs.KnownBytes.{Appends-trans, Consumes-trans}
 use Rattle.std.specs.Io.KnownBytes.{Appends, Consumes}
 use Rattle.std.specs.Cmp.Lexicographic.{slice_cmp}
@@ -17,6 +17,15 @@ pub appends_more : (a b c : Option (List ℕ)) (text : List ℕ) (i n : ℕ) →
 appends_more a b c text i n p q =
     let rest = subst (λ l. Appends b c (take n l)) (take_rest text i) q in
     subst (Appends a c) (sym (take-add i n text)) (Appends-trans a b c _ _ p rest)
+
+-- two reads filled the front of a piece as one
+pub consumes_in_place : (a b c : Option (List ℕ)) (xs ys zs : List ℕ) (at n : ℕ) → at ≤ length xs → n ≤ length ys
+    → take (at + length ys) zs ≡ take at xs ++ ys → Consumes a b (take at xs) → Consumes b c (take n ys) → Consumes a c (take (at + n) zs)
+consumes_in_place a b c xs ys zs at n within short is p q =
+    let long = ap (λ k. take (k + n) (take at xs ++ ys)) (sym (length-take-le at xs within)) in
+    let front : take (at + n) zs ≡ take at xs ++ take n ys =
+    sym (take-take (at + n) (at + length ys) zs (omega arith)) ∙ ap (take (at + n)) is ∙ long ∙ take-append-add (take at xs) ys n in
+    subst (Consumes a c) (sym front) (Consumes-trans a b c _ _ p q)
 
 -- what was consumed is the front that is gone
 pub loses_front : (a b : Option (List ℕ)) (text : List ℕ) → Consumes a b text → LosesFront a b (length text)

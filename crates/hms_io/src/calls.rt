@@ -41,10 +41,10 @@ impl Calls {
     // Makes the next call.
     pub fn next(&mut self) -> Result<(), Failed>
         ensures fails { is_err result ≡ fails_next self.old }
-        ensures count { self.new.made ≡ one_more self.old.made }
+        ensures made { self.new.made ≡ one_more self.old.made }
         ensures kept { self.new.fails ≡ self.old.fails }
         ensures cause { HasCause self.old.faults self.new.faults result }
-        ensures once { OnErr result (self.new.faults ≡ one_more self.old.faults) }
+        ensures counts_one { OnErr result (self.new.faults ≡ one_more self.old.faults) }
     {
         let call = self.made;
         self.made = call.saturating_add(1);

@@ -100,8 +100,8 @@ impl Shelf for MemShelf {
 
         // It fails at the given calls alone.
         ensures fails { is_err result ≡ fails_next self.old.calls }
-        ensures once { OnErr result (self.new.calls.faults ≡ one_more self.old.calls.faults) }
-        ensures count { self.new.calls.made ≡ one_more self.old.calls.made }
+        ensures counts_one { OnErr result (self.new.calls.faults ≡ one_more self.old.calls.faults) }
+        ensures made { self.new.calls.made ≡ one_more self.old.calls.made }
         ensures same_fails { self.new.calls.fails ≡ self.old.calls.fails }
     {
         self.calls.next()?;

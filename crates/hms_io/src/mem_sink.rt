@@ -83,8 +83,8 @@ impl Sink for MemSink {
             (fails_next self.old.calls || (is_full self.old && nat_lt 0 (length piece.now))) }
         ensures amount { IfOk result (λ n. n ≡ min (self.old.room - length self.old.taken)
             (min self.old.piece (length piece.now))) }
-        ensures once { OnErr result (self.new.calls.faults ≡ one_more self.old.calls.faults) }
-        ensures count { self.new.calls.made ≡ one_more self.old.calls.made }
+        ensures counts_one { OnErr result (self.new.calls.faults ≡ one_more self.old.calls.faults) }
+        ensures made { self.new.calls.made ≡ one_more self.old.calls.made }
         ensures same_fails { self.new.calls.fails ≡ self.old.calls.fails }
         ensures same_room { self.new.room ≡ self.old.room }
         ensures same_piece { self.new.piece ≡ self.old.piece }

@@ -77,8 +77,8 @@ impl Source for MemSource {
         ensures fails { is_err result ≡ fails_next self.old.calls }
         ensures amount { IfOk result (λ n.
             n ≡ min (length self.old.left) (min self.old.piece (length into.old))) }
-        ensures once { OnErr result (self.new.calls.faults ≡ one_more self.old.calls.faults) }
-        ensures count { self.new.calls.made ≡ one_more self.old.calls.made }
+        ensures counts_one { OnErr result (self.new.calls.faults ≡ one_more self.old.calls.faults) }
+        ensures made { self.new.calls.made ≡ one_more self.old.calls.made }
         ensures same_fails { self.new.calls.fails ≡ self.old.calls.fails }
         ensures same_piece { self.new.piece ≡ self.old.piece }
     {

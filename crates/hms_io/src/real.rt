@@ -1,21 +1,21 @@
 //! The outside over the real thing. These tell no content, only their count of faults.
 
-ghost use Rattle.std.specs.Prelude.{◌≡◌, ◌≤◌, length, None, IfOk, IfSome, OnErr};
+ghost use Rattle.std.specs.Prelude.{◌≡◌, ◌<◌, ◌≤◌, length, take, None, IfOk, IfSome, OnErr};
 ghost use Rattle.std.specs.Io.{ReadsAtMost, WritesAtMost};
-ghost use Rattle.std.specs.Io.KnownBytes.{ReadConsumes, WriteAppends};
+ghost use Rattle.std.specs.Io.KnownBytes.{Consumes, IsAtEnd, ReadConsumes, WriteAppends};
 ghost use Rattle.hms_io.specs.Cause.{HasCause, one_more};
 ghost use Rattle.hms_io.specs.Files.{Fetches};
 
 use crate::status::Failed;
 use crate::traits::{Shelf, Sink, Source};
-use std::fs;
 use std::io::{ErrorKind, Read, Write};
 use std::marker::Model;
 use std::rt::Files;
+use std::{fs, io};
 
 // Counts a fault.
 fn counted(faults: &mut u64) -> Failed
-    ensures once { faults.new ≡ one_more faults.old }
+    ensures counts_one { faults.new ≡ one_more faults.old }
     ensures later { faults.old ≤ faults.new }
 {
     *faults = faults.saturating_add(1);
@@ -57,7 +57,7 @@ impl<R: Read> Source for StdSource<R> {
         ensures bound { ReadsAtMost result into.new }
         ensures bytes { ReadConsumes None None result into.new }
         ensures cause { HasCause self.old self.new result }
-        ensures once { OnErr result (self.new ≡ one_more self.old) }
+        ensures counts_one { OnErr result (self.new ≡ one_more self.old) }
     {
         match self.reader.read(into) {
             Ok(count) => Ok(count),
@@ -103,7 +103,7 @@ impl<W: Write> Sink for StdSink<W> {
         ensures bytes { WriteAppends None None result piece.now }
         ensures some { IfOk result (λ n. n ≡ 0 → length piece.now ≡ 0) }
         ensures cause { HasCause self.old self.new result }
-        ensures once { OnErr result (self.new ≡ one_more self.old) }
+        ensures counts_one { OnErr result (self.new ≡ one_more self.old) }
     {
         let count = match self.writer.write(piece) {
             Ok(count) => count,
@@ -145,8 +145,11 @@ impl<'a, R: Files> DirShelf<'a, R> {
 }
 
 // Reads until the piece is full or the reader ends, and gives the number of bytes.
-fn read_front<R: Read>(reader: &mut R, into: &mut [u8]) -> std::io::Result<usize>
-    ensures { IfOk result (λ n. n ≤ length into.new) }
+fn read_front<R: Read>(reader: &mut R, into: &mut [u8]) -> io::Result<usize>
+    ensures bound { IfOk result (λ n. n ≤ length into.new) }
+    ensures bytes { IfOk result (λ n.
+        Consumes (R.remaining reader.old) (R.remaining reader.new) (take n into.new)) }
+    ensures end { IfOk result (λ n. n < length into.new → IsAtEnd (R.remaining reader.new)) }
 {
     let mut at = 0;
     'reads: while at < into.len() {
@@ -170,7 +173,7 @@ impl<'a, R: Files> Shelf for DirShelf<'a, R> {
         ensures bound { IfOk result (λ found. IfSome found (λ n. n ≤ length into.new)) }
         ensures files { Fetches None None name.now result into.new }
         ensures cause { HasCause self.old self.new result }
-        ensures once { OnErr result (self.new ≡ one_more self.old) }
+        ensures counts_one { OnErr result (self.new ≡ one_more self.old) }
     {
         let mut file = match fs::open(self.rt, name) {
             Ok(file) => file,

@@ -17,7 +17,7 @@ pub const MAX_LIMIT: usize = 67_108_864;
 // How many bytes are asked of a source at once.
 const CHUNK: usize = 4096;
 
-/// Why a source isn't read whole. Where several causes stand, the first is answered.
+/// Why a source isn't read whole.
 #[derive(Clone, Copy, Debug, PartialEq, Eq)]
 pub enum FillError {
     /// No memory was found.
