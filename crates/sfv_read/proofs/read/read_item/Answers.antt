@@ -1,0 +1,7 @@
+use Rattle.sfv_read.proofs.Told.{told, item_judges}
+use Rattle.sfv_read.proofs.read.read_item.Goals as goal
+
+pub returns : goal.returns
+returns c =
+    let t = told item_judges c.args.text.now c.read_field.result c.read_field.ensures in
+    record { ok = t.ok; only = t.only; none = t.none; within = t.within; begins = t.begins; longest = t.longest; syntax = t.syntax_only; item_kind = t.item_kind }

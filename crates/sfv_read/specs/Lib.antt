@@ -1,0 +1,12 @@
+pub mod Class
+pub mod Gives
+pub mod BareItem
+pub mod Item
+pub mod Inner
+pub mod Member
+pub mod Reads
+pub mod BareWalk
+pub mod ItemWalk
+pub mod InnerWalk
+pub mod MemberWalk
+pub mod Fault

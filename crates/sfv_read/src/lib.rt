@@ -1,0 +1,25 @@
+//! Readers of structured fields (RFC 9651).
+#![tactic(auto)]
+
+mod bare;
+mod byte_sequence;
+mod class;
+mod dict;
+mod fault;
+mod inner;
+mod item;
+mod list;
+mod member;
+mod number;
+mod params;
+mod read;
+mod stop;
+mod string;
+mod text;
+mod whole;
+
+pub use fault::SfError;
+pub use read::{read_dict, read_inner, read_item, read_list};
+
+#[cfg(test)]
+mod tests;
