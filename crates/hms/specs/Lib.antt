@@ -1,8 +1,9 @@
 pub mod Command
 pub mod CommandView
 pub mod Values
+pub mod Asked
+pub mod Refusal
 pub mod SignatureBase
-pub mod Names
 pub mod Messages
 pub mod Sinks
 pub mod Report
