@@ -11,3 +11,6 @@ pub mod InnerLists
 pub mod PartedTexts
 pub mod Members
 pub mod Told
+pub mod InRange
+pub mod StrictReads
+pub mod TextLaws

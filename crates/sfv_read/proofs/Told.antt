@@ -1,6 +1,6 @@
 -- What a reading of whole texts tells of the texts that are read.
-use Rattle.std.proofs.Common.{◌≡◌, ℕ, ◌+◌, ◌-◌, ◌≤◌, ◌<◌, List, [], ◌∷◌, ◌++◌, length, take, drop, Result, Ok, Err, refl, sym, ap, subst, ◌∙◌, arith}
-use Rattle.std.specs.Prelude.{IfOk, IfErr}
+use Rattle.std.proofs.Common.{◌≡◌, ℕ, ◌+◌, ◌-◌, ◌≤◌, ◌<◌, Bool, List, [], ◌∷◌, ◌++◌, length, take, drop, Result, Ok, Err, refl, sym, ap, subst, ◌∙◌, arith}
+use Rattle.std.specs.Prelude.{IfOk, IfErr, IsTrue}
 use Rattle.byte_grammar.specs.Language.{Begins, Padded}
 use Rattle.byte_grammar.specs.Place.{IsPlace}
 use Rattle.byte_grammar.specs.Walk.{whole_read, padded_read}
@@ -71,6 +71,11 @@ module _ {V : Type 0} {L : List ℕ → V → Type 0} {r : List ℕ → Result V
   gives_within text (Ok v) g = tt
   gives_within text (Err NoMemory) g = tt
   gives_within text (Err (At n)) g = j.within text n g
+
+-- what is read passes a test that all values pass
+pub passing : {V : Type 0} {L : List ℕ → V → Type 0} (test : V → Bool) → ((text : List ℕ) (v : V) → L text v → IsTrue (test v)) → (text : List ℕ) (result : Result V SfError) → IfOk result (λ v. L text v) → IfOk result (λ v. IsTrue (test v))
+passing test all text (Ok v) h = all text v h
+passing test all text (Err e) h = tt
 
 pub item_judges : Judges ReadsItem item_whole
 unfolding item_whole

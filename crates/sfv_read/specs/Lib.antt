@@ -10,3 +10,4 @@ pub mod ItemWalk
 pub mod InnerWalk
 pub mod MemberWalk
 pub mod Fault
+pub mod Laws

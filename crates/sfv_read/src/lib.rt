@@ -8,6 +8,7 @@ mod dict;
 mod fault;
 mod inner;
 mod item;
+mod laws;
 mod list;
 mod member;
 mod number;
@@ -19,6 +20,10 @@ mod text;
 mod whole;
 
 pub use fault::SfError;
+pub use laws::{
+    a_text_has_one_value, shorter_fronts_begin, strict_texts_read_back, strict_texts_tell_values,
+    values_read_are_in_range,
+};
 pub use read::{read_dict, read_inner, read_item, read_list};
 
 #[cfg(test)]

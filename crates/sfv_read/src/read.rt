@@ -1,10 +1,11 @@
 //! The four readers.
 
-ghost use Rattle.std.specs.Prelude.{◌≡◌, ◌≤◌, ◌<◌, ◌+◌, List as Listed, length, take, IfOk, IfErr};
+ghost use Rattle.std.specs.Prelude.{◌≡◌, ◌≤◌, ◌<◌, ◌+◌, List as Listed, length, take, IfOk, IfErr, IsTrue};
 ghost use Rattle.byte_grammar.specs.Language.{Begins};
 ghost use Rattle.sfv_text.specs.declared.value.Item.{Item};
 ghost use Rattle.sfv_text.specs.declared.value.InnerList.{InnerList};
 ghost use Rattle.sfv_text.specs.declared.value.Member.{Member};
+ghost use Rattle.sfv_text.specs.Range.{is_item_in_range, is_inner_in_range, is_list_in_range, is_dict_in_range};
 ghost use Rattle.sfv_text.specs.declared.pair.Pair.{Pair};
 ghost use Rattle.sfv_read.specs.Fault.{IsRead, AtPlace, IfSyntax, IfItemKind, BeginsItemKind};
 ghost use Rattle.sfv_read.specs.Reads.{ReadsItem, ReadsInner, ReadsList, ReadsDict};
@@ -17,6 +18,7 @@ use std::alloc::Global;
 /// Reads an Item (RFC 9651 section 4.2.3), with spaces at both ends.
 pub fn read_item(alloc: Global, text: &[u8]) -> Result<Item, SfError>
     ensures ok { IfOk result (λ value. ReadsItem text.now value) }
+    ensures in_range { IfOk result (λ value. IsTrue (is_item_in_range value)) }
     ensures only { (value : Item) → ReadsItem text.now value → IsRead result value }
     ensures none { IfErr result (λ e. AtPlace e (λ _. (value : Item) → ReadsItem text.now value → ⊥)) }
     ensures within { IfErr result (λ e. AtPlace e (λ place. place ≤ length text.now)) }
@@ -31,6 +33,7 @@ pub fn read_item(alloc: Global, text: &[u8]) -> Result<Item, SfError>
 /// Reads an Inner List (RFC 9651 section 4.2.1.2) alone, with spaces at both ends.
 pub fn read_inner(alloc: Global, text: &[u8]) -> Result<InnerList, SfError>
     ensures ok { IfOk result (λ value. ReadsInner text.now value) }
+    ensures in_range { IfOk result (λ value. IsTrue (is_inner_in_range value)) }
     ensures only { (value : InnerList) → ReadsInner text.now value → IsRead result value }
     ensures none { IfErr result (λ e. AtPlace e (λ _. (value : InnerList) → ReadsInner text.now value → ⊥)) }
     ensures within { IfErr result (λ e. AtPlace e (λ place. place ≤ length text.now)) }
@@ -46,6 +49,7 @@ pub fn read_inner(alloc: Global, text: &[u8]) -> Result<InnerList, SfError>
 /// empty List.
 pub fn read_list(alloc: Global, text: &[u8]) -> Result<List, SfError>
     ensures ok { IfOk result (λ value. ReadsList text.now value) }
+    ensures in_range { IfOk result (λ value. IsTrue (is_list_in_range value)) }
     ensures only { (value : Listed Member) → ReadsList text.now value → IsRead result value }
     ensures none { IfErr result (λ e. AtPlace e (λ _. (value : Listed Member) → ReadsList text.now value → ⊥)) }
     ensures within { IfErr result (λ e. AtPlace e (λ place. place ≤ length text.now)) }
@@ -61,6 +65,7 @@ pub fn read_list(alloc: Global, text: &[u8]) -> Result<List, SfError>
 /// the empty Dictionary. A repeated key has its first place and its last value.
 pub fn read_dict(alloc: Global, text: &[u8]) -> Result<Dict, SfError>
     ensures ok { IfOk result (λ value. ReadsDict text.now value) }
+    ensures in_range { IfOk result (λ value. IsTrue (is_dict_in_range value)) }
     ensures only { (value : Listed (Pair Member)) → ReadsDict text.now value → IsRead result value }
     ensures none { IfErr result (λ e. AtPlace e (λ _. (value : Listed (Pair Member)) → ReadsDict text.now value → ⊥)) }
     ensures within { IfErr result (λ e. AtPlace e (λ place. place ≤ length text.now)) }
