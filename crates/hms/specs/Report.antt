@@ -1,16 +1,13 @@
 -- What the program answers for its words and its input, and for nothing else.
-use Rattle.std.specs.Prelude.{◌≡◌, ◌≤◌, ◌<◌, ℕ, Bool, true, false, List, [], ◌∷◌, ◌++◌, take, length, slice_index_or, codes, ◌⊎◌}
-use Rattle.std.specs.List.{list_all}
+use Rattle.std.specs.Prelude.{◌≡◌, ◌≤◌, ◌<◌, ℕ, Bool, true, false, List, length, codes, ◌⊎◌}
 use Rattle.msg_head.specs.Heads.{Head}
 use Rattle.hms_io.specs.declared.status.Status.{Status}
 use Rattle.hms_io.specs.declared.status.Status.TheVariants.{Done, NotOk, Words, Input, ReadFault, WriteFault, Memory, Conf, Limit, Missing}
 use Rattle.hms.specs.Command.{IsBase, NoCommand}
-use Rattle.component_ids.specs.declared.params.SigParams.{SigParams}
-use Rattle.hms.specs.Asked.{AsksFor, has_field}
+use Rattle.hms.specs.Asked.{HasBase}
 use Rattle.hms.specs.declared.refusal.Refusal.{Refusal}
 use Rattle.hms.specs.Refusal.{Applies, refusal_line}
 use Rattle.hms.specs.Messages.{IsMessage, NoMessage}
-use Rattle.hms.specs.SignatureBase.{base_of}
 
 -- the most bytes of an input
 abbrev pub most_bytes : ℕ
@@ -39,10 +36,7 @@ pub record RefusesCommand (params input output : List ℕ) : Type 0 where
 pub record WritesBase (params input output : List ℕ) : Type 0 where
   pub head : Head
   pub message : IsMessage head input
-  pub sig : SigParams
-  pub asks : AsksFor params sig
-  pub there : list_all (has_field head.lines) sig.ids ≡ true
-  pub writes : output ≡ base_of head.lines sig
+  pub base : HasBase head.lines params output
 
 -- the status and the whole output of `base` for these covered components and this input
 abbrev pub Answers : List ℕ → List ℕ → Status → List ℕ → Type 0

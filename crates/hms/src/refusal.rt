@@ -2,7 +2,7 @@
 
 ghost use Rattle.std.specs.Prelude.{◌≡◌, ◌++◌, ◌∷◌, [], codes, IfOk};
 ghost use Rattle.std.specs.Fmt.{decimal};
-ghost use Rattle.component_ids.specs.Reason.{reason_word};
+ghost use Rattle.component_ids.specs.Reasons.{word_of};
 ghost use Rattle.hms.specs.Refusal.{refusal_line};
 
 use component_ids::BadReason;
@@ -30,6 +30,26 @@ pub enum Refusal {
     Absent(Text),
 }
 
+/// Why there is no signature base.
+#[derive(Debug, Drop)]
+pub enum Fault {
+    /// No memory was found.
+    Memory,
+    /// The command is refused.
+    Refused(Refusal),
+}
+
+impl From<Memory> for Fault {
+    ghost use Rattle.std.specs.Prelude.{◌≡◌};
+    ghost use Rattle.hms.specs.declared.refusal.Fault.TheVariants.{Memory as NoMemory};
+
+    ghost from_gives = { λ _ fault. fault ≡ NoMemory };
+
+    fn from(_memory: Memory) -> Fault {
+        Fault::Memory
+    }
+}
+
 fn ended(alloc: Global, front: &[u8], place: &[u8]) -> Result<Vec<u8>, Memory>
     ensures { IfOk result (λ line. line.items ≡ front.now ++ (place.now ++ 10 ∷ [])) }
 {
@@ -47,7 +67,7 @@ fn numbered(alloc: Global, front: &[u8], place: usize) -> Result<Vec<u8>, Memory
 }
 
 fn bad_component(alloc: Global, index: usize, reason: BadReason) -> Result<Vec<u8>, Memory>
-    ensures { IfOk result (λ line. line.items ≡ codes "refused command component-bad " ++ ((decimal index ++ 32 ∷ reason_word reason) ++ 10 ∷ [])) }
+    ensures { IfOk result (λ line. line.items ≡ codes "refused command component-bad " ++ ((decimal index ++ 32 ∷ word_of reason) ++ 10 ∷ [])) }
 {
     let mut place = Vec::from_slice(alloc, format!(in alloc; "{index}")?.as_bytes())?;
     place.push(b' ')?;
