@@ -1,11 +1,11 @@
 -- Laws of readers.
-use Rattle.std.proofs.Common.{take, drop, eqb, ◌||◌, ◌-◌, cond, not, ltb, ◌&&◌, ◌≡◌, ℕ, zero, suc, ◌+◌, ◌≤◌, ◌<◌, Bool, true, false, List, [], ◌∷◌, ◌++◌, length, Option, Some, None, Result, Ok, Err, refl, sym, ap, subst, ◌∙◌, append_assoc, arith, inl, inr, ◌⊎◌}
-use Rattle.std.proofs.lemmas.List.{append-nil, length-append, take-append-drop, length-take, length-drop, take_at, drop_at}
+use Rattle.std.proofs.Common.{take, drop, eqb, ◌||◌, ◌-◌, cond, not, ltb, ◌&&◌, ◌≡◌, ℕ, zero, suc, ◌≤◌, ◌<◌, Bool, true, false, List, [], ◌∷◌, ◌++◌, length, Option, Some, None, Result, Ok, Err, refl, sym, ap, subst, ◌∙◌, append_assoc, arith, inl, inr, ◌⊎◌}
+use Rattle.std.proofs.lemmas.List.{length-append, take-append-drop, length-take, length-drop, take_at, drop_at}
 use Rattle.std.proofs.lemmas.List.Folds.{list_all-append}
-use Rattle.std.proofs.lemmas.Bool.{cases_lt, ltb-false, ltb-true, le-ltb, lt-ltb, eqb-true}
+use Rattle.std.proofs.lemmas.Bool.{ltb-false, ltb-true, le-ltb, eqb-true}
 use Rattle.std.specs.List.{list_all, list_any}
 use Rattle.byte_grammar.specs.Language.{Begins, Then, Turns, IsByte, IsRun, IsAll, Among, Optional, Mapped, IsWord, Each}
-use Rattle.byte_grammar.specs.Walk.{◌>>=◌, left, Next, then_read, turned, turns_in, turns_read, with_front, taken_if, byte_read, run_length, cut_at, run_read, all_read, picked, kind_in, pick_read, optional_if, starts_in, optional_read, is_of, word_read, choose_read}
+use Rattle.byte_grammar.specs.Walk.{◌>>=◌, left, Next, then_read, turned, turns_in, turns_read, taken_if, byte_read, run_length, cut_at, run_read, all_read, picked, kind_in, pick_read, optional_if, starts_in, optional_read, is_of, word_read, choose_read}
 
 -- A reader reads a language: what it gives is spelled so, where it stops the text so far begins the
 -- language, a text of the language is read where its value's followers come, and no front of the language

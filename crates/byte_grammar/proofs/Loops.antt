@@ -1,7 +1,6 @@
 -- Turn after turn, as a loop takes them.
-use Rattle.std.proofs.Common.{◌≡◌, ℕ, ◌<◌, List, [], ◌∷◌, ◌++◌, length, Option, Some, None, Result, Ok, Err, Bool, refl, sym, ap, ◌∙◌, append_assoc}
+use Rattle.std.proofs.Common.{◌≡◌, ℕ, List, [], ◌∷◌, ◌++◌, Option, Some, None, Result, Ok, Err, refl, sym, ap, ◌∙◌, append_assoc}
 use Rattle.std.proofs.lemmas.List.{append-nil}
-use Rattle.byte_grammar.specs.Language.{after_all}
 use Rattle.byte_grammar.specs.Walk.{◌>>=◌, turned, turns_read, with_front, with_state}
 
 -- a reader whose turns go on after it

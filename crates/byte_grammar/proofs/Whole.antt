@@ -1,10 +1,9 @@
 -- A whole text: its reading, and the place where it stops.
-use Rattle.std.proofs.Common.{◌≡◌, ℕ, zero, suc, ◌+◌, ◌-◌, ◌≤◌, ◌<◌, Bool, true, false, not, eqb, List, [], ◌∷◌, ◌++◌, length, take, drop, Result, Ok, Err, refl, sym, ap, subst, ◌∙◌, append_assoc, inl, inr, arith}
+use Rattle.std.proofs.Common.{◌≡◌, ℕ, ◌+◌, ◌-◌, ◌≤◌, Bool, true, false, not, List, [], ◌∷◌, ◌++◌, length, take, drop, Result, Ok, Err, refl, sym, ap, subst, ◌∙◌, append_assoc, inl, inr, arith}
 use Rattle.std.specs.List.{list_all}
 use Rattle.std.proofs.lemmas.List.{append-nil, length-append, take_at, take-append-drop, length-drop}
-use Rattle.std.proofs.lemmas.Bool.{eqb-true}
-use Rattle.byte_grammar.specs.Language.{Begins, Then, Mapped, IsAll, Padded}
-use Rattle.byte_grammar.specs.Walk.{◌>>=◌, left, Next, all_read, padded_read, ended, whole_read, unread}
+use Rattle.byte_grammar.specs.Language.{Begins, IsAll, Padded}
+use Rattle.byte_grammar.specs.Walk.{◌>>=◌, left, Next, padded_read, ended, whole_read, unread}
 use Rattle.byte_grammar.proofs.Laws.{Meets, meets_then, meets_all, meets_same, meets_map, and_is, ok_is, not_err, left_less, bind_ok, bind_err}
 use Rattle.byte_grammar.specs.Place.{IsPlace}
 

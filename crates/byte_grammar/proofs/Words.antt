@@ -1,6 +1,6 @@
 -- A byte of one class and then bytes of another, cut off in one piece.
-use Rattle.std.proofs.Common.{◌≡◌, ℕ, suc, ◌+◌, ◌≤◌, Bool, true, false, List, [], ◌∷◌, length, take, drop, Result, Ok, Err, refl, ap, ◌∙◌, arith}
-use Rattle.byte_grammar.specs.Walk.{◌>>=◌, taken_if, byte_read, run_length, all_read, word_read}
+use Rattle.std.proofs.Common.{◌≡◌, ℕ, suc, ◌+◌, ◌≤◌, Bool, true, false, List, [], ◌∷◌, length, take, drop, Result, Ok, Err, refl, ap, arith}
+use Rattle.byte_grammar.specs.Walk.{taken_if, byte_read, run_length, all_read, word_read}
 
 -- what the reader of one byte takes stands in front
 pub byte_stands : (class : ℕ → Bool) (bytes : List ℕ) (c : ℕ) (rest : List ℕ) → byte_read class bytes ≡ Ok (c, rest) → bytes ≡ c ∷ rest

@@ -1,5 +1,5 @@
 -- The place of a fault in a text.
-use Rattle.std.specs.Prelude.{◌≡◌, ℕ, ◌+◌, ◌<◌, ◌≤◌, List, length, take}
+use Rattle.std.specs.Prelude.{ℕ, ◌+◌, ◌<◌, ◌≤◌, List, length, take}
 use Rattle.byte_grammar.specs.Language.{Begins}
 
 -- the text isn't of the language, and the place is the length of its longest front that begins one that is

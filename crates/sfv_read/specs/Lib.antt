@@ -11,3 +11,6 @@ pub mod InnerWalk
 pub mod MemberWalk
 pub mod Fault
 pub mod Laws
+pub use Rattle.byte_grammar.specs.Language
+pub use Rattle.sfv_text.specs.Range
+pub use Rattle.sfv_text.specs.Strict

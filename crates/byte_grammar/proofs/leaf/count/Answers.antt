@@ -1,4 +1,4 @@
-use Rattle.std.proofs.Common.{◌≡◌, ◌≤◌, ◌+◌, ◌<◌, length, arith, true, false, refl, ◌∙◌, sym}
+use Rattle.std.proofs.Common.{◌<◌, length, arith, sym}
 use Rattle.byte_grammar.proofs.Count.{all_more, one_more, at_other, at_end, at_most}
 use Rattle.byte_grammar.proofs.leaf.count.Goals as goal
 

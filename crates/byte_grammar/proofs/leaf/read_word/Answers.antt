@@ -1,4 +1,4 @@
-use Rattle.std.proofs.Common.{◌≡◌, ◌≤◌, ◌∙◌, ap, sym, Ok}
+use Rattle.std.proofs.Common.{◌∙◌, sym, Ok}
 use Rattle.byte_grammar.proofs.Words.{word_within, word_cut}
 use Rattle.byte_grammar.proofs.leaf.read_word.Goals as goal
 
