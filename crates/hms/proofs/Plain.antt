@@ -28,7 +28,9 @@ byte_as_is c named = elim (cases_Bool (eqb c 34)) [
   | inl h ↦ let mark : is_name_byte 34 ≡ true = ap is_name_byte (sym (eqb-true c 34 h)) ∙ named in absurd (false_is_no_true mark)
   | inr h ↦ elim (cases_Bool (eqb c 92)) [
     | inl k ↦ let slash : is_name_byte 92 ≡ true = ap is_name_byte (sym (eqb-true c 92 k)) ∙ named in absurd (false_is_no_true slash)
-    | inr k ↦ rw (h, k) refl ] ]
+    | inr k ↦ rw (h, k) refl
+  ]
+]
 
 -- and so do all of them
 pub name_as_is : (name : List ℕ) → list_all is_name_byte name ≡ true → flat_map character_text name ≡ name
