@@ -1,4 +1,4 @@
 pub mod Joins
-pub mod NameLists
 pub mod NameTests
+pub mod Plain
 pub mod WordLists

@@ -1,14 +1,13 @@
 -- What the program answers for its words and its input, and for nothing else.
-use Rattle.std.specs.Prelude.{◌≡◌, ◌≤◌, ◌<◌, ℕ, Bool, true, false, List, [], ◌∷◌, ◌++◌, take, length, slice_index_or, codes, ◌⊎◌}
-use Rattle.std.specs.List.{list_all}
+use Rattle.std.specs.Prelude.{◌≡◌, ◌≤◌, ◌<◌, ℕ, Bool, true, false, List, length, codes, ◌⊎◌}
 use Rattle.msg_head.specs.Heads.{Head}
 use Rattle.hms_io.specs.declared.status.Status.{Status}
 use Rattle.hms_io.specs.declared.status.Status.TheVariants.{Done, NotOk, Words, Input, ReadFault, WriteFault, Memory, Conf, Limit, Missing}
 use Rattle.hms.specs.Command.{IsBase, NoCommand}
-use Rattle.hms.specs.Values.{is_there}
-use Rattle.hms.specs.Names.{IsNames, quoted}
+use Rattle.hms.specs.Asked.{HasBase}
+use Rattle.hms.specs.declared.refusal.Refusal.{Refusal}
+use Rattle.hms.specs.Refusal.{Applies, refusal_line}
 use Rattle.hms.specs.Messages.{IsMessage, NoMessage}
-use Rattle.hms.specs.SignatureBase.{base_of}
 
 -- the most bytes of an input
 abbrev pub most_bytes : ℕ
@@ -25,38 +24,24 @@ pub record RefusesInput (input output : List ℕ) : Type 0 where
   pub none : NoMessage input
   pub writes : output ≡ codes "refused input not-yet\n"
 
--- the covered components are no list of names
-pub record RefusesParams (params input output : List ℕ) : Type 0 where
+-- the command is refused over a message
+pub record RefusesCommand (params input output : List ℕ) : Type 0 where
   pub head : Head
   pub message : IsMessage head input
-  pub none : (names : List (List ℕ)) → IsNames names params → ⊥
-  pub writes : output ≡ codes "refused command not-yet\n"
+  pub refusal : Refusal
+  pub applies : Applies head.lines params refusal
+  pub writes : output ≡ refusal_line refusal
 
--- a covered name, the first such one, has no field line
-pub record RefusesAbsent (params input output : List ℕ) : Type 0 where
-  pub head : Head
-  pub message : IsMessage head input
-  pub names : List (List ℕ)
-  pub list : IsNames names params
-  pub place : ℕ
-  pub within : place < length names
-  pub before : list_all (is_there head.lines) (take place names) ≡ true
-  pub absent : is_there head.lines (slice_index_or names place []) ≡ false
-  pub writes : output ≡ codes "refused command absent " ++ (quoted (slice_index_or names place []) ++ 10 ∷ [])
-
--- the signature base of the message over the covered names
+-- the signature base of the message over the covered components
 pub record WritesBase (params input output : List ℕ) : Type 0 where
   pub head : Head
   pub message : IsMessage head input
-  pub names : List (List ℕ)
-  pub list : IsNames names params
-  pub there : list_all (is_there head.lines) names ≡ true
-  pub writes : output ≡ base_of head.lines names
+  pub base : HasBase head.lines params output
 
 -- the status and the whole output of `base` for these covered components and this input
 abbrev pub Answers : List ℕ → List ℕ → Status → List ℕ → Type 0
 Answers params input Done output = WritesBase params input output
-Answers params input Input output = RefusesInput input output ⊎ (RefusesParams params input output ⊎ RefusesAbsent params input output)
+Answers params input Input output = RefusesInput input output ⊎ RefusesCommand params input output
 Answers params input Limit output = RefusesLength input output
 Answers params input NotOk output = ⊥
 Answers params input Words output = ⊥

@@ -1,20 +1,24 @@
 //! The answer of `base` for its covered components and its input.
 
-ghost use Rattle.std.specs.Prelude.{◌≡◌, ◌≤◌, ◌<◌, ℕ, List, [], ◌∷◌, ◌++◌, true, false, length, take, slice_index_or, codes, IfOk, IfSome, IfNone, IsSomeAnd};
+ghost use Rattle.std.specs.Prelude.{◌≡◌, ◌≤◌, true, length, IfOk, IfErr, IfSome, IfNone, IsSomeAnd};
 ghost use Rattle.std.specs.List.{list_all, list_any};
 ghost use Rattle.msg_head.specs.Heads.{Head};
-ghost use Rattle.hms.specs.Values.{is_there};
-ghost use Rattle.hms.specs.Names.{quoted};
+ghost use Rattle.hms.specs.Asked.{has_field, IsFirstAbsent, HasBase};
+ghost use Rattle.hms.specs.Fault.{IfRefused};
 ghost use Rattle.hms.specs.Messages.{IsHeadAlone, IsMessage, NoMessage, is_framing_line};
+ghost use Rattle.hms.specs.Plain.{quoted};
+ghost use Rattle.hms.specs.Refusal.{Applies};
 ghost use Rattle.hms.specs.Report.{Answers, most_bytes};
 
-use crate::base::base_bytes;
-use crate::names::{Names, read_names};
+use crate::asked::{are_plain, read_sig};
+use crate::base::base_of;
+use crate::refusal::{Fault, Refusal, line_of};
 use crate::report::{Report, told};
 use crate::values::has_line;
+use component_ids::ComponentId;
 use hms_io::Status;
 use msg_head::{HeadError, HeadRead, HeadView, read_head};
-use sfv_text::Memory;
+use sfv_text::{Memory, Text};
 use std::alloc::Global;
 
 /// The head that the whole input spells.
@@ -57,31 +61,44 @@ fn read_bare<'m>(alloc: Global, input: &'m [u8]) -> Result<Option<HeadView<'m>>,
     Ok(Some(head))
 }
 
-/// The place of the first name without a field line.
-fn first_absent(head: &HeadView<'_>, names: &Names<'_>) -> Option<usize>
-    ensures some { IfSome result (λ place. (place < length names.now) × (list_all (is_there head.now.lines) (take place names.now) ≡ true) × (is_there head.now.lines (slice_index_or names.now place []) ≡ false)) }
-    ensures none { IfNone result (list_all (is_there head.now.lines) names.now ≡ true) }
+/// The first identifier without a field line.
+fn first_absent<'s>(head: &HeadView<'_>, ids: &'s [ComponentId]) -> Option<&'s ComponentId>
+    ensures some { IfSome result (λ absent. IsFirstAbsent head.now.lines ids.now absent.now) }
+    ensures none { IfNone result (list_all (has_field head.now.lines) ids.now ≡ true) }
 {
-    for place in 0..names.len() {
-        if !has_line(head, names.get(place)) {
-            return Some(place);
+    for id in ids {
+        if !has_line(head, id.name.bytes()) {
+            return Some(id);
         }
     }
     None
 }
 
-/// The refusal of a name without a field line.
-fn absent(alloc: Global, name: &[u8]) -> Result<Report, Memory>
-    ensures status { IfOk result (λ report. report.status ≡ Status.Input) }
-    ensures output { IfOk result (λ report. report.output.items ≡ codes "refused command absent " ++ (quoted name.now ++ 10 ∷ [])) }
+/// The name in quotation marks.
+fn quoted(alloc: Global, name: &[u8]) -> Result<Text, Memory>
+    ensures { IfOk result (λ text. text ≡ quoted name.now) }
 {
-    let mut output = Vec::from_slice(alloc, b"refused command absent \"")?;
-    output.extend_from_slice(name)?;
-    output.extend_from_slice(b"\"\n")?;
-    Ok(Report {
-        status: Status::Input,
-        output,
-    })
+    let mut text = Text::new(alloc);
+    text.append(b"\"")?;
+    text.append(name)?;
+    text.append(b"\"")?;
+    Ok(text)
+}
+
+/// The signature base of the head's field lines over these covered components.
+fn base_over(alloc: Global, params: &[u8], head: &HeadView<'_>) -> Result<Vec<u8>, Fault>
+    ensures ok { IfOk result (λ base. HasBase head.now.lines params.now base.items) }
+    ensures refused { IfErr result (λ fault. IfRefused fault (Applies head.now.lines params.now)) }
+{
+    let sig = read_sig(alloc, params)?;
+    if !are_plain(sig.ids.as_slice()) {
+        return Err(Fault::Refused(Refusal::NotYet));
+    }
+    if let Some(absent) = first_absent(head, sig.ids.as_slice()) {
+        let id = quoted(alloc, absent.name.bytes())?;
+        return Err(Fault::Refused(Refusal::Absent(id)));
+    }
+    Ok(base_of(alloc, head, &sig)?)
 }
 
 /// The answer for these covered components and this input.
@@ -92,15 +109,15 @@ pub fn answer(alloc: Global, params: &str, input: &[u8]) -> Result<Report, Memor
     let Some(head) = read_bare(alloc, input)? else {
         return told(alloc, Status::Input, b"refused input not-yet\n");
     };
-    let Some(names) = read_names(alloc, params.as_bytes())? else {
-        return told(alloc, Status::Input, b"refused command not-yet\n");
-    };
-    if let Some(place) = first_absent(&head, &names) {
-        return absent(alloc, names.get(place));
+    match base_over(alloc, params.as_bytes(), &head) {
+        Ok(output) => Ok(Report {
+            status: Status::Done,
+            output,
+        }),
+        Err(Fault::Memory) => Err(Memory),
+        Err(Fault::Refused(refusal)) => Ok(Report {
+            status: Status::Input,
+            output: line_of(alloc, &refusal)?,
+        }),
     }
-    let output = base_bytes(alloc, &head, &names, params.as_bytes())?;
-    Ok(Report {
-        status: Status::Done,
-        output,
-    })
 }

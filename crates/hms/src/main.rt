@@ -4,8 +4,9 @@
 #![tactic(auto)]
 
 mod answer;
+mod asked;
 mod base;
-mod names;
+mod refusal;
 mod report;
 mod sinks;
 mod top;

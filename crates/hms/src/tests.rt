@@ -96,103 +96,123 @@ fn bases_of_fields(rt: HostRuntime) -> Result<(), Fail> {
 }
 
 #[test]
-fn refusals_name_their_cause(rt: HostRuntime) -> Result<(), Fail> {
-    let command = b"refused command not-yet\n".as_slice();
-    let input = b"refused input not-yet\n".as_slice();
+fn last_line_is_the_strict_text(rt: HostRuntime) -> Result<(), Fail> {
+    let date = b"\"date\": Tue, 20 Apr 2021 02:07:55 GMT\n\"@signature-params\": ".as_slice();
     let table = [
+        ("(\"date\");created=1", b"(\"date\");created=1".as_slice()),
         (
-            "(\"x\")",
-            DATED,
-            b"refused command absent \"x\"\n".as_slice(),
+            " ( \"date\"  );a;  b=?0;c=1.50;a=:YQ: ",
+            b"(\"date\");a=:YQ==:;b=?0;c=1.5",
         ),
         (
-            "(\"date\" \"x\" \"y\")",
-            DATED,
-            b"refused command absent \"x\"\n",
+            "(\"date\");keyid=\"k\";alg=\"hmac-sha256\";x=token",
+            b"(\"date\");keyid=\"k\";alg=\"hmac-sha256\";x=token",
         ),
-        ("", DATED, command),
-        ("(", DATED, command),
-        ("(\"date\"", DATED, command),
-        ("(\"date\") ", DATED, command),
-        ("( \"date\")", DATED, command),
-        ("(\"date\"  \"x\")", DATED, command),
-        ("(\"date\" )", DATED, command),
-        ("(\"date\" \"date\")", DATED, command),
-        ("(\"Date\")", DATED, command),
-        ("(\"\")", DATED, command),
-        ("(\"@method\")", DATED, command),
-        ("(\"date\";sf)", DATED, command),
-        ("(\"date\")", b"", input),
-        ("(", b"", input),
-        ("(\"date\")", b"GET / HTTP/1.1\r\n", input),
-        ("()", b"GET / HTTP/1.1\r\n\r\nx", input),
-        ("()", b"GET  / HTTP/1.1\r\n\r\n", input),
-        ("()", b"GET / HTTP/1.1\nA: b\r\n\r\n", input),
-        ("()", b"GET / HTTP/1.1\r\nA : b\r\n\r\n", input),
-        ("()", b"GET / HTTP/1.1\r\nA: b\r\n c\r\n\r\n", input),
-        ("()", b"GET / HTTP/1.1\r\nContent-Length: 0\r\n\r\n", input),
-        (
-            "()",
-            b"GET / HTTP/1.1\r\ntransfer-ENCODING: chunked\r\n\r\n",
-            input,
-        ),
-        ("()", b"HTTP/1.1 200 OK\r\n\r\n", input),
     ];
-    for (params, bytes, output) in &table {
+    for (params, last) in &table {
+        let mut base = Vec::from_slice(rt.alloc(), date)?;
+        base.extend_from_slice(*last)?;
         shows(
             &rt,
             rt.alloc(),
             *params,
-            *bytes,
+            DATED,
+            4096,
+            Status::Done,
+            base.as_slice(),
+        )?;
+    }
+    Ok(())
+}
+
+// Each of these covered components is refused by this line behind `refused command `.
+fn refuses(rt: &impl Abort, alloc: Global, table: &[(&str, &[u8])]) -> Result<(), Fail> {
+    for (params, cause) in table {
+        let mut line = Vec::from_slice(alloc, b"refused command ")?;
+        line.extend_from_slice(*cause)?;
+        line.push(b'\n')?;
+        shows(
+            rt,
+            alloc,
+            *params,
+            DATED,
             4096,
             Status::Input,
-            *output,
+            line.as_slice(),
         )?;
     }
     Ok(())
 }
 
 #[test]
-fn sixty_four_names_and_one_more(rt: HostRuntime) -> Result<(), Fail> {
-    let alloc = rt.alloc();
-    let mut input = Vec::from_slice(alloc, b"GET / HTTP/1.1\r\n")?;
-    let mut params = String::from_str(alloc, "(\"a\"")?;
-    let mut base = Vec::from_slice(alloc, b"\"a\": v\n")?;
-    input.extend_from_slice(b"a: v\r\n")?;
-    for n in 1..64 {
-        let name = format!(in alloc; "a{n}")?;
-        let line = format!(in alloc; "{name}: v\r\n")?;
-        input.extend_from_slice(line.as_bytes())?;
-        params.push_str(" \"")?;
-        params.push_str(name.as_str())?;
-        params.push_str("\"")?;
-        let line = format!(in alloc; "\"{name}\": v\n")?;
-        base.extend_from_slice(line.as_bytes())?;
+fn covered_components_are_refused_by_their_cause(rt: HostRuntime) -> Result<(), Fail> {
+    let table = [
+        ("(\"x\")", b"absent \"x\"".as_slice()),
+        ("(\"date\" \"x\" \"y\");created=1", b"absent \"x\""),
+        ("", b"params-syntax 0"),
+        ("(", b"params-syntax 1"),
+        ("(\"date\"", b"params-syntax 7"),
+        ("(\"date\")x", b"params-syntax 8"),
+        ("(\"date\"\"x\")", b"params-syntax 7"),
+        ("(@1)", b"params-kind 1"),
+        ("();a=%", b"params-kind 5"),
+        ("(date)", b"component-bad 0 not-a-string"),
+        ("(\"date\" \"Date\")", b"component-bad 1 name"),
+        ("(\"@signature-params\")", b"component-bad 0 name"),
+        (
+            "(\"date\";name=\"a\")",
+            b"component-bad 0 parameter-unknown",
+        ),
+        ("(\"date\";sf=1)", b"component-bad 0 parameter-type"),
+        ("(\"date\";sf;bs)", b"component-bad 0 parameters-clash"),
+        ("(\"@query-param\")", b"component-bad 0 name-missing"),
+        ("(\"a\";sf;tr \"a\";tr;sf)", b"component-repeated 1"),
+        (
+            "(\"a\");expires=1.5;created=\"1\"",
+            b"parameter-bad expires",
+        ),
+        ("(\"@method\")", b"not-yet"),
+        ("(\"x\" \"date\";sf)", b"not-yet"),
+    ];
+    refuses(&rt, rt.alloc(), &table)
+}
+
+#[test]
+fn inputs_that_are_no_message(rt: HostRuntime) -> Result<(), Fail> {
+    let line = b"refused input not-yet\n".as_slice();
+    let table = [
+        b"".as_slice(),
+        b"GET / HTTP/1.1\r\n",
+        b"GET / HTTP/1.1\r\n\r\nx",
+        b"GET  / HTTP/1.1\r\n\r\n",
+        b"GET / HTTP/1.1\nA: b\r\n\r\n",
+        b"GET / HTTP/1.1\r\nA : b\r\n\r\n",
+        b"GET / HTTP/1.1\r\nA: b\r\n c\r\n\r\n",
+        b"GET / HTTP/1.1\r\nContent-Length: 0\r\n\r\n",
+        b"GET / HTTP/1.1\r\ntransfer-ENCODING: chunked\r\n\r\n",
+        b"HTTP/1.1 200 OK\r\n\r\n",
+    ];
+    for input in &table {
+        // the input is judged before the covered components
+        shows(&rt, rt.alloc(), "(", *input, 4096, Status::Input, line)?;
     }
-    input.extend_from_slice(b"\r\n")?;
-    let whole = format!(in alloc; "{params})")?;
-    let label = format!(in alloc; "\"@signature-params\": {whole}")?;
-    base.extend_from_slice(label.as_bytes())?;
-    shows(
-        &rt,
-        alloc,
-        whole.as_str(),
-        input.as_slice(),
-        4096,
-        Status::Done,
-        base.as_slice(),
-    )?;
-    let more = format!(in alloc; "{params} \"b\")")?;
-    let refused = b"refused command not-yet\n";
-    shows(
-        &rt,
-        alloc,
-        more.as_str(),
-        input.as_slice(),
-        4096,
-        Status::Input,
-        refused,
-    )
+    Ok(())
+}
+
+#[test]
+fn too_many_components_are_refused_before_repeated_ones(rt: HostRuntime) -> Result<(), Fail> {
+    let alloc = rt.alloc();
+    let mut params = String::from_str(alloc, "(\"a\"")?;
+    for _ in 1..64 {
+        params.push_str(" \"a\"")?;
+    }
+    let most = format!(in alloc; "{params})")?;
+    let more = format!(in alloc; "{params} \"a\")")?;
+    let table = [
+        (most.as_str(), b"component-repeated 1".as_slice()),
+        (more.as_str(), b"components-many"),
+    ];
+    refuses(&rt, alloc, &table)
 }
 
 #[test]

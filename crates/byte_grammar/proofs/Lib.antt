@@ -1,0 +1,5 @@
+pub mod Laws
+pub mod Loops
+pub mod Count
+pub mod Whole
+pub mod Words

@@ -1,0 +1,4 @@
+pub mod Language
+pub mod Walk
+pub mod Place
+pub mod Gives

@@ -1,0 +1,211 @@
+-- A bare item that is read is one, and one is read.
+use Rattle.std.proofs.Common.{◌≡◌, ℕ, zero, suc, ◌+◌, ◌≤◌, ◌<◌, ◌&&◌, ◌||◌, Bool, true, false, not, cond, eqb, List, [], ◌∷◌, ◌++◌, length, Option, Some, None, Result, Ok, Err, refl, sym, ap, subst, ◌∙◌, append_assoc, arith, inl, inr, ◌⊎◌}
+use Rattle.std.specs.List.{list_all}
+use Rattle.std.proofs.lemmas.Bool.{eqb-true}
+use Rattle.std.proofs.lemmas.Bool.Decides.{nat_tests}
+use Rattle.std.proofs.lemmas.List.{append-nil, length-append}
+use Rattle.byte_grammar.specs.Language.{Begins, Then, Turns, Mapped, Optional, Among, IsByte, IsRun, IsAll, IsWord, Padded}
+use Rattle.byte_grammar.specs.Walk.{◌>>=◌, left, Next, turned, is_of, byte_read, all_read, word_read, optional_read, turns_read, padded_read}
+use Rattle.sfv_read.specs.BareItem.{IsInteger, IsDecimal, IsString, IsBoolean, IsBareItem, IsByteSequence}
+use Rattle.sfv_read.specs.BareWalk.{number_read, string_read, bare_kind, truth_read, bare_by, bare_read}
+use Rattle.sfv_text.specs.Range.{is_token_first, is_token_rest, is_key_first, is_key_rest}
+use Rattle.sfv_read.specs.Class.{is_digit, is_bit, is_minus, is_dot, is_quote, is_question, is_equals, is_semicolon, is_space}
+use Rattle.sfv_read.specs.Item.{IsKey, IsValue, IsParameter, AreParameters, kept, IsItem}
+use Rattle.sfv_read.specs.ItemWalk.{equals_read, value_or, value_read, param_read, param_turn, params_read, item_read}
+use Rattle.sfv_text.specs.Keys.{put}
+use Rattle.sfv_text.specs.declared.value.BareItem.{BareItem}
+use Rattle.sfv_text.specs.declared.value.BareItem.TheVariants.{Integer, Decimal, Str, Token, Bytes, Bool as Boolean}
+use Rattle.sfv_read.specs.declared.bare.BareKind.{BareKind}
+use Rattle.sfv_read.specs.declared.bare.BareKind.TheVariants.{Number, Quoted, Word, Octets, Truth}
+use Rattle.byte_grammar.proofs.Laws.{Meets, Starts, Heads, meets_then, meets_as, meets_byte, meets_all, meets_word, meets_optional, optional_follow, meets_pick, meets_turns, meets_each, meets_same, meets_map, and_is, any_next, of_each, apart, starts_next, run_starts, next_more, starts_length, turns_step, shorter}
+use Rattle.byte_grammar.proofs.Whole.{Nothing, meets_padded}
+use Rattle.sfv_read.proofs.Numbers.{ends, End, IsNumber, meets_number}
+use Rattle.sfv_read.proofs.Strings.{meets_string}
+use Rattle.sfv_read.proofs.Letters.{meets_bytes}
+
+or_left : (a b : Bool) → a ≡ true → (a || b) ≡ true
+or_left true b e = refl
+or_left false b e = absurd cc
+
+or_right : (a b : Bool) → b ≡ true → (a || b) ≡ true
+or_right true b e = refl
+or_right false b e = e
+
+-- ---- truth
+
+IsTruthItem : List ℕ → BareItem → Type 0
+IsTruthItem x (Integer _) = ⊥
+IsTruthItem x (Decimal _) = ⊥
+IsTruthItem x (Str _) = ⊥
+IsTruthItem x (Token _) = ⊥
+IsTruthItem x (Bytes _) = ⊥
+IsTruthItem x (Boolean b) = IsBoolean x b
+
+bit_is : (c : ℕ) → is_bit c ≡ true → (x : List ℕ) → x ≡ 63 ∷ c ∷ [] → IsBoolean x (eqb c 49)
+bit_is c is x e = go (eqb c 48) (eqb c 49) refl refl is
+  where
+    go : (a b : Bool) → eqb c 48 ≡ a → eqb c 49 ≡ b → (a || b) ≡ true → IsBoolean x b
+    go a true p q h = e ∙ ap (λ (c : ℕ). 63 ∷ c ∷ []) (eqb-true c 49 q)
+    go true false p q h = e ∙ ap (λ (c : ℕ). 63 ∷ c ∷ []) (eqb-true c 48 p)
+    go false false p q h = absurd cc
+
+meets_truth : Meets IsTruthItem End truth_read
+unfolding truth_read IsTruthItem
+meets_truth =
+    meets_same
+    (meets_then (meets_byte is_question 63 refl (λ _ _. true)) (λ _. meets_map {G = λ _ _. true} (meets_byte is_bit 48 refl (λ _ _. true)) (λ c. Boolean (eqb c 49)) (λ v c h. h))
+    (λ x u h. (48 ∷ [], Boolean false, (48, record { same = refl; passes = refl }, refl))) (λ u y v r h after. any_next (y ++ r)))
+    (λ x v t. subst (λ (v : BareItem). IsTruthItem x v) t.more.2 (bit_is t.more.0 t.more.1.passes x (cc (t.joined, t.spells.same, eqb-true t.value 63 t.spells.passes, t.more.1.same))))
+    from (λ v c h. refl)
+  where
+    of_bit : (c : ℕ) → is_bit c ≡ true → Then (IsByte is_question) (λ _. Mapped (λ c. Boolean (eqb c 49)) (IsByte is_bit)) (63 ∷ c ∷ []) (Boolean (eqb c 49))
+    of_bit c is = record { first = 63 ∷ []; second = c ∷ []; value = 63; joined = refl; spells = record { same = refl; passes = refl }; more = (c, record { same = refl; passes = is }, refl) }
+
+    from : (x : List ℕ) (v : BareItem) → IsTruthItem x v → Then (IsByte is_question) (λ _. Mapped (λ c. Boolean (eqb c 49)) (IsByte is_bit)) x v
+    from x (Boolean true) h = subst (λ (x : List ℕ). Then (IsByte is_question) (λ _. Mapped (λ c. Boolean (eqb c 49)) (IsByte is_bit)) x (Boolean true)) (sym h) (of_bit 49 refl)
+    from x (Boolean false) h = subst (λ (x : List ℕ). Then (IsByte is_question) (λ _. Mapped (λ c. Boolean (eqb c 49)) (IsByte is_bit)) x (Boolean false)) (sym h) (of_bit 48 refl)
+    from x (Integer _) h = absurd h
+    from x (Decimal _) h = absurd h
+    from x (Str _) h = absurd h
+    from x (Token _) h = absurd h
+    from x (Bytes _) h = absurd h
+
+-- ---- bare items
+
+BareBy : BareKind → List ℕ → BareItem → Type 0
+BareBy Number x v = IsNumber x v
+BareBy Quoted x v = Mapped (λ s. Str s) IsString x v
+BareBy Octets x v = Mapped (λ s. Bytes s) IsByteSequence x v
+BareBy Word x v = Mapped (λ s. Token s) (IsWord is_token_first is_token_rest) x v
+BareBy Truth x v = IsTruthItem x v
+
+bare_meets : (k : BareKind) → Meets (BareBy k) End (bare_by k)
+unfolding BareBy
+bare_meets Number = meets_same meets_number (λ x v h. h) (λ x v h. h) (λ v c e. of_each (λ c. not (is_digit c) && not (is_dot c)) ends refl c e)
+bare_meets Quoted = meets_map meets_string (λ s. Str s) (λ v c h. refl)
+bare_meets Word = meets_map (meets_word is_token_first is_token_rest 97 refl) (λ s. Token s) (λ v c e. of_each (λ c. not (is_token_rest c)) ends refl c e)
+bare_meets Octets = meets_map meets_bytes (λ s. Bytes s) (λ v c h. refl)
+bare_meets Truth = meets_truth
+
+number_kind : (c : ℕ) → (is_digit c || is_minus c) ≡ true → bare_kind c ≡ Some Number
+number_kind c is = rw is refl
+
+token_kind : (c : ℕ) → is_token_first c ≡ true → bare_kind c ≡ Some Word
+token_kind c is =
+    let digit : is_digit c ≡ false = grind (arith, nat_tests) in
+    let minus : is_minus c ≡ false = grind (arith, nat_tests) in
+    let quote : is_quote c ≡ false = grind (arith, nat_tests) in
+    rw (digit, minus, quote, is) refl
+
+by_starts : (P : ℕ → Bool) (k : BareKind) → ((c : ℕ) → P c ≡ true → bare_kind c ≡ Some k) → (x : List ℕ) → Starts P x → Heads bare_kind k x
+by_starts P k sub [] h = absurd h
+by_starts P k sub (c ∷ x) h = sub c h
+
+pub word_starts : (P Q : ℕ → Bool) (x v : List ℕ) → IsWord P Q x v → Starts P x
+word_starts P Q x [] h = absurd h
+word_starts P Q x (c ∷ v) h = subst (λ (y : List ℕ). Starts P y) (sym h.0) h.1
+
+signed_starts : (x sign digits others : List ℕ) (hi : ℕ) → IsRun is_minus 0 1 sign sign → IsRun is_digit 1 hi digits digits → x ≡ sign ++ (digits ++ others) → Starts (λ c. is_digit c || is_minus c) x
+signed_starts x [] [] others hi m d e = absurd (omega (arith, d.least))
+signed_starts x [] (c ∷ digits) others hi m d e = subst (λ (y : List ℕ). Starts (λ c. is_digit c || is_minus c) y) (sym e) (or_left (is_digit c) (is_minus c) (and_is (is_digit c) (list_all is_digit digits) d.passes).0)
+signed_starts x (c ∷ sign) digits others hi m d e = subst (λ (y : List ℕ). Starts (λ c. is_digit c || is_minus c) y) (sym e) (or_right (is_digit c) (is_minus c) (and_is (is_minus c) (list_all is_minus sign) m.passes).0)
+
+number_starts : (x : List ℕ) (v : BareItem) → IsNumber x v → Starts (λ c. is_digit c || is_minus c) x
+number_starts x (Integer z) h = signed_starts x h.sign h.digits [] 15 h.minus h.whole (h.joined ∙ ap (λ (y : List ℕ). h.sign ++ y) (sym (append-nil h.digits)))
+number_starts x (Decimal z) h = signed_starts x h.sign h.digits (46 ∷ h.part) 12 h.minus h.whole h.joined
+number_starts x (Str _) h = absurd h
+number_starts x (Token _) h = absurd h
+number_starts x (Bytes _) h = absurd h
+number_starts x (Boolean _) h = absurd h
+
+truth_starts : (x : List ℕ) (v : BareItem) → IsTruthItem x v → Starts is_question x
+unfolding IsTruthItem
+truth_starts x (Boolean true) h = subst (λ (y : List ℕ). Starts is_question y) (sym h) refl
+truth_starts x (Boolean false) h = subst (λ (y : List ℕ). Starts is_question y) (sym h) refl
+truth_starts x (Integer _) h = absurd h
+truth_starts x (Decimal _) h = absurd h
+truth_starts x (Str _) h = absurd h
+truth_starts x (Token _) h = absurd h
+truth_starts x (Bytes _) h = absurd h
+
+-- a Byte Sequence begins with a colon
+sequence_heads : (x : List ℕ) {y z : List ℕ} → (x ≡ 58 ∷ y) ⊎ (x ≡ 58 ∷ z) → Heads bare_kind Octets x
+sequence_heads x (inl e) = subst (λ (y : List ℕ). Heads bare_kind Octets y) (sym e) refl
+sequence_heads x (inr e) = subst (λ (y : List ℕ). Heads bare_kind Octets y) (sym e) refl
+
+bare_heads : (k : BareKind) (x : List ℕ) (v : BareItem) → BareBy k x v → Heads bare_kind k x
+unfolding BareBy
+bare_heads Number x v h = by_starts (λ c. is_digit c || is_minus c) Number number_kind x (number_starts x v h)
+bare_heads Quoted x v h = subst (λ (y : List ℕ). Heads bare_kind Quoted y) (sym h.1.joined) refl
+bare_heads Word x v h = by_starts is_token_first Word token_kind x (word_starts is_token_first is_token_rest x h.0 h.1)
+bare_heads Octets x v h = sequence_heads x (h.1.joined)
+bare_heads Truth x v h = by_starts is_question Truth (λ c is. ap bare_kind (eqb-true c 63 is)) x (truth_starts x v h)
+
+to_bare : (k : BareKind) (x : List ℕ) (v : BareItem) → BareBy k x v → IsBareItem x v
+unfolding BareBy IsTruthItem
+to_bare Number x (Integer z) h = h
+to_bare Number x (Decimal z) h = h
+to_bare Number x (Str _) h = absurd h
+to_bare Number x (Token _) h = absurd h
+to_bare Number x (Bytes _) h = absurd h
+to_bare Number x (Boolean _) h = absurd h
+to_bare Quoted x v h = subst (λ (v : BareItem). IsBareItem x v) h.2 h.1
+to_bare Word x v h = subst (λ (v : BareItem). IsBareItem x v) h.2 h.1
+to_bare Octets x v h = subst (λ (v : BareItem). IsBareItem x v) h.2 h.1
+to_bare Truth x (Boolean b) h = h
+to_bare Truth x (Integer _) h = absurd h
+to_bare Truth x (Decimal _) h = absurd h
+to_bare Truth x (Str _) h = absurd h
+to_bare Truth x (Token _) h = absurd h
+to_bare Truth x (Bytes _) h = absurd h
+
+from_bare : (x : List ℕ) (v : BareItem) → IsBareItem x v → Among BareBy x v
+unfolding BareBy IsTruthItem
+from_bare x (Integer z) h = (Number, h)
+from_bare x (Decimal z) h = (Number, h)
+from_bare x (Str s) h = (Quoted, (s, h, refl))
+from_bare x (Token s) h = (Word, (s, h, refl))
+from_bare x (Bytes b) h = (Octets, (b, h, refl))
+from_bare x (Boolean b) h = (Truth, h)
+
+pub truth_some : IsBareItem (63 ∷ 49 ∷ []) (Boolean true)
+truth_some = refl
+
+pub meets_bare : Meets IsBareItem End bare_read
+unfolding bare_read
+meets_bare =
+    meets_same (meets_pick bare_meets bare_heads (63 ∷ 49 ∷ [], Boolean true, from_bare _ _ truth_some))
+    (λ x v h. to_bare h.0 x v h.1) from_bare (λ v c h. h)
+
+-- ---- what a bare item begins with
+
+pub bare_next : (P : ℕ → Bool) → ((k : BareKind) (c : ℕ) → bare_kind c ≡ Some k → P c ≡ true) → (x : List ℕ) (v : BareItem) (r : List ℕ) → IsBareItem x v → Next P (x ++ r)
+bare_next P sub x v r h = let b = from_bare x v h in go b.0 x (bare_heads b.0 x v b.1)
+  where
+    go : (k : BareKind) (x : List ℕ) → Heads bare_kind k x → Next P (x ++ r)
+    go k [] h = absurd h
+    go k (c ∷ x) h = sub k c h
+
+pub bare_starts : (P : ℕ → Bool) → ((k : BareKind) (c : ℕ) → bare_kind c ≡ Some k → P c ≡ true) → (x : List ℕ) (v : BareItem) → IsBareItem x v → Starts P x
+bare_starts P sub x v h = let b = from_bare x v h in go b.0 x (bare_heads b.0 x v b.1)
+  where
+    go : (k : BareKind) (x : List ℕ) → Heads bare_kind k x → Starts P x
+    go k [] h = absurd h
+    go k (c ∷ x) h = sub k c h
+
+pub none_some : {A : Type 0} (a : A) → None ≡ Some a → ⊥
+none_some a e = cc
+
+pub kind_blank : (k : BareKind) (c : ℕ) → bare_kind c ≡ Some k → not (is_space c) ≡ true
+kind_blank k c e = go (is_space c) refl
+  where
+    go : (b : Bool) → is_space c ≡ b → not b ≡ true
+    go true is = absurd (none_some k (ap bare_kind (sym (eqb-true c 32 is)) ∙ e))
+    go false is = refl
+
+pub kind_close : (k : BareKind) (c : ℕ) → bare_kind c ≡ Some k → not (eqb c 41) ≡ true
+kind_close k c e = go (eqb c 41) refl
+  where
+    go : (b : Bool) → eqb c 41 ≡ b → not b ≡ true
+    go true is = absurd (none_some k (ap bare_kind (sym (eqb-true c 41 is)) ∙ e))
+    go false is = refl

@@ -1,0 +1,16 @@
+pub mod Stopping
+pub mod Digits
+pub mod Numbers
+pub mod Strings
+pub mod Octets
+pub mod Sixes
+pub mod Letters
+pub mod BareItems
+pub mod Items
+pub mod InnerLists
+pub mod PartedTexts
+pub mod Members
+pub mod Told
+pub mod InRange
+pub mod StrictReads
+pub mod TextLaws

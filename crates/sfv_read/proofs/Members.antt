@@ -1,0 +1,258 @@
+-- Lists and dictionaries: what is read is one, and one is read.
+use Rattle.std.proofs.Common.{◌≡◌, ℕ, ◌&&◌, ◌||◌, Bool, true, false, not, cond, eqb, List, [], ◌∷◌, ◌++◌, length, Option, Some, None, Result, Ok, Err, refl, sym, ap, subst, ◌∙◌, append_assoc, ◌<◌, arith, inl, inr, ◌⊎◌}
+use Rattle.std.proofs.lemmas.Bool.{eqb-true}
+use Rattle.std.proofs.lemmas.Bool.Decides.{nat_tests}
+use Rattle.std.proofs.lemmas.List.{append-nil}
+use Rattle.byte_grammar.specs.Language.{Then, Mapped, Optional, IsByte, IsWord}
+use Rattle.byte_grammar.specs.Walk.{◌>>=◌, Next, is_of, optional_read, all_read, turned, turns_read, with_state}
+use Rattle.sfv_read.specs.BareWalk.{bare_kind}
+use Rattle.sfv_text.specs.Range.{is_key_first, is_key_rest}
+use Rattle.sfv_read.specs.Class.{is_equals, is_open, is_blank, is_space}
+use Rattle.sfv_read.specs.Inner.{IsInner}
+use Rattle.sfv_read.specs.Item.{IsItem, IsKey, AreParameters, kept, put_pair}
+use Rattle.sfv_read.specs.ItemWalk.{params_read}
+use Rattle.sfv_read.specs.Member.{IsMember, IsPair, true_item}
+use Rattle.sfv_read.specs.MemberWalk.{parted_read, several_read, one_read, member_read, equals_member, member_or, pair_value, pair_read, list_read, dict_read, parted_turn, members_read, some_members, list_of, pairs_read, some_pairs}
+use Rattle.sfv_text.specs.declared.value.BareItem.{BareItem}
+use Rattle.sfv_text.specs.declared.value.BareItem.TheVariants.{Bool as Boolean}
+use Rattle.sfv_read.specs.declared.bare.BareKind.{BareKind}
+use Rattle.byte_grammar.proofs.Laws.{Meets, Starts, meets_then, meets_byte, meets_word, meets_optional, optional_follow, meets_choose, meets_done, meets_same, meets_map, any_next, next_more, of_each, apart}
+use Rattle.sfv_text.specs.declared.value.Item.{Item}
+use Rattle.sfv_text.specs.declared.value.InnerList.{InnerList}
+use Rattle.sfv_text.specs.declared.value.Member.{Member}
+use Rattle.sfv_text.specs.declared.value.Member.TheVariants.{Item as One, InnerList as Several}
+use Rattle.sfv_text.specs.declared.pair.Pair.{Pair}
+use Rattle.sfv_read.specs.ItemWalk.{pair_of}
+use Rattle.sfv_read.specs.InnerWalk.{inner_of}
+use Rattle.sfv_read.specs.Reads.{ReadsList, ReadsDict}
+use Rattle.sfv_read.proofs.BareItems.{word_starts, none_some}
+use Rattle.sfv_read.proofs.Items.{after_params, AreKept, meets_key, meets_kept, meets_item, params_next, item_starts, starts_append}
+use Rattle.sfv_read.proofs.InnerLists.{meets_inner}
+use Rattle.byte_grammar.proofs.Whole.{Nothing}
+use Rattle.sfv_read.proofs.PartedTexts.{meets_parted, parted_step, parted_shorter}
+
+After : {V : Type 0} → V → ℕ → Bool
+After _ c = is_of after_params c
+
+kind_open : (k : BareKind) (c : ℕ) → bare_kind c ≡ Some k → not (is_open c) ≡ true
+kind_open k c e = go (eqb c 40) refl
+  where
+    go : (b : Bool) → eqb c 40 ≡ b → not b ≡ true
+    go true is = absurd (none_some k (ap bare_kind (sym (eqb-true c 40 is)) ∙ e))
+    go false is = refl
+
+kind_ows : (k : BareKind) (c : ℕ) → bare_kind c ≡ Some k → not (is_blank c) ≡ true
+kind_ows k c e = go (eqb c 32) (eqb c 9) refl refl
+  where
+    go : (a b : Bool) → eqb c 32 ≡ a → eqb c 9 ≡ b → not (a || b) ≡ true
+    go true b is other = absurd (none_some k (ap bare_kind (sym (eqb-true c 32 is)) ∙ e))
+    go false true is other = absurd (none_some k (ap bare_kind (sym (eqb-true c 9 other)) ∙ e))
+    go false false is other = refl
+
+inner_starts : (P : ℕ → Bool) → P 40 ≡ true → (x : List ℕ) (v : InnerList) → IsInner x v → Starts P x
+inner_starts P is x v h = subst (λ (y : List ℕ). Starts P y) (sym h.joined) is
+
+one_truth : IsItem (63 ∷ 49 ∷ []) (true_item [])
+one_truth = record { bare = 63 ∷ 49 ∷ []; params = []; written = []; joined = refl; is_bare = refl; are_params = refl; are_kept = refl }
+
+some_list : IsInner (40 ∷ 41 ∷ []) (inner_of [] [])
+some_list = record { before = []; items = []; after = []; params = []; written = []; joined = refl; blank_before = refl; blank_after = refl; are_items = refl; are_params = refl; are_kept = refl }
+
+meets_member : Meets IsMember After member_read
+unfolding member_read several_read one_read After
+meets_member =
+    meets_same
+    (meets_choose is_open (meets_map meets_inner (λ (v : InnerList). Several v) (λ v c h. h)) (meets_map meets_item (λ (v : Item). One v) (λ v c h. h))
+    (λ x v h. inner_starts is_open refl x h.0 h.1) (λ x v h. item_starts (λ c. not (is_open c)) kind_open x h.0 h.1) (40 ∷ 41 ∷ []) (Several (inner_of [] [])) (inner_of [] [], some_list, refl))
+    to from (λ v c h. h)
+  where
+    to : (x : List ℕ) (v : Member) → Mapped (λ (v : InnerList). Several v) IsInner x v ⊎ Mapped (λ (v : Item). One v) IsItem x v → IsMember x v
+    to x v (inl h) = subst (λ (v : Member). IsMember x v) h.2 h.1
+    to x v (inr h) = subst (λ (v : Member). IsMember x v) h.2 h.1
+
+    from : (x : List ℕ) (v : Member) → IsMember x v → Mapped (λ (v : InnerList). Several v) IsInner x v ⊎ Mapped (λ (v : Item). One v) IsItem x v
+    from x (One v) h = inr (v, h, refl)
+    from x (Several v) h = inl (v, h, refl)
+
+member_starts : (x : List ℕ) (v : Member) → IsMember x v → Starts (λ c. not (is_blank c)) x
+member_starts x (One v) h = item_starts (λ c. not (is_blank c)) kind_ows x v h
+member_starts x (Several v) h = inner_starts (λ c. not (is_blank c)) refl x v h
+
+after_ows : (c : ℕ) → is_blank c ≡ true → is_of after_params c ≡ true
+after_ows c e = go (eqb c 32) (eqb c 9) refl refl e
+  where
+    go : (a b : Bool) → eqb c 32 ≡ a → eqb c 9 ≡ b → (a || b) ≡ true → is_of after_params c ≡ true
+    go true b is other e = subst (λ (c : ℕ). is_of after_params c ≡ true) (sym (eqb-true c 32 is)) refl
+    go false true is other e = subst (λ (c : ℕ). is_of after_params c ≡ true) (sym (eqb-true c 9 other)) refl
+    go false false is other e = absurd (cc (e))
+
+pub meets_list : Meets ReadsList Nothing (λ bytes. list_read bytes)
+unfolding After
+meets_list = meets_parted meets_member member_starts (λ v. refl) (λ v c h. after_ows c h) (63 ∷ 49 ∷ []) (One (true_item [])) one_truth
+
+-- ---- dictionaries
+
+EqualsMember : List ℕ → Member → Type 0
+EqualsMember x v = (member : List ℕ) × (x ≡ 61 ∷ member) × IsMember member v
+
+meets_equals_member : Meets EqualsMember After equals_member
+unfolding equals_member EqualsMember After
+meets_equals_member =
+    meets_same
+    (meets_then (meets_byte is_equals 61 refl (λ _ _. true)) (λ _. meets_member) (λ x u h. (63 ∷ 49 ∷ [], One (true_item []), one_truth)) (λ u y v r h after. any_next (y ++ r)))
+    (λ x v t. (t.second, cc (t.joined, t.spells.same, eqb-true t.value 61 t.spells.passes), t.more))
+    (λ x v h. record { first = 61 ∷ []; second = h.0; value = 61; joined = h.1; spells = record { same = refl; passes = refl }; more = h.2 })
+    (λ v c h. h)
+
+MemberOr : Option Member → List ℕ → Member → Type 0
+MemberOr None x v = Mapped (λ (ps : List (Pair BareItem)). One (true_item ps)) AreKept x v
+MemberOr (Some w) x v = (x ≡ []) × (w ≡ v)
+
+meets_member_or : (o : Option Member) → Meets (MemberOr o) After (member_or o)
+unfolding MemberOr After
+meets_member_or None = meets_map meets_kept (λ (ps : List (Pair BareItem)). One (true_item ps)) (λ v c h. h)
+meets_member_or (Some v) = meets_done v (λ _ c. is_of after_params c)
+
+PairValue : List ℕ → Member → Type 0
+PairValue x v = Then (Optional EqualsMember) MemberOr x v
+
+meets_pair_value : Meets PairValue After pair_value
+unfolding pair_value PairValue EqualsMember MemberOr After
+meets_pair_value =
+    meets_then (meets_optional is_equals meets_equals_member (λ x v h. subst (λ (y : List ℕ). Starts is_equals y) (sym h.1) refl)) meets_member_or
+    (λ x o h. fill o) (λ o y v r h after. next o y v r h after)
+  where
+    fill : (o : Option Member) → (y : List ℕ) × (v : Member) × MemberOr o y v
+    fill None = ([], One (true_item []), ([], ([], refl, refl), refl))
+    fill (Some w) = ([], w, (refl, refl))
+
+    next : (o : Option Member) (y : List ℕ) (v : Member) (r : List ℕ) → MemberOr o y v → Next (λ c. is_of after_params c) r → Next (optional_follow is_equals (λ (_ : Member) c. is_of after_params c) o) (y ++ r)
+    next None y v r h after = params_next (λ c. not (is_equals c)) refl (λ c e. of_each (λ c. not (is_equals c)) after_params refl c e) y h.1.0 r h.1.1 after
+    next (Some w) y v r h after = subst (λ (y : List ℕ). Next (λ c. is_of after_params c) (y ++ r)) (sym h.0) after
+
+to_value : (rest : List ℕ) (v : Member) → PairValue rest v
+    → ((member : List ℕ) × (rest ≡ 61 ∷ member) × IsMember member v) ⊎ ((written : List (Pair BareItem)) × AreParameters rest written × (v ≡ One (true_item (kept written))))
+unfolding PairValue EqualsMember MemberOr
+to_value rest v t = go t.value t.spells t.more
+  where
+    go : (o : Option Member) → Optional EqualsMember t.first o → MemberOr o t.second v
+        → ((member : List ℕ) × (rest ≡ 61 ∷ member) × IsMember member v) ⊎ ((written : List (Pair BareItem)) × AreParameters rest written × (v ≡ One (true_item (kept written))))
+    go None e h = inr (h.1.0, subst (λ (x : List ℕ). AreParameters x h.1.0) (sym (t.joined ∙ ap (λ (y : List ℕ). y ++ t.second) e)) h.1.1, sym h.2 ∙ ap (λ (ps : List (Pair BareItem)). One (true_item ps)) (sym h.1.2))
+    go (Some w) e h = inl (e.0, t.joined ∙ ap (λ (y : List ℕ). t.first ++ y) h.0 ∙ append-nil t.first ∙ e.1, subst (λ (v : Member). IsMember e.0 v) h.1 e.2)
+
+from_value : (rest : List ℕ) (v : Member)
+    → ((member : List ℕ) × (rest ≡ 61 ∷ member) × IsMember member v) ⊎ ((written : List (Pair BareItem)) × AreParameters rest written × (v ≡ One (true_item (kept written)))) → PairValue rest v
+unfolding PairValue EqualsMember MemberOr
+from_value rest v (inl h) = record { first = rest; second = []; value = Some v; joined = sym (append-nil rest); spells = h; more = (refl, refl) }
+from_value rest v (inr h) = record { first = []; second = rest; value = None; joined = refl; spells = refl; more = (kept h.0, (h.0, h.1, refl), sym h.2) }
+
+value_next : (y : List ℕ) (v : Member) (r : List ℕ) → PairValue y v → Next (λ c. is_of after_params c) r → Next (λ c. not (is_key_rest c)) (y ++ r)
+value_next y v r t after = go (to_value y v t)
+  where
+    go : ((member : List ℕ) × (y ≡ 61 ∷ member) × IsMember member v) ⊎ ((written : List (Pair BareItem)) × AreParameters y written × (v ≡ One (true_item (kept written)))) → Next (λ c. not (is_key_rest c)) (y ++ r)
+    go (inl h) = subst (λ (y : List ℕ). Next (λ c. not (is_key_rest c)) (y ++ r)) (sym h.1) refl
+    go (inr h) = params_next (λ c. not (is_key_rest c)) refl (λ c e. of_each (λ c. not (is_key_rest c)) after_params refl c e) y h.0 r h.1 after
+
+true_value : PairValue [] (One (true_item []))
+true_value = from_value [] _ (inr ([], refl, refl))
+
+meets_pair : Meets IsPair After pair_read
+unfolding pair_read After
+meets_pair =
+    meets_same
+    (meets_then meets_key (λ k. meets_map {G = λ _ c. is_of after_params c} meets_pair_value (λ (v : Member). pair_of k v) (λ v c h. h))
+    (λ x u h. ([], pair_of u (One (true_item [])), (One (true_item []), true_value, refl)))
+    (λ u y v r h after. value_next y h.0 r h.1 after))
+    (λ x p t.
+    let pair : pair_of t.value t.more.0 ≡ p = t.more.2 in
+    record {
+      key = t.first;
+      rest = t.second;
+      joined = t.joined;
+      is_key = subst (λ (p : Pair Member). IsKey t.first p.key) pair t.spells;
+      value = to_value t.second p.value (subst (λ (p : Pair Member). PairValue t.second p.value) pair t.more.1);
+    })
+    (λ x p h. record { first = h.key; second = h.rest; value = p.key; joined = h.joined; spells = h.is_key; more = (p.value, from_value h.rest p.value h.value, refl) })
+    (λ v c h. h)
+
+key_ows : (c : ℕ) → is_key_first c ≡ true → not (is_blank c) ≡ true
+key_ows c is = go (eqb c 32) (eqb c 9) (apart is_key_first 32 refl c is) (apart is_key_first 9 refl c is)
+  where
+    go : (a b : Bool) → not a ≡ true → not b ≡ true → not (a || b) ≡ true
+    go false false h k = refl
+    go false true h k = absurd (cc (k))
+    go true b h k = absurd (cc (h))
+
+key_start : (x : List ℕ) → Starts is_key_first x → Starts (λ c. not (is_blank c)) x
+key_start [] h = absurd h
+key_start (c ∷ x) h = key_ows c h
+
+pair_starts : (x : List ℕ) (p : Pair Member) → IsPair x p → Starts (λ c. not (is_blank c)) x
+pair_starts x p h = key_start x (subst (λ (y : List ℕ). Starts is_key_first y) (sym h.joined) (starts_append is_key_first h.key h.rest (word_starts is_key_first is_key_rest h.key p.key h.is_key)))
+
+some_pair : IsPair (97 ∷ []) (pair_of (97 ∷ []) (One (true_item [])))
+some_pair = record { key = 97 ∷ []; rest = []; joined = refl; is_key = (refl, refl, refl); value = inr ([], refl, refl) }
+
+-- pairs that are put one after the other, and pairs that are read and then put
+with_kept : Result (List (Pair Member) × List ℕ) ℕ → Result (List (Pair Member) × List ℕ) ℕ
+with_kept r = r >>= λ ps. Ok (kept ps.0, ps.1)
+
+put_all : (p : Pair Member) (r : Result (List (Pair Member) × List ℕ) ℕ) → with_kept (r >>= λ vs. Ok (p ∷ vs.0, vs.1)) ≡ with_state put_pair (put_pair [] p) r
+unfolding with_kept
+put_all p (Ok vs) = refl
+put_all p (Err n) = refl
+
+pairs_put : (bytes : List ℕ) → with_kept (members_read pair_read bytes) ≡ pairs_read bytes
+unfolding members_read pairs_read with_kept
+pairs_put bytes = go (pair_read bytes)
+  where
+    go : (r : Result (Pair Member × List ℕ) ℕ) → with_kept (r >>= λ v. turns_read (parted_turn pair_read) v.1 >>= λ vs. Ok (v.0 ∷ vs.0, vs.1)) ≡ (r >>= λ p. with_state put_pair (put_pair [] p.0) (turns_read (parted_turn pair_read) p.1))
+    go (Ok v) = put_all v.0 (turns_read (parted_turn pair_read) v.1)
+    go (Err n) = refl
+
+some_put : (bytes : List ℕ) → with_kept (some_members pair_read bytes) ≡ some_pairs bytes
+unfolding some_members some_pairs optional_read with_kept
+some_put [] = refl
+some_put (c ∷ bytes) = same (members_read pair_read (c ∷ bytes)) (pairs_read (c ∷ bytes)) (pairs_put (c ∷ bytes))
+  where
+    listed : Result (List (Pair Member) × List ℕ) ℕ → Result (List (Pair Member) × List ℕ) ℕ
+    listed r = ◌>>=◌ {A = Option (List (Pair Member)) × List ℕ} (r >>= λ a. Ok (Some a.0, a.1)) (λ o. Ok (list_of o.0, o.1))
+
+    moved : (r : Result (List (Pair Member) × List ℕ) ℕ) → with_kept (listed r) ≡ listed (with_kept r)
+    moved (Ok a) = refl
+    moved (Err n) = refl
+
+    same : (r s : Result (List (Pair Member) × List ℕ) ℕ) → with_kept r ≡ s → with_kept (listed r) ≡ listed s
+    same r s e = moved r ∙ ap listed e
+
+dict_put : (bytes : List ℕ) → with_kept (parted_read pair_read bytes) ≡ dict_read bytes
+unfolding parted_read dict_read with_kept
+dict_put bytes = go (all_read is_space bytes)
+  where
+    go : (r : Result (List ℕ × List ℕ) ℕ) → with_kept (r >>= λ s. some_members pair_read s.1) ≡ (r >>= λ s. some_pairs s.1)
+    go (Ok s) = some_put s.1
+    go (Err n) = refl
+
+pub meets_dict : Meets ReadsDict Nothing (λ bytes. dict_read bytes)
+unfolding with_kept After
+meets_dict =
+    subst (λ (p : List ℕ → Result (List (Pair Member) × List ℕ) ℕ). Meets ReadsDict Nothing p) (λ i bytes. dict_put bytes i) (meets_same
+    (meets_map {G = Nothing} (meets_parted meets_pair pair_starts (λ v. refl) (λ v c h. after_ows c h) (97 ∷ []) (pair_of (97 ∷ []) (One (true_item []))) some_pair) (λ (ps : List (Pair Member)). kept ps) (λ v c h. h))
+    (λ x v h. (h.0, h.1, sym h.2)) (λ x v h. (h.0, h.1, sym h.2)) (λ v c h. h))
+
+-- how the loops over members go on
+pub members_step : (bytes : List ℕ) → turns_read (parted_turn member_read) bytes ≡ (parted_turn member_read bytes >>= λ a. turned a.0 a.1 (turns_read (parted_turn member_read) a.1))
+unfolding After
+members_step bytes = parted_step meets_member member_starts (λ v. refl) (λ v c h. after_ows c h) (63 ∷ 49 ∷ []) (One (true_item [])) one_truth bytes
+
+pub members_shorter : (bytes : List ℕ) (v : Member) (rest : List ℕ) → parted_turn member_read bytes ≡ Ok (Some v, rest) → length rest < length bytes
+unfolding After
+members_shorter bytes v rest e = parted_shorter meets_member member_starts (λ v. refl) (λ v c h. after_ows c h) (63 ∷ 49 ∷ []) (One (true_item [])) one_truth bytes v rest e
+
+pub pairs_step : (bytes : List ℕ) → turns_read (parted_turn pair_read) bytes ≡ (parted_turn pair_read bytes >>= λ a. turned a.0 a.1 (turns_read (parted_turn pair_read) a.1))
+unfolding After
+pairs_step bytes = parted_step meets_pair pair_starts (λ v. refl) (λ v c h. after_ows c h) (97 ∷ []) (pair_of (97 ∷ []) (One (true_item []))) some_pair bytes
+
+pub pairs_shorter : (bytes : List ℕ) (v : Pair Member) (rest : List ℕ) → parted_turn pair_read bytes ≡ Ok (Some v, rest) → length rest < length bytes
+unfolding After
+pairs_shorter bytes v rest e = parted_shorter meets_pair pair_starts (λ v. refl) (λ v c h. after_ows c h) (97 ∷ []) (pair_of (97 ∷ []) (One (true_item []))) some_pair bytes v rest e

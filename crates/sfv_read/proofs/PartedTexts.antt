@@ -1,0 +1,245 @@
+-- Members parted by commas, as a whole text: once for every kind of member.
+use Rattle.std.proofs.Common.{◌≡◌, ℕ, zero, suc, ◌+◌, ◌≤◌, ◌<◌, ◌&&◌, ◌||◌, Bool, true, false, not, cond, eqb, List, [], ◌∷◌, ◌++◌, length, Option, Some, None, Result, Ok, Err, refl, sym, ap, subst, ◌∙◌, append_assoc, arith, inl, inr, ◌⊎◌}
+use Rattle.std.specs.List.{list_all}
+use Rattle.std.proofs.lemmas.Bool.{eqb-true}
+use Rattle.std.proofs.lemmas.List.{append-nil, length-append}
+use Rattle.byte_grammar.specs.Language.{Begins, Then, Turns, Mapped, Optional, Each, IsByte, IsAll}
+use Rattle.byte_grammar.specs.Walk.{◌>>=◌, left, Next, turned, byte_read, all_read, optional_read, turns_read}
+use Rattle.sfv_read.specs.Class.{is_space, is_comma, is_blank}
+use Rattle.sfv_read.specs.Member.{IsFurther, AreMembers, Parted}
+use Rattle.sfv_read.specs.MemberWalk.{further_read, parted_turn, members_read, list_of, some_members, parted_read}
+use Rattle.byte_grammar.proofs.Laws.{Meets, Starts, meets_then, meets_byte, meets_all, meets_optional, optional_follow, meets_turns, meets_same, meets_map, and_is, any_next, starts_next, starts_length, turns_step, shorter}
+use Rattle.byte_grammar.proofs.Whole.{Nothing}
+
+module _ {V : Type 0} {M : List ℕ → V → Type 0} {F : V → ℕ → Bool} {p : List ℕ → Result (V × List ℕ) ℕ} (m : Meets M F p)
+    (begins : (x : List ℕ) (v : V) → M x v → Starts (λ c. not (is_blank c)) x) (commas : (v : V) → F v 44 ≡ true) (blanks : (v : V) (c : ℕ) → is_blank c ≡ true → F v c ≡ true)
+    (some : List ℕ) (some_value : V) (is_some : M some some_value) where
+  abbrev Further : List ℕ → V → Type 0
+  Further x v = Then (IsByte is_comma) (λ _. Then (IsAll is_blank) (λ _. M)) x v
+
+  meets_further : Meets Further F (further_read p)
+  unfolding further_read
+  meets_further =
+      meets_then (meets_byte is_comma 44 refl (λ _ _. true))
+      (λ _. meets_then (meets_all is_blank) (λ _. m) (λ x u h. (some, some_value, is_some))
+      (λ u y v r h after. starts_next (λ c. not (is_blank c)) (λ c. not (is_blank c)) (λ c h. h) y r (begins y v h)))
+      (λ x u h. (some, some_value, record { first = []; second = some; value = []; joined = refl; spells = record { same = refl; passes = refl }; more = is_some }))
+      (λ u y v r h after. any_next (y ++ r))
+
+  further_starts : (x : List ℕ) (v : V) → Further x v → Starts is_comma x
+  further_starts x v t = subst (λ (y : List ℕ). Starts is_comma y) (sym (t.joined ∙ ap (λ (y : List ℕ). y ++ t.second) t.spells.same)) t.spells.passes
+
+  slot : Option V → ℕ → Bool
+  slot None c = false
+  slot (Some v) c = F v c
+
+  abbrev Turn : List ℕ → Option V → Type 0
+  Turn x o = Then (IsAll is_blank) (λ _. Optional Further) x o
+
+  meets_turn : Meets Turn slot (parted_turn p)
+  unfolding parted_turn slot
+  meets_turn =
+      meets_then (meets_all is_blank)
+      (λ _. meets_same {G = slot} (meets_optional is_comma meets_further further_starts) (λ x o h. h) (λ x o h. h) sub)
+      (λ x u h. ([], None, refl)) (λ u y o r h after. next y o r h after)
+    where
+      sub : (o : Option V) (c : ℕ) → slot o c ≡ true → optional_follow is_comma F o c ≡ true
+      sub None c h = absurd (cc (h))
+      sub (Some v) c h = h
+
+      next : (y : List ℕ) (o : Option V) (r : List ℕ) → Optional Further y o → Next (slot o) r → Next (λ c. not (is_blank c)) (y ++ r)
+      next y None [] h after = subst (λ (y : List ℕ). Next (λ c. not (is_blank c)) (y ++ [])) (sym h) tt
+      next y None (c ∷ r) h after = absurd (cc (after))
+      next y (Some v) r h after = starts_next is_comma (λ c. not (is_blank c)) (λ c e. subst (λ (c : ℕ). not (is_blank c) ≡ true) (sym (eqb-true c 44 e)) refl) y r (further_starts y v h)
+
+  turn_next : (v : V) (x : List ℕ) (o : Option V) (r : List ℕ) → Turn x o → Next (slot o) r → Next (F v) (x ++ r)
+  unfolding slot
+  turn_next v x o r t after =
+      subst (λ (y : List ℕ). Next (F v) (y ++ r)) (sym (t.joined ∙ ap (λ (y : List ℕ). y ++ t.second) t.spells.same)) (go t.value t.spells.passes o t.more after)
+    where
+      ends : (o : Option V) (y : List ℕ) → Optional Further y o → Next (slot o) r → Next (F v) (y ++ r)
+      ends None y h after = subst (λ (y : List ℕ). Next (F v) (y ++ r)) (sym h) (nothing r after)
+        where
+          nothing : (r : List ℕ) → Next (λ _. false) r → Next (F v) r
+          nothing [] after = tt
+          nothing (c ∷ r) after = absurd (cc (after))
+      ends (Some w) y h after = starts_next is_comma (F v) (λ c e. subst (λ (c : ℕ). F v c ≡ true) (sym (eqb-true c 44 e)) (commas v)) y r (further_starts y w h)
+
+      go : (s : List ℕ) → list_all is_blank s ≡ true → (o : Option V) → Optional Further t.second o → Next (slot o) r → Next (F v) ((s ++ t.second) ++ r)
+      go [] all o h after = ends o t.second h after
+      go (c ∷ s) all o h after = blanks v c (and_is (is_blank c) (list_all is_blank s) all).0
+
+  pub turn_grows : (x : List ℕ) (v : V) → Turn x (Some v) → 0 < length x
+  turn_grows x v t =
+      let comma : 0 < length t.second = starts_length is_comma t.second (further_starts t.second v t.more) in
+      omega (arith, comma, length-append t.first t.second, ap (λ (y : List ℕ). length y) t.joined)
+
+  no_turn : Turn [] None
+  no_turn = record { first = []; second = []; value = []; joined = refl; spells = record { same = refl; passes = refl }; more = refl }
+
+  meets_turns_of : Meets (Turns Turn) Nothing (turns_read (parted_turn p))
+  unfolding slot
+  meets_turns_of = meets_turns meets_turn turn_grows ([], no_turn) turn_next
+
+  turns_next : (v : V) (vs : List V) (x : List ℕ) (r : List ℕ) → Turns Turn x vs → Next (λ _. false) r → Next (F v) (x ++ r)
+  unfolding slot
+  turns_next v [] x r h after = turn_next v x None r h after
+  turns_next v (w ∷ vs) x r h after =
+      subst (λ (y : List ℕ). Next (F v) y) (sym (ap (λ (y : List ℕ). y ++ r) h.2 ∙ append_assoc h.0 h.1 r)) (turn_next v h.0 (Some w) (h.1 ++ r) h.3 (turns_next w vs h.1 r h.4 after))
+
+  abbrev Body : List ℕ → List V → Type 0
+  Body x vs = Then M (λ v. Mapped (λ (vs : List V). v ∷ vs) (Turns Turn)) x vs
+
+  meets_body : Meets Body Nothing (members_read p)
+  unfolding members_read
+  meets_body =
+      meets_then m (λ v. meets_map {G = Nothing} meets_turns_of (λ (vs : List V). v ∷ vs) (λ vs c h. h))
+      (λ x v h. ([], v ∷ [], ([], no_turn, refl))) (λ v y vs r h after. turns_next v h.0 y r h.1 after)
+
+  body_starts : (x : List ℕ) (vs : List V) → Body x vs → Starts (λ c. not (is_blank c)) x
+  body_starts x vs t = subst (λ (y : List ℕ). Starts (λ c. not (is_blank c)) y) (sym t.joined) (go t.first t.second (begins t.first t.value t.spells))
+    where
+      go : (x y : List ℕ) → Starts (λ c. not (is_blank c)) x → Starts (λ c. not (is_blank c)) (x ++ y)
+      go [] y h = absurd h
+      go (c ∷ x) y h = h
+
+  starts_any : (P : ℕ → Bool) (x : List ℕ) → Starts P x → Starts (λ _. true) x
+  starts_any P [] h = absurd h
+  starts_any P (c ∷ x) h = refl
+
+  ows_space : (c : ℕ) → not (is_blank c) ≡ true → not (is_space c) ≡ true
+  ows_space c h = go (eqb c 32) (eqb c 9) h
+    where
+      go : (a b : Bool) → not (a || b) ≡ true → not a ≡ true
+      go true b h = absurd (cc (h))
+      go false b h = refl
+
+  meets_some : Meets (Mapped list_of (Optional Body)) Nothing (some_members p)
+  unfolding some_members
+  meets_some = meets_map (meets_optional (λ _. true) meets_body (λ x vs h. starts_any (λ c. not (is_blank c)) x (body_starts x vs h))) list_of sub
+    where
+      sub : (o : Option (List V)) (c : ℕ) → false ≡ true → optional_follow (λ _. true) Nothing o c ≡ true
+      sub o c h = absurd (cc (h))
+
+  abbrev pub PartedText : List ℕ → List V → Type 0
+  PartedText x vs = Then (IsAll is_space) (λ _. Mapped list_of (Optional Body)) x vs
+
+  pub meets_parted_text : Meets PartedText Nothing (parted_read p)
+  unfolding parted_read
+  meets_parted_text =
+      meets_then (meets_all is_space) (λ _. meets_some) (λ x u h. ([], [], (None, refl, refl))) (λ u y vs r h after. next y h.0 r h.1 after)
+    where
+      next : (y : List ℕ) (o : Option (List V)) (r : List ℕ) → Optional Body y o → Next (λ _. false) r → Next (λ c. not (is_space c)) (y ++ r)
+      next y None [] h after = subst (λ (y : List ℕ). Next (λ c. not (is_space c)) (y ++ [])) (sym h) tt
+      next y None (c ∷ r) h after = absurd (cc (after))
+      next y (Some vs) r h after = starts_next (λ c. not (is_blank c)) (λ c. not (is_space c)) ows_space y r (body_starts y vs h)
+
+  -- ---- as joined texts
+
+  to_further : (x : List ℕ) (v : V) → Turn x (Some v) → IsFurther M x v
+  to_further x v t =
+      let f = t.more in
+      record {
+        before = t.value;
+        after = f.more.value;
+        rest = f.more.second;
+        joined = cc (t.joined, t.spells.same, f.joined, f.spells.same, eqb-true f.value 44 f.spells.passes, f.more.joined, f.more.spells.same);
+        blank_before = t.spells.passes;
+        blank_after = f.more.spells.passes;
+        spells = f.more.more;
+      }
+
+  from_further : (x : List ℕ) (v : V) → IsFurther M x v → Turn x (Some v)
+  from_further x v h = record {
+    first = h.before;
+    second = 44 ∷ (h.after ++ h.rest);
+    value = h.before;
+    joined = h.joined;
+    spells = record { same = refl; passes = h.blank_before };
+    more = record {
+      first = 44 ∷ [];
+      second = h.after ++ h.rest;
+      value = 44;
+      joined = refl;
+      spells = record { same = refl; passes = refl };
+      more = record { first = h.after; second = h.rest; value = h.after; joined = refl; spells = record { same = refl; passes = h.blank_after }; more = h.spells };
+    };
+  }
+
+  to_turns : (vs : List V) (x : List ℕ) → Turns Turn x vs → (y after : List ℕ) × (x ≡ y ++ after) × Each (IsFurther M) y vs × (list_all is_blank after ≡ true)
+  to_turns [] x t = ([], t.value, t.joined ∙ ap (λ (y : List ℕ). t.first ++ y) t.more ∙ append-nil t.first ∙ t.spells.same, refl, t.spells.passes)
+  to_turns (v ∷ vs) x (first, second, e, t, others) =
+      let rest = to_turns vs second others in
+      (first ++ rest.0, rest.1, e ∙ ap (λ (y : List ℕ). first ++ y) rest.2 ∙ sym (append_assoc first rest.0 rest.1), (first, rest.0, refl, to_further first v t, rest.3), rest.4)
+
+  from_turns : (vs : List V) (y after : List ℕ) → Each (IsFurther M) y vs → list_all is_blank after ≡ true → Turns Turn (y ++ after) vs
+  from_turns [] y after h all = subst (λ (y : List ℕ). Turn (y ++ after) None) (sym h) (record { first = after; second = []; value = after; joined = sym (append-nil after); spells = record { same = refl; passes = all }; more = refl })
+  from_turns (v ∷ vs) y after h all =
+      (h.0, h.1 ++ after, ap (λ (y : List ℕ). y ++ after) h.2 ∙ append_assoc h.0 h.1 after, from_further h.0 v h.3, from_turns vs h.1 after h.4 all)
+
+  to_parted : (x : List ℕ) (vs : List V) → PartedText x vs → Parted M x vs
+  to_parted x vs t = go t.more.0 t.more.1 t.more.2
+    where
+      go : (o : Option (List V)) → Optional Body t.second o → list_of o ≡ vs → Parted M x vs
+      go None h e = subst (λ (vs : List V). Parted M x vs) e (record {
+        before = t.value;
+        members = [];
+        after = [];
+        joined = t.joined ∙ ap (λ (y : List ℕ). y ++ t.second) t.spells.same ∙ ap (λ (y : List ℕ). t.value ++ y) h;
+        spaces_before = t.spells.passes;
+        blank_after = refl;
+        are_members = refl;
+        none = λ _. refl;
+      })
+      go (Some ws) b e =
+          let turns = to_turns b.more.0 b.second b.more.1 in
+          let same : b.value ∷ b.more.0 ≡ vs = b.more.2 ∙ e in
+          subst (λ (vs : List V). Parted M x vs) same (record {
+            before = t.value;
+            members = b.first ++ turns.0;
+            after = turns.1;
+            joined = t.joined ∙ ap (λ (y : List ℕ). y ++ t.second) t.spells.same ∙ ap (λ (y : List ℕ). t.value ++ y) (b.joined ∙ ap (λ (y : List ℕ). b.first ++ y) turns.2 ∙ sym (append_assoc b.first turns.0 turns.1));
+            spaces_before = t.spells.passes;
+            blank_after = turns.4;
+            are_members = (b.first, turns.0, refl, b.spells, turns.3);
+            none = λ e. absurd (cc (e));
+          })
+
+  from_parted : (x : List ℕ) (vs : List V) → Parted M x vs → PartedText x vs
+  from_parted x [] h = record {
+    first = h.before;
+    second = [];
+    value = h.before;
+    spells = record { same = refl; passes = h.spaces_before };
+    joined = h.joined ∙ ap (λ (y : List ℕ). h.before ++ y) (ap (λ (y : List ℕ). y ++ h.after) h.are_members ∙ h.none refl);
+    more = (None, refl, refl);
+  }
+  from_parted x (v ∷ vs) h = record {
+    first = h.before;
+    second = h.members ++ h.after;
+    value = h.before;
+    joined = h.joined;
+    spells = record { same = refl; passes = h.spaces_before };
+    more = (
+      Some (v ∷ vs),
+      record {
+        first = h.are_members.0;
+        second = h.are_members.1 ++ h.after;
+        value = v;
+        joined = ap (λ (y : List ℕ). y ++ h.after) h.are_members.2 ∙ append_assoc h.are_members.0 h.are_members.1 h.after;
+        spells = h.are_members.3;
+        more = (vs, from_turns vs h.are_members.1 h.after h.are_members.4 h.blank_after, refl);
+      },
+      refl,
+    );
+  }
+
+  pub meets_parted : Meets (Parted M) Nothing (parted_read p)
+  meets_parted = meets_same meets_parted_text to_parted from_parted (λ v c h. h)
+
+  -- how a loop over members goes on
+  pub parted_step : (bytes : List ℕ) → turns_read (parted_turn p) bytes ≡ (parted_turn p bytes >>= λ a. turned a.0 a.1 (turns_read (parted_turn p) a.1))
+  parted_step bytes = turns_step meets_turn turn_grows bytes
+
+  pub parted_shorter : (bytes : List ℕ) (v : V) (rest : List ℕ) → parted_turn p bytes ≡ Ok (Some v, rest) → length rest < length bytes
+  parted_shorter bytes v rest e = shorter meets_turn turn_grows bytes v rest e

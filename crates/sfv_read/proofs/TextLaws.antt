@@ -1,0 +1,15 @@
+-- The laws of texts, from a reading of whole texts.
+use Rattle.std.proofs.Common.{◌≡◌, ◌↔◌, ℕ, Bool, true, List, ◌++◌, Result, sym, ap, subst, append_assoc, ◌∙◌}
+use Rattle.byte_grammar.specs.Language.{Begins}
+use Rattle.byte_grammar.proofs.Whole.{Judges, one_value}
+use Rattle.sfv_read.specs.Laws.{BeginsShorter, IsToldByText}
+
+pub begins_shorter : {V : Type 0} (L : List ℕ → V → Type 0) (front more : List ℕ) → Begins L (front ++ more) → Begins L front
+begins_shorter L front more b = (more ++ b.0, b.1, subst (λ (y : List ℕ). L y b.1) (append_assoc front more b.0) b.2)
+
+pub told_by_text : {V : Type 0} {L : List ℕ → V → Type 0} {r : List ℕ → Result V ℕ} (j : Judges L r) (test : V → Bool) (text_of : V → List ℕ)
+    → ((v : V) → test v ≡ true → L (text_of v) v) → (v w : V) → test v ≡ true → test w ≡ true → (text_of v ≡ text_of w) ↔ (v ≡ w)
+told_by_text {V} {L} j test text_of reads v w a b = (
+  (λ e. one_value j (text_of v) v w (reads v a) (subst (λ (y : List ℕ). L y w) (sym e) (reads w b))),
+  (λ e. ap text_of e),
+)

@@ -1,0 +1,94 @@
+-- What a reading of whole texts tells of the texts that are read.
+use Rattle.std.proofs.Common.{◌≡◌, ℕ, ◌+◌, ◌-◌, ◌≤◌, ◌<◌, Bool, List, [], ◌∷◌, ◌++◌, length, take, drop, Result, Ok, Err, refl, sym, ap, subst, ◌∙◌, arith}
+use Rattle.std.specs.Prelude.{IfOk, IfErr, IsTrue}
+use Rattle.byte_grammar.specs.Language.{Begins, Padded}
+use Rattle.byte_grammar.specs.Place.{IsPlace}
+use Rattle.byte_grammar.specs.Walk.{whole_read, padded_read}
+use Rattle.byte_grammar.proofs.Laws.{ok_is}
+use Rattle.byte_grammar.proofs.Whole.{Judges, judges}
+use Rattle.sfv_text.specs.declared.value.Item.{Item}
+use Rattle.sfv_text.specs.declared.value.InnerList.{InnerList}
+use Rattle.sfv_text.specs.declared.value.Member.{Member}
+use Rattle.sfv_text.specs.declared.pair.Pair.{Pair}
+use Rattle.sfv_read.specs.declared.fault.SfError.{SfError}
+use Rattle.sfv_read.specs.declared.fault.SfError.TheVariants.{Memory, Syntax, ItemKind}
+use Rattle.sfv_read.specs.declared.stop.Stop.{Stop}
+use Rattle.sfv_read.specs.declared.stop.Stop.TheVariants.{NoMemory, At}
+use Rattle.sfv_read.specs.Gives.{Gives, IfAt}
+use Rattle.sfv_read.specs.Fault.{IsRead, AtPlace, IfSyntax, IfItemKind, BeginsItemKind, StopsAt, MarksItemKind, Answers}
+use Rattle.sfv_read.specs.Reads.{ReadsItem, ReadsInner, ReadsList, ReadsDict}
+use Rattle.sfv_read.specs.ItemWalk.{item_whole}
+use Rattle.sfv_read.specs.InnerWalk.{inner_whole}
+use Rattle.sfv_read.specs.MemberWalk.{list_whole, dict_whole}
+use Rattle.sfv_read.proofs.Items.{meets_whole_item}
+use Rattle.sfv_read.proofs.InnerLists.{meets_whole_inner}
+use Rattle.sfv_read.proofs.Members.{meets_list, meets_dict}
+
+pub record Told {V : Type 0} (L : List ℕ → V → Type 0) (text : List ℕ) (result : Result V SfError) : Type 0 where
+  pub ok : IfOk result (λ v. L text v)
+  pub only : (v : V) → L text v → IsRead result v
+  pub none : IfErr result (λ e. AtPlace e (λ _. (v : V) → L text v → ⊥))
+  pub within : IfErr result (λ e. AtPlace e (λ place. place ≤ length text))
+  pub begins : IfErr result (λ e. AtPlace e (λ place. Begins L (take place text)))
+  pub longest : IfErr result (λ e. AtPlace e (λ place. place < length text → Begins L (take (place + 1) text) → ⊥))
+  pub syntax_only : IfErr result (λ e. IfSyntax e (λ place. BeginsItemKind L text place → ⊥))
+  pub item_kind : IfErr result (λ e. IfItemKind e (λ place. BeginsItemKind L text place))
+
+module _ {V : Type 0} {L : List ℕ → V → Type 0} {r : List ℕ → Result V ℕ} (j : Judges L r) where
+  place_at : (text : List ℕ) (place : ℕ) → StopsAt r text place → IsPlace L text place
+  place_at text place s = subst (λ (p : ℕ). IsPlace L text p) (sym s.count) (j.place text s.left s.stops)
+
+  not_stopped : (text : List ℕ) (place : ℕ) → StopsAt r text place → (v : V) → L text v → ⊥
+  not_stopped text place s = (place_at text place s).none
+
+  marks : (text : List ℕ) (place : ℕ) → BeginsItemKind L text place → MarksItemKind r text place
+  marks text place b = record { marker = b.marker; item = j.all (take place text ++ 63 ∷ 49 ∷ []) b.item }
+
+  marked : (text : List ℕ) (place : ℕ) → MarksItemKind r text place → BeginsItemKind L text place
+  marked text place m = record { marker = m.marker; item = j.begins (take place text ++ 63 ∷ 49 ∷ []) m.item }
+
+  pub told : (text : List ℕ) (result : Result V SfError) → Answers r text result → Told L text result
+  told text (Ok v) a = record {
+    ok = j.ok text v a;
+    only = λ w h. ok_is v w (sym a ∙ j.only text w h);
+    none = tt;
+    within = tt;
+    begins = tt;
+    longest = tt;
+    syntax_only = tt;
+    item_kind = tt;
+  }
+  told text (Err Memory) a = record { ok = tt; only = λ w h. tt; none = tt; within = tt; begins = tt; longest = tt; syntax_only = tt; item_kind = tt }
+  told text (Err (Syntax place)) a =
+      let p = place_at text place a.0 in
+      record { ok = tt; only = p.none; none = p.none; within = p.within; begins = p.begins; longest = p.last; syntax_only = λ b. a.1 (marks text place b); item_kind = tt }
+  told text (Err (ItemKind place)) a =
+      let p = place_at text place a.0 in
+      record { ok = tt; only = p.none; none = p.none; within = p.within; begins = p.begins; longest = p.last; syntax_only = tt; item_kind = marked text place a.1 }
+
+  -- a reading has no more bytes left than there are
+  pub gives_within : (text : List ℕ) (result : Result V Stop) → Gives (λ x. x) result (r text) → IfErr result (λ e. IfAt e (λ left. left ≤ length text))
+  gives_within text (Ok v) g = tt
+  gives_within text (Err NoMemory) g = tt
+  gives_within text (Err (At n)) g = j.within text n g
+
+-- what is read passes a test that all values pass
+pub passing : {V : Type 0} {L : List ℕ → V → Type 0} (test : V → Bool) → ((text : List ℕ) (v : V) → L text v → IsTrue (test v)) → (text : List ℕ) (result : Result V SfError) → IfOk result (λ v. L text v) → IfOk result (λ v. IsTrue (test v))
+passing test all text (Ok v) h = all text v h
+passing test all text (Err e) h = tt
+
+pub item_judges : Judges ReadsItem item_whole
+unfolding item_whole
+item_judges = judges meets_whole_item
+
+pub inner_judges : Judges ReadsInner inner_whole
+unfolding inner_whole
+inner_judges = judges meets_whole_inner
+
+pub list_judges : Judges ReadsList list_whole
+unfolding list_whole
+list_judges = judges meets_list
+
+pub dict_judges : Judges ReadsDict dict_whole
+unfolding dict_whole
+dict_judges = judges meets_dict

@@ -1,0 +1,70 @@
+-- The texts of bare items (RFC 9651 section 3.3).
+use Rattle.std.specs.Prelude.{◌≡◌, ℕ, ◌+◌, ◌-◌, ◌*◌, ◌^◌, ◌⊎◌, Bool, true, List, [], ◌∷◌, ◌++◌, length, ℤ, pos, neg_ℤ}
+use Rattle.std.specs.List.{list_all}
+use Rattle.base64.specs.Engines.{standard, standard_no_pad}
+use Rattle.base64.specs.GeneralPurpose.{encode_of}
+use Rattle.byte_grammar.specs.Language.{IsRun, IsWord}
+use Rattle.sfv_text.specs.declared.value.BareItem.{BareItem}
+use Rattle.sfv_text.specs.declared.value.BareItem.TheVariants.{Integer, Decimal, Str, Token, Bytes, Bool as Boolean}
+use Rattle.sfv_text.specs.Range.{is_byte, is_string_byte, is_token_first, is_token_rest}
+use Rattle.sfv_text.specs.Strict.{string_text, bool_text}
+use Rattle.sfv_read.specs.Class.{is_digit, is_minus}
+
+-- the number that digits spell behind a number
+abbrev pub spelled_from : ℕ → List ℕ → ℕ
+spelled_from n [] = n
+spelled_from n (d ∷ ds) = spelled_from (n * 10 + (d - 48)) ds
+
+abbrev pub spelled : List ℕ → ℕ
+spelled ds = spelled_from 0 ds
+
+-- negative where a sign stands
+abbrev pub signed : List ℕ → ℕ → ℤ
+signed [] n = pos n
+signed (_ ∷ _) n = neg_ℤ (pos n)
+
+-- an optional minus, and 1 to 15 digits (RFC 9651 section 3.3.1)
+pub record IsInteger (text : List ℕ) (z : ℤ) : Type 0 where
+  pub sign : List ℕ
+  pub digits : List ℕ
+  pub joined : text ≡ sign ++ digits
+  pub minus : IsRun is_minus 0 1 sign sign
+  pub whole : IsRun is_digit 1 15 digits digits
+  pub value : z ≡ signed sign (spelled digits)
+
+-- an optional minus, 1 to 12 digits, a point, and 1 to 3 digits; the value is in thousandths (RFC 9651 section 3.3.2)
+pub record IsDecimal (text : List ℕ) (z : ℤ) : Type 0 where
+  pub sign : List ℕ
+  pub digits : List ℕ
+  pub part : List ℕ
+  pub joined : text ≡ sign ++ (digits ++ 46 ∷ part)
+  pub minus : IsRun is_minus 0 1 sign sign
+  pub whole : IsRun is_digit 1 12 digits digits
+  pub fraction : IsRun is_digit 1 3 part part
+  pub value : z ≡ signed sign (spelled (digits ++ part) * 10 ^ (3 - length part))
+
+-- printable characters in quotes, `"` and `\` behind a backslash (RFC 9651 section 3.3.3)
+pub record IsString (text : List ℕ) (s : List ℕ) : Type 0 where
+  pub joined : text ≡ string_text s
+  pub printable : list_all is_string_byte s ≡ true
+
+-- a letter or `*`, and then tchar, `:` or `/` (RFC 9651 section 3.3.4)
+abbrev pub IsToken : List ℕ → List ℕ → Type 0
+IsToken text token = IsWord is_token_first is_token_rest text token
+
+-- the bytes in base64 between colons, with all of its `=` or none (RFC 9651 section 3.3.5, RFC 4648 section 4)
+pub record IsByteSequence (text : List ℕ) (bytes : List ℕ) : Type 0 where
+  pub are_bytes : list_all is_byte bytes ≡ true
+  pub joined : (text ≡ 58 ∷ (encode_of standard bytes ++ 58 ∷ [])) ⊎ (text ≡ 58 ∷ (encode_of standard_no_pad bytes ++ 58 ∷ []))
+
+-- `?1` or `?0` (RFC 9651 section 3.3.6)
+abbrev pub IsBoolean : List ℕ → Bool → Type 0
+IsBoolean text b = text ≡ bool_text b
+
+abbrev pub IsBareItem : List ℕ → BareItem → Type 0
+IsBareItem text (Integer z) = IsInteger text z
+IsBareItem text (Decimal z) = IsDecimal text z
+IsBareItem text (Str s) = IsString text s
+IsBareItem text (Token t) = IsToken text t
+IsBareItem text (Bytes b) = IsByteSequence text b
+IsBareItem text (Boolean b) = IsBoolean text b

@@ -1,0 +1,61 @@
+-- What a reader of a whole text answers.
+use Rattle.std.specs.Prelude.{◌≡◌, ℕ, ◌-◌, ◌≤◌, true, List, [], ◌∷◌, ◌++◌, length, take, drop, Result, Ok, Err}
+use Rattle.byte_grammar.specs.Language.{Begins}
+use Rattle.byte_grammar.specs.Walk.{starts_in, unread}
+use Rattle.sfv_read.specs.Class.{is_marker}
+use Rattle.sfv_read.specs.declared.fault.SfError.{SfError}
+use Rattle.sfv_read.specs.declared.fault.SfError.TheVariants.{Memory, Syntax, ItemKind}
+
+-- the value was read, unless memory ran out
+abbrev pub IsRead : {V : Type 0} → Result V SfError → V → Type 0
+IsRead (Ok x) v = x ≡ v
+IsRead (Err Memory) v = Unit {0}
+IsRead (Err (Syntax _)) v = ⊥
+IsRead (Err (ItemKind _)) v = ⊥
+
+-- of the place of a fault, if it has one
+abbrev pub AtPlace : SfError → (ℕ → Type 0) → Type 0
+AtPlace Memory P = Unit {0}
+AtPlace (Syntax place) P = P place
+AtPlace (ItemKind place) P = P place
+
+abbrev pub IfSyntax : SfError → (ℕ → Type 0) → Type 0
+IfSyntax Memory P = Unit {0}
+IfSyntax (Syntax place) P = P place
+IfSyntax (ItemKind place) P = Unit {0}
+
+abbrev pub IfItemKind : SfError → (ℕ → Type 0) → Type 0
+IfItemKind Memory P = Unit {0}
+IfItemKind (Syntax place) P = Unit {0}
+IfItemKind (ItemKind place) P = P place
+
+-- a marker stands at the place, and `?1` could stand there
+pub record BeginsItemKind {V : Type 0} (L : List ℕ → V → Type 0) (text : List ℕ) (place : ℕ) : Type 0 where
+  pub marker : starts_in is_marker (drop place text) ≡ true
+  pub item : Begins L (take place text ++ 63 ∷ 49 ∷ [])
+
+-- ---- the same by a reading of whole texts
+
+-- the reading stops at the place
+pub record StopsAt {V : Type 0} (r : List ℕ → Result V ℕ) (text : List ℕ) (place : ℕ) : Type 0 where
+  pub left : ℕ
+  pub stops : r text ≡ Err left
+  pub count : place ≡ length text - left
+
+-- a marker stands at the place, and the reading goes through `?1` there
+pub record MarksItemKind {V : Type 0} (r : List ℕ → Result V ℕ) (text : List ℕ) (place : ℕ) : Type 0 where
+  pub marker : starts_in is_marker (drop place text) ≡ true
+  pub item : unread (r (take place text ++ 63 ∷ 49 ∷ [])) ≡ 0
+
+-- the fault at a place
+abbrev pub IsFaultAt : {V : Type 0} → (List ℕ → Result V ℕ) → List ℕ → ℕ → SfError → Type 0
+IsFaultAt r text at Memory = Unit {0}
+IsFaultAt r text at (Syntax place) = (place ≡ at) × (MarksItemKind r text at → ⊥)
+IsFaultAt r text at (ItemKind place) = (place ≡ at) × MarksItemKind r text at
+
+-- what is answered of a text, by a reading of whole texts
+abbrev pub Answers : {V : Type 0} → (List ℕ → Result V ℕ) → List ℕ → Result V SfError → Type 0
+Answers r text (Ok v) = r text ≡ Ok v
+Answers r text (Err Memory) = Unit {0}
+Answers r text (Err (Syntax place)) = StopsAt r text place × (MarksItemKind r text place → ⊥)
+Answers r text (Err (ItemKind place)) = StopsAt r text place × MarksItemKind r text place

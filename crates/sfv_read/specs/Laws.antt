@@ -1,0 +1,23 @@
+-- Laws of the texts that are read.
+use Rattle.std.specs.Prelude.{◌≡◌, ◌↔◌, ℕ, Bool, List, ◌++◌, IsTrue}
+use Rattle.byte_grammar.specs.Language.{Begins}
+
+-- a text has at most one value
+abbrev pub HasOneValue : {V : Type 0} → (List ℕ → V → Type 0) → Type 0
+HasOneValue {V} L = (text : List ℕ) (v w : V) → L text v → L text w → v ≡ w
+
+-- what is read passes the test
+abbrev pub ReadsOnly : {V : Type 0} → (List ℕ → V → Type 0) → (V → Bool) → Type 0
+ReadsOnly {V} L test = (text : List ℕ) (v : V) → L text v → IsTrue (test v)
+
+-- a shorter front of what begins a text begins it too
+abbrev pub BeginsShorter : {V : Type 0} → (List ℕ → V → Type 0) → Type 0
+BeginsShorter L = (front more : List ℕ) → Begins L (front ++ more) → Begins L front
+
+-- the text of a value that passes the test reads as that value
+abbrev pub ReadsBack : {V : Type 0} → (List ℕ → V → Type 0) → (V → Bool) → (V → List ℕ) → Type 0
+ReadsBack {V} L test text_of = (v : V) → IsTrue (test v) → L (text_of v) v
+
+-- values that pass the test are equal exactly where their texts are
+abbrev pub IsToldByText : {V : Type 0} → (V → Bool) → (V → List ℕ) → Type 0
+IsToldByText {V} test text_of = (v w : V) → IsTrue (test v) → IsTrue (test w) → (text_of v ≡ text_of w) ↔ (v ≡ w)

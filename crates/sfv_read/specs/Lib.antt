@@ -1,0 +1,16 @@
+pub mod Class
+pub mod Gives
+pub mod BareItem
+pub mod Item
+pub mod Inner
+pub mod Member
+pub mod Reads
+pub mod BareWalk
+pub mod ItemWalk
+pub mod InnerWalk
+pub mod MemberWalk
+pub mod Fault
+pub mod Laws
+pub use Rattle.byte_grammar.specs.Language
+pub use Rattle.sfv_text.specs.Range
+pub use Rattle.sfv_text.specs.Strict

@@ -1,0 +1,46 @@
+//! Laws of the texts that are read. Each function does nothing; its contract is the law.
+
+ghost use Rattle.sfv_text.specs.Range.{is_item_in_range, is_inner_in_range, is_list_in_range, is_dict_in_range};
+ghost use Rattle.sfv_text.specs.Strict.{item_text, inner_text, list_text, dict_text};
+ghost use Rattle.sfv_read.specs.Laws.{HasOneValue, ReadsOnly, BeginsShorter, ReadsBack, IsToldByText};
+ghost use Rattle.sfv_read.specs.Reads.{ReadsItem, ReadsInner, ReadsList, ReadsDict};
+
+/// A text reads as at most one value of a kind.
+pub fn a_text_has_one_value()
+    ensures item { HasOneValue ReadsItem }
+    ensures inner { HasOneValue ReadsInner }
+    ensures list { HasOneValue ReadsList }
+    ensures dict { HasOneValue ReadsDict }
+{}
+
+/// What is read is in range: numbers are of at most 15 digits, keys are distinct, and so on.
+pub fn values_read_are_in_range()
+    ensures item { ReadsOnly ReadsItem is_item_in_range }
+    ensures inner { ReadsOnly ReadsInner is_inner_in_range }
+    ensures list { ReadsOnly ReadsList is_list_in_range }
+    ensures dict { ReadsOnly ReadsDict is_dict_in_range }
+{}
+
+/// A shorter front of what begins a text of a kind begins one too, so there is a longest.
+pub fn shorter_fronts_begin()
+    ensures item { BeginsShorter ReadsItem }
+    ensures inner { BeginsShorter ReadsInner }
+    ensures list { BeginsShorter ReadsList }
+    ensures dict { BeginsShorter ReadsDict }
+{}
+
+/// The strict text of a value in range (RFC 9651 section 4.1) reads as that value.
+pub fn strict_texts_read_back()
+    ensures item { ReadsBack ReadsItem is_item_in_range item_text }
+    ensures inner { ReadsBack ReadsInner is_inner_in_range inner_text }
+    ensures list { ReadsBack ReadsList is_list_in_range list_text }
+    ensures dict { ReadsBack ReadsDict is_dict_in_range dict_text }
+{}
+
+/// Two values in range are equal exactly where their strict texts are.
+pub fn strict_texts_tell_values()
+    ensures item { IsToldByText is_item_in_range item_text }
+    ensures inner { IsToldByText is_inner_in_range inner_text }
+    ensures list { IsToldByText is_list_in_range list_text }
+    ensures dict { IsToldByText is_dict_in_range dict_text }
+{}

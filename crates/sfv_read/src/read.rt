@@ -1,0 +1,78 @@
+//! The four readers.
+
+ghost use Rattle.std.specs.Prelude.{◌≡◌, ◌≤◌, ◌<◌, ◌+◌, List as Listed, length, take, IfOk, IfErr, IsTrue};
+ghost use Rattle.byte_grammar.specs.Language.{Begins};
+ghost use Rattle.sfv_text.specs.declared.value.Item.{Item};
+ghost use Rattle.sfv_text.specs.declared.value.InnerList.{InnerList};
+ghost use Rattle.sfv_text.specs.declared.value.Member.{Member};
+ghost use Rattle.sfv_text.specs.Range.{is_item_in_range, is_inner_in_range, is_list_in_range, is_dict_in_range};
+ghost use Rattle.sfv_text.specs.declared.pair.Pair.{Pair};
+ghost use Rattle.sfv_read.specs.Fault.{IsRead, AtPlace, IfSyntax, IfItemKind, BeginsItemKind};
+ghost use Rattle.sfv_read.specs.Reads.{ReadsItem, ReadsInner, ReadsList, ReadsDict};
+
+use crate::fault::SfError;
+use crate::whole::read_field;
+use sfv_text::{Dict, InnerList, Item, List};
+use std::alloc::Global;
+
+/// Reads an Item (RFC 9651 section 4.2.3), with spaces at both ends.
+pub fn read_item(alloc: Global, text: &[u8]) -> Result<Item, SfError>
+    ensures ok { IfOk result (λ value. ReadsItem text.now value) }
+    ensures in_range { IfOk result (λ value. IsTrue (is_item_in_range value)) }
+    ensures only { (value : Item) → ReadsItem text.now value → IsRead result value }
+    ensures none { IfErr result (λ e. AtPlace e (λ _. (value : Item) → ReadsItem text.now value → ⊥)) }
+    ensures within { IfErr result (λ e. AtPlace e (λ place. place ≤ length text.now)) }
+    ensures begins { IfErr result (λ e. AtPlace e (λ place. Begins ReadsItem (take place text.now))) }
+    ensures longest { IfErr result (λ e. AtPlace e (λ place. place < length text.now → Begins ReadsItem (take (place + 1) text.now) → ⊥)) }
+    ensures syntax { IfErr result (λ e. IfSyntax e (λ place. BeginsItemKind ReadsItem text.now place → ⊥)) }
+    ensures item_kind { IfErr result (λ e. IfItemKind e (λ place. BeginsItemKind ReadsItem text.now place)) }
+{
+    read_field(alloc, text)
+}
+
+/// Reads an Inner List (RFC 9651 section 4.2.1.2) alone, with spaces at both ends.
+pub fn read_inner(alloc: Global, text: &[u8]) -> Result<InnerList, SfError>
+    ensures ok { IfOk result (λ value. ReadsInner text.now value) }
+    ensures in_range { IfOk result (λ value. IsTrue (is_inner_in_range value)) }
+    ensures only { (value : InnerList) → ReadsInner text.now value → IsRead result value }
+    ensures none { IfErr result (λ e. AtPlace e (λ _. (value : InnerList) → ReadsInner text.now value → ⊥)) }
+    ensures within { IfErr result (λ e. AtPlace e (λ place. place ≤ length text.now)) }
+    ensures begins { IfErr result (λ e. AtPlace e (λ place. Begins ReadsInner (take place text.now))) }
+    ensures longest { IfErr result (λ e. AtPlace e (λ place. place < length text.now → Begins ReadsInner (take (place + 1) text.now) → ⊥)) }
+    ensures syntax { IfErr result (λ e. IfSyntax e (λ place. BeginsItemKind ReadsInner text.now place → ⊥)) }
+    ensures item_kind { IfErr result (λ e. IfItemKind e (λ place. BeginsItemKind ReadsInner text.now place)) }
+{
+    read_field(alloc, text)
+}
+
+/// Reads a List (RFC 9651 section 4.2.1), with spaces at both ends. A text of spaces alone is the
+/// empty List.
+pub fn read_list(alloc: Global, text: &[u8]) -> Result<List, SfError>
+    ensures ok { IfOk result (λ value. ReadsList text.now value) }
+    ensures in_range { IfOk result (λ value. IsTrue (is_list_in_range value)) }
+    ensures only { (value : Listed Member) → ReadsList text.now value → IsRead result value }
+    ensures none { IfErr result (λ e. AtPlace e (λ _. (value : Listed Member) → ReadsList text.now value → ⊥)) }
+    ensures within { IfErr result (λ e. AtPlace e (λ place. place ≤ length text.now)) }
+    ensures begins { IfErr result (λ e. AtPlace e (λ place. Begins ReadsList (take place text.now))) }
+    ensures longest { IfErr result (λ e. AtPlace e (λ place. place < length text.now → Begins ReadsList (take (place + 1) text.now) → ⊥)) }
+    ensures syntax { IfErr result (λ e. IfSyntax e (λ place. BeginsItemKind ReadsList text.now place → ⊥)) }
+    ensures item_kind { IfErr result (λ e. IfItemKind e (λ place. BeginsItemKind ReadsList text.now place)) }
+{
+    read_field(alloc, text)
+}
+
+/// Reads a Dictionary (RFC 9651 section 4.2.2), with spaces at both ends. A text of spaces alone is
+/// the empty Dictionary. A repeated key has its first place and its last value.
+pub fn read_dict(alloc: Global, text: &[u8]) -> Result<Dict, SfError>
+    ensures ok { IfOk result (λ value. ReadsDict text.now value) }
+    ensures in_range { IfOk result (λ value. IsTrue (is_dict_in_range value)) }
+    ensures only { (value : Listed (Pair Member)) → ReadsDict text.now value → IsRead result value }
+    ensures none { IfErr result (λ e. AtPlace e (λ _. (value : Listed (Pair Member)) → ReadsDict text.now value → ⊥)) }
+    ensures within { IfErr result (λ e. AtPlace e (λ place. place ≤ length text.now)) }
+    ensures begins { IfErr result (λ e. AtPlace e (λ place. Begins ReadsDict (take place text.now))) }
+    ensures longest { IfErr result (λ e. AtPlace e (λ place. place < length text.now → Begins ReadsDict (take (place + 1) text.now) → ⊥)) }
+    ensures syntax { IfErr result (λ e. IfSyntax e (λ place. BeginsItemKind ReadsDict text.now place → ⊥)) }
+    ensures item_kind { IfErr result (λ e. IfItemKind e (λ place. BeginsItemKind ReadsDict text.now place)) }
+{
+    read_field(alloc, text)
+}

@@ -1,0 +1,98 @@
+//! Strings (RFC 9651 section 3.3.3).
+
+ghost use Rattle.std.specs.Prelude.{◌≡◌, ◌++◌, ◌∷◌, [], length, List, ℕ};
+ghost use Rattle.byte_grammar.specs.Gives.{Gives as GivesAll};
+ghost use Rattle.byte_grammar.specs.Walk.{kind_in};
+ghost use Rattle.sfv_read.specs.Gives.{Gives};
+ghost use Rattle.sfv_read.specs.BareWalk.{char_kind, char_read, chars_read, string_read};
+
+use crate::class::Class;
+use crate::stop::Stop;
+use byte_grammar::{ByteClass, Left, read_byte};
+use sfv_text::Text;
+use std::alloc::Global;
+
+/// What the first byte of a character's text tells.
+#[derive(Clone, Copy)]
+pub enum CharKind {
+    /// The quote behind the last character.
+    Finish,
+    /// A backslash, with the character behind it.
+    Escape,
+    /// A character that stands for itself.
+    Plain,
+}
+
+/// Characters in quotes, `"` and `\` behind a backslash.
+#[tactic(auto, unfolding(crate::specs::BareWalk::string_read))]
+pub fn read_string(alloc: Global, bytes: &[u8]) -> Result<(Text, &[u8]), Stop>
+    ensures { Gives (λ x. (x.0, x.1.now)) result (string_read bytes.now) }
+{
+    let (_, rest) = read_byte(Class::Quote, bytes)?;
+    read_chars(alloc, rest)
+}
+
+/// Characters up to the quote that ends them.
+fn read_chars(alloc: Global, bytes: &[u8]) -> Result<(Text, &[u8]), Stop>
+    ensures { Gives (λ x. (x.0, x.1.now)) result (chars_read bytes.now) }
+{
+    let mut text = Text::new(alloc);
+    let mut rest = bytes;
+    'chars: loop {
+        let (next, after) = read_char(rest)?;
+        match next {
+            None => return Ok((text, after)),
+            Some(byte) => {
+                text.append(&[byte])?;
+                rest = after;
+            }
+        }
+    }
+}
+
+/// A character, or the quote behind the last.
+#[tactic(auto, unfolding(crate::specs::BareWalk::char_read, byte_grammar::specs::Walk::pick_read))]
+fn read_char(bytes: &[u8]) -> Result<(Option<u8>, &[u8]), Left>
+    ensures { GivesAll (λ x. (x.0, x.1.now)) result (char_read bytes.now) }
+{
+    match first_kind(bytes) {
+        None => Err(Left(bytes.len())),
+        Some(CharKind::Finish) => {
+            let (_, rest) = read_byte(Class::Quote, bytes)?;
+            Ok((None, rest))
+        }
+        Some(CharKind::Escape) => {
+            let (_, rest) = read_byte(Class::Backslash, bytes)?;
+            let (byte, rest) = read_byte(Class::Escapable, rest)?;
+            Ok((Some(byte), rest))
+        }
+        Some(CharKind::Plain) => {
+            let (byte, rest) = read_byte(Class::Unescaped, bytes)?;
+            Ok((Some(byte), rest))
+        }
+    }
+}
+
+fn first_kind(bytes: &[u8]) -> Option<CharKind>
+    ensures { result ≡ kind_in char_kind bytes.now }
+{
+    match bytes.split_first() {
+        None => None,
+        Some((first, _)) => kind_of(*first),
+    }
+}
+
+fn kind_of(byte: u8) -> Option<CharKind>
+    ensures { result ≡ char_kind byte }
+{
+    if Class::Quote.allows(byte) {
+        return Some(CharKind::Finish);
+    }
+    if Class::Backslash.allows(byte) {
+        return Some(CharKind::Escape);
+    }
+    if Class::Unescaped.allows(byte) {
+        return Some(CharKind::Plain);
+    }
+    None
+}
