@@ -1,9 +1,10 @@
 -- The answers of the reader of signature parameters shut each other out.
-use Rattle.std.proofs.Common.{◌≡◌, ◌<◌, ◌≤◌, ◌⊎◌, ℕ, Bool, true, false, not, Result, Ok, Err, MatchResult, Option, Some, None, List, [], ◌∷◌, length, take, map, refl, sym, ap, ◌∙◌, arith, inl, inr}
+use Rattle.std.proofs.Common.{◌≡◌, ◌<◌, ◌≤◌, ◌⊎◌, ℕ, Bool, true, false, not, Result, Ok, Err, MatchResult, IfOk, IsTrue, ◌&&◌, Option, Some, None, List, [], ◌∷◌, length, take, map, refl, sym, ap, ◌∙◌, arith, inl, inr}
 use Rattle.std.specs.List.{find, list_all, slice_get}
 use Rattle.std.proofs.lemmas.Bool.{cases_order, false≢true}
 use Rattle.std.proofs.lemmas.List.{length-map}
 use Rattle.std.proofs.lemmas.List.Folds.{list_all-map}
+use Rattle.sfv_text.specs.Range.{is_item_in_range, is_inner_in_range, are_params_in_range}
 use Rattle.sfv_text.specs.declared.pair.Pair.{Pair}
 use Rattle.sfv_text.specs.declared.value.BareItem.{BareItem}
 use Rattle.sfv_text.specs.declared.value.Item.{Item}
@@ -15,7 +16,7 @@ use Rattle.component_ids.specs.declared.id.ComponentId.{ComponentId}
 use Rattle.component_ids.specs.declared.params.SigParams.{SigParams}
 use Rattle.component_ids.specs.Identifiers.{item_of, is_identifier, id_of, AreDistinct}
 use Rattle.component_ids.specs.Reasons.{reason_of}
-use Rattle.component_ids.specs.SignatureParams.{is_typed, list_of, IsSigParams}
+use Rattle.component_ids.specs.SignatureParams.{is_typed, list_of, are_sig_params_in_range, IsSigParams}
 use Rattle.component_ids.specs.Answers.{IsFirstBad, IsFirstRepeated, IsFirstIllTyped, AreIdentifiers, AnswersWhere, Explains}
 use Rattle.component_ids.proofs.Places.{some_and_parts, find_none, all_at, slice_get_take}
 use Rattle.component_ids.proofs.ReasonLaws.{identifier_where_some}
@@ -35,7 +36,7 @@ pub are_params : (list : InnerList) (params : SigParams) → map item_of params.
 are_params list params items_are params_are identifiers distinct typed =
     let count : length params.ids ≡ length list.items = sym (length-map params.ids item_of) ∙ ap length items_are in
     let each : list_all (λ (id : ComponentId). is_identifier (item_of id)) params.ids ≡ true =
-        sym (list_all-map is_identifier item_of params.ids) ∙ (ap (list_all is_identifier) items_are ∙ identifiers.each) in
+    sym (list_all-map is_identifier item_of params.ids) ∙ (ap (list_all is_identifier) items_are ∙ identifiers.each) in
     let is : IsSigParams params = record {
       few = rw count identifiers.few;
       each = each;
@@ -80,10 +81,10 @@ not_before items i j r lt all first =
 bad_once : (items : List Item) (i j : ℕ) (r s : BadReason) → IsFirstBad items i r → IsFirstBad items j s → (i ≡ j) × (r ≡ s)
 bad_once items i j r s first second = elim (cases_order i j) [
   | inl same ↦
-    let one = some_and_parts (λ (item : Item). reason_of item ≡ Some r) (slice_get items i) first.there in
-    let two = some_and_parts (λ (item : Item). reason_of item ≡ Some s) (slice_get items j) second.there in
-    let item : one.0 ≡ two.0 = cc (ap (slice_get items) same, one.1, two.1) in
-    (same, cc (ap reason_of item, one.2, two.2))
+      let one = some_and_parts (λ (item : Item). reason_of item ≡ Some r) (slice_get items i) first.there in
+      let two = some_and_parts (λ (item : Item). reason_of item ≡ Some s) (slice_get items j) second.there in
+      let item : one.0 ≡ two.0 = cc (ap (slice_get items) same, one.1, two.1) in
+      (same, cc (ap reason_of item, one.2, two.2))
   | inr apart ↦ elim apart [
     | inl less ↦ absurd (not_before items i j r less second.before first)
     | inr more ↦ absurd (not_before items j i s more first.before second)
@@ -178,5 +179,11 @@ answers_only list (Err (BadComponent j s)) x params is same = absurd (not_bad li
 answers_only list (Err (Repeated j)) x params is same = absurd (not_repeated (map id_of list.items) j (facts list params (is, same)).distinct x.1)
 answers_only list (Err (BadParameter key)) x params is same = absurd (not_ill_typed list.params key (facts list params (is, same)).typed x.2)
 
-pub answers_ok : (list : InnerList) (result : Result SigParams IdFault) → Explains list result → (params : SigParams) → result ≡ Ok params → list_of params ≡ list
-answers_ok list result x params is = (rw is at x).1
+-- signature parameters are in range where their list is
+pub in_range_of_list : (params : SigParams) → are_sig_params_in_range params ≡ is_inner_in_range (list_of params)
+in_range_of_list params = ap (λ (b : Bool). b && are_params_in_range params.params) (sym (list_all-map is_item_in_range item_of params.ids))
+
+pub answers_in_range : (list : InnerList) (result : Result SigParams IdFault) → Explains list result
+    → IfOk result (λ params. IsTrue (is_inner_in_range list) → IsTrue (are_sig_params_in_range params))
+answers_in_range list (Ok params) x = λ ranged. in_range_of_list params ∙ (ap is_inner_in_range x.1 ∙ ranged)
+answers_in_range list (Err fault) x = tt

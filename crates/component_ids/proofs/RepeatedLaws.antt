@@ -21,7 +21,7 @@ pub distinct_more : (ids : List ComponentId) (i : ℕ) (id : ComponentId) → i 
     → list_any (λ other. is_same other id) (take i ids) ≡ false → AreDistinct (take i ids) → AreDistinct (take (i + 1) ids)
 distinct_more ids i id lt is none distinct =
     let apart = λ (k : ℕ) (d : ComponentId) (k_lt : k < length (take i ids)) (s : Same (get_or (take i ids) k d) id).
-        false≢true (sym none ∙ list_any_at (λ (other : ComponentId). is_same other id) (take i ids) k d k_lt ((same_decides (get_or (take i ids) k d) id).1 s)) in
+    false≢true (sym none ∙ list_any_at (λ (other : ComponentId). is_same other id) (take i ids) k d k_lt ((same_decides (get_or (take i ids) k d) id).1 s)) in
     let more : AreDistinct (take i ids ++ id ∷ []) = all_pairs_push (λ (a b : ComponentId). Same a b → ⊥) (take i ids) id distinct apart in
     subst (λ (t : List ComponentId). AreDistinct t) (sym ((take_at_read ids i id lt).1 ∙ ap (λ (x : ComponentId). take i ids ++ x ∷ []) (sym is))) more
 
@@ -34,7 +34,7 @@ first_repeated_is ids i id lt is any distinct =
     record {
       before = distinct;
       there = some_and (λ (id : ComponentId). Any (λ (earlier : ComponentId). Same earlier id) (take i ids)) (slice_get ids i) id there
-        (at.0, at.1, at.2, at.3, (same_decides at.1 id).0 at.4);
+          (at.0, at.1, at.2, at.3, (same_decides at.1 id).0 at.4);
     }
 
 -- no identifier is repeated where all are distinct
@@ -47,7 +47,7 @@ not_repeated ids i distinct first =
     let at = here.2 in
     let k_lt : at.0 < i = omega (arith, length-take {A = ComponentId}, at.2) in
     let earlier_is : get_or ids at.0 id ≡ at.1 =
-        get_or_default ids at.0 id at.1 (omega arith) ∙ (sym (get_or-take i ids at.0 at.1 k_lt) ∙ at.3) in
+    get_or_default ids at.0 id at.1 (omega arith) ∙ (sym (get_or-take i ids at.0 at.1 k_lt) ∙ at.3) in
     let same : Same (get_or ids at.0 id) (get_or ids i id) = rw (earlier_is, is) at.4 in
     distinct at.0 i id k_lt lt same
 

@@ -31,11 +31,11 @@ param_same a b =
     let keys = bytes_eq-Decides a.key b.key in
     let values = value_same a.value b.value in
     let there = λ (h : is_same_param a b ≡ true).
-        let parts = and_parts (bytes_eq a.key b.key) (is_same_value a.value b.value) h in
-        let k : a.key ≡ b.key = keys.0 parts.0 in
-        let v : a.value ≡ b.value = values.0 parts.1 in
-        let same : a ≡ b = λ i. record { key = k i; value = v i } in
-        same in
+    let parts = and_parts (bytes_eq a.key b.key) (is_same_value a.value b.value) h in
+    let k : a.key ≡ b.key = keys.0 parts.0 in
+    let v : a.value ≡ b.value = values.0 parts.1 in
+    let same : a ≡ b = λ i. record { key = k i; value = v i } in
+    same in
     (there, (λ e. rw (keys.1 (ap (λ (p : Pair BareItem). p.key) e), values.1 (ap (λ (p : Pair BareItem). p.value) e)) refl))
 
 -- a parameter that is there is found
@@ -60,17 +60,17 @@ pub same_decides : (a b : ComponentId) → Decides (is_same a b) (Same a b)
 same_decides a b =
     let names = bytes_eq-Decides a.name b.name in
     let there = λ (h : is_same a b ≡ true).
-        let parts = and_parts (bytes_eq a.name b.name) (are_among b.params a.params && are_among a.params b.params) h in
-        let both = and_parts (are_among b.params a.params) (are_among a.params b.params) parts.1 in
-        let same : Same a b = record {
-          names = names.0 parts.0;
-          params = λ param. (all_found b.params a.params both.0 param, all_found a.params b.params both.1 param);
-        } in
-        same in
+    let parts = and_parts (bytes_eq a.name b.name) (are_among b.params a.params && are_among a.params b.params) h in
+    let both = and_parts (are_among b.params a.params) (are_among a.params b.params) parts.1 in
+    let same : Same a b = record {
+      names = names.0 parts.0;
+      params = λ param. (all_found b.params a.params both.0 param, all_found a.params b.params both.1 param);
+    } in
+    same in
     let back = λ (s : Same a b).
-        let first : are_among b.params a.params ≡ true = all_among b.params a.params (λ param. (s.params param).0) in
-        let second : are_among a.params b.params ≡ true = all_among a.params b.params (λ param. (s.params param).1) in
-        let n : bytes_eq a.name b.name ≡ true = names.1 s.names in
-        let all : is_same a b ≡ true = rw (n, first, second) refl in
-        all in
+    let first : are_among b.params a.params ≡ true = all_among b.params a.params (λ param. (s.params param).0) in
+    let second : are_among a.params b.params ≡ true = all_among a.params b.params (λ param. (s.params param).1) in
+    let n : bytes_eq a.name b.name ≡ true = names.1 s.names in
+    let all : is_same a b ≡ true = rw (n, first, second) refl in
+    all in
     (there, back)

@@ -43,5 +43,6 @@ AreDistinct ids = AllPairs (λ a b. ¬ Same a b) ids
 abbrev pub id_text : ComponentId → List ℕ
 id_text id = item_text (item_of id)
 
+-- the values can stand in a structured field
 abbrev pub is_id_in_range : ComponentId → Bool
 is_id_in_range id = is_item_in_range (item_of id)

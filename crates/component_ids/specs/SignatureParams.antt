@@ -1,14 +1,14 @@
 -- Signature parameters (RFC 9421 section 2.3).
-use Rattle.std.specs.Prelude.{◌≡◌, ◌≤◌, ℕ, Bool, true, List, [], ◌∷◌, length, map, codes, if◌then◌else◌}
+use Rattle.std.specs.Prelude.{◌≡◌, ◌≤◌, ℕ, Bool, true, ◌&&◌, List, [], ◌∷◌, length, map, codes, if◌then◌else◌}
 use Rattle.std.specs.List.{list_all}
-use Rattle.sfv_text.specs.Range.{is_inner_in_range}
+use Rattle.sfv_text.specs.Range.{are_params_in_range}
 use Rattle.sfv_text.specs.Strict.{inner_text}
 use Rattle.sfv_text.specs.declared.pair.Pair.{Pair}
 use Rattle.sfv_text.specs.declared.value.BareItem.{BareItem}
 use Rattle.sfv_text.specs.declared.value.InnerList.{InnerList}
 use Rattle.component_ids.specs.declared.params.SigParams.{SigParams}
 use Rattle.component_ids.specs.Table.{is_integer, is_string, is_one_of}
-use Rattle.component_ids.specs.Identifiers.{item_of, is_identifier, AreDistinct}
+use Rattle.component_ids.specs.Identifiers.{item_of, is_identifier, is_id_in_range, AreDistinct}
 
 -- the parameters that are Strings
 abbrev pub string_keys : List (List ℕ)
@@ -36,5 +36,6 @@ list_of params = record { items = map item_of params.ids; params = params.params
 abbrev pub sig_params_text : SigParams → List ℕ
 sig_params_text params = inner_text (list_of params)
 
+-- the values can stand in a structured field
 abbrev pub are_sig_params_in_range : SigParams → Bool
-are_sig_params_in_range params = is_inner_in_range (list_of params)
+are_sig_params_in_range params = list_all is_id_in_range params.ids && are_params_in_range params.params

@@ -1,4 +1,4 @@
-use Rattle.component_ids.proofs.AnswerLaws.{answers_too_many, answers_bad, answers_repeated, answers_param, answers_only}
+use Rattle.component_ids.proofs.AnswerLaws.{answers_too_many, answers_bad, answers_repeated, answers_param, answers_only, answers_in_range}
 use Rattle.component_ids.proofs.params.read_params.Goals as goal
 
 pub returns-clause-only : goal.returns-clause-only
@@ -15,3 +15,6 @@ returns-clause-repeated c = answers_repeated c.args.list.now c.read.result c.rea
 
 pub returns-clause-bad_parameter : goal.returns-clause-bad_parameter
 returns-clause-bad_parameter c = answers_param c.args.list.now c.read.result c.read.ensures
+
+pub returns-clause-in_range : goal.returns-clause-in_range
+returns-clause-in_range c = answers_in_range c.args.list.now c.read.result c.read.ensures
