@@ -1,5 +1,5 @@
 -- What holds of pairs when a key is put.
-use Rattle.std.proofs.Common.{◌≡◌, get_or, set, ℕ, zero, suc, ◌<◌, Bool, true, false, not, ◌&&◌, ◌||◌, take, map, List, [], ◌∷◌, ◌++◌, length, refl, sym, ap, subst, ◌∙◌, arith, inl, inr}
+use Rattle.std.proofs.Common.{◌≡◌, get_or, set, ℕ, zero, suc, ◌<◌, Bool, true, false, not, ◌||◌, map, List, [], ◌∷◌, ◌++◌, length, refl, sym, ap, ◌∙◌, arith, inl, inr}
 use Rattle.std.specs.List.{list_all, list_any}
 use Rattle.std.specs.Str.{bytes_eq}
 use Rattle.std.proofs.lemmas.Bool.{cases_Bool, and_parts, false≢true}

@@ -247,6 +247,7 @@ fn lists_print_with_a_comma_and_a_space(rt: HostRuntime) -> Result<(), Fail> {
     }))?;
     list.push(Member::Item(plain(alloc, BareItem::Bool(true))))?;
     assert_eq!(rt; list.len(), 3);
+    assert!(rt; matches!(list.get(1), Member::InnerList(_)));
     assert_eq!(rt;
         print_list(alloc, &list)?.bytes(),
         b"tea, (), ?1".as_slice()

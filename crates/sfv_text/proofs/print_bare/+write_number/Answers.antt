@@ -1,4 +1,4 @@
-use Rattle.std.proofs.Common.{arith, append_assoc, ◌≡◌, ◌≤◌, ◌<◌, ◌^◌, ◌++◌, ◌∷◌, [], ◌/◌, ◌%◌, ◌+◌}
+use Rattle.std.proofs.Common.{arith, append_assoc, ◌≡◌, ◌++◌, ◌∷◌, [], ◌/◌, ◌%◌, ◌+◌}
 use Rattle.std.specs.Fmt.{decimal}
 use Rattle.std.proofs.lemmas.Fmt.{decimal_step}
 use Rattle.sfv_text.proofs.print_bare.+write_number.Goals as goal

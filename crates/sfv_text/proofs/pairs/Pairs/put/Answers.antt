@@ -1,5 +1,4 @@
-use Rattle.std.proofs.Common.{sym, ◌∙◌}
-use Rattle.sfv_text.proofs.PutLaws.{put_found, put_found_distinct, put_found_kept, put_new, put_new_distinct}
+use Rattle.sfv_text.proofs.PutLaws.{put_found, put_found_distinct, put_found_kept, put_new_distinct}
 use Rattle.sfv_text.proofs.pairs.Pairs.put.Goals as goal
 
 pub invariant_of-self : goal.invariant_of-self

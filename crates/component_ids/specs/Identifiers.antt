@@ -1,0 +1,48 @@
+-- Component identifiers (RFC 9421 section 2).
+use Rattle.std.specs.Prelude.{◌≡◌, ◌↔◌, ℕ, Bool, true, false, List, [], AllPairs, Contains}
+use Rattle.sfv_text.specs.Range.{is_item_in_range}
+use Rattle.sfv_text.specs.Strict.{item_text}
+use Rattle.sfv_text.specs.declared.pair.Pair.{Pair}
+use Rattle.sfv_text.specs.declared.value.BareItem.{BareItem}
+use Rattle.sfv_text.specs.declared.value.BareItem.TheVariants.{Integer, Decimal, Str, Token, Bytes, Bool as Boolean}
+use Rattle.sfv_text.specs.declared.value.Item.{Item}
+use Rattle.component_ids.specs.declared.id.ComponentId.{ComponentId}
+use Rattle.component_ids.specs.Table.{is_allowed}
+
+-- the item that stands for an identifier
+abbrev pub item_of : ComponentId → Item
+item_of id = record { bare = Str id.name; params = id.params }
+
+-- a String that the table allows with its parameters
+abbrev pub is_allowed_bare : BareItem → List (Pair BareItem) → Bool
+is_allowed_bare (Str name) params = is_allowed name params
+is_allowed_bare bare params = false
+
+abbrev pub is_identifier : Item → Bool
+is_identifier item = is_allowed_bare item.bare item.params
+
+-- the characters of a String
+abbrev pub string_of : BareItem → List ℕ
+string_of (Str text) = text
+string_of bare = []
+
+-- the identifier that an item stands for, where it is one
+abbrev pub id_of : Item → ComponentId
+id_of item = record { name = string_of item.bare; params = item.params }
+
+-- the names agree, and the same parameters with the same values are there, in whatever order (section 2)
+pub record Same (a b : ComponentId) : Type 0 where
+  pub names : a.name ≡ b.name
+  pub params : (param : Pair BareItem) → Contains a.params param ↔ Contains b.params param
+
+-- no two identifiers are the same
+abbrev pub AreDistinct : List ComponentId → Type 0
+AreDistinct ids = AllPairs (λ a b. ¬ Same a b) ids
+
+-- the strict text of an identifier is that of its item (section 2.5)
+abbrev pub id_text : ComponentId → List ℕ
+id_text id = item_text (item_of id)
+
+-- the values can stand in a structured field
+abbrev pub is_id_in_range : ComponentId → Bool
+is_id_in_range id = is_item_in_range (item_of id)

@@ -1,0 +1,86 @@
+-- The names of components and the parameters that go with them (RFC 9421 sections 2 to 2.2).
+use Rattle.std.specs.Prelude.{ℕ, Bool, true, false, ◌&&◌, ◌||◌, not, Option, Some, None, is_some, unwrap_or, List, [], ◌∷◌, length, nat_lt, codes, if◌then◌else◌}
+use Rattle.std.specs.Char.{is_ascii_uppercase}
+use Rattle.std.specs.List.{list_all, list_any}
+use Rattle.std.specs.Str.{bytes_eq}
+use Rattle.sfv_text.specs.Keys.{has_key}
+use Rattle.sfv_text.specs.Range.{is_tchar}
+use Rattle.sfv_text.specs.declared.pair.Pair.{Pair}
+use Rattle.sfv_text.specs.declared.value.BareItem.{BareItem}
+use Rattle.sfv_text.specs.declared.value.BareItem.TheVariants.{Integer, Decimal, Str, Token, Bytes, Bool as Boolean}
+
+-- ---- values
+
+abbrev pub is_integer : BareItem → Bool
+is_integer (Integer z) = true
+is_integer bare = false
+
+abbrev pub is_string : BareItem → Bool
+is_string (Str text) = true
+is_string bare = false
+
+abbrev pub is_true : BareItem → Bool
+is_true (Boolean b) = b
+is_true bare = false
+
+-- ---- the table of names
+
+-- the text is one of the texts
+abbrev pub is_one_of : List (List ℕ) → List ℕ → Bool
+is_one_of texts text = list_any (bytes_eq text) texts
+
+-- a tchar that is no upper-case letter
+abbrev pub is_name_byte : ℕ → Bool
+is_name_byte c = is_tchar c && not (is_ascii_uppercase c)
+
+-- a field name in lower case (section 2.1)
+abbrev pub is_field_name : List ℕ → Bool
+is_field_name name = nat_lt 0 (length name) && list_all is_name_byte name
+
+-- the derived components of a request without a parameter of their own (section 2.2)
+abbrev pub request_names : List (List ℕ)
+request_names =
+    codes "@method" ∷ codes "@target-uri" ∷ codes "@authority" ∷ codes "@scheme" ∷ codes "@request-target"
+    ∷ codes "@path" ∷ codes "@query" ∷ []
+
+-- The table: the keys of the parameters that go with a name, or None where no component has the name
+-- (sections 2.1, 2.2 and 2.4; `@signature-params` is no covered component, section 2.3).
+abbrev pub keys_of : List ℕ → Option (List (List ℕ))
+keys_of name =
+    if is_field_name name then Some (codes "sf" ∷ codes "key" ∷ codes "bs" ∷ codes "tr" ∷ codes "req" ∷ [])
+    else if is_one_of request_names name then Some (codes "req" ∷ [])
+    else if bytes_eq name (codes "@query-param") then Some (codes "name" ∷ codes "req" ∷ [])
+    else if bytes_eq name (codes "@status") then Some []
+    else None
+
+-- the name has a row
+abbrev pub is_name : List ℕ → Bool
+is_name name = is_some (keys_of name)
+
+-- a parameter of the key goes with the name
+abbrev pub goes_with : List ℕ → List ℕ → Bool
+goes_with name key = is_one_of (unwrap_or (keys_of name) []) key
+
+-- ---- what else is asked of the parameters
+
+-- `key` and `name` are Strings, `sf`, `bs`, `tr` and `req` are Boolean true (sections 2.1, 2.2.8 and 2.4)
+abbrev pub has_value_type : Pair BareItem → Bool
+has_value_type param =
+    if is_one_of (codes "key" ∷ codes "name" ∷ []) param.key then is_string param.value else is_true param.value
+
+abbrev pub has_param : List (Pair BareItem) → List ℕ → Bool
+has_param params key = list_any (has_key key) params
+
+-- `bs` goes with neither `sf` nor `key` (section 2.1.3)
+abbrev pub have_clash : List (Pair BareItem) → Bool
+have_clash params = has_param params (codes "bs") && (has_param params (codes "sf") || has_param params (codes "key"))
+
+-- `@query-param` has its `name` (section 2.2.8)
+abbrev pub has_needed : List ℕ → List (Pair BareItem) → Bool
+has_needed name params = not (bytes_eq name (codes "@query-param")) || has_param params (codes "name")
+
+-- a component may have the name with these parameters
+abbrev pub is_allowed : List ℕ → List (Pair BareItem) → Bool
+is_allowed name params =
+    is_name name && (list_all (λ p. goes_with name p.key) params && (list_all has_value_type params
+    && (not (have_clash params) && has_needed name params)))

@@ -1,0 +1,20 @@
+//! Component identifiers and signature parameters of HTTP Message Signatures (RFC 9421 sections 2 to 2.4).
+#![tactic(auto)]
+
+mod fault;
+mod id;
+mod params;
+mod print;
+mod read_ids;
+mod same;
+mod table;
+
+pub use fault::{BadReason, IdFault};
+pub use id::{ComponentId, Ids};
+pub use params::{MOST_COMPONENTS, SigParams, read_params};
+pub use print::{print_id, print_params};
+pub use same::same_id;
+pub use table::is_field_name;
+
+#[cfg(test)]
+mod tests;

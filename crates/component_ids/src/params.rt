@@ -1,0 +1,121 @@
+//! Signature parameters.
+
+ghost use Rattle.std.specs.Prelude.{◌≡◌, ◌≤◌, ◌<◌, ◌⊎◌, ℕ, List, true, length, map, IsTrue, IfOk, IfSome, IfNone, MatchResult};
+ghost use Rattle.std.specs.List.{list_all};
+ghost use Rattle.sfv_text.specs.Range.{is_inner_in_range};
+ghost use Rattle.sfv_text.specs.Strict.{inner_text};
+ghost use Rattle.component_ids.specs.declared.fault.BadReason.{BadReason};
+ghost use Rattle.component_ids.specs.declared.params.SigParams.{SigParams};
+ghost use Rattle.component_ids.specs.Answers.{AnswersWhere, AreIdentifiers, Explains, IsFirstBad, IsFirstRepeated, IsFirstIllTyped};
+ghost use Rattle.component_ids.specs.Identifiers.{id_of, AreDistinct};
+ghost use Rattle.component_ids.specs.SignatureParams.{string_keys, is_typed, list_of, sig_params_text, are_sig_params_in_range, IsSigParams};
+ghost use Rattle.component_ids.specs.Table.{is_one_of};
+
+use crate::fault::IdFault;
+use crate::id::{ComponentId, Ids};
+use crate::read_ids::read_ids;
+use sfv_text::{BareItem, InnerList, Memory, Pair, Params, Text};
+use std::alloc::Global;
+
+/// The most covered components.
+pub const MOST_COMPONENTS: usize = 64;
+
+/// Signature parameters (RFC 9421 section 2.3): the covered components, and the parameters of the signature.
+#[derive(Debug, Drop)]
+pub struct SigParams {
+    pub ids: Ids,
+    pub params: Params,
+}
+
+fn copy_of_ids(alloc: Global, ids: &[ComponentId]) -> Result<Ids, Memory>
+    ensures { IfOk result (λ copies. copies ≡ ids.now) }
+{
+    let mut copies = Ids::new(alloc);
+    for id in ids {
+        copies.push(id.copy(alloc)?)?;
+    }
+    Ok(copies)
+}
+
+impl SigParams {
+    /// Equal signature parameters of their own.
+    pub fn copy(&self, alloc: Global) -> Result<SigParams, Memory>
+        ensures { IfOk result (λ params. params ≡ self.now) }
+    {
+        Ok(SigParams {
+            ids: copy_of_ids(alloc, self.ids.as_slice())?,
+            params: self.params.copy(alloc)?,
+        })
+    }
+}
+
+/// Whether a parameter of the key has to be a String.
+fn is_string_key(key: &[u8]) -> bool
+    ensures { result ≡ is_one_of string_keys key.now }
+{
+    key == b"nonce".as_slice()
+        || key == b"alg".as_slice()
+        || key == b"keyid".as_slice()
+        || key == b"tag".as_slice()
+}
+
+fn is_typed(param: &Pair<BareItem>) -> bool
+    ensures { result ≡ is_typed param.now }
+{
+    let key = param.key.bytes();
+    if key == b"created".as_slice() || key == b"expires".as_slice() {
+        return matches!(param.value, BareItem::Integer(_));
+    }
+    if is_string_key(key) {
+        return matches!(param.value, BareItem::Str(_));
+    }
+    true
+}
+
+/// The key of the first parameter of a wrong type.
+fn first_ill_typed(params: &[Pair<BareItem>]) -> Option<&Text>
+    ensures some { IfSome result (λ key. IsFirstIllTyped params.now key.now) }
+    ensures none { IfNone result (list_all is_typed params.now ≡ true) }
+{
+    for param in params {
+        if !is_typed(param) {
+            return Some(&param.key);
+        }
+    }
+    None
+}
+
+fn read(alloc: Global, list: &InnerList) -> Result<SigParams, IdFault>
+    ensures { Explains list.now result }
+{
+    let ids = read_ids(alloc, list.items.as_slice())?;
+    let params = list.params.as_slice();
+    if let Some(key) = first_ill_typed(params) {
+        return Err(IdFault::BadParameter(key.copy(alloc)?));
+    }
+    Ok(SigParams {
+        ids,
+        params: list.params.copy(alloc)?,
+    })
+}
+
+/// Reads an Inner List as signature parameters (RFC 9421 section 2.3).
+///
+/// Of several faults the first in the order of `IdFault` is answered.
+pub fn read_params(alloc: Global, list: &InnerList) -> Result<SigParams, IdFault>
+    ensures ok { IfOk result (λ params. IsSigParams params) }
+    ensures same { IfOk result (λ params. list_of params ≡ list.now) }
+    ensures only { (params : SigParams) → IsSigParams params → list_of params ≡ list.now
+        → MatchResult result (λ given. given ≡ params) (λ fault. fault ≡ IdFault.Memory) }
+    ensures too_many { AnswersWhere result IdFault.TooMany (64 < length list.now.items) }
+    ensures bad_component { (index : ℕ) (reason : BadReason) → AnswersWhere result (IdFault.BadComponent index reason)
+        ((length list.now.items ≤ 64) × IsFirstBad list.now.items index reason) }
+    ensures repeated { (index : ℕ) → AnswersWhere result (IdFault.Repeated index)
+        (AreIdentifiers list.now.items × IsFirstRepeated (map id_of list.now.items) index) }
+    ensures bad_parameter { (key : List ℕ) → AnswersWhere result (IdFault.BadParameter key)
+        (AreIdentifiers list.now.items × AreDistinct (map id_of list.now.items) × IsFirstIllTyped list.now.params key) }
+    ensures text { IfOk result (λ params. sig_params_text params ≡ inner_text list.now) }
+    ensures in_range { IfOk result (λ params. IsTrue (is_inner_in_range list.now) → IsTrue (are_sig_params_in_range params)) }
+{
+    read(alloc, list)
+}

@@ -1,0 +1,171 @@
+//! The table of names and parameters (RFC 9421 sections 2.1, 2.2 and 2.4).
+
+ghost use Rattle.std.specs.Prelude.{◌≡◌, ◌||◌, not, IfNone, Some, None, option_map, codes};
+ghost use Rattle.std.specs.List.{find, list_all, list_any};
+ghost use Rattle.component_ids.specs.Table.{is_true, is_string, is_one_of, is_name_byte, is_field_name, request_names, keys_of, has_value_type, has_param, have_clash, has_needed};
+ghost use Rattle.component_ids.specs.Reasons.{applies, reasons};
+ghost use Rattle.component_ids.specs.Rows.{row_keys};
+
+use crate::fault::BadReason;
+use sfv_text::{BareItem, Pair};
+
+/// A row of the table: which parameters go with a name.
+#[derive(Clone, Copy)]
+enum Row {
+    /// A field name: `sf`, `key`, `bs`, `tr` and `req`.
+    Field,
+    /// A derived component of a request: `req`.
+    Request,
+    /// `@query-param`: `name` and `req`.
+    QueryParam,
+    /// `@status`: none.
+    Status,
+}
+
+fn is_name_byte(byte: u8) -> bool
+    ensures { result ≡ is_name_byte byte }
+{
+    matches!(byte, b'!' | b'#' | b'$' | b'%' | b'&' | b'\'' | b'*' | b'+' | b'-' | b'.' | b'^' | b'_' | b'`' | b'|' | b'~' | b'0'..=b'9' | b'a'..=b'z')
+}
+
+/// Whether the text is a field name as component identifiers have it: in lower case (RFC 9421 section 2.1).
+pub fn is_field_name(name: &[u8]) -> bool
+    ensures { result ≡ is_field_name name.now }
+{
+    for byte in name {
+        if !is_name_byte(*byte) {
+            return false;
+        }
+    }
+    !name.is_empty()
+}
+
+fn is_request_name(name: &[u8]) -> bool
+    ensures { result ≡ is_one_of request_names name.now }
+{
+    name == b"@method".as_slice()
+        || name == b"@target-uri".as_slice()
+        || name == b"@authority".as_slice()
+        || name == b"@scheme".as_slice()
+        || name == b"@request-target".as_slice()
+        || name == b"@path".as_slice()
+        || name == b"@query".as_slice()
+}
+
+/// The row of the name, where it has one.
+fn row_of(name: &[u8]) -> Option<Row>
+    ensures { option_map row_keys result ≡ keys_of name.now }
+{
+    if is_field_name(name) {
+        return Some(Row::Field);
+    }
+    if is_request_name(name) {
+        return Some(Row::Request);
+    }
+    if name == b"@query-param".as_slice() {
+        return Some(Row::QueryParam);
+    }
+    if name == b"@status".as_slice() {
+        return Some(Row::Status);
+    }
+    None
+}
+
+fn is_field_key(key: &[u8]) -> bool
+    ensures { result ≡ is_one_of (row_keys Row.Field) key.now }
+{
+    key == b"sf".as_slice()
+        || key == b"key".as_slice()
+        || key == b"bs".as_slice()
+        || key == b"tr".as_slice()
+        || key == b"req".as_slice()
+}
+
+/// Whether a parameter of the key goes with the names of the row.
+fn allows(row: Row, key: &[u8]) -> bool
+    ensures { result ≡ is_one_of (row_keys row) key.now }
+{
+    match row {
+        Row::Field => is_field_key(key),
+        Row::Request => key == b"req".as_slice(),
+        Row::QueryParam => key == b"name".as_slice() || key == b"req".as_slice(),
+        Row::Status => false,
+    }
+}
+
+fn has_unknown(row: Row, params: &[Pair<BareItem>]) -> bool
+    ensures { result ≡ list_any (λ p. not (is_one_of (row_keys row) p.key)) params.now }
+{
+    for param in params {
+        if !allows(row, param.key.bytes()) {
+            return true;
+        }
+    }
+    false
+}
+
+fn has_value_type(param: &Pair<BareItem>) -> bool
+    ensures { result ≡ has_value_type param.now }
+{
+    let key = param.key.bytes();
+    if key == b"key".as_slice() || key == b"name".as_slice() {
+        return matches!(param.value, BareItem::Str(_));
+    }
+    matches!(param.value, BareItem::Bool(true))
+}
+
+fn has_ill_typed(params: &[Pair<BareItem>]) -> bool
+    ensures { result ≡ list_any (λ p. not (has_value_type p)) params.now }
+{
+    for param in params {
+        if !has_value_type(param) {
+            return true;
+        }
+    }
+    false
+}
+
+fn has_param(params: &[Pair<BareItem>], key: &[u8]) -> bool
+    ensures { result ≡ has_param params.now key.now }
+{
+    for param in params {
+        if param.key.bytes() == key {
+            return true;
+        }
+    }
+    false
+}
+
+fn have_clash(params: &[Pair<BareItem>]) -> bool
+    ensures { result ≡ have_clash params.now }
+{
+    has_param(params, b"bs") && (has_param(params, b"sf") || has_param(params, b"key"))
+}
+
+fn has_needed(name: &[u8], params: &[Pair<BareItem>]) -> bool
+    ensures { result ≡ has_needed name.now params.now }
+{
+    name != b"@query-param".as_slice() || has_param(params, b"name")
+}
+
+/// The least reason for which no component has the name with these parameters.
+pub(crate) fn reason_against_name(name: &[u8], params: &[Pair<BareItem>]) -> Option<BadReason>
+    ensures { result ≡ find (applies name.now params.now) reasons }
+{
+    let Some(row) = row_of(name) else {
+        return Some(BadReason::Name);
+    };
+    if has_unknown(row, params) {
+        return Some(BadReason::ParameterUnknown);
+    }
+    if has_ill_typed(params) {
+        return Some(BadReason::ParameterType);
+    }
+    if have_clash(params) {
+        return Some(BadReason::ParametersClash);
+    }
+    if !has_needed(name, params) {
+        return Some(BadReason::NameMissing);
+    }
+    None
+}

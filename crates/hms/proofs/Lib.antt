@@ -1,0 +1,4 @@
+pub mod Joins
+pub mod NameTests
+pub mod Plain
+pub mod WordLists

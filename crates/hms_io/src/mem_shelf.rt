@@ -1,0 +1,117 @@
+//! A shelf in memory.
+
+ghost use Rattle.std.specs.Prelude.{◌≡◌, ◌≤◌, length, Some, IfOk, IfSome, OnOk, OnErr, MatchOption, is_err};
+ghost use Rattle.std.specs.FinMap as map;
+ghost use Rattle.hms_io.specs.Calls.{fails_next};
+ghost use Rattle.hms_io.specs.Cause.{HasCause, one_more};
+ghost use Rattle.hms_io.specs.Files.{Fetches};
+
+use crate::calls::Calls;
+use crate::status::Failed;
+use crate::traits::Shelf;
+use sfv_text::{Memory, Text};
+use std::alloc::Global;
+use std::collections::VecDeque;
+use std::marker::Model;
+
+/// A shelf that keeps files in memory, and fails at the calls that it is told to. Calls are counted
+/// from 0, and the count stops at 2^64 - 1.
+#[derive(Drop)]
+pub struct MemShelf {
+    // Names and files, the newest first, so the first of a name is the one that stands.
+    log: VecDeque<(Text, Text)>,
+    alloc: Global,
+    calls: Calls,
+}
+
+impl Model for MemShelf {
+    ghost use Rattle.std.specs.FinMap as map;
+    ghost use Rattle.hms_io.specs.Memory.{MemoryShelf, shelf_code};
+
+    ghost Value = { MemoryShelf };
+
+    ghost coded = { shelf_code };
+
+    ghost view = { λ s. record { files = map.from_entries s.log.items; calls = s.calls } };
+}
+
+// The bytes of a text in memory.
+fn text_of(alloc: Global, bytes: &[u8]) -> Result<Text, Memory>
+    ensures { IfOk result (λ text. text ≡ bytes.now) }
+{
+    let mut text = Text::new(alloc);
+    text.append(bytes)?;
+    Ok(text)
+}
+
+impl MemShelf {
+    /// A shelf without files. `fails` has the numbers of the calls of `fetch` that fail.
+    pub fn new(alloc: Global, fails: &[u64]) -> Result<MemShelf, Memory>
+        ensures { IfOk result (λ s. s ≡ record {
+          files = map.empty;
+          calls = record { fails = fails.now; made = 0; faults = 0 };
+        }) }
+    {
+        let calls = Calls::new(alloc, fails)?;
+        Ok(MemShelf {
+            log: VecDeque::new(alloc),
+            alloc,
+            calls,
+        })
+    }
+
+    /// Adds a file, or replaces the one of that name.
+    pub fn put(&mut self, name: &str, bytes: &[u8]) -> Result<(), Memory>
+        ensures ok { OnOk result (self.new ≡
+            record self.old { files = map.insert self.old.files name.now bytes.now }) }
+        ensures err { OnErr result (self.new ≡ self.old) }
+    {
+        let name = text_of(self.alloc, name.as_bytes())?;
+        let file = text_of(self.alloc, bytes)?;
+        self.log.push_front((name, file))?;
+        Ok(())
+    }
+
+    // The file of that name.
+    fn find(&self, name: &str) -> Option<&[u8]>
+        ensures { MatchOption result (map.get self.now.files name.now ≡ None)
+            (λ file. map.get self.now.files name.now ≡ Some file.now) }
+    {
+        'files: for (key, file) in &self.log {
+            if name.as_bytes() == key.bytes() {
+                return Some(file.bytes());
+            }
+        }
+        None
+    }
+}
+
+impl Shelf for MemShelf {
+    ghost use Rattle.std.specs.Prelude.{Some};
+
+    ghost files = { λ s. Some s.files };
+
+    ghost faults = { λ s. s.calls.faults };
+
+    fn fetch(&mut self, name: &str, into: &mut [u8]) -> Result<Option<usize>, Failed>
+        ensures bound { IfOk result (λ found. IfSome found (λ n. n ≤ length into.new)) }
+        ensures files { Fetches (Some self.old.files) (Some self.new.files) name.now result into.new }
+        ensures cause { HasCause self.old.calls.faults self.new.calls.faults result }
+
+        // It fails at the given calls alone.
+        ensures fails { is_err result ≡ fails_next self.old.calls }
+        ensures counts_one { OnErr result (self.new.calls.faults ≡ one_more self.old.calls.faults) }
+        ensures made { self.new.calls.made ≡ one_more self.old.calls.made }
+        ensures same_fails { self.new.calls.fails ≡ self.old.calls.fails }
+    {
+        self.calls.next()?;
+        match self.find(name) {
+            None => Ok(None),
+            Some(file) => {
+                let amount = file.len().min(into.len());
+                into[..amount].copy_from_slice(&file[..amount]);
+                Ok(Some(amount))
+            }
+        }
+    }
+}

@@ -1,0 +1,83 @@
+-- The end of a head: an empty line.
+use Rattle.std.proofs.Common.{◌≡◌, ℕ, ◌+◌, ◌<◌, ◌↔◌, Bool, true, false, not, IsTrue, is_some, is_none, List, [], ◌∷◌, ◌++◌, length, take, drop, get_or, Option, Some, None, refl, sym, ap, ◌∙◌, arith, append_assoc, length-append, codes}
+use Rattle.std.specs.List.{flat_map}
+use Rattle.std.proofs.Math.ListN.{get_or-append}
+use Rattle.std.proofs.lemmas.Bool.{false≢true}
+use Rattle.std.proofs.lemmas.List.{append-nil, get_or-append-add, take-append-drop}
+use Rattle.memchr.specs.Find.{OccursAt, FindsNeedle}
+use Rattle.memchr.proofs.lemmas.MatchLemmas.{OccursAt-split}
+use Rattle.msg_head.specs.Lines.{FieldLine, line_text}
+use Rattle.msg_head.specs.Starts.{StartLine, request, start_text}
+use Rattle.msg_head.specs.Heads.{Head, SpellsHead, IsUnfinished, head_text}
+use Rattle.msg_head.proofs.OneHeads.{spelled_front}
+
+-- ---- a needle by its places, and as a part
+
+occurs_there : (front needle more bytes : List ℕ) → bytes ≡ front ++ (needle ++ more) → OccursAt bytes needle (length front)
+occurs_there front needle more bytes e = record {
+  fits = omega (arith, ap (length {A = ℕ}) e, length-append front (needle ++ more), length-append needle more);
+  reads = λ j low. ap (λ (x : List ℕ). get_or x (length front + j) 0) e ∙ get_or-append-add front (needle ++ more) j 0 ∙ get_or-append needle more 0 j low;
+}
+
+-- what an answer of `is_none` says
+pub none_is : {X : Type 0} (found : Option X) (none : Bool) → is_some found ≡ not none → is_none found ≡ none
+none_is None true e = refl
+none_is None false e = absurd (false≢true e)
+none_is (Some k) true e = absurd (false≢true (sym e))
+none_is (Some k) false e = refl
+
+-- where the search finds no empty line, the end isn't there
+pub unfinished_is : (bytes : List ℕ) (found : Option ℕ) → FindsNeedle bytes (codes "\r\n\r\n") 0 found → length bytes < 65536 → IsTrue (is_none found) ↔ IsUnfinished bytes
+unfinished_is bytes None h short = (
+  λ _. record {
+    no_end = λ front more e.
+        h (length front) (omega arith) (omega (arith, ap (length {A = ℕ}) e, length-append front (codes "\r\n\r\n" ++ more))) (occurs_there front (codes "\r\n\r\n") more bytes e);
+    short = short;
+  },
+  λ _. refl,
+)
+unfinished_is bytes (Some k) h short = (
+  λ e. absurd (false≢true e),
+  λ u. absurd (u.no_end (take k bytes) (drop (k + 4) bytes) (sym (take-append-drop k bytes) ∙ ap (λ (x : List ℕ). take k bytes ++ x) (OccursAt-split bytes (codes "\r\n\r\n") k h.1))),
+)
+
+-- ---- each head has its end
+
+-- the text ends with a line's end
+record EndsLine (text : List ℕ) : Type 0 where
+  pub front : List ℕ
+  pub is : text ≡ front ++ 13 ∷ 10 ∷ []
+
+line_ends : (line : FieldLine) → EndsLine (line_text line)
+line_ends line = record {
+  front = line.0 ++ 58 ∷ line.1;
+  is = sym (append_assoc line.0 (58 ∷ line.1) (13 ∷ 10 ∷ []));
+}
+
+start_ends : (start : StartLine) → EndsLine (start_text start)
+start_ends (request line) = record {
+  front = line.method ++ 32 ∷ (line.target ++ 32 ∷ line.version);
+  is =
+      sym (append_assoc line.method (32 ∷ (line.target ++ 32 ∷ line.version)) (13 ∷ 10 ∷ [])
+      ∙ ap (λ (x : List ℕ). line.method ++ 32 ∷ x) (append_assoc line.target (32 ∷ line.version) (13 ∷ 10 ∷ [])));
+}
+
+ends_behind : (front text : List ℕ) → EndsLine text → EndsLine (front ++ text)
+ends_behind front text e = record { front = front ++ e.front; is = ap (λ (x : List ℕ). front ++ x) e.is ∙ sym (append_assoc front e.front (13 ∷ 10 ∷ [])) }
+
+lines_end : (text : List ℕ) (lines : List FieldLine) → EndsLine text → EndsLine (text ++ flat_map line_text lines)
+lines_end text [] e = record { front = e.front; is = append-nil text ∙ e.is }
+lines_end text (l ∷ ls) e =
+    let all = lines_end (text ++ line_text l) ls (ends_behind text (line_text l) (line_ends l)) in
+    record { front = all.front; is = sym (append_assoc text (line_text l) (flat_map line_text ls)) ∙ all.is }
+
+-- a head's text ends with an empty line, so bytes that begin with a head aren't unfinished
+pub head_has_end : (head : Head) (used : ℕ) (bytes : List ℕ) → SpellsHead head used bytes → IsUnfinished bytes → ⊥
+head_has_end head used bytes s u =
+    let all = lines_end (start_text head.start) head.lines (start_ends head.start) in
+    let text : head_text head ≡ all.front ++ codes "\r\n\r\n" =
+    sym (append_assoc (start_text head.start) (flat_map line_text head.lines) (13 ∷ 10 ∷ []))
+    ∙ ap (λ (x : List ℕ). x ++ 13 ∷ 10 ∷ []) all.is
+    ∙ append_assoc all.front (13 ∷ 10 ∷ []) (13 ∷ 10 ∷ []) in
+    u.no_end all.front (drop used bytes)
+    (spelled_front head used bytes s ∙ ap (λ (x : List ℕ). x ++ drop used bytes) text ∙ append_assoc all.front (codes "\r\n\r\n") (drop used bytes))
