@@ -1,24 +1,20 @@
 -- A bare item that is read is one, and one is read.
-use Rattle.std.proofs.Common.{◌≡◌, ℕ, zero, suc, ◌+◌, ◌≤◌, ◌<◌, ◌&&◌, ◌||◌, Bool, true, false, not, cond, eqb, List, [], ◌∷◌, ◌++◌, length, Option, Some, None, Result, Ok, Err, refl, sym, ap, subst, ◌∙◌, append_assoc, arith, inl, inr, ◌⊎◌}
+use Rattle.std.proofs.Common.{◌≡◌, ℕ, ◌&&◌, ◌||◌, Bool, true, false, not, eqb, List, [], ◌∷◌, ◌++◌, Some, None, refl, sym, ap, subst, ◌∙◌, arith, inl, inr, ◌⊎◌}
 use Rattle.std.specs.List.{list_all}
 use Rattle.std.proofs.lemmas.Bool.{eqb-true}
 use Rattle.std.proofs.lemmas.Bool.Decides.{nat_tests}
-use Rattle.std.proofs.lemmas.List.{append-nil, length-append}
-use Rattle.byte_grammar.specs.Language.{Begins, Then, Turns, Mapped, Optional, Among, IsByte, IsRun, IsAll, IsWord, Padded}
-use Rattle.byte_grammar.specs.Walk.{◌>>=◌, left, Next, turned, is_of, byte_read, all_read, word_read, optional_read, turns_read, padded_read}
-use Rattle.sfv_read.specs.BareItem.{IsInteger, IsDecimal, IsString, IsBoolean, IsBareItem, IsByteSequence}
-use Rattle.sfv_read.specs.BareWalk.{number_read, string_read, bare_kind, truth_read, bare_by, bare_read}
-use Rattle.sfv_text.specs.Range.{is_token_first, is_token_rest, is_key_first, is_key_rest}
-use Rattle.sfv_read.specs.Class.{is_digit, is_bit, is_minus, is_dot, is_quote, is_question, is_equals, is_semicolon, is_space}
-use Rattle.sfv_read.specs.Item.{IsKey, IsValue, IsParameter, AreParameters, kept, IsItem}
-use Rattle.sfv_read.specs.ItemWalk.{equals_read, value_or, value_read, param_read, param_turn, params_read, item_read}
-use Rattle.sfv_text.specs.Keys.{put}
+use Rattle.std.proofs.lemmas.List.{append-nil}
+use Rattle.byte_grammar.specs.Language.{Then, Mapped, Among, IsByte, IsRun, IsWord}
+use Rattle.byte_grammar.specs.Walk.{Next}
+use Rattle.sfv_read.specs.BareItem.{IsString, IsBoolean, IsBareItem, IsByteSequence}
+use Rattle.sfv_read.specs.BareWalk.{bare_kind, truth_read, bare_by, bare_read}
+use Rattle.sfv_text.specs.Range.{is_token_first, is_token_rest}
+use Rattle.sfv_read.specs.Class.{is_digit, is_bit, is_minus, is_dot, is_quote, is_question, is_space}
 use Rattle.sfv_text.specs.declared.value.BareItem.{BareItem}
 use Rattle.sfv_text.specs.declared.value.BareItem.TheVariants.{Integer, Decimal, Str, Token, Bytes, Bool as Boolean}
 use Rattle.sfv_read.specs.declared.bare.BareKind.{BareKind}
 use Rattle.sfv_read.specs.declared.bare.BareKind.TheVariants.{Number, Quoted, Word, Octets, Truth}
-use Rattle.byte_grammar.proofs.Laws.{Meets, Starts, Heads, meets_then, meets_as, meets_byte, meets_all, meets_word, meets_optional, optional_follow, meets_pick, meets_turns, meets_each, meets_same, meets_map, and_is, any_next, of_each, apart, starts_next, run_starts, next_more, starts_length, turns_step, shorter}
-use Rattle.byte_grammar.proofs.Whole.{Nothing, meets_padded}
+use Rattle.byte_grammar.proofs.Laws.{Meets, Starts, Heads, meets_then, meets_byte, meets_word, meets_pick, meets_same, meets_map, and_is, any_next, of_each}
 use Rattle.sfv_read.proofs.Numbers.{ends, End, IsNumber, meets_number}
 use Rattle.sfv_read.proofs.Strings.{meets_string}
 use Rattle.sfv_read.proofs.Letters.{meets_bytes}

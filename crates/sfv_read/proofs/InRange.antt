@@ -1,10 +1,10 @@
 -- What is read is in range.
-use Rattle.std.proofs.Common.{◌≡◌, ℕ, zero, suc, ◌+◌, ◌-◌, ◌*◌, ◌^◌, ◌<◌, ◌≤◌, ℤ, pos, neg_ℤ, Bool, true, false, ◌&&◌, List, [], ◌∷◌, ◌++◌, length, refl, sym, ap, subst, ◌∙◌, arith, inl, inr, ◌⊎◌}
+use Rattle.std.proofs.Common.{◌≡◌, ℕ, zero, suc, ◌+◌, ◌-◌, ◌*◌, ◌^◌, ◌<◌, ◌≤◌, ℤ, Bool, true, ◌&&◌, List, [], ◌∷◌, ◌++◌, length, refl, sym, ap, subst, ◌∙◌, arith, inl, inr, ◌⊎◌}
 use Rattle.std.specs.Prelude.{unsigned_abs}
 use Rattle.std.specs.List.{list_all}
 use Rattle.std.proofs.lemmas.Bool.{lt-ltb}
 use Rattle.std.proofs.lemmas.Bool.Decides.{nat_tests}
-use Rattle.byte_grammar.specs.Language.{IsWord, IsRun, Each, Padded, after_all}
+use Rattle.byte_grammar.specs.Language.{IsWord, Each, after_all}
 use Rattle.byte_grammar.proofs.Laws.{and_is}
 use Rattle.sfv_text.specs.declared.value.BareItem.{BareItem}
 use Rattle.sfv_text.specs.declared.value.BareItem.TheVariants.{Integer, Decimal, Str, Token, Bytes, Bool as Boolean}
@@ -14,11 +14,11 @@ use Rattle.sfv_text.specs.declared.value.Member.{Member}
 use Rattle.sfv_text.specs.declared.value.Member.TheVariants.{Item as One, InnerList as Several}
 use Rattle.sfv_text.specs.declared.pair.Pair.{Pair}
 use Rattle.sfv_text.specs.Keys.{have_distinct_keys, put}
-use Rattle.sfv_text.specs.Range.{is_word, is_token_first, is_token_rest, is_key_first, is_key_rest, is_key, is_number_in_range, is_bare_in_range, is_param_in_range, are_params_in_range, is_item_in_range, is_inner_in_range, is_member_in_range, is_list_in_range, is_entry_in_range, is_dict_in_range}
+use Rattle.sfv_text.specs.Range.{is_word, is_token_first, is_token_rest, is_key_first, is_key_rest, is_number_in_range, is_bare_in_range, is_param_in_range, are_params_in_range, is_item_in_range, is_inner_in_range, is_member_in_range, is_list_in_range, is_entry_in_range, is_dict_in_range}
 use Rattle.sfv_text.proofs.PutLaws.{put_distinct, put_kept}
-use Rattle.sfv_read.specs.Class.{is_digit, is_space}
+use Rattle.sfv_read.specs.Class.{is_digit}
 use Rattle.sfv_read.specs.BareItem.{spelled, spelled_from, signed, IsInteger, IsDecimal, IsBareItem}
-use Rattle.sfv_read.specs.Item.{IsKey, IsValue, IsParameter, AreParameters, put_pair, kept, IsItem}
+use Rattle.sfv_read.specs.Item.{IsValue, IsParameter, AreParameters, put_pair, kept, IsItem}
 use Rattle.sfv_read.specs.Inner.{IsSpaced, AreItems, IsInner}
 use Rattle.sfv_read.specs.Member.{IsMember, IsPair, IsFurther, AreMembers, Parted, true_item}
 use Rattle.sfv_read.specs.Reads.{ReadsItem, ReadsInner, ReadsList, ReadsDict}

@@ -1,18 +1,15 @@
 -- An inner list that is read is one, and one is read.
-use Rattle.std.proofs.Common.{◌≡◌, ℕ, zero, suc, ◌+◌, ◌≤◌, ◌<◌, ◌&&◌, ◌||◌, Bool, true, false, not, cond, eqb, List, [], ◌∷◌, ◌++◌, length, Option, Some, None, Result, Ok, Err, refl, sym, ap, subst, ◌∙◌, append_assoc, arith, inl, inr, ◌⊎◌}
+use Rattle.std.proofs.Common.{◌≡◌, ℕ, ◌<◌, Bool, true, not, List, [], ◌∷◌, ◌++◌, length, Option, Some, None, Ok, refl, sym, ap, subst, ◌∙◌, append_assoc, inl, inr, ◌⊎◌}
 use Rattle.std.specs.List.{list_all}
 use Rattle.std.proofs.lemmas.Bool.{eqb-true}
-use Rattle.std.proofs.lemmas.List.{append-nil, length-append}
 use Rattle.std.proofs.lemmas.List.Folds.{list_all-append}
-use Rattle.byte_grammar.specs.Language.{Begins, Then, Turns, Mapped, Each, IsByte, IsAll, Padded}
-use Rattle.byte_grammar.specs.Walk.{◌>>=◌, left, Next, turned, is_of, byte_read, all_read, turns_read, padded_read}
+use Rattle.byte_grammar.specs.Language.{Then, Turns, Mapped, Each, IsByte, IsAll, Padded}
+use Rattle.byte_grammar.specs.Walk.{◌>>=◌, Next, turned, is_of, turns_read, padded_read}
 use Rattle.sfv_read.specs.Class.{is_space, is_open, is_close}
 use Rattle.sfv_read.specs.Inner.{IsSpaced, AreItems, IsInner}
 use Rattle.sfv_read.specs.InnerWalk.{close_only, some_item, item_or_close, after_gap, inner_turn, items_after, items_read, inner_read}
-use Rattle.sfv_read.specs.Item.{IsItem, AreParameters, kept}
-use Rattle.sfv_read.specs.ItemWalk.{item_read, params_read}
+use Rattle.sfv_read.specs.Item.{IsItem, kept}
 use Rattle.sfv_text.specs.declared.value.BareItem.{BareItem}
-use Rattle.sfv_text.specs.declared.value.BareItem.TheVariants.{Bool as Boolean}
 use Rattle.byte_grammar.proofs.Whole.{Nothing, meets_padded}
 use Rattle.byte_grammar.proofs.Laws.{Meets, Starts, meets_then, meets_byte, meets_all, meets_choose, meets_done, meets_turns, meets_same, meets_map, and_is, any_next, of_each, starts_next, starts_length, turns_step, shorter}
 use Rattle.sfv_read.proofs.BareItems.{kind_blank, kind_close}

@@ -1,26 +1,21 @@
 -- Parameters and Items: what is read is one, and one is read.
-use Rattle.std.proofs.Common.{◌≡◌, ℕ, zero, suc, ◌+◌, ◌≤◌, ◌<◌, ◌&&◌, ◌||◌, Bool, true, false, not, cond, eqb, List, [], ◌∷◌, ◌++◌, length, Option, Some, None, Result, Ok, Err, refl, sym, ap, subst, ◌∙◌, append_assoc, arith, inl, inr, ◌⊎◌}
+use Rattle.std.proofs.Common.{◌≡◌, ℕ, ◌<◌, Bool, true, not, List, [], ◌∷◌, ◌++◌, length, Option, Some, None, Ok, refl, sym, ap, subst, ◌∙◌, append_assoc, inl, inr}
 use Rattle.std.specs.List.{list_all}
 use Rattle.std.proofs.lemmas.Bool.{eqb-true}
-use Rattle.std.proofs.lemmas.Bool.Decides.{nat_tests}
-use Rattle.std.proofs.lemmas.List.{append-nil, length-append}
-use Rattle.byte_grammar.specs.Language.{Begins, Then, Turns, Mapped, Optional, Among, IsByte, IsRun, IsAll, IsWord, Padded}
-use Rattle.byte_grammar.specs.Walk.{◌>>=◌, left, Next, turned, is_of, byte_read, all_read, word_read, optional_read, turns_read, padded_read}
-use Rattle.sfv_read.specs.BareItem.{IsInteger, IsDecimal, IsString, IsBoolean, IsBareItem}
-use Rattle.sfv_read.specs.BareWalk.{number_read, string_read, bare_kind, truth_read, bare_by, bare_read}
-use Rattle.sfv_text.specs.Range.{is_token_first, is_token_rest, is_key_first, is_key_rest}
-use Rattle.sfv_read.specs.Class.{is_digit, is_bit, is_minus, is_dot, is_quote, is_question, is_equals, is_semicolon, is_space}
+use Rattle.byte_grammar.specs.Language.{Then, Mapped, Optional, IsByte, IsAll, IsWord, Padded}
+use Rattle.byte_grammar.specs.Walk.{◌>>=◌, Next, turned, is_of, turns_read, padded_read}
+use Rattle.sfv_read.specs.BareItem.{IsBareItem}
+use Rattle.sfv_read.specs.BareWalk.{bare_kind}
+use Rattle.sfv_text.specs.Range.{is_key_first, is_key_rest}
+use Rattle.sfv_read.specs.Class.{is_equals, is_semicolon, is_space}
 use Rattle.sfv_read.specs.Item.{IsKey, IsValue, IsParameter, AreParameters, kept, IsItem}
 use Rattle.sfv_read.specs.ItemWalk.{equals_read, value_or, value_read, param_read, param_turn, params_read, item_read}
-use Rattle.sfv_text.specs.Keys.{put}
 use Rattle.sfv_text.specs.declared.value.BareItem.{BareItem}
-use Rattle.sfv_text.specs.declared.value.BareItem.TheVariants.{Integer, Decimal, Str, Token, Bytes, Bool as Boolean}
+use Rattle.sfv_text.specs.declared.value.BareItem.TheVariants.{Bool as Boolean}
 use Rattle.sfv_read.specs.declared.bare.BareKind.{BareKind}
-use Rattle.sfv_read.specs.declared.bare.BareKind.TheVariants.{Number, Quoted, Word, Truth}
-use Rattle.byte_grammar.proofs.Laws.{Meets, Starts, Heads, meets_then, meets_as, meets_byte, meets_all, meets_word, meets_optional, optional_follow, meets_pick, meets_turns, meets_each, meets_same, meets_map, and_is, any_next, of_each, apart, starts_next, run_starts, next_more, starts_length, turns_step, shorter}
+use Rattle.byte_grammar.proofs.Laws.{Meets, Starts, meets_then, meets_byte, meets_all, meets_word, meets_optional, optional_follow, meets_each, meets_same, meets_map, any_next, of_each, apart, starts_next, next_more, starts_length, turns_step, shorter}
 use Rattle.byte_grammar.proofs.Whole.{Nothing, meets_padded}
-use Rattle.sfv_read.proofs.Numbers.{ends, End, meets_number}
-use Rattle.sfv_read.proofs.Strings.{meets_string}
+use Rattle.sfv_read.proofs.Numbers.{ends, End}
 use Rattle.sfv_text.specs.declared.value.Item.{Item}
 use Rattle.sfv_text.specs.declared.pair.Pair.{Pair}
 use Rattle.sfv_read.specs.ItemWalk.{pair_of, item_of, key_read}

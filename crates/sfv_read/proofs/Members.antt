@@ -1,22 +1,19 @@
 -- Lists and dictionaries: what is read is one, and one is read.
-use Rattle.std.proofs.Common.{◌≡◌, ℕ, ◌&&◌, ◌||◌, Bool, true, false, not, cond, eqb, List, [], ◌∷◌, ◌++◌, length, Option, Some, None, Result, Ok, Err, refl, sym, ap, subst, ◌∙◌, append_assoc, ◌<◌, arith, inl, inr, ◌⊎◌}
+use Rattle.std.proofs.Common.{◌≡◌, ℕ, ◌||◌, Bool, true, false, not, eqb, List, [], ◌∷◌, ◌++◌, length, Option, Some, None, Result, Ok, Err, refl, sym, ap, subst, ◌∙◌, ◌<◌, inl, inr, ◌⊎◌}
 use Rattle.std.proofs.lemmas.Bool.{eqb-true}
-use Rattle.std.proofs.lemmas.Bool.Decides.{nat_tests}
 use Rattle.std.proofs.lemmas.List.{append-nil}
-use Rattle.byte_grammar.specs.Language.{Then, Mapped, Optional, IsByte, IsWord}
+use Rattle.byte_grammar.specs.Language.{Then, Mapped, Optional}
 use Rattle.byte_grammar.specs.Walk.{◌>>=◌, Next, is_of, optional_read, all_read, turned, turns_read, with_state}
 use Rattle.sfv_read.specs.BareWalk.{bare_kind}
 use Rattle.sfv_text.specs.Range.{is_key_first, is_key_rest}
 use Rattle.sfv_read.specs.Class.{is_equals, is_open, is_blank, is_space}
 use Rattle.sfv_read.specs.Inner.{IsInner}
 use Rattle.sfv_read.specs.Item.{IsItem, IsKey, AreParameters, kept, put_pair}
-use Rattle.sfv_read.specs.ItemWalk.{params_read}
 use Rattle.sfv_read.specs.Member.{IsMember, IsPair, true_item}
 use Rattle.sfv_read.specs.MemberWalk.{parted_read, several_read, one_read, member_read, equals_member, member_or, pair_value, pair_read, list_read, dict_read, parted_turn, members_read, some_members, list_of, pairs_read, some_pairs}
 use Rattle.sfv_text.specs.declared.value.BareItem.{BareItem}
-use Rattle.sfv_text.specs.declared.value.BareItem.TheVariants.{Bool as Boolean}
 use Rattle.sfv_read.specs.declared.bare.BareKind.{BareKind}
-use Rattle.byte_grammar.proofs.Laws.{Meets, Starts, meets_then, meets_byte, meets_word, meets_optional, optional_follow, meets_choose, meets_done, meets_same, meets_map, any_next, next_more, of_each, apart}
+use Rattle.byte_grammar.proofs.Laws.{Meets, Starts, meets_then, meets_byte, meets_optional, optional_follow, meets_choose, meets_done, meets_same, meets_map, any_next, of_each, apart}
 use Rattle.sfv_text.specs.declared.value.Item.{Item}
 use Rattle.sfv_text.specs.declared.value.InnerList.{InnerList}
 use Rattle.sfv_text.specs.declared.value.Member.{Member}

@@ -1,16 +1,15 @@
 -- A number that is read is one, and a number is read.
-use Rattle.std.proofs.Common.{◌≡◌, ℕ, suc, ◌+◌, ◌≤◌, ◌&&◌, Bool, true, false, not, cond, ltb, eqb, List, [], ◌∷◌, ◌++◌, length, Option, Some, None, Result, Ok, Err, refl, sym, ap, subst, ◌∙◌, append_assoc, ℤ, arith}
-use Rattle.std.specs.List.{list_all}
+use Rattle.std.proofs.Common.{◌≡◌, ℕ, suc, ◌≤◌, ◌&&◌, Bool, true, false, not, cond, ltb, eqb, List, [], ◌∷◌, ◌++◌, length, Option, Some, None, Result, Ok, refl, sym, ap, subst, ◌∙◌, append_assoc, ℤ, arith}
 use Rattle.std.proofs.lemmas.List.{length-append, append-nil}
-use Rattle.std.proofs.lemmas.Bool.{ltb-false, ltb-true, le-ltb, lt-ltb, eqb-true}
-use Rattle.byte_grammar.specs.Language.{Begins, Then, IsRun, IsByte, Optional, Mapped}
-use Rattle.byte_grammar.specs.Walk.{◌>>=◌, left, Next, is_of, run_read, byte_read, optional_read}
+use Rattle.std.proofs.lemmas.Bool.{ltb-false, ltb-true, eqb-true}
+use Rattle.byte_grammar.specs.Language.{Then, IsRun, Optional, Mapped}
+use Rattle.byte_grammar.specs.Walk.{◌>>=◌, Next, is_of, run_read, optional_read}
 use Rattle.sfv_read.specs.BareItem.{IsInteger, IsDecimal}
 use Rattle.sfv_read.specs.BareWalk.{number_of, part_read, fraction_read, number_read}
 use Rattle.sfv_read.specs.Class.{is_digit, is_minus, is_dot}
 use Rattle.sfv_text.specs.declared.value.BareItem.{BareItem}
 use Rattle.sfv_text.specs.declared.value.BareItem.TheVariants.{Integer, Decimal, Str, Token, Bytes, Bool as Boolean}
-use Rattle.byte_grammar.proofs.Laws.{Meets, Starts, meets_then, meets_as, meets_optional, meets_byte, meets_run, of_each, apart, starts_next, any_next, run_starts, not_err, ok_is, and_is, optional_follow, the_ok, next_more, meets_same, meets_map}
+use Rattle.byte_grammar.proofs.Laws.{Meets, Starts, meets_then, meets_optional, meets_byte, meets_run, apart, starts_next, any_next, run_starts, not_err, ok_is, and_is, optional_follow, next_more, meets_same, meets_map}
 
 -- what may follow a bare item or a key
 abbrev pub ends : List ℕ

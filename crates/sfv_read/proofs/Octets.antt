@@ -1,14 +1,14 @@
 -- A byte sequence's letters that are read are such, and such are read.
-use Rattle.std.proofs.Common.{◌≡◌, ℕ, zero, suc, ◌+◌, ◌-◌, ◌≤◌, ◌<◌, ◌&&◌, ◌||◌, Bool, true, false, not, cond, eqb, List, [], ◌∷◌, ◌++◌, length, replicate, Option, Some, None, Result, Ok, Err, refl, sym, ap, subst, ◌∙◌, append_assoc, arith, inl, inr, ◌⊎◌}
+use Rattle.std.proofs.Common.{◌≡◌, ℕ, zero, suc, ◌≤◌, ◌<◌, Bool, true, false, not, cond, eqb, List, [], ◌∷◌, ◌++◌, length, replicate, Option, Some, None, Result, Ok, Err, refl, sym, ap, subst, ◌∙◌, append_assoc, arith, inl, inr, ◌⊎◌}
 use Rattle.std.specs.List.{list_all}
 use Rattle.std.proofs.lemmas.Bool.{eqb-true}
 use Rattle.std.proofs.lemmas.List.{append-nil, length-append}
 use Rattle.std.proofs.lemmas.List.Folds.{list_all-append}
-use Rattle.byte_grammar.specs.Language.{Begins, Then, Mapped, Optional, IsByte, IsRun, IsAll}
-use Rattle.byte_grammar.specs.Walk.{◌>>=◌, left, Next, byte_read, all_read, run_read, optional_read}
+use Rattle.byte_grammar.specs.Language.{Begins, Then, Mapped, Optional, IsRun, IsAll}
+use Rattle.byte_grammar.specs.Walk.{◌>>=◌, Next, all_read, run_read, optional_read}
 use Rattle.sfv_read.specs.BareWalk.{pads, are_whole, filling_of, filling_read, close_read, end_read, decoded, bytes_end, bytes_read}
 use Rattle.sfv_read.specs.Class.{is_base64, is_colon, is_equals}
-use Rattle.byte_grammar.proofs.Laws.{Meets, Partly, partly, Starts, meets_then, meets_then_with, meets_byte, meets_run, meets_all, meets_optional, optional_follow, meets_same, meets_map, and_is, any_next, run_starts, next_more, ok_is, not_err, bind_err, left_less}
+use Rattle.byte_grammar.proofs.Laws.{Meets, Partly, partly, Starts, meets_then, meets_then_with, meets_byte, meets_run, meets_all, meets_optional, optional_follow, meets_same, meets_map, and_is, any_next, run_starts, ok_is, not_err, bind_err}
 
 -- colons round letters, with all of the `=` that fill the last group or none, by the bytes that they spell
 pub record IsOctets (text bytes : List ℕ) : Type 0 where

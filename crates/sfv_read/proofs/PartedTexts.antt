@@ -1,12 +1,12 @@
 -- Members parted by commas, as a whole text: once for every kind of member.
-use Rattle.std.proofs.Common.{◌≡◌, ℕ, zero, suc, ◌+◌, ◌≤◌, ◌<◌, ◌&&◌, ◌||◌, Bool, true, false, not, cond, eqb, List, [], ◌∷◌, ◌++◌, length, Option, Some, None, Result, Ok, Err, refl, sym, ap, subst, ◌∙◌, append_assoc, arith, inl, inr, ◌⊎◌}
+use Rattle.std.proofs.Common.{◌≡◌, ℕ, ◌<◌, ◌||◌, Bool, true, false, not, eqb, List, [], ◌∷◌, ◌++◌, length, Option, Some, None, Result, Ok, refl, sym, ap, subst, ◌∙◌, append_assoc, arith}
 use Rattle.std.specs.List.{list_all}
 use Rattle.std.proofs.lemmas.Bool.{eqb-true}
 use Rattle.std.proofs.lemmas.List.{append-nil, length-append}
-use Rattle.byte_grammar.specs.Language.{Begins, Then, Turns, Mapped, Optional, Each, IsByte, IsAll}
-use Rattle.byte_grammar.specs.Walk.{◌>>=◌, left, Next, turned, byte_read, all_read, optional_read, turns_read}
+use Rattle.byte_grammar.specs.Language.{Then, Turns, Mapped, Optional, Each, IsByte, IsAll}
+use Rattle.byte_grammar.specs.Walk.{◌>>=◌, Next, turned, turns_read}
 use Rattle.sfv_read.specs.Class.{is_space, is_comma, is_blank}
-use Rattle.sfv_read.specs.Member.{IsFurther, AreMembers, Parted}
+use Rattle.sfv_read.specs.Member.{IsFurther, Parted}
 use Rattle.sfv_read.specs.MemberWalk.{further_read, parted_turn, members_read, list_of, some_members, parted_read}
 use Rattle.byte_grammar.proofs.Laws.{Meets, Starts, meets_then, meets_byte, meets_all, meets_optional, optional_follow, meets_turns, meets_same, meets_map, and_is, any_next, starts_next, starts_length, turns_step, shorter}
 use Rattle.byte_grammar.proofs.Whole.{Nothing}

@@ -1,9 +1,9 @@
 -- The strict text of a value in range reads as that value.
-use Rattle.std.proofs.Common.{◌≡◌, ℕ, zero, suc, ◌+◌, ◌-◌, ◌*◌, ◌/◌, ◌%◌, ◌^◌, ◌<◌, ◌≤◌, ℤ, pos, negsuc, Bool, true, false, not, cond, eqb, ◌&&◌, ◌||◌, List, [], ◌∷◌, ◌++◌, length, codes, refl, sym, ap, subst, ◌∙◌, arith, inl, inr, ◌⊎◌, append_assoc}
+use Rattle.std.proofs.Common.{◌≡◌, ℕ, ◌+◌, ◌-◌, ◌*◌, ◌/◌, ◌%◌, ◌^◌, ◌<◌, ◌≤◌, ℤ, pos, negsuc, Bool, true, false, cond, eqb, ◌||◌, List, [], ◌∷◌, ◌++◌, length, codes, refl, sym, ap, ◌∙◌, arith, inl, inr, ◌⊎◌, append_assoc}
 use Rattle.std.specs.Prelude.{unsigned_abs}
 use Rattle.std.specs.Fmt.{decimal}
 use Rattle.std.specs.List.{list_all, list_any, flat_map, join_by}
-use Rattle.std.proofs.lemmas.Bool.{ltb-true, eqb-true, eqb-false}
+use Rattle.std.proofs.lemmas.Bool.{ltb-true, eqb-true}
 use Rattle.std.proofs.lemmas.Bool.Decides.{nat_tests}
 use Rattle.std.proofs.lemmas.Fmt.{decimal_by_steps, length-decimal-le}
 use Rattle.std.proofs.lemmas.List.{append-nil, length-append}
@@ -23,7 +23,7 @@ use Rattle.sfv_text.specs.Strict.{sign_text, integer_text, fraction_text, decima
 use Rattle.sfv_text.proofs.PutLaws.{bytes_eq-sym, distinct_parts, put_new}
 use Rattle.sfv_read.specs.Class.{is_digit, is_minus, is_space}
 use Rattle.sfv_read.specs.BareItem.{spelled, spelled_from, signed, IsInteger, IsDecimal, IsBareItem}
-use Rattle.sfv_read.specs.Item.{IsKey, IsValue, IsParameter, AreParameters, put_pair, kept, IsItem}
+use Rattle.sfv_read.specs.Item.{IsValue, IsParameter, AreParameters, put_pair, kept, IsItem}
 use Rattle.sfv_read.specs.Inner.{IsSpaced, AreItems, IsInner}
 use Rattle.sfv_read.specs.Member.{IsMember, IsPair, IsFurther, AreMembers, Parted, true_item}
 use Rattle.sfv_read.specs.Reads.{ReadsItem, ReadsInner, ReadsList, ReadsDict}

@@ -1,19 +1,18 @@
 -- A string that is read is one, and a string is read.
-use Rattle.std.proofs.Common.{◌≡◌, ℕ, zero, suc, ◌+◌, ◌≤◌, ◌<◌, ◌&&◌, ◌||◌, Bool, true, false, not, cond, eqb, List, [], ◌∷◌, ◌++◌, length, Option, Some, None, Result, Ok, Err, refl, sym, ap, subst, ◌∙◌, append_assoc, arith}
+use Rattle.std.proofs.Common.{◌≡◌, ℕ, ◌<◌, ◌&&◌, ◌||◌, Bool, true, false, not, cond, eqb, List, [], ◌∷◌, ◌++◌, length, Option, Some, None, Ok, refl, sym, ap, subst, ◌∙◌, append_assoc, arith}
 use Rattle.std.specs.List.{list_all, flat_map}
 use Rattle.std.proofs.lemmas.Bool.{eqb-true}
-use Rattle.std.proofs.lemmas.List.{append-nil}
-use Rattle.byte_grammar.specs.Language.{Begins, Then, Turns, Mapped, Among, IsByte}
-use Rattle.byte_grammar.specs.Walk.{◌>>=◌, left, Next, turned, byte_read, turns_read}
+use Rattle.byte_grammar.specs.Language.{Then, Turns, Mapped, Among, IsByte}
+use Rattle.byte_grammar.specs.Walk.{◌>>=◌, turned, turns_read}
 use Rattle.std.proofs.lemmas.Bool.Decides.{nat_tests}
 use Rattle.sfv_text.specs.Range.{is_string_byte}
 use Rattle.sfv_text.specs.Strict.{character_text}
 use Rattle.sfv_read.specs.BareItem.{IsString}
-use Rattle.sfv_read.specs.BareWalk.{char_kind, char_by, char_read, chars_read, string_read}
-use Rattle.sfv_read.specs.Class.{is_unescaped, is_escapable, between, is_quote, is_backslash}
+use Rattle.sfv_read.specs.BareWalk.{char_kind, char_by, char_read, string_read}
+use Rattle.sfv_read.specs.Class.{is_unescaped, is_escapable, is_quote, is_backslash}
 use Rattle.sfv_read.specs.declared.string.CharKind.{CharKind}
 use Rattle.sfv_read.specs.declared.string.CharKind.TheVariants.{Finish, Escape, Plain}
-use Rattle.byte_grammar.proofs.Laws.{Meets, Starts, Heads, meets_then, meets_as, meets_byte, meets_pick, meets_turns, meets_same, meets_map, and_is, any_next, turns_step, shorter}
+use Rattle.byte_grammar.proofs.Laws.{Meets, Heads, meets_then, meets_byte, meets_pick, meets_turns, meets_same, meets_map, and_is, any_next, turns_step, shorter}
 
 -- a character, or the quote at the end
 pub IsChar : List ℕ → Option ℕ → Type 0

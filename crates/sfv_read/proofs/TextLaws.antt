@@ -1,8 +1,7 @@
 -- The laws of texts, from a reading of whole texts.
-use Rattle.std.proofs.Common.{◌≡◌, ◌↔◌, ℕ, Bool, true, List, ◌++◌, Result, sym, ap, subst, append_assoc, ◌∙◌}
+use Rattle.std.proofs.Common.{◌≡◌, ◌↔◌, ℕ, Bool, true, List, ◌++◌, Result, sym, ap, subst, append_assoc}
 use Rattle.byte_grammar.specs.Language.{Begins}
 use Rattle.byte_grammar.proofs.Whole.{Judges, one_value}
-use Rattle.sfv_read.specs.Laws.{BeginsShorter, IsToldByText}
 
 pub begins_shorter : {V : Type 0} (L : List ℕ → V → Type 0) (front more : List ℕ) → Begins L (front ++ more) → Begins L front
 begins_shorter L front more b = (more ++ b.0, b.1, subst (λ (y : List ℕ). L y b.1) (append_assoc front more b.0) b.2)

@@ -1,15 +1,10 @@
 -- What a reading of whole texts tells of the texts that are read.
-use Rattle.std.proofs.Common.{◌≡◌, ℕ, ◌+◌, ◌-◌, ◌≤◌, ◌<◌, Bool, List, [], ◌∷◌, ◌++◌, length, take, drop, Result, Ok, Err, refl, sym, ap, subst, ◌∙◌, arith}
+use Rattle.std.proofs.Common.{ℕ, ◌+◌, ◌≤◌, ◌<◌, Bool, List, [], ◌∷◌, ◌++◌, length, take, Result, Ok, Err, sym, subst, ◌∙◌}
 use Rattle.std.specs.Prelude.{IfOk, IfErr, IsTrue}
-use Rattle.byte_grammar.specs.Language.{Begins, Padded}
+use Rattle.byte_grammar.specs.Language.{Begins}
 use Rattle.byte_grammar.specs.Place.{IsPlace}
-use Rattle.byte_grammar.specs.Walk.{whole_read, padded_read}
 use Rattle.byte_grammar.proofs.Laws.{ok_is}
 use Rattle.byte_grammar.proofs.Whole.{Judges, judges}
-use Rattle.sfv_text.specs.declared.value.Item.{Item}
-use Rattle.sfv_text.specs.declared.value.InnerList.{InnerList}
-use Rattle.sfv_text.specs.declared.value.Member.{Member}
-use Rattle.sfv_text.specs.declared.pair.Pair.{Pair}
 use Rattle.sfv_read.specs.declared.fault.SfError.{SfError}
 use Rattle.sfv_read.specs.declared.fault.SfError.TheVariants.{Memory, Syntax, ItemKind}
 use Rattle.sfv_read.specs.declared.stop.Stop.{Stop}

@@ -1,7 +1,6 @@
 -- What a reader of a whole text answers.
 use Rattle.std.specs.Prelude.{◌≡◌, ℕ, true, List, [], ◌∷◌, ◌++◌, take, drop, Result, Ok, Err}
 use Rattle.byte_grammar.specs.Language.{starts_in, Begins}
-
 use Rattle.sfv_read.specs.Class.{is_marker}
 use Rattle.sfv_read.specs.declared.fault.SfError.{SfError}
 use Rattle.sfv_read.specs.declared.fault.SfError.TheVariants.{Memory, Syntax, ItemKind}

@@ -1,4 +1,4 @@
-use Rattle.std.proofs.Common.{◌≡◌, ◌∷◌, [], ◌++◌, ◌<◌, length, refl, sym, ap, ◌∙◌, Ok, Err, arith, List}
+use Rattle.std.proofs.Common.{ap, ◌∙◌, List}
 use Rattle.std.proofs.lemmas.Result.{err_from_is_err_and}
 use Rattle.byte_grammar.specs.Walk.{turns_read, with_front}
 use Rattle.byte_grammar.proofs.Loops.{loop_last, loop_err, loop_more, some_next}

@@ -1,4 +1,4 @@
-use Rattle.std.proofs.Common.{◌≡◌, arith, length, ◌<◌, ◌+◌, ◌*◌, ◌^◌, ◌≤◌}
+use Rattle.std.proofs.Common.{arith, length}
 use Rattle.sfv_read.proofs.Digits.{pow_room}
 use Rattle.sfv_read.proofs.number.read_number.Goals as goal
 

@@ -1,4 +1,4 @@
-use Rattle.std.proofs.Common.{◌≡◌, arith, ap, sym, ◌∙◌, ◌-◌, ℕ, w64, rules, length, ◌<◌, ◌+◌, ◌*◌, ◌^◌, ◌≤◌}
+use Rattle.std.proofs.Common.{arith, ap, sym, ◌∙◌, ◌-◌, ℕ, w64, rules, length, ◌*◌, ◌^◌}
 use Rattle.std.proofs.lemmas.Int.{to_z-of_z}
 use Rattle.sfv_read.specs.BareItem.{signed, spelled_from}
 use Rattle.sfv_read.proofs.Digits.{pow_room, room_two, scaled_room, spelled_append}

@@ -1,4 +1,4 @@
-use Rattle.std.proofs.Common.{◌≡◌, arith, ◌+◌, ◌<◌, ◌≤◌, length, suc, ◌-◌, ◌*◌, ◌^◌, ap, sym, subst, ◌∙◌, ℕ, get_or, drop, Fits, w64}
+use Rattle.std.proofs.Common.{◌≡◌, arith, ◌+◌, ◌<◌, ◌≤◌, length, suc, ◌-◌, ◌*◌, ◌^◌, ap, sym, subst, ◌∙◌, ℕ, drop}
 use Rattle.sfv_read.specs.BareItem.{spelled_from}
 use Rattle.sfv_read.proofs.Digits.{room_more, room_now, spelled_at, digit_small}
 use Rattle.sfv_read.proofs.number.value_of.Goals as goal

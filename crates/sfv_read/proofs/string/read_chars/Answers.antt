@@ -1,7 +1,6 @@
-use Rattle.std.proofs.Common.{◌≡◌, ◌∷◌, [], ◌++◌, ◌<◌, length, refl, sym, ap, ◌∙◌, Ok, Err, arith, Result, List, ℕ, Option}
 use Rattle.std.proofs.lemmas.Result.{err_from_is_err_and}
 use Rattle.sfv_read.specs.BareWalk.{char_read}
-use Rattle.byte_grammar.specs.Walk.{turns_read, with_front}
+use Rattle.byte_grammar.specs.Walk.{turns_read}
 use Rattle.byte_grammar.proofs.Loops.{loop_first, loop_last, loop_err, loop_more, some_next}
 use Rattle.sfv_read.proofs.Strings.{chars_step, chars_shorter}
 use Rattle.sfv_read.proofs.string.read_chars.Goals as goal
