@@ -19,6 +19,8 @@ use std::io::ErrorKind;
 use std::process::ExitCode;
 
 #[cfg(test)]
+mod places;
+#[cfg(test)]
 mod tests;
 
 /// The words of the command line, the program's name among them.

@@ -1,10 +1,9 @@
 use super::*;
 use sfv_text::{Text, print_dict, print_inner, print_item, print_list};
-use std::alloc::{AllocError, Global};
+use std::alloc::Global;
 use std::process::Abort;
-use std::test::Fail;
 
-#[derive(Clone, Copy, Debug)]
+#[derive(Clone, Copy)]
 enum Kind {
     Item,
     Inner,
@@ -35,340 +34,188 @@ fn reads(rt: &impl Abort, alloc: Global, kind: Kind, rows: &[(&[u8], &[u8])]) {
     }
 }
 
-fn refuses(rt: &impl Abort, alloc: Global, kind: Kind, rows: &[(&[u8], SfError)]) {
-    for (text, expected) in rows {
-        match strict(kind, alloc, text) {
-            Ok(_) => assert!(rt; false, "{text:?}"),
-            Err(fault) => assert_eq!(rt; fault, *expected, "{text:?}"),
+// Each text is its own strict text.
+fn stay(rt: &impl Abort, alloc: Global, kind: Kind, texts: &[&[u8]]) {
+    for text in texts {
+        reads(rt, alloc, kind, &[(*text, *text)]);
+    }
+}
+
+fn refuses(rt: &impl Abort, alloc: Global, kind: Kind, rows: Rows<'_>) {
+    for (expected, texts) in rows {
+        for text in *texts {
+            match strict(kind, alloc, text) {
+                Ok(_) => assert!(rt; false, "{text:?}"),
+                Err(fault) => assert_eq!(rt; fault, *expected, "{text:?}"),
+            }
         }
     }
 }
 
 #[test]
 fn items_read_as_their_values(rt: HostRuntime) {
+    // RFC 9651 sections 3.1.2 and 3.3
+    let short: &[&[u8]] = &[
+        b"1", b"1.0", b"0.001", b"\"\"", b"*a/:b", b"::", b":AA==:", b":/+8=:", b"?1", b"?0",
+        b"a;b=?0",
+    ];
+    let long: &[&[u8]] = &[
+        b"-999999999999999",
+        b"123456789012.345",
+        b"\"a\\\"b\\\\ ~\"",
+        b"foo123/456",
+        b"A!#$%&'*+-.^_`|~",
+        b":cHJldGVuZCB0aGlzIGlzIGJpbmFyeSBjb250ZW50Lg==:",
+        b"1;a=-1.5;b=\"x\";c=t;d=:AA==:;*k-_.9=2",
+    ];
     let rows: &[(&[u8], &[u8])] = &[
-        // Integers and Decimals (RFC 9651 sections 3.3.1 and 3.3.2)
-        (b"1", b"1"),
         (b" 1 ", b"1"),
         (b"-0", b"0"),
         (b"-0.0", b"0.0"),
         (b"00042", b"42"),
-        (b"123456789012345", b"123456789012345"),
-        (b"-999999999999999", b"-999999999999999"),
         (b"1.50", b"1.5"),
-        (b"1.0", b"1.0"),
         (b"-1.10", b"-1.1"),
-        (b"0.001", b"0.001"),
-        (b"123456789012.345", b"123456789012.345"),
-        // Strings and Tokens (sections 3.3.3 and 3.3.4)
-        (b"\"\"", b"\"\""),
-        (b"\"a\\\"b\\\\ ~\"", b"\"a\\\"b\\\\ ~\""),
-        (b"*a/:b", b"*a/:b"),
-        (b"foo123/456", b"foo123/456"),
-        (b"A!#$%&'*+-.^_`|~", b"A!#$%&'*+-.^_`|~"),
-        // Byte Sequences (section 3.3.5)
-        (
-            b":cHJldGVuZCB0aGlzIGlzIGJpbmFyeSBjb250ZW50Lg==:",
-            b":cHJldGVuZCB0aGlzIGlzIGJpbmFyeSBjb250ZW50Lg==:",
-        ),
-        (b"::", b"::"),
-        (b":AA==:", b":AA==:"),
         (b":AA:", b":AA==:"),
         (b":AAA:", b":AAA=:"),
-        (b":/+8=:", b":/+8=:"),
-        // Booleans (section 3.3.6)
-        (b"?1", b"?1"),
-        (b"?0", b"?0"),
-        // parameters (section 3.1.2)
         (b"a;b;c=?1", b"a;b;c"),
-        (b"a;b=?0", b"a;b=?0"),
         (b"a; b;  c=1", b"a;b;c=1"),
         (b"a;b=1;c;b=2", b"a;b=2;c"),
-        (
-            b"1;a=-1.5;b=\"x\";c=t;d=:AA==:;*k-_.9=2",
-            b"1;a=-1.5;b=\"x\";c=t;d=:AA==:;*k-_.9=2",
-        ),
     ];
+    stay(&rt, rt.alloc(), Kind::Item, short);
+    stay(&rt, rt.alloc(), Kind::Item, long);
     reads(&rt, rt.alloc(), Kind::Item, rows);
 }
 
 #[test]
 fn lists_and_dictionaries_read_as_their_values(rt: HostRuntime) {
-    let inner: &[(&[u8], &[u8])] = &[
-        (b"()", b"()"),
-        (b" (  ) ", b"()"),
-        (b"( a  b )", b"(a b)"),
-        (b"(a;b c);d;e=1", b"(a;b c);d;e=1"),
-        (
-            b"(\"date\" \"@method\");created=1618884473;keyid=\"k\"",
-            b"(\"date\" \"@method\");created=1618884473;keyid=\"k\"",
-        ),
+    // RFC 9651 sections 3.1, 3.1.1 and 3.2
+    let inner_texts: &[&[u8]] = &[
+        b"()",
+        b"(a;b c);d;e=1",
+        b"(\"date\" \"@method\");created=1618884473;keyid=\"k\"",
     ];
-    // RFC 9651 sections 3.1 and 3.1.1
+    let inner: &[(&[u8], &[u8])] = &[(b" (  ) ", b"()"), (b"( a  b )", b"(a b)")];
+    stay(&rt, rt.alloc(), Kind::Inner, inner_texts);
+    reads(&rt, rt.alloc(), Kind::Inner, inner);
+    let list_texts: &[&[u8]] = &[
+        b"",
+        b"sugar, tea, rum",
+        b"(\"foo\" \"bar\"), (\"baz\"), (\"bat\" \"one\"), ()",
+    ];
     let list: &[(&[u8], &[u8])] = &[
-        (b"", b""),
         (b"  ", b""),
-        (b"sugar, tea, rum", b"sugar, tea, rum"),
         (b"a,b", b"a, b"),
         (b" a ,\t b\t ", b"a, b"),
-        (
-            b"(\"foo\" \"bar\"), (\"baz\"), (\"bat\" \"one\"), ()",
-            b"(\"foo\" \"bar\"), (\"baz\"), (\"bat\" \"one\"), ()",
-        ),
-        (
-            b"abc;a=1;b=2; cde_456, (ghi;jk=4 l);q=\"9\";r=w",
-            b"abc;a=1;b=2;cde_456, (ghi;jk=4 l);q=\"9\";r=w",
-        ),
+        (b"a;b=1; c_4, (d;e=4 f); q", b"a;b=1;c_4, (d;e=4 f);q"),
     ];
-    // RFC 9651 section 3.2
+    stay(&rt, rt.alloc(), Kind::List, list_texts);
+    reads(&rt, rt.alloc(), Kind::List, list);
+    let dict_texts: &[&[u8]] = &[
+        b"en=\"Applepie\", da=:w4ZibGV0w6ZydGU=:",
+        b"rating=1.5, feelings=(joy sadness)",
+        b"a=(1 2), b=3, c=4;aa=bb, d=(5 6);valid",
+    ];
     let dict: &[(&[u8], &[u8])] = &[
         (b" ", b""),
         (b"a=1, b, a=2", b"a=2, b"),
-        (
-            b"en=\"Applepie\", da=:w4ZibGV0w6ZydGU=:",
-            b"en=\"Applepie\", da=:w4ZibGV0w6ZydGU=:",
-        ),
         (b"a=?0, b, c; foo=bar", b"a=?0, b, c;foo=bar"),
-        (
-            b"rating=1.5, feelings=(joy sadness)",
-            b"rating=1.5, feelings=(joy sadness)",
-        ),
-        (
-            b"a=(1 2), b=3, c=4;aa=bb, d=(5 6);valid",
-            b"a=(1 2), b=3, c=4;aa=bb, d=(5 6);valid",
-        ),
         (b"a=?1;x,b;x=1\t", b"a;x, b;x=1"),
     ];
-    reads(&rt, rt.alloc(), Kind::Inner, inner);
-    reads(&rt, rt.alloc(), Kind::List, list);
+    stay(&rt, rt.alloc(), Kind::Dict, dict_texts);
     reads(&rt, rt.alloc(), Kind::Dict, dict);
 }
 
+// The texts of each fault, by RFC 9651 sections 3.1 to 3.3.
+type Rows<'a> = &'a [(SfError, &'a [&'a [u8]])];
+
 #[test]
 fn items_are_refused_at_the_exact_place(rt: HostRuntime) {
-    let rows: &[(&[u8], SfError)] = &[
-        (b"", SfError::Syntax(0)),
-        (b"  ", SfError::Syntax(2)),
-        (b"\t1", SfError::Syntax(0)),
-        (b"1\t", SfError::Syntax(1)),
-        (b"1 \t", SfError::Syntax(2)),
-        (b"1 2", SfError::Syntax(2)),
-        (b"1,2", SfError::Syntax(1)),
-        // Integers and Decimals (RFC 9651 sections 3.3.1 and 3.3.2)
-        (b"-", SfError::Syntax(1)),
-        (b"--1", SfError::Syntax(1)),
-        (b"+1", SfError::Syntax(0)),
-        (b"1234567890123456", SfError::Syntax(15)),
-        (b"-1234567890123456", SfError::Syntax(16)),
-        (b"1.", SfError::Syntax(2)),
-        (b"1.2345", SfError::Syntax(5)),
-        (b".5", SfError::Syntax(0)),
-        (b"1234567890123.4", SfError::Syntax(13)),
-        (b"123456789012.", SfError::Syntax(13)),
-        (b"123456789012345.", SfError::Syntax(15)),
-        (b"1.2.3", SfError::Syntax(3)),
-        (b"1e3", SfError::Syntax(1)),
-        // Strings (section 3.3.3)
-        (b"\"", SfError::Syntax(1)),
-        (b"\"ab\\c\"", SfError::Syntax(4)),
-        (b"\"ab\\", SfError::Syntax(4)),
-        (b"\"a\x7f\"", SfError::Syntax(2)),
-        (b"\"a\tb\"", SfError::Syntax(2)),
-        (b"\"\xc3\xa9\"", SfError::Syntax(1)),
-        (b"\"a\"b", SfError::Syntax(3)),
-        (b"'a'", SfError::Syntax(0)),
-        // Tokens (section 3.3.4)
-        (b"a(b", SfError::Syntax(1)),
-        (b"a\x80", SfError::Syntax(1)),
-        (b"a\"b\"", SfError::Syntax(1)),
-        // Byte Sequences (section 3.3.5)
-        (b":", SfError::Syntax(1)),
-        (b":AB:", SfError::Syntax(3)),
-        (b":AB=", SfError::Syntax(3)),
-        (b":AA=:", SfError::Syntax(4)),
-        (b":AA===:", SfError::Syntax(5)),
-        (b":A:", SfError::Syntax(2)),
-        (b":AAB:", SfError::Syntax(4)),
-        (b":AAA==:", SfError::Syntax(5)),
-        (b":AAAA=:", SfError::Syntax(5)),
-        (b":AAAA", SfError::Syntax(5)),
-        (b":A-A=:", SfError::Syntax(2)),
-        (b":AA AA:", SfError::Syntax(3)),
-        (b":=:", SfError::Syntax(1)),
-        // Booleans (section 3.3.6)
-        (b"?", SfError::Syntax(1)),
-        (b"?2", SfError::Syntax(1)),
-        (b"?1?0", SfError::Syntax(2)),
-        // parameters (section 3.1.2)
-        (b"1;", SfError::Syntax(2)),
-        (b"1;=x", SfError::Syntax(2)),
-        (b"1;A", SfError::Syntax(2)),
-        (b"1;aB", SfError::Syntax(3)),
-        (b"1 ;a", SfError::Syntax(2)),
-        (b"1;a =b", SfError::Syntax(4)),
-        (b"1;a= b", SfError::Syntax(4)),
-        (b"1;\ta", SfError::Syntax(2)),
-        (b"a;b=(c)", SfError::Syntax(4)),
-        // Dates and Display Strings (sections 3.3.7 and 3.3.8)
-        (b"@1", SfError::ItemKind(0)),
-        (b"%\"a\"", SfError::ItemKind(0)),
-        (b" a;b=@1", SfError::ItemKind(5)),
-        (b"a@1", SfError::Syntax(1)),
+    let rows: Rows<'_> = &[
+        (SfError::Syntax(0), &[b"", b"\t1", b"+1", b".5", b"'a'"]),
+        (
+            SfError::Syntax(1),
+            &[
+                b"1\t", b"1,2", b"-", b"--1", b"1e3", b"\"", b"a(b", b"a\x80", b"a\"b\"", b":",
+                b":=:", b"?", b"?2", b"a@1",
+            ],
+        ),
+        (SfError::Syntax(1), &[b"\"\xc3\xa9\""]),
+        (
+            SfError::Syntax(2),
+            &[
+                b"  ", b"1 \t", b"1 2", b"1.", b":A:", b":A-A=:", b"?1?0", b"1;", b"1;=x", b"1;A",
+                b"1 ;a", b"1;\ta",
+            ],
+        ),
+        (SfError::Syntax(2), &[b"\"a\x7f\"", b"\"a\tb\""]),
+        (
+            SfError::Syntax(3),
+            &[b"1.2.3", b"\"a\"b", b":AB:", b":AB=", b":AA AA:", b"1;aB"],
+        ),
+        (
+            SfError::Syntax(4),
+            &[
+                b"\"ab\\", b":AA=:", b":AAB:", b"1;a =b", b"1;a= b", b"a;b=(c)",
+            ],
+        ),
+        (SfError::Syntax(4), &[b"\"ab\\c\""]),
+        (
+            SfError::Syntax(5),
+            &[b"1.2345", b":AA===:", b":AAA==:", b":AAAA=:", b":AAAA"],
+        ),
+        (SfError::Syntax(13), &[b"1234567890123.4", b"123456789012."]),
+        (
+            SfError::Syntax(15),
+            &[b"1234567890123456", b"123456789012345."],
+        ),
+        (SfError::Syntax(16), &[b"-1234567890123456"]),
+        (SfError::ItemKind(0), &[b"@1", b"%\"a\""]),
+        (SfError::ItemKind(5), &[b" a;b=@1"]),
     ];
     refuses(&rt, rt.alloc(), Kind::Item, rows);
 }
 
 #[test]
-fn lists_and_dictionaries_are_refused_at_the_exact_place(rt: HostRuntime) {
-    let inner: &[(&[u8], SfError)] = &[
-        (b"", SfError::Syntax(0)),
-        (b"x", SfError::Syntax(0)),
-        (b"(", SfError::Syntax(1)),
-        (b"(a b", SfError::Syntax(4)),
-        (b"(a\"b\")", SfError::Syntax(2)),
-        (b"(a,b)", SfError::Syntax(2)),
-        (b"(a\tb)", SfError::Syntax(2)),
-        (b"((a))", SfError::Syntax(1)),
-        (b"(a b) c", SfError::Syntax(6)),
-        (b"(a;b=)", SfError::Syntax(5)),
-        (b"();a=@1", SfError::ItemKind(5)),
-        (b"(@1)", SfError::ItemKind(1)),
-        (b"(a %", SfError::ItemKind(3)),
-        (b"(a@1)", SfError::Syntax(2)),
-        (b"()@", SfError::Syntax(2)),
+fn inner_lists_are_refused_at_the_exact_place(rt: HostRuntime) {
+    let rows: Rows<'_> = &[
+        (SfError::Syntax(0), &[b"", b"x"]),
+        (SfError::Syntax(1), &[b"(", b"((a))"]),
+        (SfError::Syntax(2), &[b"(a,b)", b"(a\tb)", b"(a@1)", b"()@"]),
+        (SfError::Syntax(2), &[b"(a\"b\")"]),
+        (SfError::Syntax(4), &[b"(a b"]),
+        (SfError::Syntax(5), &[b"(a;b=)"]),
+        (SfError::Syntax(6), &[b"(a b) c"]),
+        (SfError::ItemKind(1), &[b"(@1)"]),
+        (SfError::ItemKind(3), &[b"(a %"]),
+        (SfError::ItemKind(5), &[b"();a=@1"]),
     ];
-    let list: &[(&[u8], SfError)] = &[
-        (b"\ta", SfError::Syntax(0)),
-        (b" \t", SfError::Syntax(1)),
-        (b"a,", SfError::Syntax(2)),
-        (b"a, ", SfError::Syntax(3)),
-        (b"a,,b", SfError::Syntax(2)),
-        (b",a", SfError::Syntax(0)),
-        (b"a b", SfError::Syntax(2)),
-        (b"a ;b", SfError::Syntax(2)),
-        (b"a, %", SfError::ItemKind(3)),
-        (b"a,\t@", SfError::ItemKind(3)),
-        (b"a @", SfError::Syntax(2)),
-    ];
-    let dict: &[(&[u8], SfError)] = &[
-        (b"a=1,", SfError::Syntax(4)),
-        (b"a=1,,b", SfError::Syntax(4)),
-        (b"A=1", SfError::Syntax(0)),
-        (b"aB", SfError::Syntax(1)),
-        (b"a=", SfError::Syntax(2)),
-        (b"a =1", SfError::Syntax(2)),
-        (b"a= 1", SfError::Syntax(2)),
-        (b"a=1 b=2", SfError::Syntax(4)),
-        (b"\"a\"=1", SfError::Syntax(0)),
-        (b"a=@1", SfError::ItemKind(2)),
-        (b"@a", SfError::Syntax(0)),
-        (b"a;b=%", SfError::ItemKind(4)),
-        (b"a=(@", SfError::ItemKind(3)),
-        (b"a=1;A", SfError::Syntax(4)),
-    ];
-    refuses(&rt, rt.alloc(), Kind::Inner, inner);
-    refuses(&rt, rt.alloc(), Kind::List, list);
-    refuses(&rt, rt.alloc(), Kind::Dict, dict);
-}
-
-// How many words of six symbols there are of each length.
-const COUNTS: [usize; 5] = [1, 6, 36, 216, 1296];
-
-// The text, and the word with this number behind it.
-fn with_word(
-    alloc: Global,
-    text: &[u8],
-    alphabet: &[u8; 6],
-    length: usize,
-    number: usize,
-) -> Result<Vec<u8>, AllocError> {
-    let mut whole = Vec::from_slice(alloc, text)?;
-    let mut rest = number;
-    for _ in 0..length {
-        whole.push(alphabet[rest % 6])?;
-        rest /= 6;
-    }
-    Ok(whole)
-}
-
-fn is_read(kind: Kind, alloc: Global, text: &[u8]) -> bool {
-    match kind {
-        Kind::Item => read_item(alloc, text).is_ok(),
-        Kind::Inner => read_inner(alloc, text).is_ok(),
-        Kind::List => read_list(alloc, text).is_ok(),
-        Kind::Dict => read_dict(alloc, text).is_ok(),
-    }
-}
-
-// Whether some text that is read begins with the front, by trying what could follow.
-fn begins(kind: Kind, alloc: Global, alphabet: &[u8; 6], front: &[u8]) -> Result<bool, AllocError> {
-    for length in 0..4 {
-        for number in 0..COUNTS[length] {
-            let text = with_word(alloc, front, alphabet, length, number)?;
-            if is_read(kind, alloc, text.as_slice()) {
-                return Ok(true);
-            }
-        }
-    }
-    Ok(false)
-}
-
-// The longest front that begins some text that is read.
-fn longest(
-    kind: Kind,
-    alloc: Global,
-    alphabet: &[u8; 6],
-    text: &[u8],
-) -> Result<usize, AllocError> {
-    for place in 0..text.len() {
-        if !begins(kind, alloc, alphabet, &text[..place + 1])? {
-            return Ok(place);
-        }
-    }
-    Ok(text.len())
-}
-
-// The fault of a text that isn't read, by trying its fronts.
-fn tried(
-    kind: Kind,
-    alloc: Global,
-    alphabet: &[u8; 6],
-    text: &[u8],
-) -> Result<SfError, AllocError> {
-    let place = longest(kind, alloc, alphabet, text)?;
-    if place < text.len() && (text[place] == b'@' || text[place] == b'%') {
-        let mut probe = Vec::from_slice(alloc, &text[..place])?;
-        probe.extend_from_slice(b"?1")?;
-        if begins(kind, alloc, alphabet, probe.as_slice())? {
-            return Ok(SfError::ItemKind(place));
-        }
-    }
-    Ok(SfError::Syntax(place))
+    refuses(&rt, rt.alloc(), Kind::Inner, rows);
 }
 
 #[test]
-fn places_are_those_found_by_trying_what_could_follow(rt: HostRuntime) -> Result<(), Fail> {
-    let rows: [(Kind, &[u8; 6]); 9] = [
-        (Kind::Item, b"-1.a;="),
-        (Kind::Item, b"\"\\:A= "),
-        (Kind::Item, b"?1;a=@"),
-        (Kind::Inner, b"()a; @"),
-        (Kind::Inner, b"(a)=;1"),
-        (Kind::List, b"a,()\t "),
-        (Kind::List, b"a,;=%1"),
-        (Kind::Dict, b"a=,\t @"),
-        (Kind::Dict, b"Aa=(;)"),
+fn lists_and_dictionaries_are_refused_at_the_exact_place(rt: HostRuntime) {
+    let list: Rows<'_> = &[
+        (SfError::Syntax(0), &[b"\ta", b",a"]),
+        (SfError::Syntax(1), &[b" \t"]),
+        (
+            SfError::Syntax(2),
+            &[b"a,", b"a,,b", b"a b", b"a ;b", b"a @"],
+        ),
+        (SfError::Syntax(3), &[b"a, "]),
+        (SfError::ItemKind(3), &[b"a, %", b"a,\t@"]),
     ];
-    for (kind, alphabet) in rows {
-        for length in 0..4 {
-            for number in 0..COUNTS[length] {
-                let text = with_word(rt.alloc(), b"", alphabet, length, number)?;
-                if let Err(fault) = strict(kind, rt.alloc(), text.as_slice()) {
-                    let expected = tried(kind, rt.alloc(), alphabet, text.as_slice())?;
-                    assert_eq!(rt; fault, expected, "{kind:?}: {text:?}");
-                }
-            }
-        }
-    }
-    Ok(())
+    let dict: Rows<'_> = &[
+        (SfError::Syntax(0), &[b"A=1", b"\"a\"=1", b"@a"]),
+        (SfError::Syntax(1), &[b"aB"]),
+        (SfError::Syntax(2), &[b"a=", b"a =1", b"a= 1"]),
+        (
+            SfError::Syntax(4),
+            &[b"a=1,", b"a=1,,b", b"a=1 b=2", b"a=1;A"],
+        ),
+        (SfError::ItemKind(2), &[b"a=@1"]),
+        (SfError::ItemKind(3), &[b"a=(@"]),
+        (SfError::ItemKind(4), &[b"a;b=%"]),
+    ];
+    refuses(&rt, rt.alloc(), Kind::List, list);
+    refuses(&rt, rt.alloc(), Kind::Dict, dict);
 }
