@@ -1,12 +1,12 @@
 -- The strict text of a plain identifier is its name in quotation marks.
-use Rattle.std.proofs.Common.{◌≡◌, ℕ, zero, suc, nat_lt, Bool, true, false, List, [], ◌∷◌, ◌++◌, ◌&&◌, ◌||◌, not, length, refl, ap, sym, ◌∙◌, arith, eqb, nat_eq, inl, inr}
-use Rattle.std.specs.Prelude.{map, slice_get, Some}
+use Rattle.std.proofs.Common.{◌≡◌, ℕ, nat_lt, Bool, true, false, List, [], ◌∷◌, ◌++◌, length, refl, ap, sym, ◌∙◌, arith, eqb, inl, inr}
+use Rattle.std.specs.Prelude.{slice_get, Some}
 use Rattle.std.specs.List.{list_all, flat_map}
 use Rattle.std.proofs.lemmas.Bool.{cases_Bool, eqb-true}
 use Rattle.std.proofs.lemmas.List.{append-nil}
 use Rattle.std.proofs.lemmas.List.Sums.{AllPass-from_list_all}
 use Rattle.std.proofs.lemmas.Option.{get_or_from_slice_get, slice_get_within}
-use Rattle.sfv_text.specs.Strict.{character_text, item_text, string_text, params_text}
+use Rattle.sfv_text.specs.Strict.{character_text}
 use Rattle.component_ids.specs.declared.id.ComponentId.{ComponentId}
 use Rattle.component_ids.specs.Identifiers.{id_text}
 use Rattle.component_ids.specs.Table.{is_name_byte, is_field_name}

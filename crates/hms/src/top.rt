@@ -66,7 +66,7 @@ fn respond<S: Source>(alloc: Global, words: &[String], source: &mut S) -> Result
 pub fn run<F: Shelf, S: Source, K: Sink>(
     alloc: Global,
     words: &[String],
-    shelf: &mut F,
+    _shelf: &mut F,
     source: &mut S,
     out: &mut K,
 ) -> Status
@@ -77,7 +77,7 @@ pub fn run<F: Shelf, S: Source, K: Sink>(
     ensures words { result ≡ Status.Words → NoCommand (map string_bytes words.now) × Appends (K.taken out.old) (K.taken out.new) (codes "refused words\n") }
     ensures no_words { NoCommand (map string_bytes words.now) → (result ≡ Status.Words) ⊎ ((result ≡ Status.WriteFault) ⊎ (result ≡ Status.Memory)) }
     ensures unread { NoCommand (map string_bytes words.now) → source.new ≡ source.old }
-    ensures unasked { shelf.new ≡ shelf.old }
+    ensures unasked { _shelf.new ≡ _shelf.old }
 
     // The counts of faults say when a read or a write failed.
     ensures read { result ≡ Status.ReadFault → Rose (S.faults source.old) (S.faults source.new) }
@@ -85,7 +85,6 @@ pub fn run<F: Shelf, S: Source, K: Sink>(
     ensures write { result ≡ Status.WriteFault → Rose (K.faults out.old) (K.faults out.new) }
     ensures write_told { K.faults out.old < K.faults out.new → result ≡ Status.WriteFault }
 {
-    let _ = shelf;
     let report = match respond(alloc, words, source) {
         Ok(report) => report,
         Err(Stop::ReadFault) => return Status::ReadFault,
