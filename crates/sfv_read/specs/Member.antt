@@ -44,7 +44,7 @@ abbrev pub AreMembers : {V : Type 0} → (List ℕ → V → Type 0) → List �
 AreMembers M text [] = text ≡ []
 AreMembers M text (v ∷ vs) = (first second : List ℕ) × (text ≡ first ++ second) × M first v × Each (IsFurther M) second vs
 
--- spaces, members parted by commas, and blanks behind the last
+-- spaces, members parted by commas, and blanks behind the last; spaces alone where there is no member
 pub record Parted {V : Type 0} (M : List ℕ → V → Type 0) (text : List ℕ) (vs : List V) : Type 0 where
   pub before : List ℕ
   pub members : List ℕ

@@ -1,4 +1,8 @@
-//! Readers of structured fields (RFC 9651).
+//! Readers of structured fields (RFC 9651): Items, Inner Lists, Lists and Dictionaries.
+//!
+//! A text is read with spaces at both ends. A reader answers the value exactly where the grammar in
+//! `specs/` has the text with that value; else it names the longest front of the text that begins
+//! some text that is read. Dates and Display Strings aren't read, and have a fault of their own.
 #![tactic(auto)]
 
 mod bare;
