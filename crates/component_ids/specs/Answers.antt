@@ -1,18 +1,16 @@
 -- When signature parameters are refused, and for what.
-use Rattle.std.specs.Prelude.{◌≡◌, ◌⊎◌, ◌<◌, ◌≤◌, ◌+◌, ℕ, Bool, true, not, Result, Ok, Err, Some, IsSomeAnd, Any, List, length, take, map, slice_get, ⊤}
+use Rattle.std.specs.Prelude.{◌≡◌, ◌⊎◌, ◌≤◌, ℕ, true, not, Result, Err, Some, IsSomeAnd, Any, List, length, take, slice_get}
 use Rattle.std.specs.List.{find, list_all}
 use Rattle.sfv_text.specs.declared.pair.Pair.{Pair}
 use Rattle.sfv_text.specs.declared.value.BareItem.{BareItem}
 use Rattle.sfv_text.specs.declared.value.Item.{Item}
-use Rattle.sfv_text.specs.declared.value.InnerList.{InnerList}
 use Rattle.component_ids.specs.declared.fault.BadReason.{BadReason}
 use Rattle.component_ids.specs.declared.fault.IdFault.{IdFault}
-use Rattle.component_ids.specs.declared.fault.IdFault.TheVariants.{Memory, TooMany, BadComponent, Repeated, BadParameter}
+use Rattle.component_ids.specs.declared.fault.IdFault.TheVariants.{Memory}
 use Rattle.component_ids.specs.declared.id.ComponentId.{ComponentId}
-use Rattle.component_ids.specs.declared.params.SigParams.{SigParams}
-use Rattle.component_ids.specs.Identifiers.{is_identifier, id_of, Same, AreDistinct}
+use Rattle.component_ids.specs.Identifiers.{is_identifier, Same, AreDistinct}
 use Rattle.component_ids.specs.Reasons.{reason_of}
-use Rattle.component_ids.specs.SignatureParams.{is_typed, list_of, IsSigParams}
+use Rattle.component_ids.specs.SignatureParams.{is_typed}
 
 -- the first item that is no identifier stands at the index, and this is the least reason
 pub record IsFirstBad (items : List Item) (index : ℕ) (reason : BadReason) : Type 0 where
@@ -37,22 +35,3 @@ pub record AreIdentifiers (items : List Item) : Type 0 where
 pub record AnswersWhere {T : Type 0} (result : Result T IdFault) (fault : IdFault) (P : Type 0) : Type 0 where
   pub only : result ≡ Err fault → P
   pub there : P → (result ≡ Err fault) ⊎ (result ≡ Err Memory)
-
--- what a fault of the items says of them
-abbrev pub IsIdsFault : List Item → IdFault → Type 0
-IsIdsFault items Memory = ⊤
-IsIdsFault items TooMany = 64 < length items
-IsIdsFault items (BadComponent index reason) = (length items ≤ 64) × IsFirstBad items index reason
-IsIdsFault items (Repeated index) = AreIdentifiers items × IsFirstRepeated (map id_of items) index
-IsIdsFault items (BadParameter key) = ⊥
-
--- what a fault says of the list
-abbrev pub IsListFault : InnerList → IdFault → Type 0
-IsListFault list (BadParameter key) =
-    AreIdentifiers list.items × AreDistinct (map id_of list.items) × IsFirstIllTyped list.params key
-IsListFault list fault = IsIdsFault list.items fault
-
--- what an answer says of the list that was read
-abbrev pub Explains : InnerList → Result SigParams IdFault → Type 0
-Explains list (Ok params) = IsSigParams params × (list_of params ≡ list)
-Explains list (Err fault) = IsListFault list fault

@@ -7,7 +7,7 @@ use Rattle.sfv_text.specs.declared.pair.Pair.{Pair}
 use Rattle.sfv_text.specs.declared.value.BareItem.{BareItem}
 use Rattle.sfv_text.specs.declared.value.InnerList.{InnerList}
 use Rattle.component_ids.specs.declared.params.SigParams.{SigParams}
-use Rattle.component_ids.specs.Table.{is_integer, is_string, is_one_of}
+use Rattle.component_ids.specs.Table.{is_integer, is_string, is_listed}
 use Rattle.component_ids.specs.Identifiers.{item_of, is_identifier, is_id_in_range, AreDistinct}
 
 -- the parameters that are Strings
@@ -17,8 +17,8 @@ string_keys = codes "nonce" ∷ codes "alg" ∷ codes "keyid" ∷ codes "tag" �
 -- `created` and `expires` are Integers, `nonce`, `alg`, `keyid` and `tag` are Strings, and others are of any type
 abbrev pub is_typed : Pair BareItem → Bool
 is_typed param =
-    if is_one_of (codes "created" ∷ codes "expires" ∷ []) param.key then is_integer param.value
-    else if is_one_of string_keys param.key then is_string param.value
+    if is_listed (codes "created" ∷ codes "expires" ∷ []) param.key then is_integer param.value
+    else if is_listed string_keys param.key then is_string param.value
     else true
 
 -- at most 64 identifiers, no two of them the same, and parameters of the right types

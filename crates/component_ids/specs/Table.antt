@@ -26,8 +26,8 @@ is_true bare = false
 -- ---- the table of names
 
 -- the text is one of the texts
-abbrev pub is_one_of : List (List ℕ) → List ℕ → Bool
-is_one_of texts text = list_any (bytes_eq text) texts
+abbrev pub is_listed : List (List ℕ) → List ℕ → Bool
+is_listed texts text = list_any (bytes_eq text) texts
 
 -- a tchar that is no upper-case letter
 abbrev pub is_name_byte : ℕ → Bool
@@ -48,7 +48,7 @@ request_names =
 abbrev pub keys_of : List ℕ → Option (List (List ℕ))
 keys_of name =
     if is_field_name name then Some (codes "sf" ∷ codes "key" ∷ codes "bs" ∷ codes "tr" ∷ codes "req" ∷ [])
-    else if is_one_of request_names name then Some (codes "req" ∷ [])
+    else if is_listed request_names name then Some (codes "req" ∷ [])
     else if bytes_eq name (codes "@query-param") then Some (codes "name" ∷ codes "req" ∷ [])
     else if bytes_eq name (codes "@status") then Some []
     else None
@@ -59,14 +59,14 @@ is_name name = is_some (keys_of name)
 
 -- a parameter of the key goes with the name
 abbrev pub goes_with : List ℕ → List ℕ → Bool
-goes_with name key = is_one_of (unwrap_or (keys_of name) []) key
+goes_with name key = is_listed (unwrap_or (keys_of name) []) key
 
 -- ---- what else is asked of the parameters
 
 -- `key` and `name` are Strings, `sf`, `bs`, `tr` and `req` are Boolean true (sections 2.1, 2.2.8 and 2.4)
 abbrev pub has_value_type : Pair BareItem → Bool
 has_value_type param =
-    if is_one_of (codes "key" ∷ codes "name" ∷ []) param.key then is_string param.value else is_true param.value
+    if is_listed (codes "key" ∷ codes "name" ∷ []) param.key then is_string param.value else is_true param.value
 
 abbrev pub has_param : List (Pair BareItem) → List ℕ → Bool
 has_param params key = list_any (has_key key) params

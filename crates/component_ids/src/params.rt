@@ -6,10 +6,11 @@ ghost use Rattle.sfv_text.specs.Range.{is_inner_in_range};
 ghost use Rattle.sfv_text.specs.Strict.{inner_text};
 ghost use Rattle.component_ids.specs.declared.fault.BadReason.{BadReason};
 ghost use Rattle.component_ids.specs.declared.params.SigParams.{SigParams};
-ghost use Rattle.component_ids.specs.Answers.{AnswersWhere, AreIdentifiers, Explains, IsFirstBad, IsFirstRepeated, IsFirstIllTyped};
+ghost use Rattle.component_ids.specs.Answers.{AnswersWhere, AreIdentifiers, IsFirstBad, IsFirstRepeated, IsFirstIllTyped};
 ghost use Rattle.component_ids.specs.Identifiers.{id_of, AreDistinct};
+ghost use Rattle.component_ids.specs.Reads.{Explains};
 ghost use Rattle.component_ids.specs.SignatureParams.{string_keys, is_typed, list_of, sig_params_text, are_sig_params_in_range, IsSigParams};
-ghost use Rattle.component_ids.specs.Table.{is_one_of};
+ghost use Rattle.component_ids.specs.Table.{is_listed};
 
 use crate::fault::IdFault;
 use crate::id::{ComponentId, Ids};
@@ -51,7 +52,7 @@ impl SigParams {
 
 /// Whether a parameter of the key has to be a String.
 fn is_string_key(key: &[u8]) -> bool
-    ensures { result ≡ is_one_of string_keys key.now }
+    ensures { result ≡ is_listed string_keys key.now }
 {
     key == b"nonce".as_slice()
         || key == b"alg".as_slice()
@@ -104,18 +105,24 @@ fn read(alloc: Global, list: &InnerList) -> Result<SigParams, IdFault>
 /// Of several faults the first in the order of `IdFault` is answered.
 pub fn read_params(alloc: Global, list: &InnerList) -> Result<SigParams, IdFault>
     ensures ok { IfOk result (λ params. IsSigParams params) }
-    ensures same { IfOk result (λ params. list_of params ≡ list.now) }
+    ensures stands_for { IfOk result (λ params. list_of params ≡ list.now) }
     ensures only { (params : SigParams) → IsSigParams params → list_of params ≡ list.now
         → MatchResult result (λ given. given ≡ params) (λ fault. fault ≡ IdFault.Memory) }
+
     ensures too_many { AnswersWhere result IdFault.TooMany (64 < length list.now.items) }
-    ensures bad_component { (index : ℕ) (reason : BadReason) → AnswersWhere result (IdFault.BadComponent index reason)
+    ensures bad_component { (index : ℕ) (reason : BadReason)
+        → AnswersWhere result (IdFault.BadComponent index reason)
         ((length list.now.items ≤ 64) × IsFirstBad list.now.items index reason) }
     ensures repeated { (index : ℕ) → AnswersWhere result (IdFault.Repeated index)
         (AreIdentifiers list.now.items × IsFirstRepeated (map id_of list.now.items) index) }
     ensures bad_parameter { (key : List ℕ) → AnswersWhere result (IdFault.BadParameter key)
-        (AreIdentifiers list.now.items × AreDistinct (map id_of list.now.items) × IsFirstIllTyped list.now.params key) }
+        (AreIdentifiers list.now.items × AreDistinct (map id_of list.now.items)
+        × IsFirstIllTyped list.now.params key) }
+
+    // What was read prints as the list does, and may be printed where the list may.
     ensures text { IfOk result (λ params. sig_params_text params ≡ inner_text list.now) }
-    ensures in_range { IfOk result (λ params. IsTrue (is_inner_in_range list.now) → IsTrue (are_sig_params_in_range params)) }
+    ensures in_range { IfOk result (λ params. IsTrue (is_inner_in_range list.now)
+        → IsTrue (are_sig_params_in_range params)) }
 {
     read(alloc, list)
 }

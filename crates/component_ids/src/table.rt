@@ -2,7 +2,7 @@
 
 ghost use Rattle.std.specs.Prelude.{◌≡◌, ◌||◌, not, IfNone, Some, None, option_map, codes};
 ghost use Rattle.std.specs.List.{find, list_all, list_any};
-ghost use Rattle.component_ids.specs.Table.{is_true, is_string, is_one_of, is_name_byte, is_field_name, request_names, keys_of, has_value_type, has_param, have_clash, has_needed};
+ghost use Rattle.component_ids.specs.Table.{is_true, is_string, is_listed, is_name_byte, is_field_name, request_names, keys_of, has_value_type, has_param, have_clash, has_needed};
 ghost use Rattle.component_ids.specs.Reasons.{applies, reasons};
 ghost use Rattle.component_ids.specs.Rows.{row_keys};
 
@@ -41,7 +41,7 @@ pub fn is_field_name(name: &[u8]) -> bool
 }
 
 fn is_request_name(name: &[u8]) -> bool
-    ensures { result ≡ is_one_of request_names name.now }
+    ensures { result ≡ is_listed request_names name.now }
 {
     name == b"@method".as_slice()
         || name == b"@target-uri".as_slice()
@@ -72,7 +72,7 @@ fn row_of(name: &[u8]) -> Option<Row>
 }
 
 fn is_field_key(key: &[u8]) -> bool
-    ensures { result ≡ is_one_of (row_keys Row.Field) key.now }
+    ensures { result ≡ is_listed (row_keys Row.Field) key.now }
 {
     key == b"sf".as_slice()
         || key == b"key".as_slice()
@@ -83,7 +83,7 @@ fn is_field_key(key: &[u8]) -> bool
 
 /// Whether a parameter of the key goes with the names of the row.
 fn allows(row: Row, key: &[u8]) -> bool
-    ensures { result ≡ is_one_of (row_keys row) key.now }
+    ensures { result ≡ is_listed (row_keys row) key.now }
 {
     match row {
         Row::Field => is_field_key(key),
@@ -94,7 +94,7 @@ fn allows(row: Row, key: &[u8]) -> bool
 }
 
 fn has_unknown(row: Row, params: &[Pair<BareItem>]) -> bool
-    ensures { result ≡ list_any (λ p. not (is_one_of (row_keys row) p.key)) params.now }
+    ensures { result ≡ list_any (λ p. not (is_listed (row_keys row) p.key)) params.now }
 {
     for param in params {
         if !allows(row, param.key.bytes()) {
