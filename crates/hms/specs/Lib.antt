@@ -9,3 +9,4 @@ pub mod SignatureBase
 pub mod Messages
 pub mod Sinks
 pub mod Report
+pub mod Laws

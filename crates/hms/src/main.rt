@@ -6,6 +6,7 @@
 mod answer;
 mod asked;
 mod base;
+mod laws;
 mod refusal;
 mod report;
 mod sinks;
