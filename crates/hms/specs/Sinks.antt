@@ -7,6 +7,10 @@ use Rattle.hms.specs.declared.sinks.Fill.{Fill}
 abbrev pub IsCounted : Count → List ℕ → Type 0
 IsCounted c text = c.count ≡ min (length text) (2 ^ 64 - 1)
 
+-- the size of the buffer
+abbrev pub fill_size : Fill → ℕ
+fill_size f = vec_len f.bytes
+
 -- the buffer begins with the text, unless that is longer
 pub record IsFilled (f : Fill) (text : List ℕ) : Type 0 where
   pub fits : f.over ≡ false → (f.at ≡ length text) × (take f.at f.bytes.items ≡ text)

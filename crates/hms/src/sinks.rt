@@ -50,12 +50,13 @@ pub struct Fill {
 }
 
 impl Fill {
-    ghost use Rattle.std.specs.Prelude.{◌≡◌, [], ℕ, List, IfOk};
-    ghost use Rattle.hms.specs.Sinks.{IsFilled};
+    ghost use Rattle.std.specs.Prelude.{◌≡◌, [], ℕ, List, length, IfOk, IsOk};
+    ghost use Rattle.hms.specs.Sinks.{IsFilled, fill_size};
 
     /// A buffer of this many bytes.
     pub fn new(alloc: Global, size: usize) -> Result<Fill, Memory>
-        ensures { IfOk result (λ f. IsFilled f []) }
+        ensures empty { IfOk result (λ f. IsFilled f []) }
+        ensures size { IfOk result (λ f. fill_size f ≡ size) }
     {
         let bytes = vec![in alloc; 0u8; size]?;
         Ok(Fill {
@@ -67,7 +68,8 @@ impl Fill {
 
     /// What was absorbed, where it has just the size. Another length is answered as want of memory.
     pub fn finish(self) -> Result<Vec<u8>, Memory>
-        ensures { (text : List ℕ) → IsFilled self text → IfOk result (λ bytes. bytes.items ≡ text) }
+        ensures is { (text : List ℕ) → IsFilled self text → IfOk result (λ bytes. bytes.items ≡ text) }
+        ensures whole { (text : List ℕ) → IsFilled self text → length text ≡ fill_size self → IsOk result }
     {
         if self.over || self.at != self.bytes.len() {
             return Err(Memory);
