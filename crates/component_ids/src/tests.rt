@@ -1,414 +1,235 @@
+ghost use Rattle.std.specs.Prelude.{◌≡◌, IfOk};
+
 use super::*;
 use sfv_text::{BareItem, InnerList, Item, Items, Memory, Params, Text};
 use std::alloc::Global;
 use std::test::Fail;
 
-// A bare item as the tables below write it.
-#[derive(Clone, Copy)]
-enum Value<'a> {
-    True,
-    False,
-    Number(i64),
-    Thousandths(i64),
-    Text(&'a str),
-    Token(&'a str),
-    Bytes(&'a str),
-}
+// The tables below write items as structured fields do, but for the quotation mark behind a String:
+// `"a;key="b;tr` stands for `"a";key="b";tr`. Numbers are 1 and 1.5.
 
-type Pairs<'a> = &'a [(&'a str, Value<'a>)];
-
-fn text(alloc: Global, characters: &str) -> Result<Text, Memory> {
+fn text(alloc: Global, bytes: &[u8]) -> Result<Text, Memory>
+    ensures { IfOk result (λ text. text ≡ bytes.now) }
+{
     let mut text = Text::new(alloc);
-    text.append(characters.as_bytes())?;
+    text.append(bytes)?;
     Ok(text)
 }
 
-fn bare(alloc: Global, value: Value) -> Result<BareItem, Memory> {
-    match value {
-        Value::True => Ok(BareItem::Bool(true)),
-        Value::False => Ok(BareItem::Bool(false)),
-        Value::Number(number) => Ok(BareItem::Integer(number)),
-        Value::Thousandths(number) => Ok(BareItem::Decimal(number)),
-        Value::Text(characters) => Ok(BareItem::Str(text(alloc, characters)?)),
-        Value::Token(characters) => Ok(BareItem::Token(text(alloc, characters)?)),
-        Value::Bytes(characters) => Ok(BareItem::Bytes(text(alloc, characters)?)),
+fn bare(alloc: Global, word: &str) -> Result<BareItem, Memory> {
+    match word.as_bytes() {
+        [b'"', rest @ ..] => Ok(BareItem::Str(text(alloc, rest)?)),
+        [b':', rest @ ..] => Ok(BareItem::Bytes(text(alloc, rest)?)),
+        b"?1" => Ok(BareItem::Bool(true)),
+        b"?0" => Ok(BareItem::Bool(false)),
+        b"1" => Ok(BareItem::Integer(1)),
+        b"1.5" => Ok(BareItem::Decimal(1500)),
+        token => Ok(BareItem::Token(text(alloc, token)?)),
     }
 }
 
-fn params(alloc: Global, pairs: Pairs) -> Result<Params, Memory> {
+fn put(alloc: Global, params: &mut Params, word: &str) -> Result<(), Memory> {
+    match word.split_once('=') {
+        Some((key, value)) => params.put(text(alloc, key.as_bytes())?, bare(alloc, value)?),
+        None => params.put(text(alloc, word.as_bytes())?, BareItem::Bool(true)),
+    }
+}
+
+fn params(alloc: Global, words: &str) -> Result<Params, Memory> {
     let mut params = Params::new(alloc);
-    for (key, value) in pairs {
-        params.put(text(alloc, key)?, bare(alloc, *value)?)?;
+    for word in words.split(';') {
+        if !word.is_empty() {
+            put(alloc, &mut params, word)?;
+        }
     }
     Ok(params)
 }
 
-fn item(alloc: Global, value: Value, pairs: Pairs) -> Result<Item, Memory> {
-    Ok(Item {
-        bare: bare(alloc, value)?,
-        params: params(alloc, pairs)?,
-    })
+fn item(alloc: Global, word: &str) -> Result<Item, Memory> {
+    match word.split_once(';') {
+        Some((first, rest)) => Ok(Item {
+            bare: bare(alloc, first)?,
+            params: params(alloc, rest)?,
+        }),
+        None => Ok(Item {
+            bare: bare(alloc, word)?,
+            params: Params::new(alloc),
+        }),
+    }
 }
 
-fn list(alloc: Global, items: &[(&str, Pairs)], pairs: Pairs) -> Result<InnerList, Memory> {
+fn list(alloc: Global, items: &str, words: &str) -> Result<InnerList, Memory> {
     let mut list = InnerList {
         items: Items::new(alloc),
-        params: params(alloc, pairs)?,
+        params: params(alloc, words)?,
     };
-    for (name, pairs) in items {
-        list.items.push(item(alloc, Value::Text(name), pairs)?)?;
+    for word in items.split(' ') {
+        list.items.push(item(alloc, word)?)?;
     }
     Ok(list)
 }
 
-// What was refused, as `WHAT INDEX`, or `ok`.
+// What a list is answered.
 fn answer(alloc: Global, list: &InnerList) -> Result<String, Fail> {
-    Ok(match read_params(alloc, list) {
-        Ok(_) => format!(in alloc; "ok")?,
-        Err(IdFault::Memory) => format!(in alloc; "memory")?,
-        Err(IdFault::TooMany) => format!(in alloc; "many")?,
-        Err(IdFault::BadComponent(index, reason)) => format!(in alloc;
+    match read_params(alloc, list) {
+        Ok(_) => Ok(format!(in alloc; "ok")?),
+        Err(IdFault::Memory) => Ok(format!(in alloc; "memory")?),
+        Err(IdFault::TooMany) => Ok(format!(in alloc; "many")?),
+        Err(IdFault::BadComponent(index, reason)) => Ok(format!(in alloc;
             "bad {index} {}",
             reason.word()
-        )?,
-        Err(IdFault::Repeated(index)) => format!(in alloc; "repeated {index}")?,
-        Err(IdFault::BadParameter(_)) => format!(in alloc; "parameter")?,
-    })
+        )?),
+        Err(IdFault::Repeated(index)) => Ok(format!(in alloc; "repeated {index}")?),
+        Err(IdFault::BadParameter(key)) => {
+            let key = String::from_utf8_lossy(alloc, key.bytes())?;
+            Ok(format!(in alloc; "parameter {key}")?)
+        }
+    }
 }
 
 #[test]
-fn bad_components_are_refused_for_the_least_reason(rt: HostRuntime) -> Result<(), Fail> {
+fn the_first_bad_component_is_refused_for_the_least_reason(rt: HostRuntime) -> Result<(), Fail> {
     let alloc = rt.alloc();
-    let cases: [(Value, Pairs, &str); 31] = [
-        (Value::Token("date"), &[], "bad 1 not-a-string"),
-        (
-            Value::Number(1),
-            &[("x", Value::Number(1))],
-            "bad 1 not-a-string",
-        ),
-        (Value::Thousandths(1500), &[], "bad 1 not-a-string"),
-        (Value::Bytes("date"), &[], "bad 1 not-a-string"),
-        (Value::True, &[], "bad 1 not-a-string"),
-        (Value::Text(""), &[], "bad 1 name"),
-        (Value::Text("Date"), &[], "bad 1 name"),
-        (
-            Value::Text("datE"),
-            &[("x", Value::Number(1))],
-            "bad 1 name",
-        ),
-        (Value::Text("a b"), &[], "bad 1 name"),
-        (Value::Text("@signature-params"), &[], "bad 1 name"),
-        (Value::Text("@Method"), &[], "bad 1 name"),
-        (Value::Text("@methods"), &[], "bad 1 name"),
-        (Value::Text("@"), &[], "bad 1 name"),
-        (
-            Value::Text("date"),
-            &[("x", Value::True)],
-            "bad 1 parameter-unknown",
-        ),
-        (
-            Value::Text("date"),
-            &[("name", Value::Text("a"))],
-            "bad 1 parameter-unknown",
-        ),
-        (
-            Value::Text("date"),
-            &[("sf", Value::False), ("x", Value::True)],
-            "bad 1 parameter-unknown",
-        ),
-        (
-            Value::Text("@method"),
-            &[("sf", Value::True)],
-            "bad 1 parameter-unknown",
-        ),
-        (
-            Value::Text("@query"),
-            &[("tr", Value::True)],
-            "bad 1 parameter-unknown",
-        ),
-        (
-            Value::Text("@query-param"),
-            &[("key", Value::Text("a"))],
-            "bad 1 parameter-unknown",
-        ),
-        (
-            Value::Text("@status"),
-            &[("req", Value::True)],
-            "bad 1 parameter-unknown",
-        ),
-        (
-            Value::Text("date"),
-            &[("sf", Value::False)],
-            "bad 1 parameter-type",
-        ),
-        (
-            Value::Text("date"),
-            &[("tr", Value::Number(1))],
-            "bad 1 parameter-type",
-        ),
-        (
-            Value::Text("date"),
-            &[("key", Value::True)],
-            "bad 1 parameter-type",
-        ),
-        (
-            Value::Text("date"),
-            &[("key", Value::Token("a"))],
-            "bad 1 parameter-type",
-        ),
-        (
-            Value::Text("date"),
-            &[("bs", Value::True), ("sf", Value::Text("a"))],
-            "bad 1 parameter-type",
-        ),
-        (
-            Value::Text("@method"),
-            &[("req", Value::Text(""))],
-            "bad 1 parameter-type",
-        ),
-        (
-            Value::Text("@query-param"),
-            &[("name", Value::True)],
-            "bad 1 parameter-type",
-        ),
-        (
-            Value::Text("date"),
-            &[("bs", Value::True), ("sf", Value::True)],
-            "bad 1 parameters-clash",
-        ),
-        (
-            Value::Text("date"),
-            &[("key", Value::Text("a")), ("bs", Value::True)],
-            "bad 1 parameters-clash",
-        ),
-        (Value::Text("@query-param"), &[], "bad 1 name-missing"),
-        (
-            Value::Text("@query-param"),
-            &[("req", Value::True)],
-            "bad 1 name-missing",
-        ),
+    let cases = [
+        ("date", "not-a-string"),
+        ("1;x=1", "not-a-string"),
+        ("1.5", "not-a-string"),
+        (":date", "not-a-string"),
+        ("?1", "not-a-string"),
+        ("\"", "name"),
+        ("\"Date", "name"),
+        ("\"datE;x=1", "name"),
+        ("\"a(b", "name"),
+        ("\"@signature-params", "name"),
+        ("\"@Method", "name"),
+        ("\"@methods", "name"),
+        ("\"@", "name"),
+        ("\"date;x", "parameter-unknown"),
+        ("\"date;name=\"a", "parameter-unknown"),
+        ("\"date;sf=?0;x", "parameter-unknown"),
+        ("\"@method;sf", "parameter-unknown"),
+        ("\"@query;tr", "parameter-unknown"),
+        ("\"@query-param;key=\"a", "parameter-unknown"),
+        ("\"@status;req", "parameter-unknown"),
+        ("\"date;sf=?0", "parameter-type"),
+        ("\"date;tr=1", "parameter-type"),
+        ("\"date;key", "parameter-type"),
+        ("\"date;key=a", "parameter-type"),
+        ("\"date;bs;sf=\"a", "parameter-type"),
+        ("\"@method;req=\"", "parameter-type"),
+        ("\"@query-param;name", "parameter-type"),
+        ("\"date;bs;sf", "parameters-clash"),
+        ("\"date;key=\"a;bs", "parameters-clash"),
+        ("\"@query-param", "name-missing"),
+        ("\"@query-param;req", "name-missing"),
     ];
-    for (value, pairs, want) in cases {
-        let mut list = list(alloc, &[("date", &[])], &[("created", Value::True)])?;
-        list.items.push(item(alloc, value, pairs)?)?;
-        list.items.push(item(alloc, Value::Text("date"), &[])?)?;
-        list.items.push(item(alloc, Value::Number(1), &[])?)?;
-        assert_eq!(rt; answer(alloc, &list)?.as_str(), want);
+    for (word, reason) in cases {
+        let items = format!(in alloc; "\"date {word} \"date 1")?;
+        let list = list(alloc, items.as_str(), "created=?1")?;
+        let want = format!(in alloc; "bad 1 {reason}")?;
+        assert_eq!(rt; answer(alloc, &list)?.as_str(), want.as_str());
     }
     Ok(())
-}
-
-// What was read from the list, as text.
-fn shown(alloc: Global, list: &InnerList) -> Result<String, Fail> {
-    let params = read_params(alloc, list)?;
-    // Copies keep all.
-    let text = print_params(alloc, &params.copy(alloc)?)?;
-    Ok(String::from_utf8_lossy(alloc, text.bytes())?)
 }
 
 // Each name of RFC 9421 sections 2.1 and 2.2 with the parameters that go with it.
 #[test]
-fn identifiers_print_as_they_were_read(rt: HostRuntime) -> Result<(), Fail> {
+fn identifiers_are_read_with_their_parameters(rt: HostRuntime) -> Result<(), Fail> {
     let alloc = rt.alloc();
-    let req: Pairs = &[("req", Value::True)];
-    let cases: [(&str, Pairs, &str); 25] = [
-        ("@method", &[], r#""@method""#),
-        ("@method", req, r#""@method";req"#),
-        ("@target-uri", &[], r#""@target-uri""#),
-        ("@target-uri", req, r#""@target-uri";req"#),
-        ("@authority", &[], r#""@authority""#),
-        ("@authority", req, r#""@authority";req"#),
-        ("@scheme", &[], r#""@scheme""#),
-        ("@scheme", req, r#""@scheme";req"#),
-        ("@request-target", &[], r#""@request-target""#),
-        ("@request-target", req, r#""@request-target";req"#),
-        ("@path", &[], r#""@path""#),
-        ("@path", req, r#""@path";req"#),
-        ("@query", &[], r#""@query""#),
-        ("@query", req, r#""@query";req"#),
-        (
-            "@query-param",
-            &[("name", Value::Text("var"))],
-            r#""@query-param";name="var""#,
-        ),
-        (
-            "@query-param",
-            &[("req", Value::True), ("name", Value::Text(""))],
-            r#""@query-param";req;name="""#,
-        ),
-        ("@status", &[], r#""@status""#),
-        ("date", &[], r#""date""#),
-        ("date", req, r#""date";req"#),
-        ("a", &[("sf", Value::True)], r#""a";sf"#),
-        ("a", &[("key", Value::Text("b"))], r#""a";key="b""#),
-        ("a", &[("bs", Value::True)], r#""a";bs"#),
-        (
-            "a",
-            &[
-                ("tr", Value::True),
-                ("bs", Value::True),
-                ("req", Value::True),
-            ],
-            r#""a";tr;bs;req"#,
-        ),
-        (
-            "a",
-            &[("key", Value::Text("b")), ("sf", Value::True)],
-            r#""a";key="b";sf"#,
-        ),
-        ("!#$%&'*+-.^_`|~09az", &[], r#""!#$%&'*+-.^_`|~09az""#),
+    let cases = [
+        ("@method", ""),
+        ("@method", "req"),
+        ("@target-uri", ""),
+        ("@target-uri", "req"),
+        ("@authority", ""),
+        ("@authority", "req"),
+        ("@scheme", ""),
+        ("@scheme", "req"),
+        ("@request-target", ""),
+        ("@request-target", "req"),
+        ("@path", ""),
+        ("@path", "req"),
+        ("@query", ""),
+        ("@query", "req"),
+        ("@query-param", "name=\"var"),
+        ("@query-param", "req;name=\""),
+        ("@status", ""),
+        ("date", ""),
+        ("date", "req"),
+        ("a", "sf"),
+        ("a", "key=\"b"),
+        ("a", "tr;bs;req"),
+        ("a", "key=\"b;sf"),
+        ("!#$%&'*+-.^_`|~09az", ""),
     ];
-    for (name, pairs, want) in cases {
-        let list = list(alloc, &[(name, pairs)], &[])?;
-        assert_eq!(rt; shown(alloc, &list)?, format!(in alloc; "({want})")?);
-        let params = read_params(alloc, &list)?;
-        assert_eq!(rt; params.ids.len(), 1);
-        let id = params.ids.get(0).copy(alloc)?;
-        assert_eq!(rt; print_id(alloc, &id)?.bytes(), want.as_bytes());
-        assert!(rt; same_id(&id, params.ids.get(0)));
+    for (name, words) in cases {
+        let word = format!(in alloc; "\"{name};{words}")?;
+        let read = read_params(alloc, &list(alloc, word.as_str(), "")?)?;
+        assert_eq!(rt; read.ids.len(), 1);
+        let id = ComponentId {
+            name: text(alloc, name.as_bytes())?,
+            params: params(alloc, words)?,
+        };
+        assert!(rt; same_id(read.ids.get(0), &id));
+        assert!(rt; same_id(&id.copy(alloc)?, read.ids.get(0)));
+        assert_eq!(rt; is_field_name(name.as_bytes()), !name.starts_with('@'));
     }
-    Ok(())
-}
-
-// The example of RFC 9421 section 2.3, and parameters that it doesn't know.
-#[test]
-fn signature_parameters_print_as_they_were_read(rt: HostRuntime) -> Result<(), Fail> {
-    let alloc = rt.alloc();
-    let ids: &[(&str, Pairs)] = &[
-        ("@target-uri", &[]),
-        ("@authority", &[]),
-        ("date", &[]),
-        ("cache-control", &[]),
-    ];
-    let pairs: Pairs = &[
-        ("keyid", Value::Text("test-key-rsa-pss")),
-        ("alg", Value::Text("rsa-pss-sha512")),
-        ("created", Value::Number(1618884475)),
-        ("expires", Value::Number(1618884775)),
-    ];
-    assert_eq!(rt;
-        shown(alloc, &list(alloc, ids, pairs)?)?.as_str(),
-        r#"("@target-uri" "@authority" "date" "cache-control");keyid="test-key-rsa-pss";alg="rsa-pss-sha512";created=1618884475;expires=1618884775"#
-    );
-    let others: Pairs = &[
-        ("x", Value::Thousandths(1500)),
-        ("tag", Value::Text("app")),
-        ("y", Value::True),
-        ("name", Value::Number(-1)),
-        ("nonce", Value::Text("")),
-        ("z", Value::Token("t")),
-        ("created2", Value::Bytes("f")),
-    ];
-    assert_eq!(rt;
-        shown(alloc, &list(alloc, &[], others)?)?.as_str(),
-        r#"();x=1.5;tag="app";y;name=-1;nonce="";z=t;created2=:Zg==:"#
-    );
     Ok(())
 }
 
 #[test]
 fn at_most_64_components_are_read(rt: HostRuntime) -> Result<(), Fail> {
     let alloc = rt.alloc();
-    let mut list = list(alloc, &[], &[])?;
-    for index in 0..65 {
-        let name = format!(in alloc; "a{index}")?;
-        list.items
-            .push(item(alloc, Value::Text(name.as_str()), &[])?)?;
-        if index == 63 {
-            assert_eq!(rt; read_params(alloc, &list)?.ids.len(), MOST_COMPONENTS);
-        }
+    let mut names = list(alloc, "\"a", "created=?1")?;
+    let mut bad = list(alloc, "1", "")?;
+    for index in 1..65 {
+        assert!(rt; index == 64 || answer(alloc, &names)?.as_str() == "parameter created");
+        let word = format!(in alloc; "\"a{index}")?;
+        names.items.push(item(alloc, word.as_str())?)?;
+        bad.items.push(item(alloc, "1")?)?;
     }
-    assert_eq!(rt; answer(alloc, &list)?.as_str(), "many");
-    let mut bad = super::tests::list(alloc, &[("A", &[])], &[])?;
-    for _ in 0..64 {
-        bad.items.push(item(alloc, Value::Number(1), &[])?)?;
-    }
+    assert_eq!(rt; answer(alloc, &names)?.as_str(), "many");
     assert_eq!(rt; answer(alloc, &bad)?.as_str(), "many");
     Ok(())
 }
 
 #[test]
-fn the_first_repeated_component_is_refused_whatever_the_order_of_its_parameters(
+fn repeated_components_are_refused_whatever_the_order_of_their_parameters(
     rt: HostRuntime,
 ) -> Result<(), Fail> {
     let alloc = rt.alloc();
-    let cases: [(&[(&str, Pairs)], &str); 8] = [
-        (
-            &[
-                ("a", &[("sf", Value::True), ("tr", Value::True)]),
-                ("a", &[("tr", Value::True), ("sf", Value::True)]),
-            ],
-            "repeated 1",
-        ),
-        (
-            &[("a", &[]), ("b", &[]), ("b", &[]), ("a", &[])],
-            "repeated 2",
-        ),
-        (
-            &[("a", &[]), ("b", &[]), ("c", &[]), ("a", &[])],
-            "repeated 3",
-        ),
-        (&[("a", &[]), ("a", &[]), ("A", &[])], "bad 2 name"),
-        (
-            &[
-                ("a", &[]),
-                ("a", &[("sf", Value::True)]),
-                ("a", &[("tr", Value::True)]),
-            ],
-            "ok",
-        ),
-        (
-            &[
-                ("a", &[("key", Value::Text("x"))]),
-                ("a", &[("key", Value::Text("y"))]),
-                ("b", &[("key", Value::Text("x"))]),
-            ],
-            "ok",
-        ),
-        (
-            &[
-                ("a", &[("sf", Value::True), ("req", Value::True)]),
-                ("a", &[("req", Value::True)]),
-            ],
-            "ok",
-        ),
-        (
-            &[
-                ("@query-param", &[("name", Value::Text("x"))]),
-                ("@query-param", &[("name", Value::Text("X"))]),
-            ],
-            "ok",
-        ),
+    let cases = [
+        ("\"a;sf;tr \"a;tr;sf", "repeated 1"),
+        ("\"a \"b \"b \"a", "repeated 2"),
+        ("\"a \"b \"c \"a", "repeated 3"),
+        ("\"a \"a \"A", "bad 2 name"),
+        ("\"a \"a;sf \"a;tr \"b;sf", "ok"),
+        ("\"a;key=\"x \"a;key=\"y \"b;key=\"x", "ok"),
+        ("\"a;sf;req \"a;req", "ok"),
+        ("\"a;req \"a;sf;req", "ok"),
+        ("\"@query-param;name=\"x \"@query-param;name=\"X", "ok"),
     ];
     for (items, want) in cases {
-        assert_eq!(rt; answer(alloc, &list(alloc, items, &[])?)?.as_str(), want);
+        assert_eq!(rt; answer(alloc, &list(alloc, items, "")?)?.as_str(), want);
     }
     Ok(())
 }
 
-// Two values that `read_params` doesn't give, too.
 #[test]
-fn sameness_looks_at_values(rt: HostRuntime) -> Result<(), Fail> {
+fn parameters_of_other_values_are_not_the_same(rt: HostRuntime) -> Result<(), Fail> {
     let alloc = rt.alloc();
-    let values = [
-        Value::Number(1),
-        Value::Number(2),
-        Value::Thousandths(1),
-        Value::Text("a"),
-        Value::Token("a"),
-        Value::Bytes("a"),
-        Value::True,
-        Value::False,
+    let words = [
+        "x=1", "x=1.5", "x=\"a", "x=a", "x=:a", "x", "x=?0", "y", "x;y", "",
     ];
-    for (i, one) in values.iter().enumerate() {
-        for (k, other) in values.iter().enumerate() {
+    for (i, one) in words.iter().enumerate() {
+        for (k, other) in words.iter().enumerate() {
             let a = ComponentId {
-                name: text(alloc, "a")?,
-                params: params(alloc, &[("x", *one)])?,
+                name: text(alloc, b"a")?,
+                params: params(alloc, one)?,
             };
             let b = ComponentId {
-                name: text(alloc, "a")?,
-                params: params(alloc, &[("x", *other)])?,
+                name: text(alloc, b"a")?,
+                params: params(alloc, other)?,
             };
             assert_eq!(rt; same_id(&a, &b), i == k);
         }
@@ -419,47 +240,75 @@ fn sameness_looks_at_values(rt: HostRuntime) -> Result<(), Fail> {
 #[test]
 fn the_first_parameter_of_a_wrong_type_is_named(rt: HostRuntime) -> Result<(), Fail> {
     let alloc = rt.alloc();
-    let cases: [(Pairs, &str); 9] = [
-        (&[("created", Value::Text("1"))], "created"),
-        (&[("expires", Value::Thousandths(1000))], "expires"),
-        (&[("nonce", Value::Token("a"))], "nonce"),
-        (&[("alg", Value::True)], "alg"),
-        (&[("keyid", Value::Number(1))], "keyid"),
-        (&[("tag", Value::Bytes("a"))], "tag"),
+    let cases = [
+        ("created=\"1", "parameter created"),
+        ("expires=1.5", "parameter expires"),
+        ("nonce=a", "parameter nonce"),
+        ("alg", "parameter alg"),
+        ("keyid=1", "parameter keyid"),
+        ("tag=:a", "parameter tag"),
+        ("x;created=1;tag;created2;alg", "parameter tag"),
+        ("expires;created", "parameter expires"),
+        ("keyid=\"a;nonce=1;expires=\"", "parameter nonce"),
         (
-            &[
-                ("x", Value::True),
-                ("created", Value::Number(1)),
-                ("tag", Value::True),
-                ("created2", Value::True),
-                ("alg", Value::True),
-            ],
-            "tag",
+            "created=1;expires=1;nonce=\"n;alg=\"a;keyid=\"k;tag=\"t",
+            "ok",
         ),
-        (
-            &[("expires", Value::True), ("created", Value::True)],
-            "expires",
-        ),
-        (
-            &[
-                ("keyid", Value::Text("a")),
-                ("nonce", Value::Number(1)),
-                ("expires", Value::Text("")),
-            ],
-            "nonce",
-        ),
+        ("x=1.5;created2=:f;name=1;z=t;y;Created", "ok"),
     ];
-    for (pairs, want) in cases {
-        match read_params(alloc, &list(alloc, &[("a", &[])], pairs)?) {
-            Err(IdFault::BadParameter(key)) => assert_eq!(rt; key.bytes(), want.as_bytes()),
-            _ => assert!(rt; false, "{want}"),
-        }
+    for (words, want) in cases {
+        assert_eq!(rt; answer(alloc, &list(alloc, "\"a", words)?)?.as_str(), want);
     }
-    let repeated = list(
-        alloc,
-        &[("a", &[]), ("a", &[])],
-        &[("created", Value::True)],
-    )?;
-    assert_eq!(rt; answer(alloc, &repeated)?.as_str(), "repeated 1");
+    assert_eq!(rt;
+        answer(alloc, &list(alloc, "\"a \"a", "created")?)?.as_str(),
+        "repeated 1"
+    );
+    Ok(())
+}
+
+// After the examples of RFC 9421 sections 2.2.8 and 2.3.
+#[test]
+fn signature_parameters_print_as_their_list(rt: HostRuntime) -> Result<(), Fail> {
+    let alloc = rt.alloc();
+    let mut first = Item {
+        bare: BareItem::Str(text(alloc, b"@query-param")?),
+        params: Params::new(alloc),
+    };
+    first
+        .params
+        .put(text(alloc, b"name")?, BareItem::Str(text(alloc, b"var")?))?;
+    let mut list = InnerList {
+        items: Items::new(alloc),
+        params: Params::new(alloc),
+    };
+    list.items.push(first)?;
+    list.items.push(Item {
+        bare: BareItem::Str(text(alloc, b"@authority")?),
+        params: Params::new(alloc),
+    })?;
+    list.params
+        .put(text(alloc, b"created")?, BareItem::Integer(1618884475))?;
+    let copy = read_params(alloc, &list)?.copy(alloc)?;
+    assert_eq!(rt;
+        print_params(alloc, &copy)?.bytes(),
+        br#"("@query-param";name="var" "@authority");created=1618884475"#.as_slice()
+    );
+    Ok(())
+}
+
+#[test]
+fn an_identifier_prints_with_its_parameters(rt: HostRuntime) -> Result<(), Fail> {
+    let alloc = rt.alloc();
+    let mut id = ComponentId {
+        name: text(alloc, b"cache-control")?,
+        params: Params::new(alloc),
+    };
+    id.params.put(text(alloc, b"tr")?, BareItem::Bool(true))?;
+    id.params
+        .put(text(alloc, b"key")?, BareItem::Str(text(alloc, b"a")?))?;
+    assert_eq!(rt;
+        print_id(alloc, &id)?.bytes(),
+        br#""cache-control";tr;key="a""#.as_slice()
+    );
     Ok(())
 }
