@@ -1,12 +1,12 @@
 -- An item is an identifier exactly where there is no reason against it.
-use Rattle.std.proofs.Common.{◌≡◌, ℕ, Bool, true, false, not, ◌&&◌, cond, Option, Some, None, List, refl, sym, ap, ◌∙◌}
-use Rattle.std.specs.List.{find, list_all, list_any}
+use Rattle.std.proofs.Common.{◌≡◌, ℕ, Bool, true, false, not, ◌&&◌, cond, Option, Some, None, List, refl, ◌∙◌}
+use Rattle.std.specs.List.{find}
 use Rattle.sfv_text.specs.declared.pair.Pair.{Pair}
 use Rattle.sfv_text.specs.declared.value.BareItem.{BareItem}
-use Rattle.sfv_text.specs.declared.value.BareItem.TheVariants.{Integer, Decimal, Str, Token, Bytes, Bool as Boolean}
+use Rattle.sfv_text.specs.declared.value.BareItem.TheVariants.{Str}
 use Rattle.sfv_text.specs.declared.value.Item.{Item}
 use Rattle.component_ids.specs.declared.fault.BadReason.{BadReason}
-use Rattle.component_ids.specs.declared.fault.BadReason.TheVariants.{NotAString, Name, ParameterUnknown, ParameterType, ParametersClash, NameMissing}
+use Rattle.component_ids.specs.declared.fault.BadReason.TheVariants.{Name, ParameterUnknown, ParameterType, ParametersClash, NameMissing}
 use Rattle.component_ids.specs.Table.{is_name, goes_with, has_value_type, have_clash, has_needed, is_allowed}
 use Rattle.component_ids.specs.Reasons.{applies, reasons, reason_against, reason_of}
 use Rattle.component_ids.specs.Identifiers.{is_identifier, is_allowed_bare}

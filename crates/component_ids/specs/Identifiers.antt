@@ -1,10 +1,10 @@
 -- Component identifiers (RFC 9421 section 2).
-use Rattle.std.specs.Prelude.{◌≡◌, ◌↔◌, ℕ, Bool, true, false, List, [], AllPairs, Contains}
+use Rattle.std.specs.Prelude.{◌≡◌, ◌↔◌, ℕ, Bool, false, List, [], AllPairs, Contains}
 use Rattle.sfv_text.specs.Range.{is_item_in_range}
 use Rattle.sfv_text.specs.Strict.{item_text}
 use Rattle.sfv_text.specs.declared.pair.Pair.{Pair}
 use Rattle.sfv_text.specs.declared.value.BareItem.{BareItem}
-use Rattle.sfv_text.specs.declared.value.BareItem.TheVariants.{Integer, Decimal, Str, Token, Bytes, Bool as Boolean}
+use Rattle.sfv_text.specs.declared.value.BareItem.TheVariants.{Str}
 use Rattle.sfv_text.specs.declared.value.Item.{Item}
 use Rattle.component_ids.specs.declared.id.ComponentId.{ComponentId}
 use Rattle.component_ids.specs.Table.{is_allowed}

@@ -1,9 +1,9 @@
 -- Why an item is no component identifier (RFC 9421 section 2).
-use Rattle.std.specs.Prelude.{ℕ, Bool, true, false, not, Option, Some, None, List, [], ◌∷◌, codes}
+use Rattle.std.specs.Prelude.{ℕ, Bool, false, not, Option, Some, List, [], ◌∷◌, codes}
 use Rattle.std.specs.List.{find, list_any}
 use Rattle.sfv_text.specs.declared.pair.Pair.{Pair}
 use Rattle.sfv_text.specs.declared.value.BareItem.{BareItem}
-use Rattle.sfv_text.specs.declared.value.BareItem.TheVariants.{Integer, Decimal, Str, Token, Bytes, Bool as Boolean}
+use Rattle.sfv_text.specs.declared.value.BareItem.TheVariants.{Str}
 use Rattle.sfv_text.specs.declared.value.Item.{Item}
 use Rattle.component_ids.specs.declared.fault.BadReason.{BadReason}
 use Rattle.component_ids.specs.declared.fault.BadReason.TheVariants.{NotAString, Name, ParameterUnknown, ParameterType, ParametersClash, NameMissing}

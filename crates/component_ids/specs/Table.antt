@@ -7,7 +7,7 @@ use Rattle.sfv_text.specs.Keys.{has_key}
 use Rattle.sfv_text.specs.Range.{is_tchar}
 use Rattle.sfv_text.specs.declared.pair.Pair.{Pair}
 use Rattle.sfv_text.specs.declared.value.BareItem.{BareItem}
-use Rattle.sfv_text.specs.declared.value.BareItem.TheVariants.{Integer, Decimal, Str, Token, Bytes, Bool as Boolean}
+use Rattle.sfv_text.specs.declared.value.BareItem.TheVariants.{Integer, Str, Bool as Boolean}
 
 -- ---- values
 

@@ -1,5 +1,5 @@
-use Rattle.std.proofs.Common.{◌≡◌, List, map, sym, ◌∙◌}
-use Rattle.component_ids.specs.Identifiers.{id_of, item_of, AreDistinct}
+use Rattle.std.proofs.Common.{◌≡◌, map, ◌∙◌}
+use Rattle.component_ids.specs.Identifiers.{id_of, AreDistinct}
 use Rattle.component_ids.proofs.AnswerLaws.{ids_back, are_params}
 use Rattle.component_ids.proofs.params.read.Goals as goal
 

@@ -1,4 +1,3 @@
-use Rattle.std.proofs.Common.{sym, ◌∙◌}
 use Rattle.component_ids.proofs.AnswerLaws.{ids_back}
 use Rattle.component_ids.proofs.read_ids.read_ids.Goals as goal
 

@@ -1,4 +1,3 @@
-use Rattle.std.proofs.Common.{sym, ◌∙◌}
 use Rattle.component_ids.proofs.SameLaws.{same_decides}
 use Rattle.component_ids.proofs.same.same_id.Goals as goal
 
