@@ -24,7 +24,8 @@ use std::alloc::Global;
 /// The head that the whole input spells.
 fn read_alone<'m>(alloc: Global, input: &'m [u8]) -> Result<Option<HeadView<'m>>, Memory>
     ensures some { IfOk result (λ found. IfSome found (λ head. IsHeadAlone head input.now)) }
-    ensures only { (head : Head) → IsHeadAlone head input.now → IfOk result (λ found. IsSomeAnd found (λ view. view ≡ head)) }
+    ensures only { (head : Head) → IsHeadAlone head input.now
+        → IfOk result (λ found. IsSomeAnd found (λ view. view ≡ head)) }
 {
     match read_head(alloc, input) {
         Ok(HeadRead::Whole(head, used)) => {

@@ -18,7 +18,8 @@ use std::alloc::Global;
 fn read_list(alloc: Global, params: &[u8]) -> Result<InnerList, Fault>
     ensures ok { IfOk result (λ list. ReadsInner params.now list) }
     ensures in_range { IfOk result (λ list. IsTrue (is_inner_in_range list)) }
-    ensures refused { (lines : List (List ℕ × List ℕ)) → IfErr result (λ fault. IfRefused fault (Applies lines params.now)) }
+    ensures refused { (lines : List (List ℕ × List ℕ))
+        → IfErr result (λ fault. IfRefused fault (Applies lines params.now)) }
 {
     match read_inner(alloc, params) {
         Ok(list) => Ok(list),
@@ -32,7 +33,8 @@ fn read_list(alloc: Global, params: &[u8]) -> Result<InnerList, Fault>
 pub fn read_sig(alloc: Global, params: &[u8]) -> Result<SigParams, Fault>
     ensures ok { IfOk result (λ sig. ReadsParams params.now sig) }
     ensures in_range { IfOk result (λ sig. IsTrue (are_sig_params_in_range sig)) }
-    ensures refused { (lines : List (List ℕ × List ℕ)) → IfErr result (λ fault. IfRefused fault (Applies lines params.now)) }
+    ensures refused { (lines : List (List ℕ × List ℕ))
+        → IfErr result (λ fault. IfRefused fault (Applies lines params.now)) }
 {
     let list = read_list(alloc, params)?;
     match read_params(alloc, &list) {

@@ -17,7 +17,8 @@ use std::alloc::Global;
 
 /// Feeds the line of one covered field, with its end.
 fn feed_line<A: Absorb>(head: &HeadView<'_>, name: &[u8], into: &mut A)
-    ensures { (text : List ℕ) → A.absorbed into.old text → A.absorbed into.new (text ++ component_line (quoted name.now, combined_value head.now.lines name.now)) }
+    ensures { (text : List ℕ) → A.absorbed into.old text
+        → A.absorbed into.new (text ++ component_line (quoted name.now, combined_value head.now.lines name.now)) }
 {
     into.absorb(b"\"");
     into.absorb(name);
@@ -28,7 +29,8 @@ fn feed_line<A: Absorb>(head: &HeadView<'_>, name: &[u8], into: &mut A)
 
 /// Feeds the lines of the covered fields in order.
 fn feed_lines<A: Absorb>(head: &HeadView<'_>, ids: &[ComponentId], into: &mut A)
-    ensures { (text : List ℕ) → A.absorbed into.old text → A.absorbed into.new (text ++ flat_map component_line (quoted_fields head.now.lines ids.now)) }
+    ensures { (text : List ℕ) → A.absorbed into.old text
+        → A.absorbed into.new (text ++ flat_map component_line (quoted_fields head.now.lines ids.now)) }
 {
     for id in ids {
         feed_line(head, id.name.bytes(), into);
@@ -37,7 +39,8 @@ fn feed_lines<A: Absorb>(head: &HeadView<'_>, ids: &[ComponentId], into: &mut A)
 
 /// Feeds the signature base of the covered fields, with this text of the signature parameters.
 fn feed_base<A: Absorb>(head: &HeadView<'_>, ids: &[ComponentId], params: &[u8], into: &mut A)
-    ensures { (text : List ℕ) → A.absorbed into.old text → A.absorbed into.new (text ++ signature_base (quoted_fields head.now.lines ids.now) params.now) }
+    ensures { (text : List ℕ) → A.absorbed into.old text
+        → A.absorbed into.new (text ++ signature_base (quoted_fields head.now.lines ids.now) params.now) }
 {
     feed_lines(head, ids, into);
     into.absorb(b"\"@signature-params\": ");
@@ -51,7 +54,8 @@ fn base_bytes(
     ids: &[ComponentId],
     params: &[u8],
 ) -> Result<Vec<u8>, Memory>
-    ensures { IfOk result (λ base. base.items ≡ signature_base (quoted_fields head.now.lines ids.now) params.now) }
+    ensures { IfOk result (λ base.
+        base.items ≡ signature_base (quoted_fields head.now.lines ids.now) params.now) }
 {
     let mut count = Count::new();
     feed_base(head, ids, params, &mut count);

@@ -67,7 +67,8 @@ fn numbered(alloc: Global, front: &[u8], place: usize) -> Result<Vec<u8>, Memory
 }
 
 fn bad_component(alloc: Global, index: usize, reason: BadReason) -> Result<Vec<u8>, Memory>
-    ensures { IfOk result (λ line. line.items ≡ codes "refused command component-bad " ++ ((decimal index ++ 32 ∷ word_of reason) ++ 10 ∷ [])) }
+    ensures { IfOk result (λ line. line.items ≡ codes "refused command component-bad "
+        ++ ((decimal index ++ 32 ∷ word_of reason) ++ 10 ∷ [])) }
 {
     let mut place = Vec::from_slice(alloc, format!(in alloc; "{index}")?.as_bytes())?;
     place.push(b' ')?;

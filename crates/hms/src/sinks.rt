@@ -24,7 +24,8 @@ impl Count {
 
     /// The count.
     pub fn total(&self) -> usize
-        ensures { (text : List ℕ) → IsCounted self.now text → result ≡ min (length text) (2 ^ 64 - 1) }
+        ensures { (text : List ℕ) → IsCounted self.now text
+            → result ≡ min (length text) (2 ^ 64 - 1) }
     {
         self.count
     }
@@ -68,8 +69,10 @@ impl Fill {
 
     /// What was absorbed, where it has just the size. Another length is answered as want of memory.
     pub fn finish(self) -> Result<Vec<u8>, Memory>
-        ensures is { (text : List ℕ) → IsFilled self text → IfOk result (λ bytes. bytes.items ≡ text) }
-        ensures whole { (text : List ℕ) → IsFilled self text → length text ≡ fill_size self → IsOk result }
+        ensures is { (text : List ℕ) → IsFilled self text
+            → IfOk result (λ bytes. bytes.items ≡ text) }
+        ensures whole { (text : List ℕ) → IsFilled self text → length text ≡ fill_size self
+            → IsOk result }
     {
         if self.over || self.at != self.bytes.len() {
             return Err(Memory);

@@ -37,12 +37,16 @@ impl From<Memory> for Stop {
 
 /// What the program tells, read from the source.
 fn respond<S: Source>(alloc: Global, words: &[String], source: &mut S) -> Result<Report, Stop>
-    ensures told { IfOk result (λ report. IfSome (S.left source.old) (λ input. Reports (map string_bytes words.now) input report.status report.output.items)) }
+    ensures told { IfOk result (λ report. IfSome (S.left source.old) (λ input.
+        Reports (map string_bytes words.now) input report.status report.output.items)) }
     ensures tells { IfOk result (λ report. IsTrue (tells report.status)) }
-    ensures words { IfOk result (λ report. report.status ≡ Status.Words → RefusesWords (map string_bytes words.now) report.output.items) }
+    ensures words { IfOk result (λ report. report.status ≡ Status.Words
+        → RefusesWords (map string_bytes words.now) report.output.items) }
     ensures unread { NoCommand (map string_bytes words.now) → source.new ≡ source.old }
-    ensures no_words { NoCommand (map string_bytes words.now) → MatchResult result (λ report. report.status ≡ Status.Words) (λ stop. stop ≡ Stop.Memory) }
-    ensures read { IfErr result (λ stop. stop ≡ Stop.ReadFault → Rose (S.faults source.old) (S.faults source.new)) }
+    ensures no_words { NoCommand (map string_bytes words.now)
+        → MatchResult result (λ report. report.status ≡ Status.Words) (λ stop. stop ≡ Stop.Memory) }
+    ensures read { IfErr result (λ stop. stop ≡ Stop.ReadFault
+        → Rose (S.faults source.old) (S.faults source.new)) }
     ensures read_told { S.faults source.old < S.faults source.new → IsErrOf result Stop.ReadFault }
 {
     let Some(Command::Base { params }) = read_words(words) else {
@@ -70,12 +74,23 @@ pub fn run<F: Shelf, S: Source, K: Sink>(
     source: &mut S,
     out: &mut K,
 ) -> Status
-    ensures report { IsTrue (tells result) → IfSome (S.left source.old) (λ input. (output : List ℕ) × Reports (map string_bytes words.now) input result output × Appends (K.taken out.old) (K.taken out.new) output) }
-    ensures front { result ≡ Status.WriteFault → IfSome (S.left source.old) (λ input. (status : Status) × (output : List ℕ) × (n : ℕ) × (n < length output) × Reports (map string_bytes words.now) input status output × Appends (K.taken out.old) (K.taken out.new) (take n output)) }
-    ensures quiet { (result ≡ Status.ReadFault) ⊎ (result ≡ Status.Memory) → Keeps (K.taken out.old) (K.taken out.new) }
-    ensures only { IsTrue (tells result) ⊎ ((result ≡ Status.ReadFault) ⊎ ((result ≡ Status.WriteFault) ⊎ (result ≡ Status.Memory))) }
-    ensures words { result ≡ Status.Words → NoCommand (map string_bytes words.now) × Appends (K.taken out.old) (K.taken out.new) (codes "refused words\n") }
-    ensures no_words { NoCommand (map string_bytes words.now) → (result ≡ Status.Words) ⊎ ((result ≡ Status.WriteFault) ⊎ (result ≡ Status.Memory)) }
+    // What is told is the report of the words and the input, whole or a front of it.
+    ensures report { IsTrue (tells result) → IfSome (S.left source.old) (λ input.
+        (output : List ℕ) × Reports (map string_bytes words.now) input result output
+        × Appends (K.taken out.old) (K.taken out.new) output) }
+    ensures front { result ≡ Status.WriteFault → IfSome (S.left source.old) (λ input.
+        (status : Status) × (output : List ℕ) × (n : ℕ) × (n < length output)
+        × Reports (map string_bytes words.now) input status output
+        × Appends (K.taken out.old) (K.taken out.new) (take n output)) }
+    ensures quiet { (result ≡ Status.ReadFault) ⊎ (result ≡ Status.Memory)
+        → Keeps (K.taken out.old) (K.taken out.new) }
+    ensures only { IsTrue (tells result) ⊎ ((result ≡ Status.ReadFault)
+        ⊎ ((result ≡ Status.WriteFault) ⊎ (result ≡ Status.Memory))) }
+    // The words alone decide whether they are refused, whatever the source tells.
+    ensures words { result ≡ Status.Words → NoCommand (map string_bytes words.now)
+        × Appends (K.taken out.old) (K.taken out.new) (codes "refused words\n") }
+    ensures no_words { NoCommand (map string_bytes words.now)
+        → (result ≡ Status.Words) ⊎ ((result ≡ Status.WriteFault) ⊎ (result ≡ Status.Memory)) }
     ensures unread { NoCommand (map string_bytes words.now) → source.new ≡ source.old }
     ensures unasked { _shelf.new ≡ _shelf.old }
 

@@ -83,7 +83,8 @@ pub fn has_line(head: &HeadView<'_>, name: &[u8]) -> bool
 
 /// Feeds the combined value of the name's field lines.
 pub fn feed_combined<A: Absorb>(head: &HeadView<'_>, name: &[u8], into: &mut A)
-    ensures { (text : List ℕ) → A.absorbed into.old text → A.absorbed into.new (text ++ combined_value head.now.lines name.now) }
+    ensures { (text : List ℕ) → A.absorbed into.old text
+        → A.absorbed into.new (text ++ combined_value head.now.lines name.now) }
 {
     let mut is_first = true;
     for index in 0..head.line_count() {
