@@ -1,5 +1,5 @@
 -- Tests of names.
-use Rattle.std.proofs.Common.{◌≡◌, ℕ, Bool, true, false, List, [], ◌∷◌, ◌||◌, ◌&&◌, IsTrue, refl, sym, ◌∙◌, inl, inr, bytes_eq}
+use Rattle.std.proofs.Common.{◌≡◌, ℕ, Bool, true, false, List, [], ◌∷◌, ◌||◌, IsTrue, refl, sym, ◌∙◌, inl, inr, bytes_eq}
 use Rattle.std.proofs.lemmas.Bool.{cases_Bool}
 use Rattle.std.proofs.Math.Bool.{or-true}
 use Rattle.std.specs.List.{list_any}
@@ -32,9 +32,3 @@ or_first false b whole holds is = absurd cc
 pub or_second : (a b whole : Bool) → a ≡ false → (a || b) ≡ whole → b ≡ whole
 or_second true b whole fails is = absurd cc
 or_second false b whole fails is = is
-
--- both of two tests pass
-pub both : (a b : Bool) → (a && b) ≡ true → (a ≡ true) × (b ≡ true)
-both true true h = (refl, refl)
-both true false h = absurd cc
-both false b h = absurd cc

@@ -1,11 +1,8 @@
 -- The strict text of a plain identifier is its name in quotation marks.
-use Rattle.std.proofs.Common.{◌≡◌, ℕ, nat_lt, Bool, true, false, List, [], ◌∷◌, ◌++◌, length, refl, ap, sym, ◌∙◌, arith, eqb, inl, inr}
-use Rattle.std.specs.Prelude.{slice_get, Some}
+use Rattle.std.proofs.Common.{◌≡◌, ℕ, nat_lt, true, false, List, [], ◌∷◌, ◌++◌, length, refl, ap, sym, ◌∙◌, arith, eqb, inl, inr}
 use Rattle.std.specs.List.{list_all, flat_map}
-use Rattle.std.proofs.lemmas.Bool.{cases_Bool, eqb-true}
+use Rattle.std.proofs.lemmas.Bool.{cases_Bool, eqb-true, and_parts}
 use Rattle.std.proofs.lemmas.List.{append-nil}
-use Rattle.std.proofs.lemmas.List.Sums.{AllPass-from_list_all}
-use Rattle.std.proofs.lemmas.Option.{get_or_from_slice_get, slice_get_within}
 use Rattle.sfv_text.specs.Strict.{character_text}
 use Rattle.component_ids.specs.declared.id.ComponentId.{ComponentId}
 use Rattle.component_ids.specs.Identifiers.{id_text}
@@ -13,7 +10,6 @@ use Rattle.component_ids.specs.Table.{is_name_byte, is_field_name}
 use Rattle.hms.specs.Asked.{is_plain}
 use Rattle.hms.specs.Plain.{quoted, quoted_fields}
 use Rattle.hms.specs.SignatureBase.{covered}
-use Rattle.hms.proofs.NameTests.{both}
 
 false_is_no_true : false ≡ true → ⊥
 false_is_no_true h = absurd cc
@@ -36,13 +32,13 @@ byte_as_is c named = elim (cases_Bool (eqb c 34)) [
 pub name_as_is : (name : List ℕ) → list_all is_name_byte name ≡ true → flat_map character_text name ≡ name
 name_as_is [] named = refl
 name_as_is (c ∷ cs) named =
-    let parts = both (is_name_byte c) (list_all is_name_byte cs) named in
+    let parts = and_parts (is_name_byte c) (list_all is_name_byte cs) named in
     rw (byte_as_is c parts.0, name_as_is cs parts.1) refl
 
 pub plain_text : (id : ComponentId) → is_plain id ≡ true → id_text id ≡ quoted id.name
 plain_text id plain =
-    let parts = both (is_field_name id.name) (eqb (length id.params) 0) plain in
-    let named = both (nat_lt 0 (length id.name)) (list_all is_name_byte id.name) parts.0 in
+    let parts = and_parts (is_field_name id.name) (eqb (length id.params) 0) plain in
+    let named = and_parts (nat_lt 0 (length id.name)) (list_all is_name_byte id.name) parts.0 in
     let none : id.params ≡ [] = no_elements id.params (eqb-true (length id.params) 0 parts.1) in
     rw (name_as_is id.name named.1, none) (ap (λ t. 34 ∷ t) (append-nil (id.name ++ 34 ∷ [])))
 
@@ -51,11 +47,5 @@ pub quoted_is_covered : (lines : List (List ℕ × List ℕ)) (ids : List Compon
     quoted_fields lines ids ≡ covered lines ids
 quoted_is_covered lines [] plain = refl
 quoted_is_covered lines (id ∷ ids) plain =
-    let parts = both (is_plain id) (list_all is_plain ids) plain in
+    let parts = and_parts (is_plain id) (list_all is_plain ids) plain in
     rw (plain_text id parts.0, quoted_is_covered lines ids parts.1) refl
-
--- each element passes, and so does this one
-pub passes_at : {X : Type 0} (p : X → Bool) (xs : List X) (i : ℕ) (x : X) → list_all p xs ≡ true → slice_get xs i ≡ Some x → p x ≡ true
-passes_at p xs i x all there =
-    let within = slice_get_within xs i x there in
-    ap p (sym (get_or_from_slice_get xs i x x there)) ∙ AllPass-from_list_all p xs all i x within
