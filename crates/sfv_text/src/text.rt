@@ -1,6 +1,6 @@
 //! Bytes that are owned.
 
-ghost use Rattle.std.specs.Prelude.{◌≡◌, ◌++◌, [], IfOk, OnOk, OnErr};
+ghost use Rattle.std.specs.Prelude.{◌≡◌, ◌≤◌, ◌++◌, [], length, IfOk, IfErr, OnOk, OnErr};
 
 use crate::memory::Memory;
 use std::alloc::Global;
@@ -30,6 +30,16 @@ impl Text {
         }
     }
 
+    /// A text of these bytes.
+    pub fn from_bytes(alloc: Global, bytes: &[u8]) -> Result<Text, Memory>
+        ensures ok { IfOk result (λ text. text ≡ bytes.now) }
+        ensures needed { IfErr result (λ _. 1 ≤ length bytes.now) }
+    {
+        let mut text = Text::new(alloc);
+        text.append(bytes)?;
+        Ok(text)
+    }
+
     /// The bytes, in order.
     pub fn bytes(&self) -> &[u8]
         ensures { result.now ≡ self.now }
@@ -41,6 +51,7 @@ impl Text {
     pub fn append(&mut self, piece: &[u8]) -> Result<(), Memory>
         ensures ok { OnOk result (self.new ≡ self.old ++ piece.now) }
         ensures err { OnErr result (self.new ≡ self.old) }
+        ensures needed { OnErr result (1 ≤ length piece.now) }
     {
         self.bytes.extend_from_slice(piece)?;
         Ok(())
@@ -48,10 +59,9 @@ impl Text {
 
     /// An equal text of its own.
     pub fn copy(&self, alloc: Global) -> Result<Text, Memory>
-        ensures { IfOk result (λ text. text ≡ self.now) }
+        ensures ok { IfOk result (λ text. text ≡ self.now) }
+        ensures needed { IfErr result (λ _. 1 ≤ length self.now) }
     {
-        let mut text = Text::new(alloc);
-        text.append(self.bytes())?;
-        Ok(text)
+        Text::from_bytes(alloc, self.bytes())
     }
 }
