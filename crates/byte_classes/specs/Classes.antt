@@ -28,7 +28,7 @@ is_space c = c == byte " "
 
 -- SP or HTAB, of which OWS is made (RFC 9110 section 5.6.3)
 abbrev pub is_blank : ℕ → Bool
-is_blank c = is_one_of (codes " \t") c
+is_blank c = (c == byte " ") || (c == byte "\t")
 
 -- tchar (RFC 9110 section 5.6.2)
 abbrev pub is_tchar : ℕ → Bool

@@ -8,7 +8,7 @@ use Rattle.byte_grammar.specs.Language.{starts_in, Begins, Then, Turns, IsByte, 
 use Rattle.byte_grammar.specs.Walk.{◌>>=◌, left, Next, then_read, turned, turns_in, turns_read, taken_if, byte_read, run_length, cut_at, run_read, all_read, picked, kind_in, pick_read, optional_if, optional_read, is_of, word_read, choose_read}
 
 -- A reader reads a language: what it gives is spelled so, where it stops the text so far begins the
--- language, a text of the language is read where its value's followers come, and no front of the language
+-- language, a text of the language is read where its value's followers come, and no prefix of the language
 -- stops it.
 pub record Meets {V : Type 0} (L : List ℕ → V → Type 0) (F : V → ℕ → Bool) (p : List ℕ → Result (V × List ℕ) ℕ) : Type 0 where
   pub ok : (bytes : List ℕ) (v : V) (rest : List ℕ) → p bytes ≡ Ok (v, rest) → (x : List ℕ) × (bytes ≡ x ++ rest) × L x v
@@ -16,7 +16,7 @@ pub record Meets {V : Type 0} (L : List ℕ → V → Type 0) (F : V → ℕ →
   pub only : (x r : List ℕ) (v : V) → L x v → Next (F v) r → p (x ++ r) ≡ Ok (v, r)
   pub far : (x more r : List ℕ) (v : V) → L (x ++ more) v → left (p (x ++ r)) ≤ length r
 
--- a reader takes bytes from the front
+-- a reader takes bytes from the prefix
 pub left_less : {V : Type 0} {L : List ℕ → V → Type 0} {F : V → ℕ → Bool} {p : List ℕ → Result (V × List ℕ) ℕ} → Meets L F p → (bytes : List ℕ) → left (p bytes) ≤ length bytes
 left_less {V} {L} {F} {p} m bytes = go (p bytes) refl
   where
@@ -24,14 +24,14 @@ left_less {V} {L} {F} {p} m bytes = go (p bytes) refl
     go (Ok a) e = let w = m.ok bytes a.0 a.1 e in omega (arith, length-append w.0 a.1, ap (λ (t : List ℕ). length t) w.1)
     go (Err n) e = let w = m.err bytes n e in omega (arith, length-append w.0 w.1, ap (λ (t : List ℕ). length t) w.2, w.3)
 
--- two ways to part one text: one front ends within the other
-pub fronts : (a b c d : List ℕ) → a ++ b ≡ c ++ d → ((m : List ℕ) × (c ≡ a ++ m) × (b ≡ m ++ d)) ⊎ ((k : ℕ) × (m : List ℕ) × (a ≡ c ++ k ∷ m) × (d ≡ k ∷ m ++ b))
-fronts [] b c d e = inl (c, refl, e)
-fronts (x ∷ a) b [] d e = inr (x, a, refl, sym e)
-fronts (x ∷ a) b (y ∷ c) d e =
+-- two ways to part one text: one prefix ends within the other
+pub prefixes : (a b c d : List ℕ) → a ++ b ≡ c ++ d → ((m : List ℕ) × (c ≡ a ++ m) × (b ≡ m ++ d)) ⊎ ((k : ℕ) × (m : List ℕ) × (a ≡ c ++ k ∷ m) × (d ≡ k ∷ m ++ b))
+prefixes [] b c d e = inl (c, refl, e)
+prefixes (x ∷ a) b [] d e = inr (x, a, refl, sym e)
+prefixes (x ∷ a) b (y ∷ c) d e =
     let same : x ≡ y = cc in
     let rest : a ++ b ≡ c ++ d = cc in
-    elim (fronts a b c d rest) [
+    elim (prefixes a b c d rest) [
       | inl w ↦ inl (w.0, cc (same, w.1), w.2)
       | inr w ↦ inr (w.0, w.1, cc (same, w.2), w.3)
     ]
@@ -96,7 +96,7 @@ module _ {U V : Type 0} {K : List ℕ → U → Type 0} {L : U → List ℕ → 
         let text : x ++ r ≡ t.first ++ (t.second ++ r) = ap (λ (y : List ℕ). y ++ r) t.joined ∙ append_assoc t.first t.second r in
         ap (then_read p q) text ∙ ap (λ (a : Result (U × List ℕ) ℕ). a >>= λ a. q a.0 a.1) one ∙ two;
     far = λ x more r v t.
-        elim (fronts x more t.first t.second t.joined) [
+        elim (prefixes x more t.first t.second t.joined) [
           | inl w ↦
               let one = m.far x w.0 r t.value (subst (λ (y : List ℕ). K y t.value) w.1 t.spells) in
               omega (arith, then_less (p (x ++ r)), one)
@@ -135,9 +135,9 @@ as_left f (Err n) = refl
 pub not_err : {A : Type 0} (x : A) (n : ℕ) → the_ok x ≡ Err n → ⊥
 not_err x n e = cc
 
-pub as_front : {A B : Type 0} (f : A → B) (r : Result (A × List ℕ) ℕ) → left {V = B} (r >>= λ b. Ok (f b.0, b.1)) ≡ left r
-as_front f (Ok a) = refl
-as_front f (Err n) = refl
+pub as_prefix : {A B : Type 0} (f : A → B) (r : Result (A × List ℕ) ℕ) → left {V = B} (r >>= λ b. Ok (f b.0, b.1)) ≡ left r
+as_prefix f (Ok a) = refl
+as_prefix f (Err n) = refl
 
 pub ok_is : {A : Type 0} (x y : A) → the_ok x ≡ the_ok y → x ≡ y
 ok_is x y e = cc
@@ -233,13 +233,13 @@ module _ {V : Type 0} {L : List ℕ → Option V → Type 0} {F : Option V → �
       go : ((rest : List ℕ) → left (turns_in k p rest) ≤ length rest) → (r : Result (Option V × List ℕ) ℕ) → left r ≤ length bytes
           → left (r >>= λ a. turned a.0 a.1 (turns_in k p a.1)) ≤ length bytes
       go again (Ok (None, rest)) le = le
-      go again (Ok (Some v, rest)) le = omega (arith, as_front (λ (vs : List V). v ∷ vs) (turns_in k p rest), again rest)
+      go again (Ok (Some v, rest)) le = omega (arith, as_prefix (λ (vs : List V). v ∷ vs) (turns_in k p rest), again rest)
       go again (Err n) le = le
 
   turned_less : (r : Result (Option V × List ℕ) ℕ) → left (r >>= λ a. turned a.0 a.1 (turns_read p a.1)) ≤ left r
   unfolding turns_read
   turned_less (Ok (None, rest)) = omega arith
-  turned_less (Ok (Some v, rest)) = omega (arith, as_front (λ (vs : List V). v ∷ vs) (turns_in (suc (length rest)) p rest), in_less (suc (length rest)) rest)
+  turned_less (Ok (Some v, rest)) = omega (arith, as_prefix (λ (vs : List V). v ∷ vs) (turns_in (suc (length rest)) p rest), in_less (suc (length rest)) rest)
   turned_less (Err n) = omega arith
 
   in_ok : (k : ℕ) (bytes : List ℕ) (vs : List V) (rest : List ℕ) → turns_in k p bytes ≡ Ok (vs, rest) → (x : List ℕ) × (bytes ≡ x ++ rest) × Turns L x vs
@@ -315,7 +315,7 @@ module _ {V : Type 0} {L : List ℕ → Option V → Type 0} {F : Option V → �
     turns_far [] x more r h =
         let far = m.far x more r None h in
         subst (λ (a : Result (List V × List ℕ) ℕ). left a ≤ length r) (sym (turns_step (x ++ r))) (omega (arith, turned_less (p (x ++ r)), far))
-    turns_far (v ∷ vs) x more r h = go (λ y m s t. turns_far vs y m s t) (fronts x more h.0 h.1 h.2)
+    turns_far (v ∷ vs) x more r h = go (λ y m s t. turns_far vs y m s t) (prefixes x more h.0 h.1 h.2)
       where
         go : ((y m s : List ℕ) → Turns L (y ++ m) vs → left (turns_read p (y ++ s)) ≤ length s)
             → ((m : List ℕ) × (h.0 ≡ x ++ m) × (more ≡ m ++ h.1)) ⊎ ((k : ℕ) × (m : List ℕ) × (x ≡ h.0 ++ k ∷ m) × (h.1 ≡ k ∷ m ++ more)) → left (turns_read p (x ++ r)) ≤ length r
@@ -330,7 +330,7 @@ module _ {V : Type 0} {L : List ℕ → Option V → Type 0} {F : Option V → �
             let text : x ++ r ≡ h.0 ++ (tail ++ r) = ap (λ (y : List ℕ). y ++ r) w.2 ∙ append_assoc h.0 tail r in
             let whole = turns_step (x ++ r) ∙ ap (λ (y : List ℕ). p y >>= λ a. turned a.0 a.1 (turns_read p a.1)) text
             ∙ ap (λ (a : Result (Option V × List ℕ) ℕ). a >>= λ a. turned a.0 a.1 (turns_read p a.1)) one in
-            subst (λ (a : Result (List V × List ℕ) ℕ). left a ≤ length r) (sym whole) (omega (arith, as_front (λ (ws : List V). v ∷ ws) (turns_read p (tail ++ r)), two))
+            subst (λ (a : Result (List V × List ℕ) ℕ). left a ≤ length r) (sym whole) (omega (arith, as_prefix (λ (ws : List V). v ∷ ws) (turns_read p (tail ++ r)), two))
 
     pub meets_turns : Meets (Turns L) (λ _. F None) (turns_read p)
     unfolding turns_read
@@ -420,12 +420,12 @@ meets_byte class c passes F = record { ok = ok; err = err; only = only; far = fa
         let is : d ≡ v = cc (h.same) in
         let tail : x ++ more ≡ [] = cc (h.same) in
         let passes : class d ≡ true = ap class is ∙ h.passes in
-        let none : x ≡ [] = empty_front x more tail in
+        let none : x ≡ [] = empty_prefix x more tail in
         subst (λ (b : Bool). left (taken_if b d (x ++ r)) ≤ length r) (sym passes) (subst (λ (y : List ℕ). length (y ++ r) ≤ length r) (sym none) (omega arith))
       where
-        empty_front : (x more : List ℕ) → x ++ more ≡ [] → x ≡ []
-        empty_front [] more e = refl
-        empty_front (d ∷ x) more e = absurd cc
+        empty_prefix : (x more : List ℕ) → x ++ more ≡ [] → x ≡ []
+        empty_prefix [] more e = refl
+        empty_prefix (d ∷ x) more e = absurd cc
 
 -- ---- bytes of a class
 
@@ -629,7 +629,7 @@ module _ {V : Type 0} {L : List ℕ → V → Type 0} {F : V → ℕ → Bool} {
       only x r (Some v) h after = some x r (heads x v h) ∙ ap (λ (a : Result (V × List ℕ) ℕ). a >>= λ a. Ok (Some a.0, a.1)) (m.only x r v h after)
 
       less_at : (b : Bool) (bytes : List ℕ) → left (optional_if b p bytes) ≤ length bytes
-      less_at true bytes = omega (arith, as_front (λ (v : V). Some v) (p bytes), left_less m bytes)
+      less_at true bytes = omega (arith, as_prefix (λ (v : V). Some v) (p bytes), left_less m bytes)
       less_at false bytes = omega arith
 
       less : (bytes : List ℕ) → left (optional_read class p bytes) ≤ length bytes
@@ -644,7 +644,7 @@ module _ {V : Type 0} {L : List ℕ → V → Type 0} {F : V → ℕ → Bool} {
       far [] more r (Some v) h = less r
       far (c ∷ x) more r (Some v) h =
           subst (λ (a : Result (Option V × List ℕ) ℕ). left a ≤ length r) (sym (some (c ∷ x) r (heads (c ∷ x ++ more) v h)))
-          (omega (arith, as_front (λ (v : V). Some v) (p (c ∷ x ++ r)), m.far (c ∷ x) more r v h))
+          (omega (arith, as_prefix (λ (v : V). Some v) (p (c ∷ x ++ r)), m.far (c ∷ x) more r v h))
 
 -- ---- bytes that come next
 

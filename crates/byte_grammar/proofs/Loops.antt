@@ -1,28 +1,28 @@
 -- Turn after turn, as a loop takes them.
 use Rattle.std.proofs.Common.{◌≡◌, ℕ, List, [], ◌∷◌, ◌++◌, Option, Some, None, Result, Ok, Err, refl, sym, ap, ◌∙◌, append_assoc}
 use Rattle.std.proofs.lemmas.List.{append-nil}
-use Rattle.byte_grammar.specs.Walk.{◌>>=◌, turned, turns_read, with_front, with_state}
+use Rattle.byte_grammar.specs.Walk.{◌>>=◌, turned, turns_read, with_prefix, with_state}
 
 -- a reader whose turns go on after it
 abbrev pub IsLoop : {V : Type 0} → (List ℕ → Result (Option V × List ℕ) ℕ) → Type 0
 IsLoop p = (bytes : List ℕ) → turns_read p bytes ≡ (p bytes >>= λ a. turned a.0 a.1 (turns_read p a.1))
 
-module _ {V : Type 0} (p : List ℕ → Result (Option V × List ℕ) ℕ) (step : IsLoop p) (front : List V) (rest : List ℕ) (total : Result (List V × List ℕ) ℕ)
-    (so_far : with_front front (turns_read p rest) ≡ total) where
-  pub loop_last : (after : List ℕ) → p rest ≡ Ok (None, after) → total ≡ Ok (front, after)
-  loop_last after e = sym so_far ∙ ap (with_front front) (step rest ∙ ap (λ (r : Result (Option V × List ℕ) ℕ). r >>= λ a. turned a.0 a.1 (turns_read p a.1)) e) ∙ ap (λ (vs : List V). Ok (vs, after)) (append-nil front)
+module _ {V : Type 0} (p : List ℕ → Result (Option V × List ℕ) ℕ) (step : IsLoop p) (prefix : List V) (rest : List ℕ) (total : Result (List V × List ℕ) ℕ)
+    (so_far : with_prefix prefix (turns_read p rest) ≡ total) where
+  pub loop_last : (after : List ℕ) → p rest ≡ Ok (None, after) → total ≡ Ok (prefix, after)
+  loop_last after e = sym so_far ∙ ap (with_prefix prefix) (step rest ∙ ap (λ (r : Result (Option V × List ℕ) ℕ). r >>= λ a. turned a.0 a.1 (turns_read p a.1)) e) ∙ ap (λ (vs : List V). Ok (vs, after)) (append-nil prefix)
 
   pub loop_err : (n : ℕ) → p rest ≡ Err n → total ≡ Err n
-  loop_err n e = sym so_far ∙ ap (with_front front) (step rest ∙ ap (λ (r : Result (Option V × List ℕ) ℕ). r >>= λ a. turned a.0 a.1 (turns_read p a.1)) e)
+  loop_err n e = sym so_far ∙ ap (with_prefix prefix) (step rest ∙ ap (λ (r : Result (Option V × List ℕ) ℕ). r >>= λ a. turned a.0 a.1 (turns_read p a.1)) e)
 
-  regroup : (v : V) (r : Result (List V × List ℕ) ℕ) → with_front (front ++ v ∷ []) r ≡ with_front front (r >>= λ b. Ok (v ∷ b.0, b.1))
-  regroup v (Ok b) = ap (λ (vs : List V). Ok (vs, b.1)) (append_assoc front (v ∷ []) b.0)
+  regroup : (v : V) (r : Result (List V × List ℕ) ℕ) → with_prefix (prefix ++ v ∷ []) r ≡ with_prefix prefix (r >>= λ b. Ok (v ∷ b.0, b.1))
+  regroup v (Ok b) = ap (λ (vs : List V). Ok (vs, b.1)) (append_assoc prefix (v ∷ []) b.0)
   regroup v (Err n) = refl
 
-  pub loop_more : (v : V) (after : List ℕ) → p rest ≡ Ok (Some v, after) → with_front (front ++ v ∷ []) (turns_read p after) ≡ total
-  loop_more v after e = regroup v (turns_read p after) ∙ sym (ap (with_front front) (step rest ∙ ap (λ (r : Result (Option V × List ℕ) ℕ). r >>= λ a. turned a.0 a.1 (turns_read p a.1)) e)) ∙ so_far
+  pub loop_more : (v : V) (after : List ℕ) → p rest ≡ Ok (Some v, after) → with_prefix (prefix ++ v ∷ []) (turns_read p after) ≡ total
+  loop_more v after e = regroup v (turns_read p after) ∙ sym (ap (with_prefix prefix) (step rest ∙ ap (λ (r : Result (Option V × List ℕ) ℕ). r >>= λ a. turned a.0 a.1 (turns_read p a.1)) e)) ∙ so_far
 
-pub loop_first : {V : Type 0} (r : Result (List V × List ℕ) ℕ) → with_front [] r ≡ r
+pub loop_first : {V : Type 0} (r : Result (List V × List ℕ) ℕ) → with_prefix [] r ≡ r
 loop_first (Ok b) = refl
 loop_first (Err n) = refl
 

@@ -1,18 +1,18 @@
--- A whole text: its reading, and the place where it stops.
+-- A whole text: its reading, and the offset where it stops.
 use Rattle.std.proofs.Common.{◌≡◌, ℕ, ◌+◌, ◌-◌, ◌≤◌, Bool, true, false, not, List, [], ◌∷◌, ◌++◌, length, take, drop, Result, Ok, Err, refl, sym, ap, subst, ◌∙◌, append_assoc, inl, inr, arith}
 use Rattle.std.specs.List.{list_all}
 use Rattle.std.proofs.lemmas.List.{append-nil, length-append, take_at, take-append-drop, length-drop}
 use Rattle.byte_grammar.specs.Language.{Begins, IsAll, Padded}
 use Rattle.byte_grammar.specs.Walk.{◌>>=◌, left, Next, padded_read, ended, whole_read, unread}
 use Rattle.byte_grammar.proofs.Laws.{Meets, meets_then, meets_all, meets_same, meets_map, and_is, ok_is, not_err, left_less, bind_ok, bind_err}
-use Rattle.byte_grammar.specs.Place.{IsPlace}
+use Rattle.byte_grammar.specs.FaultOffset.{IsFaultOffset}
 
 -- what only the end may follow
 abbrev pub Nothing : {V : Type 0} → V → ℕ → Bool
 Nothing _ c = false
 
 module _ {V : Type 0} {L : List ℕ → V → Type 0} {F : V → ℕ → Bool} {p : List ℕ → Result (V × List ℕ) ℕ} (blank : ℕ → Bool) (m : Meets L F p) where
-  -- blanks at both ends, round a text that begins with none
+  -- blanks at both ends, around a text that begins with none
   pub meets_padded : ((v : V) (c : ℕ) → blank c ≡ true → F v c ≡ true) → ((x : List ℕ) (v : V) (r : List ℕ) → L x v → Next (λ c. not (blank c)) (x ++ r))
       → (x : List ℕ) (v : V) → L x v → Meets (Padded blank L) Nothing (padded_read blank p)
   unfolding padded_read
@@ -51,18 +51,18 @@ module _ {V : Type 0} {L : List ℕ → V → Type 0} {F : V → ℕ → Bool} {
 -- ---- a whole text
 
 module _ {V : Type 0} {L : List ℕ → V → Type 0} {p : List ℕ → Result (V × List ℕ) ℕ} (m : Meets L Nothing p) where
-  take_front : (x rest : List ℕ) (text : List ℕ) → text ≡ x ++ rest → take (length text - length rest) text ≡ x
-  take_front x rest text e =
+  take_prefix : (x rest : List ℕ) (text : List ℕ) → text ≡ x ++ rest → take (length text - length rest) text ≡ x
+  take_prefix x rest text e =
       let count : length text - length rest ≡ length x = omega (arith, length-append x rest, ap (λ (y : List ℕ). length y) e) in
       ap (λ (n : ℕ). take n text) count ∙ ap (λ (y : List ℕ). take (length x) y) e ∙ take_at x rest (length x) refl
 
   -- where it stops the text so far begins the language
-  pub stops_front : (text : List ℕ) (n : ℕ) → p text ≡ Err n → Begins L (take (length text - n) text)
-  stops_front text n e =
+  pub stops_prefix : (text : List ℕ) (n : ℕ) → p text ≡ Err n → Begins L (take (length text - n) text)
+  stops_prefix text n e =
       let s = m.err text n e in
-      subst (λ (y : List ℕ). Begins L y) (sym (ap (λ (n : ℕ). take (length text - n) text) (sym s.3) ∙ take_front s.0 s.1 text s.2)) s.4
+      subst (λ (y : List ℕ). Begins L y) (sym (ap (λ (n : ℕ). take (length text - n) text) (sym s.3) ∙ take_prefix s.0 s.1 text s.2)) s.4
 
-  -- and no longer front does
+  -- and no longer prefix does
   pub stops_far : (text : List ℕ) (k : ℕ) → Begins L (take k text) → left (p text) ≤ length (drop k text)
   stops_far text k b = subst (λ (y : List ℕ). left (p y) ≤ length (drop k text)) (take-append-drop k text) (m.far (take k text) b.0 (drop k text) b.1 b.2)
 
@@ -75,11 +75,11 @@ module _ {V : Type 0} {L : List ℕ → V → Type 0} {p : List ℕ → Result (
   stopped_within : (text : List ℕ) (n : ℕ) → left (p text) ≡ n → n ≤ length text
   stopped_within text n e = omega (arith, left_less m text)
 
-  is_place : (text : List ℕ) (n : ℕ) → left (p text) ≡ n → ((v : V) → L text v → ⊥) → Begins L (take (length text - n) text) → IsPlace L text (length text - n)
-  is_place text n e none front = record {
+  is_offset : (text : List ℕ) (n : ℕ) → left (p text) ≡ n → ((v : V) → L text v → ⊥) → Begins L (take (length text - n) text) → IsFaultOffset L text (length text - n)
+  is_offset text n e none prefix = record {
     none = none;
     within = omega arith;
-    begins = front;
+    begins = prefix;
     last = λ lt b. omega (arith, stops_far text (length text - n + 1) b, length-drop (length text - n + 1) text, stopped_within text n e);
   }
 
@@ -91,21 +91,21 @@ module _ {V : Type 0} {L : List ℕ → V → Type 0} {p : List ℕ → Result (
       let same : c ∷ rest ≡ [] = ap (λ (a : V × List ℕ). a.1) (ok_is _ _ (sym e ∙ whole_only text w h)) in
       absurd (cc same)
 
-  err_place : (text : List ℕ) (n : ℕ) → p text ≡ Err n → IsPlace L text (length text - n)
-  err_place text n e = is_place text n (ap (λ (r : Result (V × List ℕ) ℕ). left r) e) (err_none text n e) (stops_front text n e)
+  err_offset : (text : List ℕ) (n : ℕ) → p text ≡ Err n → IsFaultOffset L text (length text - n)
+  err_offset text n e = is_offset text n (ap (λ (r : Result (V × List ℕ) ℕ). left r) e) (err_none text n e) (stops_prefix text n e)
 
-  rest_place : (text : List ℕ) (v : V) (c : ℕ) (rest : List ℕ) → p text ≡ Ok (v, c ∷ rest) → IsPlace L text (length text - length (c ∷ rest))
-  rest_place text v c rest e =
+  rest_offset : (text : List ℕ) (v : V) (c : ℕ) (rest : List ℕ) → p text ≡ Ok (v, c ∷ rest) → IsFaultOffset L text (length text - length (c ∷ rest))
+  rest_offset text v c rest e =
       let s = m.ok text v (c ∷ rest) e in
-      is_place text (length (c ∷ rest)) (ap (λ (r : Result (V × List ℕ) ℕ). left r) e) (rest_none text v c rest e)
-      (subst (λ (y : List ℕ). Begins L y) (sym (take_front s.0 (c ∷ rest) text s.1)) ([], v, subst (λ (y : List ℕ). L y v) (sym (append-nil s.0)) s.2))
+      is_offset text (length (c ∷ rest)) (ap (λ (r : Result (V × List ℕ) ℕ). left r) e) (rest_none text v c rest e)
+      (subst (λ (y : List ℕ). Begins L y) (sym (take_prefix s.0 (c ∷ rest) text s.1)) ([], v, subst (λ (y : List ℕ). L y v) (sym (append-nil s.0)) s.2))
 
--- a reading of whole texts tells the language and the place of each fault
+-- a reading of whole texts tells the language and the offset of each fault
 pub record Judges {V : Type 0} (L : List ℕ → V → Type 0) (r : List ℕ → Result V ℕ) : Type 0 where
   pub ok : (text : List ℕ) (v : V) → r text ≡ Ok v → L text v
   pub only : (text : List ℕ) (v : V) → L text v → r text ≡ Ok v
   pub within : (text : List ℕ) (n : ℕ) → r text ≡ Err n → n ≤ length text
-  pub place : (text : List ℕ) (n : ℕ) → r text ≡ Err n → IsPlace L text (length text - n)
+  pub offset : (text : List ℕ) (n : ℕ) → r text ≡ Err n → IsFaultOffset L text (length text - n)
   pub begins : (text : List ℕ) → unread (r text) ≡ 0 → Begins L text
   pub all : (text : List ℕ) → Begins L text → unread (r text) ≡ 0
 
@@ -136,12 +136,12 @@ module _ {V : Type 0} {L : List ℕ → V → Type 0} {p : List ℕ → Result (
         whole_ok m text v (b.1 ∙ ap (λ (v : V). Ok (v, b.0.1)) d.0 ∙ ap (λ (rest : List ℕ). Ok (v, rest)) d.1);
     only = λ text v h. ap (λ (a : Result (V × List ℕ) ℕ). a >>= λ a. ended a.0 a.1) (whole_only m text v h);
     within = λ text n e. stopped_within m text n (sym (unread_left (p text)) ∙ ap (λ (r : Result V ℕ). unread r) e);
-    place = λ text n e.
+    offset = λ text n e.
         elim (bind_err (p text) (λ a. ended a.0 a.1) n e) [
-          | inl w ↦ err_place m text n w
+          | inl w ↦ err_offset m text n w
           | inr b ↦
               let d = ended_err b.0.0 b.0.1 n b.2 in
-              subst (λ (n : ℕ). IsPlace L text (length text - n)) d.3 (rest_place m text b.0.0 d.0 d.1 (b.1 ∙ ap (λ (rest : List ℕ). Ok (b.0.0, rest)) d.2))
+              subst (λ (n : ℕ). IsFaultOffset L text (length text - n)) d.3 (rest_offset m text b.0.0 d.0 d.1 (b.1 ∙ ap (λ (rest : List ℕ). Ok (b.0.0, rest)) d.2))
         ];
     begins = λ text e. through text (p text) refl (sym (unread_left (p text)) ∙ e);
     all = λ text b. unread_left (p text) ∙ omega (arith, subst (λ (y : List ℕ). left (p y) ≤ 0) (append-nil text) (m.far text b.0 [] b.1 b.2));

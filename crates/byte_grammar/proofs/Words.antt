@@ -2,7 +2,7 @@
 use Rattle.std.proofs.Common.{◌≡◌, ℕ, suc, ◌+◌, ◌≤◌, Bool, true, false, List, [], ◌∷◌, length, take, drop, Result, Ok, Err, refl, ap, arith}
 use Rattle.byte_grammar.specs.Walk.{taken_if, byte_read, run_length, all_read, word_read}
 
--- what the reader of one byte takes stands in front
+-- what the reader of one byte takes stands first
 pub byte_stands : (class : ℕ → Bool) (bytes : List ℕ) (c : ℕ) (rest : List ℕ) → byte_read class bytes ≡ Ok (c, rest) → bytes ≡ c ∷ rest
 unfolding byte_read
 byte_stands class [] c rest e = absurd cc
@@ -19,5 +19,5 @@ pub word_cut : (first others : ℕ → Bool) (bytes : List ℕ) (c n : ℕ) (res
     → word_read first others bytes ≡ Ok (take (1 + n) bytes, drop (1 + n) bytes)
 unfolding word_read all_read
 word_cut first others bytes c n rest e is =
-    let front : 1 + n ≡ suc n = omega arith in
-    rw (e, front, byte_stands first bytes c rest e, is) refl
+    let prefix : 1 + n ≡ suc n = omega arith in
+    rw (e, prefix, byte_stands first bytes c rest e, is) refl

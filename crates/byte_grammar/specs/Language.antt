@@ -2,9 +2,9 @@
 use Rattle.std.specs.Prelude.{◌≡◌, ℕ, ◌≤◌, Bool, true, false, List, [], ◌∷◌, ◌++◌, length, Option, Some, None}
 use Rattle.std.specs.List.{list_all}
 
--- some text with this front is in the language
+-- some text with this prefix is in the language
 abbrev pub Begins : {V : Type 0} → (List ℕ → V → Type 0) → List ℕ → Type 0
-Begins {V} L front = (more : List ℕ) × (v : V) × L (front ++ more) v
+Begins {V} L prefix = (more : List ℕ) × (v : V) × L (prefix ++ more) v
 
 -- a text and then a text
 pub record Then {U V : Type 0} (K : List ℕ → U → Type 0) (L : U → List ℕ → V → Type 0) (text : List ℕ) (v : V) : Type 0 where

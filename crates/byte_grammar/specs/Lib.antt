@@ -1,4 +1,4 @@
 pub mod Language
 pub mod Walk
-pub mod Place
+pub mod FaultOffset
 pub mod Gives

@@ -33,7 +33,7 @@ unfoldable pub byte_read : (ℕ → Bool) → List ℕ → Result (ℕ × List �
 byte_read class [] = Err 0
 byte_read class (c ∷ rest) = taken_if (class c) c rest
 
--- how many bytes of a class stand in front, at most so many
+-- how many bytes of a class stand first, at most so many
 unfoldable pub run_length : (ℕ → Bool) → ℕ → List ℕ → ℕ
 run_length class zero bytes = 0
 run_length class (suc n) [] = 0
@@ -90,8 +90,8 @@ unfoldable pub turns_read : {V : Type 0} → (List ℕ → Result (Option V × L
 turns_read p bytes = turns_in (suc (length bytes)) p bytes
 
 -- what was read before, and what the rest gives
-abbrev pub with_front : {V : Type 0} → List V → Result (List V × List ℕ) ℕ → Result (List V × List ℕ) ℕ
-with_front front read = read >>= λ b. Ok (front ++ b.0, b.1)
+abbrev pub with_prefix : {V : Type 0} → List V → Result (List V × List ℕ) ℕ → Result (List V × List ℕ) ℕ
+with_prefix prefix read = read >>= λ b. Ok (prefix ++ b.0, b.1)
 
 abbrev pub with_state : {S V : Type 0} → (S → V → S) → S → Result (List V × List ℕ) ℕ → Result (S × List ℕ) ℕ
 with_state f s read = read >>= λ b. Ok (after_all f s b.0, b.1)

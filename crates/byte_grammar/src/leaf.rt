@@ -6,8 +6,8 @@ ghost use Rattle.byte_grammar.specs.Language.{starts_in};
 ghost use Rattle.byte_grammar.specs.Gives.{Gives};
 ghost use Rattle.byte_grammar.specs.Walk.{byte_read, run_length, run_read, all_read, word_read};
 
-use crate::class::ByteClass;
 use crate::left::Left;
+use byte_classes::ByteClass;
 
 /// Reads one byte of the class.
 #[tactic(auto, unfolding(crate::specs::Walk::byte_read))]
@@ -26,7 +26,7 @@ pub fn read_byte<C: ByteClass>(class: C, bytes: &[u8]) -> Result<(u8, &[u8]), Le
     }
 }
 
-/// How many bytes of the class stand in front, at most so many.
+/// How many bytes of the class stand first, at most so many.
 fn count<C: ByteClass>(class: C, most: usize, bytes: &[u8]) -> usize
     ensures value { result ≡ run_length (C.members class) most bytes.now }
     ensures within { result ≤ length bytes.now }
@@ -74,7 +74,7 @@ pub fn read_all<C: ByteClass>(class: C, bytes: &[u8]) -> (&[u8], &[u8])
     bytes.split_at(count(class, bytes.len(), bytes))
 }
 
-/// Whether a byte of the class stands in front.
+/// Whether a byte of the class stands first.
 pub fn starts_with<C: ByteClass>(class: C, bytes: &[u8]) -> bool
     ensures { result ≡ starts_in (C.members class) bytes.now }
 {
@@ -84,7 +84,7 @@ pub fn starts_with<C: ByteClass>(class: C, bytes: &[u8]) -> bool
     }
 }
 
-/// Reads a byte of the first class, and as many bytes of the second as there are behind it.
+/// Reads a byte of the first class, and as many bytes of the second as there are after it.
 #[tactic(auto, unfolding(crate::specs::Walk::word_read))]
 pub fn read_word<C: ByteClass, D: ByteClass>(
     first: C,

@@ -18,8 +18,8 @@ use Rattle.component_ids.specs.Identifiers.{item_of, is_identifier, id_of, AreDi
 use Rattle.component_ids.specs.Reasons.{reason_of}
 use Rattle.component_ids.specs.SignatureParams.{is_typed, list_of, are_sig_params_in_range, IsSigParams}
 use Rattle.component_ids.specs.Answers.{IsFirstBad, IsFirstRepeated, IsFirstIllTyped, AreIdentifiers, AnswersWhere}
-use Rattle.component_ids.specs.Reads.{Explains}
-use Rattle.component_ids.proofs.Places.{some_and_parts, find_none, all_at, slice_get_take}
+use Rattle.component_ids.specs.tools.Reads.{Explains}
+use Rattle.component_ids.proofs.Indices.{some_and_parts, find_none, all_at, slice_get_take}
 use Rattle.component_ids.proofs.ReasonLaws.{identifier_where_some}
 use Rattle.component_ids.proofs.RepeatedLaws.{not_repeated, first_repeated_once}
 

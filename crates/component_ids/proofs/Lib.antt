@@ -1,5 +1,5 @@
 pub mod AnswerLaws
-pub mod Places
+pub mod Indices
 pub mod ReasonLaws
 pub mod RepeatedLaws
 pub mod SameLaws

@@ -10,7 +10,7 @@ use Rattle.component_ids.specs.declared.fault.BadReason.TheVariants.{Name, Param
 use Rattle.component_ids.specs.Table.{is_name, goes_with, has_value_type, have_clash, has_needed, is_allowed}
 use Rattle.component_ids.specs.Reasons.{applies, reasons, reason_against, reason_of}
 use Rattle.component_ids.specs.Identifiers.{is_identifier, is_allowed_bare}
-use Rattle.component_ids.proofs.Places.{list_all-not_any}
+use Rattle.component_ids.proofs.Indices.{list_all-not_any}
 
 -- the first of five tests
 abbrev first_of_five : Bool → Bool → Bool → Bool → Bool → Option BadReason

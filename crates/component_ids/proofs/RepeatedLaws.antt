@@ -11,8 +11,8 @@ use Rattle.std.proofs.Math.ListN.{length-take}
 use Rattle.component_ids.specs.declared.id.ComponentId.{ComponentId}
 use Rattle.component_ids.specs.Identifiers.{Same, AreDistinct}
 use Rattle.component_ids.specs.Answers.{IsFirstRepeated}
-use Rattle.component_ids.specs.SameTests.{is_same}
-use Rattle.component_ids.proofs.Places.{some_and, some_and_parts, slice_get_take}
+use Rattle.component_ids.specs.tools.SameTests.{is_same}
+use Rattle.component_ids.proofs.Indices.{some_and, some_and_parts, slice_get_take}
 use Rattle.component_ids.proofs.SameLaws.{same_decides}
 
 -- one more identifier that isn't there
@@ -50,19 +50,19 @@ not_repeated ids i distinct first =
     let same : Same (get_or ids at.0 id) (get_or ids i id) = rw (earlier_is, is) at.4 in
     distinct at.0 i id k_lt lt same
 
--- the first of a list is the first of its front
-first_of_front : (ids : List ComponentId) (i j : ℕ) → i < j → IsFirstRepeated ids i → IsFirstRepeated (take j ids) i
-first_of_front ids i j lt first =
-    let front : take i (take j ids) ≡ take i ids = take-take i j ids (omega arith) in
+-- the first of a list is the first of its prefix
+first_of_prefix : (ids : List ComponentId) (i j : ℕ) → i < j → IsFirstRepeated ids i → IsFirstRepeated (take j ids) i
+first_of_prefix ids i j lt first =
+    let prefix : take i (take j ids) ≡ take i ids = take-take i j ids (omega arith) in
     let there : slice_get (take j ids) i ≡ slice_get ids i = slice_get_take ids j i lt in
-    record { before = rw front first.before; there = rw (front, there) first.there }
+    record { before = rw prefix first.before; there = rw (prefix, there) first.there }
 
--- only one place is the first
+-- only one index is the first
 pub first_repeated_once : (ids : List ComponentId) (i j : ℕ) → IsFirstRepeated ids i → IsFirstRepeated ids j → i ≡ j
 first_repeated_once ids i j first second = elim (cases_order i j) [
   | inl same ↦ same
   | inr apart ↦ elim apart [
-    | inl less ↦ absurd (not_repeated (take j ids) i second.before (first_of_front ids i j less first))
-    | inr more ↦ absurd (not_repeated (take i ids) j first.before (first_of_front ids j i more second))
+    | inl less ↦ absurd (not_repeated (take j ids) i second.before (first_of_prefix ids i j less first))
+    | inr more ↦ absurd (not_repeated (take i ids) j first.before (first_of_prefix ids j i more second))
   ]
 ]

@@ -13,7 +13,7 @@ use Rattle.sfv_text.specs.declared.value.BareItem.{BareItem}
 use Rattle.sfv_text.specs.declared.value.BareItem.TheVariants.{Integer, Decimal, Str, Token, Bytes, Bool as Boolean}
 use Rattle.component_ids.specs.declared.id.ComponentId.{ComponentId}
 use Rattle.component_ids.specs.Identifiers.{Same}
-use Rattle.component_ids.specs.SameTests.{is_same_value, is_same_param, is_among, are_among, is_same}
+use Rattle.component_ids.specs.tools.SameTests.{is_same_value, is_same_param, is_among, are_among, is_same}
 
 value_same : (a b : BareItem) → Decides (is_same_value a b) (a ≡ b)
 value_same (Integer a) (Integer b) = let d = Decides-int_eq a b in ((λ h. ap Integer (d.0 h)), (λ e. d.1 cc))

@@ -1,8 +1,6 @@
 pub mod Answers
 pub mod Identifiers
-pub mod Reads
 pub mod Reasons
-pub mod Rows
-pub mod SameTests
 pub mod SignatureParams
 pub mod Table
+pub mod tools

@@ -8,7 +8,7 @@ ghost use Rattle.component_ids.specs.declared.fault.BadReason.{BadReason};
 ghost use Rattle.component_ids.specs.declared.params.SigParams.{SigParams};
 ghost use Rattle.component_ids.specs.Answers.{AnswersWhere, AreIdentifiers, IsFirstBad, IsFirstRepeated, IsFirstIllTyped};
 ghost use Rattle.component_ids.specs.Identifiers.{id_of, AreDistinct};
-ghost use Rattle.component_ids.specs.Reads.{Explains};
+ghost use Rattle.component_ids.specs.tools.Reads.{Explains};
 ghost use Rattle.component_ids.specs.SignatureParams.{string_keys, is_typed, list_of, sig_params_text, are_sig_params_in_range, IsSigParams};
 ghost use Rattle.component_ids.specs.Table.{is_listed};
 

@@ -3,7 +3,7 @@
 ghost use Rattle.std.specs.Prelude.{◌≡◌, ◌≤◌, true, length, map, IfOk, IfErr};
 ghost use Rattle.component_ids.specs.Answers.{AreIdentifiers};
 ghost use Rattle.component_ids.specs.Identifiers.{is_identifier, item_of, AreDistinct};
-ghost use Rattle.component_ids.specs.Reads.{IsItemFault, IsIdsFault};
+ghost use Rattle.component_ids.specs.tools.Reads.{IsItemFault, IsIdsFault};
 
 use crate::fault::{BadReason, IdFault};
 use crate::id::{ComponentId, Ids};

@@ -4,7 +4,7 @@ ghost use Rattle.std.specs.Prelude.{◌≡◌, ◌||◌, not, IfNone, Some, None
 ghost use Rattle.std.specs.List.{find, list_all, list_any};
 ghost use Rattle.component_ids.specs.Table.{is_true, is_string, is_listed, is_name_byte, is_field_name, request_names, keys_of, has_value_type, has_param, have_clash, has_needed};
 ghost use Rattle.component_ids.specs.Reasons.{applies, reasons};
-ghost use Rattle.component_ids.specs.Rows.{row_keys};
+ghost use Rattle.component_ids.specs.tools.Rows.{row_keys};
 
 use crate::fault::BadReason;
 use sfv_text::{BareItem, Pair};

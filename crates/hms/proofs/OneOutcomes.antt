@@ -5,7 +5,7 @@ use Rattle.std.specs.List.{find, list_all}
 use Rattle.std.proofs.lemmas.Bool.{cases_order, false≢true}
 use Rattle.std.proofs.lemmas.List.{take-append-drop, take-take}
 use Rattle.byte_grammar.specs.Language.{Begins}
-use Rattle.byte_grammar.specs.Place.{IsPlace}
+use Rattle.byte_grammar.specs.FaultOffset.{IsFaultOffset}
 use Rattle.byte_grammar.proofs.Whole.{one_value}
 use Rattle.sfv_text.specs.declared.value.InnerList.{InnerList}
 use Rattle.sfv_read.specs.Fault.{BeginsItemKind}
@@ -13,14 +13,14 @@ use Rattle.sfv_read.specs.Reads.{ReadsInner}
 use Rattle.sfv_read.proofs.TextLaws.{begins_shorter}
 use Rattle.sfv_read.proofs.Told.{inner_judges}
 use Rattle.component_ids.specs.Identifiers.{id_text}
-use Rattle.component_ids.specs.Reads.{Explains}
+use Rattle.component_ids.specs.tools.Reads.{Explains}
 use Rattle.component_ids.specs.SignatureParams.{list_of}
 use Rattle.component_ids.specs.declared.fault.IdFault.{IdFault}
 use Rattle.component_ids.specs.declared.fault.IdFault.TheVariants.{Memory as NoMemory, TooMany as ManyItems, BadComponent, Repeated as RepeatedId, BadParameter}
 use Rattle.component_ids.specs.declared.id.ComponentId.{ComponentId}
 use Rattle.component_ids.specs.declared.params.SigParams.{SigParams}
 use Rattle.component_ids.proofs.AnswerLaws.{answers_too_many, answers_bad, answers_repeated, answers_param, answers_only}
-use Rattle.component_ids.proofs.Places.{find_failed, find_none}
+use Rattle.component_ids.proofs.Indices.{find_failed, find_none}
 use Rattle.hms_io.specs.declared.status.Status.{Status}
 use Rattle.hms_io.specs.declared.status.Status.TheVariants.{Done, Input}
 use Rattle.hms.specs.Asked.{ReadsParams, IsFirstAbsent, HasBase, has_field, is_plain}
@@ -29,18 +29,18 @@ use Rattle.hms.specs.SignatureBase.{base_of}
 use Rattle.hms.specs.declared.refusal.Refusal.{Refusal}
 use Rattle.hms.specs.declared.refusal.Refusal.TheVariants.{Syntax, ItemKind, TooMany, Component, Repeated, Parameter, NotYet, Absent}
 
--- ---- the place of a fault
+-- ---- the offset of a fault
 
-no_longer : {V : Type 0} (L : List ℕ → V → Type 0) (text : List ℕ) (i j : ℕ) → i < j → IsPlace L text i → IsPlace L text j → ⊥
+no_longer : {V : Type 0} (L : List ℕ → V → Type 0) (text : List ℕ) (i j : ℕ) → i < j → IsFaultOffset L text i → IsFaultOffset L text j → ⊥
 no_longer L text i j less a b =
     let within : i < length text = omega (arith, b.within) in
-    let parted : take (i + 1) text ++ drop (i + 1) (take j text) ≡ take j text =
+    let separated : take (i + 1) text ++ drop (i + 1) (take j text) ≡ take j text =
     ap (λ (x : List ℕ). x ++ drop (i + 1) (take j text)) (sym (take-take (i + 1) j text (omega arith))) ∙ take-append-drop (i + 1) (take j text) in
-    a.last within (begins_shorter L (take (i + 1) text) (drop (i + 1) (take j text)) (subst (λ (x : List ℕ). Begins L x) (sym parted) b.begins))
+    a.last within (begins_shorter L (take (i + 1) text) (drop (i + 1) (take j text)) (subst (λ (x : List ℕ). Begins L x) (sym separated) b.begins))
 
--- a text has one place of a fault
-one_place : {V : Type 0} (L : List ℕ → V → Type 0) (text : List ℕ) (i j : ℕ) → IsPlace L text i → IsPlace L text j → i ≡ j
-one_place L text i j a b = elim (cases_order i j) [
+-- a text has one offset of a fault
+one_offset : {V : Type 0} (L : List ℕ → V → Type 0) (text : List ℕ) (i j : ℕ) → IsFaultOffset L text i → IsFaultOffset L text j → i ≡ j
+one_offset L text i j a b = elim (cases_order i j) [
   | inl same ↦ same
   | inr apart ↦ elim apart [
     | inl less ↦ absurd (no_longer L text i j less a b)
@@ -113,7 +113,7 @@ Tells lines (Err (BadParameter key)) s one = Refuses (Parameter key) s one
 
 first_found : (lines : List (List ℕ × List ℕ)) (ids : List ComponentId) (absent : ComponentId) → IsFirstAbsent lines ids absent
     → find (λ id. not (has_field lines id)) ids ≡ Some absent
-first_found lines ids absent first = find_failed (has_field lines) ids first.place absent first.before first.stands first.lacks
+first_found lines ids absent first = find_failed (has_field lines) ids first.index absent first.before first.stands first.lacks
 
 one_absent : (lines : List (List ℕ × List ℕ)) (ids : List ComponentId) (a b : ComponentId) → IsFirstAbsent lines ids a → IsFirstAbsent lines ids b → a ≡ b
 one_absent lines ids a b first second =
@@ -157,16 +157,16 @@ over_result lines (Err (BadParameter key)) s t one other a b = same_said Input (
 
 -- ---- outcomes
 
--- what is wrong at the place
+-- what is wrong at the offset
 abbrev IsFaultAt : List ℕ → ℕ → Status → List ℕ → Type 0
-IsFaultAt params place s one =
-    ((BeginsItemKind ReadsInner params place → ⊥) × Refuses (Syntax place) s one) ⊎ (BeginsItemKind ReadsInner params place × Refuses (ItemKind place) s one)
+IsFaultAt params offset s one =
+    ((BeginsItemKind ReadsInner params offset → ⊥) × Refuses (Syntax offset) s one) ⊎ (BeginsItemKind ReadsInner params offset × Refuses (ItemKind offset) s one)
 
 -- the covered components are no list
 record IsUnread (params : List ℕ) (s : Status) (one : List ℕ) : Type 0 where
-  pub place : ℕ
-  pub is : IsPlace ReadsInner params place
-  pub says : IsFaultAt params place s one
+  pub offset : ℕ
+  pub is : IsFaultOffset ReadsInner params offset
+  pub says : IsFaultAt params offset s one
 
 -- they are a list, of which this is said
 record IsRead (lines : List (List ℕ × List ℕ)) (params : List ℕ) (s : Status) (one : List ℕ) : Type 0 where
@@ -193,8 +193,8 @@ known_params lines params sig s one r tells = record {
 -- a refusal that applies is an outcome
 pub refused : (lines : List (List ℕ × List ℕ)) (params one : List ℕ) (refusal : Refusal) → Applies lines params refusal → one ≡ refusal_line refusal → Outcome lines params Input one
 unfolding Outcome
-refused lines params one (Syntax place) a e = inl (record { place = place; is = a.0; says = inl (a.1, (refl, e)) })
-refused lines params one (ItemKind place) a e = inl (record { place = place; is = a.0; says = inr (a.1, (refl, e)) })
+refused lines params one (Syntax offset) a e = inl (record { offset = offset; is = a.0; says = inl (a.1, (refl, e)) })
+refused lines params one (ItemKind offset) a e = inl (record { offset = offset; is = a.0; says = inr (a.1, (refl, e)) })
 refused lines params one TooMany a e =
     inr (record { list = a.list; reads = a.reads; result = Err ManyItems; judged = record { explains = a.holds; known = λ h. absurd (cc h) }; tells = (refl, e) })
 refused lines params one (Component i r) a e =
@@ -215,16 +215,16 @@ unfolding Outcome
 based lines params one h =
     inr (known_params lines params h.sig Done one h.asks.reads (inr (inr (record { plain = h.asks.plain; there = h.there; says = (refl, h.base_is) }))))
 
-unread_at : (params : List ℕ) (place : ℕ) (s t : Status) (one other : List ℕ) → IsFaultAt params place s one → IsFaultAt params place t other → Says t other s one
-unread_at params place s t one other (inl a) (inl b) = same_said Input (refusal_line (Syntax place)) s t one other a.1 b.1
-unread_at params place s t one other (inl a) (inr b) = absurd (a.0 b.0)
-unread_at params place s t one other (inr a) (inl b) = absurd (b.0 a.0)
-unread_at params place s t one other (inr a) (inr b) = same_said Input (refusal_line (ItemKind place)) s t one other a.1 b.1
+unread_at : (params : List ℕ) (offset : ℕ) (s t : Status) (one other : List ℕ) → IsFaultAt params offset s one → IsFaultAt params offset t other → Says t other s one
+unread_at params offset s t one other (inl a) (inl b) = same_said Input (refusal_line (Syntax offset)) s t one other a.1 b.1
+unread_at params offset s t one other (inl a) (inr b) = absurd (a.0 b.0)
+unread_at params offset s t one other (inr a) (inl b) = absurd (b.0 a.0)
+unread_at params offset s t one other (inr a) (inr b) = same_said Input (refusal_line (ItemKind offset)) s t one other a.1 b.1
 
 unread_twice : (params : List ℕ) (s t : Status) (one other : List ℕ) → IsUnread params s one → IsUnread params t other → Says t other s one
 unread_twice params s t one other a b =
-    let places : a.place ≡ b.place = one_place ReadsInner params a.place b.place a.is b.is in
-    unread_at params b.place s t one other (subst (λ (place : ℕ). IsFaultAt params place s one) places a.says) b.says
+    let offsets : a.offset ≡ b.offset = one_offset ReadsInner params a.offset b.offset a.is b.is in
+    unread_at params b.offset s t one other (subst (λ (offset : ℕ). IsFaultAt params offset s one) offsets a.says) b.says
 
 -- only one outcome is there
 pub one_outcome : (lines : List (List ℕ × List ℕ)) (params : List ℕ) (s t : Status) (one other : List ℕ)

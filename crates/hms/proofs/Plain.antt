@@ -8,7 +8,7 @@ use Rattle.component_ids.specs.declared.id.ComponentId.{ComponentId}
 use Rattle.component_ids.specs.Identifiers.{id_text}
 use Rattle.component_ids.specs.Table.{is_name_byte, is_field_name}
 use Rattle.hms.specs.Asked.{is_plain}
-use Rattle.hms.specs.Plain.{quoted, quoted_fields}
+use Rattle.hms.specs.tools.Plain.{quoted, quoted_fields}
 use Rattle.hms.specs.SignatureBase.{covered}
 
 false_is_no_true : false ≡ true → ⊥

@@ -29,9 +29,9 @@ has_field lines id = is_there lines id.name
 
 -- an identifier, the first such one, has no field line
 pub record IsFirstAbsent (lines : List (List ℕ × List ℕ)) (ids : List ComponentId) (absent : ComponentId) : Type 0 where
-  pub place : ℕ
-  pub stands : slice_get ids place ≡ Some absent
-  pub before : list_all (has_field lines) (take place ids) ≡ true
+  pub index : ℕ
+  pub stands : slice_get ids index ≡ Some absent
+  pub before : list_all (has_field lines) (take index ids) ≡ true
   pub lacks : has_field lines absent ≡ false
 
 -- each covered field has a field line, and this is the signature base

@@ -3,10 +3,8 @@ pub mod CommandView
 pub mod Values
 pub mod Asked
 pub mod Refusal
-pub mod Fault
-pub mod Plain
 pub mod SignatureBase
 pub mod Messages
-pub mod Sinks
 pub mod Report
 pub mod Laws
+pub mod tools

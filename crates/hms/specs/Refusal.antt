@@ -1,8 +1,9 @@
 -- Why a command is refused, and the line that says so.
 use Rattle.std.specs.Prelude.{◌≡◌, ◌<◌, ◌≤◌, ℕ, false, List, [], ◌∷◌, ◌++◌, length, map, codes}
+use Rattle.std.specs.Str.{byte}
 use Rattle.std.specs.List.{list_all}
 use Rattle.std.specs.Fmt.{decimal}
-use Rattle.byte_grammar.specs.Place.{IsPlace}
+use Rattle.byte_grammar.specs.FaultOffset.{IsFaultOffset}
 use Rattle.sfv_read.specs.Reads.{ReadsInner}
 use Rattle.sfv_read.specs.Fault.{BeginsItemKind}
 use Rattle.sfv_text.specs.declared.value.InnerList.{InnerList}
@@ -17,19 +18,19 @@ use Rattle.hms.specs.declared.refusal.Refusal.TheVariants.{Syntax, ItemKind, Too
 
 -- ---- the line
 
--- a word, and the place where it has one
+-- a word, and the offset where it has one
 abbrev pub refusal_text : Refusal → List ℕ
-refusal_text (Syntax place) = codes "params-syntax " ++ decimal place
-refusal_text (ItemKind place) = codes "params-kind " ++ decimal place
+refusal_text (Syntax offset) = codes "params-syntax " ++ decimal offset
+refusal_text (ItemKind offset) = codes "params-kind " ++ decimal offset
 refusal_text TooMany = codes "components-many"
-refusal_text (Component index reason) = codes "component-bad " ++ (decimal index ++ 32 ∷ word_of reason)
+refusal_text (Component index reason) = codes "component-bad " ++ (decimal index ++ byte " " ∷ word_of reason)
 refusal_text (Repeated index) = codes "component-repeated " ++ decimal index
 refusal_text (Parameter key) = codes "parameter-bad " ++ key
 refusal_text NotYet = codes "not-yet"
 refusal_text (Absent id) = codes "absent " ++ id
 
 abbrev pub refusal_line : Refusal → List ℕ
-refusal_line refusal = codes "refused command " ++ (refusal_text refusal ++ 10 ∷ [])
+refusal_line refusal = codes "refused command " ++ (refusal_text refusal ++ codes "\n")
 
 -- ---- the cause
 
@@ -55,8 +56,8 @@ pub record LacksField (lines : List (List ℕ × List ℕ)) (params id : List �
 
 -- the refusal applies to the covered components, over these field lines
 abbrev pub Applies : List (List ℕ × List ℕ) → List ℕ → Refusal → Type 0
-Applies lines params (Syntax place) = IsPlace ReadsInner params place × (BeginsItemKind ReadsInner params place → ⊥)
-Applies lines params (ItemKind place) = IsPlace ReadsInner params place × BeginsItemKind ReadsInner params place
+Applies lines params (Syntax offset) = IsFaultOffset ReadsInner params offset × (BeginsItemKind ReadsInner params offset → ⊥)
+Applies lines params (ItemKind offset) = IsFaultOffset ReadsInner params offset × BeginsItemKind ReadsInner params offset
 Applies lines params TooMany = ReadsWhere params (λ list. 64 < length list.items)
 Applies lines params (Component index reason) =
     ReadsWhere params (λ list. (length list.items ≤ 64) × IsFirstBad list.items index reason)

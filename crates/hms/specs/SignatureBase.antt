@@ -9,7 +9,7 @@ use Rattle.hms.specs.Values.{combined_value}
 
 -- a component identifier's text and the component's value: a line of the signature base, with its end
 abbrev pub component_line : List ℕ × List ℕ → List ℕ
-component_line component = component.0 ++ (codes ": " ++ (component.1 ++ 10 ∷ []))
+component_line component = component.0 ++ (codes ": " ++ (component.1 ++ codes "\n"))
 
 -- the lines of the components in order, and the line of the signature parameters, which has no end
 abbrev pub signature_base : List (List ℕ × List ℕ) → List ℕ → List ℕ

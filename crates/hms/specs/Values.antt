@@ -1,11 +1,8 @@
 -- The value of a field: RFC 9421, section 2.1.
-use Rattle.std.specs.Prelude.{◌==◌, ℕ, Bool, List, [], ◌∷◌, ◌||◌, if◌then◌else◌, map, filter, reverse, codes}
+use Rattle.std.specs.Prelude.{ℕ, Bool, List, [], ◌∷◌, if◌then◌else◌, map, filter, reverse, codes}
 use Rattle.std.specs.List.{join_by, list_any}
+use Rattle.byte_classes.specs.Classes.{is_blank}
 use Rattle.std.specs.Str.{str_eq_ignore_ascii_case}
-
--- a space or a tab
-abbrev pub is_blank : ℕ → Bool
-is_blank byte = (byte == 32) || (byte == 9)
 
 -- the text from its first byte that is no blank on
 abbrev pub without_first_blanks : List ℕ → List ℕ

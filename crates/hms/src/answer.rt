@@ -4,9 +4,9 @@ ghost use Rattle.std.specs.Prelude.{◌≡◌, ◌≤◌, true, length, IfOk, If
 ghost use Rattle.std.specs.List.{list_all, list_any};
 ghost use Rattle.msg_head.specs.Heads.{Head};
 ghost use Rattle.hms.specs.Asked.{has_field, IsFirstAbsent, HasBase};
-ghost use Rattle.hms.specs.Fault.{IfRefused};
+ghost use Rattle.hms.specs.tools.Fault.{IfRefused};
 ghost use Rattle.hms.specs.Messages.{IsHeadAlone, IsMessage, NoMessage, is_framing_line};
-ghost use Rattle.hms.specs.Plain.{quoted};
+ghost use Rattle.hms.specs.tools.Plain.{quoted};
 ghost use Rattle.hms.specs.Refusal.{Applies};
 ghost use Rattle.hms.specs.Report.{Answers, most_bytes};
 

@@ -6,7 +6,7 @@ ghost use Rattle.component_ids.specs.SignatureParams.{are_sig_params_in_range};
 ghost use Rattle.hms.specs.Asked.{ReadsParams, is_plain};
 ghost use Rattle.sfv_read.specs.Reads.{ReadsInner};
 ghost use Rattle.sfv_text.specs.Range.{is_inner_in_range};
-ghost use Rattle.hms.specs.Fault.{IfRefused};
+ghost use Rattle.hms.specs.tools.Fault.{IfRefused};
 ghost use Rattle.hms.specs.Refusal.{Applies};
 
 use crate::refusal::{Fault, Refusal};
@@ -24,8 +24,8 @@ fn read_list(alloc: Global, params: &[u8]) -> Result<InnerList, Fault>
     match read_inner(alloc, params) {
         Ok(list) => Ok(list),
         Err(SfError::Memory) => Err(Fault::Memory),
-        Err(SfError::Syntax(place)) => Err(Fault::Refused(Refusal::Syntax(place))),
-        Err(SfError::ItemKind(place)) => Err(Fault::Refused(Refusal::ItemKind(place))),
+        Err(SfError::Syntax(offset)) => Err(Fault::Refused(Refusal::Syntax(offset))),
+        Err(SfError::ItemKind(offset)) => Err(Fault::Refused(Refusal::ItemKind(offset))),
     }
 }
 

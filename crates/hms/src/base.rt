@@ -4,7 +4,7 @@ ghost use Rattle.std.specs.Prelude.{◌≡◌, ◌++◌, ℕ, List, true, IsTrue
 ghost use Rattle.std.specs.List.{flat_map, list_all};
 ghost use Rattle.component_ids.specs.SignatureParams.{are_sig_params_in_range};
 ghost use Rattle.hms.specs.Asked.{is_plain};
-ghost use Rattle.hms.specs.Plain.{quoted, quoted_fields};
+ghost use Rattle.hms.specs.tools.Plain.{quoted, quoted_fields};
 ghost use Rattle.hms.specs.SignatureBase.{component_line, signature_base, base_of};
 ghost use Rattle.hms.specs.Values.{combined_value};
 

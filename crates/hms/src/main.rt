@@ -20,7 +20,7 @@ use std::io::ErrorKind;
 use std::process::ExitCode;
 
 #[cfg(test)]
-mod places;
+mod offsets;
 #[cfg(test)]
 mod tests;
 

@@ -1,4 +1,4 @@
-//! The places of faults, found apart from the readers of structured fields: by trying what could follow.
+//! The offsets of faults, found apart from the readers of structured fields: by trying what could follow.
 
 use sfv_read::{SfError, read_dict, read_inner, read_item, read_list};
 use std::alloc::{AllocError, Global};
@@ -15,7 +15,7 @@ enum Kind {
 // How many words of six symbols there are of each length.
 const COUNTS: [usize; 5] = [1, 6, 36, 216, 1296];
 
-// The text, and the word with this number behind it.
+// The text, and the word with this number after it.
 fn with_word(
     alloc: Global,
     text: &[u8],
@@ -42,11 +42,16 @@ fn fault_of(kind: Kind, alloc: Global, text: &[u8]) -> Option<SfError> {
     }
 }
 
-// Whether some text that is read begins with the front, by trying what could follow.
-fn begins(kind: Kind, alloc: Global, alphabet: &[u8; 6], front: &[u8]) -> Result<bool, AllocError> {
+// Whether some text that is read begins with the prefix, by trying what could follow.
+fn begins(
+    kind: Kind,
+    alloc: Global,
+    alphabet: &[u8; 6],
+    prefix: &[u8],
+) -> Result<bool, AllocError> {
     for length in 0..4 {
         for number in 0..COUNTS[length] {
-            let text = with_word(alloc, front, alphabet, length, number)?;
+            let text = with_word(alloc, prefix, alphabet, length, number)?;
             if fault_of(kind, alloc, text.as_slice()).is_none() {
                 return Ok(true);
             }
@@ -55,41 +60,41 @@ fn begins(kind: Kind, alloc: Global, alphabet: &[u8; 6], front: &[u8]) -> Result
     Ok(false)
 }
 
-// The longest front that begins some text that is read.
+// The longest prefix that begins some text that is read.
 fn longest(
     kind: Kind,
     alloc: Global,
     alphabet: &[u8; 6],
     text: &[u8],
 ) -> Result<usize, AllocError> {
-    for place in 0..text.len() {
-        if !begins(kind, alloc, alphabet, &text[..place + 1])? {
-            return Ok(place);
+    for offset in 0..text.len() {
+        if !begins(kind, alloc, alphabet, &text[..offset + 1])? {
+            return Ok(offset);
         }
     }
     Ok(text.len())
 }
 
-// The fault of a text that isn't read, by trying its fronts.
+// The fault of a text that isn't read, by trying its prefixes.
 fn tried(
     kind: Kind,
     alloc: Global,
     alphabet: &[u8; 6],
     text: &[u8],
 ) -> Result<SfError, AllocError> {
-    let place = longest(kind, alloc, alphabet, text)?;
-    if place < text.len() && (text[place] == b'@' || text[place] == b'%') {
-        let mut probe = Vec::from_slice(alloc, &text[..place])?;
+    let offset = longest(kind, alloc, alphabet, text)?;
+    if offset < text.len() && (text[offset] == b'@' || text[offset] == b'%') {
+        let mut probe = Vec::from_slice(alloc, &text[..offset])?;
         probe.extend_from_slice(b"?1")?;
         if begins(kind, alloc, alphabet, probe.as_slice())? {
-            return Ok(SfError::ItemKind(place));
+            return Ok(SfError::ItemKind(offset));
         }
     }
-    Ok(SfError::Syntax(place))
+    Ok(SfError::Syntax(offset))
 }
 
 #[test]
-fn places_are_those_found_by_trying_what_could_follow(rt: HostRuntime) -> Result<(), Fail> {
+fn offsets_are_those_found_by_trying_what_could_follow(rt: HostRuntime) -> Result<(), Fail> {
     let rows: [(Kind, &[u8; 6]); 9] = [
         (Kind::Item, b"-1.a;="),
         (Kind::Item, b"\"\\:A= "),

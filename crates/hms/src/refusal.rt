@@ -1,6 +1,7 @@
 //! Why a command is refused, and the line that says so.
 
 ghost use Rattle.std.specs.Prelude.{◌≡◌, ◌++◌, ◌∷◌, [], codes, IfOk};
+ghost use Rattle.std.specs.Str.{byte};
 ghost use Rattle.std.specs.Fmt.{decimal};
 ghost use Rattle.component_ids.specs.Reasons.{word_of};
 ghost use Rattle.hms.specs.Refusal.{refusal_line};
@@ -12,9 +13,9 @@ use std::alloc::Global;
 /// Why the covered components are refused.
 #[derive(Debug, Drop)]
 pub enum Refusal {
-    /// They are no Inner List; the longest front that begins one has so many bytes.
+    /// They are no Inner List; the longest prefix that begins one has so many bytes.
     Syntax(usize),
-    /// The same, where a Date or a Display String stands in the place of an item.
+    /// The same, where a Date or a Display String stands in place of an item.
     ItemKind(usize),
     /// There are more than 64.
     TooMany,
@@ -50,30 +51,30 @@ impl From<Memory> for Fault {
     }
 }
 
-fn ended(alloc: Global, front: &[u8], place: &[u8]) -> Result<Vec<u8>, Memory>
-    ensures { IfOk result (λ line. line.items ≡ front.now ++ (place.now ++ 10 ∷ [])) }
+fn ended(alloc: Global, prefix: &[u8], offset: &[u8]) -> Result<Vec<u8>, Memory>
+    ensures { IfOk result (λ line. line.items ≡ prefix.now ++ (offset.now ++ codes "\n")) }
 {
-    let mut line = Vec::from_slice(alloc, front)?;
-    line.extend_from_slice(place)?;
+    let mut line = Vec::from_slice(alloc, prefix)?;
+    line.extend_from_slice(offset)?;
     line.push(b'\n')?;
     Ok(line)
 }
 
-fn numbered(alloc: Global, front: &[u8], place: usize) -> Result<Vec<u8>, Memory>
-    ensures { IfOk result (λ line. line.items ≡ front.now ++ (decimal place ++ 10 ∷ [])) }
+fn numbered(alloc: Global, prefix: &[u8], offset: usize) -> Result<Vec<u8>, Memory>
+    ensures { IfOk result (λ line. line.items ≡ prefix.now ++ (decimal offset ++ codes "\n")) }
 {
-    let digits = format!(in alloc; "{place}")?;
-    ended(alloc, front, digits.as_bytes())
+    let digits = format!(in alloc; "{offset}")?;
+    ended(alloc, prefix, digits.as_bytes())
 }
 
 fn bad_component(alloc: Global, index: usize, reason: BadReason) -> Result<Vec<u8>, Memory>
     ensures { IfOk result (λ line. line.items ≡ codes "refused command component-bad "
-        ++ ((decimal index ++ 32 ∷ word_of reason) ++ 10 ∷ [])) }
+        ++ ((decimal index ++ byte " " ∷ word_of reason) ++ codes "\n")) }
 {
-    let mut place = Vec::from_slice(alloc, format!(in alloc; "{index}")?.as_bytes())?;
-    place.push(b' ')?;
-    place.extend_from_slice(reason.word().as_bytes())?;
-    ended(alloc, b"refused command component-bad ", place.as_slice())
+    let mut offset = Vec::from_slice(alloc, format!(in alloc; "{index}")?.as_bytes())?;
+    offset.push(b' ')?;
+    offset.extend_from_slice(reason.word().as_bytes())?;
+    ended(alloc, b"refused command component-bad ", offset.as_slice())
 }
 
 /// The line that tells the refusal.
@@ -81,8 +82,8 @@ pub fn line_of(alloc: Global, refusal: &Refusal) -> Result<Vec<u8>, Memory>
     ensures { IfOk result (λ line. line.items ≡ refusal_line refusal.now) }
 {
     match refusal {
-        Refusal::Syntax(place) => numbered(alloc, b"refused command params-syntax ", *place),
-        Refusal::ItemKind(place) => numbered(alloc, b"refused command params-kind ", *place),
+        Refusal::Syntax(offset) => numbered(alloc, b"refused command params-syntax ", *offset),
+        Refusal::ItemKind(offset) => numbered(alloc, b"refused command params-kind ", *offset),
         Refusal::TooMany => ended(alloc, b"refused command ", b"components-many"),
         Refusal::Component(index, reason) => bad_component(alloc, *index, *reason),
         Refusal::Repeated(index) => numbered(alloc, b"refused command component-repeated ", *index),

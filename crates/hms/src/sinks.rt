@@ -13,7 +13,7 @@ pub struct Count {
 
 impl Count {
     ghost use Rattle.std.specs.Prelude.{◌≡◌, [], ℕ, ◌-◌, ◌^◌, List, min, length};
-    ghost use Rattle.hms.specs.Sinks.{IsCounted};
+    ghost use Rattle.hms.specs.tools.Sinks.{IsCounted};
 
     /// A count of nothing.
     pub fn new() -> Count
@@ -32,7 +32,7 @@ impl Count {
 }
 
 impl Absorb for Count {
-    ghost use Rattle.hms.specs.Sinks.{IsCounted};
+    ghost use Rattle.hms.specs.tools.Sinks.{IsCounted};
 
     ghost absorbed = { λ c text. IsCounted c text };
 
@@ -52,7 +52,7 @@ pub struct Fill {
 
 impl Fill {
     ghost use Rattle.std.specs.Prelude.{◌≡◌, [], ℕ, List, length, IfOk, IsOk};
-    ghost use Rattle.hms.specs.Sinks.{IsFilled, fill_size};
+    ghost use Rattle.hms.specs.tools.Sinks.{IsFilled, fill_size};
 
     /// A buffer of this many bytes.
     pub fn new(alloc: Global, size: usize) -> Result<Fill, Memory>
@@ -82,7 +82,7 @@ impl Fill {
 }
 
 impl Absorb for Fill {
-    ghost use Rattle.hms.specs.Sinks.{IsFilled};
+    ghost use Rattle.hms.specs.tools.Sinks.{IsFilled};
 
     ghost absorbed = { λ f text. IsFilled f text };
 

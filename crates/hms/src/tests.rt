@@ -125,7 +125,7 @@ fn last_line_is_the_strict_text(rt: HostRuntime) -> Result<(), Fail> {
     Ok(())
 }
 
-// Each of these covered components is refused by this line behind `refused command `.
+// Each of these covered components is refused by this line after `refused command `.
 fn refuses(rt: &impl Abort, alloc: Global, table: &[(&str, &[u8])]) -> Result<(), Fail> {
     for (params, cause) in table {
         let mut line = Vec::from_slice(alloc, b"refused command ")?;
@@ -341,16 +341,16 @@ fn each_failing_call_is_told(rt: HostRuntime) -> Result<(), Fail> {
         let got = answer(alloc, &["base", "(\"date\")"], &mut source, &mut sink)?;
         assert_eq!(rt; got, Status::WriteFault, "call {call}");
         let taken = (30 * call) as usize;
-        let Some(front) = DATED_BASE.get(..taken) else {
+        let Some(prefix) = DATED_BASE.get(..taken) else {
             return Err(Fail::from("short"));
         };
-        assert_eq!(rt; sink.taken(), front);
+        assert_eq!(rt; sink.taken(), prefix);
     }
     Ok(())
 }
 
 #[test]
-fn full_sink_holds_a_front(rt: HostRuntime) -> Result<(), Fail> {
+fn full_sink_holds_a_prefix(rt: HostRuntime) -> Result<(), Fail> {
     let mut source = MemSource::new(rt.alloc(), DATED, 4096, &[])?;
     let mut sink = MemSink::new(rt.alloc(), 3, 4096, &[])?;
     let got = answer(rt.alloc(), &["base", "(\"date\")"], &mut source, &mut sink)?;

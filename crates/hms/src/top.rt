@@ -74,11 +74,11 @@ pub fn run<F: Shelf, S: Source, K: Sink>(
     source: &mut S,
     out: &mut K,
 ) -> Status
-    // What is told is the report of the words and the input, whole or a front of it.
+    // What is told is the report of the words and the input, whole or a prefix of it.
     ensures report { IsTrue (tells result) → IfSome (S.left source.old) (λ input.
         (output : List ℕ) × Reports (map string_bytes words.now) input result output
         × Appends (K.taken out.old) (K.taken out.new) output) }
-    ensures front { result ≡ Status.WriteFault → IfSome (S.left source.old) (λ input.
+    ensures prefix { result ≡ Status.WriteFault → IfSome (S.left source.old) (λ input.
         (status : Status) × (output : List ℕ) × (n : ℕ) × (n < length output)
         × Reports (map string_bytes words.now) input status output
         × Appends (K.taken out.old) (K.taken out.new) (take n output)) }

@@ -1,7 +1,8 @@
 //! The combined value of a field's lines: RFC 9421, section 2.1.
 
 ghost use Rattle.std.specs.Prelude.{◌≡◌, ◌<◌, ◌++◌, ℕ, List, [], length, slice_index_or, reverse};
-ghost use Rattle.hms.specs.Values.{is_blank, value, without_first_blanks, has_name, combined_value, is_there};
+ghost use Rattle.byte_classes.specs.Classes.{is_blank};
+ghost use Rattle.hms.specs.Values.{value, without_first_blanks, has_name, combined_value, is_there};
 
 use msg_head::HeadView;
 use sfv_text::Absorb;
@@ -61,7 +62,7 @@ fn value_at<'m>(head: &HeadView<'m>, index: usize) -> &'m [u8]
     trimmed(head.line(index).raw)
 }
 
-/// Whether the field line at this place has the name in some case.
+/// Whether the field line at this index has the name, whatever its case.
 fn is_named(head: &HeadView<'_>, index: usize, name: &[u8]) -> bool
     requires { index < length head.now.lines }
     ensures { result ≡ has_name name.now (slice_index_or head.now.lines index ([], [])) }

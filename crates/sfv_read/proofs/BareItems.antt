@@ -7,9 +7,10 @@ use Rattle.std.proofs.lemmas.List.{append-nil}
 use Rattle.byte_grammar.specs.Language.{Then, Mapped, Among, IsByte, IsRun, IsWord}
 use Rattle.byte_grammar.specs.Walk.{Next}
 use Rattle.sfv_read.specs.BareItem.{IsString, IsBoolean, IsBareItem, IsByteSequence}
-use Rattle.sfv_read.specs.BareWalk.{bare_kind, truth_read, bare_by, bare_read}
+use Rattle.sfv_read.specs.tools.BareWalk.{bare_kind, truth_read, bare_by, bare_read}
 use Rattle.sfv_text.specs.Range.{is_token_first, is_token_rest}
-use Rattle.sfv_read.specs.Class.{is_digit, is_bit, is_minus, is_dot, is_quote, is_question, is_space}
+use Rattle.byte_classes.specs.Classes.{is_digit, is_space}
+use Rattle.sfv_read.specs.Class.{is_bit, is_minus, is_dot, is_quote, is_question}
 use Rattle.sfv_text.specs.declared.value.BareItem.{BareItem}
 use Rattle.sfv_text.specs.declared.value.BareItem.TheVariants.{Integer, Decimal, Str, Token, Bytes, Bool as Boolean}
 use Rattle.sfv_read.specs.declared.bare.BareKind.{BareKind}

@@ -5,7 +5,7 @@ use Rattle.std.specs.List.{list_all}
 use Rattle.std.proofs.lemmas.List.Sums.{AllPass-from_list_all}
 use Rattle.std.proofs.lemmas.Bool.Decides.{nat_tests}
 use Rattle.std.proofs.Math.Nat.{mul_assoc, pow-succ', one-le-pow, pow-le-pow_right, mul-le-mul_left, mul-le-mul_right}
-use Rattle.sfv_read.specs.Class.{is_digit}
+use Rattle.byte_classes.specs.Classes.{is_digit}
 use Rattle.sfv_read.specs.BareItem.{spelled_from}
 
 -- one more digit

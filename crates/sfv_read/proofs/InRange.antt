@@ -16,11 +16,11 @@ use Rattle.sfv_text.specs.declared.pair.Pair.{Pair}
 use Rattle.sfv_text.specs.Keys.{have_distinct_keys, put}
 use Rattle.sfv_text.specs.Range.{is_word, is_token_first, is_token_rest, is_key_first, is_key_rest, is_number_in_range, is_bare_in_range, is_param_in_range, are_params_in_range, is_item_in_range, is_inner_in_range, is_member_in_range, is_list_in_range, is_entry_in_range, is_dict_in_range}
 use Rattle.sfv_text.proofs.PutLaws.{put_distinct, put_kept}
-use Rattle.sfv_read.specs.Class.{is_digit}
+use Rattle.byte_classes.specs.Classes.{is_digit}
 use Rattle.sfv_read.specs.BareItem.{spelled, spelled_from, signed, IsInteger, IsDecimal, IsBareItem}
 use Rattle.sfv_read.specs.Item.{IsValue, IsParameter, AreParameters, put_pair, kept, IsItem}
 use Rattle.sfv_read.specs.Inner.{IsSpaced, AreItems, IsInner}
-use Rattle.sfv_read.specs.Member.{IsMember, IsPair, IsFurther, AreMembers, Parted, true_item}
+use Rattle.sfv_read.specs.Member.{IsMember, IsPair, IsFurther, AreMembers, Separated, true_item}
 use Rattle.sfv_read.specs.Reads.{ReadsItem, ReadsInner, ReadsList, ReadsDict}
 use Rattle.sfv_read.proofs.Digits.{room_more, pow_room, scaled_room, spelled_append}
 
@@ -128,7 +128,7 @@ pair_in_range text p h = rw (word_in_range is_key_first is_key_rest h.key p.key 
     value (inl m) = member_in_range m.0 p.value m.2
     value (inr m) = ap is_member_in_range m.2 ∙ params_in_range h.rest m.0 m.1
 
-members_in_range : {V : Type 0} (M : List ℕ → V → Type 0) (test : V → Bool) → ((text : List ℕ) (v : V) → M text v → test v ≡ true) → (text : List ℕ) (vs : List V) → Parted M text vs → list_all test vs ≡ true
+members_in_range : {V : Type 0} (M : List ℕ → V → Type 0) (test : V → Bool) → ((text : List ℕ) (v : V) → M text v → test v ≡ true) → (text : List ℕ) (vs : List V) → Separated M text vs → list_all test vs ≡ true
 members_in_range {V} M test one text vs h = go vs h.are_members
   where
     go : (vs : List V) → AreMembers M h.members vs → list_all test vs ≡ true

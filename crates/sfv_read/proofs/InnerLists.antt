@@ -5,9 +5,10 @@ use Rattle.std.proofs.lemmas.Bool.{eqb-true}
 use Rattle.std.proofs.lemmas.List.Folds.{list_all-append}
 use Rattle.byte_grammar.specs.Language.{Then, Turns, Mapped, Each, IsByte, IsAll, Padded}
 use Rattle.byte_grammar.specs.Walk.{◌>>=◌, Next, turned, is_of, turns_read, padded_read}
-use Rattle.sfv_read.specs.Class.{is_space, is_open, is_close}
+use Rattle.byte_classes.specs.Classes.{is_space}
+use Rattle.sfv_read.specs.Class.{is_open, is_close}
 use Rattle.sfv_read.specs.Inner.{IsSpaced, AreItems, IsInner}
-use Rattle.sfv_read.specs.InnerWalk.{close_only, some_item, item_or_close, after_gap, inner_turn, items_after, items_read, inner_read}
+use Rattle.sfv_read.specs.tools.InnerWalk.{close_only, some_item, item_or_close, after_gap, inner_turn, items_after, items_read, inner_read}
 use Rattle.sfv_read.specs.Item.{IsItem, kept}
 use Rattle.sfv_text.specs.declared.value.BareItem.{BareItem}
 use Rattle.byte_grammar.proofs.Whole.{Nothing, meets_padded}
@@ -17,9 +18,9 @@ use Rattle.sfv_read.proofs.Items.{after_params, AreKept, meets_kept, meets_item,
 use Rattle.sfv_text.specs.declared.value.Item.{Item}
 use Rattle.sfv_text.specs.declared.value.InnerList.{InnerList}
 use Rattle.sfv_text.specs.declared.pair.Pair.{Pair}
-use Rattle.sfv_read.specs.InnerWalk.{inner_of}
+use Rattle.sfv_read.specs.tools.InnerWalk.{inner_of}
 
--- what may follow a place of an item: after one a space or the end, after the end anything
+-- what may follow a offset of an item: after one a space or the end, after the end anything
 slot : Option Item → ℕ → Bool
 slot None c = true
 slot (Some v) c = is_of (32 ∷ 41 ∷ []) c
@@ -143,7 +144,7 @@ items_starts x vs t = subst (λ (y : List ℕ). Starts (λ c. not (is_space c)) 
 
 -- ---- as joined texts
 
--- items and what stands behind them, as the turns have them
+-- items and what stands after them, as the turns have them
 record Closed (Are : List ℕ → List Item → Type 0) (x : List ℕ) (vs : List Item) : Type 0 where
   items : List ℕ
   after : List ℕ
@@ -219,7 +220,7 @@ to_items x vs t = go t.value t.spells t.more
           are = (t.first, rest.items, refl, subst (λ (v : Item). IsItem t.first v) (some_is _ _ h.2) h.1, rest.are);
         })
 
--- spaces, items and the end, with the spaces of an empty list all in front
+-- spaces, items and the end, with the spaces of an empty list all before them
 from_items : (vs : List Item) (before items after : List ℕ) → list_all is_space before ≡ true → list_all is_space after ≡ true → AreItems items vs
     → (s y : List ℕ) × (before ++ (items ++ (after ++ 41 ∷ [])) ≡ s ++ y) × (list_all is_space s ≡ true) × ItemsText y vs
 unfolding ItemsText ItemsAfter

@@ -5,11 +5,12 @@ use Rattle.std.proofs.lemmas.Bool.{eqb-true}
 use Rattle.byte_grammar.specs.Language.{Then, Mapped, Optional, IsByte, IsAll, IsWord, Padded}
 use Rattle.byte_grammar.specs.Walk.{◌>>=◌, Next, turned, is_of, turns_read, padded_read}
 use Rattle.sfv_read.specs.BareItem.{IsBareItem}
-use Rattle.sfv_read.specs.BareWalk.{bare_kind}
+use Rattle.sfv_read.specs.tools.BareWalk.{bare_kind}
 use Rattle.sfv_text.specs.Range.{is_key_first, is_key_rest}
-use Rattle.sfv_read.specs.Class.{is_equals, is_semicolon, is_space}
+use Rattle.byte_classes.specs.Classes.{is_space}
+use Rattle.sfv_read.specs.Class.{is_equals, is_semicolon}
 use Rattle.sfv_read.specs.Item.{IsKey, IsValue, IsParameter, AreParameters, kept, IsItem}
-use Rattle.sfv_read.specs.ItemWalk.{equals_read, value_or, value_read, param_read, param_turn, params_read, item_read}
+use Rattle.sfv_read.specs.tools.ItemWalk.{equals_read, value_or, value_read, param_read, param_turn, params_read, item_read}
 use Rattle.sfv_text.specs.declared.value.BareItem.{BareItem}
 use Rattle.sfv_text.specs.declared.value.BareItem.TheVariants.{Bool as Boolean}
 use Rattle.sfv_read.specs.declared.bare.BareKind.{BareKind}
@@ -18,7 +19,7 @@ use Rattle.byte_grammar.proofs.Whole.{Nothing, meets_padded}
 use Rattle.sfv_read.proofs.Numbers.{ends, End}
 use Rattle.sfv_text.specs.declared.value.Item.{Item}
 use Rattle.sfv_text.specs.declared.pair.Pair.{Pair}
-use Rattle.sfv_read.specs.ItemWalk.{pair_of, item_of, key_read}
+use Rattle.sfv_read.specs.tools.ItemWalk.{pair_of, item_of, key_read}
 use Rattle.sfv_read.proofs.BareItems.{meets_bare, truth_some, bare_next, bare_starts, kind_blank, word_starts}
 
 -- ---- parameters

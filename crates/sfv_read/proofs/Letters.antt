@@ -11,7 +11,7 @@ use Rattle.byte_grammar.proofs.Laws.{and_is, Meets, meets_same}
 use Rattle.sfv_text.specs.Range.{is_byte}
 use Rattle.sfv_read.specs.Class.{is_base64}
 use Rattle.sfv_read.specs.BareItem.{IsByteSequence}
-use Rattle.sfv_read.specs.BareWalk.{six, are_whole, decoded, pads, bytes_read}
+use Rattle.sfv_read.specs.tools.BareWalk.{six, are_whole, decoded, pads, bytes_read}
 use Rattle.sfv_read.proofs.Octets.{IsOctets, meets_octets}
 use Rattle.sfv_read.proofs.Sixes.{alphabet, six_small, spelled_again, spelling_is}
 

@@ -8,7 +8,7 @@ pub mod Letters
 pub mod BareItems
 pub mod Items
 pub mod InnerLists
-pub mod PartedTexts
+pub mod SeparatedTexts
 pub mod Members
 pub mod Told
 pub mod InRange

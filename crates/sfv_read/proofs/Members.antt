@@ -4,13 +4,14 @@ use Rattle.std.proofs.lemmas.Bool.{eqb-true}
 use Rattle.std.proofs.lemmas.List.{append-nil}
 use Rattle.byte_grammar.specs.Language.{Then, Mapped, Optional}
 use Rattle.byte_grammar.specs.Walk.{◌>>=◌, Next, is_of, optional_read, all_read, turned, turns_read, with_state}
-use Rattle.sfv_read.specs.BareWalk.{bare_kind}
+use Rattle.sfv_read.specs.tools.BareWalk.{bare_kind}
 use Rattle.sfv_text.specs.Range.{is_key_first, is_key_rest}
-use Rattle.sfv_read.specs.Class.{is_equals, is_open, is_blank, is_space}
+use Rattle.byte_classes.specs.Classes.{is_blank, is_space}
+use Rattle.sfv_read.specs.Class.{is_equals, is_open}
 use Rattle.sfv_read.specs.Inner.{IsInner}
 use Rattle.sfv_read.specs.Item.{IsItem, IsKey, AreParameters, kept, put_pair}
 use Rattle.sfv_read.specs.Member.{IsMember, IsPair, true_item}
-use Rattle.sfv_read.specs.MemberWalk.{parted_read, several_read, one_read, member_read, equals_member, member_or, pair_value, pair_read, list_read, dict_read, parted_turn, members_read, some_members, list_of, pairs_read, some_pairs}
+use Rattle.sfv_read.specs.tools.MemberWalk.{separated_read, several_read, one_read, member_read, equals_member, member_or, pair_value, pair_read, list_read, dict_read, separated_turn, members_read, some_members, list_of, pairs_read, some_pairs}
 use Rattle.sfv_text.specs.declared.value.BareItem.{BareItem}
 use Rattle.sfv_read.specs.declared.bare.BareKind.{BareKind}
 use Rattle.byte_grammar.proofs.Laws.{Meets, Starts, meets_then, meets_byte, meets_optional, optional_follow, meets_choose, meets_done, meets_same, meets_map, any_next, of_each, apart}
@@ -19,14 +20,14 @@ use Rattle.sfv_text.specs.declared.value.InnerList.{InnerList}
 use Rattle.sfv_text.specs.declared.value.Member.{Member}
 use Rattle.sfv_text.specs.declared.value.Member.TheVariants.{Item as One, InnerList as Several}
 use Rattle.sfv_text.specs.declared.pair.Pair.{Pair}
-use Rattle.sfv_read.specs.ItemWalk.{pair_of}
-use Rattle.sfv_read.specs.InnerWalk.{inner_of}
+use Rattle.sfv_read.specs.tools.ItemWalk.{pair_of}
+use Rattle.sfv_read.specs.tools.InnerWalk.{inner_of}
 use Rattle.sfv_read.specs.Reads.{ReadsList, ReadsDict}
 use Rattle.sfv_read.proofs.BareItems.{word_starts, none_some}
 use Rattle.sfv_read.proofs.Items.{after_params, AreKept, meets_key, meets_kept, meets_item, params_next, item_starts, starts_append}
 use Rattle.sfv_read.proofs.InnerLists.{meets_inner}
 use Rattle.byte_grammar.proofs.Whole.{Nothing}
-use Rattle.sfv_read.proofs.PartedTexts.{meets_parted, parted_step, parted_shorter}
+use Rattle.sfv_read.proofs.SeparatedTexts.{meets_separated, separated_step, separated_shorter}
 
 After : {V : Type 0} → V → ℕ → Bool
 After _ c = is_of after_params c
@@ -85,7 +86,7 @@ after_ows c e = go (eqb c 32) (eqb c 9) refl refl e
 
 pub meets_list : Meets ReadsList Nothing (λ bytes. list_read bytes)
 unfolding After
-meets_list = meets_parted meets_member member_starts (λ v. refl) (λ v c h. after_ows c h) (63 ∷ 49 ∷ []) (One (true_item [])) one_truth
+meets_list = meets_separated meets_member member_starts (λ v. refl) (λ v c h. after_ows c h) (63 ∷ 49 ∷ []) (One (true_item [])) one_truth
 
 -- ---- dictionaries
 
@@ -203,8 +204,8 @@ pairs_put : (bytes : List ℕ) → with_kept (members_read pair_read bytes) ≡ 
 unfolding members_read pairs_read with_kept
 pairs_put bytes = go (pair_read bytes)
   where
-    go : (r : Result (Pair Member × List ℕ) ℕ) → with_kept (r >>= λ v. turns_read (parted_turn pair_read) v.1 >>= λ vs. Ok (v.0 ∷ vs.0, vs.1)) ≡ (r >>= λ p. with_state put_pair (put_pair [] p.0) (turns_read (parted_turn pair_read) p.1))
-    go (Ok v) = put_all v.0 (turns_read (parted_turn pair_read) v.1)
+    go : (r : Result (Pair Member × List ℕ) ℕ) → with_kept (r >>= λ v. turns_read (separated_turn pair_read) v.1 >>= λ vs. Ok (v.0 ∷ vs.0, vs.1)) ≡ (r >>= λ p. with_state put_pair (put_pair [] p.0) (turns_read (separated_turn pair_read) p.1))
+    go (Ok v) = put_all v.0 (turns_read (separated_turn pair_read) v.1)
     go (Err n) = refl
 
 some_put : (bytes : List ℕ) → with_kept (some_members pair_read bytes) ≡ some_pairs bytes
@@ -222,8 +223,8 @@ some_put (c ∷ bytes) = same (members_read pair_read (c ∷ bytes)) (pairs_read
     same : (r s : Result (List (Pair Member) × List ℕ) ℕ) → with_kept r ≡ s → with_kept (listed r) ≡ listed s
     same r s e = moved r ∙ ap listed e
 
-dict_put : (bytes : List ℕ) → with_kept (parted_read pair_read bytes) ≡ dict_read bytes
-unfolding parted_read dict_read with_kept
+dict_put : (bytes : List ℕ) → with_kept (separated_read pair_read bytes) ≡ dict_read bytes
+unfolding separated_read dict_read with_kept
 dict_put bytes = go (all_read is_space bytes)
   where
     go : (r : Result (List ℕ × List ℕ) ℕ) → with_kept (r >>= λ s. some_members pair_read s.1) ≡ (r >>= λ s. some_pairs s.1)
@@ -234,22 +235,22 @@ pub meets_dict : Meets ReadsDict Nothing (λ bytes. dict_read bytes)
 unfolding with_kept After
 meets_dict =
     subst (λ (p : List ℕ → Result (List (Pair Member) × List ℕ) ℕ). Meets ReadsDict Nothing p) (λ i bytes. dict_put bytes i) (meets_same
-    (meets_map {G = Nothing} (meets_parted meets_pair pair_starts (λ v. refl) (λ v c h. after_ows c h) (97 ∷ []) (pair_of (97 ∷ []) (One (true_item []))) some_pair) (λ (ps : List (Pair Member)). kept ps) (λ v c h. h))
+    (meets_map {G = Nothing} (meets_separated meets_pair pair_starts (λ v. refl) (λ v c h. after_ows c h) (97 ∷ []) (pair_of (97 ∷ []) (One (true_item []))) some_pair) (λ (ps : List (Pair Member)). kept ps) (λ v c h. h))
     (λ x v h. (h.0, h.1, sym h.2)) (λ x v h. (h.0, h.1, sym h.2)) (λ v c h. h))
 
 -- how the loops over members go on
-pub members_step : (bytes : List ℕ) → turns_read (parted_turn member_read) bytes ≡ (parted_turn member_read bytes >>= λ a. turned a.0 a.1 (turns_read (parted_turn member_read) a.1))
+pub members_step : (bytes : List ℕ) → turns_read (separated_turn member_read) bytes ≡ (separated_turn member_read bytes >>= λ a. turned a.0 a.1 (turns_read (separated_turn member_read) a.1))
 unfolding After
-members_step bytes = parted_step meets_member member_starts (λ v. refl) (λ v c h. after_ows c h) (63 ∷ 49 ∷ []) (One (true_item [])) one_truth bytes
+members_step bytes = separated_step meets_member member_starts (λ v. refl) (λ v c h. after_ows c h) (63 ∷ 49 ∷ []) (One (true_item [])) one_truth bytes
 
-pub members_shorter : (bytes : List ℕ) (v : Member) (rest : List ℕ) → parted_turn member_read bytes ≡ Ok (Some v, rest) → length rest < length bytes
+pub members_shorter : (bytes : List ℕ) (v : Member) (rest : List ℕ) → separated_turn member_read bytes ≡ Ok (Some v, rest) → length rest < length bytes
 unfolding After
-members_shorter bytes v rest e = parted_shorter meets_member member_starts (λ v. refl) (λ v c h. after_ows c h) (63 ∷ 49 ∷ []) (One (true_item [])) one_truth bytes v rest e
+members_shorter bytes v rest e = separated_shorter meets_member member_starts (λ v. refl) (λ v c h. after_ows c h) (63 ∷ 49 ∷ []) (One (true_item [])) one_truth bytes v rest e
 
-pub pairs_step : (bytes : List ℕ) → turns_read (parted_turn pair_read) bytes ≡ (parted_turn pair_read bytes >>= λ a. turned a.0 a.1 (turns_read (parted_turn pair_read) a.1))
+pub pairs_step : (bytes : List ℕ) → turns_read (separated_turn pair_read) bytes ≡ (separated_turn pair_read bytes >>= λ a. turned a.0 a.1 (turns_read (separated_turn pair_read) a.1))
 unfolding After
-pairs_step bytes = parted_step meets_pair pair_starts (λ v. refl) (λ v c h. after_ows c h) (97 ∷ []) (pair_of (97 ∷ []) (One (true_item []))) some_pair bytes
+pairs_step bytes = separated_step meets_pair pair_starts (λ v. refl) (λ v c h. after_ows c h) (97 ∷ []) (pair_of (97 ∷ []) (One (true_item []))) some_pair bytes
 
-pub pairs_shorter : (bytes : List ℕ) (v : Pair Member) (rest : List ℕ) → parted_turn pair_read bytes ≡ Ok (Some v, rest) → length rest < length bytes
+pub pairs_shorter : (bytes : List ℕ) (v : Pair Member) (rest : List ℕ) → separated_turn pair_read bytes ≡ Ok (Some v, rest) → length rest < length bytes
 unfolding After
-pairs_shorter bytes v rest e = parted_shorter meets_pair pair_starts (λ v. refl) (λ v c h. after_ows c h) (97 ∷ []) (pair_of (97 ∷ []) (One (true_item []))) some_pair bytes v rest e
+pairs_shorter bytes v rest e = separated_shorter meets_pair pair_starts (λ v. refl) (λ v c h. after_ows c h) (97 ∷ []) (pair_of (97 ∷ []) (One (true_item []))) some_pair bytes v rest e

@@ -5,8 +5,9 @@ use Rattle.std.proofs.lemmas.Bool.{ltb-false, ltb-true, eqb-true}
 use Rattle.byte_grammar.specs.Language.{Then, IsRun, Optional, Mapped}
 use Rattle.byte_grammar.specs.Walk.{◌>>=◌, Next, is_of, run_read, optional_read}
 use Rattle.sfv_read.specs.BareItem.{IsInteger, IsDecimal}
-use Rattle.sfv_read.specs.BareWalk.{number_of, part_read, fraction_read, number_read}
-use Rattle.sfv_read.specs.Class.{is_digit, is_minus, is_dot}
+use Rattle.sfv_read.specs.tools.BareWalk.{number_of, part_read, fraction_read, number_read}
+use Rattle.byte_classes.specs.Classes.{is_digit}
+use Rattle.sfv_read.specs.Class.{is_minus, is_dot}
 use Rattle.sfv_text.specs.declared.value.BareItem.{BareItem}
 use Rattle.sfv_text.specs.declared.value.BareItem.TheVariants.{Integer, Decimal, Str, Token, Bytes, Bool as Boolean}
 use Rattle.byte_grammar.proofs.Laws.{Meets, Starts, meets_then, meets_optional, meets_byte, meets_run, apart, starts_next, any_next, run_starts, not_err, ok_is, and_is, optional_follow, next_more, meets_same, meets_map}
@@ -49,7 +50,7 @@ meets_part =
 after_number : {V : Type 0} → V → ℕ → Bool
 after_number _ c = not (is_digit c) && not (is_dot c)
 
--- the part behind the point, or none
+-- the part after the point, or none
 IsFraction : ℕ → List ℕ → Option (List ℕ) → Type 0
 IsFraction digits text None = text ≡ []
 IsFraction digits text (Some part) = (digits ≤ 12) × IsPart text part
@@ -105,16 +106,16 @@ IsNumber text (Token _) = ⊥
 IsNumber text (Bytes _) = ⊥
 IsNumber text (Boolean _) = ⊥
 
-IsPlace : (sign digits text : List ℕ) → BareItem → Type 0
-IsPlace sign digits text v = Mapped (number_of sign digits) (IsFraction (length digits)) text v
+IsFractional : (sign digits text : List ℕ) → BareItem → Type 0
+IsFractional sign digits text v = Mapped (number_of sign digits) (IsFraction (length digits)) text v
 
 fraction_next : (n : ℕ) (x : List ℕ) (o : Option (List ℕ)) (r : List ℕ) → IsFraction n x o → Next (after_number o) r → Next (λ c. not (is_digit c)) (x ++ r)
 unfolding IsFraction after_number
 fraction_next n x None r h after = subst (λ (y : List ℕ). Next (λ c. not (is_digit c)) (y ++ r)) (sym h) (next_more (λ c. not (is_digit c) && not (is_dot c)) (λ c. not (is_digit c)) (λ c e. (and_is _ _ e).0) r after)
 fraction_next n x (Some v) r h after = subst (λ (y : List ℕ). Next (λ c. not (is_digit c)) (y ++ r)) (sym h.1.joined) refl
 
-meets_digits : (sign : List ℕ) → Meets (Then (IsRun is_digit 1 15) (λ digits. IsPlace sign digits)) after_number (λ bytes. run_read is_digit 1 15 bytes >>= λ d. fraction_read (length d.0) d.1 >>= λ f. Ok (number_of sign d.0 f.0, f.1))
-unfolding IsPlace IsFraction after_number
+meets_digits : (sign : List ℕ) → Meets (Then (IsRun is_digit 1 15) (λ digits. IsFractional sign digits)) after_number (λ bytes. run_read is_digit 1 15 bytes >>= λ d. fraction_read (length d.0) d.1 >>= λ f. Ok (number_of sign d.0 f.0, f.1))
+unfolding IsFractional IsFraction after_number
 meets_digits sign =
     meets_then (meets_run is_digit 1 15 48 (omega arith) refl) (λ digits. meets_map (meets_fraction (length digits)) (number_of sign digits) (λ v c h. h))
     (λ x u h. ([], number_of sign u None, (None, none_is (length u), refl)))
@@ -124,7 +125,7 @@ meets_digits sign =
     none_is n = refl
 
 pub meets_number : Meets IsNumber (λ _ c. not (is_digit c) && not (is_dot c)) number_read
-unfolding number_read IsPlace IsFraction after_number
+unfolding number_read IsFractional IsFraction after_number
 meets_number =
     meets_same
     (meets_then (meets_run is_minus 0 1 45 (omega arith) refl) meets_digits
@@ -134,7 +135,7 @@ meets_number =
     from
     (λ v c h. h)
   where
-    digit_start : (sign y : List ℕ) (v : BareItem) (r : List ℕ) → Then (IsRun is_digit 1 15) (λ digits. IsPlace sign digits) y v → Next (λ c. not (is_minus c)) (y ++ r)
+    digit_start : (sign y : List ℕ) (v : BareItem) (r : List ℕ) → Then (IsRun is_digit 1 15) (λ digits. IsFractional sign digits) y v → Next (λ c. not (is_minus c)) (y ++ r)
     digit_start sign y v r t = subst (λ (y : List ℕ). Next (λ c. not (is_minus c)) y) (ap (λ (y : List ℕ). y ++ r) (sym t.joined)) (subst (λ (y : List ℕ). Next (λ c. not (is_minus c)) y) (sym (append_assoc t.first t.second r)) (digit_next 45 refl 0 15 t.first t.value (t.second ++ r) t.spells))
 
     to : (x first second sign third fourth digits : List ℕ) → x ≡ first ++ second → IsRun is_minus 0 1 first sign → second ≡ third ++ fourth → IsRun is_digit 1 15 third digits
@@ -160,7 +161,7 @@ meets_number =
           joined = cc (e, f, p.1.joined, m.same, d.same);
         })
 
-    from : (x : List ℕ) (v : BareItem) → IsNumber x v → Then (IsRun is_minus 0 1) (λ sign. Then (IsRun is_digit 1 15) (λ digits. IsPlace sign digits)) x v
+    from : (x : List ℕ) (v : BareItem) → IsNumber x v → Then (IsRun is_minus 0 1) (λ sign. Then (IsRun is_digit 1 15) (λ digits. IsFractional sign digits)) x v
     from x (Integer z) h = record {
       first = h.sign;
       second = h.digits;

@@ -8,7 +8,7 @@ use Rattle.std.proofs.lemmas.Bool.{eqb-true, ltb-true}
 use Rattle.std.proofs.lemmas.Bool.Decides.{nat_tests}
 use Rattle.std.proofs.lemmas.List.Sums.{AllPass-from_list_all}
 use Rattle.base64.specs.Rfc4648.{encode_symbols}
-use Rattle.sfv_read.specs.BareWalk.{six, are_whole, decoded}
+use Rattle.sfv_read.specs.tools.BareWalk.{six, are_whole, decoded}
 use Rattle.sfv_read.specs.Class.{is_base64}
 use Rattle.byte_grammar.proofs.Laws.{and_is}
 

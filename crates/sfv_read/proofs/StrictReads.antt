@@ -21,13 +21,14 @@ use Rattle.sfv_text.specs.Keys.{has_key, have_distinct_keys, put}
 use Rattle.sfv_text.specs.Range.{is_word, is_token_first, is_token_rest, is_key_first, is_key_rest, is_key, is_number_in_range, is_bare_in_range, is_param_in_range, are_params_in_range, is_item_in_range, is_inner_in_range, is_member_in_range, is_list_in_range, is_entry_in_range, is_dict_in_range}
 use Rattle.sfv_text.specs.Strict.{sign_text, integer_text, fraction_text, decimal_text, bare_text, param_value_text, param_text, params_text, item_text, inner_text, member_text, list_text, entry_item_text, entry_value_text, entry_text, dict_text}
 use Rattle.sfv_text.proofs.PutLaws.{bytes_eq-sym, distinct_parts, put_new}
-use Rattle.sfv_read.specs.Class.{is_digit, is_minus, is_space}
+use Rattle.byte_classes.specs.Classes.{is_digit, is_space}
+use Rattle.sfv_read.specs.Class.{is_minus}
 use Rattle.sfv_read.specs.BareItem.{spelled, spelled_from, signed, IsInteger, IsDecimal, IsBareItem}
 use Rattle.sfv_read.specs.Item.{IsValue, IsParameter, AreParameters, put_pair, kept, IsItem}
 use Rattle.sfv_read.specs.Inner.{IsSpaced, AreItems, IsInner}
-use Rattle.sfv_read.specs.Member.{IsMember, IsPair, IsFurther, AreMembers, Parted, true_item}
+use Rattle.sfv_read.specs.Member.{IsMember, IsPair, IsFurther, AreMembers, Separated, true_item}
 use Rattle.sfv_read.specs.Reads.{ReadsItem, ReadsInner, ReadsList, ReadsDict}
-use Rattle.sfv_read.specs.ItemWalk.{item_of}
+use Rattle.sfv_read.specs.tools.ItemWalk.{item_of}
 use Rattle.sfv_read.proofs.Digits.{spelled_append}
 
 -- ---- numbers
@@ -50,7 +51,7 @@ decimal_spells n lt = decimal_by_steps Spells
       value = spelled_append 0 ds ((48 + n % 10) ∷ []) ∙ omega (arith, s.value);
     }) n lt
 
--- the part of a Decimal behind its point, behind the number w
+-- the part of a Decimal after its point, after the number w
 record IsFraction (w m : ℕ) (part : List ℕ) : Type 0 where
   digits : list_all is_digit part ≡ true
   least : 1 ≤ length part
@@ -257,8 +258,8 @@ module _ {V : Type 0} (M : List ℕ → V → Type 0) (f : V → List ℕ) (test
       let both = and_is (test v) (list_all test vs) all in
       (f v, flat_map (λ w. codes ", " ++ f w) vs, refl, one v both.0, each_reads (IsFurther M) (λ w. codes ", " ++ f w) test further_reads vs both.1)
 
-  parted_reads : (vs : List V) → list_all test vs ≡ true → Parted M (join_by f (codes ", ") vs) vs
-  parted_reads vs all = record {
+  separated_reads : (vs : List V) → list_all test vs ≡ true → Separated M (join_by f (codes ", ") vs) vs
+  separated_reads vs all = record {
     before = [];
     members = join_by f (codes ", ") vs;
     after = [];
@@ -281,9 +282,9 @@ pub inner_text_reads : (list : InnerList) → is_inner_in_range list ≡ true �
 inner_text_reads list h = whole_reads IsInner (inner_text list) list (inner_reads list h)
 
 pub list_text_reads : (list : List Member) → is_list_in_range list ≡ true → ReadsList (list_text list) list
-list_text_reads list h = parted_reads IsMember member_text is_member_in_range member_reads list h
+list_text_reads list h = separated_reads IsMember member_text is_member_in_range member_reads list h
 
 pub dict_text_reads : (dict : List (Pair Member)) → is_dict_in_range dict ≡ true → ReadsDict (dict_text dict) dict
 dict_text_reads dict h =
     let both = and_is (have_distinct_keys dict) (list_all is_entry_in_range dict) h in
-    (dict, parted_reads IsPair entry_text is_entry_in_range entry_reads dict both.1, kept_same dict both.0)
+    (dict, separated_reads IsPair entry_text is_entry_in_range entry_reads dict both.1, kept_same dict both.0)

@@ -8,7 +8,7 @@ use Rattle.std.proofs.lemmas.Bool.Decides.{nat_tests}
 use Rattle.sfv_text.specs.Range.{is_string_byte}
 use Rattle.sfv_text.specs.Strict.{character_text}
 use Rattle.sfv_read.specs.BareItem.{IsString}
-use Rattle.sfv_read.specs.BareWalk.{char_kind, char_by, char_read, string_read}
+use Rattle.sfv_read.specs.tools.BareWalk.{char_kind, char_by, char_read, string_read}
 use Rattle.sfv_read.specs.Class.{is_unescaped, is_escapable, is_quote, is_backslash}
 use Rattle.sfv_read.specs.declared.string.CharKind.{CharKind}
 use Rattle.sfv_read.specs.declared.string.CharKind.TheVariants.{Finish, Escape, Plain}

@@ -3,12 +3,12 @@ use Rattle.std.proofs.Common.{◌≡◌, ◌↔◌, ℕ, Bool, true, List, ◌++
 use Rattle.byte_grammar.specs.Language.{Begins}
 use Rattle.byte_grammar.proofs.Whole.{Judges, one_value}
 
-pub begins_shorter : {V : Type 0} (L : List ℕ → V → Type 0) (front more : List ℕ) → Begins L (front ++ more) → Begins L front
-begins_shorter L front more b = (more ++ b.0, b.1, subst (λ (y : List ℕ). L y b.1) (append_assoc front more b.0) b.2)
+pub begins_shorter : {V : Type 0} (L : List ℕ → V → Type 0) (prefix more : List ℕ) → Begins L (prefix ++ more) → Begins L prefix
+begins_shorter L prefix more b = (more ++ b.0, b.1, subst (λ (y : List ℕ). L y b.1) (append_assoc prefix more b.0) b.2)
 
-pub told_by_text : {V : Type 0} {L : List ℕ → V → Type 0} {r : List ℕ → Result V ℕ} (j : Judges L r) (test : V → Bool) (text_of : V → List ℕ)
+pub distinct_texts : {V : Type 0} {L : List ℕ → V → Type 0} {r : List ℕ → Result V ℕ} (j : Judges L r) (test : V → Bool) (text_of : V → List ℕ)
     → ((v : V) → test v ≡ true → L (text_of v) v) → (v w : V) → test v ≡ true → test w ≡ true → (text_of v ≡ text_of w) ↔ (v ≡ w)
-told_by_text {V} {L} j test text_of reads v w a b = (
+distinct_texts {V} {L} j test text_of reads v w a b = (
   (λ e. one_value j (text_of v) v w (reads v a) (subst (λ (y : List ℕ). L y w) (sym e) (reads w b))),
   (λ e. ap text_of e),
 )

@@ -1,5 +1,6 @@
 -- The texts of bare items (RFC 9651 section 3.3).
 use Rattle.std.specs.Prelude.{◌≡◌, ℕ, ◌+◌, ◌-◌, ◌*◌, ◌^◌, ◌⊎◌, Bool, true, List, [], ◌∷◌, ◌++◌, length, ℤ, pos, neg_ℤ}
+use Rattle.std.specs.Str.{byte}
 use Rattle.std.specs.List.{list_all}
 use Rattle.base64.specs.Engines.{standard, standard_no_pad}
 use Rattle.base64.specs.GeneralPurpose.{encode_of}
@@ -8,9 +9,10 @@ use Rattle.sfv_text.specs.declared.value.BareItem.{BareItem}
 use Rattle.sfv_text.specs.declared.value.BareItem.TheVariants.{Integer, Decimal, Str, Token, Bytes, Bool as Boolean}
 use Rattle.sfv_text.specs.Range.{is_byte, is_string_byte, is_token_first, is_token_rest}
 use Rattle.sfv_text.specs.Strict.{string_text, bool_text}
-use Rattle.sfv_read.specs.Class.{is_digit, is_minus}
+use Rattle.byte_classes.specs.Classes.{is_digit}
+use Rattle.sfv_read.specs.Class.{is_minus}
 
--- the number that digits spell behind a number
+-- the number that digits spell after a number
 abbrev pub spelled_from : ℕ → List ℕ → ℕ
 spelled_from n [] = n
 spelled_from n (d ∷ ds) = spelled_from (n * 10 + (d - 48)) ds
@@ -37,13 +39,13 @@ pub record IsDecimal (text : List ℕ) (z : ℤ) : Type 0 where
   pub sign : List ℕ
   pub digits : List ℕ
   pub part : List ℕ
-  pub joined : text ≡ sign ++ (digits ++ 46 ∷ part)
+  pub joined : text ≡ sign ++ (digits ++ byte "." ∷ part)
   pub minus : AreOf is_minus 0 1 sign
   pub whole : AreOf is_digit 1 12 digits
   pub fraction : AreOf is_digit 1 3 part
   pub value : z ≡ signed sign (spelled (digits ++ part) * 10 ^ (3 - length part))
 
--- printable characters in quotes, `"` and `\` behind a backslash (RFC 9651 section 3.3.3)
+-- printable characters in quotes, `"` and `\` after a backslash (RFC 9651 section 3.3.3)
 pub record IsString (text : List ℕ) (s : List ℕ) : Type 0 where
   pub joined : text ≡ string_text s
   pub printable : list_all is_string_byte s ≡ true
@@ -55,7 +57,7 @@ IsToken text token = IsWord is_token_first is_token_rest text token
 -- the bytes in base64 between colons, with all of its `=` or none (RFC 9651 section 3.3.5, RFC 4648 section 4)
 pub record IsByteSequence (text : List ℕ) (bytes : List ℕ) : Type 0 where
   pub are_bytes : list_all is_byte bytes ≡ true
-  pub joined : (text ≡ 58 ∷ (encode_of standard bytes ++ 58 ∷ [])) ⊎ (text ≡ 58 ∷ (encode_of standard_no_pad bytes ++ 58 ∷ []))
+  pub joined : (text ≡ byte ":" ∷ (encode_of standard bytes ++ byte ":" ∷ [])) ⊎ (text ≡ byte ":" ∷ (encode_of standard_no_pad bytes ++ byte ":" ∷ []))
 
 -- `?1` or `?0` (RFC 9651 section 3.3.6)
 abbrev pub IsBoolean : List ℕ → Bool → Type 0

@@ -1,5 +1,6 @@
 -- The texts of parameters and Items (RFC 9651 sections 3.1.2 and 3.3).
 use Rattle.std.specs.Prelude.{◌≡◌, ℕ, ◌⊎◌, true, List, [], ◌∷◌, ◌++◌}
+use Rattle.std.specs.Str.{byte}
 use Rattle.std.specs.List.{list_all}
 use Rattle.byte_grammar.specs.Language.{IsWord, Each, after_all}
 use Rattle.sfv_text.specs.declared.value.BareItem.{BareItem}
@@ -8,7 +9,7 @@ use Rattle.sfv_text.specs.declared.value.Item.{Item}
 use Rattle.sfv_text.specs.declared.pair.Pair.{Pair}
 use Rattle.sfv_text.specs.Keys.{put}
 use Rattle.sfv_text.specs.Range.{is_key_first, is_key_rest}
-use Rattle.sfv_read.specs.Class.{is_space}
+use Rattle.byte_classes.specs.Classes.{is_space}
 use Rattle.sfv_read.specs.BareItem.{IsBareItem}
 
 -- a lower-case letter or `*`, and then lower-case letters, digits, `_`, `-`, `.` or `*`
@@ -17,14 +18,14 @@ IsKey text key = IsWord is_key_first is_key_rest text key
 
 -- `=` and a bare item, or nothing for true
 abbrev pub IsValue : List ℕ → BareItem → Type 0
-IsValue text value = ((bare : List ℕ) × (text ≡ 61 ∷ bare) × IsBareItem bare value) ⊎ ((text ≡ []) × (value ≡ Boolean true))
+IsValue text value = ((bare : List ℕ) × (text ≡ byte "=" ∷ bare) × IsBareItem bare value) ⊎ ((text ≡ []) × (value ≡ Boolean true))
 
 -- a semicolon, spaces, a key, and its value
 pub record IsParameter (text : List ℕ) (p : Pair BareItem) : Type 0 where
   pub spaces : List ℕ
   pub key : List ℕ
   pub value : List ℕ
-  pub joined : text ≡ 59 ∷ (spaces ++ (key ++ value))
+  pub joined : text ≡ byte ";" ∷ (spaces ++ (key ++ value))
   pub blank : list_all is_space spaces ≡ true
   pub is_key : IsKey key p.key
   pub is_value : IsValue value p.value
@@ -36,7 +37,7 @@ AreParameters text ps = Each IsParameter text ps
 abbrev pub put_pair : {V : Type 0} → List (Pair V) → Pair V → List (Pair V)
 put_pair ps p = put ps p.key p.value
 
--- the pairs that are kept of those that stand there: a repeated key has its first place and its last value
+-- the pairs that are kept of those that stand there: a repeated key stands where it first stood and has its last value
 abbrev pub kept : {V : Type 0} → List (Pair V) → List (Pair V)
 kept ps = after_all put_pair [] ps
 

@@ -1,5 +1,6 @@
 -- The texts of Lists and Dictionaries (RFC 9651 sections 3.1 and 3.2).
 use Rattle.std.specs.Prelude.{◌≡◌, ℕ, ◌⊎◌, true, List, [], ◌∷◌, ◌++◌}
+use Rattle.std.specs.Str.{byte}
 use Rattle.std.specs.List.{list_all}
 use Rattle.byte_grammar.specs.Language.{Each}
 use Rattle.sfv_text.specs.declared.value.BareItem.{BareItem}
@@ -8,7 +9,7 @@ use Rattle.sfv_text.specs.declared.value.Item.{Item}
 use Rattle.sfv_text.specs.declared.value.Member.{Member}
 use Rattle.sfv_text.specs.declared.value.Member.TheVariants.{Item as One, InnerList as Several}
 use Rattle.sfv_text.specs.declared.pair.Pair.{Pair}
-use Rattle.sfv_read.specs.Class.{is_space, is_blank}
+use Rattle.byte_classes.specs.Classes.{is_space, is_blank}
 use Rattle.sfv_read.specs.Item.{IsItem, IsKey, AreParameters, kept}
 use Rattle.sfv_read.specs.Inner.{IsInner}
 
@@ -26,7 +27,7 @@ pub record IsPair (text : List ℕ) (p : Pair Member) : Type 0 where
   pub rest : List ℕ
   pub joined : text ≡ key ++ rest
   pub is_key : IsKey key p.key
-  pub value : ((member : List ℕ) × (rest ≡ 61 ∷ member) × IsMember member p.value)
+  pub value : ((member : List ℕ) × (rest ≡ byte "=" ∷ member) × IsMember member p.value)
       ⊎ ((written : List (Pair BareItem)) × AreParameters rest written × (p.value ≡ One (true_item (kept written))))
 
 -- blanks, a comma, blanks, and a member
@@ -34,18 +35,18 @@ pub record IsFurther {V : Type 0} (M : List ℕ → V → Type 0) (text : List �
   pub before : List ℕ
   pub after : List ℕ
   pub rest : List ℕ
-  pub joined : text ≡ before ++ 44 ∷ (after ++ rest)
+  pub joined : text ≡ before ++ byte "," ∷ (after ++ rest)
   pub blank_before : list_all is_blank before ≡ true
   pub blank_after : list_all is_blank after ≡ true
   pub spells : M rest v
 
--- nothing, or members parted by commas
+-- nothing, or members separated by commas
 abbrev pub AreMembers : {V : Type 0} → (List ℕ → V → Type 0) → List ℕ → List V → Type 0
 AreMembers M text [] = text ≡ []
 AreMembers M text (v ∷ vs) = (first second : List ℕ) × (text ≡ first ++ second) × M first v × Each (IsFurther M) second vs
 
--- spaces, members parted by commas, and blanks behind the last; spaces alone where there is no member
-pub record Parted {V : Type 0} (M : List ℕ → V → Type 0) (text : List ℕ) (vs : List V) : Type 0 where
+-- spaces, members separated by commas, and blanks after the last; spaces alone where there is no member
+pub record Separated {V : Type 0} (M : List ℕ → V → Type 0) (text : List ℕ) (vs : List V) : Type 0 where
   pub before : List ℕ
   pub members : List ℕ
   pub after : List ℕ

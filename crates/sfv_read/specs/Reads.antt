@@ -5,10 +5,10 @@ use Rattle.sfv_text.specs.declared.value.Item.{Item}
 use Rattle.sfv_text.specs.declared.value.InnerList.{InnerList}
 use Rattle.sfv_text.specs.declared.value.Member.{Member}
 use Rattle.sfv_text.specs.declared.pair.Pair.{Pair}
-use Rattle.sfv_read.specs.Class.{is_space}
+use Rattle.byte_classes.specs.Classes.{is_space}
 use Rattle.sfv_read.specs.Item.{IsItem, kept}
 use Rattle.sfv_read.specs.Inner.{IsInner}
-use Rattle.sfv_read.specs.Member.{IsMember, IsPair, Parted}
+use Rattle.sfv_read.specs.Member.{IsMember, IsPair, Separated}
 
 -- the text reads as that Item
 abbrev pub ReadsItem : List ℕ → Item → Type 0
@@ -20,8 +20,8 @@ ReadsInner text list = Padded is_space IsInner text list
 
 -- the text reads as that List
 abbrev pub ReadsList : List ℕ → List Member → Type 0
-ReadsList text list = Parted IsMember text list
+ReadsList text list = Separated IsMember text list
 
 -- the text reads as that Dictionary
 abbrev pub ReadsDict : List ℕ → List (Pair Member) → Type 0
-ReadsDict text dict = (written : List (Pair Member)) × Parted IsPair text written × (dict ≡ kept written)
+ReadsDict text dict = (written : List (Pair Member)) × Separated IsPair text written × (dict ≡ kept written)

@@ -3,8 +3,8 @@
 ghost use Rattle.std.specs.Prelude.{◌≡◌};
 ghost use Rattle.byte_grammar.specs.Gives.{Gives};
 ghost use Rattle.byte_grammar.specs.Walk.{kind_in};
-ghost use Rattle.sfv_read.specs.Gives.{GivesUnlessMemory};
-ghost use Rattle.sfv_read.specs.BareWalk.{bare_kind, bare_read, truth_read};
+ghost use Rattle.sfv_read.specs.tools.Gives.{GivesUnlessMemory};
+ghost use Rattle.sfv_read.specs.tools.BareWalk.{bare_kind, bare_read, truth_read};
 
 use crate::byte_sequence::read_bytes;
 use crate::class::Class;
@@ -12,7 +12,8 @@ use crate::number::read_number;
 use crate::stop::Stop;
 use crate::string::read_string;
 use crate::text::text_of;
-use byte_grammar::{ByteClass, Left, read_byte, read_word};
+use byte_classes::ByteClass;
+use byte_grammar::{Left, read_byte, read_word};
 use sfv_text::BareItem;
 use std::alloc::Global;
 
@@ -32,7 +33,7 @@ pub enum BareKind {
 }
 
 /// A bare item, by its first byte.
-#[tactic(auto, unfolding(crate::specs::BareWalk::bare_read, byte_grammar::specs::Walk::pick_read))]
+#[tactic(auto, unfolding(crate::specs::tools::BareWalk::bare_read, byte_grammar::specs::Walk::pick_read))]
 pub fn read_bare(alloc: Global, bytes: &[u8]) -> Result<(BareItem, &[u8]), Stop>
     ensures { GivesUnlessMemory (λ x. (x.0, x.1.now)) result (bare_read bytes.now) }
 {
@@ -56,7 +57,7 @@ pub fn read_bare(alloc: Global, bytes: &[u8]) -> Result<(BareItem, &[u8]), Stop>
 }
 
 /// `?1` or `?0`.
-#[tactic(auto, unfolding(crate::specs::BareWalk::truth_read))]
+#[tactic(auto, unfolding(crate::specs::tools::BareWalk::truth_read))]
 fn read_truth(bytes: &[u8]) -> Result<(BareItem, &[u8]), Left>
     ensures { Gives (λ x. (x.0, x.1.now)) result (truth_read bytes.now) }
 {

@@ -4,9 +4,9 @@ ghost use Rattle.std.specs.Prelude.{◌≡◌, true, false, length, IfOk, IfErr,
 ghost use Rattle.std.specs.List.{list_all};
 ghost use Rattle.byte_grammar.specs.Gives.{Gives};
 ghost use Rattle.sfv_read.specs.declared.stop.Stop.TheVariants.{NoMemory};
-ghost use Rattle.sfv_read.specs.Gives.{GivesUnlessMemory};
+ghost use Rattle.sfv_read.specs.tools.Gives.{GivesUnlessMemory};
 ghost use Rattle.sfv_read.specs.Class.{is_base64};
-ghost use Rattle.sfv_read.specs.BareWalk.{decoded, are_whole, pads, filling_read, close_read, bytes_end, bytes_read};
+ghost use Rattle.sfv_read.specs.tools.BareWalk.{decoded, are_whole, pads, filling_read, close_read, bytes_end, bytes_read};
 
 use crate::class::Class;
 use crate::stop::Stop;
@@ -18,7 +18,7 @@ use sfv_text::Text;
 use std::alloc::Global;
 
 /// Letters between colons, with all of the `=` that fill their last group or none.
-#[tactic(auto, unfolding(crate::specs::BareWalk::bytes_read))]
+#[tactic(auto, unfolding(crate::specs::tools::BareWalk::bytes_read))]
 pub fn read_bytes(alloc: Global, bytes: &[u8]) -> Result<(Text, &[u8]), Stop>
     ensures { GivesUnlessMemory (λ x. (x.0, x.1.now)) result (bytes_read bytes.now) }
 {
@@ -27,8 +27,8 @@ pub fn read_bytes(alloc: Global, bytes: &[u8]) -> Result<(Text, &[u8]), Stop>
     read_end(alloc, letters, rest)
 }
 
-/// The bytes of the letters, and what stands behind the colon that ends them.
-#[tactic(auto, unfolding(crate::specs::BareWalk::bytes_end, crate::specs::BareWalk::end_read))]
+/// The bytes of the letters, and what stands after the colon that ends them.
+#[tactic(auto, unfolding(crate::specs::tools::BareWalk::bytes_end, crate::specs::tools::BareWalk::end_read))]
 fn read_end<'a>(alloc: Global, letters: &[u8], bytes: &'a [u8]) -> Result<(Text, &'a [u8]), Stop>
     requires { list_all is_base64 letters.now ≡ true }
     ensures { GivesUnlessMemory (λ x. (x.0, x.1.now)) result (bytes_end letters.now bytes.now) }
@@ -57,7 +57,7 @@ fn decode(alloc: Global, letters: &[u8]) -> Result<Option<Text>, Stop>
 }
 
 /// The filling, and a colon.
-#[tactic(auto, unfolding(crate::specs::BareWalk::close_read))]
+#[tactic(auto, unfolding(crate::specs::tools::BareWalk::close_read))]
 fn read_close(pads: usize, bytes: &[u8]) -> Result<(&[u8], &[u8]), Left>
     ensures { Gives (λ x. (x.0.now, x.1.now)) result (close_read pads bytes.now) }
 {
@@ -67,7 +67,7 @@ fn read_close(pads: usize, bytes: &[u8]) -> Result<(&[u8], &[u8]), Left>
 }
 
 /// As many `=` as fill the last group, or none.
-#[tactic(auto, unfolding(crate::specs::BareWalk::filling_read, byte_grammar::specs::Walk::optional_read))]
+#[tactic(auto, unfolding(crate::specs::tools::BareWalk::filling_read, byte_grammar::specs::Walk::optional_read))]
 fn read_filling(pads: usize, bytes: &[u8]) -> Result<(&[u8], &[u8]), Left>
     ensures { Gives (λ x. (x.0.now, x.1.now)) result (filling_read pads bytes.now) }
 {

@@ -2,7 +2,7 @@
 
 ghost use Rattle.sfv_read.specs.Class.{members};
 
-use byte_grammar::ByteClass;
+use byte_classes::ByteClass;
 
 /// The classes of bytes that structured fields tell apart (RFC 9651 section 3).
 #[derive(Clone, Copy)]
@@ -12,7 +12,7 @@ pub enum Class {
     Dot,
     Quote,
     Backslash,
-    /// What stands in a String behind a backslash alone.
+    /// What stands in a String after a backslash alone.
     Escapable,
     /// What stands in a String as it is.
     Unescaped,

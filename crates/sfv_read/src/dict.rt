@@ -2,9 +2,9 @@
 
 ghost use Rattle.std.specs.Prelude.{◌≡◌};
 ghost use Rattle.byte_grammar.specs.Walk.{turns_read, with_state};
-ghost use Rattle.sfv_read.specs.Gives.{GivesUnlessMemory};
+ghost use Rattle.sfv_read.specs.tools.Gives.{GivesUnlessMemory};
 ghost use Rattle.sfv_read.specs.Item.{put_pair};
-ghost use Rattle.sfv_read.specs.MemberWalk.{pair_read, further_read, parted_turn, pairs_read, dict_read, dict_whole};
+ghost use Rattle.sfv_read.specs.tools.MemberWalk.{pair_read, further_read, separated_turn, pairs_read, dict_read, dict_whole};
 
 use crate::class::Class;
 use crate::member::read_pair;
@@ -14,7 +14,7 @@ use sfv_text::{Dict, Member, Pair};
 use std::alloc::Global;
 
 /// A whole text of a Dictionary.
-#[tactic(auto, unfolding(crate::specs::MemberWalk::dict_whole, byte_grammar::specs::Walk::whole_read))]
+#[tactic(auto, unfolding(crate::specs::tools::MemberWalk::dict_whole, byte_grammar::specs::Walk::whole_read))]
 pub fn read_dict_text(alloc: Global, text: &[u8]) -> Result<Dict, Stop>
     ensures { GivesUnlessMemory (λ x. x) result (dict_whole text.now) }
 {
@@ -25,9 +25,9 @@ pub fn read_dict_text(alloc: Global, text: &[u8]) -> Result<Dict, Stop>
     }
 }
 
-/// Spaces, and nothing or pairs parted by commas. A repeated key has its first place and its last
+/// Spaces, and nothing or pairs separated by commas. A repeated key stands where it first stood and has its last
 /// value.
-#[tactic(auto, unfolding(crate::specs::MemberWalk::dict_read, crate::specs::MemberWalk::some_pairs, byte_grammar::specs::Walk::optional_read))]
+#[tactic(auto, unfolding(crate::specs::tools::MemberWalk::dict_read, crate::specs::tools::MemberWalk::some_pairs, byte_grammar::specs::Walk::optional_read))]
 fn read_pairs(alloc: Global, bytes: &[u8]) -> Result<(Dict, &[u8]), Stop>
     ensures { GivesUnlessMemory (λ x. (x.0, x.1.now)) result (dict_read bytes.now) }
 {
@@ -38,8 +38,8 @@ fn read_pairs(alloc: Global, bytes: &[u8]) -> Result<(Dict, &[u8]), Stop>
     }
 }
 
-/// Pairs parted by commas, and blanks behind the last.
-#[tactic(auto, unfolding(crate::specs::MemberWalk::pairs_read))]
+/// Pairs separated by commas, and blanks after the last.
+#[tactic(auto, unfolding(crate::specs::tools::MemberWalk::pairs_read))]
 fn read_some(alloc: Global, bytes: &[u8]) -> Result<(Dict, &[u8]), Stop>
     ensures { GivesUnlessMemory (λ x. (x.0, x.1.now)) result (pairs_read bytes.now) }
 {
@@ -49,9 +49,9 @@ fn read_some(alloc: Global, bytes: &[u8]) -> Result<(Dict, &[u8]), Stop>
     read_more(alloc, dict, rest)
 }
 
-/// The pairs behind those that were read.
+/// The pairs after those that were read.
 fn read_more(alloc: Global, first: Dict, bytes: &[u8]) -> Result<(Dict, &[u8]), Stop>
-    ensures { GivesUnlessMemory (λ x. (x.0, x.1.now)) result (with_state put_pair first (turns_read (parted_turn pair_read) bytes.now)) }
+    ensures { GivesUnlessMemory (λ x. (x.0, x.1.now)) result (with_state put_pair first (turns_read (separated_turn pair_read) bytes.now)) }
 {
     let mut dict = first;
     let mut rest = bytes;
@@ -68,9 +68,9 @@ fn read_more(alloc: Global, first: Dict, bytes: &[u8]) -> Result<(Dict, &[u8]), 
 }
 
 /// Blanks, and a further pair where a comma comes.
-#[tactic(auto, unfolding(crate::specs::MemberWalk::parted_turn, byte_grammar::specs::Walk::optional_read))]
+#[tactic(auto, unfolding(crate::specs::tools::MemberWalk::separated_turn, byte_grammar::specs::Walk::optional_read))]
 fn read_turn(alloc: Global, bytes: &[u8]) -> Result<(Option<Pair<Member>>, &[u8]), Stop>
-    ensures { GivesUnlessMemory (λ x. (x.0, x.1.now)) result (parted_turn pair_read bytes.now) }
+    ensures { GivesUnlessMemory (λ x. (x.0, x.1.now)) result (separated_turn pair_read bytes.now) }
 {
     let (_, rest) = read_all(Class::Blank, bytes);
     if !starts_with(Class::Comma, rest) {
@@ -81,7 +81,7 @@ fn read_turn(alloc: Global, bytes: &[u8]) -> Result<(Option<Pair<Member>>, &[u8]
 }
 
 /// A comma, blanks and a pair.
-#[tactic(auto, unfolding(crate::specs::MemberWalk::further_read))]
+#[tactic(auto, unfolding(crate::specs::tools::MemberWalk::further_read))]
 fn read_further(alloc: Global, bytes: &[u8]) -> Result<(Pair<Member>, &[u8]), Stop>
     ensures { GivesUnlessMemory (λ x. (x.0, x.1.now)) result (further_read pair_read bytes.now) }
 {

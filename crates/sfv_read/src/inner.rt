@@ -2,9 +2,9 @@
 
 ghost use Rattle.std.specs.Prelude.{◌≡◌, List};
 ghost use Rattle.byte_grammar.specs.Gives.{Gives};
-ghost use Rattle.byte_grammar.specs.Walk.{turns_read, with_front};
-ghost use Rattle.sfv_read.specs.Gives.{GivesUnlessMemory};
-ghost use Rattle.sfv_read.specs.InnerWalk.{close_only, some_item, item_or_close, inner_turn, items_read, inner_read, inner_whole};
+ghost use Rattle.byte_grammar.specs.Walk.{turns_read, with_prefix};
+ghost use Rattle.sfv_read.specs.tools.Gives.{GivesUnlessMemory};
+ghost use Rattle.sfv_read.specs.tools.InnerWalk.{close_only, some_item, item_or_close, inner_turn, items_read, inner_read, inner_whole};
 
 use crate::class::Class;
 use crate::item::read_one;
@@ -15,7 +15,7 @@ use sfv_text::{InnerList, Item, Items};
 use std::alloc::Global;
 
 /// A whole text: an Inner List with spaces at both ends.
-#[tactic(auto, unfolding(crate::specs::InnerWalk::inner_whole, byte_grammar::specs::Walk::whole_read, byte_grammar::specs::Walk::padded_read))]
+#[tactic(auto, unfolding(crate::specs::tools::InnerWalk::inner_whole, byte_grammar::specs::Walk::whole_read, byte_grammar::specs::Walk::padded_read))]
 pub fn read_inner_text(alloc: Global, text: &[u8]) -> Result<InnerList, Stop>
     ensures { GivesUnlessMemory (λ x. x) result (inner_whole text.now) }
 {
@@ -28,8 +28,8 @@ pub fn read_inner_text(alloc: Global, text: &[u8]) -> Result<InnerList, Stop>
     }
 }
 
-/// Items in parentheses, parted by spaces, and parameters.
-#[tactic(auto, unfolding(crate::specs::InnerWalk::inner_read))]
+/// Items in parentheses, separated by spaces, and parameters.
+#[tactic(auto, unfolding(crate::specs::tools::InnerWalk::inner_read))]
 pub fn read_several(alloc: Global, bytes: &[u8]) -> Result<(InnerList, &[u8]), Stop>
     ensures { GivesUnlessMemory (λ x. (x.0, x.1.now)) result (inner_read bytes.now) }
 {
@@ -41,7 +41,7 @@ pub fn read_several(alloc: Global, bytes: &[u8]) -> Result<(InnerList, &[u8]), S
 }
 
 /// Items up to the parenthesis that ends them.
-#[tactic(auto, unfolding(crate::specs::InnerWalk::items_read))]
+#[tactic(auto, unfolding(crate::specs::tools::InnerWalk::items_read))]
 fn read_items(alloc: Global, bytes: &[u8]) -> Result<(Items, &[u8]), Stop>
     ensures { GivesUnlessMemory (λ x. (x.0, x.1.now)) result (items_read bytes.now) }
 {
@@ -56,9 +56,9 @@ fn read_items(alloc: Global, bytes: &[u8]) -> Result<(Items, &[u8]), Stop>
     }
 }
 
-/// The Items behind those that were read, up to the parenthesis that ends them.
+/// The Items after those that were read, up to the parenthesis that ends them.
 fn read_more(alloc: Global, first: Items, bytes: &[u8]) -> Result<(Items, &[u8]), Stop>
-    ensures { GivesUnlessMemory (λ x. (x.0, x.1.now)) result (with_front first (turns_read inner_turn bytes.now)) }
+    ensures { GivesUnlessMemory (λ x. (x.0, x.1.now)) result (with_prefix first (turns_read inner_turn bytes.now)) }
 {
     let mut items = first;
     let mut rest = bytes;
@@ -74,8 +74,8 @@ fn read_more(alloc: Global, first: Items, bytes: &[u8]) -> Result<(Items, &[u8])
     }
 }
 
-/// Spaces and an Item, or the parenthesis. An Item stands behind a space alone.
-#[tactic(auto, unfolding(crate::specs::InnerWalk::inner_turn))]
+/// Spaces and an Item, or the parenthesis. An Item stands after a space alone.
+#[tactic(auto, unfolding(crate::specs::tools::InnerWalk::inner_turn))]
 fn read_turn(alloc: Global, bytes: &[u8]) -> Result<(Option<Item>, &[u8]), Stop>
     ensures { GivesUnlessMemory (λ x. (x.0, x.1.now)) result (inner_turn bytes.now) }
 {
@@ -87,7 +87,7 @@ fn read_turn(alloc: Global, bytes: &[u8]) -> Result<(Option<Item>, &[u8]), Stop>
 }
 
 /// An Item, or the parenthesis.
-#[tactic(auto, unfolding(crate::specs::InnerWalk::item_or_close, byte_grammar::specs::Walk::choose_read, byte_grammar::specs::Walk::pick_read))]
+#[tactic(auto, unfolding(crate::specs::tools::InnerWalk::item_or_close, byte_grammar::specs::Walk::choose_read, byte_grammar::specs::Walk::pick_read))]
 fn read_item_or_close(alloc: Global, bytes: &[u8]) -> Result<(Option<Item>, &[u8]), Stop>
     ensures { GivesUnlessMemory (λ x. (x.0, x.1.now)) result (item_or_close bytes.now) }
 {
@@ -101,7 +101,7 @@ fn read_item_or_close(alloc: Global, bytes: &[u8]) -> Result<(Option<Item>, &[u8
 }
 
 /// An Item.
-#[tactic(auto, unfolding(crate::specs::InnerWalk::some_item))]
+#[tactic(auto, unfolding(crate::specs::tools::InnerWalk::some_item))]
 fn read_some(alloc: Global, bytes: &[u8]) -> Result<(Option<Item>, &[u8]), Stop>
     ensures { GivesUnlessMemory (λ x. (x.0, x.1.now)) result (some_item bytes.now) }
 {
@@ -110,7 +110,7 @@ fn read_some(alloc: Global, bytes: &[u8]) -> Result<(Option<Item>, &[u8]), Stop>
 }
 
 /// The parenthesis.
-#[tactic(auto, unfolding(crate::specs::InnerWalk::close_only))]
+#[tactic(auto, unfolding(crate::specs::tools::InnerWalk::close_only))]
 fn read_close(bytes: &[u8]) -> Result<(Option<Item>, &[u8]), Left>
     ensures { Gives (λ x. (x.0, x.1.now)) result (close_only bytes.now) }
 {

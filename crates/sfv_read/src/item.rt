@@ -1,8 +1,8 @@
 //! Items (RFC 9651 section 3.3).
 
 ghost use Rattle.std.specs.Prelude.{◌≡◌};
-ghost use Rattle.sfv_read.specs.Gives.{GivesUnlessMemory};
-ghost use Rattle.sfv_read.specs.ItemWalk.{item_read, item_whole};
+ghost use Rattle.sfv_read.specs.tools.Gives.{GivesUnlessMemory};
+ghost use Rattle.sfv_read.specs.tools.ItemWalk.{item_read, item_whole};
 
 use crate::bare::read_bare;
 use crate::class::Class;
@@ -13,7 +13,7 @@ use sfv_text::Item;
 use std::alloc::Global;
 
 /// A whole text: an Item with spaces at both ends.
-#[tactic(auto, unfolding(crate::specs::ItemWalk::item_whole, byte_grammar::specs::Walk::whole_read, byte_grammar::specs::Walk::padded_read))]
+#[tactic(auto, unfolding(crate::specs::tools::ItemWalk::item_whole, byte_grammar::specs::Walk::whole_read, byte_grammar::specs::Walk::padded_read))]
 pub fn read_item_text(alloc: Global, text: &[u8]) -> Result<Item, Stop>
     ensures { GivesUnlessMemory (λ x. x) result (item_whole text.now) }
 {
@@ -27,7 +27,7 @@ pub fn read_item_text(alloc: Global, text: &[u8]) -> Result<Item, Stop>
 }
 
 /// A bare item with parameters.
-#[tactic(auto, unfolding(crate::specs::ItemWalk::item_read))]
+#[tactic(auto, unfolding(crate::specs::tools::ItemWalk::item_read))]
 pub fn read_one(alloc: Global, bytes: &[u8]) -> Result<(Item, &[u8]), Stop>
     ensures { GivesUnlessMemory (λ x. (x.0, x.1.now)) result (item_read bytes.now) }
 {

@@ -2,7 +2,7 @@
 
 ghost use Rattle.sfv_text.specs.Range.{is_item_in_range, is_inner_in_range, is_list_in_range, is_dict_in_range};
 ghost use Rattle.sfv_text.specs.Strict.{item_text, inner_text, list_text, dict_text};
-ghost use Rattle.sfv_read.specs.Laws.{HasOneValue, ReadsOnly, BeginsShorter, ReadsBack, IsToldByText};
+ghost use Rattle.sfv_read.specs.Laws.{HasOneValue, ReadsOnly, BeginsShorter, ReadsBack, HasDistinctTexts};
 ghost use Rattle.sfv_read.specs.Reads.{ReadsItem, ReadsInner, ReadsList, ReadsDict};
 
 /// A text reads as at most one value of a kind.
@@ -21,8 +21,8 @@ pub fn values_read_are_in_range()
     ensures dict { ReadsOnly ReadsDict is_dict_in_range }
 {}
 
-/// A shorter front of what begins a text of a kind begins one too, so there is a longest.
-pub fn shorter_fronts_begin()
+/// A shorter prefix of what begins a text of a kind begins one too, so there is a longest.
+pub fn shorter_prefixes_begin()
     ensures item { BeginsShorter ReadsItem }
     ensures inner { BeginsShorter ReadsInner }
     ensures list { BeginsShorter ReadsList }
@@ -38,9 +38,9 @@ pub fn strict_texts_read_back()
 {}
 
 /// Two values in range are equal exactly where their strict texts are.
-pub fn strict_texts_tell_values()
-    ensures item { IsToldByText is_item_in_range item_text }
-    ensures inner { IsToldByText is_inner_in_range inner_text }
-    ensures list { IsToldByText is_list_in_range list_text }
-    ensures dict { IsToldByText is_dict_in_range dict_text }
+pub fn strict_texts_are_distinct()
+    ensures item { HasDistinctTexts is_item_in_range item_text }
+    ensures inner { HasDistinctTexts is_inner_in_range inner_text }
+    ensures list { HasDistinctTexts is_list_in_range list_text }
+    ensures dict { HasDistinctTexts is_dict_in_range dict_text }
 {}

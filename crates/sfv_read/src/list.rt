@@ -1,9 +1,9 @@
 //! Lists (RFC 9651 section 3.1).
 
 ghost use Rattle.std.specs.Prelude.{◌≡◌, List as Items};
-ghost use Rattle.byte_grammar.specs.Walk.{turns_read, with_front};
-ghost use Rattle.sfv_read.specs.Gives.{GivesUnlessMemory};
-ghost use Rattle.sfv_read.specs.MemberWalk.{member_read, further_read, parted_turn, members_read, list_read, list_whole};
+ghost use Rattle.byte_grammar.specs.Walk.{turns_read, with_prefix};
+ghost use Rattle.sfv_read.specs.tools.Gives.{GivesUnlessMemory};
+ghost use Rattle.sfv_read.specs.tools.MemberWalk.{member_read, further_read, separated_turn, members_read, list_read, list_whole};
 
 use crate::class::Class;
 use crate::member::read_member;
@@ -13,7 +13,7 @@ use sfv_text::{List, Member};
 use std::alloc::Global;
 
 /// A whole text of a List.
-#[tactic(auto, unfolding(crate::specs::MemberWalk::list_whole, byte_grammar::specs::Walk::whole_read))]
+#[tactic(auto, unfolding(crate::specs::tools::MemberWalk::list_whole, byte_grammar::specs::Walk::whole_read))]
 pub fn read_list_text(alloc: Global, text: &[u8]) -> Result<List, Stop>
     ensures { GivesUnlessMemory (λ x. x) result (list_whole text.now) }
 {
@@ -24,8 +24,8 @@ pub fn read_list_text(alloc: Global, text: &[u8]) -> Result<List, Stop>
     }
 }
 
-/// Spaces, and nothing or members parted by commas.
-#[tactic(auto, unfolding(crate::specs::MemberWalk::list_read, crate::specs::MemberWalk::some_members, crate::specs::MemberWalk::parted_read, byte_grammar::specs::Walk::optional_read))]
+/// Spaces, and nothing or members separated by commas.
+#[tactic(auto, unfolding(crate::specs::tools::MemberWalk::list_read, crate::specs::tools::MemberWalk::some_members, crate::specs::tools::MemberWalk::separated_read, byte_grammar::specs::Walk::optional_read))]
 fn read_members(alloc: Global, bytes: &[u8]) -> Result<(List, &[u8]), Stop>
     ensures { GivesUnlessMemory (λ x. (x.0, x.1.now)) result (list_read bytes.now) }
 {
@@ -36,8 +36,8 @@ fn read_members(alloc: Global, bytes: &[u8]) -> Result<(List, &[u8]), Stop>
     }
 }
 
-/// Members parted by commas, and blanks behind the last.
-#[tactic(auto, unfolding(crate::specs::MemberWalk::members_read))]
+/// Members separated by commas, and blanks after the last.
+#[tactic(auto, unfolding(crate::specs::tools::MemberWalk::members_read))]
 fn read_some(alloc: Global, bytes: &[u8]) -> Result<(List, &[u8]), Stop>
     ensures { GivesUnlessMemory (λ x. (x.0, x.1.now)) result (members_read member_read bytes.now) }
 {
@@ -47,9 +47,9 @@ fn read_some(alloc: Global, bytes: &[u8]) -> Result<(List, &[u8]), Stop>
     read_more(alloc, list, rest)
 }
 
-/// The members behind those that were read.
+/// The members after those that were read.
 fn read_more(alloc: Global, first: List, bytes: &[u8]) -> Result<(List, &[u8]), Stop>
-    ensures { GivesUnlessMemory (λ x. (x.0, x.1.now)) result (with_front first (turns_read (parted_turn member_read) bytes.now)) }
+    ensures { GivesUnlessMemory (λ x. (x.0, x.1.now)) result (with_prefix first (turns_read (separated_turn member_read) bytes.now)) }
 {
     let mut list = first;
     let mut rest = bytes;
@@ -66,9 +66,9 @@ fn read_more(alloc: Global, first: List, bytes: &[u8]) -> Result<(List, &[u8]), 
 }
 
 /// Blanks, and a further member where a comma comes.
-#[tactic(auto, unfolding(crate::specs::MemberWalk::parted_turn, byte_grammar::specs::Walk::optional_read))]
+#[tactic(auto, unfolding(crate::specs::tools::MemberWalk::separated_turn, byte_grammar::specs::Walk::optional_read))]
 fn read_turn(alloc: Global, bytes: &[u8]) -> Result<(Option<Member>, &[u8]), Stop>
-    ensures { GivesUnlessMemory (λ x. (x.0, x.1.now)) result (parted_turn member_read bytes.now) }
+    ensures { GivesUnlessMemory (λ x. (x.0, x.1.now)) result (separated_turn member_read bytes.now) }
 {
     let (_, rest) = read_all(Class::Blank, bytes);
     if !starts_with(Class::Comma, rest) {
@@ -79,7 +79,7 @@ fn read_turn(alloc: Global, bytes: &[u8]) -> Result<(Option<Member>, &[u8]), Sto
 }
 
 /// A comma, blanks and a member.
-#[tactic(auto, unfolding(crate::specs::MemberWalk::further_read))]
+#[tactic(auto, unfolding(crate::specs::tools::MemberWalk::further_read))]
 fn read_further(alloc: Global, bytes: &[u8]) -> Result<(Member, &[u8]), Stop>
     ensures { GivesUnlessMemory (λ x. (x.0, x.1.now)) result (further_read member_read bytes.now) }
 {

@@ -1,8 +1,8 @@
 //! Members of Lists and Dictionaries (RFC 9651 sections 3.1 and 3.2).
 
 ghost use Rattle.std.specs.Prelude.{◌≡◌};
-ghost use Rattle.sfv_read.specs.Gives.{GivesUnlessMemory};
-ghost use Rattle.sfv_read.specs.MemberWalk.{several_read, one_read, member_read, equals_member, pair_value, pair_read};
+ghost use Rattle.sfv_read.specs.tools.Gives.{GivesUnlessMemory};
+ghost use Rattle.sfv_read.specs.tools.MemberWalk.{several_read, one_read, member_read, equals_member, pair_value, pair_read};
 
 use crate::class::Class;
 use crate::inner::read_several;
@@ -14,7 +14,7 @@ use sfv_text::{BareItem, Item, Member, Pair};
 use std::alloc::Global;
 
 /// An Item or an Inner List.
-#[tactic(auto, unfolding(crate::specs::MemberWalk::member_read, byte_grammar::specs::Walk::choose_read, byte_grammar::specs::Walk::pick_read))]
+#[tactic(auto, unfolding(crate::specs::tools::MemberWalk::member_read, byte_grammar::specs::Walk::choose_read, byte_grammar::specs::Walk::pick_read))]
 pub fn read_member(alloc: Global, bytes: &[u8]) -> Result<(Member, &[u8]), Stop>
     ensures { GivesUnlessMemory (λ x. (x.0, x.1.now)) result (member_read bytes.now) }
 {
@@ -27,7 +27,7 @@ pub fn read_member(alloc: Global, bytes: &[u8]) -> Result<(Member, &[u8]), Stop>
     read_item_member(alloc, bytes)
 }
 
-#[tactic(auto, unfolding(crate::specs::MemberWalk::several_read))]
+#[tactic(auto, unfolding(crate::specs::tools::MemberWalk::several_read))]
 fn read_inner_member(alloc: Global, bytes: &[u8]) -> Result<(Member, &[u8]), Stop>
     ensures { GivesUnlessMemory (λ x. (x.0, x.1.now)) result (several_read bytes.now) }
 {
@@ -35,7 +35,7 @@ fn read_inner_member(alloc: Global, bytes: &[u8]) -> Result<(Member, &[u8]), Sto
     Ok((Member::InnerList(list), rest))
 }
 
-#[tactic(auto, unfolding(crate::specs::MemberWalk::one_read))]
+#[tactic(auto, unfolding(crate::specs::tools::MemberWalk::one_read))]
 fn read_item_member(alloc: Global, bytes: &[u8]) -> Result<(Member, &[u8]), Stop>
     ensures { GivesUnlessMemory (λ x. (x.0, x.1.now)) result (one_read bytes.now) }
 {
@@ -44,7 +44,7 @@ fn read_item_member(alloc: Global, bytes: &[u8]) -> Result<(Member, &[u8]), Stop
 }
 
 /// A key and its member.
-#[tactic(auto, unfolding(crate::specs::MemberWalk::pair_read))]
+#[tactic(auto, unfolding(crate::specs::tools::MemberWalk::pair_read))]
 pub fn read_pair(alloc: Global, bytes: &[u8]) -> Result<(Pair<Member>, &[u8]), Stop>
     ensures { GivesUnlessMemory (λ x. (x.0, x.1.now)) result (pair_read bytes.now) }
 {
@@ -54,7 +54,7 @@ pub fn read_pair(alloc: Global, bytes: &[u8]) -> Result<(Pair<Member>, &[u8]), S
 }
 
 /// `=` and a member, or parameters alone for true.
-#[tactic(auto, unfolding(crate::specs::MemberWalk::pair_value, byte_grammar::specs::Walk::optional_read))]
+#[tactic(auto, unfolding(crate::specs::tools::MemberWalk::pair_value, byte_grammar::specs::Walk::optional_read))]
 fn read_pair_value(alloc: Global, bytes: &[u8]) -> Result<(Member, &[u8]), Stop>
     ensures { GivesUnlessMemory (λ x. (x.0, x.1.now)) result (pair_value bytes.now) }
 {
@@ -67,7 +67,7 @@ fn read_pair_value(alloc: Global, bytes: &[u8]) -> Result<(Member, &[u8]), Stop>
 }
 
 /// `=` and a member.
-#[tactic(auto, unfolding(crate::specs::MemberWalk::equals_member))]
+#[tactic(auto, unfolding(crate::specs::tools::MemberWalk::equals_member))]
 fn read_equals_member(alloc: Global, bytes: &[u8]) -> Result<(Member, &[u8]), Stop>
     ensures { GivesUnlessMemory (λ x. (x.0, x.1.now)) result (equals_member bytes.now) }
 {

@@ -3,16 +3,16 @@
 ghost use Rattle.std.specs.Prelude.{◌≡◌, ◌≤◌, ◌<◌, ◌+◌, ◌-◌, ◌*◌, ◌^◌, ◌++◌, length, option_map, true, IfOk, IfSome};
 ghost use Rattle.std.specs.List.{list_all};
 ghost use Rattle.byte_grammar.specs.Gives.{Gives};
-ghost use Rattle.sfv_read.specs.Class.{is_digit};
+ghost use Rattle.byte_classes.specs.Classes.{is_digit};
 ghost use Rattle.sfv_read.specs.BareItem.{spelled, spelled_from, signed};
-ghost use Rattle.sfv_read.specs.BareWalk.{fraction_read, part_read, number_read};
+ghost use Rattle.sfv_read.specs.tools.BareWalk.{fraction_read, part_read, number_read};
 
 use crate::class::Class;
 use byte_grammar::{Left, read_byte, read_run, starts_with};
 use sfv_text::BareItem;
 
 /// An optional minus and 1 to 15 digits, or 1 to 12 digits, a point and 1 to 3 digits.
-#[tactic(auto, unfolding(crate::specs::BareWalk::number_read))]
+#[tactic(auto, unfolding(crate::specs::tools::BareWalk::number_read))]
 pub fn read_number(bytes: &[u8]) -> Result<(BareItem, &[u8]), Left>
     ensures { Gives (λ x. (x.0, x.1.now)) result (number_read bytes.now) }
 {
@@ -28,8 +28,8 @@ pub fn read_number(bytes: &[u8]) -> Result<(BareItem, &[u8]), Left>
     }
 }
 
-/// The digits behind the point, where a point comes. Behind more than 12 digits none may.
-#[tactic(auto, unfolding(crate::specs::BareWalk::fraction_read, byte_grammar::specs::Walk::optional_read))]
+/// The digits after the point, where a point comes. After more than 12 digits none may.
+#[tactic(auto, unfolding(crate::specs::tools::BareWalk::fraction_read, byte_grammar::specs::Walk::optional_read))]
 fn read_fraction(digits: usize, bytes: &[u8]) -> Result<(Option<&[u8]>, &[u8]), Left>
     ensures gives { Gives (λ x. (option_map (λ p. p.now) x.0, x.1.now)) result (fraction_read digits bytes.now) }
     ensures part { IfOk result (λ x. IfSome x.0 (λ p. (digits ≤ 12) × (list_all is_digit p.now ≡ true) × (1 ≤ length p.now) × (length p.now ≤ 3))) }
@@ -45,7 +45,7 @@ fn read_fraction(digits: usize, bytes: &[u8]) -> Result<(Option<&[u8]>, &[u8]), 
 }
 
 /// A point and 1 to 3 digits.
-#[tactic(auto, unfolding(crate::specs::BareWalk::part_read))]
+#[tactic(auto, unfolding(crate::specs::tools::BareWalk::part_read))]
 fn read_part(bytes: &[u8]) -> Result<(&[u8], &[u8]), Left>
     ensures gives { Gives (λ x. (x.0.now, x.1.now)) result (part_read bytes.now) }
     ensures part { IfOk result (λ x. (list_all is_digit x.0.now ≡ true) × (1 ≤ length x.0.now) × (length x.0.now ≤ 3)) }
@@ -54,7 +54,7 @@ fn read_part(bytes: &[u8]) -> Result<(&[u8], &[u8]), Left>
     read_run(Class::Digit, 1, 3, rest)
 }
 
-/// What the digits spell behind the number `start`.
+/// What the digits spell after the number `start`.
 fn value_of(start: u64, digits: &[u8]) -> u64
     requires digits { list_all is_digit digits.now ≡ true }
     requires room { (start + 1) * 10 ^ length digits.now ≤ 10 ^ 15 }
@@ -79,7 +79,7 @@ fn with_sign(sign: &[u8], number: u64) -> i64
     -(number as i64)
 }
 
-/// A Decimal with these digits before and behind its point, in thousandths.
+/// A Decimal with these digits before and after its point, in thousandths.
 fn thousandths(sign: &[u8], digits: &[u8], part: &[u8]) -> i64
     requires digits { list_all is_digit digits.now ≡ true }
     requires part { list_all is_digit part.now ≡ true }
@@ -93,7 +93,7 @@ fn thousandths(sign: &[u8], digits: &[u8], part: &[u8]) -> i64
     with_sign(sign, scaled(number, part.len()))
 }
 
-/// A number with so many digits behind its point, in thousandths.
+/// A number with so many digits after its point, in thousandths.
 fn scaled(number: u64, digits: usize) -> u64
     requires number { number < 10 ^ 15 }
     requires some { 1 ≤ digits }

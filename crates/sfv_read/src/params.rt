@@ -1,8 +1,8 @@
 //! Keys and parameters (RFC 9651 section 3.1.2).
 
 ghost use Rattle.std.specs.Prelude.{◌≡◌, List, ℕ};
-ghost use Rattle.sfv_read.specs.Gives.{GivesUnlessMemory};
-ghost use Rattle.sfv_read.specs.ItemWalk.{equals_read, value_read, key_read, param_read, param_turn, params_read};
+ghost use Rattle.sfv_read.specs.tools.Gives.{GivesUnlessMemory};
+ghost use Rattle.sfv_read.specs.tools.ItemWalk.{equals_read, value_read, key_read, param_read, param_turn, params_read};
 
 use crate::bare::read_bare;
 use crate::class::Class;
@@ -12,7 +12,7 @@ use byte_grammar::{read_all, read_byte, read_word, starts_with};
 use sfv_text::{BareItem, Pair, Params, Text};
 use std::alloc::Global;
 
-/// Parameters one after the other. A repeated key has its first place and its last value.
+/// Parameters one after the other. A repeated key stands where it first stood and has its last value.
 pub fn read_params(alloc: Global, bytes: &[u8]) -> Result<(Params, &[u8]), Stop>
     ensures { GivesUnlessMemory (λ x. (x.0, x.1.now)) result (params_read bytes.now) }
 {
@@ -31,7 +31,7 @@ pub fn read_params(alloc: Global, bytes: &[u8]) -> Result<(Params, &[u8]), Stop>
 }
 
 /// A parameter where a semicolon comes.
-#[tactic(auto, unfolding(crate::specs::ItemWalk::param_turn, byte_grammar::specs::Walk::optional_read))]
+#[tactic(auto, unfolding(crate::specs::tools::ItemWalk::param_turn, byte_grammar::specs::Walk::optional_read))]
 fn read_turn(alloc: Global, bytes: &[u8]) -> Result<(Option<Pair<BareItem>>, &[u8]), Stop>
     ensures { GivesUnlessMemory (λ x. (x.0, x.1.now)) result (param_turn bytes.now) }
 {
@@ -43,7 +43,7 @@ fn read_turn(alloc: Global, bytes: &[u8]) -> Result<(Option<Pair<BareItem>>, &[u
 }
 
 /// A semicolon, spaces, a key and its value.
-#[tactic(auto, unfolding(crate::specs::ItemWalk::param_read))]
+#[tactic(auto, unfolding(crate::specs::tools::ItemWalk::param_read))]
 fn read_param(alloc: Global, bytes: &[u8]) -> Result<(Pair<BareItem>, &[u8]), Stop>
     ensures { GivesUnlessMemory (λ x. (x.0, x.1.now)) result (param_read bytes.now) }
 {
@@ -55,7 +55,7 @@ fn read_param(alloc: Global, bytes: &[u8]) -> Result<(Pair<BareItem>, &[u8]), St
 }
 
 /// A key.
-#[tactic(auto, unfolding(crate::specs::ItemWalk::key_read))]
+#[tactic(auto, unfolding(crate::specs::tools::ItemWalk::key_read))]
 pub fn read_key(alloc: Global, bytes: &[u8]) -> Result<(Text, &[u8]), Stop>
     ensures { GivesUnlessMemory (λ x. (x.0, x.1.now)) result (key_read bytes.now) }
 {
@@ -64,7 +64,7 @@ pub fn read_key(alloc: Global, bytes: &[u8]) -> Result<(Text, &[u8]), Stop>
 }
 
 /// `=` and a bare item, or nothing for true.
-#[tactic(auto, unfolding(crate::specs::ItemWalk::value_read, byte_grammar::specs::Walk::optional_read))]
+#[tactic(auto, unfolding(crate::specs::tools::ItemWalk::value_read, byte_grammar::specs::Walk::optional_read))]
 fn read_value(alloc: Global, bytes: &[u8]) -> Result<(BareItem, &[u8]), Stop>
     ensures { GivesUnlessMemory (λ x. (x.0, x.1.now)) result (value_read bytes.now) }
 {
@@ -75,7 +75,7 @@ fn read_value(alloc: Global, bytes: &[u8]) -> Result<(BareItem, &[u8]), Stop>
 }
 
 /// `=` and a bare item.
-#[tactic(auto, unfolding(crate::specs::ItemWalk::equals_read))]
+#[tactic(auto, unfolding(crate::specs::tools::ItemWalk::equals_read))]
 fn read_equals(alloc: Global, bytes: &[u8]) -> Result<(BareItem, &[u8]), Stop>
     ensures { GivesUnlessMemory (λ x. (x.0, x.1.now)) result (equals_read bytes.now) }
 {

@@ -7,7 +7,7 @@ ghost use Rattle.sfv_text.specs.declared.value.InnerList.{InnerList};
 ghost use Rattle.sfv_text.specs.declared.value.Member.{Member};
 ghost use Rattle.sfv_text.specs.Range.{is_item_in_range, is_inner_in_range, is_list_in_range, is_dict_in_range};
 ghost use Rattle.sfv_text.specs.declared.pair.Pair.{Pair};
-ghost use Rattle.sfv_read.specs.Fault.{IsRead, AtPlace, IfSyntax, IfItemKind, BeginsItemKind};
+ghost use Rattle.sfv_read.specs.Fault.{IsRead, AtOffset, IfSyntax, IfItemKind, BeginsItemKind};
 ghost use Rattle.sfv_read.specs.Reads.{ReadsItem, ReadsInner, ReadsList, ReadsDict};
 
 use crate::fault::SfError;
@@ -20,12 +20,12 @@ pub fn read_item(alloc: Global, text: &[u8]) -> Result<Item, SfError>
     ensures ok { IfOk result (λ value. ReadsItem text.now value) }
     ensures in_range { IfOk result (λ value. IsTrue (is_item_in_range value)) }
     ensures only { (value : Item) → ReadsItem text.now value → IsRead result value }
-    ensures none { IfErr result (λ e. AtPlace e (λ _. (value : Item) → ReadsItem text.now value → ⊥)) }
-    ensures within { IfErr result (λ e. AtPlace e (λ place. place ≤ length text.now)) }
-    ensures begins { IfErr result (λ e. AtPlace e (λ place. Begins ReadsItem (take place text.now))) }
-    ensures longest { IfErr result (λ e. AtPlace e (λ place. place < length text.now → Begins ReadsItem (take (place + 1) text.now) → ⊥)) }
-    ensures syntax { IfErr result (λ e. IfSyntax e (λ place. BeginsItemKind ReadsItem text.now place → ⊥)) }
-    ensures item_kind { IfErr result (λ e. IfItemKind e (λ place. BeginsItemKind ReadsItem text.now place)) }
+    ensures none { IfErr result (λ e. AtOffset e (λ _. (value : Item) → ReadsItem text.now value → ⊥)) }
+    ensures within { IfErr result (λ e. AtOffset e (λ offset. offset ≤ length text.now)) }
+    ensures begins { IfErr result (λ e. AtOffset e (λ offset. Begins ReadsItem (take offset text.now))) }
+    ensures longest { IfErr result (λ e. AtOffset e (λ offset. offset < length text.now → Begins ReadsItem (take (offset + 1) text.now) → ⊥)) }
+    ensures syntax { IfErr result (λ e. IfSyntax e (λ offset. BeginsItemKind ReadsItem text.now offset → ⊥)) }
+    ensures item_kind { IfErr result (λ e. IfItemKind e (λ offset. BeginsItemKind ReadsItem text.now offset)) }
 {
     read_field(alloc, text)
 }
@@ -35,12 +35,12 @@ pub fn read_inner(alloc: Global, text: &[u8]) -> Result<InnerList, SfError>
     ensures ok { IfOk result (λ value. ReadsInner text.now value) }
     ensures in_range { IfOk result (λ value. IsTrue (is_inner_in_range value)) }
     ensures only { (value : InnerList) → ReadsInner text.now value → IsRead result value }
-    ensures none { IfErr result (λ e. AtPlace e (λ _. (value : InnerList) → ReadsInner text.now value → ⊥)) }
-    ensures within { IfErr result (λ e. AtPlace e (λ place. place ≤ length text.now)) }
-    ensures begins { IfErr result (λ e. AtPlace e (λ place. Begins ReadsInner (take place text.now))) }
-    ensures longest { IfErr result (λ e. AtPlace e (λ place. place < length text.now → Begins ReadsInner (take (place + 1) text.now) → ⊥)) }
-    ensures syntax { IfErr result (λ e. IfSyntax e (λ place. BeginsItemKind ReadsInner text.now place → ⊥)) }
-    ensures item_kind { IfErr result (λ e. IfItemKind e (λ place. BeginsItemKind ReadsInner text.now place)) }
+    ensures none { IfErr result (λ e. AtOffset e (λ _. (value : InnerList) → ReadsInner text.now value → ⊥)) }
+    ensures within { IfErr result (λ e. AtOffset e (λ offset. offset ≤ length text.now)) }
+    ensures begins { IfErr result (λ e. AtOffset e (λ offset. Begins ReadsInner (take offset text.now))) }
+    ensures longest { IfErr result (λ e. AtOffset e (λ offset. offset < length text.now → Begins ReadsInner (take (offset + 1) text.now) → ⊥)) }
+    ensures syntax { IfErr result (λ e. IfSyntax e (λ offset. BeginsItemKind ReadsInner text.now offset → ⊥)) }
+    ensures item_kind { IfErr result (λ e. IfItemKind e (λ offset. BeginsItemKind ReadsInner text.now offset)) }
 {
     read_field(alloc, text)
 }
@@ -51,28 +51,28 @@ pub fn read_list(alloc: Global, text: &[u8]) -> Result<List, SfError>
     ensures ok { IfOk result (λ value. ReadsList text.now value) }
     ensures in_range { IfOk result (λ value. IsTrue (is_list_in_range value)) }
     ensures only { (value : Listed Member) → ReadsList text.now value → IsRead result value }
-    ensures none { IfErr result (λ e. AtPlace e (λ _. (value : Listed Member) → ReadsList text.now value → ⊥)) }
-    ensures within { IfErr result (λ e. AtPlace e (λ place. place ≤ length text.now)) }
-    ensures begins { IfErr result (λ e. AtPlace e (λ place. Begins ReadsList (take place text.now))) }
-    ensures longest { IfErr result (λ e. AtPlace e (λ place. place < length text.now → Begins ReadsList (take (place + 1) text.now) → ⊥)) }
-    ensures syntax { IfErr result (λ e. IfSyntax e (λ place. BeginsItemKind ReadsList text.now place → ⊥)) }
-    ensures item_kind { IfErr result (λ e. IfItemKind e (λ place. BeginsItemKind ReadsList text.now place)) }
+    ensures none { IfErr result (λ e. AtOffset e (λ _. (value : Listed Member) → ReadsList text.now value → ⊥)) }
+    ensures within { IfErr result (λ e. AtOffset e (λ offset. offset ≤ length text.now)) }
+    ensures begins { IfErr result (λ e. AtOffset e (λ offset. Begins ReadsList (take offset text.now))) }
+    ensures longest { IfErr result (λ e. AtOffset e (λ offset. offset < length text.now → Begins ReadsList (take (offset + 1) text.now) → ⊥)) }
+    ensures syntax { IfErr result (λ e. IfSyntax e (λ offset. BeginsItemKind ReadsList text.now offset → ⊥)) }
+    ensures item_kind { IfErr result (λ e. IfItemKind e (λ offset. BeginsItemKind ReadsList text.now offset)) }
 {
     read_field(alloc, text)
 }
 
 /// Reads a Dictionary (RFC 9651 section 4.2.2), with spaces at both ends. A text of spaces alone is
-/// the empty Dictionary. A repeated key has its first place and its last value.
+/// the empty Dictionary. A repeated key stands where it first stood and has its last value.
 pub fn read_dict(alloc: Global, text: &[u8]) -> Result<Dict, SfError>
     ensures ok { IfOk result (λ value. ReadsDict text.now value) }
     ensures in_range { IfOk result (λ value. IsTrue (is_dict_in_range value)) }
     ensures only { (value : Listed (Pair Member)) → ReadsDict text.now value → IsRead result value }
-    ensures none { IfErr result (λ e. AtPlace e (λ _. (value : Listed (Pair Member)) → ReadsDict text.now value → ⊥)) }
-    ensures within { IfErr result (λ e. AtPlace e (λ place. place ≤ length text.now)) }
-    ensures begins { IfErr result (λ e. AtPlace e (λ place. Begins ReadsDict (take place text.now))) }
-    ensures longest { IfErr result (λ e. AtPlace e (λ place. place < length text.now → Begins ReadsDict (take (place + 1) text.now) → ⊥)) }
-    ensures syntax { IfErr result (λ e. IfSyntax e (λ place. BeginsItemKind ReadsDict text.now place → ⊥)) }
-    ensures item_kind { IfErr result (λ e. IfItemKind e (λ place. BeginsItemKind ReadsDict text.now place)) }
+    ensures none { IfErr result (λ e. AtOffset e (λ _. (value : Listed (Pair Member)) → ReadsDict text.now value → ⊥)) }
+    ensures within { IfErr result (λ e. AtOffset e (λ offset. offset ≤ length text.now)) }
+    ensures begins { IfErr result (λ e. AtOffset e (λ offset. Begins ReadsDict (take offset text.now))) }
+    ensures longest { IfErr result (λ e. AtOffset e (λ offset. offset < length text.now → Begins ReadsDict (take (offset + 1) text.now) → ⊥)) }
+    ensures syntax { IfErr result (λ e. IfSyntax e (λ offset. BeginsItemKind ReadsDict text.now offset → ⊥)) }
+    ensures item_kind { IfErr result (λ e. IfItemKind e (λ offset. BeginsItemKind ReadsDict text.now offset)) }
 {
     read_field(alloc, text)
 }

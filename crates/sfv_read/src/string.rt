@@ -3,28 +3,29 @@
 ghost use Rattle.std.specs.Prelude.{◌≡◌, ◌++◌, ◌∷◌, [], length, List, ℕ};
 ghost use Rattle.byte_grammar.specs.Gives.{Gives};
 ghost use Rattle.byte_grammar.specs.Walk.{kind_in};
-ghost use Rattle.sfv_read.specs.Gives.{GivesUnlessMemory};
-ghost use Rattle.sfv_read.specs.BareWalk.{char_kind, char_read, chars_read, string_read};
+ghost use Rattle.sfv_read.specs.tools.Gives.{GivesUnlessMemory};
+ghost use Rattle.sfv_read.specs.tools.BareWalk.{char_kind, char_read, chars_read, string_read};
 
 use crate::class::Class;
 use crate::stop::Stop;
-use byte_grammar::{ByteClass, Left, read_byte};
+use byte_classes::ByteClass;
+use byte_grammar::{Left, read_byte};
 use sfv_text::Text;
 use std::alloc::Global;
 
 /// What the first byte of a character's text tells.
 #[derive(Clone, Copy)]
 pub enum CharKind {
-    /// The quote behind the last character.
+    /// The quote after the last character.
     Finish,
-    /// A backslash, with the character behind it.
+    /// A backslash, with the character after it.
     Escape,
     /// A character that stands for itself.
     Plain,
 }
 
-/// Characters in quotes, `"` and `\` behind a backslash.
-#[tactic(auto, unfolding(crate::specs::BareWalk::string_read))]
+/// Characters in quotes, `"` and `\` after a backslash.
+#[tactic(auto, unfolding(crate::specs::tools::BareWalk::string_read))]
 pub fn read_string(alloc: Global, bytes: &[u8]) -> Result<(Text, &[u8]), Stop>
     ensures { GivesUnlessMemory (λ x. (x.0, x.1.now)) result (string_read bytes.now) }
 {
@@ -50,8 +51,8 @@ fn read_chars(alloc: Global, bytes: &[u8]) -> Result<(Text, &[u8]), Stop>
     }
 }
 
-/// A character, or the quote behind the last.
-#[tactic(auto, unfolding(crate::specs::BareWalk::char_read, byte_grammar::specs::Walk::pick_read))]
+/// A character, or the quote after the last.
+#[tactic(auto, unfolding(crate::specs::tools::BareWalk::char_read, byte_grammar::specs::Walk::pick_read))]
 fn read_char(bytes: &[u8]) -> Result<(Option<u8>, &[u8]), Left>
     ensures { Gives (λ x. (x.0, x.1.now)) result (char_read bytes.now) }
 {

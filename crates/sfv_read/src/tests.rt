@@ -126,7 +126,7 @@ fn lists_and_dictionaries_read_as_their_values(rt: HostRuntime) {
 type Rows<'a> = &'a [(SfError, &'a [&'a [u8]])];
 
 #[test]
-fn items_are_refused_at_the_exact_place(rt: HostRuntime) {
+fn items_are_refused_at_the_exact_offset(rt: HostRuntime) {
     let rows: Rows<'_> = &[
         (SfError::Syntax(0), &[b"", b"\t1", b"+1", b".5", b"'a'"]),
         (
@@ -173,7 +173,7 @@ fn items_are_refused_at_the_exact_place(rt: HostRuntime) {
 }
 
 #[test]
-fn inner_lists_are_refused_at_the_exact_place(rt: HostRuntime) {
+fn inner_lists_are_refused_at_the_exact_offset(rt: HostRuntime) {
     let rows: Rows<'_> = &[
         (SfError::Syntax(0), &[b"", b"x"]),
         (SfError::Syntax(1), &[b"(", b"((a))"]),
@@ -190,7 +190,7 @@ fn inner_lists_are_refused_at_the_exact_place(rt: HostRuntime) {
 }
 
 #[test]
-fn lists_and_dictionaries_are_refused_at_the_exact_place(rt: HostRuntime) {
+fn lists_and_dictionaries_are_refused_at_the_exact_offset(rt: HostRuntime) {
     let list: Rows<'_> = &[
         (SfError::Syntax(0), &[b"\ta", b",a"]),
         (SfError::Syntax(1), &[b" \t"]),

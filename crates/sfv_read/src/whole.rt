@@ -1,13 +1,13 @@
 //! Whole texts of each kind.
 
-ghost use Rattle.std.specs.Prelude.{◌≡◌, ◌≤◌, ◌↔◌, ◌++◌, ◌∷◌, [], ℕ, List as Items, Result, length, take, IfOk, IfErr, IsTrue};
+ghost use Rattle.std.specs.Prelude.{◌≡◌, ◌≤◌, ◌↔◌, ◌++◌, ◌∷◌, [], ℕ, List as Items, Result, length, take, IfOk, IfErr, IsTrue, codes};
 ghost use Rattle.byte_grammar.specs.Walk.{unread};
 ghost use Rattle.sfv_read.specs.declared.stop.Stop.TheVariants.{NoMemory};
-ghost use Rattle.sfv_read.specs.Answers.{IsFaultAt, Answers};
-ghost use Rattle.sfv_read.specs.Gives.{GivesUnlessMemory, IfAt};
-ghost use Rattle.sfv_read.specs.ItemWalk.{item_whole};
-ghost use Rattle.sfv_read.specs.InnerWalk.{inner_whole};
-ghost use Rattle.sfv_read.specs.MemberWalk.{list_whole, dict_whole};
+ghost use Rattle.sfv_read.specs.tools.Answers.{IsFaultAt, Answers};
+ghost use Rattle.sfv_read.specs.tools.Gives.{GivesUnlessMemory, IfAt};
+ghost use Rattle.sfv_read.specs.tools.ItemWalk.{item_whole};
+ghost use Rattle.sfv_read.specs.tools.InnerWalk.{inner_whole};
+ghost use Rattle.sfv_read.specs.tools.MemberWalk.{list_whole, dict_whole};
 
 use crate::class::Class;
 use crate::dict::read_dict_text;
@@ -31,7 +31,7 @@ pub trait Field: Drop {
         ensures within { IfErr result (λ e. IfAt e (λ left. left ≤ length text.now)) };
 }
 
-/// Reads a text of a kind, or names the place of its fault.
+/// Reads a text of a kind, or names the offset of its fault.
 pub fn read_field<F: Field>(alloc: Global, text: &[u8]) -> Result<F, SfError>
     ensures { Answers F.reading text.now result }
 {
@@ -42,29 +42,29 @@ pub fn read_field<F: Field>(alloc: Global, text: &[u8]) -> Result<F, SfError>
     }
 }
 
-/// The fault at the place where a text can't go on.
-fn fault_at<F: Field>(alloc: Global, text: &[u8], place: usize) -> SfError
-    requires { place ≤ length text.now }
-    ensures { IsFaultAt F.reading text.now place result }
+/// The fault at the offset where a text can't go on.
+fn fault_at<F: Field>(alloc: Global, text: &[u8], offset: usize) -> SfError
+    requires { offset ≤ length text.now }
+    ensures { IsFaultAt F.reading text.now offset result }
 {
-    let (front, rest) = text.split_at(place);
+    let (prefix, rest) = text.split_at(offset);
     if !starts_with(Class::Marker, rest) {
-        return SfError::Syntax(place);
+        return SfError::Syntax(offset);
     }
-    match goes_on::<F>(alloc, front) {
-        Ok(true) => SfError::ItemKind(place),
-        Ok(false) => SfError::Syntax(place),
+    match goes_on::<F>(alloc, prefix) {
+        Ok(true) => SfError::ItemKind(offset),
+        Ok(false) => SfError::Syntax(offset),
         Err(_) => SfError::Memory,
     }
 }
 
-/// Whether `?1` could stand behind the front.
-fn goes_on<F: Field>(alloc: Global, front: &[u8]) -> Result<bool, Stop>
-    ensures ok { IfOk result (λ b. IsTrue b ↔ (unread (F.reading (front.now ++ 63 ∷ 49 ∷ [])) ≡ 0)) }
+/// Whether `?1` could stand after the prefix.
+fn goes_on<F: Field>(alloc: Global, prefix: &[u8]) -> Result<bool, Stop>
+    ensures ok { IfOk result (λ b. IsTrue b ↔ (unread (F.reading (prefix.now ++ codes "?1")) ≡ 0)) }
     ensures err { IfErr result (λ e. e ≡ NoMemory) }
 {
     let mut probe = Text::new(alloc);
-    probe.append(front)?;
+    probe.append(prefix)?;
     probe.append(b"?1")?;
     match F::read(alloc, probe.bytes()) {
         Ok(_) => Ok(true),

@@ -35,30 +35,30 @@ with_value_none {V} key v (p ∷ ps) n =
     let h = or_false (has_key key p) (list_any (has_key key) ps) n in
     rw h.0 (ap (λ (qs : List (Pair V)). p ∷ qs) (with_value_none key v ps h.1))
 
-pub found_any : {V : Type 0} (ps : List (Pair V)) (key : List ℕ) (place : ℕ) → place < length ps → ((d : Pair V) → has_key key (get_or ps place d) ≡ true) → list_any (has_key key) ps ≡ true
-found_any [] key place lt at = absurd (omega arith)
+pub found_any : {V : Type 0} (ps : List (Pair V)) (key : List ℕ) (index : ℕ) → index < length ps → ((d : Pair V) → has_key key (get_or ps index d) ≡ true) → list_any (has_key key) ps ≡ true
+found_any [] key index lt at = absurd (omega arith)
 found_any (p ∷ ps) key zero lt at = rw (at p) refl
-found_any (p ∷ ps) key (suc place) lt at = elim (cases_Bool (has_key key p)) [
+found_any (p ∷ ps) key (suc index) lt at = elim (cases_Bool (has_key key p)) [
   | inl h ↦ rw h refl
-  | inr n ↦ rw n (found_any ps key place (omega arith) at)
+  | inr n ↦ rw n (found_any ps key index (omega arith) at)
 ]
 
-set_found : {V : Type 0} (ps : List (Pair V)) (key : List ℕ) (v : V) (place : ℕ) → have_distinct_keys ps ≡ true → place < length ps → ((d : Pair V) → has_key key (get_or ps place d) ≡ true)
-    → set ps place (record { key = key; value = v }) ≡ map (with_value key v) ps
-set_found [] key v place d lt at = absurd (omega arith)
+set_found : {V : Type 0} (ps : List (Pair V)) (key : List ℕ) (v : V) (index : ℕ) → have_distinct_keys ps ≡ true → index < length ps → ((d : Pair V) → has_key key (get_or ps index d) ≡ true)
+    → set ps index (record { key = key; value = v }) ≡ map (with_value key v) ps
+set_found [] key v index d lt at = absurd (omega arith)
 set_found {V} (p ∷ ps) key v zero d lt at =
     let same : p.key ≡ key = (bytes_eq-Decides p.key key).0 (at p) in
     let none : list_any (has_key key) ps ≡ false = rw same at (distinct_parts p ps d).0 in
     rw (at p, with_value_none key v ps none) (ap (λ (k : List ℕ). record { key = k; value = v } ∷ ps) (sym same))
-set_found {V} (p ∷ ps) key v (suc place) d lt at = elim (cases_Bool (has_key key p)) [
-  | inl h ↦ absurd (false≢true (sym (rw ((bytes_eq-Decides p.key key).0 h) at (distinct_parts p ps d).0) ∙ found_any ps key place (omega arith) at))
-  | inr n ↦ rw n (ap (λ (qs : List (Pair V)). p ∷ qs) (set_found ps key v place (distinct_parts p ps d).1 (omega arith) at))
+set_found {V} (p ∷ ps) key v (suc index) d lt at = elim (cases_Bool (has_key key p)) [
+  | inl h ↦ absurd (false≢true (sym (rw ((bytes_eq-Decides p.key key).0 h) at (distinct_parts p ps d).0) ∙ found_any ps key index (omega arith) at))
+  | inr n ↦ rw n (ap (λ (qs : List (Pair V)). p ∷ qs) (set_found ps key v index (distinct_parts p ps d).1 (omega arith) at))
 ]
 
--- a pair in the place of the key's pair
-pub put_found : {V : Type 0} (ps : List (Pair V)) (key : List ℕ) (v : V) (place : ℕ) → have_distinct_keys ps ≡ true → IsFound ps key place
-    → set ps place (record { key = key; value = v }) ≡ put ps key v
-put_found ps key v place d f = rw (found_any ps key place f.0 f.2) (set_found ps key v place d f.0 f.2)
+-- a pair where the key's pair
+pub put_found : {V : Type 0} (ps : List (Pair V)) (key : List ℕ) (v : V) (index : ℕ) → have_distinct_keys ps ≡ true → IsFound ps key index
+    → set ps index (record { key = key; value = v }) ≡ put ps key v
+put_found ps key v index d f = rw (found_any ps key index f.0 f.2) (set_found ps key v index d f.0 f.2)
 
 -- a pair at the end
 pub put_new : {V : Type 0} (ps : List (Pair V)) (key : List ℕ) (v : V) → list_any (has_key key) ps ≡ false → ps ++ record { key = key; value = v } ∷ [] ≡ put ps key v
@@ -96,9 +96,9 @@ put_distinct ps key v d = elim (cases_Bool (list_any (has_key key) ps)) [
   | inr n ↦ rw n (distinct_more ps (record { key = key; value = v }) n d)
 ]
 
-pub put_found_distinct : {V : Type 0} (ps : List (Pair V)) (key : List ℕ) (v : V) (place : ℕ) → have_distinct_keys ps ≡ true → IsFound ps key place
-    → have_distinct_keys (set ps place (record { key = key; value = v })) ≡ true
-put_found_distinct ps key v place d f = rw (put_found ps key v place d f) (put_distinct ps key v d)
+pub put_found_distinct : {V : Type 0} (ps : List (Pair V)) (key : List ℕ) (v : V) (index : ℕ) → have_distinct_keys ps ≡ true → IsFound ps key index
+    → have_distinct_keys (set ps index (record { key = key; value = v })) ≡ true
+put_found_distinct ps key v index d f = rw (put_found ps key v index d f) (put_distinct ps key v d)
 
 pub put_new_distinct : {V : Type 0} (ps : List (Pair V)) (key : List ℕ) (v : V) → have_distinct_keys ps ≡ true → list_any (has_key key) ps ≡ false
     → have_distinct_keys (ps ++ record { key = key; value = v } ∷ []) ≡ true
@@ -123,6 +123,6 @@ put_kept test ps key v old new = elim (cases_Bool (list_any (has_key key) ps)) [
   | inr n ↦ rw (n, list_all-append test ps (record { key = key; value = v } ∷ []), old, new) refl
 ]
 
-pub put_found_kept : {V : Type 0} (test : Pair V → Bool) (ps : List (Pair V)) (key : List ℕ) (v : V) (place : ℕ) → have_distinct_keys ps ≡ true → IsFound ps key place
-    → list_all test ps ≡ true → test (record { key = key; value = v }) ≡ true → list_all test (set ps place (record { key = key; value = v })) ≡ true
-put_found_kept test ps key v place d f old new = rw (put_found ps key v place d f) (put_kept test ps key v old new)
+pub put_found_kept : {V : Type 0} (test : Pair V → Bool) (ps : List (Pair V)) (key : List ℕ) (v : V) (index : ℕ) → have_distinct_keys ps ≡ true → IsFound ps key index
+    → list_all test ps ≡ true → test (record { key = key; value = v }) ≡ true → list_all test (set ps index (record { key = key; value = v })) ≡ true
+put_found_kept test ps key v index d f old new = rw (put_found ps key v index d f) (put_kept test ps key v old new)

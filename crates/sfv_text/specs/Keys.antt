@@ -16,7 +16,7 @@ have_distinct_keys (pair ∷ pairs) = not (list_any (has_key pair.key) pairs) &&
 abbrev pub with_value : {V : Type 0} → List ℕ → V → Pair V → Pair V
 with_value key value pair = if has_key key pair then record pair { value = value } else pair
 
--- the value takes the place of the key's value, or the pair comes at the end
+-- the value stands in place of the key's value, or the pair comes at the end
 abbrev pub put : {V : Type 0} → List (Pair V) → List ℕ → V → List (Pair V)
 put pairs key value =
     if list_any (has_key key) pairs then map (with_value key value) pairs
@@ -24,6 +24,6 @@ put pairs key value =
 
 -- the first pair of the key stands there
 abbrev pub IsFound : {V : Type 0} → List (Pair V) → List ℕ → ℕ → Type 0
-IsFound {V} pairs key place =
-    (place < length pairs) × (list_any (has_key key) (take place pairs) ≡ false)
-    × ((d : Pair V) → has_key key (slice_index_or pairs place d) ≡ true)
+IsFound {V} pairs key index =
+    (index < length pairs) × (list_any (has_key key) (take index pairs) ≡ false)
+    × ((d : Pair V) → has_key key (slice_index_or pairs index d) ≡ true)

@@ -1,7 +1,9 @@
 -- The values that a structured field can hold (RFC 9651 section 3).
 use Rattle.std.specs.Prelude.{ℕ, ℤ, ◌^◌, Bool, true, ◌&&◌, ◌||◌, ◌==◌, nat_lt, nat_le, unsigned_abs, false, List, [], ◌∷◌, codes}
-use Rattle.std.specs.Char.{is_ascii_alphabetic, is_ascii_alphanumeric, is_ascii_digit, is_ascii_lowercase}
-use Rattle.std.specs.List.{list_all, list_any}
+use Rattle.std.specs.Str.{byte}
+use Rattle.std.specs.Char.{is_ascii_alphabetic, is_ascii_digit, is_ascii_lowercase}
+use Rattle.std.specs.List.{list_all}
+use Rattle.byte_classes.specs.Classes.{is_one_of, is_tchar}
 use Rattle.sfv_text.specs.Keys.{have_distinct_keys}
 use Rattle.sfv_text.specs.declared.pair.Pair.{Pair}
 use Rattle.sfv_text.specs.declared.value.BareItem.{BareItem}
@@ -13,30 +15,23 @@ use Rattle.sfv_text.specs.declared.value.Member.TheVariants.{Item as OneItem, In
 
 -- ---- classes of bytes
 
-abbrev pub is_one_of : List ℕ → ℕ → Bool
-is_one_of bytes c = list_any (λ b. b == c) bytes
-
--- a tchar (RFC 9110 section 5.6.2)
-abbrev pub is_tchar : ℕ → Bool
-is_tchar c = is_ascii_alphanumeric c || is_one_of (codes "!#$%&'*+-.^_`|~") c
-
 -- a String's characters (RFC 9651 section 3.3.3)
 abbrev pub is_string_byte : ℕ → Bool
-is_string_byte c = nat_le 32 c && nat_le c 126
+is_string_byte c = nat_le (byte " ") c && nat_le c (byte "~")
 
 abbrev pub is_byte : ℕ → Bool
-is_byte c = nat_lt c 256
+is_byte c = nat_lt c (2 ^ 8)
 
 -- a Token's first byte, and its others (RFC 9651 section 3.3.4)
 abbrev pub is_token_first : ℕ → Bool
-is_token_first c = is_ascii_alphabetic c || (c == 42)
+is_token_first c = is_ascii_alphabetic c || (c == byte "*")
 
 abbrev pub is_token_rest : ℕ → Bool
 is_token_rest c = is_tchar c || is_one_of (codes ":/") c
 
 -- a key's first byte, and its others (RFC 9651 section 3.1.2)
 abbrev pub is_key_first : ℕ → Bool
-is_key_first c = is_ascii_lowercase c || (c == 42)
+is_key_first c = is_ascii_lowercase c || (c == byte "*")
 
 abbrev pub is_key_rest : ℕ → Bool
 is_key_rest c = is_ascii_lowercase c || is_ascii_digit c || is_one_of (codes "_-.*") c

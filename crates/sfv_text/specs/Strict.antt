@@ -1,5 +1,6 @@
 -- The text of a value (RFC 9651 section 4.1).
 use Rattle.std.specs.Prelude.{ℕ, ◌+◌, ◌/◌, ◌%◌, ℤ, pos, negsuc, Bool, true, false, ◌||◌, ◌==◌, unsigned_abs, List, [], ◌∷◌, ◌++◌, codes, if◌then◌else◌}
+use Rattle.std.specs.Str.{byte}
 use Rattle.std.specs.Fmt.{decimal}
 use Rattle.std.specs.List.{flat_map, join_by}
 use Rattle.base64.specs.Engines.{standard}
@@ -23,27 +24,27 @@ sign_text (negsuc n) = codes "-"
 abbrev pub integer_text : ℤ → List ℕ
 integer_text z = sign_text z ++ decimal (unsigned_abs z)
 
--- three digits of thousandths, without zeros at the end behind the first
+-- three digits of thousandths, without zeros at the end after the first
 abbrev pub fraction_text : ℕ → List ℕ
 fraction_text n =
-    (48 + n / 100) ∷ (if n % 100 == 0 then [] else (48 + n / 10 % 10) ∷ (if n % 10 == 0 then [] else (48 + n % 10) ∷ []))
+    (byte "0" + n / 100) ∷ (if n % 100 == 0 then [] else (byte "0" + n / 10 % 10) ∷ (if n % 10 == 0 then [] else (byte "0" + n % 10) ∷ []))
 
 -- a Decimal by its thousandths (section 4.1.5)
 abbrev pub decimal_text : ℤ → List ℕ
 decimal_text z =
-    sign_text z ++ (decimal (unsigned_abs z / 1000) ++ 46 ∷ fraction_text (unsigned_abs z % 1000))
+    sign_text z ++ (decimal (unsigned_abs z / 1000) ++ byte "." ∷ fraction_text (unsigned_abs z % 1000))
 
--- `"` and `\` stand behind a `\`
+-- `"` and `\` stand after a `\`
 abbrev pub character_text : ℕ → List ℕ
-character_text c = if (c == 34) || (c == 92) then 92 ∷ c ∷ [] else c ∷ []
+character_text c = if (c == byte "\"") || (c == byte "\\") then byte "\\" ∷ c ∷ [] else c ∷ []
 
 -- a String (section 4.1.6)
 abbrev pub string_text : List ℕ → List ℕ
-string_text text = 34 ∷ (flat_map character_text text ++ 34 ∷ [])
+string_text text = byte "\"" ∷ (flat_map character_text text ++ byte "\"" ∷ [])
 
 -- a Byte Sequence (section 4.1.8)
 abbrev pub bytes_text : List ℕ → List ℕ
-bytes_text bytes = 58 ∷ (encode_of standard bytes ++ 58 ∷ [])
+bytes_text bytes = byte ":" ∷ (encode_of standard bytes ++ byte ":" ∷ [])
 
 -- a Boolean (section 4.1.9)
 abbrev pub bool_text : Bool → List ℕ
@@ -63,10 +64,10 @@ bare_text (Boolean b) = bool_text b
 -- Boolean true is not written
 abbrev pub param_value_text : BareItem → List ℕ
 param_value_text (Boolean true) = []
-param_value_text bare = 61 ∷ bare_text bare
+param_value_text bare = byte "=" ∷ bare_text bare
 
 abbrev pub param_text : Pair BareItem → List ℕ
-param_text param = 59 ∷ (param.key ++ param_value_text param.value)
+param_text param = byte ";" ∷ (param.key ++ param_value_text param.value)
 
 abbrev pub params_text : List (Pair BareItem) → List ℕ
 params_text params = flat_map param_text params
@@ -79,7 +80,7 @@ item_text item = bare_text item.bare ++ params_text item.params
 
 -- (section 4.1.1.1)
 abbrev pub inner_text : InnerList → List ℕ
-inner_text inner = 40 ∷ (join_by item_text (codes " ") inner.items ++ 41 ∷ params_text inner.params)
+inner_text inner = byte "(" ∷ (join_by item_text (codes " ") inner.items ++ byte ")" ∷ params_text inner.params)
 
 abbrev pub member_text : Member → List ℕ
 member_text (OneItem item) = item_text item
@@ -92,11 +93,11 @@ list_text members = join_by member_text (codes ", ") members
 -- an Item of Boolean true is its parameters alone
 abbrev pub entry_item_text : BareItem → List (Pair BareItem) → List ℕ
 entry_item_text (Boolean true) params = params_text params
-entry_item_text bare params = 61 ∷ (bare_text bare ++ params_text params)
+entry_item_text bare params = byte "=" ∷ (bare_text bare ++ params_text params)
 
 abbrev pub entry_value_text : Member → List ℕ
 entry_value_text (OneItem item) = entry_item_text item.bare item.params
-entry_value_text (SomeItems inner) = 61 ∷ inner_text inner
+entry_value_text (SomeItems inner) = byte "=" ∷ inner_text inner
 
 abbrev pub entry_text : Pair Member → List ℕ
 entry_text entry = entry.key ++ entry_value_text entry.value

@@ -31,13 +31,13 @@ impl<V> Model for Pairs<V> {
 }
 
 /// Where the first pair of the key stands.
-fn place_of<V>(pairs: &[Pair<V>], key: &[u8]) -> Option<usize>
-    ensures some { IfSome result (λ place. IsFound pairs.now key.now place) }
+fn index_of<V>(pairs: &[Pair<V>], key: &[u8]) -> Option<usize>
+    ensures some { IfSome result (λ index. IsFound pairs.now key.now index) }
     ensures none { IfNone result (list_any (has_key key.now) pairs.now ≡ false) }
 {
-    for (place, pair) in pairs.iter().enumerate() {
+    for (index, pair) in pairs.iter().enumerate() {
         if pair.key.bytes() == key {
-            return Some(place);
+            return Some(index);
         }
     }
     None
@@ -83,7 +83,7 @@ impl<V: Drop> Pairs<V> {
         self.pairs.as_slice()
     }
 
-    /// Replaces the value of the key in its place, or adds the pair at the end. Where no memory is
+    /// Replaces the value of the key where it stands, or adds the pair at the end. Where no memory is
     /// found, the key and the value are dropped.
     pub fn put(&mut self, key: Text, value: V) -> Result<(), Memory>
         ensures ok { OnOk result (self.new ≡ put self.old key value) }
@@ -92,8 +92,8 @@ impl<V: Drop> Pairs<V> {
             → test (record { key = key; value = value }) ≡ true → list_all test self.new ≡ true }
         ensures err { OnErr result (self.new ≡ self.old) }
     {
-        match place_of(self.pairs.as_slice(), key.bytes()) {
-            Some(place) => self.pairs[place] = Pair { key, value },
+        match index_of(self.pairs.as_slice(), key.bytes()) {
+            Some(index) => self.pairs[index] = Pair { key, value },
             None => self.pairs.push(Pair { key, value })?,
         }
         Ok(())

@@ -148,7 +148,7 @@ fn write_list(members: &[Member], text: &mut Text) -> Result<(), Memory>
     Ok(())
 }
 
-/// An Item behind its key: Boolean true is its parameters alone.
+/// An Item after its key: Boolean true is its parameters alone.
 fn write_entry_item(item: &Item, text: &mut Text) -> Result<(), Memory>
     ensures { OnOk result (text.new ≡ text.old ++ entry_item_text item.now.bare item.now.params) }
 {

@@ -54,7 +54,7 @@ fn write_integer(value: i64, text: &mut Text) -> Result<(), Memory>
     write_number(value.unsigned_abs(), text)
 }
 
-/// The digits behind the point.
+/// The digits after the point.
 fn write_fraction(thousandths: u64, text: &mut Text) -> Result<(), Memory>
     requires { thousandths < 1000 }
     ensures { OnOk result (text.new ≡ text.old ++ fraction_text thousandths) }

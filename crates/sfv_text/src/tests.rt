@@ -87,7 +87,7 @@ fn integers_print_their_digits(rt: HostRuntime) -> Result<(), Fail> {
 }
 
 #[test]
-fn decimals_print_one_to_three_digits_behind_the_point(rt: HostRuntime) -> Result<(), Fail> {
+fn decimals_print_one_to_three_digits_after_the_point(rt: HostRuntime) -> Result<(), Fail> {
     let cases: [(i64, &str); 10] = [
         (4500, "4.5"),
         (1500, "1.5"),

@@ -4,7 +4,7 @@ use Rattle.std.proofs.lemmas.Option.{slice_get_read}
 use Rattle.sfv_text.specs.declared.pair.Pair.{Pair}
 use Rattle.sfv_text.specs.declared.value.BareItem.{BareItem}
 use Rattle.component_ids.specs.SignatureParams.{is_typed}
-use Rattle.component_ids.proofs.Places.{find_failed, some_and}
+use Rattle.component_ids.proofs.Indices.{find_failed, some_and}
 use Rattle.component_ids.proofs.params.first_ill_typed.Goals as goal
 
 pub returns-then-not-is_typed-clause-some : goal.returns-then-not-is_typed-clause-some

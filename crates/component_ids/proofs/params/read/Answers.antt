@@ -8,7 +8,7 @@ returns-in-Some c =
     let items = c.args.list.now.items in
     let back : map id_of items ≡ c.in_ok-ids.ids = ids_back c.in_ok-ids.ids items (c.in_ok-ids.ensures.is ∙ c.as_slice.ensures) in
     let distinct : AreDistinct (map id_of items) = rw back c.in_ok-ids.ensures.distinct in
-    (rw (← c.as_slice.ensures) c.in_ok-ids.ensures.each, distinct, rw (c.in_ok-copy.ensures, ← c.as_slice-params.ensures.is) c.in-Some.ensures.some)
+    (rw (← c.as_slice.ensures) c.in_ok-ids.ensures.each, distinct, rw (c.in_ok-copy.ensures.ok, ← c.as_slice-params.ensures.is) c.in-Some.ensures.some)
 
 pub returns : goal.returns
 returns c =

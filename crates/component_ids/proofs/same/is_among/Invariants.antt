@@ -1,5 +1,5 @@
 use Rattle.std.proofs.Common.{◌≡◌, false, take}
-use Rattle.component_ids.specs.SameTests.{is_among}
+use Rattle.component_ids.specs.tools.SameTests.{is_among}
 use Rattle.component_ids.proofs.same.is_among.Given as goal
 
 abbrev pub invariant-loop-other : goal.invariant-loop-other

@@ -1,6 +1,6 @@
 use Rattle.std.proofs.Common.{◌≡◌, false, not, take}
 use Rattle.std.specs.List.{list_any}
-use Rattle.component_ids.specs.Rows.{row_keys}
+use Rattle.component_ids.specs.tools.Rows.{row_keys}
 use Rattle.component_ids.specs.Table.{is_listed}
 use Rattle.component_ids.proofs.table.has_unknown.Given as goal
 

@@ -2,10 +2,10 @@ use Rattle.std.proofs.Common.{◌≡◌, List, true, sym, ap, subst, ◌∙◌}
 use Rattle.std.specs.List.{list_all}
 use Rattle.std.proofs.lemmas.Result.{err_from_is_err_and}
 use Rattle.component_ids.specs.declared.id.ComponentId.{ComponentId}
-use Rattle.component_ids.proofs.Places.{all_at}
+use Rattle.component_ids.proofs.Indices.{all_at}
 use Rattle.hms.proofs.Plain.{plain_text}
 use Rattle.hms.specs.Asked.{is_plain, IsFirstAbsent}
-use Rattle.hms.specs.Plain.{quoted}
+use Rattle.hms.specs.tools.Plain.{quoted}
 use Rattle.hms.proofs.answer.base_over.Goals as goal
 
 pub returns-in_err-sig-clause-refused : goal.returns-in_err-sig-clause-refused
@@ -26,5 +26,5 @@ returns-in-Some-clause-refused c =
       asks = record { reads = c.in_ok-sig.ensures.ok; plain = plain };
       absent = absent;
       first = first;
-      id_is = c.in_ok-id.ensures ∙ (ap quoted c.bytes.ensures ∙ sym (plain_text absent (all_at is_plain ids first.place absent plain first.stands)));
+      id_is = c.in_ok-id.ensures ∙ (ap quoted c.bytes.ensures ∙ sym (plain_text absent (all_at is_plain ids first.index absent plain first.stands)));
     }

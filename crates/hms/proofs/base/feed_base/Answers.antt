@@ -2,7 +2,7 @@ use Rattle.std.proofs.Common.{ℕ, List, subst, ◌++◌}
 use Rattle.std.specs.Prelude.{codes}
 use Rattle.std.specs.List.{flat_map}
 use Rattle.hms.specs.SignatureBase.{component_line}
-use Rattle.hms.specs.Plain.{quoted_fields}
+use Rattle.hms.specs.tools.Plain.{quoted_fields}
 use Rattle.hms.proofs.Joins.{regroup_four}
 use Rattle.hms.proofs.base.feed_base.Goals as goal
 

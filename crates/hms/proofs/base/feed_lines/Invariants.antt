@@ -1,7 +1,7 @@
 use Rattle.std.proofs.Common.{ℕ, List, ◌++◌, take}
 use Rattle.std.specs.List.{flat_map}
 use Rattle.hms.specs.SignatureBase.{component_line}
-use Rattle.hms.specs.Plain.{quoted_fields}
+use Rattle.hms.specs.tools.Plain.{quoted_fields}
 use Rattle.hms.proofs.base.feed_lines.Given as goal
 
 abbrev pub invariant-loop-id : goal.invariant-loop-id

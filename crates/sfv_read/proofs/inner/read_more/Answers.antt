@@ -1,9 +1,9 @@
 use Rattle.std.proofs.Common.{ap, ◌∙◌, List}
 use Rattle.std.proofs.lemmas.Result.{err_from_is_err_and}
-use Rattle.byte_grammar.specs.Walk.{turns_read, with_front}
+use Rattle.byte_grammar.specs.Walk.{turns_read, with_prefix}
 use Rattle.byte_grammar.proofs.Loops.{loop_last, loop_err, loop_more, some_next}
 use Rattle.sfv_text.specs.declared.value.Item.{Item}
-use Rattle.sfv_read.specs.InnerWalk.{inner_turn}
+use Rattle.sfv_read.specs.tools.InnerWalk.{inner_turn}
 use Rattle.sfv_read.proofs.InnerLists.{inner_step, inner_shorter}
 use Rattle.sfv_read.proofs.Stopping.{stops_more}
 use Rattle.sfv_read.proofs.inner.read_more.Goals as goal
@@ -21,5 +21,5 @@ items-smaller c = inner_shorter c.items.rest.now c.in-Some.item c.in_ok-next.aft
 
 pub items-preserved : goal.items-preserved
 items-preserved c =
-    ap (λ (items : List Item). with_front items (turns_read inner_turn c.in_ok-next.after.now)) c.in_ok-push-in-Some.ensures.ok
+    ap (λ (items : List Item). with_prefix items (turns_read inner_turn c.in_ok-next.after.now)) c.in_ok-push-in-Some.ensures.ok
     ∙ loop_more inner_turn inner_step c.items.items c.items.rest.now _ c.items.invariant c.in-Some.item c.in_ok-next.after.now (some_next _ _ _ _ c.in_ok-next.ensures c.in-Some.is)

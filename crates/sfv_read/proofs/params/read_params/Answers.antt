@@ -5,7 +5,7 @@ use Rattle.byte_grammar.proofs.Loops.{state_last, state_err, state_more, some_ne
 use Rattle.sfv_text.specs.declared.value.BareItem.{BareItem}
 use Rattle.sfv_text.specs.declared.pair.Pair.{Pair}
 use Rattle.sfv_read.specs.Item.{put_pair}
-use Rattle.sfv_read.specs.ItemWalk.{param_turn, params_read}
+use Rattle.sfv_read.specs.tools.ItemWalk.{param_turn, params_read}
 use Rattle.sfv_read.proofs.Items.{params_step, params_shorter}
 use Rattle.sfv_read.proofs.Stopping.{stops_more}
 use Rattle.sfv_read.proofs.params.read_params.Goals as goal

@@ -1,13 +1,14 @@
--- Members parted by commas, as a whole text: once for every kind of member.
+-- Members separated by commas, as a whole text: once for every kind of member.
 use Rattle.std.proofs.Common.{◌≡◌, ℕ, ◌<◌, ◌||◌, Bool, true, false, not, eqb, List, [], ◌∷◌, ◌++◌, length, Option, Some, None, Result, Ok, refl, sym, ap, subst, ◌∙◌, append_assoc, arith}
 use Rattle.std.specs.List.{list_all}
 use Rattle.std.proofs.lemmas.Bool.{eqb-true}
 use Rattle.std.proofs.lemmas.List.{append-nil, length-append}
 use Rattle.byte_grammar.specs.Language.{Then, Turns, Mapped, Optional, Each, IsByte, IsAll}
 use Rattle.byte_grammar.specs.Walk.{◌>>=◌, Next, turned, turns_read}
-use Rattle.sfv_read.specs.Class.{is_space, is_comma, is_blank}
-use Rattle.sfv_read.specs.Member.{IsFurther, Parted}
-use Rattle.sfv_read.specs.MemberWalk.{further_read, parted_turn, members_read, list_of, some_members, parted_read}
+use Rattle.byte_classes.specs.Classes.{is_space, is_blank}
+use Rattle.sfv_read.specs.Class.{is_comma}
+use Rattle.sfv_read.specs.Member.{IsFurther, Separated}
+use Rattle.sfv_read.specs.tools.MemberWalk.{further_read, separated_turn, members_read, list_of, some_members, separated_read}
 use Rattle.byte_grammar.proofs.Laws.{Meets, Starts, meets_then, meets_byte, meets_all, meets_optional, optional_follow, meets_turns, meets_same, meets_map, and_is, any_next, starts_next, starts_length, turns_step, shorter}
 use Rattle.byte_grammar.proofs.Whole.{Nothing}
 
@@ -36,8 +37,8 @@ module _ {V : Type 0} {M : List ℕ → V → Type 0} {F : V → ℕ → Bool} {
   abbrev Turn : List ℕ → Option V → Type 0
   Turn x o = Then (IsAll is_blank) (λ _. Optional Further) x o
 
-  meets_turn : Meets Turn slot (parted_turn p)
-  unfolding parted_turn slot
+  meets_turn : Meets Turn slot (separated_turn p)
+  unfolding separated_turn slot
   meets_turn =
       meets_then (meets_all is_blank)
       (λ _. meets_same {G = slot} (meets_optional is_comma meets_further further_starts) (λ x o h. h) (λ x o h. h) sub)
@@ -77,7 +78,7 @@ module _ {V : Type 0} {M : List ℕ → V → Type 0} {F : V → ℕ → Bool} {
   no_turn : Turn [] None
   no_turn = record { first = []; second = []; value = []; joined = refl; spells = record { same = refl; passes = refl }; more = refl }
 
-  meets_turns_of : Meets (Turns Turn) Nothing (turns_read (parted_turn p))
+  meets_turns_of : Meets (Turns Turn) Nothing (turns_read (separated_turn p))
   unfolding slot
   meets_turns_of = meets_turns meets_turn turn_grows ([], no_turn) turn_next
 
@@ -121,12 +122,12 @@ module _ {V : Type 0} {M : List ℕ → V → Type 0} {F : V → ℕ → Bool} {
       sub : (o : Option (List V)) (c : ℕ) → false ≡ true → optional_follow (λ _. true) Nothing o c ≡ true
       sub o c h = absurd (cc (h))
 
-  abbrev pub PartedText : List ℕ → List V → Type 0
-  PartedText x vs = Then (IsAll is_space) (λ _. Mapped list_of (Optional Body)) x vs
+  abbrev pub SeparatedText : List ℕ → List V → Type 0
+  SeparatedText x vs = Then (IsAll is_space) (λ _. Mapped list_of (Optional Body)) x vs
 
-  pub meets_parted_text : Meets PartedText Nothing (parted_read p)
-  unfolding parted_read
-  meets_parted_text =
+  pub meets_separated_text : Meets SeparatedText Nothing (separated_read p)
+  unfolding separated_read
+  meets_separated_text =
       meets_then (meets_all is_space) (λ _. meets_some) (λ x u h. ([], [], (None, refl, refl))) (λ u y vs r h after. next y h.0 r h.1 after)
     where
       next : (y : List ℕ) (o : Option (List V)) (r : List ℕ) → Optional Body y o → Next (λ _. false) r → Next (λ c. not (is_space c)) (y ++ r)
@@ -177,11 +178,11 @@ module _ {V : Type 0} {M : List ℕ → V → Type 0} {F : V → ℕ → Bool} {
   from_turns (v ∷ vs) y after h all =
       (h.0, h.1 ++ after, ap (λ (y : List ℕ). y ++ after) h.2 ∙ append_assoc h.0 h.1 after, from_further h.0 v h.3, from_turns vs h.1 after h.4 all)
 
-  to_parted : (x : List ℕ) (vs : List V) → PartedText x vs → Parted M x vs
-  to_parted x vs t = go t.more.0 t.more.1 t.more.2
+  to_separated : (x : List ℕ) (vs : List V) → SeparatedText x vs → Separated M x vs
+  to_separated x vs t = go t.more.0 t.more.1 t.more.2
     where
-      go : (o : Option (List V)) → Optional Body t.second o → list_of o ≡ vs → Parted M x vs
-      go None h e = subst (λ (vs : List V). Parted M x vs) e (record {
+      go : (o : Option (List V)) → Optional Body t.second o → list_of o ≡ vs → Separated M x vs
+      go None h e = subst (λ (vs : List V). Separated M x vs) e (record {
         before = t.value;
         members = [];
         after = [];
@@ -194,7 +195,7 @@ module _ {V : Type 0} {M : List ℕ → V → Type 0} {F : V → ℕ → Bool} {
       go (Some ws) b e =
           let turns = to_turns b.more.0 b.second b.more.1 in
           let same : b.value ∷ b.more.0 ≡ vs = b.more.2 ∙ e in
-          subst (λ (vs : List V). Parted M x vs) same (record {
+          subst (λ (vs : List V). Separated M x vs) same (record {
             before = t.value;
             members = b.first ++ turns.0;
             after = turns.1;
@@ -205,8 +206,8 @@ module _ {V : Type 0} {M : List ℕ → V → Type 0} {F : V → ℕ → Bool} {
             none = λ e. absurd (cc (e));
           })
 
-  from_parted : (x : List ℕ) (vs : List V) → Parted M x vs → PartedText x vs
-  from_parted x [] h = record {
+  from_separated : (x : List ℕ) (vs : List V) → Separated M x vs → SeparatedText x vs
+  from_separated x [] h = record {
     first = h.before;
     second = [];
     value = h.before;
@@ -214,7 +215,7 @@ module _ {V : Type 0} {M : List ℕ → V → Type 0} {F : V → ℕ → Bool} {
     joined = h.joined ∙ ap (λ (y : List ℕ). h.before ++ y) (ap (λ (y : List ℕ). y ++ h.after) h.are_members ∙ h.none refl);
     more = (None, refl, refl);
   }
-  from_parted x (v ∷ vs) h = record {
+  from_separated x (v ∷ vs) h = record {
     first = h.before;
     second = h.members ++ h.after;
     value = h.before;
@@ -234,12 +235,12 @@ module _ {V : Type 0} {M : List ℕ → V → Type 0} {F : V → ℕ → Bool} {
     );
   }
 
-  pub meets_parted : Meets (Parted M) Nothing (parted_read p)
-  meets_parted = meets_same meets_parted_text to_parted from_parted (λ v c h. h)
+  pub meets_separated : Meets (Separated M) Nothing (separated_read p)
+  meets_separated = meets_same meets_separated_text to_separated from_separated (λ v c h. h)
 
   -- how a loop over members goes on
-  pub parted_step : (bytes : List ℕ) → turns_read (parted_turn p) bytes ≡ (parted_turn p bytes >>= λ a. turned a.0 a.1 (turns_read (parted_turn p) a.1))
-  parted_step bytes = turns_step meets_turn turn_grows bytes
+  pub separated_step : (bytes : List ℕ) → turns_read (separated_turn p) bytes ≡ (separated_turn p bytes >>= λ a. turned a.0 a.1 (turns_read (separated_turn p) a.1))
+  separated_step bytes = turns_step meets_turn turn_grows bytes
 
-  pub parted_shorter : (bytes : List ℕ) (v : V) (rest : List ℕ) → parted_turn p bytes ≡ Ok (Some v, rest) → length rest < length bytes
-  parted_shorter bytes v rest e = shorter meets_turn turn_grows bytes v rest e
+  pub separated_shorter : (bytes : List ℕ) (v : V) (rest : List ℕ) → separated_turn p bytes ≡ Ok (Some v, rest) → length rest < length bytes
+  separated_shorter bytes v rest e = shorter meets_turn turn_grows bytes v rest e

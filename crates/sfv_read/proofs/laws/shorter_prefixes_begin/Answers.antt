@@ -1,6 +1,6 @@
 use Rattle.sfv_read.proofs.TextLaws.{begins_shorter}
 use Rattle.sfv_read.specs.Reads.{ReadsItem, ReadsInner, ReadsList, ReadsDict}
-use Rattle.sfv_read.proofs.laws.shorter_fronts_begin.Goals as goal
+use Rattle.sfv_read.proofs.laws.shorter_prefixes_begin.Goals as goal
 
 pub returns : goal.returns
 returns c = record {

@@ -6,9 +6,10 @@ use Rattle.sfv_text.specs.declared.value.BareItem.TheVariants.{Bool as Boolean}
 use Rattle.sfv_text.specs.declared.value.Item.{Item}
 use Rattle.sfv_text.specs.declared.pair.Pair.{Pair}
 use Rattle.sfv_text.specs.Range.{is_key_first, is_key_rest}
-use Rattle.sfv_read.specs.Class.{is_space, is_semicolon, is_equals}
+use Rattle.byte_classes.specs.Classes.{is_space}
+use Rattle.sfv_read.specs.Class.{is_semicolon, is_equals}
 use Rattle.sfv_read.specs.Item.{kept}
-use Rattle.sfv_read.specs.BareWalk.{bare_read}
+use Rattle.sfv_read.specs.tools.BareWalk.{bare_read}
 
 abbrev pub pair_of : {V : Type 0} → List ℕ → V → Pair V
 pair_of key value = record { key = key; value = value }

@@ -5,8 +5,9 @@ use Rattle.sfv_text.specs.declared.value.BareItem.{BareItem}
 use Rattle.sfv_text.specs.declared.value.Item.{Item}
 use Rattle.sfv_text.specs.declared.value.InnerList.{InnerList}
 use Rattle.sfv_text.specs.declared.pair.Pair.{Pair}
-use Rattle.sfv_read.specs.Class.{is_space, is_open, is_close}
-use Rattle.sfv_read.specs.ItemWalk.{item_read, params_read}
+use Rattle.byte_classes.specs.Classes.{is_space}
+use Rattle.sfv_read.specs.Class.{is_open, is_close}
+use Rattle.sfv_read.specs.tools.ItemWalk.{item_read, params_read}
 
 abbrev pub inner_of : List Item → List (Pair BareItem) → InnerList
 inner_of items params = record { items = items; params = params }
@@ -20,7 +21,7 @@ some_item bytes = item_read bytes >>= λ i. Ok (Some i.0, i.1)
 unfoldable pub item_or_close : List ℕ → Result (Option Item × List ℕ) ℕ
 item_or_close bytes = choose_read is_close close_only some_item bytes
 
--- an Item only behind a space
+-- an Item only after a space
 abbrev pub after_gap : List ℕ → List ℕ → Result (Option Item × List ℕ) ℕ
 after_gap [] bytes = close_only bytes
 after_gap (_ ∷ _) bytes = item_or_close bytes

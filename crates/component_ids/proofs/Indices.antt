@@ -1,4 +1,4 @@
--- What holds at a place of a list.
+-- What holds at an index of a list.
 use Rattle.std.proofs.Common.{◌≡◌, ◌<◌, ℕ, zero, suc, Bool, true, false, not, Option, Some, None, List, [], ◌∷◌, take, refl, inl, inr, arith}
 use Rattle.std.specs.List.{find, list_all, list_any, slice_get}
 use Rattle.std.specs.Option.{IsSomeAnd}
@@ -31,7 +31,7 @@ pub find_none : {X : Type 0} (p : X → Bool) (xs : List X) → list_all p xs �
 find_none p [] all = refl
 find_none p (y ∷ ys) all = let h = and_parts (p y) (list_all p ys) all in rw h.0 (find_none p ys h.1)
 
--- a test passes at each place
+-- a test passes at each index
 pub all_at : {X : Type 0} (p : X → Bool) (xs : List X) (i : ℕ) (x : X) → list_all p xs ≡ true → slice_get xs i ≡ Some x → p x ≡ true
 all_at p [] i x all there = absurd cc
 all_at p (y ∷ ys) zero x all there = let same : y ≡ x = cc in rw (← same) (and_parts (p y) (list_all p ys) all).0

@@ -1,5 +1,6 @@
 -- Bare items, read over lists from left to right.
 use Rattle.std.specs.Prelude.{ℕ, ◌+◌, ◌-◌, ◌*◌, ◌/◌, ◌%◌, ◌^◌, Bool, true, false, ◌||◌, List, [], ◌∷◌, ◌++◌, length, nat_eq, nat_lt, Option, Some, None, Result, Ok, Err, if◌then◌else◌}
+use Rattle.std.specs.Str.{byte}
 use Rattle.byte_grammar.specs.Walk.{◌>>=◌, byte_read, run_read, all_read, word_read, optional_read, pick_read, turns_read}
 use Rattle.sfv_text.specs.declared.value.BareItem.{BareItem}
 use Rattle.sfv_text.specs.declared.value.BareItem.TheVariants.{Integer, Decimal, Str, Token, Bytes, Bool as Boolean}
@@ -8,7 +9,8 @@ use Rattle.sfv_read.specs.declared.bare.BareKind.TheVariants.{Number, Quoted, Wo
 use Rattle.sfv_read.specs.declared.string.CharKind.{CharKind}
 use Rattle.sfv_read.specs.declared.string.CharKind.TheVariants.{Finish, Escape, Plain}
 use Rattle.sfv_text.specs.Range.{is_token_first, is_token_rest}
-use Rattle.sfv_read.specs.Class.{is_digit, is_minus, is_dot, is_quote, is_backslash, is_unescaped, is_escapable, is_question, is_bit, is_colon, is_equals, is_base64}
+use Rattle.byte_classes.specs.Classes.{is_digit}
+use Rattle.sfv_read.specs.Class.{is_minus, is_dot, is_quote, is_backslash, is_unescaped, is_escapable, is_question, is_bit, is_colon, is_equals, is_base64}
 use Rattle.sfv_read.specs.BareItem.{signed, spelled}
 
 -- ---- Integers and Decimals
@@ -21,7 +23,7 @@ number_of sign digits (Some part) = Decimal (signed sign (spelled (digits ++ par
 unfoldable pub part_read : List ℕ → Result (List ℕ × List ℕ) ℕ
 part_read bytes = byte_read is_dot bytes >>= λ d. run_read is_digit 1 3 d.1
 
--- behind more than 12 digits no point may stand
+-- after more than 12 digits no point may stand
 unfoldable pub fraction_read : ℕ → List ℕ → Result (Option (List ℕ) × List ℕ) ℕ
 fraction_read digits bytes = if nat_lt 12 digits then Ok (None, bytes) else optional_read is_dot part_read bytes
 
@@ -38,7 +40,7 @@ char_by Finish bytes = byte_read is_quote bytes >>= λ d. Ok (None, d.1)
 char_by Escape bytes = byte_read is_backslash bytes >>= λ d. byte_read is_escapable d.1 >>= λ e. Ok (Some e.0, e.1)
 char_by Plain bytes = byte_read is_unescaped bytes >>= λ d. Ok (Some d.0, d.1)
 
--- a character, or the quote behind the last
+-- a character, or the quote after the last
 unfoldable pub char_read : List ℕ → Result (Option ℕ × List ℕ) ℕ
 char_read bytes = pick_read char_kind char_by bytes
 
@@ -52,7 +54,7 @@ string_read bytes = byte_read is_quote bytes >>= λ q. chars_read q.1
 
 -- the six bits of a letter
 abbrev pub six : ℕ → ℕ
-six c = if nat_lt c 48 then (if nat_eq c 43 then 62 else 63) else (if nat_lt c 58 then c + 4 else (if nat_lt c 91 then c - 65 else c - 71))
+six c = if nat_lt c 48 then (if nat_eq c (byte "+") then 62 else 63) else (if nat_lt c 58 then c + 4 else (if nat_lt c 91 then c - 65 else c - 71))
 
 -- how many `=` fill the last group of four letters
 abbrev pub pads : ℕ → ℕ
@@ -89,7 +91,7 @@ close_read n bytes = filling_read n bytes >>= λ f. byte_read is_colon f.1 >>= �
 unfoldable pub end_read : List ℕ → List ℕ → Result (List ℕ × List ℕ) ℕ
 end_read letters bytes = if are_whole letters then close_read (pads (length letters)) bytes else Err (length bytes)
 
--- the bytes of the letters, behind which their end stands
+-- the bytes of the letters, after which their end stands
 unfoldable pub bytes_end : List ℕ → List ℕ → Result (List ℕ × List ℕ) ℕ
 bytes_end letters bytes = end_read letters bytes >>= λ f. Ok (decoded letters, f.1)
 
