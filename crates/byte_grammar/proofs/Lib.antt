@@ -3,3 +3,5 @@ pub mod Loops
 pub mod Count
 pub mod Whole
 pub mod Words
+pub mod CauseLaws
+pub mod OffsetLaws

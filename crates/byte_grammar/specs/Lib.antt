@@ -2,3 +2,4 @@ pub mod Language
 pub mod Walk
 pub mod FaultOffset
 pub mod Gives
+pub mod Causes
