@@ -5,17 +5,17 @@ ghost use Rattle.std.specs.Io.{WritesAtMost};
 ghost use Rattle.std.specs.Io.KnownBytes.{WriteAppends};
 ghost use Rattle.hms_io.specs.Calls.{fails_next};
 ghost use Rattle.hms_io.specs.Cause.{HasCause, one_more};
-ghost use Rattle.hms_io.specs.Memory.{is_full};
+ghost use Rattle.hms_io.specs.InMemory.{is_full};
 
 use crate::calls::Calls;
-use crate::status::Failed;
-use crate::traits::Sink;
+use crate::faults::Failed;
+use crate::sink::Sink;
 use sfv_text::Memory;
 use std::alloc::Global;
 use std::marker::Model;
 
-/// A sink that takes bytes into memory in pieces, and fails at the calls that it is told to, and
-/// where it is full. Calls are counted from 0, and the count stops at 2^64 - 1.
+/// A sink that takes bytes into memory in pieces, and fails at calls of given numbers, and where it
+/// is full. Calls are counted from 0, and the count stops at 2^64 - 1.
 #[derive(Drop)]
 pub struct MemSink {
     bytes: Vec<u8>,
@@ -26,7 +26,7 @@ pub struct MemSink {
 
 impl Model for MemSink {
     ghost use Rattle.std.specs.Prelude.{◌≤◌, vec_len, vec_capacity};
-    ghost use Rattle.hms_io.specs.Memory.{MemorySink};
+    ghost use Rattle.hms_io.specs.InMemory.{MemorySink};
 
     ghost Value = { MemorySink };
 
@@ -92,7 +92,7 @@ impl Sink for MemSink {
         self.calls.next()?;
         let room = self.room - self.bytes.len();
         if room == 0 && !piece.is_empty() {
-            return Err(self.calls.fault());
+            return Err(self.calls.count_fault());
         }
         let amount = room.min(self.piece).min(piece.len());
         let _ = self.bytes.extend_from_slice(&piece[..amount]);

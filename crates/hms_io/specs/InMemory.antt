@@ -1,8 +1,6 @@
 -- What a source, a sink and a shelf in memory are.
-use Rattle.std.specs.Prelude.{ℕ, List, Bool, length, ◌==◌, refl}
-use Rattle.std.specs.FinMap as map
-use Rattle.std.specs.Coded.{Coded, code_by, coded×, coded_list, coded_ℕ}
-use Rattle.hms_io.specs.Calls.{CallLog, call_code}
+use Rattle.std.specs.Prelude.{ℕ, List, Bool, length, ◌==◌}
+use Rattle.hms_io.specs.Calls.{CallLog}
 use Rattle.hms_io.specs.Files.{FileMap}
 
 pub record MemorySource : Type 0 where
@@ -26,9 +24,3 @@ is_full sink = length sink.taken == sink.room
 pub record MemoryShelf : Type 0 where
   pub files : FileMap
   pub calls : CallLog
-
--- a shelf is stored as its files and its calls
-abbrev pub shelf_code : Coded MemoryShelf
-shelf_code =
-    code_by (FileMap × CallLog) (coded× (map.code (coded_list coded_ℕ) (coded_list coded_ℕ)) call_code)
-    (λ s. (s.files, s.calls)) (λ p. record { files = p.0; calls = p.1 }) (λ _. refl)

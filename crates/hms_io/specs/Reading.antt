@@ -1,4 +1,4 @@
--- What reading does to the bytes that a source has left, where it tells them.
+-- What reading does to the bytes that a source has left, where they are known.
 use Rattle.std.specs.Prelude.{◌≡◌, ℕ, ◌≤◌, List, [], length, drop, Option, Some, IfSome}
 
 -- the text is all that was left, and nothing is left now
@@ -6,5 +6,5 @@ abbrev pub GivesAll : Option (List ℕ) → Option (List ℕ) → List ℕ → T
 GivesAll before now text = IfSome before (λ all. (text ≡ all) × (now ≡ Some []))
 
 -- just the first n bytes are gone
-abbrev pub LosesFront : Option (List ℕ) → Option (List ℕ) → ℕ → Type 0
-LosesFront before now n = IfSome before (λ all. (n ≤ length all) × (now ≡ Some (drop n all)))
+abbrev pub LosesPrefix : Option (List ℕ) → Option (List ℕ) → ℕ → Type 0
+LosesPrefix before now n = IfSome before (λ all. (n ≤ length all) × (now ≡ Some (drop n all)))

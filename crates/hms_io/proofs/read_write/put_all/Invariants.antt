@@ -1,8 +1,8 @@
 use Rattle.std.proofs.Common.{◌≡◌, ◌-◌, ◌≤◌, length, take}
 use Rattle.std.specs.Io.KnownBytes.{Appends}
-use Rattle.hms_io.proofs.whole.put_all.Given as goal
+use Rattle.hms_io.proofs.read_write.put_all.Given as goal
 
--- the sink took the front of the text, and no fault came
+-- the sink took the prefix of the text, and no fault came
 abbrev pub invariant-writes : goal.invariant-writes
 invariant-writes g l = record {
   within : l.at ≤ length l.text;

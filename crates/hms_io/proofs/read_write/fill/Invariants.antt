@@ -1,6 +1,6 @@
 use Rattle.std.proofs.Common.{◌≡◌, ◌+◌, length}
 use Rattle.std.specs.Io.KnownBytes.{Consumes}
-use Rattle.hms_io.proofs.whole.fill.Given as goal
+use Rattle.hms_io.proofs.read_write.fill.Given as goal
 
 -- the text is what the source gave, and no fault came
 abbrev pub invariant-reads : goal.invariant-reads

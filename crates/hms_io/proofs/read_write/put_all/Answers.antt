@@ -1,7 +1,7 @@
 use Rattle.std.proofs.Common.{◌∙◌, arith}
 use Rattle.std.proofs.lemmas.Grind.{common_steps}
 use Rattle.hms_io.proofs.Known.{appends_more}
-use Rattle.hms_io.proofs.whole.put_all.Goals as goal
+use Rattle.hms_io.proofs.read_write.put_all.Goals as goal
 
 pub writes-preserved : goal.writes-preserved
 writes-preserved g c =

@@ -2,7 +2,7 @@ use Rattle.std.proofs.Common.{◌+◌, length, refl, arith}
 use Rattle.std.proofs.lemmas.Grind.{common_steps}
 use Rattle.std.proofs.lemmas.Slice.{take-put_mid}
 use Rattle.hms_io.proofs.Known.{consumes_in_place}
-use Rattle.hms_io.proofs.real.read_front.Goals as goal
+use Rattle.hms_io.proofs.dir_shelf.read_prefix.Goals as goal
 
 pub reads-preserved : goal.reads-preserved
 reads-preserved g c =

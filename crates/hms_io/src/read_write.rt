@@ -1,15 +1,17 @@
 //! Whole texts over a source and a sink.
 
-ghost use Rattle.std.specs.Prelude.{◌≡◌, ◌+◌, ◌<◌, ◌≤◌, ℕ, length, take, IfOk, OnOk, OnErr, IsErrOf, MatchResult};
+ghost use Rattle.std.specs.Prelude.{◌≡◌, ◌+◌, ◌<◌, ◌≤◌, ℕ, length, take, IfOk, OnOk, OnErr, IfSome, IsErrOf, MatchResult};
 ghost use Rattle.std.specs.Io.KnownBytes.{Appends};
-ghost use Rattle.hms_io.specs.Cause.{HasCause};
-ghost use Rattle.hms_io.specs.Whole.{GivesAll, LosesFront};
-ghost use Rattle.hms_io.specs.FillCause.{HasFillCause};
+ghost use Rattle.hms_io.specs.Cause.{HasCause, HasFillCause};
+ghost use Rattle.hms_io.specs.Reading.{GivesAll, LosesPrefix};
 
-use crate::status::Failed;
-use crate::traits::{Sink, Source};
+use crate::faults::Failed;
+use crate::sink::Sink;
+use crate::source::Source;
 use sfv_text::{Memory, Text};
 use std::alloc::Global;
+use std::error::Error;
+use std::fmt;
 
 /// The most that may be asked of [`fill`] as its limit, in bytes.
 pub const MAX_LIMIT: usize = 67_108_864;
@@ -20,7 +22,7 @@ const CHUNK: usize = 4096;
 /// Why a source isn't read whole.
 #[derive(Clone, Copy, Debug, PartialEq, Eq)]
 pub enum FillError {
-    /// No memory was found.
+    /// Out of memory, which is only asked for where a byte came.
     Memory,
     /// A read failed.
     Failed,
@@ -28,11 +30,23 @@ pub enum FillError {
     TooLong,
 }
 
+impl fmt::Display for FillError {
+    fn fmt<W: fmt::Write>(&self, f: &mut fmt::Formatter<W>) -> fmt::Result {
+        f.write_str(match self {
+            FillError::Memory => "out of memory",
+            FillError::Failed => "a read failed",
+            FillError::TooLong => "the input is longer than the limit",
+        })
+    }
+}
+
+impl Error for FillError {}
+
 impl From<Memory> for FillError {
     ghost use Rattle.std.specs.Prelude.{◌≡◌};
-    ghost use Rattle.hms_io.specs.declared.whole.FillError.TheVariants.{Memory as NoMemory};
+    ghost use Rattle.hms_io.specs.declared.read_write.FillError.TheVariants.{Memory as OutOfMemory};
 
-    ghost from_gives = { λ _ e. e ≡ NoMemory };
+    ghost from_gives = { λ _ e. e ≡ OutOfMemory };
 
     fn from(_memory: Memory) -> FillError {
         FillError::Memory
@@ -41,7 +55,7 @@ impl From<Memory> for FillError {
 
 impl From<Failed> for FillError {
     ghost use Rattle.std.specs.Prelude.{◌≡◌};
-    ghost use Rattle.hms_io.specs.declared.whole.FillError.TheVariants.{Failed as ReadFailed};
+    ghost use Rattle.hms_io.specs.declared.read_write.FillError.TheVariants.{Failed as ReadFailed};
 
     ghost from_gives = { λ _ e. e ≡ ReadFailed };
 
@@ -59,9 +73,11 @@ pub fn fill<S: Source>(alloc: Global, source: &mut S, limit: usize) -> Result<Te
 
     // More than `limit` bytes were left, and one more than that was read.
     ensures too_long { IsErrOf result FillError.TooLong →
-        LosesFront (S.left source.old) (S.left source.new) (limit + 1) }
-    ensures front { OnErr result
-        ((n : ℕ) × (n ≤ limit + 1) × LosesFront (S.left source.old) (S.left source.new) n) }
+        LosesPrefix (S.left source.old) (S.left source.new) (limit + 1) }
+    ensures prefix { OnErr result
+        ((n : ℕ) × (n ≤ limit + 1) × LosesPrefix (S.left source.old) (S.left source.new) n) }
+    ensures needed { IsErrOf result FillError.Memory →
+        IfSome (S.left source.old) (λ all. 1 ≤ length all) }
     ensures later { S.faults source.old ≤ S.faults source.new }
     ensures cause { MatchResult result (λ _. S.faults source.new ≡ S.faults source.old)
         (HasFillCause (S.faults source.old) (S.faults source.new)) }
@@ -85,8 +101,8 @@ pub fn fill<S: Source>(alloc: Global, source: &mut S, limit: usize) -> Result<Te
 pub fn put_all<K: Sink>(sink: &mut K, text: &[u8]) -> Result<(), Failed>
     ensures ok { OnOk result (Appends (K.taken sink.old) (K.taken sink.new) text.now) }
 
-    // Only a front of the text was taken, which isn't all of it.
-    ensures front { OnErr result ((n : ℕ) × (n < length text.now)
+    // Only a prefix of the text was taken, which isn't all of it.
+    ensures prefix { OnErr result ((n : ℕ) × (n < length text.now)
         × Appends (K.taken sink.old) (K.taken sink.new) (take n text.now)) }
     ensures cause { HasCause (K.faults sink.old) (K.faults sink.new) result }
 {

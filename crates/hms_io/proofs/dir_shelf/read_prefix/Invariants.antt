@@ -1,8 +1,8 @@
 use Rattle.std.proofs.Common.{◌-◌, ◌≤◌, length, take}
 use Rattle.std.specs.Io.KnownBytes.{Consumes}
-use Rattle.hms_io.proofs.real.read_front.Given as goal
+use Rattle.hms_io.proofs.dir_shelf.read_prefix.Given as goal
 
--- the front of the piece is what the reader gave
+-- the prefix of the piece is what the reader gave
 abbrev pub invariant-reads : goal.invariant-reads
 invariant-reads g l = record {
   within : l.at ≤ length l.into;
