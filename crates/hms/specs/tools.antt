@@ -1,3 +1,3 @@
-pub mod Fault
+pub mod Feed
 pub mod Plain
-pub mod Sinks
+pub mod Stops

@@ -1,24 +1,24 @@
-//! The command line.
+//! The arguments of the program.
 
 ghost use Rattle.std.specs.Prelude.{map, IfSome, IfNone, string_bytes};
-ghost use Rattle.hms.specs.Command.{NoCommand};
-ghost use Rattle.hms.specs.CommandView.{IsCommand};
+ghost use Rattle.hms.specs.Command.{IsCommand, NoCommand};
 
-/// What the words ask for. It borrows them.
+/// What the arguments ask for. It borrows them.
 #[derive(Clone, Copy)]
-pub enum Command<'w> {
-    /// The signature base over the covered components that `params` lists.
-    Base { params: &'w str },
+pub enum Command<'a> {
+    /// `base PARAMS`: the signature base over the components that PARAMS covers, an Inner List as the
+    /// member of a `Signature-Input` field is (RFC 9421 section 4.1).
+    Base { params: &'a str },
 }
 
-/// Reads the words after the program's name. It takes no memory.
+/// Reads the arguments after the program's name. It takes no memory.
 pub fn read_words(words: &[String]) -> Option<Command<'_>>
     ensures some { IfSome result (λ command. IsCommand (map string_bytes words.now) command) }
     ensures none { IfNone result (NoCommand (map string_bytes words.now)) }
 {
     match words {
-        [command, params] => {
-            if command.as_str() == "base" {
+        [name, params] => {
+            if name.as_str() == "base" {
                 Some(Command::Base {
                     params: params.as_str(),
                 })
