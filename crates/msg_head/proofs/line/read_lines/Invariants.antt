@@ -1,5 +1,5 @@
 use Rattle.std.proofs.Common.{◌-◌, length}
-use Rattle.msg_head.proofs.Walks.{Walked}
+use Rattle.msg_head.proofs.Sections.{Walked}
 use Rattle.msg_head.proofs.line.read_lines.Given as goal
 
 abbrev pub invariant-lines : goal.invariant-lines
