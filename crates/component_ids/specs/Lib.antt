@@ -1,4 +1,5 @@
 pub mod Answers
+pub mod Causes
 pub mod Identifiers
 pub mod Reasons
 pub mod SignatureParams

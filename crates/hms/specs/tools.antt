@@ -1,3 +1,4 @@
 pub mod Feed
+pub mod Lines
 pub mod Plain
 pub mod Stops

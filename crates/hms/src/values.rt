@@ -1,7 +1,8 @@
 //! The combined value of a field's lines: RFC 9421 section 2.1.
 
-ghost use Rattle.std.specs.Prelude.{◌≡◌, ◌<◌, ◌++◌, ℕ, List, [], length, slice_index_or, reverse};
+ghost use Rattle.std.specs.Prelude.{◌≡◌, ◌<◌, ◌++◌, ℕ, List, length, slice_index_or, reverse};
 ghost use Rattle.byte_classes.specs.Classes.{is_blank};
+ghost use Rattle.hms.specs.tools.Lines.{no_line};
 ghost use Rattle.hms.specs.Values.{value, without_first_blanks, has_name, combined_value, is_there};
 
 use byte_classes::is_blank;
@@ -44,7 +45,7 @@ fn value_of(raw: &[u8]) -> &[u8]
 #[tactic(auto, using(std::proofs::lemmas::Option::get_or_from_slice_get))]
 fn name_at<'m>(head: &HeadView<'m>, index: usize) -> &'m [u8]
     requires { index < length head.now.lines }
-    ensures { result.now ≡ (slice_index_or head.now.lines index ([], [])).0 }
+    ensures { result.now ≡ (slice_index_or head.now.lines index no_line).name }
 {
     head.line(index).name
 }
@@ -52,7 +53,7 @@ fn name_at<'m>(head: &HeadView<'m>, index: usize) -> &'m [u8]
 #[tactic(auto, using(std::proofs::lemmas::Option::get_or_from_slice_get))]
 fn value_at<'m>(head: &HeadView<'m>, index: usize) -> &'m [u8]
     requires { index < length head.now.lines }
-    ensures { result.now ≡ value (slice_index_or head.now.lines index ([], [])).1 }
+    ensures { result.now ≡ value (slice_index_or head.now.lines index no_line).raw }
 {
     value_of(head.line(index).raw)
 }
@@ -60,7 +61,7 @@ fn value_at<'m>(head: &HeadView<'m>, index: usize) -> &'m [u8]
 /// Whether the field line at the index has the name, whatever its case.
 fn is_named(head: &HeadView<'_>, index: usize, name: &[u8]) -> bool
     requires { index < length head.now.lines }
-    ensures { result ≡ has_name name.now (slice_index_or head.now.lines index ([], [])) }
+    ensures { result ≡ has_name name.now (slice_index_or head.now.lines index no_line) }
 {
     name_at(head, index).eq_ignore_ascii_case(name)
 }

@@ -1,4 +1,4 @@
--- The words of a command line.
+-- Lists of arguments.
 use Rattle.std.proofs.Common.{◌≡◌, ◌<◌, ◌≤◌, List, [], ◌∷◌, length, get_or, arith}
 use Rattle.std.specs.Prelude.{map}
 

@@ -2,7 +2,7 @@ use Rattle.std.proofs.Common.{sym, ◌∙◌}
 use Rattle.std.specs.Prelude.{codes}
 use Rattle.hms.specs.Values.{has_name, is_there}
 use Rattle.hms.proofs.NameTests.{any_or, or_first, or_second}
-use Rattle.hms.proofs.answer.has_framing.Goals as goal
+use Rattle.hms.proofs.message.has_framing.Goals as goal
 
 pub returns-then-has_line : goal.returns-then-has_line
 returns-then-has_line c =

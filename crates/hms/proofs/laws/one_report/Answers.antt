@@ -1,5 +1,0 @@
-use Rattle.hms.proofs.OneReports.{one_report_law}
-use Rattle.hms.proofs.laws.one_report.Goals as goal
-
-pub returns : goal.returns
-returns c = one_report_law
