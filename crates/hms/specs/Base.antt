@@ -1,5 +1,5 @@
 -- What `base` comes to, for PARAMS and an input.
-use Rattle.std.specs.Prelude.{◌≡◌, ◌<◌, ℕ, List, length, IsFalse}
+use Rattle.std.specs.Prelude.{◌≡◌, ◌<◌, ℕ, List, length, Some, IsFalse}
 use Rattle.std.specs.List.{list_all}
 use Rattle.byte_grammar.specs.Causes.{IsFirst}
 use Rattle.byte_grammar.specs.FaultOffset.{IsFaultOffset}
@@ -12,7 +12,7 @@ use Rattle.component_ids.specs.declared.params.SigParams.{SigParams}
 use Rattle.component_ids.specs.Causes.{IsFault}
 use Rattle.component_ids.specs.Identifiers.{id_text}
 use Rattle.msg_head.specs.Heads.{Head}
-use Rattle.hms.specs.Covered.{ReadsParams, IsFirstAbsent, is_plain}
+use Rattle.hms.specs.Covered.{ReadsParams, first_absent, is_plain}
 use Rattle.hms.specs.Messages.{IsMessage, NoMessage}
 use Rattle.hms.specs.SignatureBase.{base_of}
 use Rattle.hms.specs.declared.refusal.TheConstants.{MAX_INPUT_BYTES}
@@ -43,7 +43,7 @@ pub record LacksField (params input id : List ℕ) : Type 0 where
   pub sig : SigParams
   pub reads : ReadsParams params sig
   pub absent : ComponentId
-  pub first : IsFirstAbsent head.lines sig.ids absent
+  pub first : first_absent head.lines sig.ids ≡ Some absent
   pub id_is : id ≡ id_text absent
 
 -- the text is the signature base of the message over the signature parameters that PARAMS spell

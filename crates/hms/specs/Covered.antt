@@ -1,6 +1,6 @@
 -- The components that a signature covers (RFC 9421 sections 2 and 2.3).
-use Rattle.std.specs.Prelude.{◌≡◌, ℕ, Bool, IsTrue, IsFalse, ◌&&◌, ◌==◌, List, length, take, slice_get, Some}
-use Rattle.std.specs.List.{list_all}
+use Rattle.std.specs.Prelude.{ℕ, Bool, ◌&&◌, not, ◌==◌, List, length, Option}
+use Rattle.std.specs.List.{find}
 use Rattle.sfv_read.specs.Reads.{ReadsInner}
 use Rattle.component_ids.specs.declared.id.ComponentId.{ComponentId}
 use Rattle.component_ids.specs.declared.params.SigParams.{SigParams}
@@ -22,9 +22,6 @@ is_plain id = is_field_name id.name && (length id.params == 0)
 abbrev pub has_field : List FieldLine → ComponentId → Bool
 has_field lines id = is_there lines id.name
 
--- the identifier is the first without a field line
-pub record IsFirstAbsent (lines : List FieldLine) (ids : List ComponentId) (absent : ComponentId) : Type 0 where
-  pub index : ℕ
-  pub stands : slice_get ids index ≡ Some absent
-  pub before : IsTrue (list_all (has_field lines) (take index ids))
-  pub lacks : IsFalse (has_field lines absent)
+-- the first identifier without a field line
+abbrev pub first_absent : List FieldLine → List ComponentId → Option ComponentId
+first_absent lines ids = find (λ id. not (has_field lines id)) ids

@@ -1,9 +1,9 @@
 //! The components that PARAMS cover.
 
-ghost use Rattle.std.specs.Prelude.{◌≡◌, IsTrue, IfOk, IfErr, IfSome, IfNone};
+ghost use Rattle.std.specs.Prelude.{◌≡◌, Some, None, IsTrue, IfOk, IfErr, MatchOption};
 ghost use Rattle.std.specs.List.{list_all};
 ghost use Rattle.component_ids.specs.SignatureParams.{are_sig_params_in_range};
-ghost use Rattle.hms.specs.Covered.{ReadsParams, IsFirstAbsent, is_plain, has_field};
+ghost use Rattle.hms.specs.Covered.{ReadsParams, is_plain, first_absent};
 ghost use Rattle.hms.specs.tools.Stops.{IfRefused, IsParamsCause};
 
 use crate::stop::Stop;
@@ -26,7 +26,7 @@ pub fn read_signature_params(alloc: Global, params: &[u8]) -> Result<SigParams, 
 fn is_plain(id: &ComponentId) -> bool
     ensures { result ≡ is_plain id.now }
 {
-    is_field_name(id.name.bytes()) && id.params.is_empty()
+    is_field_name(id.name.bytes()) && id.params.len() == 0
 }
 
 /// Whether each identifier is the name of a field, without parameters.
@@ -38,8 +38,8 @@ pub fn are_plain(ids: &[ComponentId]) -> bool
 
 /// The first identifier without a field line.
 pub fn first_absent<'s>(head: &HeadView<'_>, ids: &'s [ComponentId]) -> Option<&'s ComponentId>
-    ensures some { IfSome result (λ absent. IsFirstAbsent head.now.lines ids.now absent.now) }
-    ensures none { IfNone result (IsTrue (list_all (has_field head.now.lines) ids.now)) }
+    ensures { MatchOption result (first_absent head.now.lines ids.now ≡ None)
+        (λ absent. first_absent head.now.lines ids.now ≡ Some absent.now) }
 {
     for id in ids {
         if !has_line(head, id.name.bytes()) {

@@ -29,7 +29,8 @@ fn read_alone<'m>(alloc: Global, input: &'m [u8]) -> Result<Option<HeadView<'m>>
                 Ok(None)
             }
         }
-        Ok(HeadRead::Partial) | Err(HeadError::NotYet) => Ok(None),
+        Ok(HeadRead::Partial) => Ok(None),
+        Err(HeadError::NotYet) => Ok(None),
         Err(HeadError::Memory) => Err(Memory),
     }
 }

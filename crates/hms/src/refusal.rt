@@ -1,10 +1,12 @@
 //! Refusals: why a run is refused, the status that this gives, and the one line that says so.
 
-ghost use Rattle.std.specs.Prelude.{◌≡◌, ◌++◌, codes, OnOk, IfOk};
+ghost use Rattle.std.specs.Prelude.{◌≡◌, ◌++◌, ◌∷◌, OnOk, IfOk};
 ghost use Rattle.std.specs.Fmt.{decimal};
+ghost use Rattle.std.specs.Str.{byte};
+ghost use Rattle.component_ids.specs.Reasons.{word_of};
 ghost use Rattle.hms.specs.Refusal.{input_text, ids_text, command_text, refusal_text, refusal_line, refusal_status};
 
-use component_ids::IdFault;
+use component_ids::{BadReason, IdFault};
 use hms_io::Status;
 use sfv_text::{Memory, Text};
 use std::alloc::Global;
@@ -74,21 +76,44 @@ impl Refusal {
 
 // Each function below adds its part at the end of the line.
 
-fn append_number(alloc: Global, number: usize, line: &mut Text) -> Result<(), Memory>
-    ensures { OnOk result (line.new ≡ line.old ++ decimal number) }
+fn append_words(first: &[u8], second: &[u8], line: &mut Text) -> Result<(), Memory>
+    ensures { OnOk result (line.new ≡ line.old ++ (first.now ++ second.now)) }
+{
+    line.append(first)?;
+    line.append(second)
+}
+
+fn append_number(
+    alloc: Global,
+    word: &[u8],
+    number: usize,
+    line: &mut Text,
+) -> Result<(), Memory>
+    ensures { OnOk result (line.new ≡ line.old ++ (word.now ++ decimal number)) }
 {
     let digits = format!(in alloc; "{number}")?;
-    line.append(digits.as_bytes())
+    append_words(word, digits.as_bytes(), line)
+}
+
+fn append_component(
+    alloc: Global,
+    word: &[u8],
+    index: usize,
+    reason: BadReason,
+    line: &mut Text,
+) -> Result<(), Memory>
+    ensures { OnOk result
+        (line.new ≡ line.old ++ (word.now ++ (decimal index ++ byte " " ∷ word_of reason))) }
+{
+    append_number(alloc, word, index, line)?;
+    append_words(b" ", reason.word().as_bytes(), line)
 }
 
 fn append_input(alloc: Global, refusal: InputRefusal, line: &mut Text) -> Result<(), Memory>
     ensures { OnOk result (line.new ≡ line.old ++ input_text refusal) }
 {
     match refusal {
-        InputRefusal::TooLong => {
-            line.append(b"bytes ")?;
-            append_number(alloc, MAX_INPUT_BYTES, line)
-        }
+        InputRefusal::TooLong => append_number(alloc, b"bytes ", MAX_INPUT_BYTES, line),
         InputRefusal::NotYet => line.append(b"not-yet"),
     }
 }
@@ -100,19 +125,10 @@ fn append_ids(alloc: Global, fault: &IdFault, line: &mut Text) -> Result<(), Mem
         IdFault::Memory => Ok(()),
         IdFault::TooMany => line.append(b"components-many"),
         IdFault::BadComponent(index, reason) => {
-            line.append(b"component-bad ")?;
-            append_number(alloc, *index, line)?;
-            line.append(b" ")?;
-            line.append(reason.word().as_bytes())
+            append_component(alloc, b"component-bad ", *index, *reason, line)
         }
-        IdFault::Repeated(index) => {
-            line.append(b"component-repeated ")?;
-            append_number(alloc, *index, line)
-        }
-        IdFault::BadParameter(key) => {
-            line.append(b"parameter-bad ")?;
-            line.append(key.bytes())
-        }
+        IdFault::Repeated(index) => append_number(alloc, b"component-repeated ", *index, line),
+        IdFault::BadParameter(key) => append_words(b"parameter-bad ", key.bytes(), line),
     }
 }
 
@@ -120,20 +136,11 @@ fn append_command(alloc: Global, refusal: &CommandRefusal, line: &mut Text) -> R
     ensures { OnOk result (line.new ≡ line.old ++ command_text refusal.now) }
 {
     match refusal {
-        CommandRefusal::Syntax(offset) => {
-            line.append(b"params-syntax ")?;
-            append_number(alloc, *offset, line)
-        }
-        CommandRefusal::ItemKind(offset) => {
-            line.append(b"params-kind ")?;
-            append_number(alloc, *offset, line)
-        }
+        CommandRefusal::Syntax(offset) => append_number(alloc, b"params-syntax ", *offset, line),
+        CommandRefusal::ItemKind(offset) => append_number(alloc, b"params-kind ", *offset, line),
         CommandRefusal::Ids(fault) => append_ids(alloc, fault, line),
         CommandRefusal::NotYet => line.append(b"not-yet"),
-        CommandRefusal::Absent(id) => {
-            line.append(b"absent ")?;
-            line.append(id.bytes())
-        }
+        CommandRefusal::Absent(id) => append_words(b"absent ", id.bytes(), line),
     }
 }
 
