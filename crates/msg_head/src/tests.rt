@@ -54,8 +54,13 @@ fn view_has_the_start_and_the_lines_as_written(rt: HostRuntime) -> Result<(), Fa
 
 #[test]
 fn errors_are_printed(rt: HostRuntime) -> Result<(), Fail> {
-    let printed = format!(in rt.alloc(); "{}", HeadError::Memory)?;
-    assert_eq!(rt; printed.as_str(), "out of memory");
+    let memory = format!(in rt.alloc(); "{}", HeadError::Memory)?;
+    assert_eq!(rt; memory.as_str(), "out of memory");
+    let not_yet = format!(in rt.alloc(); "{}", HeadError::NotYet)?;
+    assert_eq!(rt;
+        not_yet.as_str(),
+        "the message begins with no head of a form that is read yet"
+    );
     Ok(())
 }
 
