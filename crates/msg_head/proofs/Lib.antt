@@ -1,7 +1,7 @@
 pub mod Prefixes
 pub mod OneHeads
-pub mod StartLines
-pub mod FieldLines
+pub mod StartParts
+pub mod LineParts
 pub mod Sections
 pub mod Ends
 pub mod Wholes

@@ -9,7 +9,7 @@ use Rattle.msg_head.specs.RawValues.{is_raw}
 use Rattle.msg_head.specs.Lines.{FieldLine, is_line, line_text}
 use Rattle.msg_head.specs.Starts.{RequestLine, IsRequestLine, is_version, request_text, StartLine, request, IsStartLine, start_text}
 use Rattle.msg_head.specs.Heads.{Head, IsHead, SpellsHead, head_text}
-use Rattle.msg_head.specs.Laws.{OneHead, NoHeadInPrefix}
+use Rattle.msg_head.specs.Laws.{OneHead, OneHeadOfText, NoHeadInPrefix}
 use Rattle.msg_head.proofs.Prefixes.{outside, one_prefix}
 
 -- ---- field lines
@@ -132,6 +132,9 @@ pub one_head_law : OneHead
 one_head_law bytes one other n m a b =
     let same = one_head one other (drop n bytes) (drop m bytes) a.spells.is b.spells.is (sym (spelled_first one n bytes a) ∙ spelled_first other m bytes b) in
     (same.0, used_is one n bytes a ∙ ap (λ (h : Head). length (head_text h)) same.0 ∙ sym (used_is other m bytes b))
+
+pub one_head_of_text_law : OneHeadOfText
+one_head_of_text_law bytes one other a b = (one_head one other [] [] a.is b.is (ap (λ (x : List ℕ). x ++ []) (sym a.text ∙ b.text))).0
 
 pub no_head_in_prefix_law : NoHeadInPrefix
 no_head_in_prefix_law one other n a b low e =

@@ -5,7 +5,8 @@ use Rattle.std.specs.Str.{byte}
 use Rattle.byte_classes.specs.Classes.{is_token}
 use Rattle.msg_head.specs.RawValues.{is_raw}
 
--- the name as it is written, and the raw value: all that stands between the colon and the line's end
+-- the name as it is written, and the raw value: all that stands between the colon and the line's
+-- end
 pub record FieldLine : Type 0 where
   pub name : List ℕ
   pub raw : List ℕ

@@ -9,7 +9,7 @@ use std::fmt;
 pub enum HeadError {
     /// No memory was found for the offsets of the field lines.
     Memory,
-    /// The bytes begin with no head of the form that is read yet, and no more bytes make one of them.
+    /// The bytes begin with no head of a form that is read yet, and no head's end may still come.
     NotYet,
 }
 
@@ -30,7 +30,7 @@ impl From<AllocError> for HeadError {
 
     ghost from_gives = { λ _ e. e ≡ Memory };
 
-    fn from(_error: AllocError) -> HeadError {
-        HeadError::Memory
+    fn from(_error: AllocError) -> Self {
+        Self::Memory
     }
 }

@@ -13,6 +13,7 @@
 #![tactic(auto)]
 
 mod error;
+mod field_lines;
 mod head;
 mod laws;
 mod limits;
@@ -23,6 +24,7 @@ mod start;
 mod view;
 
 pub use error::HeadError;
+pub use field_lines::FieldLines;
 pub use head::{HeadRead, read_head};
 pub use laws::head_laws;
 pub use limits::{MAX_HEAD_BYTES, MAX_HEAD_LINES};

@@ -1,7 +1,7 @@
 //! Field lines.
 
 ghost use Rattle.std.specs.Prelude.{◌≡◌, ◌≢◌, ℕ, ◌+◌, ◌≤◌, List, ◌++◌, length, drop, IsTrue, IfSome, IfNone, IfOk, codes};
-ghost use Rattle.msg_head.specs.Views.{field_line_of};
+ghost use Rattle.msg_head.specs.Views.{line_at, lies_in, field_line_of};
 ghost use Rattle.msg_head.specs.tools.Prefixes.{BeginsWithLine, BeginsWithNoLine};
 ghost use Rattle.msg_head.specs.tools.Sections.{SpellLines, SpellNoLines};
 
@@ -29,6 +29,17 @@ pub struct LineView<'m> {
     pub name: &'m [u8],
     /// All that stands between the colon and the line's end, blanks included.
     pub raw: &'m [u8],
+}
+
+/// The field line that stands at these offsets.
+pub(crate) fn line_at<'m>(bytes: &'m [u8], span: LineSpan) -> LineView<'m>
+    requires { IsTrue (lies_in (length bytes.now) span) }
+    ensures { field_line_of result ≡ line_at bytes.now span }
+{
+    LineView {
+        name: &bytes[span.name..span.colon],
+        raw: &bytes[span.colon + 1..span.end],
+    }
 }
 
 /// The field lines of a head, and the offset at which the head ends.

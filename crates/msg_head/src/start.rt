@@ -15,7 +15,7 @@ pub enum Start<'m> {
     Request {
         /// The method, a token (RFC 9110 section 9.1).
         method: &'m [u8],
-        /// The request target, visible ASCII (RFC 9112 section 3.2). Its inner grammar isn't judged.
+        /// The target, visible ASCII (RFC 9112 section 3.2). Its inner grammar isn't judged.
         target: &'m [u8],
         /// The version, `HTTP/1.1` or `HTTP/1.0` (RFC 9112 section 2.3).
         version: &'m [u8],

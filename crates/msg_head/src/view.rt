@@ -1,10 +1,11 @@
 //! The view of a head.
 
-ghost use Rattle.std.specs.Prelude.{◌≡◌, ◌<◌, List, length, map, slice_get, Some, IsTrue};
+ghost use Rattle.std.specs.Prelude.{◌≡◌, ◌<◌, List, length, slice_get, Some, IsTrue};
 ghost use Rattle.std.specs.List.{list_all};
-ghost use Rattle.msg_head.specs.Views.{line_at, lies_in, field_line_of, start_line_of};
+ghost use Rattle.msg_head.specs.Views.{lies_in, field_line_of, start_line_of, head_at};
 
-use crate::line::{LineSpan, LineView};
+use crate::field_lines::FieldLines;
+use crate::line::{LineSpan, LineView, line_at};
 use crate::start::Start;
 use std::marker::Model;
 
@@ -17,14 +18,14 @@ pub struct HeadView<'m> {
 }
 
 impl<'m> Model for HeadView<'m> {
-    ghost use Rattle.std.specs.Prelude.{length, map, IsTrue};
+    ghost use Rattle.std.specs.Prelude.{length, IsTrue};
     ghost use Rattle.std.specs.List.{list_all};
     ghost use Rattle.msg_head.specs.Heads.{Head};
-    ghost use Rattle.msg_head.specs.Views.{line_at, lies_in, start_line_of};
+    ghost use Rattle.msg_head.specs.Views.{head_at, lies_in};
 
     ghost Value = { Head };
 
-    ghost view = { λ h. record { start = start_line_of h.start; lines = map (line_at h.bytes.now) h.lines.items } };
+    ghost view = { λ h. head_at h.bytes.now h.start h.lines.items };
 
     ghost invariant = { λ h. IsTrue (list_all (lies_in (length h.bytes.now)) h.lines.items) };
 }
@@ -33,8 +34,7 @@ impl<'m> HeadView<'m> {
     /// The head whose field lines stand at these offsets.
     pub(crate) fn new(bytes: &'m [u8], start: Start<'m>, lines: Vec<LineSpan>) -> HeadView<'m>
         requires { IsTrue (list_all (lies_in (length bytes.now)) lines.items) }
-        ensures start { result.start ≡ start_line_of start.entry }
-        ensures lines { result.lines ≡ map (line_at bytes.now) lines.items }
+        ensures { result ≡ head_at bytes.now start.entry lines.items }
     {
         HeadView {
             bytes,
@@ -62,10 +62,13 @@ impl<'m> HeadView<'m> {
         requires { index < length self.now.lines }
         ensures { slice_get self.now.lines index ≡ Some (field_line_of result) }
     {
-        let span = self.lines[index];
-        LineView {
-            name: &self.bytes[span.name..span.colon],
-            raw: &self.bytes[span.colon + 1..span.end],
-        }
+        line_at(self.bytes, self.lines[index])
+    }
+
+    /// The field lines, in order.
+    pub fn lines(&self) -> FieldLines<'_, 'm>
+        ensures { result ≡ self.now.lines }
+    {
+        FieldLines::new(self.bytes, &self.lines)
     }
 }

@@ -16,4 +16,4 @@ returns-clause-some c =
     let bytes = c.args.bytes.now in
     let lines = rw c.in-Some-2.is at c.in_ok-lines.ensures.some in
     let whole = whole_head bytes _ _ c.in-Some-2.lines.end c.in-Some-2.lines.spans.items c.requires c.in-Some.ensures.some lines in
-    subst (λ (head : Head). SpellsHead head c.in-Some-2.lines.end bytes) (λ i. record { start = sym c.new.ensures.start i; lines = sym c.new.ensures.lines i }) whole
+    subst (λ (head : Head). SpellsHead head c.in-Some-2.lines.end bytes) (sym c.new.ensures) whole

@@ -1,7 +1,7 @@
 use Rattle.std.proofs.Common.{◌≡◌, length, sym}
 use Rattle.std.proofs.lemmas.Bool.{eqb-true}
 use Rattle.msg_head.proofs.Prefixes.{given_none}
-use Rattle.msg_head.proofs.FieldLines.{empty_name, no_raw}
+use Rattle.msg_head.proofs.LineParts.{empty_name, no_raw}
 use Rattle.msg_head.proofs.line.read_line.Goals as goal
 
 pub returns-then-is_empty-clause-none : goal.returns-then-is_empty-clause-none

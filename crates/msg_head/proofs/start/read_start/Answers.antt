@@ -1,7 +1,7 @@
 use Rattle.std.proofs.Common.{◌≡◌, length, sym}
 use Rattle.std.proofs.lemmas.Bool.{eqb-true}
 use Rattle.msg_head.proofs.Prefixes.{given_none}
-use Rattle.msg_head.proofs.StartLines.{empty_method, no_target, empty_target, no_version, other_version}
+use Rattle.msg_head.proofs.StartParts.{empty_method, no_target, empty_target, no_version, other_version}
 use Rattle.msg_head.proofs.start.read_start.Goals as goal
 
 pub returns-then-is_empty-clause-none : goal.returns-then-is_empty-clause-none

@@ -7,7 +7,7 @@ use Rattle.msg_head.specs.Lines.{FieldLine}
 use Rattle.msg_head.specs.tools.Prefixes.{StandsBefore, NoneStandsBefore, BeginsWithLine, BeginsWithNoLine}
 use Rattle.msg_head.proofs.Prefixes.{one_before}
 use Rattle.msg_head.proofs.OneHeads.{opened_line}
-use Rattle.msg_head.proofs.StartLines.{empty_not}
+use Rattle.msg_head.proofs.StartParts.{empty_not}
 
 -- ---- what stands in bytes that begin with a field line
 
