@@ -95,9 +95,6 @@ impl<'a, R: Files> Shelf for DirShelf<'a, R> {
         ensures cause { HasCause self.old self.new result }
         ensures counts_one { OnErr result (self.new ≡ one_more self.old) }
     {
-        match give_file(fs::open(self.rt, name), into) {
-            Ok(found) => Ok(found),
-            Err(_) => Err(self.faults.count_fault()),
-        }
+        self.faults.check(give_file(fs::open(self.rt, name), into))
     }
 }

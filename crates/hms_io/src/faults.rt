@@ -1,11 +1,11 @@
 //! Failed calls, and their count.
 
-ghost use Rattle.std.specs.Prelude.{◌≡◌, ◌≤◌};
+ghost use Rattle.std.specs.Prelude.{◌≡◌, ◌≤◌, Ok, IfOk, OnOk, OnErr, IsErr};
 ghost use Rattle.hms_io.specs.Cause.{one_more};
 
 use std::error::Error;
-use std::fmt;
 use std::marker::Model;
+use std::{fmt, io};
 
 /// A read, a write or a fetch failed. The object that was asked has counted the fault.
 #[derive(Clone, Copy, Debug, PartialEq, Eq)]
@@ -48,5 +48,19 @@ impl Faults {
     {
         self.count = self.count.saturating_add(1);
         Failed
+    }
+
+    // Passes an answer of std on, and counts a fault where it is an error.
+    pub fn check<T>(&mut self, answer: io::Result<T>) -> Result<T, Failed>
+        ensures ok { IfOk answer (λ value. result ≡ Ok value) }
+        ensures err { OnErr answer (IsErr result) }
+        ensures kept { OnOk answer (self.new ≡ self.old) }
+        ensures counts_one { OnErr answer (self.new ≡ one_more self.old) }
+        ensures later { self.old ≤ self.new }
+    {
+        match answer {
+            Ok(value) => Ok(value),
+            Err(_) => Err(self.count_fault()),
+        }
     }
 }

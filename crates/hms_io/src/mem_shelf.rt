@@ -14,8 +14,8 @@ use std::alloc::Global;
 use std::collections::VecDeque;
 use std::marker::Model;
 
-/// A shelf that keeps files in memory, and fails at calls of given numbers. Calls are counted from 0,
-/// and the count stops at 2^64 - 1.
+/// A shelf that keeps files in memory, and fails at calls of given numbers. Calls are counted from
+/// 0, and the count stops at 2^64 - 1.
 #[derive(Drop)]
 pub struct MemShelf {
     // Names and files, the newest first, so the first of a name is the one that stands.
@@ -88,7 +88,8 @@ impl Shelf for MemShelf {
     fn fetch(&mut self, name: &str, into: &mut [u8]) -> Result<Option<usize>, Failed>
         ensures bound { IfOk result (λ found. IfSome found (λ n. n ≤ length into.new)) }
         ensures missing { IfOk result (λ found. IfNone found (into.new ≡ into.old)) }
-        ensures files { Fetches (Some self.old.files) (Some self.new.files) name.now result into.new }
+        ensures files { Fetches (Some self.old.files) (Some self.new.files) name.now result
+            into.new }
         ensures cause { HasCause self.old.calls.faults self.new.calls.faults result }
 
         // It fails at the given calls alone, and leaves what it doesn't fill.

@@ -30,14 +30,20 @@ impl Model for MemSink {
 
     ghost Value = { MemorySink };
 
-    ghost view = { λ s. record { taken = s.bytes.items; room = s.room; piece = s.piece; calls = s.calls } };
+    ghost view = { λ s. record {
+      taken = s.bytes.items;
+      room = s.room;
+      piece = s.piece;
+      calls = s.calls;
+    } };
 
-    ghost invariant = { λ s. (vec_len s.bytes ≤ s.room) × (s.room ≤ vec_capacity s.bytes) × (1 ≤ s.piece) };
+    ghost invariant = { λ s. (vec_len s.bytes ≤ s.room) × (s.room ≤ vec_capacity s.bytes)
+        × (1 ≤ s.piece) };
 }
 
 impl MemSink {
-    /// An empty sink for at most `room` bytes in all, whose memory is found here. A call takes at most
-    /// `piece` bytes, and `fails` has the numbers of the calls that fail.
+    /// An empty sink for at most `room` bytes in all, whose memory is found here. A call takes at
+    /// most `piece` bytes, and `fails` has the numbers of the calls that fail.
     pub fn new(alloc: Global, room: usize, piece: usize, fails: &[u64]) -> Result<MemSink, Memory>
         requires { 1 ≤ piece }
         ensures { IfOk result (λ s. s ≡ record {

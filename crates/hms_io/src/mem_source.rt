@@ -29,14 +29,18 @@ impl Model for MemSource {
 
     ghost Value = { MemorySource };
 
-    ghost view = { λ s. record { left = drop s.at s.bytes.items; piece = s.piece; calls = s.calls } };
+    ghost view = { λ s. record {
+      left = drop s.at s.bytes.items;
+      piece = s.piece;
+      calls = s.calls;
+    } };
 
     ghost invariant = { λ s. (s.at ≤ vec_len s.bytes) × (1 ≤ s.piece) };
 }
 
 impl MemSource {
-    /// A source of these bytes. A call gives at most `piece` of them, and `fails` has the numbers of
-    /// the calls that fail.
+    /// A source of these bytes. A call gives at most `piece` of them, and `fails` has the numbers
+    /// of the calls that fail.
     pub fn new(
         alloc: Global,
         bytes: &[u8],

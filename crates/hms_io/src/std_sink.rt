@@ -25,7 +25,8 @@ pub struct StdSink<W: Write> {
 }
 
 impl<W: Write> Model for StdSink<W> {
-    ghost use Rattle.hms_io.specs.OverStd.{WriterSink, without_last};
+    ghost use Rattle.hms_io.specs.OverStd.{WriterSink};
+    ghost use Rattle.hms_io.specs.tools.Flushed.{without_last};
 
     ghost Value = { WriterSink };
 
@@ -69,19 +70,13 @@ impl<W: Write> Sink for StdSink<W> {
         if self.unflushed > 0 {
             return Err(self.faults.count_fault());
         }
-        let count = match self.writer.write(piece) {
-            Ok(count) => count,
-            Err(_) => return Err(self.faults.count_fault()),
-        };
+        let count = self.faults.check(self.writer.write(piece))?;
         if count == 0 && !piece.is_empty() {
             return Err(self.faults.count_fault());
         }
-        match self.writer.flush() {
-            Ok(()) => Ok(count),
-            Err(_) => {
-                self.unflushed = count;
-                Err(self.faults.count_fault())
-            }
-        }
+        self.unflushed = count;
+        self.faults.check(self.writer.flush())?;
+        self.unflushed = 0;
+        Ok(count)
     }
 }

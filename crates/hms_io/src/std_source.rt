@@ -49,9 +49,6 @@ impl<R: Read> Source for StdSource<R> {
         ensures cause { HasCause self.old.faults self.new.faults result }
         ensures counts_one { OnErr result (self.new.faults ≡ one_more self.old.faults) }
     {
-        match self.reader.read(into) {
-            Ok(count) => Ok(count),
-            Err(_) => Err(self.faults.count_fault()),
-        }
+        self.faults.check(self.reader.read(into))
     }
 }
