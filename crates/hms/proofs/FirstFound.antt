@@ -24,3 +24,8 @@ found_passes p q (y ∷ ys) x found all =
   where
     first_is : {X : Type 0} (y x : X) (rest : Option X) → Some y ≡ Some x → y ≡ x
     first_is y x rest e = cc
+
+-- none fails where all pass
+pub none_found : {X : Type 0} (p : X → Bool) (xs : List X) → list_all p xs ≡ true → find (λ y. not (p y)) xs ≡ None
+none_found p [] all = refl
+none_found p (y ∷ ys) all = let h = and_parts (p y) (list_all p ys) all in rw h.0 (none_found p ys h.1)

@@ -5,3 +5,4 @@ pub mod Joins
 pub mod LowerLaws
 pub mod NameTests
 pub mod Plain
+pub mod Reports

@@ -79,10 +79,10 @@ Holds params input (NotOk text) = ⊥
 
 abbrev pub command_order : CommandRefusal → ℕ
 command_order (Syntax offset) = 3
-command_order (ItemKind offset) = 4
-command_order (Ids fault) = 5
-command_order NotBuilt = 6
-command_order (Absent id) = 7
+command_order (ItemKind offset) = 3
+command_order (Ids fault) = 4
+command_order NotBuilt = 5
+command_order (Absent id) = 6
 
 -- the order in which outcomes are judged
 abbrev pub order_of : Outcome → ℕ
@@ -90,8 +90,8 @@ order_of (Refused Arguments) = 0
 order_of (Refused (Input TooLong)) = 1
 order_of (Refused (Input NotYet)) = 2
 order_of (Refused (Command refusal)) = command_order refusal
-order_of (Done text) = 8
-order_of (NotOk text) = 9
+order_of (Done text) = 7
+order_of (NotOk text) = 8
 
 -- the outcome is the first that holds
 abbrev pub ReportsBase : List ℕ → List ℕ → Outcome → Type 0

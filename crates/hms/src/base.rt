@@ -1,16 +1,15 @@
 //! The command `base`: the signature base of a message (RFC 9421 section 2.5).
 
-ghost use Rattle.std.specs.Prelude.{◌≡◌, ◌≤◌, ◌++◌, ℕ, List, length, map, IsTrue, IfOk, OnErr};
+ghost use Rattle.std.specs.Prelude.{◌≡◌, ◌≤◌, ◌++◌, ℕ, List, length, map, IsTrue, IfOk};
 ghost use Rattle.std.specs.List.{flat_map, list_all};
 ghost use Rattle.component_ids.specs.SignatureParams.{are_sig_params_in_range};
-ghost use Rattle.hms_io.specs.Cause.{Rose};
 ghost use Rattle.hms.specs.Base.{ReportsBase};
 ghost use Rattle.hms.specs.Covered.{is_plain};
 ghost use Rattle.hms.specs.Report.{HasInput};
 ghost use Rattle.hms.specs.SignatureBase.{component_line, signature_base, base_of};
 ghost use Rattle.hms.specs.Values.{combined_value};
 ghost use Rattle.hms.specs.tools.Plain.{quoted_name, plain_component};
-ghost use Rattle.hms.specs.tools.Stops.{IfOutcome, HasStopCause};
+ghost use Rattle.hms.specs.tools.Stops.{IfOutcome, ReadsNothing, HasStopCause};
 
 use crate::covered::{are_plain, first_absent, read_signature_params};
 use crate::feed::{ByteBuffer, ByteCount};
@@ -97,7 +96,8 @@ fn base_of(alloc: Global, head: &HeadView<'_>, sig: &SigParams) -> Result<Text, 
 /// The signature base of the input over the components that PARAMS cover.
 fn base_of_input(alloc: Global, params: &[u8], input: &[u8]) -> Result<Text, Stop>
     requires { length input.now ≤ MAX_INPUT_BYTES }
-    ensures { IfOutcome result (ReportsBase params.now input.now) }
+    ensures report { IfOutcome result (ReportsBase params.now input.now) }
+    ensures reads_nothing { ReadsNothing result }
 {
     let head = read_message(alloc, input)?;
     let sig = read_signature_params(alloc, params)?;

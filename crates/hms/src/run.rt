@@ -1,8 +1,10 @@
 //! The top call: all that the program does.
 
-ghost use Rattle.std.specs.Prelude.{◌≡◌, ◌⊎◌, map, string_bytes};
+ghost use Rattle.std.specs.Prelude.{◌≡◌, ◌⊎◌, Err, map, string_bytes};
 ghost use Rattle.hms.specs.Command.{NoCommand};
 ghost use Rattle.hms.specs.Report.{Reports, HasInput, Ends, CountsFaults};
+ghost use Rattle.hms.specs.declared.refusal.Refusal.TheVariants.{Arguments};
+ghost use Rattle.hms.specs.declared.stop.Stop.TheVariants.{Refused};
 ghost use Rattle.hms.specs.tools.Stops.{IfOutcome, HasStopCause};
 
 use crate::base::write_base;
@@ -23,6 +25,7 @@ fn run_command<S: Source>(
     ensures report { IfOutcome result (HasInput (Reports (map string_bytes arguments.now))
         (S.left source.old) (S.left source.new)) }
     ensures cause { HasStopCause (S.faults source.old) (S.faults source.new) result }
+    ensures refused { NoCommand (map string_bytes arguments.now) → result ≡ Err (Refused Arguments) }
     ensures unread { NoCommand (map string_bytes arguments.now) → source.new ≡ source.old }
 {
     match read_words(arguments) {

@@ -1,5 +1,5 @@
 -- What ends a run before it is done. No public clause cites this module.
-use Rattle.std.specs.Prelude.{◌≡◌, ℕ, List, Result, Ok, Err}
+use Rattle.std.specs.Prelude.{◌≡◌, ◌≤◌, ℕ, List, Result, Ok, Err}
 use Rattle.byte_grammar.specs.FaultOffset.{IsFaultOffset}
 use Rattle.sfv_text.specs.declared.text.Text.{Text}
 use Rattle.sfv_read.specs.Reads.{ReadsInner}
@@ -38,10 +38,10 @@ stop_of_fill NoFillMemory = Memory
 stop_of_fill Failed = ReadFault
 stop_of_fill Longer = Refused (Input TooLong)
 
--- where a run is stopped by a refusal, this holds of it
+-- where nothing is read, a run is stopped by a refusal of which this holds, or out of memory
 abbrev pub IfRefused : Stop → (Refusal → Type 0) → Type 0
 IfRefused Memory P = Unit {0}
-IfRefused ReadFault P = Unit {0}
+IfRefused ReadFault P = ⊥
 IfRefused (Refused refusal) P = P refusal
 
 -- where a run comes to an outcome, this holds of it
@@ -63,9 +63,21 @@ IsParamsCause params (Command (Absent id)) = ⊥
 IsParamsCause params (Input refusal) = ⊥
 IsParamsCause params Arguments = ⊥
 
+-- nothing was read
+abbrev pub ReadsNothing : Result (List ℕ) Stop → Type 0
+ReadsNothing (Ok text) = Unit {0}
+ReadsNothing (Err Memory) = Unit {0}
+ReadsNothing (Err ReadFault) = ⊥
+ReadsNothing (Err (Refused refusal)) = Unit {0}
+
 -- only a failed read raises the count of faults
-abbrev pub HasStopCause : ℕ → ℕ → Result (List ℕ) Stop → Type 0
-HasStopCause before now (Ok text) = now ≡ before
-HasStopCause before now (Err Memory) = now ≡ before
-HasStopCause before now (Err ReadFault) = Rose before now
-HasStopCause before now (Err (Refused refusal)) = now ≡ before
+abbrev pub CountsRead : ℕ → ℕ → Result (List ℕ) Stop → Type 0
+CountsRead before now (Ok text) = now ≡ before
+CountsRead before now (Err Memory) = now ≡ before
+CountsRead before now (Err ReadFault) = Rose before now
+CountsRead before now (Err (Refused refusal)) = now ≡ before
+
+-- and it never falls
+pub record HasStopCause (before now : ℕ) (result : Result (List ℕ) Stop) : Type 0 where
+  pub later : before ≤ now
+  pub counts : CountsRead before now result

@@ -1,0 +1,5 @@
+use Rattle.hms.proofs.Reports.{one_report_law}
+use Rattle.hms.proofs.laws.one_report.Goals as goal
+
+pub returns : goal.returns
+returns c = one_report_law
