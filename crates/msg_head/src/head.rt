@@ -42,10 +42,11 @@ fn read_whole<'m>(
     let Some((start, rest)) = read_start(bytes) else {
         return Ok(None);
     };
-    let Some(lines) = read_lines(alloc, bytes, bytes.len() - rest.len())? else {
+    let Some((spans, after)) = read_lines(alloc, bytes, rest)? else {
         return Ok(None);
     };
-    Ok(Some((HeadView::new(bytes, start, lines.spans), lines.end)))
+    let used = bytes.len() - after.len();
+    Ok(Some((HeadView::new(bytes, start, spans), used)))
 }
 
 /// Reads the head that the bytes begin with (RFC 9112 section 2.1).

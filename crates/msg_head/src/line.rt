@@ -1,13 +1,13 @@
 //! Field lines.
 
-ghost use Rattle.std.specs.Prelude.{◌≡◌, ◌≢◌, ℕ, ◌+◌, ◌≤◌, List, ◌++◌, length, drop, IsTrue, IfSome, IfNone, IfOk, codes};
+ghost use Rattle.std.specs.Prelude.{◌≡◌, ◌+◌, ◌<◌, ◌^◌, length, IsTrue, IfSome, IfNone, IfOk};
 ghost use Rattle.msg_head.specs.Views.{line_at, lies_in, field_line_of};
 ghost use Rattle.msg_head.specs.tools.Prefixes.{BeginsWithLine, BeginsWithNoLine};
-ghost use Rattle.msg_head.specs.tools.Sections.{SpellLines, SpellNoLines};
+ghost use Rattle.msg_head.specs.tools.Sections.{IsRestOf, BeginsWithLines, BeginsWithNoLines, span_at};
 
 use crate::limits::MAX_HEAD_LINES;
 use crate::raw::Raw;
-use crate::slices::{prefix_before, prefix_before_crlf, rest_of};
+use crate::slices::{prefix_before, prefix_before_crlf, rest_after};
 use byte_classes::Class;
 use std::alloc::{AllocError, Global};
 
@@ -42,13 +42,6 @@ pub(crate) fn line_at<'m>(bytes: &'m [u8], span: LineSpan) -> LineView<'m>
     }
 }
 
-/// The field lines of a head, and the offset at which the head ends.
-#[derive(Debug, Drop)]
-pub(crate) struct Lines {
-    pub(crate) spans: Vec<LineSpan>,
-    pub(crate) end: usize,
-}
-
 // The field line that the bytes begin with, and what comes after it.
 fn read_line(bytes: &[u8]) -> Option<(LineView<'_>, &[u8])>
     ensures some { IfSome result
@@ -63,45 +56,44 @@ fn read_line(bytes: &[u8]) -> Option<(LineView<'_>, &[u8])>
     Some((LineView { name, raw }, rest))
 }
 
-// Whether the bytes begin with an empty line.
-fn is_end(bytes: &[u8]) -> bool
-    ensures some { IsTrue result → bytes.now ≡ codes "\r\n" ++ drop 2 bytes.now }
-    ensures only { (more : List ℕ) → bytes.now ≡ codes "\r\n" ++ more → IsTrue result }
+// Where the field line stands whose name begins at that offset.
+fn span_at(offset: usize, line: LineView<'_>) -> LineSpan
+    requires { offset + length line.name.now + 1 + length line.raw.now < 2 ^ 64 }
+    ensures { result ≡ span_at offset (field_line_of line.entry) }
 {
-    bytes.starts_with(b"\r\n")
+    let colon = offset + line.name.len();
+    LineSpan {
+        name: offset,
+        colon,
+        end: colon + 1 + line.raw.len(),
+    }
 }
 
-/// The field lines from that offset on, up to the empty line.
-pub(crate) fn read_lines(
+/// Where the field lines stand with which the rest of the bytes begins, up to an empty line, and
+/// what comes after it.
+pub(crate) fn read_lines<'m>(
     alloc: Global,
     bytes: &[u8],
-    from: usize,
-) -> Result<Option<Lines>, AllocError>
-    requires { from ≤ length bytes.now }
-    ensures some { IfOk result
-        (λ found. IfSome found (λ lines. SpellLines bytes.now from lines.spans.items lines.end)) }
-    ensures none { IfOk result (λ found. IfNone found (SpellNoLines bytes.now from)) }
+    rest: &'m [u8],
+) -> Result<Option<(Vec<LineSpan>, &'m [u8])>, AllocError>
+    requires { IsRestOf bytes.now rest.now }
+    ensures some { IfOk result (λ found. IfSome found
+        (λ parts. BeginsWithLines bytes.now parts.0.items parts.1.now rest.now)) }
+    ensures none { IfOk result (λ found. IfNone found (BeginsWithNoLines rest.now)) }
 {
     let mut spans = Vec::new(alloc);
-    let mut at = from;
+    let mut left = rest;
     'lines: loop {
-        let rest = rest_of(bytes, at);
-        if is_end(rest) {
-            return Ok(Some(Lines { spans, end: at + 2 }));
+        if let Some(after) = rest_after(b"\r\n", left) {
+            return Ok(Some((spans, after)));
         }
         if spans.len() == MAX_HEAD_LINES {
             return Ok(None);
         }
-        let Some((line, _)) = read_line(rest) else {
+        let Some((line, after)) = read_line(left) else {
             return Ok(None);
         };
-        let colon = at + line.name.len();
-        let end = colon + 1 + line.raw.len();
-        spans.push(LineSpan {
-            name: at,
-            colon,
-            end,
-        })?;
-        at = end + 2;
+        spans.push(span_at(bytes.len() - left.len(), line))?;
+        left = after;
     }
 }

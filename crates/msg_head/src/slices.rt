@@ -1,20 +1,12 @@
 //! Parts of slices of bytes.
 
-ghost use Rattle.std.specs.Prelude.{◌≡◌, ◌≢◌, ◌≤◌, ◌++◌, ℕ, List, [], ◌∷◌, length, take, drop, false, IfSome, IfNone, codes};
+ghost use Rattle.std.specs.Prelude.{◌≡◌, ◌≢◌, ◌++◌, ℕ, List, [], ◌∷◌, length, take, false, IfSome, IfNone, codes};
 ghost use Rattle.std.specs.List.{list_all};
 ghost use Rattle.std.specs.Str.{byte};
 ghost use Rattle.msg_head.specs.tools.Prefixes.{StandsBefore, NoneStandsBefore};
 
 use byte_classes::ByteClass;
 use memchr::memchr;
-
-/// The bytes from that offset on.
-pub(crate) fn rest_of(bytes: &[u8], offset: usize) -> &[u8]
-    requires { offset ≤ length bytes.now }
-    ensures { result.now ≡ drop offset bytes.now }
-{
-    &bytes[offset..]
-}
 
 /// The first bytes, so many, or all where there are fewer.
 pub(crate) fn prefix_of(bytes: &[u8], count: usize) -> &[u8]
