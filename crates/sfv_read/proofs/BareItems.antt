@@ -4,8 +4,9 @@ use Rattle.std.specs.List.{list_all}
 use Rattle.std.proofs.lemmas.Bool.{eqb-true}
 use Rattle.std.proofs.lemmas.Bool.Decides.{nat_tests}
 use Rattle.std.proofs.lemmas.List.{append-nil}
-use Rattle.byte_grammar.specs.Language.{Then, Mapped, Among, IsByte, IsRun, IsWord}
-use Rattle.byte_grammar.specs.Walk.{Next}
+use Rattle.byte_grammar.specs.Language.{IsRun, IsWord}
+use Rattle.byte_grammar.specs.tools.Languages.{Then, Mapped, Among, IsByte}
+use Rattle.byte_grammar.specs.tools.Walks.{Next}
 use Rattle.sfv_read.specs.BareItem.{IsString, IsBoolean, IsBareItem, IsByteSequence}
 use Rattle.sfv_read.specs.tools.BareWalk.{bare_kind, truth_read, bare_by, bare_read}
 use Rattle.sfv_text.specs.Range.{is_token_first, is_token_rest}

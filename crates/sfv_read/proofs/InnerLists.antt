@@ -3,8 +3,10 @@ use Rattle.std.proofs.Common.{◌≡◌, ℕ, ◌<◌, Bool, true, not, List, []
 use Rattle.std.specs.List.{list_all}
 use Rattle.std.proofs.lemmas.Bool.{eqb-true}
 use Rattle.std.proofs.lemmas.List.Folds.{list_all-append}
-use Rattle.byte_grammar.specs.Language.{Then, Turns, Mapped, Each, IsByte, IsAll, Padded}
-use Rattle.byte_grammar.specs.Walk.{◌>>=◌, Next, turned, is_of, turns_read, padded_read}
+use Rattle.byte_grammar.specs.Language.{Each, Padded}
+use Rattle.byte_grammar.specs.tools.Languages.{Then, Turns, Mapped, IsByte, IsAll}
+use Rattle.byte_grammar.specs.Walk.{◌>>=◌}
+use Rattle.byte_grammar.specs.tools.Walks.{Next, with_turns, is_of, turns_read, padded_read}
 use Rattle.byte_classes.specs.Classes.{is_space}
 use Rattle.sfv_read.specs.Class.{is_open, is_close}
 use Rattle.sfv_read.specs.Inner.{IsSpaced, AreItems, IsInner}
@@ -314,7 +316,7 @@ meets_inner =
           };
         }
 
-pub inner_step : (bytes : List ℕ) → turns_read inner_turn bytes ≡ (inner_turn bytes >>= λ a. turned a.0 a.1 (turns_read inner_turn a.1))
+pub inner_step : (bytes : List ℕ) → turns_read inner_turn bytes ≡ (inner_turn bytes >>= λ a. with_turns a.0 a.1 (turns_read inner_turn a.1))
 inner_step bytes = turns_step meets_inner_turn turn_grows bytes
 
 pub inner_shorter : (bytes : List ℕ) (v : Item) (rest : List ℕ) → inner_turn bytes ≡ Ok (Some v, rest) → length rest < length bytes

@@ -2,8 +2,10 @@
 use Rattle.std.proofs.Common.{◌≡◌, ℕ, ◌<◌, Bool, true, not, List, [], ◌∷◌, ◌++◌, length, Option, Some, None, Ok, refl, sym, ap, subst, ◌∙◌, append_assoc, inl, inr}
 use Rattle.std.specs.List.{list_all}
 use Rattle.std.proofs.lemmas.Bool.{eqb-true}
-use Rattle.byte_grammar.specs.Language.{Then, Mapped, Optional, IsByte, IsAll, IsWord, Padded}
-use Rattle.byte_grammar.specs.Walk.{◌>>=◌, Next, turned, is_of, turns_read, padded_read}
+use Rattle.byte_grammar.specs.Language.{IsWord, Padded}
+use Rattle.byte_grammar.specs.tools.Languages.{Then, Mapped, Optional, IsByte, IsAll}
+use Rattle.byte_grammar.specs.Walk.{◌>>=◌}
+use Rattle.byte_grammar.specs.tools.Walks.{Next, with_turns, is_of, turns_read, padded_read}
 use Rattle.sfv_read.specs.BareItem.{IsBareItem}
 use Rattle.sfv_read.specs.tools.BareWalk.{bare_kind}
 use Rattle.sfv_text.specs.Range.{is_key_first, is_key_rest}
@@ -183,7 +185,7 @@ meets_turn = meets_optional is_semicolon meets_param param_starts
 param_grows : (x : List ℕ) (p : Pair BareItem) → Optional IsParameter x (Some p) → 0 < length x
 param_grows x p h = starts_length is_semicolon x (param_starts x p h)
 
-pub params_step : (bytes : List ℕ) → turns_read param_turn bytes ≡ (param_turn bytes >>= λ a. turned a.0 a.1 (turns_read param_turn a.1))
+pub params_step : (bytes : List ℕ) → turns_read param_turn bytes ≡ (param_turn bytes >>= λ a. with_turns a.0 a.1 (turns_read param_turn a.1))
 params_step bytes = turns_step meets_turn param_grows bytes
 
 pub params_shorter : (bytes : List ℕ) (p : Pair BareItem) (rest : List ℕ) → param_turn bytes ≡ Ok (Some p, rest) → length rest < length bytes

@@ -2,8 +2,9 @@
 use Rattle.std.proofs.Common.{◌≡◌, ℕ, ◌||◌, Bool, true, false, not, eqb, List, [], ◌∷◌, ◌++◌, length, Option, Some, None, Result, Ok, Err, refl, sym, ap, subst, ◌∙◌, ◌<◌, inl, inr, ◌⊎◌}
 use Rattle.std.proofs.lemmas.Bool.{eqb-true}
 use Rattle.std.proofs.lemmas.List.{append-nil}
-use Rattle.byte_grammar.specs.Language.{Then, Mapped, Optional}
-use Rattle.byte_grammar.specs.Walk.{◌>>=◌, Next, is_of, optional_read, all_read, turned, turns_read, with_state}
+use Rattle.byte_grammar.specs.tools.Languages.{Then, Mapped, Optional}
+use Rattle.byte_grammar.specs.Walk.{◌>>=◌, all_read}
+use Rattle.byte_grammar.specs.tools.Walks.{Next, is_of, optional_read, with_turns, turns_read, with_state}
 use Rattle.sfv_read.specs.tools.BareWalk.{bare_kind}
 use Rattle.sfv_text.specs.Range.{is_key_first, is_key_rest}
 use Rattle.byte_classes.specs.Classes.{is_blank, is_space}
@@ -239,7 +240,7 @@ meets_dict =
     (λ x v h. (h.0, h.1, sym h.2)) (λ x v h. (h.0, h.1, sym h.2)) (λ v c h. h))
 
 -- how the loops over members go on
-pub members_step : (bytes : List ℕ) → turns_read (separated_turn member_read) bytes ≡ (separated_turn member_read bytes >>= λ a. turned a.0 a.1 (turns_read (separated_turn member_read) a.1))
+pub members_step : (bytes : List ℕ) → turns_read (separated_turn member_read) bytes ≡ (separated_turn member_read bytes >>= λ a. with_turns a.0 a.1 (turns_read (separated_turn member_read) a.1))
 unfolding After
 members_step bytes = separated_step meets_member member_starts (λ v. refl) (λ v c h. after_ows c h) (63 ∷ 49 ∷ []) (One (true_item [])) one_truth bytes
 
@@ -247,7 +248,7 @@ pub members_shorter : (bytes : List ℕ) (v : Member) (rest : List ℕ) → sepa
 unfolding After
 members_shorter bytes v rest e = separated_shorter meets_member member_starts (λ v. refl) (λ v c h. after_ows c h) (63 ∷ 49 ∷ []) (One (true_item [])) one_truth bytes v rest e
 
-pub pairs_step : (bytes : List ℕ) → turns_read (separated_turn pair_read) bytes ≡ (separated_turn pair_read bytes >>= λ a. turned a.0 a.1 (turns_read (separated_turn pair_read) a.1))
+pub pairs_step : (bytes : List ℕ) → turns_read (separated_turn pair_read) bytes ≡ (separated_turn pair_read bytes >>= λ a. with_turns a.0 a.1 (turns_read (separated_turn pair_read) a.1))
 unfolding After
 pairs_step bytes = separated_step meets_pair pair_starts (λ v. refl) (λ v c h. after_ows c h) (97 ∷ []) (pair_of (97 ∷ []) (One (true_item []))) some_pair bytes
 

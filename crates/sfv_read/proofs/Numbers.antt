@@ -2,8 +2,10 @@
 use Rattle.std.proofs.Common.{◌≡◌, ℕ, suc, ◌≤◌, ◌&&◌, Bool, true, false, not, cond, ltb, eqb, List, [], ◌∷◌, ◌++◌, length, Option, Some, None, Result, Ok, refl, sym, ap, subst, ◌∙◌, append_assoc, ℤ, arith}
 use Rattle.std.proofs.lemmas.List.{length-append, append-nil}
 use Rattle.std.proofs.lemmas.Bool.{ltb-false, ltb-true, eqb-true}
-use Rattle.byte_grammar.specs.Language.{Then, IsRun, Optional, Mapped}
-use Rattle.byte_grammar.specs.Walk.{◌>>=◌, Next, is_of, run_read, optional_read}
+use Rattle.byte_grammar.specs.Language.{IsRun}
+use Rattle.byte_grammar.specs.tools.Languages.{Then, Optional, Mapped}
+use Rattle.byte_grammar.specs.Walk.{◌>>=◌, run_read}
+use Rattle.byte_grammar.specs.tools.Walks.{Next, is_of, optional_read}
 use Rattle.sfv_read.specs.BareItem.{IsInteger, IsDecimal}
 use Rattle.sfv_read.specs.tools.BareWalk.{number_of, part_read, fraction_read, number_read}
 use Rattle.byte_classes.specs.Classes.{is_digit}

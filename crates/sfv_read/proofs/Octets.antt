@@ -4,8 +4,10 @@ use Rattle.std.specs.List.{list_all}
 use Rattle.std.proofs.lemmas.Bool.{eqb-true}
 use Rattle.std.proofs.lemmas.List.{append-nil, length-append}
 use Rattle.std.proofs.lemmas.List.Folds.{list_all-append}
-use Rattle.byte_grammar.specs.Language.{Begins, Then, Mapped, Optional, IsRun, IsAll}
-use Rattle.byte_grammar.specs.Walk.{◌>>=◌, Next, all_read, run_read, optional_read}
+use Rattle.byte_grammar.specs.Language.{Begins, IsRun}
+use Rattle.byte_grammar.specs.tools.Languages.{Then, Mapped, Optional, IsAll}
+use Rattle.byte_grammar.specs.Walk.{◌>>=◌, all_read, run_read}
+use Rattle.byte_grammar.specs.tools.Walks.{Next, optional_read}
 use Rattle.sfv_read.specs.tools.BareWalk.{pads, are_whole, filling_of, filling_read, close_read, end_read, decoded, bytes_end, bytes_read}
 use Rattle.sfv_read.specs.Class.{is_base64, is_colon, is_equals}
 use Rattle.byte_grammar.proofs.Laws.{Meets, Partly, partly, Starts, meets_then, meets_then_with, meets_byte, meets_run, meets_all, meets_optional, optional_follow, meets_same, meets_map, and_is, any_next, run_starts, ok_is, not_err, bind_err}

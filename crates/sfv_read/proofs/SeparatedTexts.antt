@@ -3,8 +3,10 @@ use Rattle.std.proofs.Common.{◌≡◌, ℕ, ◌<◌, ◌||◌, Bool, true, fal
 use Rattle.std.specs.List.{list_all}
 use Rattle.std.proofs.lemmas.Bool.{eqb-true}
 use Rattle.std.proofs.lemmas.List.{append-nil, length-append}
-use Rattle.byte_grammar.specs.Language.{Then, Turns, Mapped, Optional, Each, IsByte, IsAll}
-use Rattle.byte_grammar.specs.Walk.{◌>>=◌, Next, turned, turns_read}
+use Rattle.byte_grammar.specs.Language.{Each}
+use Rattle.byte_grammar.specs.tools.Languages.{Then, Turns, Mapped, Optional, IsByte, IsAll}
+use Rattle.byte_grammar.specs.Walk.{◌>>=◌}
+use Rattle.byte_grammar.specs.tools.Walks.{Next, with_turns, turns_read}
 use Rattle.byte_classes.specs.Classes.{is_space, is_blank}
 use Rattle.sfv_read.specs.Class.{is_comma}
 use Rattle.sfv_read.specs.Member.{IsFurther, Separated}
@@ -239,7 +241,7 @@ module _ {V : Type 0} {M : List ℕ → V → Type 0} {F : V → ℕ → Bool} {
   meets_separated = meets_same meets_separated_text to_separated from_separated (λ v c h. h)
 
   -- how a loop over members goes on
-  pub separated_step : (bytes : List ℕ) → turns_read (separated_turn p) bytes ≡ (separated_turn p bytes >>= λ a. turned a.0 a.1 (turns_read (separated_turn p) a.1))
+  pub separated_step : (bytes : List ℕ) → turns_read (separated_turn p) bytes ≡ (separated_turn p bytes >>= λ a. with_turns a.0 a.1 (turns_read (separated_turn p) a.1))
   separated_step bytes = turns_step meets_turn turn_grows bytes
 
   pub separated_shorter : (bytes : List ℕ) (v : V) (rest : List ℕ) → separated_turn p bytes ≡ Ok (Some v, rest) → length rest < length bytes

@@ -4,7 +4,7 @@ use Rattle.std.specs.Str.{byte}
 use Rattle.std.specs.List.{list_all}
 use Rattle.base64.specs.Engines.{standard, standard_no_pad}
 use Rattle.base64.specs.GeneralPurpose.{encode_of}
-use Rattle.byte_grammar.specs.Language.{AreOf, IsWord}
+use Rattle.byte_grammar.specs.Language.{AreBytesOf, IsWord}
 use Rattle.sfv_text.specs.declared.value.BareItem.{BareItem}
 use Rattle.sfv_text.specs.declared.value.BareItem.TheVariants.{Integer, Decimal, Str, Token, Bytes, Bool as Boolean}
 use Rattle.sfv_text.specs.Range.{is_byte, is_string_byte, is_token_first, is_token_rest}
@@ -30,8 +30,8 @@ pub record IsInteger (text : List ℕ) (z : ℤ) : Type 0 where
   pub sign : List ℕ
   pub digits : List ℕ
   pub joined : text ≡ sign ++ digits
-  pub minus : AreOf is_minus 0 1 sign
-  pub whole : AreOf is_digit 1 15 digits
+  pub minus : AreBytesOf is_minus 0 1 sign
+  pub whole : AreBytesOf is_digit 1 15 digits
   pub value : z ≡ signed sign (spelled digits)
 
 -- an optional minus, 1 to 12 digits, a point, and 1 to 3 digits; the value is in thousandths (RFC 9651 section 3.3.2)
@@ -40,9 +40,9 @@ pub record IsDecimal (text : List ℕ) (z : ℤ) : Type 0 where
   pub digits : List ℕ
   pub part : List ℕ
   pub joined : text ≡ sign ++ (digits ++ byte "." ∷ part)
-  pub minus : AreOf is_minus 0 1 sign
-  pub whole : AreOf is_digit 1 12 digits
-  pub fraction : AreOf is_digit 1 3 part
+  pub minus : AreBytesOf is_minus 0 1 sign
+  pub whole : AreBytesOf is_digit 1 12 digits
+  pub fraction : AreBytesOf is_digit 1 3 part
   pub value : z ≡ signed sign (spelled (digits ++ part) * 10 ^ (3 - length part))
 
 -- printable characters in quotes, `"` and `\` after a backslash (RFC 9651 section 3.3.3)

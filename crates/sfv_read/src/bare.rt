@@ -2,7 +2,7 @@
 
 ghost use Rattle.std.specs.Prelude.{◌≡◌};
 ghost use Rattle.byte_grammar.specs.Gives.{Gives};
-ghost use Rattle.byte_grammar.specs.Walk.{kind_in};
+ghost use Rattle.byte_grammar.specs.tools.Walks.{kind_in};
 ghost use Rattle.sfv_read.specs.tools.Gives.{GivesUnlessMemory};
 ghost use Rattle.sfv_read.specs.tools.BareWalk.{bare_kind, bare_read, truth_read};
 
@@ -33,7 +33,7 @@ pub enum BareKind {
 }
 
 /// A bare item, by its first byte.
-#[tactic(auto, unfolding(crate::specs::tools::BareWalk::bare_read, byte_grammar::specs::Walk::pick_read))]
+#[tactic(auto, unfolding(crate::specs::tools::BareWalk::bare_read, byte_grammar::specs::tools::Walks::pick_read))]
 pub fn read_bare(alloc: Global, bytes: &[u8]) -> Result<(BareItem, &[u8]), Stop>
     ensures { GivesUnlessMemory (λ x. (x.0, x.1.now)) result (bare_read bytes.now) }
 {

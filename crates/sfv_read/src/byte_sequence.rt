@@ -67,7 +67,7 @@ fn read_close(pads: usize, bytes: &[u8]) -> Result<(&[u8], &[u8]), Left>
 }
 
 /// As many `=` as fill the last group, or none.
-#[tactic(auto, unfolding(crate::specs::tools::BareWalk::filling_read, byte_grammar::specs::Walk::optional_read))]
+#[tactic(auto, unfolding(crate::specs::tools::BareWalk::filling_read, byte_grammar::specs::tools::Walks::optional_read))]
 fn read_filling(pads: usize, bytes: &[u8]) -> Result<(&[u8], &[u8]), Left>
     ensures { Gives (λ x. (x.0.now, x.1.now)) result (filling_read pads bytes.now) }
 {

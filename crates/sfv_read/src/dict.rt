@@ -1,7 +1,7 @@
 //! Dictionaries (RFC 9651 section 3.2).
 
 ghost use Rattle.std.specs.Prelude.{◌≡◌};
-ghost use Rattle.byte_grammar.specs.Walk.{turns_read, with_state};
+ghost use Rattle.byte_grammar.specs.tools.Walks.{turns_read, with_state};
 ghost use Rattle.sfv_read.specs.tools.Gives.{GivesUnlessMemory};
 ghost use Rattle.sfv_read.specs.Item.{put_pair};
 ghost use Rattle.sfv_read.specs.tools.MemberWalk.{pair_read, further_read, separated_turn, pairs_read, dict_read, dict_whole};
@@ -14,7 +14,7 @@ use sfv_text::{Dict, Member, Pair};
 use std::alloc::Global;
 
 /// A whole text of a Dictionary.
-#[tactic(auto, unfolding(crate::specs::tools::MemberWalk::dict_whole, byte_grammar::specs::Walk::whole_read))]
+#[tactic(auto, unfolding(crate::specs::tools::MemberWalk::dict_whole, byte_grammar::specs::tools::Walks::whole_read))]
 pub fn read_dict_text(alloc: Global, text: &[u8]) -> Result<Dict, Stop>
     ensures { GivesUnlessMemory (λ x. x) result (dict_whole text.now) }
 {
@@ -27,7 +27,7 @@ pub fn read_dict_text(alloc: Global, text: &[u8]) -> Result<Dict, Stop>
 
 /// Spaces, and nothing or pairs separated by commas. A repeated key stands where it first stood and has its last
 /// value.
-#[tactic(auto, unfolding(crate::specs::tools::MemberWalk::dict_read, crate::specs::tools::MemberWalk::some_pairs, byte_grammar::specs::Walk::optional_read))]
+#[tactic(auto, unfolding(crate::specs::tools::MemberWalk::dict_read, crate::specs::tools::MemberWalk::some_pairs, byte_grammar::specs::tools::Walks::optional_read))]
 fn read_pairs(alloc: Global, bytes: &[u8]) -> Result<(Dict, &[u8]), Stop>
     ensures { GivesUnlessMemory (λ x. (x.0, x.1.now)) result (dict_read bytes.now) }
 {
@@ -68,7 +68,7 @@ fn read_more(alloc: Global, first: Dict, bytes: &[u8]) -> Result<(Dict, &[u8]), 
 }
 
 /// Blanks, and a further pair where a comma comes.
-#[tactic(auto, unfolding(crate::specs::tools::MemberWalk::separated_turn, byte_grammar::specs::Walk::optional_read))]
+#[tactic(auto, unfolding(crate::specs::tools::MemberWalk::separated_turn, byte_grammar::specs::tools::Walks::optional_read))]
 fn read_turn(alloc: Global, bytes: &[u8]) -> Result<(Option<Pair<Member>>, &[u8]), Stop>
     ensures { GivesUnlessMemory (λ x. (x.0, x.1.now)) result (separated_turn pair_read bytes.now) }
 {

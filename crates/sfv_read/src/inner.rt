@@ -2,7 +2,7 @@
 
 ghost use Rattle.std.specs.Prelude.{◌≡◌, List};
 ghost use Rattle.byte_grammar.specs.Gives.{Gives};
-ghost use Rattle.byte_grammar.specs.Walk.{turns_read, with_prefix};
+ghost use Rattle.byte_grammar.specs.tools.Walks.{turns_read, with_prefix};
 ghost use Rattle.sfv_read.specs.tools.Gives.{GivesUnlessMemory};
 ghost use Rattle.sfv_read.specs.tools.InnerWalk.{close_only, some_item, item_or_close, inner_turn, items_read, inner_read, inner_whole};
 
@@ -15,7 +15,7 @@ use sfv_text::{InnerList, Item, Items};
 use std::alloc::Global;
 
 /// A whole text: an Inner List with spaces at both ends.
-#[tactic(auto, unfolding(crate::specs::tools::InnerWalk::inner_whole, byte_grammar::specs::Walk::whole_read, byte_grammar::specs::Walk::padded_read))]
+#[tactic(auto, unfolding(crate::specs::tools::InnerWalk::inner_whole, byte_grammar::specs::tools::Walks::whole_read, byte_grammar::specs::tools::Walks::padded_read))]
 pub fn read_inner_text(alloc: Global, text: &[u8]) -> Result<InnerList, Stop>
     ensures { GivesUnlessMemory (λ x. x) result (inner_whole text.now) }
 {
@@ -87,7 +87,7 @@ fn read_turn(alloc: Global, bytes: &[u8]) -> Result<(Option<Item>, &[u8]), Stop>
 }
 
 /// An Item, or the parenthesis.
-#[tactic(auto, unfolding(crate::specs::tools::InnerWalk::item_or_close, byte_grammar::specs::Walk::choose_read, byte_grammar::specs::Walk::pick_read))]
+#[tactic(auto, unfolding(crate::specs::tools::InnerWalk::item_or_close, byte_grammar::specs::tools::Walks::choose_read, byte_grammar::specs::tools::Walks::pick_read))]
 fn read_item_or_close(alloc: Global, bytes: &[u8]) -> Result<(Option<Item>, &[u8]), Stop>
     ensures { GivesUnlessMemory (λ x. (x.0, x.1.now)) result (item_or_close bytes.now) }
 {

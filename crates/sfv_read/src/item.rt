@@ -13,7 +13,7 @@ use sfv_text::Item;
 use std::alloc::Global;
 
 /// A whole text: an Item with spaces at both ends.
-#[tactic(auto, unfolding(crate::specs::tools::ItemWalk::item_whole, byte_grammar::specs::Walk::whole_read, byte_grammar::specs::Walk::padded_read))]
+#[tactic(auto, unfolding(crate::specs::tools::ItemWalk::item_whole, byte_grammar::specs::tools::Walks::whole_read, byte_grammar::specs::tools::Walks::padded_read))]
 pub fn read_item_text(alloc: Global, text: &[u8]) -> Result<Item, Stop>
     ensures { GivesUnlessMemory (λ x. x) result (item_whole text.now) }
 {

@@ -1,7 +1,7 @@
 //! Lists (RFC 9651 section 3.1).
 
 ghost use Rattle.std.specs.Prelude.{◌≡◌, List as Items};
-ghost use Rattle.byte_grammar.specs.Walk.{turns_read, with_prefix};
+ghost use Rattle.byte_grammar.specs.tools.Walks.{turns_read, with_prefix};
 ghost use Rattle.sfv_read.specs.tools.Gives.{GivesUnlessMemory};
 ghost use Rattle.sfv_read.specs.tools.MemberWalk.{member_read, further_read, separated_turn, members_read, list_read, list_whole};
 
@@ -13,7 +13,7 @@ use sfv_text::{List, Member};
 use std::alloc::Global;
 
 /// A whole text of a List.
-#[tactic(auto, unfolding(crate::specs::tools::MemberWalk::list_whole, byte_grammar::specs::Walk::whole_read))]
+#[tactic(auto, unfolding(crate::specs::tools::MemberWalk::list_whole, byte_grammar::specs::tools::Walks::whole_read))]
 pub fn read_list_text(alloc: Global, text: &[u8]) -> Result<List, Stop>
     ensures { GivesUnlessMemory (λ x. x) result (list_whole text.now) }
 {
@@ -25,7 +25,7 @@ pub fn read_list_text(alloc: Global, text: &[u8]) -> Result<List, Stop>
 }
 
 /// Spaces, and nothing or members separated by commas.
-#[tactic(auto, unfolding(crate::specs::tools::MemberWalk::list_read, crate::specs::tools::MemberWalk::some_members, crate::specs::tools::MemberWalk::separated_read, byte_grammar::specs::Walk::optional_read))]
+#[tactic(auto, unfolding(crate::specs::tools::MemberWalk::list_read, crate::specs::tools::MemberWalk::some_members, crate::specs::tools::MemberWalk::separated_read, byte_grammar::specs::tools::Walks::optional_read))]
 fn read_members(alloc: Global, bytes: &[u8]) -> Result<(List, &[u8]), Stop>
     ensures { GivesUnlessMemory (λ x. (x.0, x.1.now)) result (list_read bytes.now) }
 {
@@ -66,7 +66,7 @@ fn read_more(alloc: Global, first: List, bytes: &[u8]) -> Result<(List, &[u8]), 
 }
 
 /// Blanks, and a further member where a comma comes.
-#[tactic(auto, unfolding(crate::specs::tools::MemberWalk::separated_turn, byte_grammar::specs::Walk::optional_read))]
+#[tactic(auto, unfolding(crate::specs::tools::MemberWalk::separated_turn, byte_grammar::specs::tools::Walks::optional_read))]
 fn read_turn(alloc: Global, bytes: &[u8]) -> Result<(Option<Member>, &[u8]), Stop>
     ensures { GivesUnlessMemory (λ x. (x.0, x.1.now)) result (separated_turn member_read bytes.now) }
 {

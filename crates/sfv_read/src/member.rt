@@ -14,7 +14,7 @@ use sfv_text::{BareItem, Item, Member, Pair};
 use std::alloc::Global;
 
 /// An Item or an Inner List.
-#[tactic(auto, unfolding(crate::specs::tools::MemberWalk::member_read, byte_grammar::specs::Walk::choose_read, byte_grammar::specs::Walk::pick_read))]
+#[tactic(auto, unfolding(crate::specs::tools::MemberWalk::member_read, byte_grammar::specs::tools::Walks::choose_read, byte_grammar::specs::tools::Walks::pick_read))]
 pub fn read_member(alloc: Global, bytes: &[u8]) -> Result<(Member, &[u8]), Stop>
     ensures { GivesUnlessMemory (λ x. (x.0, x.1.now)) result (member_read bytes.now) }
 {
@@ -54,7 +54,7 @@ pub fn read_pair(alloc: Global, bytes: &[u8]) -> Result<(Pair<Member>, &[u8]), S
 }
 
 /// `=` and a member, or parameters alone for true.
-#[tactic(auto, unfolding(crate::specs::tools::MemberWalk::pair_value, byte_grammar::specs::Walk::optional_read))]
+#[tactic(auto, unfolding(crate::specs::tools::MemberWalk::pair_value, byte_grammar::specs::tools::Walks::optional_read))]
 fn read_pair_value(alloc: Global, bytes: &[u8]) -> Result<(Member, &[u8]), Stop>
     ensures { GivesUnlessMemory (λ x. (x.0, x.1.now)) result (pair_value bytes.now) }
 {

@@ -29,7 +29,7 @@ pub fn read_number(bytes: &[u8]) -> Result<(BareItem, &[u8]), Left>
 }
 
 /// The digits after the point, where a point comes. After more than 12 digits none may.
-#[tactic(auto, unfolding(crate::specs::tools::BareWalk::fraction_read, byte_grammar::specs::Walk::optional_read))]
+#[tactic(auto, unfolding(crate::specs::tools::BareWalk::fraction_read, byte_grammar::specs::tools::Walks::optional_read))]
 fn read_fraction(digits: usize, bytes: &[u8]) -> Result<(Option<&[u8]>, &[u8]), Left>
     ensures gives { Gives (λ x. (option_map (λ p. p.now) x.0, x.1.now)) result (fraction_read digits bytes.now) }
     ensures part { IfOk result (λ x. IfSome x.0 (λ p. (digits ≤ 12) × (list_all is_digit p.now ≡ true) × (1 ≤ length p.now) × (length p.now ≤ 3))) }

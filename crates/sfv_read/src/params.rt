@@ -31,7 +31,7 @@ pub fn read_params(alloc: Global, bytes: &[u8]) -> Result<(Params, &[u8]), Stop>
 }
 
 /// A parameter where a semicolon comes.
-#[tactic(auto, unfolding(crate::specs::tools::ItemWalk::param_turn, byte_grammar::specs::Walk::optional_read))]
+#[tactic(auto, unfolding(crate::specs::tools::ItemWalk::param_turn, byte_grammar::specs::tools::Walks::optional_read))]
 fn read_turn(alloc: Global, bytes: &[u8]) -> Result<(Option<Pair<BareItem>>, &[u8]), Stop>
     ensures { GivesUnlessMemory (λ x. (x.0, x.1.now)) result (param_turn bytes.now) }
 {
@@ -64,7 +64,7 @@ pub fn read_key(alloc: Global, bytes: &[u8]) -> Result<(Text, &[u8]), Stop>
 }
 
 /// `=` and a bare item, or nothing for true.
-#[tactic(auto, unfolding(crate::specs::tools::ItemWalk::value_read, byte_grammar::specs::Walk::optional_read))]
+#[tactic(auto, unfolding(crate::specs::tools::ItemWalk::value_read, byte_grammar::specs::tools::Walks::optional_read))]
 fn read_value(alloc: Global, bytes: &[u8]) -> Result<(BareItem, &[u8]), Stop>
     ensures { GivesUnlessMemory (λ x. (x.0, x.1.now)) result (value_read bytes.now) }
 {

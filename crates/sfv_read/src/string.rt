@@ -2,7 +2,7 @@
 
 ghost use Rattle.std.specs.Prelude.{◌≡◌, ◌++◌, ◌∷◌, [], length, List, ℕ};
 ghost use Rattle.byte_grammar.specs.Gives.{Gives};
-ghost use Rattle.byte_grammar.specs.Walk.{kind_in};
+ghost use Rattle.byte_grammar.specs.tools.Walks.{kind_in};
 ghost use Rattle.sfv_read.specs.tools.Gives.{GivesUnlessMemory};
 ghost use Rattle.sfv_read.specs.tools.BareWalk.{char_kind, char_read, chars_read, string_read};
 
@@ -52,7 +52,7 @@ fn read_chars(alloc: Global, bytes: &[u8]) -> Result<(Text, &[u8]), Stop>
 }
 
 /// A character, or the quote after the last.
-#[tactic(auto, unfolding(crate::specs::tools::BareWalk::char_read, byte_grammar::specs::Walk::pick_read))]
+#[tactic(auto, unfolding(crate::specs::tools::BareWalk::char_read, byte_grammar::specs::tools::Walks::pick_read))]
 fn read_char(bytes: &[u8]) -> Result<(Option<u8>, &[u8]), Left>
     ensures { Gives (λ x. (x.0, x.1.now)) result (char_read bytes.now) }
 {

@@ -1,7 +1,7 @@
 //! Whole texts of each kind.
 
 ghost use Rattle.std.specs.Prelude.{◌≡◌, ◌≤◌, ◌↔◌, ◌++◌, ◌∷◌, [], ℕ, List as Items, Result, length, take, IfOk, IfErr, IsTrue, codes};
-ghost use Rattle.byte_grammar.specs.Walk.{unread};
+ghost use Rattle.byte_grammar.specs.tools.Walks.{unread};
 ghost use Rattle.sfv_read.specs.declared.stop.Stop.TheVariants.{NoMemory};
 ghost use Rattle.sfv_read.specs.tools.Answers.{IsFaultAt, Answers};
 ghost use Rattle.sfv_read.specs.tools.Gives.{GivesUnlessMemory, IfAt};

@@ -1,7 +1,7 @@
 -- What a reading of whole texts answers.
 use Rattle.std.specs.Prelude.{◌≡◌, ℕ, ◌-◌, true, List, [], ◌∷◌, ◌++◌, length, take, drop, Result, Ok, Err, codes}
 use Rattle.byte_grammar.specs.Language.{starts_in}
-use Rattle.byte_grammar.specs.Walk.{unread}
+use Rattle.byte_grammar.specs.tools.Walks.{unread}
 use Rattle.sfv_read.specs.Class.{is_marker}
 use Rattle.sfv_read.specs.declared.fault.SfError.{SfError}
 use Rattle.sfv_read.specs.declared.fault.SfError.TheVariants.{Memory, Syntax, ItemKind}

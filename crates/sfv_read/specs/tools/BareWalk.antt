@@ -1,7 +1,8 @@
 -- Bare items, read over lists from left to right.
 use Rattle.std.specs.Prelude.{ℕ, ◌+◌, ◌-◌, ◌*◌, ◌/◌, ◌%◌, ◌^◌, Bool, true, false, ◌||◌, List, [], ◌∷◌, ◌++◌, length, nat_eq, nat_lt, Option, Some, None, Result, Ok, Err, if◌then◌else◌}
 use Rattle.std.specs.Str.{byte}
-use Rattle.byte_grammar.specs.Walk.{◌>>=◌, byte_read, run_read, all_read, word_read, optional_read, pick_read, turns_read}
+use Rattle.byte_grammar.specs.Walk.{◌>>=◌, byte_read, run_read, all_read, word_read}
+use Rattle.byte_grammar.specs.tools.Walks.{optional_read, pick_read, turns_read}
 use Rattle.sfv_text.specs.declared.value.BareItem.{BareItem}
 use Rattle.sfv_text.specs.declared.value.BareItem.TheVariants.{Integer, Decimal, Str, Token, Bytes, Bool as Boolean}
 use Rattle.sfv_read.specs.declared.bare.BareKind.{BareKind}

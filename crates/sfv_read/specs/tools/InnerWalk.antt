@@ -1,6 +1,7 @@
 -- Inner Lists, read over lists from left to right.
 use Rattle.std.specs.Prelude.{ℕ, List, [], ◌∷◌, Option, Some, None, Result, Ok}
-use Rattle.byte_grammar.specs.Walk.{◌>>=◌, byte_read, all_read, choose_read, turns_read, padded_read, whole_read}
+use Rattle.byte_grammar.specs.Walk.{◌>>=◌, byte_read, all_read}
+use Rattle.byte_grammar.specs.tools.Walks.{choose_read, turns_read, padded_read, whole_read}
 use Rattle.sfv_text.specs.declared.value.BareItem.{BareItem}
 use Rattle.sfv_text.specs.declared.value.Item.{Item}
 use Rattle.sfv_text.specs.declared.value.InnerList.{InnerList}

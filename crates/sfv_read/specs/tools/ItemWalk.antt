@@ -1,6 +1,7 @@
 -- Parameters and Items, read over lists from left to right.
 use Rattle.std.specs.Prelude.{ℕ, true, List, Option, Some, None, Result, Ok}
-use Rattle.byte_grammar.specs.Walk.{◌>>=◌, byte_read, all_read, word_read, optional_read, turns_read, padded_read, whole_read}
+use Rattle.byte_grammar.specs.Walk.{◌>>=◌, byte_read, all_read, word_read}
+use Rattle.byte_grammar.specs.tools.Walks.{optional_read, turns_read, padded_read, whole_read}
 use Rattle.sfv_text.specs.declared.value.BareItem.{BareItem}
 use Rattle.sfv_text.specs.declared.value.BareItem.TheVariants.{Bool as Boolean}
 use Rattle.sfv_text.specs.declared.value.Item.{Item}

@@ -1,6 +1,7 @@
 -- Lists and Dictionaries, read over lists from left to right.
 use Rattle.std.specs.Prelude.{ℕ, true, List, [], ◌∷◌, Option, Some, None, Result, Ok}
-use Rattle.byte_grammar.specs.Walk.{◌>>=◌, byte_read, all_read, optional_read, choose_read, turns_read, with_state, whole_read}
+use Rattle.byte_grammar.specs.Walk.{◌>>=◌, byte_read, all_read}
+use Rattle.byte_grammar.specs.tools.Walks.{optional_read, choose_read, turns_read, with_state, whole_read}
 use Rattle.sfv_text.specs.declared.value.Member.{Member}
 use Rattle.sfv_text.specs.declared.value.Member.TheVariants.{Item as One, InnerList as Several}
 use Rattle.sfv_text.specs.declared.pair.Pair.{Pair}

@@ -1,5 +1,5 @@
 use Rattle.std.proofs.Common.{◌≡◌, length}
-use Rattle.byte_grammar.specs.Walk.{turns_read, with_state}
+use Rattle.byte_grammar.specs.tools.Walks.{turns_read, with_state}
 use Rattle.sfv_read.specs.Item.{put_pair}
 use Rattle.sfv_read.specs.tools.MemberWalk.{pair_read, separated_turn}
 use Rattle.sfv_read.proofs.dict.read_more.Given as goal

@@ -1,6 +1,6 @@
 use Rattle.std.proofs.Common.{ap, ◌∙◌, List}
 use Rattle.std.proofs.lemmas.Result.{err_from_is_err_and}
-use Rattle.byte_grammar.specs.Walk.{turns_read, with_prefix}
+use Rattle.byte_grammar.specs.tools.Walks.{turns_read, with_prefix}
 use Rattle.byte_grammar.proofs.Loops.{loop_last, loop_err, loop_more, some_next}
 use Rattle.sfv_text.specs.declared.value.Item.{Item}
 use Rattle.sfv_read.specs.tools.InnerWalk.{inner_turn}

@@ -1,6 +1,6 @@
 use Rattle.std.proofs.Common.{refl, ap, ◌∙◌, List}
 use Rattle.std.proofs.lemmas.Result.{err_from_is_err_and}
-use Rattle.byte_grammar.specs.Walk.{turns_read, with_state}
+use Rattle.byte_grammar.specs.tools.Walks.{turns_read, with_state}
 use Rattle.byte_grammar.proofs.Loops.{state_last, state_err, state_more, some_next}
 use Rattle.sfv_text.specs.declared.value.BareItem.{BareItem}
 use Rattle.sfv_text.specs.declared.pair.Pair.{Pair}

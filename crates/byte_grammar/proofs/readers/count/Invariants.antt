@@ -1,7 +1,7 @@
 use Rattle.std.proofs.Common.{◌-◌, ◌≡◌, ◌+◌, ◌≤◌, length, drop, take, true}
 use Rattle.std.specs.List.{list_all}
 use Rattle.byte_grammar.specs.Walk.{run_length}
-use Rattle.byte_grammar.proofs.leaf.count.Given as goal
+use Rattle.byte_grammar.proofs.readers.count.Given as goal
 
 abbrev pub invariant-loop-n : goal.invariant-loop-n
 invariant-loop-n g l = record {

@@ -1,6 +1,6 @@
 use Rattle.std.proofs.Common.{◌<◌, length, arith, sym}
 use Rattle.byte_grammar.proofs.Count.{all_more, one_more, at_other, at_end, at_most}
-use Rattle.byte_grammar.proofs.leaf.count.Goals as goal
+use Rattle.byte_grammar.proofs.readers.count.Goals as goal
 
 pub returns-then-n-bytes-clause-value : goal.returns-then-n-bytes-clause-value
 returns-then-n-bytes-clause-value g c = at_end (g.C.ByteClass.members c.args.class) c.args.most c.loop-n.n c.args.bytes.now _ c.if-n-bytes.true c.loop-n.invariant.same
