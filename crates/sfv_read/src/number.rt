@@ -4,10 +4,10 @@ ghost use Rattle.std.specs.Prelude.{◌≡◌, ◌≤◌, ◌<◌, ◌+◌, ◌-
 ghost use Rattle.std.specs.List.{list_all};
 ghost use Rattle.byte_grammar.specs.Gives.{Gives};
 ghost use Rattle.byte_classes.specs.Classes.{is_digit};
-ghost use Rattle.sfv_read.specs.BareItem.{spelled, spelled_from, signed};
+ghost use Rattle.sfv_read.specs.BareItem.{spelled, spelled_from, with_sign};
 ghost use Rattle.sfv_read.specs.tools.BareWalk.{fraction_read, part_read, number_read};
 
-use crate::class::Class;
+use byte_classes::{Byte, Class};
 use byte_grammar::{Left, read_byte, read_run, starts_with};
 use sfv_text::BareItem;
 
@@ -16,7 +16,7 @@ use sfv_text::BareItem;
 pub fn read_number(bytes: &[u8]) -> Result<(BareItem, &[u8]), Left>
     ensures { Gives (λ x. (x.0, x.1.now)) result (number_read bytes.now) }
 {
-    let (sign, rest) = read_run(Class::Minus, 0, 1, bytes)?;
+    let (sign, rest) = read_run(Byte(b'-'), 0, 1, bytes)?;
     let (digits, rest) = read_run(Class::Digit, 1, 15, rest)?;
     let (part, rest) = read_fraction(digits.len(), rest)?;
     match part {
@@ -37,7 +37,7 @@ fn read_fraction(digits: usize, bytes: &[u8]) -> Result<(Option<&[u8]>, &[u8]), 
     if digits > 12 {
         return Ok((None, bytes));
     }
-    if !starts_with(Class::Dot, bytes) {
+    if !starts_with(Byte(b'.'), bytes) {
         return Ok((None, bytes));
     }
     let (part, rest) = read_part(bytes)?;
@@ -50,7 +50,7 @@ fn read_part(bytes: &[u8]) -> Result<(&[u8], &[u8]), Left>
     ensures gives { Gives (λ x. (x.0.now, x.1.now)) result (part_read bytes.now) }
     ensures part { IfOk result (λ x. (list_all is_digit x.0.now ≡ true) × (1 ≤ length x.0.now) × (length x.0.now ≤ 3)) }
 {
-    let (_dot, rest) = read_byte(Class::Dot, bytes)?;
+    let (_dot, rest) = read_byte(Byte(b'.'), bytes)?;
     read_run(Class::Digit, 1, 3, rest)
 }
 
@@ -71,7 +71,7 @@ fn value_of(start: u64, digits: &[u8]) -> u64
 /// The number, negative where the sign isn't empty.
 fn with_sign(sign: &[u8], number: u64) -> i64
     requires { number < 10 ^ 15 }
-    ensures { result ≡ signed sign.now number }
+    ensures { result ≡ with_sign sign.now number }
 {
     if sign.is_empty() {
         return number as i64;
@@ -86,7 +86,7 @@ fn thousandths(sign: &[u8], digits: &[u8], part: &[u8]) -> i64
     requires whole { length digits.now ≤ 12 }
     requires some { 1 ≤ length part.now }
     requires few { length part.now ≤ 3 }
-    ensures { result ≡ signed sign.now (spelled (digits.now ++ part.now) * 10 ^ (3 - length part.now)) }
+    ensures { result ≡ with_sign sign.now (spelled (digits.now ++ part.now) * 10 ^ (3 - length part.now)) }
 {
     let whole = value_of(0, digits);
     let number = value_of(whole, part);

@@ -60,6 +60,11 @@ turns_in (suc n) p bytes = p bytes >>= λ a. with_turns a.0 a.1 (turns_in n p a.
 unfoldable pub turns_read : {V : Type 0} → Reader (Option V) → Reader (List V)
 turns_read p bytes = turns_in (suc (length bytes)) p bytes
 
+-- a reader whose turns go on after it
+abbrev pub IsLoop : {V : Type 0} → Reader (Option V) → Type 0
+IsLoop p =
+    (bytes : List ℕ) → turns_read p bytes ≡ (p bytes >>= λ a. with_turns a.0 a.1 (turns_read p a.1))
+
 -- what was read before, and what the rest gives
 abbrev pub with_prefix : {V : Type 0}
     → List V → Result (List V × List ℕ) ℕ → Result (List V × List ℕ) ℕ

@@ -1,6 +1,6 @@
 use Rattle.std.proofs.Common.{arith, ap, sym, ◌∙◌, ◌-◌, ℕ, w64, rules, length, ◌*◌, ◌^◌}
 use Rattle.std.proofs.lemmas.Int.{to_z-of_z}
-use Rattle.sfv_read.specs.BareItem.{signed, spelled_from}
+use Rattle.sfv_read.specs.BareItem.{with_sign, spelled_from}
 use Rattle.sfv_read.proofs.Digits.{pow_room, room_two, scaled_room, spelled_append}
 use Rattle.sfv_read.proofs.number.thousandths.Goals as goal
 
@@ -20,5 +20,5 @@ with_sign-requires c =
 
 pub returns : goal.returns
 returns c =
-    to_z-of_z w64 c.with_sign.result (search rules) ∙ c.with_sign.ensures ∙ ap (signed c.args.sign.now) (c.scaled.ensures ∙ ap (λ (n : ℕ). n * 10 ^ (3 - length c.args.part.now))
+    to_z-of_z w64 c.with_sign.result (search rules) ∙ c.with_sign.ensures ∙ ap (with_sign c.args.sign.now) (c.scaled.ensures ∙ ap (λ (n : ℕ). n * 10 ^ (3 - length c.args.part.now))
     (c.value_of-number.ensures.value ∙ ap (λ (n : ℕ). spelled_from n c.args.part.now) c.value_of-whole.ensures.value ∙ sym (spelled_append 0 c.args.digits.now c.args.part.now)))
