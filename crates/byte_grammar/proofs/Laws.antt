@@ -26,7 +26,7 @@ left_less {V} {L} {F} {p} m bytes = go (p bytes) refl
     go (Ok a) e = let w = m.ok bytes a.0 a.1 e in omega (arith, length-append w.0 a.1, ap (λ (t : List ℕ). length t) w.1)
     go (Err n) e = let w = m.err bytes n e in omega (arith, length-append w.0 w.1, ap (λ (t : List ℕ). length t) w.2, w.3)
 
--- two ways to part one text: one prefix ends within the other
+-- two ways to cut one text in two: one prefix ends within the other
 pub prefixes : (a b c d : List ℕ) → a ++ b ≡ c ++ d → ((m : List ℕ) × (c ≡ a ++ m) × (b ≡ m ++ d)) ⊎ ((k : ℕ) × (m : List ℕ) × (a ≡ c ++ k ∷ m) × (d ≡ k ∷ m ++ b))
 prefixes [] b c d e = inl (c, refl, e)
 prefixes (x ∷ a) b [] d e = inr (x, a, refl, sym e)

@@ -102,7 +102,7 @@ module _ {V : Type 0} {L : List ℕ → V → Type 0} {p : List ℕ → Result (
       is_offset text (length (c ∷ rest)) (ap (λ (r : Result (V × List ℕ) ℕ). left r) e) (rest_none text v c rest e)
       (subst (λ (y : List ℕ). Begins L y) (sym (take_prefix s.0 (c ∷ rest) text s.1)) ([], v, subst (λ (y : List ℕ). L y v) (sym (append-nil s.0)) s.2))
 
--- a reading of whole texts tells the language and the offset of each fault
+-- a reading of whole texts judges the language and the offset of each fault
 pub record Judges {V : Type 0} (L : List ℕ → V → Type 0) (r : List ℕ → Result V ℕ) : Type 0 where
   pub ok : (text : List ℕ) (v : V) → r text ≡ Ok v → L text v
   pub only : (text : List ℕ) (v : V) → L text v → r text ≡ Ok v

@@ -19,7 +19,7 @@
 //!   `meets_all`, `meets_word`, `meets_then`, `meets_optional`, `meets_choose`, `meets_pick`,
 //!   `meets_each`, `meets_turns`, `meets_map`, `meets_same`, `meets_done`.
 //! - `Loops`: a loop does what turns do, with a list (`loop_*`) or with a state (`state_*`).
-//! - `Whole`: a reader of whole texts tells the language and the offset of each fault (`Judges`,
+//! - `Whole`: a reader of whole texts judges the language and the offset of each fault (`Judges`,
 //!   `judges`), of texts with bytes of a class at both ends too (`meets_padded`); of what is judged
 //!   so a text has one value (`one_value`).
 //! - `OffsetLaws`: of one language and text two fault offsets are one (`one_offset`); a prefix of

@@ -38,7 +38,7 @@ fn count<C: ByteClass>(class: C, most: usize, bytes: &[u8]) -> usize
     ensures value { result ≡ run_length (C.members class) most bytes.now }
     ensures within { result ≤ length bytes.now }
     ensures most { result ≤ most }
-    ensures all { list_all (C.members class) (take result bytes.now) ≡ true }
+    ensures all { IsTrue (list_all (C.members class) (take result bytes.now)) }
     ensures ends { (result ≡ most) ⊎ (starts_in (C.members class) (drop result bytes.now) ≡ false) }
 {
     let mut n = 0;

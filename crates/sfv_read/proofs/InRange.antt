@@ -2,6 +2,7 @@
 use Rattle.std.proofs.Common.{◌≡◌, ℕ, zero, suc, ◌+◌, ◌-◌, ◌*◌, ◌^◌, ◌<◌, ◌≤◌, ℤ, Bool, true, ◌&&◌, List, [], ◌∷◌, ◌++◌, length, refl, sym, ap, subst, ◌∙◌, arith, inl, inr, ◌⊎◌}
 use Rattle.std.specs.Prelude.{unsigned_abs}
 use Rattle.std.specs.List.{list_all}
+use Rattle.std.specs.Char.{digit_value}
 use Rattle.std.proofs.lemmas.Bool.{lt-ltb}
 use Rattle.std.proofs.lemmas.Bool.Decides.{nat_tests}
 use Rattle.byte_grammar.specs.Language.{IsWord, Each, IsFurther, SeparatedBy, after_all}
@@ -17,12 +18,13 @@ use Rattle.sfv_text.specs.Keys.{have_distinct_keys, put}
 use Rattle.sfv_text.specs.Range.{is_word, is_token_first, is_token_rest, is_key_first, is_key_rest, is_number_in_range, is_bare_in_range, is_param_in_range, are_params_in_range, is_item_in_range, is_inner_in_range, is_member_in_range, is_list_in_range, is_entry_in_range, is_dict_in_range}
 use Rattle.sfv_text.proofs.PutLaws.{put_distinct, put_kept}
 use Rattle.byte_classes.specs.Classes.{is_digit}
-use Rattle.sfv_read.specs.BareItem.{spelled, spelled_from, with_sign, IsInteger, IsDecimal, IsBareItem}
+use Rattle.std.specs.Str.Parse.{digits_value, digits_value_after}
+use Rattle.sfv_read.specs.BareItem.{with_sign, IsInteger, IsDecimal, IsBareItem}
 use Rattle.sfv_read.specs.Item.{IsValue, IsParameter, AreParameters, put_pair, distinct_pairs, IsItem}
 use Rattle.sfv_read.specs.Inner.{AreSpaces, IsInner}
 use Rattle.sfv_read.specs.Member.{IsMember, IsDictValue, IsDictMember, IsComma, AreMembers, true_item}
 use Rattle.sfv_read.specs.Reads.{ReadsItem, ReadsInner, ReadsList, ReadsDict}
-use Rattle.sfv_read.proofs.Digits.{room_more, pow_room, scaled_room, spelled_append}
+use Rattle.sfv_read.proofs.Digits.{digit_is, room_more, pow_room, scaled_room, value_append}
 
 -- ---- numbers
 
@@ -31,15 +33,17 @@ abs_signed [] n = refl
 abs_signed (_ ∷ _) zero = refl
 abs_signed (_ ∷ _) (suc n) = refl
 
-digit_below : (c : ℕ) → is_digit c ≡ true → c - 48 < 10
-digit_below c is = grind (arith, nat_tests)
+digit_below : (c : ℕ) → is_digit c ≡ true → digit_value c < 10
+digit_below c is =
+    let small : c - 48 < 10 = grind (arith, nat_tests) in
+    omega (arith, small, digit_is c is)
 
-spelled_below : (n : ℕ) (ds : List ℕ) → list_all is_digit ds ≡ true → spelled_from n ds + 1 ≤ (n + 1) * 10 ^ length ds
-spelled_below n [] all = omega arith
-spelled_below n (d ∷ ds) all =
+value_below : (n : ℕ) (ds : List ℕ) → list_all is_digit ds ≡ true → digits_value_after 10 n ds + 1 ≤ (n + 1) * 10 ^ length ds
+value_below n [] all = omega arith
+value_below n (d ∷ ds) all =
     let both = and_is (is_digit d) (list_all is_digit ds) all in
-    let more = spelled_below (n * 10 + (d - 48)) ds both.1 in
-    let room = room_more n (d - 48) (length ds) ((n + 1) * 10 ^ suc (length ds)) (digit_below d both.0) (omega arith) in
+    let more = value_below (n * 10 + digit_value d) ds both.1 in
+    let room = room_more n (digit_value d) (length ds) ((n + 1) * 10 ^ suc (length ds)) (digit_below d both.0) (omega arith) in
     omega (arith, more, room)
 
 in_range : (z : ℤ) (sign : List ℕ) (n : ℕ) → z ≡ with_sign sign n → n < 1000000000000000 → is_number_in_range z ≡ true
@@ -47,15 +51,15 @@ in_range z sign n e lt = lt-ltb (unsigned_abs z) 1000000000000000 (subst (λ (m 
 
 integer_in_range : (text : List ℕ) (z : ℤ) → IsInteger text z → is_number_in_range z ≡ true
 integer_in_range text z h =
-    let below = spelled_below 0 h.digits h.whole.passes in
-    in_range z h.sign (spelled h.digits) h.value (omega (arith, below, pow_room (length h.digits) h.whole.most))
+    let below = value_below 0 h.digits h.whole.passes in
+    in_range z h.sign (digits_value 10 h.digits) h.value (omega (arith, below, pow_room (length h.digits) h.whole.most))
 
 decimal_in_range : (text : List ℕ) (z : ℤ) → IsDecimal text z → is_number_in_range z ≡ true
 decimal_in_range text z h =
-    let whole = spelled_below 0 h.digits h.whole.passes in
-    let both = spelled_below (spelled h.digits) h.part h.fraction.passes in
-    let below = scaled_room (spelled_from (spelled h.digits) h.part) (spelled h.digits) (length h.digits) (length h.part) both whole h.whole.most h.fraction.most in
-    in_range z h.sign (spelled (h.digits ++ h.part) * 10 ^ (3 - length h.part)) h.value (subst (λ (n : ℕ). n * 10 ^ (3 - length h.part) < 1000000000000000) (sym (spelled_append 0 h.digits h.part)) below)
+    let whole = value_below 0 h.digits h.whole.passes in
+    let both = value_below (digits_value 10 h.digits) h.part h.fraction.passes in
+    let below = scaled_room (digits_value_after 10 (digits_value 10 h.digits) h.part) (digits_value 10 h.digits) (length h.digits) (length h.part) both whole h.whole.most h.fraction.most in
+    in_range z h.sign (digits_value 10 (h.digits ++ h.part) * 10 ^ (3 - length h.part)) h.value (subst (λ (n : ℕ). n * 10 ^ (3 - length h.part) < 1000000000000000) (sym (value_append 0 h.digits h.part)) below)
 
 word_in_range : (first others : ℕ → Bool) (text word : List ℕ) → IsWord first others text word → is_word first others word ≡ true
 word_in_range first others text [] h = absurd h

@@ -23,13 +23,14 @@ use Rattle.sfv_text.specs.Strict.{sign_text, integer_text, fraction_text, decima
 use Rattle.sfv_text.proofs.PutLaws.{bytes_eq-sym, distinct_parts, put_new}
 use Rattle.byte_classes.specs.Classes.{is_digit, is_space}
 use Rattle.sfv_read.specs.Class.{is_minus}
-use Rattle.sfv_read.specs.BareItem.{spelled, spelled_from, with_sign, IsInteger, IsDecimal, IsBareItem}
+use Rattle.std.specs.Str.Parse.{digits_value, digits_value_after}
+use Rattle.sfv_read.specs.BareItem.{with_sign, IsInteger, IsDecimal, IsBareItem}
 use Rattle.sfv_read.specs.Item.{IsValue, IsParameter, AreParameters, put_pair, distinct_pairs, IsItem}
 use Rattle.sfv_read.specs.Inner.{AreSpaces, AreItems, IsInner}
 use Rattle.sfv_read.specs.Member.{IsMember, IsDictValue, IsDictMember, IsComma, AreMembers, true_item}
 use Rattle.sfv_read.specs.Reads.{ReadsItem, ReadsInner, ReadsList, ReadsDict}
 use Rattle.sfv_read.specs.tools.ItemWalk.{item_of}
-use Rattle.sfv_read.proofs.Digits.{spelled_append}
+use Rattle.sfv_read.proofs.Digits.{digit_of, value_append}
 
 -- ---- numbers
 
@@ -37,18 +38,18 @@ use Rattle.sfv_read.proofs.Digits.{spelled_append}
 record Spells (n : ℕ) (ds : List ℕ) : Type 0 where
   digits : list_all is_digit ds ≡ true
   some : 1 ≤ length ds
-  value : spelled ds ≡ n
+  value : digits_value 10 ds ≡ n
 
 digit_is : (n : ℕ) → n < 10 → is_digit (48 + n) ≡ true
 digit_is n lt = grind (arith, nat_tests)
 
 decimal_spells : (n : ℕ) → n < 2 ^ 64 → Spells n (decimal n)
 decimal_spells n lt = decimal_by_steps Spells
-    (λ n small. record { digits = rw (digit_is n small) refl; some = omega arith; value = omega arith })
+    (λ n small. record { digits = rw (digit_is n small) refl; some = omega arith; value = omega (arith, digit_of n small) })
     (λ n ds large s. record {
       digits = list_all-append is_digit ds ((48 + n % 10) ∷ []) ∙ rw (s.digits, digit_is (n % 10) (omega arith)) refl;
       some = omega (arith, length-append ds ((48 + n % 10) ∷ []));
-      value = spelled_append 0 ds ((48 + n % 10) ∷ []) ∙ omega (arith, s.value);
+      value = value_append 0 ds ((48 + n % 10) ∷ []) ∙ omega (arith, s.value, digit_of (n % 10) (omega arith));
     }) n lt
 
 -- the part of a Decimal after its point, after the number w
@@ -56,17 +57,17 @@ record IsFraction (w m : ℕ) (part : List ℕ) : Type 0 where
   digits : list_all is_digit part ≡ true
   least : 1 ≤ length part
   most : length part ≤ 3
-  value : spelled_from w part * 10 ^ (3 - length part) ≡ w * 1000 + m
+  value : digits_value_after 10 w part * 10 ^ (3 - length part) ≡ w * 1000 + m
 
 fraction_if : (w m : ℕ) → m < 1000 → (p q : Bool) → eqb (m % 100) 0 ≡ p → eqb (m % 10) 0 ≡ q → IsFraction w m ((48 + m / 100) ∷ cond p [] ((48 + m / 10 % 10) ∷ cond q [] ((48 + m % 10) ∷ [])))
 fraction_if w m lt true q e f =
     let zero_end : m % 100 ≡ 0 = eqb-true _ _ e in
-    record { digits = rw (digit_is (m / 100) (omega arith)) refl; least = omega arith; most = omega arith; value = omega arith }
+    record { digits = rw (digit_is (m / 100) (omega arith)) refl; least = omega arith; most = omega arith; value = omega (arith, digit_of (m / 100) (omega arith)) }
 fraction_if w m lt false true e f =
     let zero_end : m % 10 ≡ 0 = eqb-true _ _ f in
-    record { digits = rw (digit_is (m / 100) (omega arith), digit_is (m / 10 % 10) (omega arith)) refl; least = omega arith; most = omega arith; value = omega arith }
+    record { digits = rw (digit_is (m / 100) (omega arith), digit_is (m / 10 % 10) (omega arith)) refl; least = omega arith; most = omega arith; value = omega (arith, digit_of (m / 100) (omega arith), digit_of (m / 10 % 10) (omega arith)) }
 fraction_if w m lt false false e f =
-    record { digits = rw (digit_is (m / 100) (omega arith), digit_is (m / 10 % 10) (omega arith), digit_is (m % 10) (omega arith)) refl; least = omega arith; most = omega arith; value = omega arith }
+    record { digits = rw (digit_is (m / 100) (omega arith), digit_is (m / 10 % 10) (omega arith), digit_is (m % 10) (omega arith)) refl; least = omega arith; most = omega arith; value = omega (arith, digit_of (m / 100) (omega arith), digit_of (m / 10 % 10) (omega arith), digit_of (m % 10) (omega arith)) }
 
 fraction_is : (w m : ℕ) → m < 1000 → IsFraction w m (fraction_text m)
 fraction_is w m lt = fraction_if w m lt (eqb (m % 100) 0) (eqb (m % 10) 0) refl refl
@@ -102,8 +103,8 @@ decimal_reads z h =
     let small : unsigned_abs z / 1000 < 2 ^ 64 = omega arith in
     let s = decimal_spells (unsigned_abs z / 1000) small in
     let f = fraction_is (unsigned_abs z / 1000) (unsigned_abs z % 1000) (omega arith) in
-    let joined_value : spelled (decimal (unsigned_abs z / 1000) ++ fraction_text (unsigned_abs z % 1000)) ≡ spelled_from (unsigned_abs z / 1000) (fraction_text (unsigned_abs z % 1000)) =
-    spelled_append 0 (decimal (unsigned_abs z / 1000)) (fraction_text (unsigned_abs z % 1000)) ∙ ap (λ (n : ℕ). spelled_from n (fraction_text (unsigned_abs z % 1000))) s.value in
+    let joined_value : digits_value 10 (decimal (unsigned_abs z / 1000) ++ fraction_text (unsigned_abs z % 1000)) ≡ digits_value_after 10 (unsigned_abs z / 1000) (fraction_text (unsigned_abs z % 1000)) =
+    value_append 0 (decimal (unsigned_abs z / 1000)) (fraction_text (unsigned_abs z % 1000)) ∙ ap (λ (n : ℕ). digits_value_after 10 n (fraction_text (unsigned_abs z % 1000))) s.value in
     let whole_value : unsigned_abs z ≡ unsigned_abs z / 1000 * 1000 + unsigned_abs z % 1000 = omega arith in
     record {
       sign = sign_text z;

@@ -1,6 +1,7 @@
 -- The texts of bare items (RFC 9651 section 3.3).
 use Rattle.std.specs.Prelude.{◌≡◌, ℕ, ◌+◌, ◌-◌, ◌*◌, ◌^◌, ◌⊎◌, Bool, List, [], ◌∷◌, ◌++◌, length, ℤ, pos, neg_ℤ, IsTrue}
 use Rattle.std.specs.Str.{byte}
+use Rattle.std.specs.Str.Parse.{digits_value}
 use Rattle.std.specs.List.{list_all}
 use Rattle.base64.specs.Engines.{standard, standard_no_pad}
 use Rattle.base64.specs.GeneralPurpose.{encode_of}
@@ -11,14 +12,6 @@ use Rattle.sfv_text.specs.Range.{is_byte, is_string_byte, is_token_first, is_tok
 use Rattle.sfv_text.specs.Strict.{string_text, bool_text}
 use Rattle.byte_classes.specs.Classes.{is_digit}
 use Rattle.sfv_read.specs.Class.{is_minus}
-
--- the number that digits spell after a number
-abbrev pub spelled_from : ℕ → List ℕ → ℕ
-spelled_from n [] = n
-spelled_from n (d ∷ ds) = spelled_from (n * 10 + (d - 48)) ds
-
-abbrev pub spelled : List ℕ → ℕ
-spelled ds = spelled_from 0 ds
 
 -- negative where a sign stands
 abbrev pub with_sign : List ℕ → ℕ → ℤ
@@ -32,7 +25,7 @@ pub record IsInteger (text : List ℕ) (z : ℤ) : Type 0 where
   pub joined : text ≡ sign ++ digits
   pub minus : AreBytesOf is_minus 0 1 sign
   pub whole : AreBytesOf is_digit 1 15 digits
-  pub value : z ≡ with_sign sign (spelled digits)
+  pub value : z ≡ with_sign sign (digits_value 10 digits)
 
 -- an optional minus, 1 to 12 digits, a point, and 1 to 3 digits; the value is in thousandths
 -- (RFC 9651 section 3.3.2)
@@ -44,7 +37,7 @@ pub record IsDecimal (text : List ℕ) (z : ℤ) : Type 0 where
   pub minus : AreBytesOf is_minus 0 1 sign
   pub whole : AreBytesOf is_digit 1 12 digits
   pub fraction : AreBytesOf is_digit 1 3 part
-  pub value : z ≡ with_sign sign (spelled (digits ++ part) * 10 ^ (3 - length part))
+  pub value : z ≡ with_sign sign (digits_value 10 (digits ++ part) * 10 ^ (3 - length part))
 
 -- printable characters in quotes, `"` and `\` after a backslash (RFC 9651 section 3.3.3)
 pub record IsString (text : List ℕ) (s : List ℕ) : Type 0 where

@@ -35,7 +35,8 @@ fn read_letters_end<'a>(
     bytes: &'a [u8],
 ) -> Result<(Text, &'a [u8]), Stop>
     requires { IsTrue (list_all is_base64 letters.now) }
-    ensures { GivesUnlessMemory (λ x. (x.0, x.1.now)) result (letters_end_read letters.now bytes.now) }
+    ensures { GivesUnlessMemory (λ x. (x.0, x.1.now)) result
+        (letters_end_read letters.now bytes.now) }
 {
     match decode(alloc, letters)? {
         None => Err(Stop::At(bytes.len())),

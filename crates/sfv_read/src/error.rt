@@ -1,4 +1,4 @@
-//! Why a text isn't read, and why a reader of a part of it stopped.
+//! Why a text isn't read, and why a reader inside it stopped.
 
 ghost use Rattle.std.specs.Prelude.{◌≡◌};
 ghost use Rattle.sfv_read.specs.declared.error.Stop.TheVariants.{Memory as NoMore, At};
@@ -8,17 +8,17 @@ use sfv_text::Memory;
 use std::error::Error;
 use std::fmt;
 
-/// Why a text isn't read. An offset counts bytes; it is the length of the longest prefix of the text
-/// that begins a text that is read, so a text that only lacks its end has its own length as the
-/// offset.
+/// Why a text isn't read. An offset counts bytes; it is the length of the longest prefix of the
+/// text that begins a text that is read, so a text that only lacks its end has its own length as
+/// the offset.
 #[derive(Clone, Copy, Debug, PartialEq, Eq)]
 pub enum SfError {
     /// Out of memory. It says nothing of the text.
     Memory,
     /// No text that is read goes on so at this offset.
     Syntax(usize),
-    /// `@` or `%` stands at this offset, where an item or a parameter's value may begin: a Date or a
-    /// Display String (RFC 9651 sections 3.3.7 and 3.3.8), which aren't read.
+    /// `@` or `%` stands at this offset, where an item or a parameter's value may begin: a Date or
+    /// a Display String (RFC 9651 sections 3.3.7 and 3.3.8), which aren't read.
     ItemKind(usize),
 }
 
@@ -34,7 +34,7 @@ impl fmt::Display for SfError {
 
 impl Error for SfError {}
 
-/// Why a reader of a part stopped.
+/// Why a reader inside a text stopped.
 #[derive(Clone, Copy, Debug, PartialEq, Eq)]
 pub enum Stop {
     /// Out of memory.

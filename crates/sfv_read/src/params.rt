@@ -12,8 +12,8 @@ use byte_grammar::{read_all, read_byte, read_word, starts_with};
 use sfv_text::{BareItem, Pair, Params, Text};
 use std::alloc::Global;
 
-/// Reads parameters one after the other. A repeated key stands where it first stood and has its last
-/// value.
+/// Reads parameters one after the other. A repeated key stands where it first stood and has its
+/// last value.
 pub fn read_parameters(alloc: Global, bytes: &[u8]) -> Result<(Params, &[u8]), Stop>
     ensures { GivesUnlessMemory (λ x. (x.0, x.1.now)) result (parameters_read bytes.now) }
 {

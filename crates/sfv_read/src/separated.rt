@@ -27,7 +27,7 @@ pub trait Separated: Drop {
 
     ghost with_part: { Self → Self.Part → Self };
 
-    /// What is made of no member. A loop over members, which begins with it, ends and does what turns
+    /// What is made of no member. A loop over members begins with it; it ends, and does what turns
     /// do.
     fn empty(alloc: Global) -> Self
         ensures nothing { result ≡ nothing }
@@ -129,7 +129,8 @@ fn read_next_member<S: Separated>(
     alloc: Global,
     bytes: &[u8],
 ) -> Result<(Option<S::Part>, &[u8]), Stop>
-    ensures { GivesUnlessMemory (λ x. (x.0, x.1.now)) result (next_member_read S.reading bytes.now) }
+    ensures { GivesUnlessMemory (λ x. (x.0, x.1.now)) result
+        (next_member_read S.reading bytes.now) }
 {
     let (_, rest) = read_all(Class::Blank, bytes);
     if !starts_with(Byte(b','), rest) {

@@ -13,7 +13,7 @@ use byte_grammar::{Left, read_byte};
 use sfv_text::Text;
 use std::alloc::Global;
 
-/// What the first byte of a character's text tells.
+/// What the first byte of a character's text says that it is.
 #[derive(Clone, Copy)]
 pub enum CharKind {
     /// The quote after the last character.

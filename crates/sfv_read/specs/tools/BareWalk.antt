@@ -12,14 +12,15 @@ use Rattle.sfv_read.specs.declared.string.CharKind.TheVariants.{Finish, Escape, 
 use Rattle.sfv_text.specs.Range.{is_token_first, is_token_rest}
 use Rattle.byte_classes.specs.Classes.{is_digit}
 use Rattle.sfv_read.specs.Class.{is_minus, is_dot, is_quote, is_backslash, is_unescaped, is_escapable, is_question, is_bit, is_colon, is_equals, is_base64}
-use Rattle.sfv_read.specs.BareItem.{with_sign, spelled}
+use Rattle.std.specs.Str.Parse.{digits_value}
+use Rattle.sfv_read.specs.BareItem.{with_sign}
 
 -- ---- Integers and Decimals
 
 abbrev pub number_of : List ℕ → List ℕ → Option (List ℕ) → BareItem
-number_of sign digits None = Integer (with_sign sign (spelled digits))
+number_of sign digits None = Integer (with_sign sign (digits_value 10 digits))
 number_of sign digits (Some part) =
-    Decimal (with_sign sign (spelled (digits ++ part) * 10 ^ (3 - length part)))
+    Decimal (with_sign sign (digits_value 10 (digits ++ part) * 10 ^ (3 - length part)))
 
 -- a point and 1 to 3 digits
 unfoldable pub part_read : Reader (List ℕ)
