@@ -7,7 +7,8 @@ use Rattle.std.specs.List.{list_all, list_any}
 use Rattle.byte_grammar.specs.Language.{starts_in, Begins, IsRun, IsWord, Each}
 use Rattle.byte_grammar.specs.tools.Languages.{Then, Turns, IsByte, IsAll, Among, Optional, Mapped}
 use Rattle.byte_grammar.specs.Walk.{◌>>=◌, byte_if, byte_read, run_length, cut_at, run_read, all_read, word_read}
-use Rattle.byte_grammar.specs.tools.Walks.{left, Next, then_read, with_turns, turns_in, turns_read, kind_read, kind_in, pick_read, optional_if, optional_read, is_of, choose_read}
+use Rattle.byte_classes.specs.Classes.{is_one_of}
+use Rattle.byte_grammar.specs.tools.Walks.{left, Next, then_read, with_turns, turns_in, turns_read, kind_read, kind_in, pick_read, optional_if, optional_read, choose_read}
 
 -- A reader reads a language: what it gives is spelled so, where it stops the text so far begins the
 -- language, a text of the language is read where its value's followers come, and no prefix of the language
@@ -655,12 +656,12 @@ any_next [] = tt
 any_next (c ∷ r) = refl
 
 -- what holds of each of these bytes
-pub of_each : (P : ℕ → Bool) (ends : List ℕ) → list_all P ends ≡ true → (c : ℕ) → is_of ends c ≡ true → P c ≡ true
+pub of_each : (P : ℕ → Bool) (ends : List ℕ) → list_all P ends ≡ true → (c : ℕ) → is_one_of ends c ≡ true → P c ≡ true
 of_each P [] all c is = absurd cc
-of_each P (d ∷ ends) all c is = go (λ h. of_each P ends (and_is (P d) (list_all P ends) all).1 c h) (eqb c d) refl is
+of_each P (d ∷ ends) all c is = go (λ h. of_each P ends (and_is (P d) (list_all P ends) all).1 c h) (eqb d c) refl is
   where
-    go : (list_any (λ d. eqb c d) ends ≡ true → P c ≡ true) → (b : Bool) → eqb c d ≡ b → (b || list_any (λ d. eqb c d) ends) ≡ true → P c ≡ true
-    go others true e is = ap P (eqb-true c d e) ∙ (and_is (P d) (list_all P ends) all).0
+    go : (list_any (λ d. eqb d c) ends ≡ true → P c ≡ true) → (b : Bool) → eqb d c ≡ b → (b || list_any (λ d. eqb d c) ends) ≡ true → P c ≡ true
+    go others true e is = ap P (sym (eqb-true d c e)) ∙ (and_is (P d) (list_all P ends) all).0
     go others false e is = others is
 
 -- a byte of a class is none that the class doesn't allow

@@ -6,8 +6,8 @@ use Rattle.std.proofs.lemmas.List.Folds.{list_all-append}
 use Rattle.byte_grammar.specs.Language.{Each, IsFurther, Padded}
 use Rattle.byte_grammar.specs.tools.Languages.{Then, Turns, Mapped, IsByte, IsAll}
 use Rattle.byte_grammar.specs.Walk.{◌>>=◌}
-use Rattle.byte_grammar.specs.tools.Walks.{Next, with_turns, is_of, turns_read, padded_read}
-use Rattle.byte_classes.specs.Classes.{is_space}
+use Rattle.byte_classes.specs.Classes.{is_one_of, is_space}
+use Rattle.byte_grammar.specs.tools.Walks.{Next, with_turns, turns_read, padded_read}
 use Rattle.sfv_read.specs.Class.{is_open, is_close}
 use Rattle.sfv_read.specs.Inner.{AreSpaces, AreItems, IsInner}
 use Rattle.sfv_read.specs.tools.InnerWalk.{close_read, some_item_read, item_or_close_read, after_gap, next_item_read, items_after, items_read, inner_list_read}
@@ -25,7 +25,7 @@ use Rattle.sfv_read.specs.tools.InnerWalk.{inner_of}
 -- what may follow a offset of an item: after one a space or the end, after the end anything
 slot : Option Item → ℕ → Bool
 slot None c = true
-slot (Some v) c = is_of (32 ∷ 41 ∷ []) c
+slot (Some v) c = is_one_of (32 ∷ 41 ∷ []) c
 
 abbrev CloseText : List ℕ → Option Item → Type 0
 CloseText x o = Mapped (λ (_ : ℕ). None) (IsByte is_close) x o
@@ -45,7 +45,7 @@ meets_close_only = meets_map (meets_byte is_close 41 refl (λ _ _. true)) (λ (_
 
 meets_some_item : Meets SomeItem slot some_item_read
 unfolding some_item_read slot
-meets_some_item = meets_map meets_item (λ (v : Item). Some v) (λ v c h. of_each (is_of after_params) (32 ∷ 41 ∷ []) refl c h)
+meets_some_item = meets_map meets_item (λ (v : Item). Some v) (λ v c h. of_each (is_one_of after_params) (32 ∷ 41 ∷ []) refl c h)
 
 close_starts : (P : ℕ → Bool) → P 41 ≡ true → (x : List ℕ) (o : Option Item) → CloseText x o → Starts P x
 close_starts P is x o h = subst (λ (y : List ℕ). Starts P y) (sym h.1.same) (subst (λ (c : ℕ). P c ≡ true) (sym (eqb-true h.0 41 h.1.passes)) is)
@@ -84,26 +84,26 @@ meets_inner_turn =
     (λ u y v r h after. starts_next (λ c. not (is_space c)) (λ c. not (is_space c)) (λ c h. h) y r (gap_starts u y v h))
 
 -- a turn begins with a space or the end
-turn_starts : (x : List ℕ) (o : Option Item) → InnerTurn x o → Starts (is_of (32 ∷ 41 ∷ [])) x
+turn_starts : (x : List ℕ) (o : Option Item) → InnerTurn x o → Starts (is_one_of (32 ∷ 41 ∷ [])) x
 unfolding InnerTurn
-turn_starts x o t = subst (λ (y : List ℕ). Starts (is_of (32 ∷ 41 ∷ [])) y) (sym (t.joined ∙ ap (λ (y : List ℕ). y ++ t.second) t.spells.same)) (go t.value t.spells.passes t.more)
+turn_starts x o t = subst (λ (y : List ℕ). Starts (is_one_of (32 ∷ 41 ∷ [])) y) (sym (t.joined ∙ ap (λ (y : List ℕ). y ++ t.second) t.spells.same)) (go t.value t.spells.passes t.more)
   where
-    go : (s : List ℕ) → list_all is_space s ≡ true → AfterGap s t.second o → Starts (is_of (32 ∷ 41 ∷ [])) (s ++ t.second)
-    go [] all h = close_starts (is_of (32 ∷ 41 ∷ [])) refl t.second o h
-    go (c ∷ s) all h = subst (λ (c : ℕ). is_of (32 ∷ 41 ∷ []) c ≡ true) (sym (eqb-true c 32 (and_is (is_space c) (list_all is_space s) all).0)) refl
+    go : (s : List ℕ) → list_all is_space s ≡ true → AfterGap s t.second o → Starts (is_one_of (32 ∷ 41 ∷ [])) (s ++ t.second)
+    go [] all h = close_starts (is_one_of (32 ∷ 41 ∷ [])) refl t.second o h
+    go (c ∷ s) all h = subst (λ (c : ℕ). is_one_of (32 ∷ 41 ∷ []) c ≡ true) (sym (eqb-true c 32 (and_is (is_space c) (list_all is_space s) all).0)) refl
 
-turn_next : (x : List ℕ) (o : Option Item) (r : List ℕ) → InnerTurn x o → Next (is_of (32 ∷ 41 ∷ [])) (x ++ r)
-turn_next x o r h = starts_next (is_of (32 ∷ 41 ∷ [])) (is_of (32 ∷ 41 ∷ [])) (λ c h. h) x r (turn_starts x o h)
+turn_next : (x : List ℕ) (o : Option Item) (r : List ℕ) → InnerTurn x o → Next (is_one_of (32 ∷ 41 ∷ [])) (x ++ r)
+turn_next x o r h = starts_next (is_one_of (32 ∷ 41 ∷ [])) (is_one_of (32 ∷ 41 ∷ [])) (λ c h. h) x r (turn_starts x o h)
 
 abbrev InnerTurns : List ℕ → List Item → Type 0
 InnerTurns x vs = Turns InnerTurn x vs
 
-turns_next : (x : List ℕ) (vs : List Item) (r : List ℕ) → InnerTurns x vs → Next (is_of (32 ∷ 41 ∷ [])) (x ++ r)
+turns_next : (x : List ℕ) (vs : List Item) (r : List ℕ) → InnerTurns x vs → Next (is_one_of (32 ∷ 41 ∷ [])) (x ++ r)
 turns_next x [] r h = turn_next x None r h
-turns_next x (v ∷ vs) r h = subst (λ (y : List ℕ). Next (is_of (32 ∷ 41 ∷ [])) y) (sym (ap (λ (y : List ℕ). y ++ r) h.2 ∙ append_assoc h.0 h.1 r)) (turn_next h.0 (Some v) (h.1 ++ r) h.3)
+turns_next x (v ∷ vs) r h = subst (λ (y : List ℕ). Next (is_one_of (32 ∷ 41 ∷ [])) y) (sym (ap (λ (y : List ℕ). y ++ r) h.2 ∙ append_assoc h.0 h.1 r)) (turn_next h.0 (Some v) (h.1 ++ r) h.3)
 
 turn_grows : (x : List ℕ) (v : Item) → InnerTurn x (Some v) → 0 < length x
-turn_grows x v h = starts_length (is_of (32 ∷ 41 ∷ [])) x (turn_starts x (Some v) h)
+turn_grows x v h = starts_length (is_one_of (32 ∷ 41 ∷ [])) x (turn_starts x (Some v) h)
 
 meets_inner_turns : Meets InnerTurns (λ _ _. true) (turns_read next_item_read)
 unfolding slot InnerTurn
@@ -261,13 +261,13 @@ none_text = record { first = 41 ∷ []; second = []; value = None; joined = refl
 Inside : List ℕ → InnerList → Type 0
 Inside x v = Then ItemsText (λ items. Mapped (λ (ps : List (Pair BareItem)). inner_of items ps) AreDistinct) x v
 
-pub meets_inner : Meets IsInner (λ _ c. is_of after_params c) inner_list_read
+pub meets_inner : Meets IsInner (λ _ c. is_one_of after_params c) inner_list_read
 unfolding inner_list_read Inside
 meets_inner =
     meets_same
     (meets_then (meets_byte is_open 40 refl (λ _ _. true))
     (λ _. meets_then (meets_all is_space)
-    (λ _. meets_then meets_items (λ items. meets_map {G = λ _ c. is_of after_params c} meets_kept (λ (ps : List (Pair BareItem)). inner_of items ps) (λ v c h. h))
+    (λ _. meets_then meets_items (λ items. meets_map {G = λ _ c. is_one_of after_params c} meets_kept (λ (ps : List (Pair BareItem)). inner_of items ps) (λ v c h. h))
     (λ x u h. ([], inner_of u [], ([], ([], refl, refl), refl))) (λ u y v r h after. any_next (y ++ r)))
     (λ x u h. (41 ∷ [], (inner_of [] []), inside_none)) (λ u y v r h after. inside_next y v r h))
     (λ x u h. (41 ∷ [], (inner_of [] []), record { first = []; second = 41 ∷ []; value = []; joined = refl; spells = record { same = refl; passes = refl }; more = inside_none })) (λ u y v r h after. any_next (y ++ r)))
@@ -330,5 +330,5 @@ some_inner = record { before = []; items = []; after = []; params = []; written 
 
 pub meets_whole_inner : Meets (Padded is_space IsInner) Nothing (λ bytes. padded_read is_space inner_list_read bytes)
 meets_whole_inner =
-    meets_padded is_space meets_inner (λ v c e. subst (λ (c : ℕ). is_of after_params c ≡ true) (sym (eqb-true c 32 e)) refl)
+    meets_padded is_space meets_inner (λ v c e. subst (λ (c : ℕ). is_one_of after_params c ≡ true) (sym (eqb-true c 32 e)) refl)
     (λ x v r h. subst (λ (y : List ℕ). Next (λ c. not (is_space c)) (y ++ r)) (sym h.joined) refl) (40 ∷ 41 ∷ []) (inner_of [] []) some_inner

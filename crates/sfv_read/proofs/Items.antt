@@ -5,11 +5,11 @@ use Rattle.std.proofs.lemmas.Bool.{eqb-true}
 use Rattle.byte_grammar.specs.Language.{IsWord, Padded}
 use Rattle.byte_grammar.specs.tools.Languages.{Then, Mapped, Optional, IsByte, IsAll}
 use Rattle.byte_grammar.specs.Walk.{◌>>=◌}
-use Rattle.byte_grammar.specs.tools.Walks.{Next, with_turns, is_of, turns_read, padded_read}
+use Rattle.byte_classes.specs.Classes.{is_one_of, is_space}
+use Rattle.byte_grammar.specs.tools.Walks.{Next, with_turns, turns_read, padded_read}
 use Rattle.sfv_read.specs.BareItem.{IsBareItem}
 use Rattle.sfv_read.specs.tools.BareWalk.{kind_of_bare_item}
 use Rattle.sfv_text.specs.Range.{is_key_first, is_key_rest}
-use Rattle.byte_classes.specs.Classes.{is_space}
 use Rattle.sfv_read.specs.Class.{is_equals, is_semicolon}
 use Rattle.sfv_read.specs.Item.{IsKey, IsValue, IsParameter, AreParameters, distinct_pairs, IsItem}
 use Rattle.sfv_read.specs.tools.ItemWalk.{equals_read, value_or_true, value_read, parameter_read, next_parameter_read, parameters_read, item_read}
@@ -45,14 +45,14 @@ after_param = 59 ∷ 32 ∷ 9 ∷ 44 ∷ 41 ∷ []
 abbrev pub after_params : List ℕ
 after_params = 32 ∷ 9 ∷ 44 ∷ 41 ∷ []
 
-meets_value : Meets IsValue (λ _ c. is_of after_param c) value_read
+meets_value : Meets IsValue (λ _ c. is_one_of after_param c) value_read
 unfolding IsEquals value_read
 meets_value =
     meets_same (meets_map (meets_optional is_equals meets_equals (λ x v h. subst (λ (y : List ℕ). Starts is_equals y) (sym h.1) refl)) value_or_true sub) to from (λ v c h. h)
   where
-    sub : (o : Option BareItem) (c : ℕ) → is_of after_param c ≡ true → optional_follow is_equals End o c ≡ true
+    sub : (o : Option BareItem) (c : ℕ) → is_one_of after_param c ≡ true → optional_follow is_equals End o c ≡ true
     sub None c h = of_each (λ c. not (is_equals c)) after_param refl c h
-    sub (Some v) c h = of_each (is_of ends) after_param refl c h
+    sub (Some v) c h = of_each (is_one_of ends) after_param refl c h
 
     to : (x : List ℕ) (v : BareItem) → Mapped value_or_true (Optional IsEquals) x v → IsValue x v
     to x v (None, h, e) = inr (h, sym e)
@@ -63,22 +63,22 @@ meets_value =
     from x v (inr h) = (None, h.0, sym h.1)
 
 -- a value begins with `=` or is empty
-value_next : (P : ℕ → Bool) → P 61 ≡ true → ((c : ℕ) → is_of after_param c ≡ true → P c ≡ true) → (x : List ℕ) (v : BareItem) (r : List ℕ) → IsValue x v → Next (λ c. is_of after_param c) r → Next P (x ++ r)
+value_next : (P : ℕ → Bool) → P 61 ≡ true → ((c : ℕ) → is_one_of after_param c ≡ true → P c ≡ true) → (x : List ℕ) (v : BareItem) (r : List ℕ) → IsValue x v → Next (λ c. is_one_of after_param c) r → Next P (x ++ r)
 value_next P equals sub x v r (inl h) after = subst (λ (y : List ℕ). Next P (y ++ r)) (sym h.1) equals
-value_next P equals sub x v r (inr h) after = subst (λ (y : List ℕ). Next P (y ++ r)) (sym h.0) (next_more (λ c. is_of after_param c) P sub r after)
+value_next P equals sub x v r (inr h) after = subst (λ (y : List ℕ). Next P (y ++ r)) (sym h.0) (next_more (λ c. is_one_of after_param c) P sub r after)
 
 pub meets_key : Meets IsKey (λ _ c. not (is_key_rest c)) key_read
 unfolding key_read
 meets_key = meets_word is_key_first is_key_rest 97 refl
 
-meets_param : Meets IsParameter (λ _ c. is_of after_param c) parameter_read
+meets_param : Meets IsParameter (λ _ c. is_one_of after_param c) parameter_read
 unfolding parameter_read
 meets_param =
     meets_same
     (meets_then (meets_byte is_semicolon 59 refl (λ _ _. true))
     (λ _. meets_then (meets_all is_space)
     (λ _. meets_then meets_key
-    (λ key. meets_map {G = λ _ c. is_of after_param c} meets_value (λ (v : BareItem). pair_of key v) (λ v c h. h))
+    (λ key. meets_map {G = λ _ c. is_one_of after_param c} meets_value (λ (v : BareItem). pair_of key v) (λ v c h. h))
     (λ x u h. ([], pair_of u (Boolean true), (Boolean true, inr (refl, refl), refl)))
     (λ u y v r h after. value_next (λ c. not (is_key_rest c)) refl (λ c e. of_each (λ c. not (is_key_rest c)) after_param refl c e) y h.0 r h.1 after))
     (λ x u h. (97 ∷ [], pair_of (97 ∷ []) (Boolean true), key_alone))
@@ -131,12 +131,12 @@ meets_param =
 param_starts : (x : List ℕ) (p : Pair BareItem) → IsParameter x p → Starts is_semicolon x
 param_starts x p h = subst (λ (y : List ℕ). Starts is_semicolon y) (sym h.joined) refl
 
-pub meets_params : Meets AreParameters (λ _ c. is_of after_params c) (λ bytes. turns_read next_parameter_read bytes)
+pub meets_params : Meets AreParameters (λ _ c. is_one_of after_params c) (λ bytes. turns_read next_parameter_read bytes)
 unfolding next_parameter_read
 meets_params =
-    meets_each is_semicolon (λ c. is_of after_params c) meets_param param_starts
-    (λ v c e. subst (λ (c : ℕ). is_of after_param c ≡ true) (sym (eqb-true c 59 e)) refl)
-    (λ v c e. of_each (is_of after_param) after_params refl c e)
+    meets_each is_semicolon (λ c. is_one_of after_params c) meets_param param_starts
+    (λ v c e. subst (λ (c : ℕ). is_one_of after_param c ≡ true) (sym (eqb-true c 59 e)) refl)
+    (λ v c e. of_each (is_one_of after_param) after_params refl c e)
     (λ c e. of_each (λ c. not (is_semicolon c)) after_params refl c e)
 
 -- ---- items
@@ -144,22 +144,22 @@ meets_params =
 abbrev pub AreDistinct : List ℕ → List (Pair BareItem) → Type 0
 AreDistinct x ps = Mapped (λ (read : List (Pair BareItem)). distinct_pairs read) AreParameters x ps
 
-pub meets_kept : Meets AreDistinct (λ _ c. is_of after_params c) parameters_read
+pub meets_kept : Meets AreDistinct (λ _ c. is_one_of after_params c) parameters_read
 unfolding parameters_read
 meets_kept = meets_map meets_params (λ (read : List (Pair BareItem)). distinct_pairs read) (λ v c h. h)
 
-pub params_next : (P : ℕ → Bool) → P 59 ≡ true → ((c : ℕ) → is_of after_params c ≡ true → P c ≡ true) → (x : List ℕ) (ps : List (Pair BareItem)) (r : List ℕ) → AreParameters x ps → Next (λ c. is_of after_params c) r → Next P (x ++ r)
-params_next P semi sub x [] r h after = subst (λ (y : List ℕ). Next P (y ++ r)) (sym h) (next_more (λ c. is_of after_params c) P sub r after)
+pub params_next : (P : ℕ → Bool) → P 59 ≡ true → ((c : ℕ) → is_one_of after_params c ≡ true → P c ≡ true) → (x : List ℕ) (ps : List (Pair BareItem)) (r : List ℕ) → AreParameters x ps → Next (λ c. is_one_of after_params c) r → Next P (x ++ r)
+params_next P semi sub x [] r h after = subst (λ (y : List ℕ). Next P (y ++ r)) (sym h) (next_more (λ c. is_one_of after_params c) P sub r after)
 params_next P semi sub x (p ∷ ps) r h after = subst (λ (y : List ℕ). Next P (y ++ r)) (sym h.2) (subst (λ (y : List ℕ). Next P y) (sym (append_assoc h.0 h.1 r))
     (starts_next is_semicolon P (λ c e. subst (λ (c : ℕ). P c ≡ true) (sym (eqb-true c 59 e)) semi) h.0 (h.1 ++ r) (param_starts h.0 p h.3)))
 
-pub meets_item : Meets IsItem (λ _ c. is_of after_params c) item_read
+pub meets_item : Meets IsItem (λ _ c. is_one_of after_params c) item_read
 unfolding item_read
 meets_item =
     meets_same
-    (meets_then meets_bare (λ b. meets_map {G = λ _ c. is_of after_params c} meets_kept (λ (ps : List (Pair BareItem)). item_of b ps) (λ v c h. h))
+    (meets_then meets_bare (λ b. meets_map {G = λ _ c. is_one_of after_params c} meets_kept (λ (ps : List (Pair BareItem)). item_of b ps) (λ v c h. h))
     (λ x u h. ([], item_of u [], ([], ([], refl, refl), refl)))
-    (λ u y v r h after. params_next (is_of ends) refl (λ c e. of_each (is_of ends) after_params refl c e) y h.1.0 r h.1.1 after))
+    (λ u y v r h after. params_next (is_one_of ends) refl (λ c e. of_each (is_one_of ends) after_params refl c e) y h.1.0 r h.1.1 after))
     (λ x v t.
     let pair : item_of t.value t.more.0 ≡ v = t.more.2 in
     record {
@@ -178,7 +178,7 @@ pub item_next : (P : ℕ → Bool) → ((k : BareKind) (c : ℕ) → kind_of_bar
 item_next P sub x v r h = subst (λ (y : List ℕ). Next P y) (sym (ap (λ (y : List ℕ). y ++ r) h.joined ∙ append_assoc h.bare h.params r)) (bare_next P sub h.bare v.bare (h.params ++ r) h.is_bare)
 
 -- how a loop over parameters goes on
-meets_turn : Meets (Optional IsParameter) (optional_follow is_semicolon (λ _ c. is_of after_param c)) next_parameter_read
+meets_turn : Meets (Optional IsParameter) (optional_follow is_semicolon (λ _ c. is_one_of after_param c)) next_parameter_read
 unfolding next_parameter_read
 meets_turn = meets_optional is_semicolon meets_param param_starts
 
@@ -191,8 +191,8 @@ params_step bytes = turns_step meets_turn param_grows bytes
 pub params_shorter : (bytes : List ℕ) (p : Pair BareItem) (rest : List ℕ) → next_parameter_read bytes ≡ Ok (Some p, rest) → length rest < length bytes
 params_shorter bytes p rest e = shorter meets_turn param_grows bytes p rest e
 
-item_blank : (v : Item) (c : ℕ) → is_space c ≡ true → is_of after_params c ≡ true
-item_blank v c e = subst (λ (c : ℕ). is_of after_params c ≡ true) (sym (eqb-true c 32 e)) refl
+item_blank : (v : Item) (c : ℕ) → is_space c ≡ true → is_one_of after_params c ≡ true
+item_blank v c e = subst (λ (c : ℕ). is_one_of after_params c ≡ true) (sym (eqb-true c 32 e)) refl
 
 some_item_read : IsItem (63 ∷ 49 ∷ []) (item_of (Boolean true) [])
 some_item_read = record { bare = 63 ∷ 49 ∷ []; params = []; written = []; joined = refl; is_bare = refl; are_params = refl; are_distinct = refl }

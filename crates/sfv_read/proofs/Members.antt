@@ -1,19 +1,19 @@
 -- Lists and dictionaries: what is read is one, and one is read.
-use Rattle.std.proofs.Common.{◌≡◌, ℕ, ◌||◌, Bool, true, false, not, eqb, List, [], ◌∷◌, ◌++◌, length, Option, Some, None, Result, Ok, Err, refl, sym, ap, subst, ◌∙◌, append_assoc, ◌<◌, inl, inr, ◌⊎◌}
+use Rattle.std.proofs.Common.{◌≡◌, ℕ, ◌||◌, Bool, true, false, not, eqb, List, [], ◌∷◌, ◌++◌, length, Option, Some, None, Ok, refl, sym, ap, subst, ◌∙◌, append_assoc, ◌<◌, inl, inr, ◌⊎◌}
 use Rattle.std.proofs.lemmas.Bool.{eqb-true}
 use Rattle.std.proofs.lemmas.List.{append-nil}
 use Rattle.byte_grammar.specs.Language.{after_all}
 use Rattle.byte_grammar.specs.tools.Languages.{Then, Mapped, Optional}
-use Rattle.byte_grammar.specs.Walk.{◌>>=◌, all_read}
-use Rattle.byte_grammar.specs.tools.Walks.{Next, is_of, optional_read, with_turns, turns_read, with_state}
+use Rattle.byte_grammar.specs.Walk.{◌>>=◌}
+use Rattle.byte_classes.specs.Classes.{is_one_of, is_blank}
+use Rattle.byte_grammar.specs.tools.Walks.{Next, with_turns, turns_read}
 use Rattle.sfv_read.specs.tools.BareWalk.{kind_of_bare_item}
 use Rattle.sfv_text.specs.Range.{is_key_first, is_key_rest}
-use Rattle.byte_classes.specs.Classes.{is_blank, is_space}
 use Rattle.sfv_read.specs.Class.{is_equals, is_open}
 use Rattle.sfv_read.specs.Inner.{IsInner}
-use Rattle.sfv_read.specs.Item.{IsItem, IsKey, AreParameters, distinct_pairs, put_pair}
+use Rattle.sfv_read.specs.Item.{IsItem, IsKey, AreParameters, distinct_pairs}
 use Rattle.sfv_read.specs.Member.{IsMember, IsDictValue, IsDictMember, true_item}
-use Rattle.sfv_read.specs.tools.MemberWalk.{separated_read, inner_member_read, item_member_read, member_read, equals_member_read, given_or_true, dict_value_read, dict_member_read, with_last, list_read, dict_read, next_member_read}
+use Rattle.sfv_read.specs.tools.MemberWalk.{inner_member_read, item_member_read, member_read, equals_member_read, given_or_true, dict_value_read, dict_member_read, with_last, list_read, dict_read, next_member_read}
 use Rattle.sfv_text.specs.declared.value.BareItem.{BareItem}
 use Rattle.sfv_read.specs.declared.bare.BareKind.{BareKind}
 use Rattle.byte_grammar.proofs.Laws.{Meets, Starts, meets_then, meets_byte, meets_optional, optional_follow, meets_choose, meets_done, meets_same, meets_map, any_next, of_each, apart}
@@ -32,7 +32,7 @@ use Rattle.byte_grammar.proofs.Whole.{Nothing}
 use Rattle.sfv_read.proofs.SeparatedTexts.{meets_separated, separated_step, separated_shorter}
 
 After : {V : Type 0} → V → ℕ → Bool
-After _ c = is_of after_params c
+After _ c = is_one_of after_params c
 
 kind_open : (k : BareKind) (c : ℕ) → kind_of_bare_item c ≡ Some k → not (is_open c) ≡ true
 kind_open k c e = go (eqb c 40) refl
@@ -78,12 +78,12 @@ member_starts : (x : List ℕ) (v : Member) → IsMember x v → Starts (λ c. n
 member_starts x (OneItem v) h = item_starts (λ c. not (is_blank c)) kind_ows x v h
 member_starts x (SomeItems v) h = inner_starts (λ c. not (is_blank c)) refl x v h
 
-after_ows : (c : ℕ) → is_blank c ≡ true → is_of after_params c ≡ true
+after_ows : (c : ℕ) → is_blank c ≡ true → is_one_of after_params c ≡ true
 after_ows c e = go (eqb c 32) (eqb c 9) refl refl e
   where
-    go : (a b : Bool) → eqb c 32 ≡ a → eqb c 9 ≡ b → (a || b) ≡ true → is_of after_params c ≡ true
-    go true b is other e = subst (λ (c : ℕ). is_of after_params c ≡ true) (sym (eqb-true c 32 is)) refl
-    go false true is other e = subst (λ (c : ℕ). is_of after_params c ≡ true) (sym (eqb-true c 9 other)) refl
+    go : (a b : Bool) → eqb c 32 ≡ a → eqb c 9 ≡ b → (a || b) ≡ true → is_one_of after_params c ≡ true
+    go true b is other e = subst (λ (c : ℕ). is_one_of after_params c ≡ true) (sym (eqb-true c 32 is)) refl
+    go false true is other e = subst (λ (c : ℕ). is_one_of after_params c ≡ true) (sym (eqb-true c 9 other)) refl
     go false false is other e = absurd (cc (e))
 
 -- members added one after the other, each at the end
@@ -119,7 +119,7 @@ MemberOr (Some w) x v = (x ≡ []) × (w ≡ v)
 meets_member_or : (o : Option Member) → Meets (MemberOr o) After (given_or_true o)
 unfolding MemberOr After
 meets_member_or None = meets_map meets_kept (λ (ps : List (Pair BareItem)). OneItem (true_item ps)) (λ v c h. h)
-meets_member_or (Some v) = meets_done v (λ _ c. is_of after_params c)
+meets_member_or (Some v) = meets_done v (λ _ c. is_one_of after_params c)
 
 PairValue : List ℕ → Member → Type 0
 PairValue x v = Then (Optional EqualsMember) MemberOr x v
@@ -134,9 +134,9 @@ meets_dict_value =
     fill None = ([], OneItem (true_item []), ([], ([], refl, refl), refl))
     fill (Some w) = ([], w, (refl, refl))
 
-    next : (o : Option Member) (y : List ℕ) (v : Member) (r : List ℕ) → MemberOr o y v → Next (λ c. is_of after_params c) r → Next (optional_follow is_equals (λ (_ : Member) c. is_of after_params c) o) (y ++ r)
+    next : (o : Option Member) (y : List ℕ) (v : Member) (r : List ℕ) → MemberOr o y v → Next (λ c. is_one_of after_params c) r → Next (optional_follow is_equals (λ (_ : Member) c. is_one_of after_params c) o) (y ++ r)
     next None y v r h after = params_next (λ c. not (is_equals c)) refl (λ c e. of_each (λ c. not (is_equals c)) after_params refl c e) y h.1.0 r h.1.1 after
-    next (Some w) y v r h after = subst (λ (y : List ℕ). Next (λ c. is_of after_params c) (y ++ r)) (sym h.0) after
+    next (Some w) y v r h after = subst (λ (y : List ℕ). Next (λ c. is_one_of after_params c) (y ++ r)) (sym h.0) after
 
 to_value : (rest : List ℕ) (v : Member) → PairValue rest v
     → IsDictValue rest v
@@ -154,7 +154,7 @@ unfolding PairValue EqualsMember MemberOr
 from_value rest v (inl h) = record { first = rest; second = []; value = Some v; joined = sym (append-nil rest); spells = h; more = (refl, refl) }
 from_value rest v (inr h) = record { first = []; second = rest; value = None; joined = refl; spells = refl; more = (distinct_pairs h.0, (h.0, h.1, refl), sym h.2) }
 
-value_next : (y : List ℕ) (v : Member) (r : List ℕ) → PairValue y v → Next (λ c. is_of after_params c) r → Next (λ c. not (is_key_rest c)) (y ++ r)
+value_next : (y : List ℕ) (v : Member) (r : List ℕ) → PairValue y v → Next (λ c. is_one_of after_params c) r → Next (λ c. not (is_key_rest c)) (y ++ r)
 value_next y v r t after = go (to_value y v t)
   where
     go : IsDictValue y v → Next (λ c. not (is_key_rest c)) (y ++ r)
@@ -168,7 +168,7 @@ meets_dict_member : Meets IsDictMember After dict_member_read
 unfolding dict_member_read After
 meets_dict_member =
     meets_same
-    (meets_then meets_key (λ k. meets_map {G = λ _ c. is_of after_params c} meets_dict_value (λ (v : Member). pair_of k v) (λ v c h. h))
+    (meets_then meets_key (λ k. meets_map {G = λ _ c. is_one_of after_params c} meets_dict_value (λ (v : Member). pair_of k v) (λ v c h. h))
     (λ x u h. ([], pair_of u (OneItem (true_item [])), (OneItem (true_item []), true_value, refl)))
     (λ u y v r h after. value_next y h.0 r h.1 after))
     (λ x p t.

@@ -1,5 +1,5 @@
 -- What a reading of whole texts says of the texts that are read.
-use Rattle.std.proofs.Common.{ℕ, ◌+◌, ◌≤◌, ◌<◌, Bool, List, [], ◌∷◌, ◌++◌, length, take, Result, Ok, Err, sym, subst, ◌∙◌}
+use Rattle.std.proofs.Common.{ℕ, Bool, List, [], ◌∷◌, ◌++◌, take, Result, Ok, Err, sym, subst, ◌∙◌}
 use Rattle.std.specs.Prelude.{IfOk, IfErr, IsTrue}
 use Rattle.byte_grammar.specs.tools.Walks.{whole_read, padded_read}
 use Rattle.byte_classes.specs.Classes.{is_space}

@@ -26,7 +26,7 @@ impl fmt::Display for SfError {
     fn fmt<W: fmt::Write>(&self, f: &mut fmt::Formatter<W>) -> fmt::Result {
         match self {
             SfError::Memory => f.write_str("out of memory"),
-            SfError::Syntax(offset) => write!(f, "no structured field from byte {offset} on"),
+            SfError::Syntax(offset) => write!(f, "not a structured field from byte {offset} on"),
             SfError::ItemKind(offset) => write!(f, "a Date or a Display String at byte {offset}"),
         }
     }

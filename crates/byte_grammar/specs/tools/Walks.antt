@@ -1,6 +1,5 @@
 -- Readers over lists made of smaller ones. No public clause cites this module.
-use Rattle.std.specs.Prelude.{◌≡◌, ℕ, zero, suc, nat_eq, Bool, true, false, List, [], ◌∷◌, ◌++◌, length, Option, Some, None, Result, Ok, Err, IsTrue, if◌then◌else◌}
-use Rattle.std.specs.List.{list_any}
+use Rattle.std.specs.Prelude.{◌≡◌, ℕ, zero, suc, Bool, true, false, List, [], ◌∷◌, ◌++◌, length, Option, Some, None, Result, Ok, Err, IsTrue, if◌then◌else◌}
 use Rattle.byte_grammar.specs.Language.{after_all, starts_in}
 use Rattle.byte_grammar.specs.Walk.{Reader, ◌>>=◌, all_read}
 
@@ -13,10 +12,6 @@ left (Err n) = n
 abbrev pub Next : (ℕ → Bool) → List ℕ → Type 0
 Next follow [] = Unit {0}
 Next follow (c ∷ rest) = IsTrue (follow c)
-
--- one of these bytes
-abbrev pub is_of : List ℕ → ℕ → Bool
-is_of ends c = list_any (λ d. nat_eq c d) ends
 
 abbrev pub then_read : {U V : Type 0} → Reader U → (U → Reader V) → Reader V
 then_read p q bytes = p bytes >>= λ a. q a.0 a.1

@@ -1,5 +1,5 @@
 -- Inner Lists, read over lists from left to right. No public clause cites this module.
-use Rattle.std.specs.Prelude.{ℕ, List, [], ◌∷◌, Option, Some, None, Result, Ok}
+use Rattle.std.specs.Prelude.{ℕ, List, [], ◌∷◌, Option, Some, None, Ok}
 use Rattle.byte_grammar.specs.Walk.{Reader, ◌>>=◌, byte_read, all_read}
 use Rattle.byte_grammar.specs.tools.Walks.{choose_read, turns_read}
 use Rattle.sfv_text.specs.declared.value.BareItem.{BareItem}

@@ -1,5 +1,5 @@
 -- Parameters and Items, read over lists from left to right. No public clause cites this module.
-use Rattle.std.specs.Prelude.{ℕ, true, List, Option, Some, None, Result, Ok}
+use Rattle.std.specs.Prelude.{ℕ, true, List, Option, Some, None, Ok}
 use Rattle.byte_grammar.specs.Walk.{Reader, ◌>>=◌, byte_read, all_read, word_read}
 use Rattle.byte_grammar.specs.tools.Walks.{optional_read, turns_read}
 use Rattle.sfv_text.specs.declared.value.BareItem.{BareItem}

@@ -1,5 +1,5 @@
 -- Lists and Dictionaries, read over lists from left to right. No public clause cites this module.
-use Rattle.std.specs.Prelude.{ℕ, true, List, [], ◌∷◌, ◌++◌, Option, Some, None, Result, Ok}
+use Rattle.std.specs.Prelude.{true, List, [], ◌∷◌, ◌++◌, Option, Some, None, Ok}
 use Rattle.byte_grammar.specs.Walk.{Reader, ◌>>=◌, byte_read, all_read}
 use Rattle.byte_grammar.specs.tools.Walks.{optional_read, choose_read, turns_read, with_state}
 use Rattle.sfv_text.specs.declared.value.Member.{Member}

@@ -1,4 +1,4 @@
-use Rattle.std.proofs.Common.{ap, sym, ◌∙◌}
+use Rattle.std.proofs.Common.{ap, ◌∙◌}
 use Rattle.std.proofs.lemmas.Result.{err_from_is_err_and}
 use Rattle.byte_grammar.specs.tools.Walks.{turns_read, with_state}
 use Rattle.byte_grammar.proofs.Loops.{state_last, state_err, state_more, some_next}
