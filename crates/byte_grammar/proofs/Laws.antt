@@ -4,8 +4,11 @@ use Rattle.std.proofs.lemmas.List.{length-append, take-append-drop, length-take,
 use Rattle.std.proofs.lemmas.List.Folds.{list_all-append}
 use Rattle.std.proofs.lemmas.Bool.{ltb-false, ltb-true, le-ltb, eqb-true}
 use Rattle.std.specs.List.{list_all, list_any}
-use Rattle.byte_grammar.specs.Language.{starts_in, Begins, Then, Turns, IsByte, IsRun, IsAll, Among, Optional, Mapped, IsWord, Each}
-use Rattle.byte_grammar.specs.Walk.{◌>>=◌, left, Next, then_read, turned, turns_in, turns_read, taken_if, byte_read, run_length, cut_at, run_read, all_read, picked, kind_in, pick_read, optional_if, optional_read, is_of, word_read, choose_read}
+use Rattle.byte_grammar.specs.Language.{starts_in, Begins, IsRun, IsWord, Each}
+use Rattle.byte_grammar.specs.tools.Languages.{Then, Turns, IsByte, IsAll, Among, Optional, Mapped}
+use Rattle.byte_grammar.specs.Walk.{◌>>=◌, byte_if, byte_read, run_length, cut_at, run_read, all_read, word_read}
+use Rattle.byte_classes.specs.Classes.{is_one_of}
+use Rattle.byte_grammar.specs.tools.Walks.{left, Next, then_read, with_turns, turns_in, turns_read, kind_read, kind_in, pick_read, optional_if, optional_read, choose_read}
 
 -- A reader reads a language: what it gives is spelled so, where it stops the text so far begins the
 -- language, a text of the language is read where its value's followers come, and no prefix of the language
@@ -24,7 +27,7 @@ left_less {V} {L} {F} {p} m bytes = go (p bytes) refl
     go (Ok a) e = let w = m.ok bytes a.0 a.1 e in omega (arith, length-append w.0 a.1, ap (λ (t : List ℕ). length t) w.1)
     go (Err n) e = let w = m.err bytes n e in omega (arith, length-append w.0 w.1, ap (λ (t : List ℕ). length t) w.2, w.3)
 
--- two ways to part one text: one prefix ends within the other
+-- two ways to cut one text in two: one prefix ends within the other
 pub prefixes : (a b c d : List ℕ) → a ++ b ≡ c ++ d → ((m : List ℕ) × (c ≡ a ++ m) × (b ≡ m ++ d)) ⊎ ((k : ℕ) × (m : List ℕ) × (a ≡ c ++ k ∷ m) × (d ≡ k ∷ m ++ b))
 prefixes [] b c d e = inl (c, refl, e)
 prefixes (x ∷ a) b [] d e = inr (x, a, refl, sym e)
@@ -206,23 +209,23 @@ module _ {V : Type 0} {L : List ℕ → Option V → Type 0} {F : Option V → �
   enough (suc i) zero bytes lt more = absurd (omega arith)
   enough (suc i) (suc j) bytes lt more = go (λ rest l k. enough i j rest l k) (p bytes) refl
     where
-      go : ((rest : List ℕ) → length rest < i → length rest < j → turns_in i p rest ≡ turns_in j p rest) → (r : Result (Option V × List ℕ) ℕ) → p bytes ≡ r → (r >>= λ a. turned a.0 a.1 (turns_in i p a.1)) ≡ (r >>= λ a. turned a.0 a.1 (turns_in j p a.1))
+      go : ((rest : List ℕ) → length rest < i → length rest < j → turns_in i p rest ≡ turns_in j p rest) → (r : Result (Option V × List ℕ) ℕ) → p bytes ≡ r → (r >>= λ a. with_turns a.0 a.1 (turns_in i p a.1)) ≡ (r >>= λ a. with_turns a.0 a.1 (turns_in j p a.1))
       go again (Ok (None, rest)) e = refl
       go again (Ok (Some v, rest)) e =
           let less : length rest < length bytes = shorter bytes v rest e in
-          ap (turned (Some v) rest) (again rest (omega arith) (omega arith))
+          ap (with_turns (Some v) rest) (again rest (omega arith) (omega arith))
       go again (Err k) e = refl
 
   -- one turn, and the turns after it
-  pub turns_step : (bytes : List ℕ) → turns_read p bytes ≡ (p bytes >>= λ a. turned a.0 a.1 (turns_read p a.1))
+  pub turns_step : (bytes : List ℕ) → turns_read p bytes ≡ (p bytes >>= λ a. with_turns a.0 a.1 (turns_read p a.1))
   unfolding turns_in turns_read
   turns_step bytes = go (p bytes) refl
     where
-      go : (r : Result (Option V × List ℕ) ℕ) → p bytes ≡ r → (r >>= λ a. turned a.0 a.1 (turns_in (length bytes) p a.1)) ≡ (r >>= λ a. turned a.0 a.1 (turns_in (suc (length a.1)) p a.1))
+      go : (r : Result (Option V × List ℕ) ℕ) → p bytes ≡ r → (r >>= λ a. with_turns a.0 a.1 (turns_in (length bytes) p a.1)) ≡ (r >>= λ a. with_turns a.0 a.1 (turns_in (suc (length a.1)) p a.1))
       go (Ok (None, rest)) e = refl
       go (Ok (Some v, rest)) e =
           let less : length rest < length bytes = shorter bytes v rest e in
-          ap (turned (Some v) rest) (enough (length bytes) (suc (length rest)) rest (omega arith) (omega arith))
+          ap (with_turns (Some v) rest) (enough (length bytes) (suc (length rest)) rest (omega arith) (omega arith))
       go (Err k) e = refl
 
   in_less : (k : ℕ) (bytes : List ℕ) → left (turns_in k p bytes) ≤ length bytes
@@ -231,12 +234,12 @@ module _ {V : Type 0} {L : List ℕ → Option V → Type 0} {F : Option V → �
   in_less (suc k) bytes = go (λ rest. in_less k rest) (p bytes) (left_less m bytes)
     where
       go : ((rest : List ℕ) → left (turns_in k p rest) ≤ length rest) → (r : Result (Option V × List ℕ) ℕ) → left r ≤ length bytes
-          → left (r >>= λ a. turned a.0 a.1 (turns_in k p a.1)) ≤ length bytes
+          → left (r >>= λ a. with_turns a.0 a.1 (turns_in k p a.1)) ≤ length bytes
       go again (Ok (None, rest)) le = le
       go again (Ok (Some v, rest)) le = omega (arith, as_prefix (λ (vs : List V). v ∷ vs) (turns_in k p rest), again rest)
       go again (Err n) le = le
 
-  turned_less : (r : Result (Option V × List ℕ) ℕ) → left (r >>= λ a. turned a.0 a.1 (turns_read p a.1)) ≤ left r
+  turned_less : (r : Result (Option V × List ℕ) ℕ) → left (r >>= λ a. with_turns a.0 a.1 (turns_read p a.1)) ≤ left r
   unfolding turns_read
   turned_less (Ok (None, rest)) = omega arith
   turned_less (Ok (Some v, rest)) = omega (arith, as_prefix (λ (vs : List V). v ∷ vs) (turns_in (suc (length rest)) p rest), in_less (suc (length rest)) rest)
@@ -248,7 +251,7 @@ module _ {V : Type 0} {L : List ℕ → Option V → Type 0} {F : Option V → �
   in_ok (suc k) bytes vs rest e = go (λ b ws c h. in_ok k b ws c h) (p bytes) refl e
     where
       go : ((b : List ℕ) (ws : List V) (c : List ℕ) → turns_in k p b ≡ Ok (ws, c) → (x : List ℕ) × (b ≡ x ++ c) × Turns L x ws)
-          → (r : Result (Option V × List ℕ) ℕ) → p bytes ≡ r → (r >>= λ a. turned a.0 a.1 (turns_in k p a.1)) ≡ Ok (vs, rest) → (x : List ℕ) × (bytes ≡ x ++ rest) × Turns L x vs
+          → (r : Result (Option V × List ℕ) ℕ) → p bytes ≡ r → (r >>= λ a. with_turns a.0 a.1 (turns_in k p a.1)) ≡ Ok (vs, rest) → (x : List ℕ) × (bytes ≡ x ++ rest) × Turns L x vs
       go again (Ok (None, c)) e h =
           let s = m.ok bytes None c e in
           let pair = ok_is ([], c) (vs, rest) h in
@@ -277,7 +280,7 @@ module _ {V : Type 0} {L : List ℕ → Option V → Type 0} {F : Option V → �
     in_err (suc k) bytes n lt e = go (λ b i l h. in_err k b i l h) (p bytes) refl e
       where
         go : ((b : List ℕ) (i : ℕ) → length b < k → turns_in k p b ≡ Err i → (x rest : List ℕ) × (b ≡ x ++ rest) × (length rest ≡ i) × Begins (Turns L) x)
-            → (r : Result (Option V × List ℕ) ℕ) → p bytes ≡ r → (r >>= λ a. turned a.0 a.1 (turns_in k p a.1)) ≡ Err n → (x rest : List ℕ) × (bytes ≡ x ++ rest) × (length rest ≡ n) × Begins (Turns L) x
+            → (r : Result (Option V × List ℕ) ℕ) → p bytes ≡ r → (r >>= λ a. with_turns a.0 a.1 (turns_in k p a.1)) ≡ Err n → (x rest : List ℕ) × (bytes ≡ x ++ rest) × (length rest ≡ n) × Begins (Turns L) x
         go again (Ok (None, c)) e h = absurd cc
         go again (Ok (Some v, c)) e h =
             let s = m.ok bytes (Some v) c e in
@@ -303,13 +306,13 @@ module _ {V : Type 0} {L : List ℕ → Option V → Type 0} {F : Option V → �
             finish x more (Some v) h = (more ++ done.0, v ∷ [], (x ++ more, done.0, sym (append_assoc x more done.0), h, done.1))
 
     turns_only : (vs : List V) (x r : List ℕ) → Turns L x vs → Next (F None) r → turns_read p (x ++ r) ≡ Ok (vs, r)
-    turns_only [] x r h after = turns_step (x ++ r) ∙ ap (λ (a : Result (Option V × List ℕ) ℕ). a >>= λ a. turned a.0 a.1 (turns_read p a.1)) (m.only x r None h after)
+    turns_only [] x r h after = turns_step (x ++ r) ∙ ap (λ (a : Result (Option V × List ℕ) ℕ). a >>= λ a. with_turns a.0 a.1 (turns_read p a.1)) (m.only x r None h after)
     turns_only (v ∷ vs) x r h after =
         let one = m.only h.0 (h.1 ++ r) (Some v) h.3 (starts vs h.1 v r h.4 after) in
         let text : x ++ r ≡ h.0 ++ (h.1 ++ r) = ap (λ (y : List ℕ). y ++ r) h.2 ∙ append_assoc h.0 h.1 r in
-        turns_step (x ++ r) ∙ ap (λ (y : List ℕ). p y >>= λ a. turned a.0 a.1 (turns_read p a.1)) text
-        ∙ ap (λ (a : Result (Option V × List ℕ) ℕ). a >>= λ a. turned a.0 a.1 (turns_read p a.1)) one
-        ∙ ap (turned (Some v) (h.1 ++ r)) (turns_only vs h.1 r h.4 after)
+        turns_step (x ++ r) ∙ ap (λ (y : List ℕ). p y >>= λ a. with_turns a.0 a.1 (turns_read p a.1)) text
+        ∙ ap (λ (a : Result (Option V × List ℕ) ℕ). a >>= λ a. with_turns a.0 a.1 (turns_read p a.1)) one
+        ∙ ap (with_turns (Some v) (h.1 ++ r)) (turns_only vs h.1 r h.4 after)
 
     turns_far : (vs : List V) (x more r : List ℕ) → Turns L (x ++ more) vs → left (turns_read p (x ++ r)) ≤ length r
     turns_far [] x more r h =
@@ -328,8 +331,8 @@ module _ {V : Type 0} {L : List ℕ → Option V → Type 0} {F : Option V → �
             let one = m.only h.0 (tail ++ r) (Some v) h.3 begin in
             let two = again tail more r (subst (λ (y : List ℕ). Turns L y vs) w.3 h.4) in
             let text : x ++ r ≡ h.0 ++ (tail ++ r) = ap (λ (y : List ℕ). y ++ r) w.2 ∙ append_assoc h.0 tail r in
-            let whole = turns_step (x ++ r) ∙ ap (λ (y : List ℕ). p y >>= λ a. turned a.0 a.1 (turns_read p a.1)) text
-            ∙ ap (λ (a : Result (Option V × List ℕ) ℕ). a >>= λ a. turned a.0 a.1 (turns_read p a.1)) one in
+            let whole = turns_step (x ++ r) ∙ ap (λ (y : List ℕ). p y >>= λ a. with_turns a.0 a.1 (turns_read p a.1)) text
+            ∙ ap (λ (a : Result (Option V × List ℕ) ℕ). a >>= λ a. with_turns a.0 a.1 (turns_read p a.1)) one in
             subst (λ (a : Result (List V × List ℕ) ℕ). left a ≤ length r) (sym whole) (omega (arith, as_prefix (λ (ws : List V). v ∷ ws) (turns_read p (tail ++ r)), two))
 
     pub meets_turns : Meets (Turns L) (λ _. F None) (turns_read p)
@@ -350,15 +353,15 @@ Heads pick i (c ∷ rest) = pick c ≡ Some i
 
 module _ {I V : Type 0} {L : I → List ℕ → V → Type 0} {F : V → ℕ → Bool} {q : I → List ℕ → Result (V × List ℕ) ℕ} {pick : ℕ → Option I}
     (m : (i : I) → Meets (L i) F (q i)) (heads : (i : I) (x : List ℕ) (v : V) → L i x v → Heads pick i x) where
-  pick_ok : (o : Option I) (bytes : List ℕ) (v : V) (rest : List ℕ) → picked q o bytes ≡ Ok (v, rest) → (x : List ℕ) × (bytes ≡ x ++ rest) × Among L x v
+  pick_ok : (o : Option I) (bytes : List ℕ) (v : V) (rest : List ℕ) → kind_read q o bytes ≡ Ok (v, rest) → (x : List ℕ) × (bytes ≡ x ++ rest) × Among L x v
   pick_ok None bytes v rest e = absurd cc
   pick_ok (Some i) bytes v rest e = let s = (m i).ok bytes v rest e in (s.0, s.1, (i, s.2))
 
-  pick_err : (some : (x : List ℕ) × (v : V) × Among L x v) (o : Option I) (bytes : List ℕ) (n : ℕ) → picked q o bytes ≡ Err n → (x rest : List ℕ) × (bytes ≡ x ++ rest) × (length rest ≡ n) × Begins (Among L) x
+  pick_err : (some : (x : List ℕ) × (v : V) × Among L x v) (o : Option I) (bytes : List ℕ) (n : ℕ) → kind_read q o bytes ≡ Err n → (x rest : List ℕ) × (bytes ≡ x ++ rest) × (length rest ≡ n) × Begins (Among L) x
   pick_err some None bytes n e = ([], bytes, refl, cc, some)
   pick_err some (Some i) bytes n e = let s = (m i).err bytes n e in (s.0, s.1, s.2, s.3, (s.4.0, s.4.1, (i, s.4.2)))
 
-  pick_less : (o : Option I) (bytes : List ℕ) → left (picked q o bytes) ≤ length bytes
+  pick_less : (o : Option I) (bytes : List ℕ) → left (kind_read q o bytes) ≤ length bytes
   pick_less None bytes = omega arith
   pick_less (Some i) bytes = left_less (m i) bytes
 
@@ -373,11 +376,11 @@ module _ {I V : Type 0} {L : I → List ℕ → V → Type 0} {F : V → ℕ →
     where
       only : (x r : List ℕ) (v : V) → Among L x v → Next (F v) r → pick_read pick q (x ++ r) ≡ Ok (v, r)
       only [] r v h after = absurd (heads h.0 [] v h.1)
-      only (c ∷ x) r v h after = ap (λ (o : Option I). picked q o (c ∷ x ++ r)) (heads h.0 (c ∷ x) v h.1) ∙ (m h.0).only (c ∷ x) r v h.1 after
+      only (c ∷ x) r v h after = ap (λ (o : Option I). kind_read q o (c ∷ x ++ r)) (heads h.0 (c ∷ x) v h.1) ∙ (m h.0).only (c ∷ x) r v h.1 after
 
       far : (x more r : List ℕ) (v : V) → Among L (x ++ more) v → left (pick_read pick q (x ++ r)) ≤ length r
       far [] more r v h = pick_less (kind_in pick r) r
-      far (c ∷ x) more r v h = subst (λ (o : Option I). left (picked q o (c ∷ x ++ r)) ≤ length r) (sym (heads h.0 (c ∷ x ++ more) v h.1)) ((m h.0).far (c ∷ x) more r v h.1)
+      far (c ∷ x) more r v h = subst (λ (o : Option I). left (kind_read q o (c ∷ x ++ r)) ≤ length r) (sym (heads h.0 (c ∷ x ++ more) v h.1)) ((m h.0).far (c ∷ x) more r v h.1)
 
 -- ---- one byte of a class
 
@@ -385,7 +388,7 @@ pub meets_byte : (class : ℕ → Bool) (c : ℕ) → class c ≡ true → (F : 
 unfolding byte_read
 meets_byte class c passes F = record { ok = ok; err = err; only = only; far = far }
   where
-    give : (b : Bool) (d : ℕ) (bytes : List ℕ) → class d ≡ b → (v : ℕ) (rest : List ℕ) → taken_if b d bytes ≡ Ok (v, rest) → (x : List ℕ) × (d ∷ bytes ≡ x ++ rest) × IsByte class x v
+    give : (b : Bool) (d : ℕ) (bytes : List ℕ) → class d ≡ b → (v : ℕ) (rest : List ℕ) → byte_if b d bytes ≡ Ok (v, rest) → (x : List ℕ) × (d ∷ bytes ≡ x ++ rest) × IsByte class x v
     give false d bytes is v rest e = absurd cc
     give true d bytes is v rest e =
         let pair = ok_is (d, bytes) (v, rest) e in
@@ -395,7 +398,7 @@ meets_byte class c passes F = record { ok = ok; err = err; only = only; far = fa
     ok [] v rest e = absurd cc
     ok (d ∷ bytes) v rest e = give (class d) d bytes refl v rest e
 
-    miss : (b : Bool) (d : ℕ) (bytes : List ℕ) (n : ℕ) → taken_if b d bytes ≡ Err n → length (d ∷ bytes) ≡ n
+    miss : (b : Bool) (d : ℕ) (bytes : List ℕ) (n : ℕ) → byte_if b d bytes ≡ Err n → length (d ∷ bytes) ≡ n
     miss false d bytes n e = cc
     miss true d bytes n e = absurd cc
 
@@ -407,9 +410,9 @@ meets_byte class c passes F = record { ok = ok; err = err; only = only; far = fa
     err (d ∷ bytes) n e = ([], d ∷ bytes, refl, miss (class d) d bytes n e, some)
 
     only : (x r : List ℕ) (v : ℕ) → IsByte class x v → Next (F v) r → byte_read class (x ++ r) ≡ Ok (v, r)
-    only x r v h after = ap (λ (y : List ℕ). byte_read class (y ++ r)) h.same ∙ ap (λ (b : Bool). taken_if b v r) h.passes
+    only x r v h after = ap (λ (y : List ℕ). byte_read class (y ++ r)) h.same ∙ ap (λ (b : Bool). byte_if b v r) h.passes
 
-    less : (b : Bool) (d : ℕ) (r : List ℕ) → left (taken_if b d r) ≤ length (d ∷ r)
+    less : (b : Bool) (d : ℕ) (r : List ℕ) → left (byte_if b d r) ≤ length (d ∷ r)
     less false d r = omega arith
     less true d r = omega arith
 
@@ -421,7 +424,7 @@ meets_byte class c passes F = record { ok = ok; err = err; only = only; far = fa
         let tail : x ++ more ≡ [] = cc (h.same) in
         let passes : class d ≡ true = ap class is ∙ h.passes in
         let none : x ≡ [] = empty_prefix x more tail in
-        subst (λ (b : Bool). left (taken_if b d (x ++ r)) ≤ length r) (sym passes) (subst (λ (y : List ℕ). length (y ++ r) ≤ length r) (sym none) (omega arith))
+        subst (λ (b : Bool). left (byte_if b d (x ++ r)) ≤ length r) (sym passes) (subst (λ (y : List ℕ). length (y ++ r) ≤ length r) (sym none) (omega arith))
       where
         empty_prefix : (x more : List ℕ) → x ++ more ≡ [] → x ≡ []
         empty_prefix [] more e = refl
@@ -653,12 +656,12 @@ any_next [] = tt
 any_next (c ∷ r) = refl
 
 -- what holds of each of these bytes
-pub of_each : (P : ℕ → Bool) (ends : List ℕ) → list_all P ends ≡ true → (c : ℕ) → is_of ends c ≡ true → P c ≡ true
+pub of_each : (P : ℕ → Bool) (ends : List ℕ) → list_all P ends ≡ true → (c : ℕ) → is_one_of ends c ≡ true → P c ≡ true
 of_each P [] all c is = absurd cc
-of_each P (d ∷ ends) all c is = go (λ h. of_each P ends (and_is (P d) (list_all P ends) all).1 c h) (eqb c d) refl is
+of_each P (d ∷ ends) all c is = go (λ h. of_each P ends (and_is (P d) (list_all P ends) all).1 c h) (eqb d c) refl is
   where
-    go : (list_any (λ d. eqb c d) ends ≡ true → P c ≡ true) → (b : Bool) → eqb c d ≡ b → (b || list_any (λ d. eqb c d) ends) ≡ true → P c ≡ true
-    go others true e is = ap P (eqb-true c d e) ∙ (and_is (P d) (list_all P ends) all).0
+    go : (list_any (λ d. eqb d c) ends ≡ true → P c ≡ true) → (b : Bool) → eqb d c ≡ b → (b || list_any (λ d. eqb d c) ends) ≡ true → P c ≡ true
+    go others true e is = ap P (sym (eqb-true d c e)) ∙ (and_is (P d) (list_all P ends) all).0
     go others false e is = others is
 
 -- a byte of a class is none that the class doesn't allow

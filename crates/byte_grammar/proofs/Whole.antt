@@ -2,8 +2,10 @@
 use Rattle.std.proofs.Common.{◌≡◌, ℕ, ◌+◌, ◌-◌, ◌≤◌, Bool, true, false, not, List, [], ◌∷◌, ◌++◌, length, take, drop, Result, Ok, Err, refl, sym, ap, subst, ◌∙◌, append_assoc, inl, inr, arith}
 use Rattle.std.specs.List.{list_all}
 use Rattle.std.proofs.lemmas.List.{append-nil, length-append, take_at, take-append-drop, length-drop}
-use Rattle.byte_grammar.specs.Language.{Begins, IsAll, Padded}
-use Rattle.byte_grammar.specs.Walk.{◌>>=◌, left, Next, padded_read, ended, whole_read, unread}
+use Rattle.byte_grammar.specs.Language.{Begins, Padded}
+use Rattle.byte_grammar.specs.tools.Languages.{IsAll}
+use Rattle.byte_grammar.specs.Walk.{◌>>=◌}
+use Rattle.byte_grammar.specs.tools.Walks.{left, Next, padded_read, value_at_end, whole_read, unread}
 use Rattle.byte_grammar.proofs.Laws.{Meets, meets_then, meets_all, meets_same, meets_map, and_is, ok_is, not_err, left_less, bind_ok, bind_err}
 use Rattle.byte_grammar.specs.FaultOffset.{IsFaultOffset}
 
@@ -100,7 +102,7 @@ module _ {V : Type 0} {L : List ℕ → V → Type 0} {p : List ℕ → Result (
       is_offset text (length (c ∷ rest)) (ap (λ (r : Result (V × List ℕ) ℕ). left r) e) (rest_none text v c rest e)
       (subst (λ (y : List ℕ). Begins L y) (sym (take_prefix s.0 (c ∷ rest) text s.1)) ([], v, subst (λ (y : List ℕ). L y v) (sym (append-nil s.0)) s.2))
 
--- a reading of whole texts tells the language and the offset of each fault
+-- a reading of whole texts judges the language and the offset of each fault
 pub record Judges {V : Type 0} (L : List ℕ → V → Type 0) (r : List ℕ → Result V ℕ) : Type 0 where
   pub ok : (text : List ℕ) (v : V) → r text ≡ Ok v → L text v
   pub only : (text : List ℕ) (v : V) → L text v → r text ≡ Ok v
@@ -114,15 +116,15 @@ empty [] e = refl
 empty (c ∷ x) e = absurd (omega arith)
 
 module _ {V : Type 0} {L : List ℕ → V → Type 0} {p : List ℕ → Result (V × List ℕ) ℕ} (m : Meets L Nothing p) where
-  ended_ok : (v : V) (rest : List ℕ) (w : V) → ended v rest ≡ Ok w → (v ≡ w) × (rest ≡ [])
+  ended_ok : (v : V) (rest : List ℕ) (w : V) → value_at_end v rest ≡ Ok w → (v ≡ w) × (rest ≡ [])
   ended_ok v [] w e = (ok_is _ _ e, refl)
   ended_ok v (c ∷ rest) w e = absurd (cc e)
 
-  ended_err : (v : V) (rest : List ℕ) (n : ℕ) → ended v rest ≡ Err n → (c : ℕ) × (more : List ℕ) × (rest ≡ c ∷ more) × (length (c ∷ more) ≡ n)
+  ended_err : (v : V) (rest : List ℕ) (n : ℕ) → value_at_end v rest ≡ Err n → (c : ℕ) × (more : List ℕ) × (rest ≡ c ∷ more) × (length (c ∷ more) ≡ n)
   ended_err v [] n e = absurd (not_err _ _ e)
   ended_err v (c ∷ rest) n e = (c, rest, refl, cc e)
 
-  unread_left : (r : Result (V × List ℕ) ℕ) → unread (r >>= λ a. ended a.0 a.1) ≡ left r
+  unread_left : (r : Result (V × List ℕ) ℕ) → unread (r >>= λ a. value_at_end a.0 a.1) ≡ left r
   unread_left (Ok (v, [])) = refl
   unread_left (Ok (v, c ∷ rest)) = refl
   unread_left (Err n) = refl
@@ -131,13 +133,13 @@ module _ {V : Type 0} {L : List ℕ → V → Type 0} {p : List ℕ → Result (
   unfolding whole_read
   judges = record {
     ok = λ text v e.
-        let b = bind_ok (p text) (λ a. ended a.0 a.1) v e in
+        let b = bind_ok (p text) (λ a. value_at_end a.0 a.1) v e in
         let d = ended_ok b.0.0 b.0.1 v b.2 in
         whole_ok m text v (b.1 ∙ ap (λ (v : V). Ok (v, b.0.1)) d.0 ∙ ap (λ (rest : List ℕ). Ok (v, rest)) d.1);
-    only = λ text v h. ap (λ (a : Result (V × List ℕ) ℕ). a >>= λ a. ended a.0 a.1) (whole_only m text v h);
+    only = λ text v h. ap (λ (a : Result (V × List ℕ) ℕ). a >>= λ a. value_at_end a.0 a.1) (whole_only m text v h);
     within = λ text n e. stopped_within m text n (sym (unread_left (p text)) ∙ ap (λ (r : Result V ℕ). unread r) e);
     offset = λ text n e.
-        elim (bind_err (p text) (λ a. ended a.0 a.1) n e) [
+        elim (bind_err (p text) (λ a. value_at_end a.0 a.1) n e) [
           | inl w ↦ err_offset m text n w
           | inr b ↦
               let d = ended_err b.0.0 b.0.1 n b.2 in

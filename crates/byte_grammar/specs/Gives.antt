@@ -1,6 +1,6 @@
 -- What a function returned, seen by view, is what a reader over lists gives.
 use Rattle.std.specs.Prelude.{◌≡◌, ℕ, Result, Ok, Err}
-use Rattle.byte_grammar.specs.declared.left.Left.{Left}
+use Rattle.byte_grammar.specs.declared.readers.Left.{Left}
 
 abbrev pub Gives : {X Y : Type 0} → (X → Y) → Result X Left → Result Y ℕ → Type 0
 Gives view (Ok x) read = read ≡ Ok (view x)

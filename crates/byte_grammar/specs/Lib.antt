@@ -3,3 +3,4 @@ pub mod Walk
 pub mod FaultOffset
 pub mod Gives
 pub mod Causes
+pub mod tools

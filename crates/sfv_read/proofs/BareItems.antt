@@ -4,21 +4,22 @@ use Rattle.std.specs.List.{list_all}
 use Rattle.std.proofs.lemmas.Bool.{eqb-true}
 use Rattle.std.proofs.lemmas.Bool.Decides.{nat_tests}
 use Rattle.std.proofs.lemmas.List.{append-nil}
-use Rattle.byte_grammar.specs.Language.{Then, Mapped, Among, IsByte, IsRun, IsWord}
-use Rattle.byte_grammar.specs.Walk.{Next}
+use Rattle.byte_grammar.specs.Language.{IsRun, IsWord}
+use Rattle.byte_grammar.specs.tools.Languages.{Then, Mapped, Among, IsByte}
+use Rattle.byte_grammar.specs.tools.Walks.{Next}
 use Rattle.sfv_read.specs.BareItem.{IsString, IsBoolean, IsBareItem, IsByteSequence}
-use Rattle.sfv_read.specs.tools.BareWalk.{bare_kind, truth_read, bare_by, bare_read}
+use Rattle.sfv_read.specs.tools.BareWalk.{kind_of_bare_item, boolean_read, bare_item_by, bare_item_read}
 use Rattle.sfv_text.specs.Range.{is_token_first, is_token_rest}
 use Rattle.byte_classes.specs.Classes.{is_digit, is_space}
 use Rattle.sfv_read.specs.Class.{is_bit, is_minus, is_dot, is_quote, is_question}
 use Rattle.sfv_text.specs.declared.value.BareItem.{BareItem}
 use Rattle.sfv_text.specs.declared.value.BareItem.TheVariants.{Integer, Decimal, Str, Token, Bytes, Bool as Boolean}
 use Rattle.sfv_read.specs.declared.bare.BareKind.{BareKind}
-use Rattle.sfv_read.specs.declared.bare.BareKind.TheVariants.{Number, Quoted, Word, Octets, Truth}
+use Rattle.sfv_read.specs.declared.bare.BareKind.TheVariants.{Number as NumberKind, String as StringKind, Token as TokenKind, ByteSequence as ByteSequenceKind, Boolean as BooleanKind}
 use Rattle.byte_grammar.proofs.Laws.{Meets, Starts, Heads, meets_then, meets_byte, meets_word, meets_pick, meets_same, meets_map, and_is, any_next, of_each}
 use Rattle.sfv_read.proofs.Numbers.{ends, End, IsNumber, meets_number}
 use Rattle.sfv_read.proofs.Strings.{meets_string}
-use Rattle.sfv_read.proofs.Letters.{meets_bytes}
+use Rattle.sfv_read.proofs.Base64Letters.{meets_bytes}
 
 or_left : (a b : Bool) → a ≡ true → (a || b) ≡ true
 or_left true b e = refl
@@ -46,8 +47,8 @@ bit_is c is x e = go (eqb c 48) (eqb c 49) refl refl is
     go true false p q h = e ∙ ap (λ (c : ℕ). 63 ∷ c ∷ []) (eqb-true c 48 p)
     go false false p q h = absurd cc
 
-meets_truth : Meets IsTruthItem End truth_read
-unfolding truth_read IsTruthItem
+meets_truth : Meets IsTruthItem End boolean_read
+unfolding boolean_read IsTruthItem
 meets_truth =
     meets_same
     (meets_then (meets_byte is_question 63 refl (λ _ _. true)) (λ _. meets_map {G = λ _ _. true} (meets_byte is_bit 48 refl (λ _ _. true)) (λ c. Boolean (eqb c 49)) (λ v c h. h))
@@ -70,31 +71,31 @@ meets_truth =
 -- ---- bare items
 
 BareBy : BareKind → List ℕ → BareItem → Type 0
-BareBy Number x v = IsNumber x v
-BareBy Quoted x v = Mapped (λ s. Str s) IsString x v
-BareBy Octets x v = Mapped (λ s. Bytes s) IsByteSequence x v
-BareBy Word x v = Mapped (λ s. Token s) (IsWord is_token_first is_token_rest) x v
-BareBy Truth x v = IsTruthItem x v
+BareBy NumberKind x v = IsNumber x v
+BareBy StringKind x v = Mapped (λ s. Str s) IsString x v
+BareBy ByteSequenceKind x v = Mapped (λ s. Bytes s) IsByteSequence x v
+BareBy TokenKind x v = Mapped (λ s. Token s) (IsWord is_token_first is_token_rest) x v
+BareBy BooleanKind x v = IsTruthItem x v
 
-bare_meets : (k : BareKind) → Meets (BareBy k) End (bare_by k)
+bare_meets : (k : BareKind) → Meets (BareBy k) End (bare_item_by k)
 unfolding BareBy
-bare_meets Number = meets_same meets_number (λ x v h. h) (λ x v h. h) (λ v c e. of_each (λ c. not (is_digit c) && not (is_dot c)) ends refl c e)
-bare_meets Quoted = meets_map meets_string (λ s. Str s) (λ v c h. refl)
-bare_meets Word = meets_map (meets_word is_token_first is_token_rest 97 refl) (λ s. Token s) (λ v c e. of_each (λ c. not (is_token_rest c)) ends refl c e)
-bare_meets Octets = meets_map meets_bytes (λ s. Bytes s) (λ v c h. refl)
-bare_meets Truth = meets_truth
+bare_meets NumberKind = meets_same meets_number (λ x v h. h) (λ x v h. h) (λ v c e. of_each (λ c. not (is_digit c) && not (is_dot c)) ends refl c e)
+bare_meets StringKind = meets_map meets_string (λ s. Str s) (λ v c h. refl)
+bare_meets TokenKind = meets_map (meets_word is_token_first is_token_rest 97 refl) (λ s. Token s) (λ v c e. of_each (λ c. not (is_token_rest c)) ends refl c e)
+bare_meets ByteSequenceKind = meets_map meets_bytes (λ s. Bytes s) (λ v c h. refl)
+bare_meets BooleanKind = meets_truth
 
-number_kind : (c : ℕ) → (is_digit c || is_minus c) ≡ true → bare_kind c ≡ Some Number
+number_kind : (c : ℕ) → (is_digit c || is_minus c) ≡ true → kind_of_bare_item c ≡ Some NumberKind
 number_kind c is = rw is refl
 
-token_kind : (c : ℕ) → is_token_first c ≡ true → bare_kind c ≡ Some Word
+token_kind : (c : ℕ) → is_token_first c ≡ true → kind_of_bare_item c ≡ Some TokenKind
 token_kind c is =
     let digit : is_digit c ≡ false = grind (arith, nat_tests) in
     let minus : is_minus c ≡ false = grind (arith, nat_tests) in
     let quote : is_quote c ≡ false = grind (arith, nat_tests) in
     rw (digit, minus, quote, is) refl
 
-by_starts : (P : ℕ → Bool) (k : BareKind) → ((c : ℕ) → P c ≡ true → bare_kind c ≡ Some k) → (x : List ℕ) → Starts P x → Heads bare_kind k x
+by_starts : (P : ℕ → Bool) (k : BareKind) → ((c : ℕ) → P c ≡ true → kind_of_bare_item c ≡ Some k) → (x : List ℕ) → Starts P x → Heads kind_of_bare_item k x
 by_starts P k sub [] h = absurd h
 by_starts P k sub (c ∷ x) h = sub c h
 
@@ -126,83 +127,83 @@ truth_starts x (Token _) h = absurd h
 truth_starts x (Bytes _) h = absurd h
 
 -- a Byte Sequence begins with a colon
-sequence_heads : (x : List ℕ) {y z : List ℕ} → (x ≡ 58 ∷ y) ⊎ (x ≡ 58 ∷ z) → Heads bare_kind Octets x
-sequence_heads x (inl e) = subst (λ (y : List ℕ). Heads bare_kind Octets y) (sym e) refl
-sequence_heads x (inr e) = subst (λ (y : List ℕ). Heads bare_kind Octets y) (sym e) refl
+sequence_heads : (x : List ℕ) {y z : List ℕ} → (x ≡ 58 ∷ y) ⊎ (x ≡ 58 ∷ z) → Heads kind_of_bare_item ByteSequenceKind x
+sequence_heads x (inl e) = subst (λ (y : List ℕ). Heads kind_of_bare_item ByteSequenceKind y) (sym e) refl
+sequence_heads x (inr e) = subst (λ (y : List ℕ). Heads kind_of_bare_item ByteSequenceKind y) (sym e) refl
 
-bare_heads : (k : BareKind) (x : List ℕ) (v : BareItem) → BareBy k x v → Heads bare_kind k x
+bare_heads : (k : BareKind) (x : List ℕ) (v : BareItem) → BareBy k x v → Heads kind_of_bare_item k x
 unfolding BareBy
-bare_heads Number x v h = by_starts (λ c. is_digit c || is_minus c) Number number_kind x (number_starts x v h)
-bare_heads Quoted x v h = subst (λ (y : List ℕ). Heads bare_kind Quoted y) (sym h.1.joined) refl
-bare_heads Word x v h = by_starts is_token_first Word token_kind x (word_starts is_token_first is_token_rest x h.0 h.1)
-bare_heads Octets x v h = sequence_heads x (h.1.joined)
-bare_heads Truth x v h = by_starts is_question Truth (λ c is. ap bare_kind (eqb-true c 63 is)) x (truth_starts x v h)
+bare_heads NumberKind x v h = by_starts (λ c. is_digit c || is_minus c) NumberKind number_kind x (number_starts x v h)
+bare_heads StringKind x v h = subst (λ (y : List ℕ). Heads kind_of_bare_item StringKind y) (sym h.1.joined) refl
+bare_heads TokenKind x v h = by_starts is_token_first TokenKind token_kind x (word_starts is_token_first is_token_rest x h.0 h.1)
+bare_heads ByteSequenceKind x v h = sequence_heads x (h.1.joined)
+bare_heads BooleanKind x v h = by_starts is_question BooleanKind (λ c is. ap kind_of_bare_item (eqb-true c 63 is)) x (truth_starts x v h)
 
 to_bare : (k : BareKind) (x : List ℕ) (v : BareItem) → BareBy k x v → IsBareItem x v
 unfolding BareBy IsTruthItem
-to_bare Number x (Integer z) h = h
-to_bare Number x (Decimal z) h = h
-to_bare Number x (Str _) h = absurd h
-to_bare Number x (Token _) h = absurd h
-to_bare Number x (Bytes _) h = absurd h
-to_bare Number x (Boolean _) h = absurd h
-to_bare Quoted x v h = subst (λ (v : BareItem). IsBareItem x v) h.2 h.1
-to_bare Word x v h = subst (λ (v : BareItem). IsBareItem x v) h.2 h.1
-to_bare Octets x v h = subst (λ (v : BareItem). IsBareItem x v) h.2 h.1
-to_bare Truth x (Boolean b) h = h
-to_bare Truth x (Integer _) h = absurd h
-to_bare Truth x (Decimal _) h = absurd h
-to_bare Truth x (Str _) h = absurd h
-to_bare Truth x (Token _) h = absurd h
-to_bare Truth x (Bytes _) h = absurd h
+to_bare NumberKind x (Integer z) h = h
+to_bare NumberKind x (Decimal z) h = h
+to_bare NumberKind x (Str _) h = absurd h
+to_bare NumberKind x (Token _) h = absurd h
+to_bare NumberKind x (Bytes _) h = absurd h
+to_bare NumberKind x (Boolean _) h = absurd h
+to_bare StringKind x v h = subst (λ (v : BareItem). IsBareItem x v) h.2 h.1
+to_bare TokenKind x v h = subst (λ (v : BareItem). IsBareItem x v) h.2 h.1
+to_bare ByteSequenceKind x v h = subst (λ (v : BareItem). IsBareItem x v) h.2 h.1
+to_bare BooleanKind x (Boolean b) h = h
+to_bare BooleanKind x (Integer _) h = absurd h
+to_bare BooleanKind x (Decimal _) h = absurd h
+to_bare BooleanKind x (Str _) h = absurd h
+to_bare BooleanKind x (Token _) h = absurd h
+to_bare BooleanKind x (Bytes _) h = absurd h
 
 from_bare : (x : List ℕ) (v : BareItem) → IsBareItem x v → Among BareBy x v
 unfolding BareBy IsTruthItem
-from_bare x (Integer z) h = (Number, h)
-from_bare x (Decimal z) h = (Number, h)
-from_bare x (Str s) h = (Quoted, (s, h, refl))
-from_bare x (Token s) h = (Word, (s, h, refl))
-from_bare x (Bytes b) h = (Octets, (b, h, refl))
-from_bare x (Boolean b) h = (Truth, h)
+from_bare x (Integer z) h = (NumberKind, h)
+from_bare x (Decimal z) h = (NumberKind, h)
+from_bare x (Str s) h = (StringKind, (s, h, refl))
+from_bare x (Token s) h = (TokenKind, (s, h, refl))
+from_bare x (Bytes b) h = (ByteSequenceKind, (b, h, refl))
+from_bare x (Boolean b) h = (BooleanKind, h)
 
-pub truth_some : IsBareItem (63 ∷ 49 ∷ []) (Boolean true)
-truth_some = refl
+pub boolean_some : IsBareItem (63 ∷ 49 ∷ []) (Boolean true)
+boolean_some = refl
 
-pub meets_bare : Meets IsBareItem End bare_read
-unfolding bare_read
+pub meets_bare : Meets IsBareItem End bare_item_read
+unfolding bare_item_read
 meets_bare =
-    meets_same (meets_pick bare_meets bare_heads (63 ∷ 49 ∷ [], Boolean true, from_bare _ _ truth_some))
+    meets_same (meets_pick bare_meets bare_heads (63 ∷ 49 ∷ [], Boolean true, from_bare _ _ boolean_some))
     (λ x v h. to_bare h.0 x v h.1) from_bare (λ v c h. h)
 
 -- ---- what a bare item begins with
 
-pub bare_next : (P : ℕ → Bool) → ((k : BareKind) (c : ℕ) → bare_kind c ≡ Some k → P c ≡ true) → (x : List ℕ) (v : BareItem) (r : List ℕ) → IsBareItem x v → Next P (x ++ r)
+pub bare_next : (P : ℕ → Bool) → ((k : BareKind) (c : ℕ) → kind_of_bare_item c ≡ Some k → P c ≡ true) → (x : List ℕ) (v : BareItem) (r : List ℕ) → IsBareItem x v → Next P (x ++ r)
 bare_next P sub x v r h = let b = from_bare x v h in go b.0 x (bare_heads b.0 x v b.1)
   where
-    go : (k : BareKind) (x : List ℕ) → Heads bare_kind k x → Next P (x ++ r)
+    go : (k : BareKind) (x : List ℕ) → Heads kind_of_bare_item k x → Next P (x ++ r)
     go k [] h = absurd h
     go k (c ∷ x) h = sub k c h
 
-pub bare_starts : (P : ℕ → Bool) → ((k : BareKind) (c : ℕ) → bare_kind c ≡ Some k → P c ≡ true) → (x : List ℕ) (v : BareItem) → IsBareItem x v → Starts P x
+pub bare_starts : (P : ℕ → Bool) → ((k : BareKind) (c : ℕ) → kind_of_bare_item c ≡ Some k → P c ≡ true) → (x : List ℕ) (v : BareItem) → IsBareItem x v → Starts P x
 bare_starts P sub x v h = let b = from_bare x v h in go b.0 x (bare_heads b.0 x v b.1)
   where
-    go : (k : BareKind) (x : List ℕ) → Heads bare_kind k x → Starts P x
+    go : (k : BareKind) (x : List ℕ) → Heads kind_of_bare_item k x → Starts P x
     go k [] h = absurd h
     go k (c ∷ x) h = sub k c h
 
 pub none_some : {A : Type 0} (a : A) → None ≡ Some a → ⊥
 none_some a e = cc
 
-pub kind_blank : (k : BareKind) (c : ℕ) → bare_kind c ≡ Some k → not (is_space c) ≡ true
+pub kind_blank : (k : BareKind) (c : ℕ) → kind_of_bare_item c ≡ Some k → not (is_space c) ≡ true
 kind_blank k c e = go (is_space c) refl
   where
     go : (b : Bool) → is_space c ≡ b → not b ≡ true
-    go true is = absurd (none_some k (ap bare_kind (sym (eqb-true c 32 is)) ∙ e))
+    go true is = absurd (none_some k (ap kind_of_bare_item (sym (eqb-true c 32 is)) ∙ e))
     go false is = refl
 
-pub kind_close : (k : BareKind) (c : ℕ) → bare_kind c ≡ Some k → not (eqb c 41) ≡ true
+pub kind_close : (k : BareKind) (c : ℕ) → kind_of_bare_item c ≡ Some k → not (eqb c 41) ≡ true
 kind_close k c e = go (eqb c 41) refl
   where
     go : (b : Bool) → eqb c 41 ≡ b → not b ≡ true
-    go true is = absurd (none_some k (ap bare_kind (sym (eqb-true c 41 is)) ∙ e))
+    go true is = absurd (none_some k (ap kind_of_bare_item (sym (eqb-true c 41 is)) ∙ e))
     go false is = refl

@@ -2,11 +2,14 @@
 use Rattle.std.proofs.Common.{◌++◌, ◌*◌, ◌^◌, ◌≡◌, ℕ, zero, suc, ◌+◌, ◌-◌, ◌<◌, ◌≤◌, true, List, [], ◌∷◌, length, get_or, drop, refl, sym, ap, ◌∙◌, arith}
 use Rattle.std.proofs.Math.Seq.{drop-cons}
 use Rattle.std.specs.List.{list_all}
+use Rattle.std.specs.Char.{digit_value}
+use Rattle.std.specs.Int.{IsInRange}
+use Rattle.std.proofs.lemmas.Str.{digit_value_digit}
 use Rattle.std.proofs.lemmas.List.Sums.{AllPass-from_list_all}
 use Rattle.std.proofs.lemmas.Bool.Decides.{nat_tests}
 use Rattle.std.proofs.Math.Nat.{mul_assoc, pow-succ', one-le-pow, pow-le-pow_right, mul-le-mul_left, mul-le-mul_right}
 use Rattle.byte_classes.specs.Classes.{is_digit}
-use Rattle.sfv_read.specs.BareItem.{spelled_from}
+use Rattle.std.specs.Str.Parse.{digits_value_after}
 
 -- one more digit
 pub room_more : (total d k limit : ℕ) → d < 10 → (total + 1) * 10 ^ suc k ≤ limit → (total * 10 + d + 1) * 10 ^ k ≤ limit
@@ -21,8 +24,22 @@ room_now total k limit le =
     let m : (total + 1) * 1 ≤ (total + 1) * 10 ^ k = mul-le-mul_left (total + 1) p in
     omega arith
 
-pub spelled_at : (total i : ℕ) (ds : List ℕ) (d : ℕ) → i < length ds → spelled_from total (drop i ds) ≡ spelled_from (total * 10 + (get_or ds i d - 48)) (drop (i + 1) ds)
-spelled_at total i ds d lt = let next : i + 1 ≡ suc i = omega arith in rw (drop-cons ds i d lt, next) refl
+-- the value of a digit, and of the digit that is written of a number
+pub digit_is : (c : ℕ) → is_digit c ≡ true → digit_value c ≡ c - 48
+digit_is c is =
+    let range : IsInRange 48 57 c = grind (arith, nat_tests) in
+    omega (arith, digit_value_digit c range)
+
+pub digit_of : (n : ℕ) → n < 10 → digit_value (48 + n) ≡ n
+digit_of n lt =
+    let range : IsInRange 48 57 (48 + n) = (omega arith, omega arith) in
+    omega (arith, digit_value_digit (48 + n) range)
+
+pub value_more : (total i : ℕ) (ds : List ℕ) → list_all is_digit ds ≡ true → i < length ds → digits_value_after 10 total (drop i ds) ≡ digits_value_after 10 (total * 10 + (get_or ds i 0 - 48)) (drop (i + 1) ds)
+value_more total i ds all lt =
+    let next : i + 1 ≡ suc i = omega arith in
+    let is = digit_is (get_or ds i 0) (AllPass-from_list_all is_digit ds all i 0 lt) in
+    rw (drop-cons ds i 0 lt, next) (ap (λ (n : ℕ). digits_value_after 10 (total * 10 + n) (drop (suc i) ds)) is)
 
 pub digit_small : (ds : List ℕ) (i : ℕ) → list_all is_digit ds ≡ true → i < length ds → get_or ds i 0 - 48 < 10
 digit_small ds i all lt = small (get_or ds i 0) (AllPass-from_list_all is_digit ds all i 0 lt)
@@ -50,6 +67,6 @@ scaled_room n w a (suc (suc zero)) le more few small = let t = twelve w a more f
 scaled_room n w a (suc (suc (suc zero))) le more few small = let t = twelve w a more few in omega (arith, t, le)
 scaled_room n w a (suc (suc (suc (suc b)))) le more few small = absurd (omega arith)
 
-pub spelled_append : (n : ℕ) (a b : List ℕ) → spelled_from n (a ++ b) ≡ spelled_from (spelled_from n a) b
-spelled_append n [] b = refl
-spelled_append n (d ∷ a) b = spelled_append (n * 10 + (d - 48)) a b
+pub value_append : (n : ℕ) (a b : List ℕ) → digits_value_after 10 n (a ++ b) ≡ digits_value_after 10 (digits_value_after 10 n a) b
+value_append n [] b = refl
+value_append n (d ∷ a) b = value_append (n * 10 + digit_value d) a b

@@ -1,61 +1,65 @@
 -- What is read is in range.
-use Rattle.std.proofs.Common.{◌≡◌, ℕ, zero, suc, ◌+◌, ◌-◌, ◌*◌, ◌^◌, ◌<◌, ◌≤◌, ℤ, Bool, true, ◌&&◌, List, [], ◌∷◌, ◌++◌, length, refl, sym, ap, subst, ◌∙◌, arith, inl, inr, ◌⊎◌}
+use Rattle.std.proofs.Common.{◌≡◌, ℕ, zero, suc, ◌+◌, ◌-◌, ◌*◌, ◌^◌, ◌<◌, ◌≤◌, ℤ, Bool, true, ◌&&◌, List, [], ◌∷◌, ◌++◌, length, refl, sym, ap, subst, ◌∙◌, arith, inl, inr}
 use Rattle.std.specs.Prelude.{unsigned_abs}
 use Rattle.std.specs.List.{list_all}
+use Rattle.std.specs.Char.{digit_value}
 use Rattle.std.proofs.lemmas.Bool.{lt-ltb}
 use Rattle.std.proofs.lemmas.Bool.Decides.{nat_tests}
-use Rattle.byte_grammar.specs.Language.{IsWord, Each, after_all}
+use Rattle.byte_grammar.specs.Language.{IsWord, Each, IsFurther, SeparatedBy, after_all}
 use Rattle.byte_grammar.proofs.Laws.{and_is}
 use Rattle.sfv_text.specs.declared.value.BareItem.{BareItem}
 use Rattle.sfv_text.specs.declared.value.BareItem.TheVariants.{Integer, Decimal, Str, Token, Bytes, Bool as Boolean}
 use Rattle.sfv_text.specs.declared.value.Item.{Item}
 use Rattle.sfv_text.specs.declared.value.InnerList.{InnerList}
 use Rattle.sfv_text.specs.declared.value.Member.{Member}
-use Rattle.sfv_text.specs.declared.value.Member.TheVariants.{Item as One, InnerList as Several}
+use Rattle.sfv_text.specs.declared.value.Member.TheVariants.{Item as OneItem, InnerList as SomeItems}
 use Rattle.sfv_text.specs.declared.pair.Pair.{Pair}
 use Rattle.sfv_text.specs.Keys.{have_distinct_keys, put}
 use Rattle.sfv_text.specs.Range.{is_word, is_token_first, is_token_rest, is_key_first, is_key_rest, is_number_in_range, is_bare_in_range, is_param_in_range, are_params_in_range, is_item_in_range, is_inner_in_range, is_member_in_range, is_list_in_range, is_entry_in_range, is_dict_in_range}
 use Rattle.sfv_text.proofs.PutLaws.{put_distinct, put_kept}
 use Rattle.byte_classes.specs.Classes.{is_digit}
-use Rattle.sfv_read.specs.BareItem.{spelled, spelled_from, signed, IsInteger, IsDecimal, IsBareItem}
-use Rattle.sfv_read.specs.Item.{IsValue, IsParameter, AreParameters, put_pair, kept, IsItem}
-use Rattle.sfv_read.specs.Inner.{IsSpaced, AreItems, IsInner}
-use Rattle.sfv_read.specs.Member.{IsMember, IsPair, IsFurther, AreMembers, Separated, true_item}
+use Rattle.std.specs.Str.Parse.{digits_value, digits_value_after}
+use Rattle.sfv_read.specs.BareItem.{with_sign, IsInteger, IsDecimal, IsBareItem}
+use Rattle.sfv_read.specs.Item.{IsValue, IsParameter, AreParameters, put_pair, distinct_pairs, IsItem}
+use Rattle.sfv_read.specs.Inner.{AreSpaces, IsInner}
+use Rattle.sfv_read.specs.Member.{IsMember, IsDictValue, IsDictMember, IsComma, AreMembers}
 use Rattle.sfv_read.specs.Reads.{ReadsItem, ReadsInner, ReadsList, ReadsDict}
-use Rattle.sfv_read.proofs.Digits.{room_more, pow_room, scaled_room, spelled_append}
+use Rattle.sfv_read.proofs.Digits.{digit_is, room_more, pow_room, scaled_room, value_append}
 
 -- ---- numbers
 
-pub abs_signed : (sign : List ℕ) (n : ℕ) → unsigned_abs (signed sign n) ≡ n
+pub abs_signed : (sign : List ℕ) (n : ℕ) → unsigned_abs (with_sign sign n) ≡ n
 abs_signed [] n = refl
 abs_signed (_ ∷ _) zero = refl
 abs_signed (_ ∷ _) (suc n) = refl
 
-digit_below : (c : ℕ) → is_digit c ≡ true → c - 48 < 10
-digit_below c is = grind (arith, nat_tests)
+digit_below : (c : ℕ) → is_digit c ≡ true → digit_value c < 10
+digit_below c is =
+    let small : c - 48 < 10 = grind (arith, nat_tests) in
+    omega (arith, small, digit_is c is)
 
-spelled_below : (n : ℕ) (ds : List ℕ) → list_all is_digit ds ≡ true → spelled_from n ds + 1 ≤ (n + 1) * 10 ^ length ds
-spelled_below n [] all = omega arith
-spelled_below n (d ∷ ds) all =
+value_below : (n : ℕ) (ds : List ℕ) → list_all is_digit ds ≡ true → digits_value_after 10 n ds + 1 ≤ (n + 1) * 10 ^ length ds
+value_below n [] all = omega arith
+value_below n (d ∷ ds) all =
     let both = and_is (is_digit d) (list_all is_digit ds) all in
-    let more = spelled_below (n * 10 + (d - 48)) ds both.1 in
-    let room = room_more n (d - 48) (length ds) ((n + 1) * 10 ^ suc (length ds)) (digit_below d both.0) (omega arith) in
+    let more = value_below (n * 10 + digit_value d) ds both.1 in
+    let room = room_more n (digit_value d) (length ds) ((n + 1) * 10 ^ suc (length ds)) (digit_below d both.0) (omega arith) in
     omega (arith, more, room)
 
-in_range : (z : ℤ) (sign : List ℕ) (n : ℕ) → z ≡ signed sign n → n < 1000000000000000 → is_number_in_range z ≡ true
+in_range : (z : ℤ) (sign : List ℕ) (n : ℕ) → z ≡ with_sign sign n → n < 1000000000000000 → is_number_in_range z ≡ true
 in_range z sign n e lt = lt-ltb (unsigned_abs z) 1000000000000000 (subst (λ (m : ℕ). m < 1000000000000000) (sym (ap unsigned_abs e ∙ abs_signed sign n)) lt)
 
 integer_in_range : (text : List ℕ) (z : ℤ) → IsInteger text z → is_number_in_range z ≡ true
 integer_in_range text z h =
-    let below = spelled_below 0 h.digits h.whole.passes in
-    in_range z h.sign (spelled h.digits) h.value (omega (arith, below, pow_room (length h.digits) h.whole.most))
+    let below = value_below 0 h.digits h.whole.passes in
+    in_range z h.sign (digits_value 10 h.digits) h.value (omega (arith, below, pow_room (length h.digits) h.whole.most))
 
 decimal_in_range : (text : List ℕ) (z : ℤ) → IsDecimal text z → is_number_in_range z ≡ true
 decimal_in_range text z h =
-    let whole = spelled_below 0 h.digits h.whole.passes in
-    let both = spelled_below (spelled h.digits) h.part h.fraction.passes in
-    let below = scaled_room (spelled_from (spelled h.digits) h.part) (spelled h.digits) (length h.digits) (length h.part) both whole h.whole.most h.fraction.most in
-    in_range z h.sign (spelled (h.digits ++ h.part) * 10 ^ (3 - length h.part)) h.value (subst (λ (n : ℕ). n * 10 ^ (3 - length h.part) < 1000000000000000) (sym (spelled_append 0 h.digits h.part)) below)
+    let whole = value_below 0 h.digits h.whole.passes in
+    let both = value_below (digits_value 10 h.digits) h.part h.fraction.passes in
+    let below = scaled_room (digits_value_after 10 (digits_value 10 h.digits) h.part) (digits_value 10 h.digits) (length h.digits) (length h.part) both whole h.whole.most h.fraction.most in
+    in_range z h.sign (digits_value 10 (h.digits ++ h.part) * 10 ^ (3 - length h.part)) h.value (subst (λ (n : ℕ). n * 10 ^ (3 - length h.part) < 1000000000000000) (sym (value_append 0 h.digits h.part)) below)
 
 word_in_range : (first others : ℕ → Bool) (text word : List ℕ) → IsWord first others text word → is_word first others word ≡ true
 word_in_range first others text [] h = absurd h
@@ -94,46 +98,41 @@ module _ {V : Type 0} where
   distinct_from [] qs d = d
   distinct_from (p ∷ ps) qs d = distinct_from ps (put qs p.key p.value) (put_distinct qs p.key p.value d)
 
-  pub kept_in_range : (test : Pair V → Bool) (ps : List (Pair V)) → list_all test ps ≡ true → (have_distinct_keys (kept ps) && list_all test (kept ps)) ≡ true
+  pub kept_in_range : (test : Pair V → Bool) (ps : List (Pair V)) → list_all test ps ≡ true → (have_distinct_keys (distinct_pairs ps) && list_all test (distinct_pairs ps)) ≡ true
   kept_in_range test ps all = rw (distinct_from ps [] refl, kept_from test ps [] refl all) refl
 
-params_in_range : (text : List ℕ) (written : List (Pair BareItem)) → AreParameters text written → are_params_in_range (kept written) ≡ true
+params_in_range : (text : List ℕ) (written : List (Pair BareItem)) → AreParameters text written → are_params_in_range (distinct_pairs written) ≡ true
 params_in_range text written h = kept_in_range is_param_in_range written (each_in_range IsParameter is_param_in_range param_in_range written text h)
 
 -- ---- Items and Inner Lists
 
 pub item_in_range : (text : List ℕ) (item : Item) → IsItem text item → is_item_in_range item ≡ true
-item_in_range text item h = rw (bare_in_range h.bare item.bare h.is_bare, ap are_params_in_range h.are_kept ∙ params_in_range h.params h.written h.are_params) refl
+item_in_range text item h = rw (bare_in_range h.bare item.bare h.is_bare, ap are_params_in_range h.are_distinct ∙ params_in_range h.params h.written h.are_params) refl
 
-spaced_in_range : (text : List ℕ) (item : Item) → IsSpaced text item → is_item_in_range item ≡ true
-spaced_in_range text item h = item_in_range h.rest item h.is_item
-
-items_in_range : (text : List ℕ) (items : List Item) → AreItems text items → list_all is_item_in_range items ≡ true
-items_in_range text [] h = refl
-items_in_range text (v ∷ vs) h = rw (item_in_range h.0 v h.3, each_in_range IsSpaced is_item_in_range spaced_in_range vs h.1 h.4) refl
+-- what holds of each element holds of them all
+separated_in_range : {V : Type 0} (S : List ℕ → Type 0) (L : List ℕ → V → Type 0) (test : V → Bool) → ((text : List ℕ) (v : V) → L text v → test v ≡ true) → (text : List ℕ) (vs : List V) → SeparatedBy S L text vs → list_all test vs ≡ true
+separated_in_range S L test one text [] h = refl
+separated_in_range S L test one text (v ∷ vs) h = rw (one h.0 v h.3, each_in_range (IsFurther S L) test (λ x w f. one f.rest w f.spells) vs h.1 h.4) refl
 
 pub inner_in_range : (text : List ℕ) (list : InnerList) → IsInner text list → is_inner_in_range list ≡ true
-inner_in_range text list h = rw (items_in_range h.items list.items h.are_items, ap are_params_in_range h.are_kept ∙ params_in_range h.params h.written h.are_params) refl
+inner_in_range text list h = rw (separated_in_range AreSpaces IsItem is_item_in_range item_in_range h.items list.items h.are_items, ap are_params_in_range h.are_distinct ∙ params_in_range h.params h.written h.are_params) refl
 
 -- ---- Lists and Dictionaries
 
 member_in_range : (text : List ℕ) (v : Member) → IsMember text v → is_member_in_range v ≡ true
-member_in_range text (One item) h = item_in_range text item h
-member_in_range text (Several list) h = inner_in_range text list h
+member_in_range text (OneItem item) h = item_in_range text item h
+member_in_range text (SomeItems list) h = inner_in_range text list h
 
-pair_in_range : (text : List ℕ) (p : Pair Member) → IsPair text p → is_entry_in_range p ≡ true
+pair_in_range : (text : List ℕ) (p : Pair Member) → IsDictMember text p → is_entry_in_range p ≡ true
 pair_in_range text p h = rw (word_in_range is_key_first is_key_rest h.key p.key h.is_key, value h.value) refl
   where
-    value : ((member : List ℕ) × (h.rest ≡ 61 ∷ member) × IsMember member p.value) ⊎ ((written : List (Pair BareItem)) × AreParameters h.rest written × (p.value ≡ One (true_item (kept written)))) → is_member_in_range p.value ≡ true
+    value : IsDictValue h.rest p.value → is_member_in_range p.value ≡ true
     value (inl m) = member_in_range m.0 p.value m.2
     value (inr m) = ap is_member_in_range m.2 ∙ params_in_range h.rest m.0 m.1
 
-members_in_range : {V : Type 0} (M : List ℕ → V → Type 0) (test : V → Bool) → ((text : List ℕ) (v : V) → M text v → test v ≡ true) → (text : List ℕ) (vs : List V) → Separated M text vs → list_all test vs ≡ true
-members_in_range {V} M test one text vs h = go vs h.are_members
-  where
-    go : (vs : List V) → AreMembers M h.members vs → list_all test vs ≡ true
-    go [] m = refl
-    go (v ∷ vs) m = rw (one m.0 v m.3, each_in_range (IsFurther M) test (λ x w f. one f.rest w f.spells) vs m.1 m.4) refl
+members_in_range : {V : Type 0} (M : List ℕ → V → Type 0) (test : V → Bool) → ((text : List ℕ) (v : V) → M text v → test v ≡ true) → (text : List ℕ) (vs : List V) → AreMembers M text vs → list_all test vs ≡ true
+members_in_range M test one text [] h = refl
+members_in_range M test one text (v ∷ vs) h = separated_in_range IsComma M test one h.members (v ∷ vs) h.are_members
 
 -- ---- the four kinds
 
@@ -147,4 +146,4 @@ pub list_read_in_range : (text : List ℕ) (list : List Member) → ReadsList te
 list_read_in_range text list h = members_in_range IsMember is_member_in_range member_in_range text list h
 
 pub dict_read_in_range : (text : List ℕ) (dict : List (Pair Member)) → ReadsDict text dict → is_dict_in_range dict ≡ true
-dict_read_in_range text dict h = ap is_dict_in_range h.2 ∙ kept_in_range is_entry_in_range h.0 (members_in_range IsPair is_entry_in_range pair_in_range text h.0 h.1)
+dict_read_in_range text dict h = ap is_dict_in_range h.2 ∙ kept_in_range is_entry_in_range h.0 (members_in_range IsDictMember is_entry_in_range pair_in_range text h.0 h.1)

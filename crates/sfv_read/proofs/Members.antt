@@ -1,165 +1,175 @@
 -- Lists and dictionaries: what is read is one, and one is read.
-use Rattle.std.proofs.Common.{◌≡◌, ℕ, ◌||◌, Bool, true, false, not, eqb, List, [], ◌∷◌, ◌++◌, length, Option, Some, None, Result, Ok, Err, refl, sym, ap, subst, ◌∙◌, ◌<◌, inl, inr, ◌⊎◌}
+use Rattle.std.proofs.Common.{◌≡◌, ℕ, ◌||◌, Bool, true, false, not, eqb, List, [], ◌∷◌, ◌++◌, length, Option, Some, None, Ok, refl, sym, ap, subst, ◌∙◌, append_assoc, ◌<◌, inl, inr, ◌⊎◌}
 use Rattle.std.proofs.lemmas.Bool.{eqb-true}
 use Rattle.std.proofs.lemmas.List.{append-nil}
-use Rattle.byte_grammar.specs.Language.{Then, Mapped, Optional}
-use Rattle.byte_grammar.specs.Walk.{◌>>=◌, Next, is_of, optional_read, all_read, turned, turns_read, with_state}
-use Rattle.sfv_read.specs.tools.BareWalk.{bare_kind}
+use Rattle.byte_grammar.specs.Language.{after_all}
+use Rattle.byte_grammar.specs.tools.Languages.{Then, Mapped, Optional}
+use Rattle.byte_grammar.specs.Walk.{◌>>=◌}
+use Rattle.byte_classes.specs.Classes.{is_one_of, is_blank}
+use Rattle.byte_grammar.specs.tools.Walks.{Next, with_turns, turns_read}
+use Rattle.sfv_read.specs.tools.BareWalk.{kind_of_bare_item}
 use Rattle.sfv_text.specs.Range.{is_key_first, is_key_rest}
-use Rattle.byte_classes.specs.Classes.{is_blank, is_space}
 use Rattle.sfv_read.specs.Class.{is_equals, is_open}
 use Rattle.sfv_read.specs.Inner.{IsInner}
-use Rattle.sfv_read.specs.Item.{IsItem, IsKey, AreParameters, kept, put_pair}
-use Rattle.sfv_read.specs.Member.{IsMember, IsPair, true_item}
-use Rattle.sfv_read.specs.tools.MemberWalk.{separated_read, several_read, one_read, member_read, equals_member, member_or, pair_value, pair_read, list_read, dict_read, separated_turn, members_read, some_members, list_of, pairs_read, some_pairs}
+use Rattle.sfv_read.specs.Item.{IsItem, IsKey, AreParameters, distinct_pairs}
+use Rattle.sfv_read.specs.Member.{IsMember, IsDictValue, IsDictMember, true_item}
+use Rattle.sfv_read.specs.tools.MemberWalk.{inner_member_read, item_member_read, member_read, equals_member_read, given_or_true, dict_value_read, dict_member_read, with_last, list_read, dict_read, next_member_read}
 use Rattle.sfv_text.specs.declared.value.BareItem.{BareItem}
 use Rattle.sfv_read.specs.declared.bare.BareKind.{BareKind}
 use Rattle.byte_grammar.proofs.Laws.{Meets, Starts, meets_then, meets_byte, meets_optional, optional_follow, meets_choose, meets_done, meets_same, meets_map, any_next, of_each, apart}
 use Rattle.sfv_text.specs.declared.value.Item.{Item}
 use Rattle.sfv_text.specs.declared.value.InnerList.{InnerList}
 use Rattle.sfv_text.specs.declared.value.Member.{Member}
-use Rattle.sfv_text.specs.declared.value.Member.TheVariants.{Item as One, InnerList as Several}
+use Rattle.sfv_text.specs.declared.value.Member.TheVariants.{Item as OneItem, InnerList as SomeItems}
 use Rattle.sfv_text.specs.declared.pair.Pair.{Pair}
 use Rattle.sfv_read.specs.tools.ItemWalk.{pair_of}
 use Rattle.sfv_read.specs.tools.InnerWalk.{inner_of}
 use Rattle.sfv_read.specs.Reads.{ReadsList, ReadsDict}
 use Rattle.sfv_read.proofs.BareItems.{word_starts, none_some}
-use Rattle.sfv_read.proofs.Items.{after_params, AreKept, meets_key, meets_kept, meets_item, params_next, item_starts, starts_append}
+use Rattle.sfv_read.proofs.Items.{after_params, AreDistinct, meets_key, meets_kept, meets_item, params_next, item_starts, starts_append}
 use Rattle.sfv_read.proofs.InnerLists.{meets_inner}
 use Rattle.byte_grammar.proofs.Whole.{Nothing}
 use Rattle.sfv_read.proofs.SeparatedTexts.{meets_separated, separated_step, separated_shorter}
 
 After : {V : Type 0} → V → ℕ → Bool
-After _ c = is_of after_params c
+After _ c = is_one_of after_params c
 
-kind_open : (k : BareKind) (c : ℕ) → bare_kind c ≡ Some k → not (is_open c) ≡ true
+kind_open : (k : BareKind) (c : ℕ) → kind_of_bare_item c ≡ Some k → not (is_open c) ≡ true
 kind_open k c e = go (eqb c 40) refl
   where
     go : (b : Bool) → eqb c 40 ≡ b → not b ≡ true
-    go true is = absurd (none_some k (ap bare_kind (sym (eqb-true c 40 is)) ∙ e))
+    go true is = absurd (none_some k (ap kind_of_bare_item (sym (eqb-true c 40 is)) ∙ e))
     go false is = refl
 
-kind_ows : (k : BareKind) (c : ℕ) → bare_kind c ≡ Some k → not (is_blank c) ≡ true
+kind_ows : (k : BareKind) (c : ℕ) → kind_of_bare_item c ≡ Some k → not (is_blank c) ≡ true
 kind_ows k c e = go (eqb c 32) (eqb c 9) refl refl
   where
     go : (a b : Bool) → eqb c 32 ≡ a → eqb c 9 ≡ b → not (a || b) ≡ true
-    go true b is other = absurd (none_some k (ap bare_kind (sym (eqb-true c 32 is)) ∙ e))
-    go false true is other = absurd (none_some k (ap bare_kind (sym (eqb-true c 9 other)) ∙ e))
+    go true b is other = absurd (none_some k (ap kind_of_bare_item (sym (eqb-true c 32 is)) ∙ e))
+    go false true is other = absurd (none_some k (ap kind_of_bare_item (sym (eqb-true c 9 other)) ∙ e))
     go false false is other = refl
 
 inner_starts : (P : ℕ → Bool) → P 40 ≡ true → (x : List ℕ) (v : InnerList) → IsInner x v → Starts P x
 inner_starts P is x v h = subst (λ (y : List ℕ). Starts P y) (sym h.joined) is
 
-one_truth : IsItem (63 ∷ 49 ∷ []) (true_item [])
-one_truth = record { bare = 63 ∷ 49 ∷ []; params = []; written = []; joined = refl; is_bare = refl; are_params = refl; are_kept = refl }
+true_read : IsItem (63 ∷ 49 ∷ []) (true_item [])
+true_read = record { bare = 63 ∷ 49 ∷ []; params = []; written = []; joined = refl; is_bare = refl; are_params = refl; are_distinct = refl }
 
 some_list : IsInner (40 ∷ 41 ∷ []) (inner_of [] [])
-some_list = record { before = []; items = []; after = []; params = []; written = []; joined = refl; blank_before = refl; blank_after = refl; are_items = refl; are_params = refl; are_kept = refl }
+some_list = record { before = []; items = []; after = []; params = []; written = []; joined = refl; spaces_before = refl; spaces_after = refl; are_items = refl; are_params = refl; are_distinct = refl }
 
 meets_member : Meets IsMember After member_read
-unfolding member_read several_read one_read After
+unfolding member_read inner_member_read item_member_read After
 meets_member =
     meets_same
-    (meets_choose is_open (meets_map meets_inner (λ (v : InnerList). Several v) (λ v c h. h)) (meets_map meets_item (λ (v : Item). One v) (λ v c h. h))
-    (λ x v h. inner_starts is_open refl x h.0 h.1) (λ x v h. item_starts (λ c. not (is_open c)) kind_open x h.0 h.1) (40 ∷ 41 ∷ []) (Several (inner_of [] [])) (inner_of [] [], some_list, refl))
+    (meets_choose is_open (meets_map meets_inner (λ (v : InnerList). SomeItems v) (λ v c h. h)) (meets_map meets_item (λ (v : Item). OneItem v) (λ v c h. h))
+    (λ x v h. inner_starts is_open refl x h.0 h.1) (λ x v h. item_starts (λ c. not (is_open c)) kind_open x h.0 h.1) (40 ∷ 41 ∷ []) (SomeItems (inner_of [] [])) (inner_of [] [], some_list, refl))
     to from (λ v c h. h)
   where
-    to : (x : List ℕ) (v : Member) → Mapped (λ (v : InnerList). Several v) IsInner x v ⊎ Mapped (λ (v : Item). One v) IsItem x v → IsMember x v
+    to : (x : List ℕ) (v : Member) → Mapped (λ (v : InnerList). SomeItems v) IsInner x v ⊎ Mapped (λ (v : Item). OneItem v) IsItem x v → IsMember x v
     to x v (inl h) = subst (λ (v : Member). IsMember x v) h.2 h.1
     to x v (inr h) = subst (λ (v : Member). IsMember x v) h.2 h.1
 
-    from : (x : List ℕ) (v : Member) → IsMember x v → Mapped (λ (v : InnerList). Several v) IsInner x v ⊎ Mapped (λ (v : Item). One v) IsItem x v
-    from x (One v) h = inr (v, h, refl)
-    from x (Several v) h = inl (v, h, refl)
+    from : (x : List ℕ) (v : Member) → IsMember x v → Mapped (λ (v : InnerList). SomeItems v) IsInner x v ⊎ Mapped (λ (v : Item). OneItem v) IsItem x v
+    from x (OneItem v) h = inr (v, h, refl)
+    from x (SomeItems v) h = inl (v, h, refl)
 
 member_starts : (x : List ℕ) (v : Member) → IsMember x v → Starts (λ c. not (is_blank c)) x
-member_starts x (One v) h = item_starts (λ c. not (is_blank c)) kind_ows x v h
-member_starts x (Several v) h = inner_starts (λ c. not (is_blank c)) refl x v h
+member_starts x (OneItem v) h = item_starts (λ c. not (is_blank c)) kind_ows x v h
+member_starts x (SomeItems v) h = inner_starts (λ c. not (is_blank c)) refl x v h
 
-after_ows : (c : ℕ) → is_blank c ≡ true → is_of after_params c ≡ true
+after_ows : (c : ℕ) → is_blank c ≡ true → is_one_of after_params c ≡ true
 after_ows c e = go (eqb c 32) (eqb c 9) refl refl e
   where
-    go : (a b : Bool) → eqb c 32 ≡ a → eqb c 9 ≡ b → (a || b) ≡ true → is_of after_params c ≡ true
-    go true b is other e = subst (λ (c : ℕ). is_of after_params c ≡ true) (sym (eqb-true c 32 is)) refl
-    go false true is other e = subst (λ (c : ℕ). is_of after_params c ≡ true) (sym (eqb-true c 9 other)) refl
+    go : (a b : Bool) → eqb c 32 ≡ a → eqb c 9 ≡ b → (a || b) ≡ true → is_one_of after_params c ≡ true
+    go true b is other e = subst (λ (c : ℕ). is_one_of after_params c ≡ true) (sym (eqb-true c 32 is)) refl
+    go false true is other e = subst (λ (c : ℕ). is_one_of after_params c ≡ true) (sym (eqb-true c 9 other)) refl
     go false false is other e = absurd (cc (e))
+
+-- members added one after the other, each at the end
+all_last : {V : Type 0} (vs ws : List V) → after_all with_last vs ws ≡ vs ++ ws
+all_last vs [] = sym (append-nil vs)
+all_last vs (w ∷ ws) = all_last (vs ++ w ∷ []) ws ∙ append_assoc vs (w ∷ []) ws
 
 pub meets_list : Meets ReadsList Nothing (λ bytes. list_read bytes)
 unfolding After
-meets_list = meets_separated meets_member member_starts (λ v. refl) (λ v c h. after_ows c h) (63 ∷ 49 ∷ []) (One (true_item [])) one_truth
+meets_list =
+    meets_same
+    (meets_map {G = Nothing} (meets_separated meets_member member_starts (λ v. refl) (λ v c h. after_ows c h) (63 ∷ 49 ∷ []) (OneItem (true_item [])) true_read) (λ (vs : List Member). after_all with_last [] vs) (λ v c h. h))
+    (λ x v h. subst (λ (vs : List Member). ReadsList x vs) (sym (all_last [] h.0) ∙ h.2) h.1) (λ x v h. (v, h, all_last [] v)) (λ v c h. h)
 
 -- ---- dictionaries
 
 EqualsMember : List ℕ → Member → Type 0
 EqualsMember x v = (member : List ℕ) × (x ≡ 61 ∷ member) × IsMember member v
 
-meets_equals_member : Meets EqualsMember After equals_member
-unfolding equals_member EqualsMember After
+meets_equals_member : Meets EqualsMember After equals_member_read
+unfolding equals_member_read EqualsMember After
 meets_equals_member =
     meets_same
-    (meets_then (meets_byte is_equals 61 refl (λ _ _. true)) (λ _. meets_member) (λ x u h. (63 ∷ 49 ∷ [], One (true_item []), one_truth)) (λ u y v r h after. any_next (y ++ r)))
+    (meets_then (meets_byte is_equals 61 refl (λ _ _. true)) (λ _. meets_member) (λ x u h. (63 ∷ 49 ∷ [], OneItem (true_item []), true_read)) (λ u y v r h after. any_next (y ++ r)))
     (λ x v t. (t.second, cc (t.joined, t.spells.same, eqb-true t.value 61 t.spells.passes), t.more))
     (λ x v h. record { first = 61 ∷ []; second = h.0; value = 61; joined = h.1; spells = record { same = refl; passes = refl }; more = h.2 })
     (λ v c h. h)
 
 MemberOr : Option Member → List ℕ → Member → Type 0
-MemberOr None x v = Mapped (λ (ps : List (Pair BareItem)). One (true_item ps)) AreKept x v
+MemberOr None x v = Mapped (λ (ps : List (Pair BareItem)). OneItem (true_item ps)) AreDistinct x v
 MemberOr (Some w) x v = (x ≡ []) × (w ≡ v)
 
-meets_member_or : (o : Option Member) → Meets (MemberOr o) After (member_or o)
+meets_member_or : (o : Option Member) → Meets (MemberOr o) After (given_or_true o)
 unfolding MemberOr After
-meets_member_or None = meets_map meets_kept (λ (ps : List (Pair BareItem)). One (true_item ps)) (λ v c h. h)
-meets_member_or (Some v) = meets_done v (λ _ c. is_of after_params c)
+meets_member_or None = meets_map meets_kept (λ (ps : List (Pair BareItem)). OneItem (true_item ps)) (λ v c h. h)
+meets_member_or (Some v) = meets_done v (λ _ c. is_one_of after_params c)
 
 PairValue : List ℕ → Member → Type 0
 PairValue x v = Then (Optional EqualsMember) MemberOr x v
 
-meets_pair_value : Meets PairValue After pair_value
-unfolding pair_value PairValue EqualsMember MemberOr After
-meets_pair_value =
+meets_dict_value : Meets PairValue After dict_value_read
+unfolding dict_value_read PairValue EqualsMember MemberOr After
+meets_dict_value =
     meets_then (meets_optional is_equals meets_equals_member (λ x v h. subst (λ (y : List ℕ). Starts is_equals y) (sym h.1) refl)) meets_member_or
     (λ x o h. fill o) (λ o y v r h after. next o y v r h after)
   where
     fill : (o : Option Member) → (y : List ℕ) × (v : Member) × MemberOr o y v
-    fill None = ([], One (true_item []), ([], ([], refl, refl), refl))
+    fill None = ([], OneItem (true_item []), ([], ([], refl, refl), refl))
     fill (Some w) = ([], w, (refl, refl))
 
-    next : (o : Option Member) (y : List ℕ) (v : Member) (r : List ℕ) → MemberOr o y v → Next (λ c. is_of after_params c) r → Next (optional_follow is_equals (λ (_ : Member) c. is_of after_params c) o) (y ++ r)
+    next : (o : Option Member) (y : List ℕ) (v : Member) (r : List ℕ) → MemberOr o y v → Next (λ c. is_one_of after_params c) r → Next (optional_follow is_equals (λ (_ : Member) c. is_one_of after_params c) o) (y ++ r)
     next None y v r h after = params_next (λ c. not (is_equals c)) refl (λ c e. of_each (λ c. not (is_equals c)) after_params refl c e) y h.1.0 r h.1.1 after
-    next (Some w) y v r h after = subst (λ (y : List ℕ). Next (λ c. is_of after_params c) (y ++ r)) (sym h.0) after
+    next (Some w) y v r h after = subst (λ (y : List ℕ). Next (λ c. is_one_of after_params c) (y ++ r)) (sym h.0) after
 
 to_value : (rest : List ℕ) (v : Member) → PairValue rest v
-    → ((member : List ℕ) × (rest ≡ 61 ∷ member) × IsMember member v) ⊎ ((written : List (Pair BareItem)) × AreParameters rest written × (v ≡ One (true_item (kept written))))
+    → IsDictValue rest v
 unfolding PairValue EqualsMember MemberOr
 to_value rest v t = go t.value t.spells t.more
   where
     go : (o : Option Member) → Optional EqualsMember t.first o → MemberOr o t.second v
-        → ((member : List ℕ) × (rest ≡ 61 ∷ member) × IsMember member v) ⊎ ((written : List (Pair BareItem)) × AreParameters rest written × (v ≡ One (true_item (kept written))))
-    go None e h = inr (h.1.0, subst (λ (x : List ℕ). AreParameters x h.1.0) (sym (t.joined ∙ ap (λ (y : List ℕ). y ++ t.second) e)) h.1.1, sym h.2 ∙ ap (λ (ps : List (Pair BareItem)). One (true_item ps)) (sym h.1.2))
+        → IsDictValue rest v
+    go None e h = inr (h.1.0, subst (λ (x : List ℕ). AreParameters x h.1.0) (sym (t.joined ∙ ap (λ (y : List ℕ). y ++ t.second) e)) h.1.1, sym h.2 ∙ ap (λ (ps : List (Pair BareItem)). OneItem (true_item ps)) (sym h.1.2))
     go (Some w) e h = inl (e.0, t.joined ∙ ap (λ (y : List ℕ). t.first ++ y) h.0 ∙ append-nil t.first ∙ e.1, subst (λ (v : Member). IsMember e.0 v) h.1 e.2)
 
 from_value : (rest : List ℕ) (v : Member)
-    → ((member : List ℕ) × (rest ≡ 61 ∷ member) × IsMember member v) ⊎ ((written : List (Pair BareItem)) × AreParameters rest written × (v ≡ One (true_item (kept written)))) → PairValue rest v
+    → IsDictValue rest v → PairValue rest v
 unfolding PairValue EqualsMember MemberOr
 from_value rest v (inl h) = record { first = rest; second = []; value = Some v; joined = sym (append-nil rest); spells = h; more = (refl, refl) }
-from_value rest v (inr h) = record { first = []; second = rest; value = None; joined = refl; spells = refl; more = (kept h.0, (h.0, h.1, refl), sym h.2) }
+from_value rest v (inr h) = record { first = []; second = rest; value = None; joined = refl; spells = refl; more = (distinct_pairs h.0, (h.0, h.1, refl), sym h.2) }
 
-value_next : (y : List ℕ) (v : Member) (r : List ℕ) → PairValue y v → Next (λ c. is_of after_params c) r → Next (λ c. not (is_key_rest c)) (y ++ r)
+value_next : (y : List ℕ) (v : Member) (r : List ℕ) → PairValue y v → Next (λ c. is_one_of after_params c) r → Next (λ c. not (is_key_rest c)) (y ++ r)
 value_next y v r t after = go (to_value y v t)
   where
-    go : ((member : List ℕ) × (y ≡ 61 ∷ member) × IsMember member v) ⊎ ((written : List (Pair BareItem)) × AreParameters y written × (v ≡ One (true_item (kept written)))) → Next (λ c. not (is_key_rest c)) (y ++ r)
+    go : IsDictValue y v → Next (λ c. not (is_key_rest c)) (y ++ r)
     go (inl h) = subst (λ (y : List ℕ). Next (λ c. not (is_key_rest c)) (y ++ r)) (sym h.1) refl
     go (inr h) = params_next (λ c. not (is_key_rest c)) refl (λ c e. of_each (λ c. not (is_key_rest c)) after_params refl c e) y h.0 r h.1 after
 
-true_value : PairValue [] (One (true_item []))
+true_value : PairValue [] (OneItem (true_item []))
 true_value = from_value [] _ (inr ([], refl, refl))
 
-meets_pair : Meets IsPair After pair_read
-unfolding pair_read After
-meets_pair =
+meets_dict_member : Meets IsDictMember After dict_member_read
+unfolding dict_member_read After
+meets_dict_member =
     meets_same
-    (meets_then meets_key (λ k. meets_map {G = λ _ c. is_of after_params c} meets_pair_value (λ (v : Member). pair_of k v) (λ v c h. h))
-    (λ x u h. ([], pair_of u (One (true_item [])), (One (true_item []), true_value, refl)))
+    (meets_then meets_key (λ k. meets_map {G = λ _ c. is_one_of after_params c} meets_dict_value (λ (v : Member). pair_of k v) (λ v c h. h))
+    (λ x u h. ([], pair_of u (OneItem (true_item [])), (OneItem (true_item []), true_value, refl)))
     (λ u y v r h after. value_next y h.0 r h.1 after))
     (λ x p t.
     let pair : pair_of t.value t.more.0 ≡ p = t.more.2 in
@@ -185,72 +195,33 @@ key_start : (x : List ℕ) → Starts is_key_first x → Starts (λ c. not (is_b
 key_start [] h = absurd h
 key_start (c ∷ x) h = key_ows c h
 
-pair_starts : (x : List ℕ) (p : Pair Member) → IsPair x p → Starts (λ c. not (is_blank c)) x
-pair_starts x p h = key_start x (subst (λ (y : List ℕ). Starts is_key_first y) (sym h.joined) (starts_append is_key_first h.key h.rest (word_starts is_key_first is_key_rest h.key p.key h.is_key)))
+dict_member_starts : (x : List ℕ) (p : Pair Member) → IsDictMember x p → Starts (λ c. not (is_blank c)) x
+dict_member_starts x p h = key_start x (subst (λ (y : List ℕ). Starts is_key_first y) (sym h.joined) (starts_append is_key_first h.key h.rest (word_starts is_key_first is_key_rest h.key p.key h.is_key)))
 
-some_pair : IsPair (97 ∷ []) (pair_of (97 ∷ []) (One (true_item [])))
-some_pair = record { key = 97 ∷ []; rest = []; joined = refl; is_key = (refl, refl, refl); value = inr ([], refl, refl) }
+some_dict_member : IsDictMember (97 ∷ []) (pair_of (97 ∷ []) (OneItem (true_item [])))
+some_dict_member = record { key = 97 ∷ []; rest = []; joined = refl; is_key = (refl, refl, refl); value = inr ([], refl, refl) }
 
--- pairs that are put one after the other, and pairs that are read and then put
-with_kept : Result (List (Pair Member) × List ℕ) ℕ → Result (List (Pair Member) × List ℕ) ℕ
-with_kept r = r >>= λ ps. Ok (kept ps.0, ps.1)
-
-put_all : (p : Pair Member) (r : Result (List (Pair Member) × List ℕ) ℕ) → with_kept (r >>= λ vs. Ok (p ∷ vs.0, vs.1)) ≡ with_state put_pair (put_pair [] p) r
-unfolding with_kept
-put_all p (Ok vs) = refl
-put_all p (Err n) = refl
-
-pairs_put : (bytes : List ℕ) → with_kept (members_read pair_read bytes) ≡ pairs_read bytes
-unfolding members_read pairs_read with_kept
-pairs_put bytes = go (pair_read bytes)
-  where
-    go : (r : Result (Pair Member × List ℕ) ℕ) → with_kept (r >>= λ v. turns_read (separated_turn pair_read) v.1 >>= λ vs. Ok (v.0 ∷ vs.0, vs.1)) ≡ (r >>= λ p. with_state put_pair (put_pair [] p.0) (turns_read (separated_turn pair_read) p.1))
-    go (Ok v) = put_all v.0 (turns_read (separated_turn pair_read) v.1)
-    go (Err n) = refl
-
-some_put : (bytes : List ℕ) → with_kept (some_members pair_read bytes) ≡ some_pairs bytes
-unfolding some_members some_pairs optional_read with_kept
-some_put [] = refl
-some_put (c ∷ bytes) = same (members_read pair_read (c ∷ bytes)) (pairs_read (c ∷ bytes)) (pairs_put (c ∷ bytes))
-  where
-    listed : Result (List (Pair Member) × List ℕ) ℕ → Result (List (Pair Member) × List ℕ) ℕ
-    listed r = ◌>>=◌ {A = Option (List (Pair Member)) × List ℕ} (r >>= λ a. Ok (Some a.0, a.1)) (λ o. Ok (list_of o.0, o.1))
-
-    moved : (r : Result (List (Pair Member) × List ℕ) ℕ) → with_kept (listed r) ≡ listed (with_kept r)
-    moved (Ok a) = refl
-    moved (Err n) = refl
-
-    same : (r s : Result (List (Pair Member) × List ℕ) ℕ) → with_kept r ≡ s → with_kept (listed r) ≡ listed s
-    same r s e = moved r ∙ ap listed e
-
-dict_put : (bytes : List ℕ) → with_kept (separated_read pair_read bytes) ≡ dict_read bytes
-unfolding separated_read dict_read with_kept
-dict_put bytes = go (all_read is_space bytes)
-  where
-    go : (r : Result (List ℕ × List ℕ) ℕ) → with_kept (r >>= λ s. some_members pair_read s.1) ≡ (r >>= λ s. some_pairs s.1)
-    go (Ok s) = some_put s.1
-    go (Err n) = refl
-
+-- a Dictionary's members, put one after the other
 pub meets_dict : Meets ReadsDict Nothing (λ bytes. dict_read bytes)
-unfolding with_kept After
+unfolding After
 meets_dict =
-    subst (λ (p : List ℕ → Result (List (Pair Member) × List ℕ) ℕ). Meets ReadsDict Nothing p) (λ i bytes. dict_put bytes i) (meets_same
-    (meets_map {G = Nothing} (meets_separated meets_pair pair_starts (λ v. refl) (λ v c h. after_ows c h) (97 ∷ []) (pair_of (97 ∷ []) (One (true_item []))) some_pair) (λ (ps : List (Pair Member)). kept ps) (λ v c h. h))
-    (λ x v h. (h.0, h.1, sym h.2)) (λ x v h. (h.0, h.1, sym h.2)) (λ v c h. h))
+    meets_same
+    (meets_map {G = Nothing} (meets_separated meets_dict_member dict_member_starts (λ v. refl) (λ v c h. after_ows c h) (97 ∷ []) (pair_of (97 ∷ []) (OneItem (true_item []))) some_dict_member) (λ (ps : List (Pair Member)). distinct_pairs ps) (λ v c h. h))
+    (λ x v h. (h.0, h.1, sym h.2)) (λ x v h. (h.0, h.1, sym h.2)) (λ v c h. h)
 
 -- how the loops over members go on
-pub members_step : (bytes : List ℕ) → turns_read (separated_turn member_read) bytes ≡ (separated_turn member_read bytes >>= λ a. turned a.0 a.1 (turns_read (separated_turn member_read) a.1))
+pub members_step : (bytes : List ℕ) → turns_read (next_member_read member_read) bytes ≡ (next_member_read member_read bytes >>= λ a. with_turns a.0 a.1 (turns_read (next_member_read member_read) a.1))
 unfolding After
-members_step bytes = separated_step meets_member member_starts (λ v. refl) (λ v c h. after_ows c h) (63 ∷ 49 ∷ []) (One (true_item [])) one_truth bytes
+members_step bytes = separated_step meets_member member_starts (λ v. refl) (λ v c h. after_ows c h) (63 ∷ 49 ∷ []) (OneItem (true_item [])) true_read bytes
 
-pub members_shorter : (bytes : List ℕ) (v : Member) (rest : List ℕ) → separated_turn member_read bytes ≡ Ok (Some v, rest) → length rest < length bytes
+pub members_shorter : (bytes : List ℕ) (v : Member) (rest : List ℕ) → next_member_read member_read bytes ≡ Ok (Some v, rest) → length rest < length bytes
 unfolding After
-members_shorter bytes v rest e = separated_shorter meets_member member_starts (λ v. refl) (λ v c h. after_ows c h) (63 ∷ 49 ∷ []) (One (true_item [])) one_truth bytes v rest e
+members_shorter bytes v rest e = separated_shorter meets_member member_starts (λ v. refl) (λ v c h. after_ows c h) (63 ∷ 49 ∷ []) (OneItem (true_item [])) true_read bytes v rest e
 
-pub pairs_step : (bytes : List ℕ) → turns_read (separated_turn pair_read) bytes ≡ (separated_turn pair_read bytes >>= λ a. turned a.0 a.1 (turns_read (separated_turn pair_read) a.1))
+pub dict_members_step : (bytes : List ℕ) → turns_read (next_member_read dict_member_read) bytes ≡ (next_member_read dict_member_read bytes >>= λ a. with_turns a.0 a.1 (turns_read (next_member_read dict_member_read) a.1))
 unfolding After
-pairs_step bytes = separated_step meets_pair pair_starts (λ v. refl) (λ v c h. after_ows c h) (97 ∷ []) (pair_of (97 ∷ []) (One (true_item []))) some_pair bytes
+dict_members_step bytes = separated_step meets_dict_member dict_member_starts (λ v. refl) (λ v c h. after_ows c h) (97 ∷ []) (pair_of (97 ∷ []) (OneItem (true_item []))) some_dict_member bytes
 
-pub pairs_shorter : (bytes : List ℕ) (v : Pair Member) (rest : List ℕ) → separated_turn pair_read bytes ≡ Ok (Some v, rest) → length rest < length bytes
+pub dict_members_shorter : (bytes : List ℕ) (v : Pair Member) (rest : List ℕ) → next_member_read dict_member_read bytes ≡ Ok (Some v, rest) → length rest < length bytes
 unfolding After
-pairs_shorter bytes v rest e = separated_shorter meets_pair pair_starts (λ v. refl) (λ v c h. after_ows c h) (97 ∷ []) (pair_of (97 ∷ []) (One (true_item []))) some_pair bytes v rest e
+dict_members_shorter bytes v rest e = separated_shorter meets_dict_member dict_member_starts (λ v. refl) (λ v c h. after_ows c h) (97 ∷ []) (pair_of (97 ∷ []) (OneItem (true_item []))) some_dict_member bytes v rest e

@@ -2,11 +2,13 @@
 use Rattle.std.proofs.Common.{◌≡◌, ℕ, suc, ◌≤◌, ◌&&◌, Bool, true, false, not, cond, ltb, eqb, List, [], ◌∷◌, ◌++◌, length, Option, Some, None, Result, Ok, refl, sym, ap, subst, ◌∙◌, append_assoc, ℤ, arith}
 use Rattle.std.proofs.lemmas.List.{length-append, append-nil}
 use Rattle.std.proofs.lemmas.Bool.{ltb-false, ltb-true, eqb-true}
-use Rattle.byte_grammar.specs.Language.{Then, IsRun, Optional, Mapped}
-use Rattle.byte_grammar.specs.Walk.{◌>>=◌, Next, is_of, run_read, optional_read}
+use Rattle.byte_grammar.specs.Language.{IsRun}
+use Rattle.byte_grammar.specs.tools.Languages.{Then, Optional, Mapped}
+use Rattle.byte_grammar.specs.Walk.{◌>>=◌, run_read}
+use Rattle.byte_classes.specs.Classes.{is_one_of, is_digit}
+use Rattle.byte_grammar.specs.tools.Walks.{Next, optional_read}
 use Rattle.sfv_read.specs.BareItem.{IsInteger, IsDecimal}
 use Rattle.sfv_read.specs.tools.BareWalk.{number_of, part_read, fraction_read, number_read}
-use Rattle.byte_classes.specs.Classes.{is_digit}
 use Rattle.sfv_read.specs.Class.{is_minus, is_dot}
 use Rattle.sfv_text.specs.declared.value.BareItem.{BareItem}
 use Rattle.sfv_text.specs.declared.value.BareItem.TheVariants.{Integer, Decimal, Str, Token, Bytes, Bool as Boolean}
@@ -17,7 +19,7 @@ abbrev pub ends : List ℕ
 ends = 59 ∷ 61 ∷ 32 ∷ 9 ∷ 44 ∷ 41 ∷ []
 
 abbrev pub End : {V : Type 0} → V → ℕ → Bool
-End _ c = is_of ends c
+End _ c = is_one_of ends c
 
 -- a point and digits
 record IsPart (text v : List ℕ) : Type 0 where

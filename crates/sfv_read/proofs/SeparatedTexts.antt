@@ -1,16 +1,29 @@
 -- Members separated by commas, as a whole text: once for every kind of member.
-use Rattle.std.proofs.Common.{◌≡◌, ℕ, ◌<◌, ◌||◌, Bool, true, false, not, eqb, List, [], ◌∷◌, ◌++◌, length, Option, Some, None, Result, Ok, refl, sym, ap, subst, ◌∙◌, append_assoc, arith}
+use Rattle.std.proofs.Common.{◌≡◌, ℕ, ◌<◌, ◌||◌, Bool, true, false, not, eqb, List, [], ◌∷◌, ◌++◌, length, Option, Some, None, Result, Ok, Err, refl, sym, ap, subst, ◌∙◌, append_assoc, arith}
 use Rattle.std.specs.List.{list_all}
 use Rattle.std.proofs.lemmas.Bool.{eqb-true}
 use Rattle.std.proofs.lemmas.List.{append-nil, length-append}
-use Rattle.byte_grammar.specs.Language.{Then, Turns, Mapped, Optional, Each, IsByte, IsAll}
-use Rattle.byte_grammar.specs.Walk.{◌>>=◌, Next, turned, turns_read}
+use Rattle.byte_grammar.specs.Language.{Each, IsFurther}
+use Rattle.byte_grammar.specs.tools.Languages.{Then, Turns, Mapped, Optional, IsByte, IsAll}
+use Rattle.byte_grammar.specs.Walk.{◌>>=◌}
+use Rattle.byte_grammar.specs.tools.Walks.{Next, with_turns, turns_read, with_state}
 use Rattle.byte_classes.specs.Classes.{is_space, is_blank}
 use Rattle.sfv_read.specs.Class.{is_comma}
-use Rattle.sfv_read.specs.Member.{IsFurther, Separated}
-use Rattle.sfv_read.specs.tools.MemberWalk.{further_read, separated_turn, members_read, list_of, some_members, separated_read}
+use Rattle.sfv_read.specs.Member.{IsComma, AreMembers}
+use Rattle.sfv_read.specs.tools.MemberWalk.{further_read, next_member_read, members_read, members_or_none, some_members_read, separated_read}
 use Rattle.byte_grammar.proofs.Laws.{Meets, Starts, meets_then, meets_byte, meets_all, meets_optional, optional_follow, meets_turns, meets_same, meets_map, and_is, any_next, starts_next, starts_length, turns_step, shorter}
+use Rattle.byte_grammar.proofs.Loops.{state_cons}
 use Rattle.byte_grammar.proofs.Whole.{Nothing}
+
+-- members, from the first on
+module _ {S V : Type 0} (f : S → V → S) (s : S) (p : List ℕ → Result (V × List ℕ) ℕ) (bytes : List ℕ) where
+  pub members_err : (n : ℕ) → p bytes ≡ Err n → with_state f s (members_read p bytes) ≡ Err n
+  unfolding members_read
+  members_err n e = rw e refl
+
+  pub members_first : (v : V) (rest : List ℕ) → p bytes ≡ Ok (v, rest) → with_state f (f s v) (turns_read (next_member_read p) rest) ≡ with_state f s (members_read p bytes)
+  unfolding members_read
+  members_first v rest e = rw e (state_cons f s v (turns_read (next_member_read p) rest))
 
 module _ {V : Type 0} {M : List ℕ → V → Type 0} {F : V → ℕ → Bool} {p : List ℕ → Result (V × List ℕ) ℕ} (m : Meets M F p)
     (begins : (x : List ℕ) (v : V) → M x v → Starts (λ c. not (is_blank c)) x) (commas : (v : V) → F v 44 ≡ true) (blanks : (v : V) (c : ℕ) → is_blank c ≡ true → F v c ≡ true)
@@ -37,8 +50,8 @@ module _ {V : Type 0} {M : List ℕ → V → Type 0} {F : V → ℕ → Bool} {
   abbrev Turn : List ℕ → Option V → Type 0
   Turn x o = Then (IsAll is_blank) (λ _. Optional Further) x o
 
-  meets_turn : Meets Turn slot (separated_turn p)
-  unfolding separated_turn slot
+  meets_turn : Meets Turn slot (next_member_read p)
+  unfolding next_member_read slot
   meets_turn =
       meets_then (meets_all is_blank)
       (λ _. meets_same {G = slot} (meets_optional is_comma meets_further further_starts) (λ x o h. h) (λ x o h. h) sub)
@@ -78,7 +91,7 @@ module _ {V : Type 0} {M : List ℕ → V → Type 0} {F : V → ℕ → Bool} {
   no_turn : Turn [] None
   no_turn = record { first = []; second = []; value = []; joined = refl; spells = record { same = refl; passes = refl }; more = refl }
 
-  meets_turns_of : Meets (Turns Turn) Nothing (turns_read (separated_turn p))
+  meets_turns_of : Meets (Turns Turn) Nothing (turns_read (next_member_read p))
   unfolding slot
   meets_turns_of = meets_turns meets_turn turn_grows ([], no_turn) turn_next
 
@@ -115,15 +128,15 @@ module _ {V : Type 0} {M : List ℕ → V → Type 0} {F : V → ℕ → Bool} {
       go true b h = absurd (cc (h))
       go false b h = refl
 
-  meets_some : Meets (Mapped list_of (Optional Body)) Nothing (some_members p)
-  unfolding some_members
-  meets_some = meets_map (meets_optional (λ _. true) meets_body (λ x vs h. starts_any (λ c. not (is_blank c)) x (body_starts x vs h))) list_of sub
+  meets_some : Meets (Mapped members_or_none (Optional Body)) Nothing (some_members_read p)
+  unfolding some_members_read
+  meets_some = meets_map (meets_optional (λ _. true) meets_body (λ x vs h. starts_any (λ c. not (is_blank c)) x (body_starts x vs h))) members_or_none sub
     where
       sub : (o : Option (List V)) (c : ℕ) → false ≡ true → optional_follow (λ _. true) Nothing o c ≡ true
       sub o c h = absurd (cc (h))
 
   abbrev pub SeparatedText : List ℕ → List V → Type 0
-  SeparatedText x vs = Then (IsAll is_space) (λ _. Mapped list_of (Optional Body)) x vs
+  SeparatedText x vs = Then (IsAll is_space) (λ _. Mapped members_or_none (Optional Body)) x vs
 
   pub meets_separated_text : Meets SeparatedText Nothing (separated_read p)
   unfolding separated_read
@@ -137,85 +150,70 @@ module _ {V : Type 0} {M : List ℕ → V → Type 0} {F : V → ℕ → Bool} {
 
   -- ---- as joined texts
 
-  to_further : (x : List ℕ) (v : V) → Turn x (Some v) → IsFurther M x v
+  to_further : (x : List ℕ) (v : V) → Turn x (Some v) → IsFurther IsComma M x v
   to_further x v t =
       let f = t.more in
       record {
-        before = t.value;
-        after = f.more.value;
+        separator = t.value ++ 44 ∷ f.more.value;
         rest = f.more.second;
-        joined = cc (t.joined, t.spells.same, f.joined, f.spells.same, eqb-true f.value 44 f.spells.passes, f.more.joined, f.more.spells.same);
-        blank_before = t.spells.passes;
-        blank_after = f.more.spells.passes;
+        joined = cc (t.joined, t.spells.same, f.joined, f.spells.same, eqb-true f.value 44 f.spells.passes, f.more.joined, f.more.spells.same, append_assoc t.value (44 ∷ f.more.value) f.more.second);
+        separates = record { before = t.value; after = f.more.value; joined = refl; blanks_before = t.spells.passes; blanks_after = f.more.spells.passes };
         spells = f.more.more;
       }
 
-  from_further : (x : List ℕ) (v : V) → IsFurther M x v → Turn x (Some v)
-  from_further x v h = record {
-    first = h.before;
-    second = 44 ∷ (h.after ++ h.rest);
-    value = h.before;
-    joined = h.joined;
-    spells = record { same = refl; passes = h.blank_before };
-    more = record {
-      first = 44 ∷ [];
-      second = h.after ++ h.rest;
-      value = 44;
-      joined = refl;
-      spells = record { same = refl; passes = refl };
-      more = record { first = h.after; second = h.rest; value = h.after; joined = refl; spells = record { same = refl; passes = h.blank_after }; more = h.spells };
-    };
-  }
+  from_further : (x : List ℕ) (v : V) → IsFurther IsComma M x v → Turn x (Some v)
+  from_further x v h =
+      let s = h.separates in
+      record {
+        first = s.before;
+        second = 44 ∷ (s.after ++ h.rest);
+        value = s.before;
+        joined = h.joined ∙ ap (λ (y : List ℕ). y ++ h.rest) s.joined ∙ append_assoc s.before (44 ∷ s.after) h.rest;
+        spells = record { same = refl; passes = s.blanks_before };
+        more = record {
+          first = 44 ∷ [];
+          second = s.after ++ h.rest;
+          value = 44;
+          joined = refl;
+          spells = record { same = refl; passes = refl };
+          more = record { first = s.after; second = h.rest; value = s.after; joined = refl; spells = record { same = refl; passes = s.blanks_after }; more = h.spells };
+        };
+      }
 
-  to_turns : (vs : List V) (x : List ℕ) → Turns Turn x vs → (y after : List ℕ) × (x ≡ y ++ after) × Each (IsFurther M) y vs × (list_all is_blank after ≡ true)
+  to_turns : (vs : List V) (x : List ℕ) → Turns Turn x vs → (y after : List ℕ) × (x ≡ y ++ after) × Each (IsFurther IsComma M) y vs × (list_all is_blank after ≡ true)
   to_turns [] x t = ([], t.value, t.joined ∙ ap (λ (y : List ℕ). t.first ++ y) t.more ∙ append-nil t.first ∙ t.spells.same, refl, t.spells.passes)
   to_turns (v ∷ vs) x (first, second, e, t, others) =
       let rest = to_turns vs second others in
       (first ++ rest.0, rest.1, e ∙ ap (λ (y : List ℕ). first ++ y) rest.2 ∙ sym (append_assoc first rest.0 rest.1), (first, rest.0, refl, to_further first v t, rest.3), rest.4)
 
-  from_turns : (vs : List V) (y after : List ℕ) → Each (IsFurther M) y vs → list_all is_blank after ≡ true → Turns Turn (y ++ after) vs
+  from_turns : (vs : List V) (y after : List ℕ) → Each (IsFurther IsComma M) y vs → list_all is_blank after ≡ true → Turns Turn (y ++ after) vs
   from_turns [] y after h all = subst (λ (y : List ℕ). Turn (y ++ after) None) (sym h) (record { first = after; second = []; value = after; joined = sym (append-nil after); spells = record { same = refl; passes = all }; more = refl })
   from_turns (v ∷ vs) y after h all =
       (h.0, h.1 ++ after, ap (λ (y : List ℕ). y ++ after) h.2 ∙ append_assoc h.0 h.1 after, from_further h.0 v h.3, from_turns vs h.1 after h.4 all)
 
-  to_separated : (x : List ℕ) (vs : List V) → SeparatedText x vs → Separated M x vs
-  to_separated x vs t = go t.more.0 t.more.1 t.more.2
+  to_members : (x : List ℕ) (vs : List V) → SeparatedText x vs → AreMembers M x vs
+  to_members x vs t = go t.more.0 t.more.1 t.more.2
     where
-      go : (o : Option (List V)) → Optional Body t.second o → list_of o ≡ vs → Separated M x vs
-      go None h e = subst (λ (vs : List V). Separated M x vs) e (record {
-        before = t.value;
-        members = [];
-        after = [];
-        joined = t.joined ∙ ap (λ (y : List ℕ). y ++ t.second) t.spells.same ∙ ap (λ (y : List ℕ). t.value ++ y) h;
-        spaces_before = t.spells.passes;
-        blank_after = refl;
-        are_members = refl;
-        none = λ _. refl;
-      })
+      go : (o : Option (List V)) → Optional Body t.second o → members_or_none o ≡ vs → AreMembers M x vs
+      go None h e =
+          let text : x ≡ t.value = t.joined ∙ ap (λ (y : List ℕ). y ++ t.second) t.spells.same ∙ ap (λ (y : List ℕ). t.value ++ y) h ∙ append-nil t.value in
+          subst (λ (vs : List V). AreMembers M x vs) e (ap (list_all is_space) text ∙ t.spells.passes)
       go (Some ws) b e =
           let turns = to_turns b.more.0 b.second b.more.1 in
           let same : b.value ∷ b.more.0 ≡ vs = b.more.2 ∙ e in
-          subst (λ (vs : List V). Separated M x vs) same (record {
+          subst (λ (vs : List V). AreMembers M x vs) same (record {
             before = t.value;
             members = b.first ++ turns.0;
             after = turns.1;
             joined = t.joined ∙ ap (λ (y : List ℕ). y ++ t.second) t.spells.same ∙ ap (λ (y : List ℕ). t.value ++ y) (b.joined ∙ ap (λ (y : List ℕ). b.first ++ y) turns.2 ∙ sym (append_assoc b.first turns.0 turns.1));
             spaces_before = t.spells.passes;
-            blank_after = turns.4;
+            blanks_after = turns.4;
             are_members = (b.first, turns.0, refl, b.spells, turns.3);
-            none = λ e. absurd (cc (e));
           })
 
-  from_separated : (x : List ℕ) (vs : List V) → Separated M x vs → SeparatedText x vs
-  from_separated x [] h = record {
-    first = h.before;
-    second = [];
-    value = h.before;
-    spells = record { same = refl; passes = h.spaces_before };
-    joined = h.joined ∙ ap (λ (y : List ℕ). h.before ++ y) (ap (λ (y : List ℕ). y ++ h.after) h.are_members ∙ h.none refl);
-    more = (None, refl, refl);
-  }
-  from_separated x (v ∷ vs) h = record {
+  from_members : (x : List ℕ) (vs : List V) → AreMembers M x vs → SeparatedText x vs
+  from_members x [] h = record { first = x; second = []; value = x; joined = sym (append-nil x); spells = record { same = refl; passes = h }; more = (None, refl, refl) }
+  from_members x (v ∷ vs) h = record {
     first = h.before;
     second = h.members ++ h.after;
     value = h.before;
@@ -229,18 +227,18 @@ module _ {V : Type 0} {M : List ℕ → V → Type 0} {F : V → ℕ → Bool} {
         value = v;
         joined = ap (λ (y : List ℕ). y ++ h.after) h.are_members.2 ∙ append_assoc h.are_members.0 h.are_members.1 h.after;
         spells = h.are_members.3;
-        more = (vs, from_turns vs h.are_members.1 h.after h.are_members.4 h.blank_after, refl);
+        more = (vs, from_turns vs h.are_members.1 h.after h.are_members.4 h.blanks_after, refl);
       },
       refl,
     );
   }
 
-  pub meets_separated : Meets (Separated M) Nothing (separated_read p)
-  meets_separated = meets_same meets_separated_text to_separated from_separated (λ v c h. h)
+  pub meets_separated : Meets (AreMembers M) Nothing (separated_read p)
+  meets_separated = meets_same meets_separated_text to_members from_members (λ v c h. h)
 
   -- how a loop over members goes on
-  pub separated_step : (bytes : List ℕ) → turns_read (separated_turn p) bytes ≡ (separated_turn p bytes >>= λ a. turned a.0 a.1 (turns_read (separated_turn p) a.1))
+  pub separated_step : (bytes : List ℕ) → turns_read (next_member_read p) bytes ≡ (next_member_read p bytes >>= λ a. with_turns a.0 a.1 (turns_read (next_member_read p) a.1))
   separated_step bytes = turns_step meets_turn turn_grows bytes
 
-  pub separated_shorter : (bytes : List ℕ) (v : V) (rest : List ℕ) → separated_turn p bytes ≡ Ok (Some v, rest) → length rest < length bytes
+  pub separated_shorter : (bytes : List ℕ) (v : V) (rest : List ℕ) → next_member_read p bytes ≡ Ok (Some v, rest) → length rest < length bytes
   separated_shorter bytes v rest e = shorter meets_turn turn_grows bytes v rest e

@@ -1,5 +1,5 @@
 -- The strict text of a value in range reads as that value.
-use Rattle.std.proofs.Common.{◌≡◌, ℕ, ◌+◌, ◌-◌, ◌*◌, ◌/◌, ◌%◌, ◌^◌, ◌<◌, ◌≤◌, ℤ, pos, negsuc, Bool, true, false, cond, eqb, ◌||◌, List, [], ◌∷◌, ◌++◌, length, codes, refl, sym, ap, ◌∙◌, arith, inl, inr, ◌⊎◌, append_assoc}
+use Rattle.std.proofs.Common.{◌≡◌, ℕ, ◌+◌, ◌-◌, ◌*◌, ◌/◌, ◌%◌, ◌^◌, ◌<◌, ◌≤◌, ℤ, pos, negsuc, Bool, true, false, cond, eqb, ◌||◌, List, [], ◌∷◌, ◌++◌, length, codes, refl, sym, ap, ◌∙◌, arith, inl, inr, append_assoc}
 use Rattle.std.specs.Prelude.{unsigned_abs}
 use Rattle.std.specs.Fmt.{decimal}
 use Rattle.std.specs.List.{list_all, list_any, flat_map, join_by}
@@ -8,14 +8,14 @@ use Rattle.std.proofs.lemmas.Bool.Decides.{nat_tests}
 use Rattle.std.proofs.lemmas.Fmt.{decimal_by_steps, length-decimal-le}
 use Rattle.std.proofs.lemmas.List.{append-nil, length-append}
 use Rattle.std.proofs.lemmas.List.Folds.{list_all-append, list_any-append}
-use Rattle.byte_grammar.specs.Language.{IsWord, IsRun, Each, Padded, after_all}
+use Rattle.byte_grammar.specs.Language.{IsWord, IsRun, Each, IsFurther, Padded, after_all}
 use Rattle.byte_grammar.proofs.Laws.{and_is}
 use Rattle.sfv_text.specs.declared.value.BareItem.{BareItem}
 use Rattle.sfv_text.specs.declared.value.BareItem.TheVariants.{Integer, Decimal, Str, Token, Bytes, Bool as Boolean}
 use Rattle.sfv_text.specs.declared.value.Item.{Item}
 use Rattle.sfv_text.specs.declared.value.InnerList.{InnerList}
 use Rattle.sfv_text.specs.declared.value.Member.{Member}
-use Rattle.sfv_text.specs.declared.value.Member.TheVariants.{Item as One, InnerList as Several}
+use Rattle.sfv_text.specs.declared.value.Member.TheVariants.{Item as OneItem, InnerList as SomeItems}
 use Rattle.sfv_text.specs.declared.pair.Pair.{Pair}
 use Rattle.sfv_text.specs.Keys.{has_key, have_distinct_keys, put}
 use Rattle.sfv_text.specs.Range.{is_word, is_token_first, is_token_rest, is_key_first, is_key_rest, is_key, is_number_in_range, is_bare_in_range, is_param_in_range, are_params_in_range, is_item_in_range, is_inner_in_range, is_member_in_range, is_list_in_range, is_entry_in_range, is_dict_in_range}
@@ -23,13 +23,14 @@ use Rattle.sfv_text.specs.Strict.{sign_text, integer_text, fraction_text, decima
 use Rattle.sfv_text.proofs.PutLaws.{bytes_eq-sym, distinct_parts, put_new}
 use Rattle.byte_classes.specs.Classes.{is_digit, is_space}
 use Rattle.sfv_read.specs.Class.{is_minus}
-use Rattle.sfv_read.specs.BareItem.{spelled, spelled_from, signed, IsInteger, IsDecimal, IsBareItem}
-use Rattle.sfv_read.specs.Item.{IsValue, IsParameter, AreParameters, put_pair, kept, IsItem}
-use Rattle.sfv_read.specs.Inner.{IsSpaced, AreItems, IsInner}
-use Rattle.sfv_read.specs.Member.{IsMember, IsPair, IsFurther, AreMembers, Separated, true_item}
+use Rattle.std.specs.Str.Parse.{digits_value, digits_value_after}
+use Rattle.sfv_read.specs.BareItem.{with_sign, IsInteger, IsDecimal, IsBareItem}
+use Rattle.sfv_read.specs.Item.{IsValue, IsParameter, AreParameters, put_pair, distinct_pairs, IsItem}
+use Rattle.sfv_read.specs.Inner.{AreSpaces, AreItems, IsInner}
+use Rattle.sfv_read.specs.Member.{IsMember, IsDictValue, IsDictMember, IsComma, AreMembers, true_item}
 use Rattle.sfv_read.specs.Reads.{ReadsItem, ReadsInner, ReadsList, ReadsDict}
 use Rattle.sfv_read.specs.tools.ItemWalk.{item_of}
-use Rattle.sfv_read.proofs.Digits.{spelled_append}
+use Rattle.sfv_read.proofs.Digits.{digit_of, value_append}
 
 -- ---- numbers
 
@@ -37,18 +38,18 @@ use Rattle.sfv_read.proofs.Digits.{spelled_append}
 record Spells (n : ℕ) (ds : List ℕ) : Type 0 where
   digits : list_all is_digit ds ≡ true
   some : 1 ≤ length ds
-  value : spelled ds ≡ n
+  value : digits_value 10 ds ≡ n
 
 digit_is : (n : ℕ) → n < 10 → is_digit (48 + n) ≡ true
 digit_is n lt = grind (arith, nat_tests)
 
 decimal_spells : (n : ℕ) → n < 2 ^ 64 → Spells n (decimal n)
 decimal_spells n lt = decimal_by_steps Spells
-    (λ n small. record { digits = rw (digit_is n small) refl; some = omega arith; value = omega arith })
+    (λ n small. record { digits = rw (digit_is n small) refl; some = omega arith; value = omega (arith, digit_of n small) })
     (λ n ds large s. record {
       digits = list_all-append is_digit ds ((48 + n % 10) ∷ []) ∙ rw (s.digits, digit_is (n % 10) (omega arith)) refl;
       some = omega (arith, length-append ds ((48 + n % 10) ∷ []));
-      value = spelled_append 0 ds ((48 + n % 10) ∷ []) ∙ omega (arith, s.value);
+      value = value_append 0 ds ((48 + n % 10) ∷ []) ∙ omega (arith, s.value, digit_of (n % 10) (omega arith));
     }) n lt
 
 -- the part of a Decimal after its point, after the number w
@@ -56,22 +57,22 @@ record IsFraction (w m : ℕ) (part : List ℕ) : Type 0 where
   digits : list_all is_digit part ≡ true
   least : 1 ≤ length part
   most : length part ≤ 3
-  value : spelled_from w part * 10 ^ (3 - length part) ≡ w * 1000 + m
+  value : digits_value_after 10 w part * 10 ^ (3 - length part) ≡ w * 1000 + m
 
 fraction_if : (w m : ℕ) → m < 1000 → (p q : Bool) → eqb (m % 100) 0 ≡ p → eqb (m % 10) 0 ≡ q → IsFraction w m ((48 + m / 100) ∷ cond p [] ((48 + m / 10 % 10) ∷ cond q [] ((48 + m % 10) ∷ [])))
 fraction_if w m lt true q e f =
     let zero_end : m % 100 ≡ 0 = eqb-true _ _ e in
-    record { digits = rw (digit_is (m / 100) (omega arith)) refl; least = omega arith; most = omega arith; value = omega arith }
+    record { digits = rw (digit_is (m / 100) (omega arith)) refl; least = omega arith; most = omega arith; value = omega (arith, digit_of (m / 100) (omega arith)) }
 fraction_if w m lt false true e f =
     let zero_end : m % 10 ≡ 0 = eqb-true _ _ f in
-    record { digits = rw (digit_is (m / 100) (omega arith), digit_is (m / 10 % 10) (omega arith)) refl; least = omega arith; most = omega arith; value = omega arith }
+    record { digits = rw (digit_is (m / 100) (omega arith), digit_is (m / 10 % 10) (omega arith)) refl; least = omega arith; most = omega arith; value = omega (arith, digit_of (m / 100) (omega arith), digit_of (m / 10 % 10) (omega arith)) }
 fraction_if w m lt false false e f =
-    record { digits = rw (digit_is (m / 100) (omega arith), digit_is (m / 10 % 10) (omega arith), digit_is (m % 10) (omega arith)) refl; least = omega arith; most = omega arith; value = omega arith }
+    record { digits = rw (digit_is (m / 100) (omega arith), digit_is (m / 10 % 10) (omega arith), digit_is (m % 10) (omega arith)) refl; least = omega arith; most = omega arith; value = omega (arith, digit_of (m / 100) (omega arith), digit_of (m / 10 % 10) (omega arith), digit_of (m % 10) (omega arith)) }
 
 fraction_is : (w m : ℕ) → m < 1000 → IsFraction w m (fraction_text m)
 fraction_is w m lt = fraction_if w m lt (eqb (m % 100) 0) (eqb (m % 10) 0) refl refl
 
-signed_abs : (z : ℤ) → z ≡ signed (sign_text z) (unsigned_abs z)
+signed_abs : (z : ℤ) → z ≡ with_sign (sign_text z) (unsigned_abs z)
 signed_abs (pos n) = refl
 signed_abs (negsuc n) = refl
 
@@ -90,7 +91,7 @@ integer_reads z h =
       joined = refl;
       minus = sign_is z;
       whole = record { same = refl; passes = s.digits; least = s.some; most = length-decimal-le 15 (unsigned_abs z) (omega arith) lt small };
-      value = signed_abs z ∙ ap (signed (sign_text z)) (sym s.value);
+      value = signed_abs z ∙ ap (with_sign (sign_text z)) (sym s.value);
     }
 
 decimal_reads : (z : ℤ) → is_number_in_range z ≡ true → IsDecimal (decimal_text z) z
@@ -102,8 +103,8 @@ decimal_reads z h =
     let small : unsigned_abs z / 1000 < 2 ^ 64 = omega arith in
     let s = decimal_spells (unsigned_abs z / 1000) small in
     let f = fraction_is (unsigned_abs z / 1000) (unsigned_abs z % 1000) (omega arith) in
-    let joined_value : spelled (decimal (unsigned_abs z / 1000) ++ fraction_text (unsigned_abs z % 1000)) ≡ spelled_from (unsigned_abs z / 1000) (fraction_text (unsigned_abs z % 1000)) =
-    spelled_append 0 (decimal (unsigned_abs z / 1000)) (fraction_text (unsigned_abs z % 1000)) ∙ ap (λ (n : ℕ). spelled_from n (fraction_text (unsigned_abs z % 1000))) s.value in
+    let joined_value : digits_value 10 (decimal (unsigned_abs z / 1000) ++ fraction_text (unsigned_abs z % 1000)) ≡ digits_value_after 10 (unsigned_abs z / 1000) (fraction_text (unsigned_abs z % 1000)) =
+    value_append 0 (decimal (unsigned_abs z / 1000)) (fraction_text (unsigned_abs z % 1000)) ∙ ap (λ (n : ℕ). digits_value_after 10 n (fraction_text (unsigned_abs z % 1000))) s.value in
     let whole_value : unsigned_abs z ≡ unsigned_abs z / 1000 * 1000 + unsigned_abs z % 1000 = omega arith in
     record {
       sign = sign_text z;
@@ -113,7 +114,7 @@ decimal_reads z h =
       minus = sign_is z;
       whole = record { same = refl; passes = s.digits; least = s.some; most = length-decimal-le 12 (unsigned_abs z / 1000) (omega arith) few small };
       fraction = record { same = refl; passes = f.digits; least = f.least; most = f.most };
-      value = signed_abs z ∙ ap (signed (sign_text z)) (whole_value ∙ sym f.value ∙ ap (λ (n : ℕ). n * 10 ^ (3 - length (fraction_text (unsigned_abs z % 1000)))) (sym joined_value));
+      value = signed_abs z ∙ ap (with_sign (sign_text z)) (whole_value ∙ sym f.value ∙ ap (λ (n : ℕ). n * 10 ^ (3 - length (fraction_text (unsigned_abs z % 1000)))) (sym joined_value));
     }
 
 -- ---- bare items
@@ -144,7 +145,7 @@ value_reads (Bytes b) h = inl (bare_text (Bytes b), refl, bare_reads (Bytes b) h
 param_reads : (p : Pair BareItem) → is_param_in_range p ≡ true → IsParameter (param_text p) p
 param_reads p h =
     let both = and_is (is_key p.key) (is_bare_in_range p.value) h in
-    record { spaces = []; key = p.key; value = param_value_text p.value; joined = refl; blank = refl; is_key = word_reads is_key_first is_key_rest p.key both.0; is_value = value_reads p.value both.1 }
+    record { spaces = []; key = p.key; value = param_value_text p.value; joined = refl; are_spaces = refl; is_key = word_reads is_key_first is_key_rest p.key both.0; is_value = value_reads p.value both.1 }
 
 -- texts one after the other
 each_reads : {V : Type 0} (L : List ℕ → V → Type 0) (f : V → List ℕ) (test : V → Bool) → ((v : V) → test v ≡ true → L (f v) v) → (vs : List V) → list_all test vs ≡ true → Each L (flat_map f vs) vs
@@ -175,12 +176,12 @@ module _ {V : Type 0} where
       ap (λ (rs : List (Pair V)). after_all put_pair rs ps) (sym new)
       ∙ kept_same_from ps (qs ++ p ∷ []) (ap (λ (rs : List (Pair V)). have_distinct_keys rs) group ∙ d) ∙ group
 
-  -- pairs with distinct keys are all kept
-  pub kept_same : (ps : List (Pair V)) → have_distinct_keys ps ≡ true → ps ≡ kept ps
+  -- pairs with distinct keys are all distinct_pairs
+  pub kept_same : (ps : List (Pair V)) → have_distinct_keys ps ≡ true → ps ≡ distinct_pairs ps
   kept_same ps d = sym (kept_same_from ps [] d)
 
-params_read : (ps : List (Pair BareItem)) → are_params_in_range ps ≡ true → AreParameters (params_text ps) ps × (ps ≡ kept ps)
-params_read ps h =
+parameters_read : (ps : List (Pair BareItem)) → are_params_in_range ps ≡ true → AreParameters (params_text ps) ps × (ps ≡ distinct_pairs ps)
+parameters_read ps h =
     let both = and_is (have_distinct_keys ps) (list_all is_param_in_range ps) h in
     (each_reads IsParameter param_text is_param_in_range param_reads ps both.1, kept_same ps both.0)
 
@@ -189,22 +190,22 @@ params_read ps h =
 pub item_reads : (item : Item) → is_item_in_range item ≡ true → IsItem (item_text item) item
 item_reads item h =
     let both = and_is (is_bare_in_range item.bare) (are_params_in_range item.params) h in
-    let params = params_read item.params both.1 in
-    record { bare = bare_text item.bare; params = params_text item.params; written = item.params; joined = refl; is_bare = bare_reads item.bare both.0; are_params = params.0; are_kept = params.1 }
+    let params = parameters_read item.params both.1 in
+    record { bare = bare_text item.bare; params = params_text item.params; written = item.params; joined = refl; is_bare = bare_reads item.bare both.0; are_params = params.0; are_distinct = params.1 }
 
-spaced_reads : (item : Item) → is_item_in_range item ≡ true → IsSpaced (codes " " ++ item_text item) item
-spaced_reads item h = record { spaces = []; rest = item_text item; joined = refl; blank = refl; is_item = item_reads item h }
+spaced_reads : (item : Item) → is_item_in_range item ≡ true → IsFurther AreSpaces IsItem (codes " " ++ item_text item) item
+spaced_reads item h = record { separator = 32 ∷ []; rest = item_text item; joined = refl; separates = record { some = omega arith; spaces = refl }; spells = item_reads item h }
 
 items_read : (items : List Item) → list_all is_item_in_range items ≡ true → AreItems (join_by item_text (codes " ") items) items
 items_read [] all = refl
 items_read (v ∷ vs) all =
     let both = and_is (is_item_in_range v) (list_all is_item_in_range vs) all in
-    (item_text v, flat_map (λ w. codes " " ++ item_text w) vs, refl, item_reads v both.0, each_reads IsSpaced (λ w. codes " " ++ item_text w) is_item_in_range spaced_reads vs both.1)
+    (item_text v, flat_map (λ w. codes " " ++ item_text w) vs, refl, item_reads v both.0, each_reads (IsFurther AreSpaces IsItem) (λ w. codes " " ++ item_text w) is_item_in_range spaced_reads vs both.1)
 
 pub inner_reads : (list : InnerList) → is_inner_in_range list ≡ true → IsInner (inner_text list) list
 inner_reads list h =
     let both = and_is (list_all is_item_in_range list.items) (are_params_in_range list.params) h in
-    let params = params_read list.params both.1 in
+    let params = parameters_read list.params both.1 in
     record {
       before = [];
       items = join_by item_text (codes " ") list.items;
@@ -212,26 +213,23 @@ inner_reads list h =
       params = params_text list.params;
       written = list.params;
       joined = refl;
-      blank_before = refl;
-      blank_after = refl;
+      spaces_before = refl;
+      spaces_after = refl;
       are_items = items_read list.items both.0;
       are_params = params.0;
-      are_kept = params.1;
+      are_distinct = params.1;
     }
 
 -- ---- Lists and Dictionaries
 
 member_reads : (v : Member) → is_member_in_range v ≡ true → IsMember (member_text v) v
-member_reads (One item) h = item_reads item h
-member_reads (Several list) h = inner_reads list h
+member_reads (OneItem item) h = item_reads item h
+member_reads (SomeItems list) h = inner_reads list h
 
-abbrev IsPairValue : List ℕ → Member → Type 0
-IsPairValue rest v = ((member : List ℕ) × (rest ≡ 61 ∷ member) × IsMember member v) ⊎ ((written : List (Pair BareItem)) × AreParameters rest written × (v ≡ One (true_item (kept written))))
-
-entry_item : (bare : BareItem) (params : List (Pair BareItem)) → is_item_in_range (item_of bare params) ≡ true → IsPairValue (entry_item_text bare params) (One (item_of bare params))
+entry_item : (bare : BareItem) (params : List (Pair BareItem)) → is_item_in_range (item_of bare params) ≡ true → IsDictValue (entry_item_text bare params) (OneItem (item_of bare params))
 entry_item (Boolean true) params h =
-    let read = params_read params h in
-    inr (params, read.0, ap (λ (ps : List (Pair BareItem)). One (true_item ps)) read.1)
+    let read = parameters_read params h in
+    inr (params, read.0, ap (λ (ps : List (Pair BareItem)). OneItem (true_item ps)) read.1)
 entry_item (Boolean false) params h = inl (item_text (item_of (Boolean false) params), refl, item_reads (item_of (Boolean false) params) h)
 entry_item (Integer z) params h = inl (item_text (item_of (Integer z) params), refl, item_reads (item_of (Integer z) params) h)
 entry_item (Decimal z) params h = inl (item_text (item_of (Decimal z) params), refl, item_reads (item_of (Decimal z) params) h)
@@ -239,36 +237,32 @@ entry_item (Str s) params h = inl (item_text (item_of (Str s) params), refl, ite
 entry_item (Token t) params h = inl (item_text (item_of (Token t) params), refl, item_reads (item_of (Token t) params) h)
 entry_item (Bytes b) params h = inl (item_text (item_of (Bytes b) params), refl, item_reads (item_of (Bytes b) params) h)
 
-entry_value : (v : Member) → is_member_in_range v ≡ true → IsPairValue (entry_value_text v) v
-entry_value (One item) h = entry_item item.bare item.params h
-entry_value (Several list) h = inl (inner_text list, refl, inner_reads list h)
+entry_value : (v : Member) → is_member_in_range v ≡ true → IsDictValue (entry_value_text v) v
+entry_value (OneItem item) h = entry_item item.bare item.params h
+entry_value (SomeItems list) h = inl (inner_text list, refl, inner_reads list h)
 
-entry_reads : (p : Pair Member) → is_entry_in_range p ≡ true → IsPair (entry_text p) p
+entry_reads : (p : Pair Member) → is_entry_in_range p ≡ true → IsDictMember (entry_text p) p
 entry_reads p h =
     let both = and_is (is_key p.key) (is_member_in_range p.value) h in
     record { key = p.key; rest = entry_value_text p.value; joined = refl; is_key = word_reads is_key_first is_key_rest p.key both.0; value = entry_value p.value both.1 }
 
 module _ {V : Type 0} (M : List ℕ → V → Type 0) (f : V → List ℕ) (test : V → Bool) (one : (v : V) → test v ≡ true → M (f v) v) where
-  further_reads : (v : V) → test v ≡ true → IsFurther M (codes ", " ++ f v) v
-  further_reads v h = record { before = []; after = 32 ∷ []; rest = f v; joined = refl; blank_before = refl; blank_after = refl; spells = one v h }
+  further_reads : (v : V) → test v ≡ true → IsFurther IsComma M (codes ", " ++ f v) v
+  further_reads v h = record { separator = codes ", "; rest = f v; joined = refl; separates = record { before = []; after = 32 ∷ []; joined = refl; blanks_before = refl; blanks_after = refl }; spells = one v h }
 
   members_read : (vs : List V) → list_all test vs ≡ true → AreMembers M (join_by f (codes ", ") vs) vs
   members_read [] all = refl
   members_read (v ∷ vs) all =
       let both = and_is (test v) (list_all test vs) all in
-      (f v, flat_map (λ w. codes ", " ++ f w) vs, refl, one v both.0, each_reads (IsFurther M) (λ w. codes ", " ++ f w) test further_reads vs both.1)
-
-  separated_reads : (vs : List V) → list_all test vs ≡ true → Separated M (join_by f (codes ", ") vs) vs
-  separated_reads vs all = record {
-    before = [];
-    members = join_by f (codes ", ") vs;
-    after = [];
-    joined = sym (append-nil (join_by f (codes ", ") vs));
-    spaces_before = refl;
-    blank_after = refl;
-    are_members = members_read vs all;
-    none = λ _. refl;
-  }
+      record {
+        before = [];
+        members = join_by f (codes ", ") (v ∷ vs);
+        after = [];
+        joined = sym (append-nil (join_by f (codes ", ") (v ∷ vs)));
+        spaces_before = refl;
+        blanks_after = refl;
+        are_members = (f v, flat_map (λ w. codes ", " ++ f w) vs, refl, one v both.0, each_reads (IsFurther IsComma M) (λ w. codes ", " ++ f w) test further_reads vs both.1);
+      }
 
 -- ---- the four kinds
 
@@ -282,9 +276,9 @@ pub inner_text_reads : (list : InnerList) → is_inner_in_range list ≡ true �
 inner_text_reads list h = whole_reads IsInner (inner_text list) list (inner_reads list h)
 
 pub list_text_reads : (list : List Member) → is_list_in_range list ≡ true → ReadsList (list_text list) list
-list_text_reads list h = separated_reads IsMember member_text is_member_in_range member_reads list h
+list_text_reads list h = members_read IsMember member_text is_member_in_range member_reads list h
 
 pub dict_text_reads : (dict : List (Pair Member)) → is_dict_in_range dict ≡ true → ReadsDict (dict_text dict) dict
 dict_text_reads dict h =
     let both = and_is (have_distinct_keys dict) (list_all is_entry_in_range dict) h in
-    (dict, separated_reads IsPair entry_text is_entry_in_range entry_reads dict both.1, kept_same dict both.0)
+    (dict, members_read IsDictMember entry_text is_entry_in_range entry_reads dict both.1, kept_same dict both.0)

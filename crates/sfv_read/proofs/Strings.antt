@@ -2,8 +2,9 @@
 use Rattle.std.proofs.Common.{◌≡◌, ℕ, ◌<◌, ◌&&◌, ◌||◌, Bool, true, false, not, cond, eqb, List, [], ◌∷◌, ◌++◌, length, Option, Some, None, Ok, refl, sym, ap, subst, ◌∙◌, append_assoc, arith}
 use Rattle.std.specs.List.{list_all, flat_map}
 use Rattle.std.proofs.lemmas.Bool.{eqb-true}
-use Rattle.byte_grammar.specs.Language.{Then, Turns, Mapped, Among, IsByte}
-use Rattle.byte_grammar.specs.Walk.{◌>>=◌, turned, turns_read}
+use Rattle.byte_grammar.specs.tools.Languages.{Then, Turns, Mapped, Among, IsByte}
+use Rattle.byte_grammar.specs.Walk.{◌>>=◌}
+use Rattle.byte_grammar.specs.tools.Walks.{with_turns, turns_read}
 use Rattle.std.proofs.lemmas.Bool.Decides.{nat_tests}
 use Rattle.sfv_text.specs.Range.{is_string_byte}
 use Rattle.sfv_text.specs.Strict.{character_text}
@@ -145,7 +146,7 @@ meets_string =
     end_char = refl
 
 -- how a loop over characters goes on
-pub chars_step : (bytes : List ℕ) → turns_read char_read bytes ≡ (char_read bytes >>= λ a. turned a.0 a.1 (turns_read char_read a.1))
+pub chars_step : (bytes : List ℕ) → turns_read char_read bytes ≡ (char_read bytes >>= λ a. with_turns a.0 a.1 (turns_read char_read a.1))
 chars_step bytes = turns_step meets_char char_grows bytes
 
 pub chars_shorter : (bytes : List ℕ) (v : ℕ) (rest : List ℕ) → char_read bytes ≡ Ok (Some v, rest) → length rest < length bytes

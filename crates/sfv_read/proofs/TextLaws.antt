@@ -1,10 +1,6 @@
 -- The laws of texts, from a reading of whole texts.
-use Rattle.std.proofs.Common.{◌≡◌, ◌↔◌, ℕ, Bool, true, List, ◌++◌, Result, sym, ap, subst, append_assoc}
-use Rattle.byte_grammar.specs.Language.{Begins}
+use Rattle.std.proofs.Common.{◌≡◌, ◌↔◌, ℕ, Bool, true, List, Result, sym, ap, subst}
 use Rattle.byte_grammar.proofs.Whole.{Judges, one_value}
-
-pub begins_shorter : {V : Type 0} (L : List ℕ → V → Type 0) (prefix more : List ℕ) → Begins L (prefix ++ more) → Begins L prefix
-begins_shorter L prefix more b = (more ++ b.0, b.1, subst (λ (y : List ℕ). L y b.1) (append_assoc prefix more b.0) b.2)
 
 pub distinct_texts : {V : Type 0} {L : List ℕ → V → Type 0} {r : List ℕ → Result V ℕ} (j : Judges L r) (test : V → Bool) (text_of : V → List ℕ)
     → ((v : V) → test v ≡ true → L (text_of v) v) → (v w : V) → test v ≡ true → test w ≡ true → (text_of v ≡ text_of w) ↔ (v ≡ w)

@@ -1,10 +1,11 @@
 -- The texts of bare items (RFC 9651 section 3.3).
-use Rattle.std.specs.Prelude.{◌≡◌, ℕ, ◌+◌, ◌-◌, ◌*◌, ◌^◌, ◌⊎◌, Bool, true, List, [], ◌∷◌, ◌++◌, length, ℤ, pos, neg_ℤ}
+use Rattle.std.specs.Prelude.{◌≡◌, ℕ, ◌-◌, ◌*◌, ◌^◌, ◌⊎◌, Bool, List, [], ◌∷◌, ◌++◌, length, ℤ, pos, neg_ℤ, IsTrue}
 use Rattle.std.specs.Str.{byte}
+use Rattle.std.specs.Str.Parse.{digits_value}
 use Rattle.std.specs.List.{list_all}
 use Rattle.base64.specs.Engines.{standard, standard_no_pad}
 use Rattle.base64.specs.GeneralPurpose.{encode_of}
-use Rattle.byte_grammar.specs.Language.{AreOf, IsWord}
+use Rattle.byte_grammar.specs.Language.{AreBytesOf, IsWord}
 use Rattle.sfv_text.specs.declared.value.BareItem.{BareItem}
 use Rattle.sfv_text.specs.declared.value.BareItem.TheVariants.{Integer, Decimal, Str, Token, Bytes, Bool as Boolean}
 use Rattle.sfv_text.specs.Range.{is_byte, is_string_byte, is_token_first, is_token_rest}
@@ -12,52 +13,47 @@ use Rattle.sfv_text.specs.Strict.{string_text, bool_text}
 use Rattle.byte_classes.specs.Classes.{is_digit}
 use Rattle.sfv_read.specs.Class.{is_minus}
 
--- the number that digits spell after a number
-abbrev pub spelled_from : ℕ → List ℕ → ℕ
-spelled_from n [] = n
-spelled_from n (d ∷ ds) = spelled_from (n * 10 + (d - 48)) ds
-
-abbrev pub spelled : List ℕ → ℕ
-spelled ds = spelled_from 0 ds
-
 -- negative where a sign stands
-abbrev pub signed : List ℕ → ℕ → ℤ
-signed [] n = pos n
-signed (_ ∷ _) n = neg_ℤ (pos n)
+abbrev pub with_sign : List ℕ → ℕ → ℤ
+with_sign [] n = pos n
+with_sign (_ ∷ _) n = neg_ℤ (pos n)
 
 -- an optional minus, and 1 to 15 digits (RFC 9651 section 3.3.1)
 pub record IsInteger (text : List ℕ) (z : ℤ) : Type 0 where
   pub sign : List ℕ
   pub digits : List ℕ
   pub joined : text ≡ sign ++ digits
-  pub minus : AreOf is_minus 0 1 sign
-  pub whole : AreOf is_digit 1 15 digits
-  pub value : z ≡ signed sign (spelled digits)
+  pub minus : AreBytesOf is_minus 0 1 sign
+  pub whole : AreBytesOf is_digit 1 15 digits
+  pub value : z ≡ with_sign sign (digits_value 10 digits)
 
--- an optional minus, 1 to 12 digits, a point, and 1 to 3 digits; the value is in thousandths (RFC 9651 section 3.3.2)
+-- an optional minus, 1 to 12 digits, a point, and 1 to 3 digits; the value is in thousandths
+-- (RFC 9651 section 3.3.2)
 pub record IsDecimal (text : List ℕ) (z : ℤ) : Type 0 where
   pub sign : List ℕ
   pub digits : List ℕ
   pub part : List ℕ
   pub joined : text ≡ sign ++ (digits ++ byte "." ∷ part)
-  pub minus : AreOf is_minus 0 1 sign
-  pub whole : AreOf is_digit 1 12 digits
-  pub fraction : AreOf is_digit 1 3 part
-  pub value : z ≡ signed sign (spelled (digits ++ part) * 10 ^ (3 - length part))
+  pub minus : AreBytesOf is_minus 0 1 sign
+  pub whole : AreBytesOf is_digit 1 12 digits
+  pub fraction : AreBytesOf is_digit 1 3 part
+  pub value : z ≡ with_sign sign (digits_value 10 (digits ++ part) * 10 ^ (3 - length part))
 
 -- printable characters in quotes, `"` and `\` after a backslash (RFC 9651 section 3.3.3)
 pub record IsString (text : List ℕ) (s : List ℕ) : Type 0 where
   pub joined : text ≡ string_text s
-  pub printable : list_all is_string_byte s ≡ true
+  pub printable : IsTrue (list_all is_string_byte s)
 
 -- a letter or `*`, and then tchar, `:` or `/` (RFC 9651 section 3.3.4)
 abbrev pub IsToken : List ℕ → List ℕ → Type 0
 IsToken text token = IsWord is_token_first is_token_rest text token
 
--- the bytes in base64 between colons, with all of its `=` or none (RFC 9651 section 3.3.5, RFC 4648 section 4)
+-- the bytes in base64 between colons, with all of its `=` or none (RFC 9651 section 3.3.5,
+-- RFC 4648 section 4)
 pub record IsByteSequence (text : List ℕ) (bytes : List ℕ) : Type 0 where
-  pub are_bytes : list_all is_byte bytes ≡ true
-  pub joined : (text ≡ byte ":" ∷ (encode_of standard bytes ++ byte ":" ∷ [])) ⊎ (text ≡ byte ":" ∷ (encode_of standard_no_pad bytes ++ byte ":" ∷ []))
+  pub are_bytes : IsTrue (list_all is_byte bytes)
+  pub joined : (text ≡ byte ":" ∷ (encode_of standard bytes ++ byte ":" ∷ []))
+      ⊎ (text ≡ byte ":" ∷ (encode_of standard_no_pad bytes ++ byte ":" ∷ []))
 
 -- `?1` or `?0` (RFC 9651 section 3.3.6)
 abbrev pub IsBoolean : List ℕ → Bool → Type 0

@@ -1,9 +1,10 @@
 -- What a reader of a whole text answers.
-use Rattle.std.specs.Prelude.{◌≡◌, ℕ, true, List, [], ◌∷◌, ◌++◌, take, drop, Result, Ok, Err, codes}
+use Rattle.std.specs.Prelude.{◌≡◌, ℕ, ◌≤◌, List, ◌++◌, length, take, drop, Result, Ok, Err, codes, IsTrue}
 use Rattle.byte_grammar.specs.Language.{starts_in, Begins}
+use Rattle.byte_grammar.specs.FaultOffset.{IsFaultOffset}
 use Rattle.sfv_read.specs.Class.{is_marker}
-use Rattle.sfv_read.specs.declared.fault.SfError.{SfError}
-use Rattle.sfv_read.specs.declared.fault.SfError.TheVariants.{Memory, Syntax, ItemKind}
+use Rattle.sfv_read.specs.declared.error.SfError.{SfError}
+use Rattle.sfv_read.specs.declared.error.SfError.TheVariants.{Memory, Syntax, ItemKind}
 
 -- the value was read, unless memory ran out
 abbrev pub IsRead : {V : Type 0} → Result V SfError → V → Type 0
@@ -12,23 +13,14 @@ IsRead (Err Memory) v = Unit {0}
 IsRead (Err (Syntax _)) v = ⊥
 IsRead (Err (ItemKind _)) v = ⊥
 
--- of the offset of a fault, if it has one
-abbrev pub AtOffset : SfError → (ℕ → Type 0) → Type 0
-AtOffset Memory P = Unit {0}
-AtOffset (Syntax offset) P = P offset
-AtOffset (ItemKind offset) P = P offset
-
-abbrev pub IfSyntax : SfError → (ℕ → Type 0) → Type 0
-IfSyntax Memory P = Unit {0}
-IfSyntax (Syntax offset) P = P offset
-IfSyntax (ItemKind offset) P = Unit {0}
-
-abbrev pub IfItemKind : SfError → (ℕ → Type 0) → Type 0
-IfItemKind Memory P = Unit {0}
-IfItemKind (Syntax offset) P = Unit {0}
-IfItemKind (ItemKind offset) P = P offset
-
 -- a marker stands at the offset, and `?1` could stand there
-pub record BeginsItemKind {V : Type 0} (L : List ℕ → V → Type 0) (text : List ℕ) (offset : ℕ) : Type 0 where
-  pub marker : starts_in is_marker (drop offset text) ≡ true
+pub record BeginsItemKind {V : Type 0} (L : List ℕ → V → Type 0) (text : List ℕ) (offset : ℕ)
+    : Type 0 where
+  pub marker : IsTrue (starts_in is_marker (drop offset text))
   pub item : Begins L (take offset text ++ codes "?1")
+
+-- why a text of the kind isn't read; memory may run out, but not over the empty text
+abbrev pub IsFault : {V : Type 0} → (List ℕ → V → Type 0) → List ℕ → SfError → Type 0
+IsFault L text Memory = 1 ≤ length text
+IsFault L text (Syntax offset) = IsFaultOffset L text offset × ¬ BeginsItemKind L text offset
+IsFault L text (ItemKind offset) = IsFaultOffset L text offset × BeginsItemKind L text offset

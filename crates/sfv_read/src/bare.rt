@@ -1,73 +1,70 @@
 //! Bare items (RFC 9651 section 3.3).
 
-ghost use Rattle.std.specs.Prelude.{◌≡◌};
+ghost use Rattle.std.specs.Prelude.{◌≡◌, ◌≤◌, length, IfSome};
 ghost use Rattle.byte_grammar.specs.Gives.{Gives};
-ghost use Rattle.byte_grammar.specs.Walk.{kind_in};
-ghost use Rattle.sfv_read.specs.tools.Gives.{GivesUnlessMemory};
-ghost use Rattle.sfv_read.specs.tools.BareWalk.{bare_kind, bare_read, truth_read};
+ghost use Rattle.byte_grammar.specs.tools.Walks.{kind_in};
+ghost use Rattle.sfv_read.specs.tools.Gives.{GivesUnlessMemory, UnlessStopped};
+ghost use Rattle.sfv_read.specs.tools.BareWalk.{kind_of_bare_item, bare_item_read, boolean_read};
 
-use crate::byte_sequence::read_bytes;
-use crate::class::Class;
+use crate::byte_sequence::read_byte_sequence;
+use crate::class::SfClass;
+use crate::error::Stop;
 use crate::number::read_number;
-use crate::stop::Stop;
 use crate::string::read_string;
-use crate::text::text_of;
-use byte_classes::ByteClass;
+use byte_classes::{Byte, ByteClass, Class};
 use byte_grammar::{Left, read_byte, read_word};
-use sfv_text::BareItem;
+use sfv_text::{BareItem, Text};
 use std::alloc::Global;
 
-/// What the first byte of a bare item tells.
+/// What the first byte of a bare item says that it is.
 #[derive(Clone, Copy)]
 pub enum BareKind {
     /// An Integer or a Decimal.
     Number,
-    /// A String.
-    Quoted,
-    /// A Token.
-    Word,
-    /// A Byte Sequence.
-    Octets,
-    /// A Boolean.
-    Truth,
+    String,
+    Token,
+    ByteSequence,
+    Boolean,
 }
 
-/// A bare item, by its first byte.
-#[tactic(auto, unfolding(crate::specs::tools::BareWalk::bare_read, byte_grammar::specs::Walk::pick_read))]
-pub fn read_bare(alloc: Global, bytes: &[u8]) -> Result<(BareItem, &[u8]), Stop>
-    ensures { GivesUnlessMemory (λ x. (x.0, x.1.now)) result (bare_read bytes.now) }
+/// Reads a bare item, by its first byte.
+#[tactic(auto, unfolding(crate::specs::tools::BareWalk::bare_item_read, byte_grammar::specs::tools::Walks::pick_read))]
+pub fn read_bare_item(alloc: Global, bytes: &[u8]) -> Result<(BareItem, &[u8]), Stop>
+    ensures gives { GivesUnlessMemory (λ x. (x.0, x.1.now)) result (bare_item_read bytes.now) }
+    ensures some { UnlessStopped result (1 ≤ length bytes.now) }
 {
     match first_kind(bytes) {
         None => Err(Stop::At(bytes.len())),
         Some(BareKind::Number) => Ok(read_number(bytes)?),
-        Some(BareKind::Quoted) => {
+        Some(BareKind::String) => {
             let (text, rest) = read_string(alloc, bytes)?;
             Ok((BareItem::Str(text), rest))
         }
-        Some(BareKind::Word) => {
-            let (word, rest) = read_word(Class::TokenFirst, Class::TokenRest, bytes)?;
-            Ok((BareItem::Token(text_of(alloc, word)?), rest))
+        Some(BareKind::Token) => {
+            let (token, rest) = read_word(SfClass::TokenFirst, SfClass::TokenRest, bytes)?;
+            Ok((BareItem::Token(Text::from_bytes(alloc, token)?), rest))
         }
-        Some(BareKind::Octets) => {
-            let (text, rest) = read_bytes(alloc, bytes)?;
+        Some(BareKind::ByteSequence) => {
+            let (text, rest) = read_byte_sequence(alloc, bytes)?;
             Ok((BareItem::Bytes(text), rest))
         }
-        Some(BareKind::Truth) => Ok(read_truth(bytes)?),
+        Some(BareKind::Boolean) => Ok(read_boolean(bytes)?),
     }
 }
 
-/// `?1` or `?0`.
-#[tactic(auto, unfolding(crate::specs::tools::BareWalk::truth_read))]
-fn read_truth(bytes: &[u8]) -> Result<(BareItem, &[u8]), Left>
-    ensures { Gives (λ x. (x.0, x.1.now)) result (truth_read bytes.now) }
+/// Reads `?1` or `?0`.
+#[tactic(auto, unfolding(crate::specs::tools::BareWalk::boolean_read))]
+fn read_boolean(bytes: &[u8]) -> Result<(BareItem, &[u8]), Left>
+    ensures { Gives (λ x. (x.0, x.1.now)) result (boolean_read bytes.now) }
 {
-    let (_, rest) = read_byte(Class::Question, bytes)?;
-    let (bit, rest) = read_byte(Class::Bit, rest)?;
+    let (_, rest) = read_byte(Byte(b'?'), bytes)?;
+    let (bit, rest) = read_byte(SfClass::Bit, rest)?;
     Ok((BareItem::Bool(bit == b'1'), rest))
 }
 
 fn first_kind(bytes: &[u8]) -> Option<BareKind>
-    ensures { result ≡ kind_in bare_kind bytes.now }
+    ensures kind { result ≡ kind_in kind_of_bare_item bytes.now }
+    ensures some { IfSome result (λ _. 1 ≤ length bytes.now) }
 {
     match bytes.split_first() {
         None => None,
@@ -76,25 +73,25 @@ fn first_kind(bytes: &[u8]) -> Option<BareKind>
 }
 
 fn kind_of(byte: u8) -> Option<BareKind>
-    ensures { result ≡ bare_kind byte }
+    ensures { result ≡ kind_of_bare_item byte }
 {
     if Class::Digit.allows(byte) {
         return Some(BareKind::Number);
     }
-    if Class::Minus.allows(byte) {
+    if byte == b'-' {
         return Some(BareKind::Number);
     }
-    if Class::Quote.allows(byte) {
-        return Some(BareKind::Quoted);
+    if byte == b'"' {
+        return Some(BareKind::String);
     }
-    if Class::TokenFirst.allows(byte) {
-        return Some(BareKind::Word);
+    if SfClass::TokenFirst.allows(byte) {
+        return Some(BareKind::Token);
     }
-    if Class::Colon.allows(byte) {
-        return Some(BareKind::Octets);
+    if byte == b':' {
+        return Some(BareKind::ByteSequence);
     }
-    if Class::Question.allows(byte) {
-        return Some(BareKind::Truth);
+    if byte == b'?' {
+        return Some(BareKind::Boolean);
     }
     None
 }

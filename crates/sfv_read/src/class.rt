@@ -1,70 +1,48 @@
-//! Classes of bytes in structured fields.
+//! The classes of bytes of structured fields that have several bytes.
 
 ghost use Rattle.sfv_read.specs.Class.{members};
 
-use byte_classes::ByteClass;
+use byte_classes::{ByteClass, Class, is_tchar};
 
-/// The classes of bytes that structured fields tell apart (RFC 9651 section 3).
+/// The classes of bytes that structured fields have of their own (RFC 9651 section 3).
 #[derive(Clone, Copy)]
-pub enum Class {
-    Minus,
-    Digit,
-    Dot,
-    Quote,
-    Backslash,
+pub enum SfClass {
     /// What stands in a String after a backslash alone.
     Escapable,
     /// What stands in a String as it is.
     Unescaped,
+    /// What a key begins with.
     KeyFirst,
+    /// What stands in a key after its first byte.
     KeyRest,
+    /// What a Token begins with.
     TokenFirst,
+    /// What stands in a Token after its first byte.
     TokenRest,
-    Space,
-    /// SP or HTAB.
-    Blank,
-    Semicolon,
-    Comma,
-    Equals,
-    Question,
+    /// What says which Boolean it is.
     Bit,
-    Open,
-    Close,
-    Colon,
+    /// The base64 alphabet (RFC 4648 section 4).
     Base64,
     /// What a Date or a Display String begins with.
     Marker,
 }
 
-impl ByteClass for Class {
+impl ByteClass for SfClass {
     ghost members = { members };
 
     fn allows(self, byte: u8) -> bool {
         match self {
-            Class::Minus => byte == b'-',
-            Class::Digit => matches!(byte, b'0'..=b'9'),
-            Class::Dot => byte == b'.',
-            Class::Quote => byte == b'"',
-            Class::Backslash => byte == b'\\',
-            Class::Escapable => byte == b'"' || byte == b'\\',
-            Class::Unescaped => matches!(byte, b' '..=b'~') && byte != b'"' && byte != b'\\',
-            Class::KeyFirst => matches!(byte, b'a'..=b'z' | b'*'),
-            Class::KeyRest => matches!(byte, b'a'..=b'z' | b'0'..=b'9' | b'_' | b'-' | b'.' | b'*'),
-            Class::TokenFirst => matches!(byte, b'a'..=b'z' | b'A'..=b'Z' | b'*'),
-            Class::TokenRest =>
-                matches!(byte, b'a'..=b'z' | b'A'..=b'Z' | b'0'..=b'9' | b'!' | b'#' | b'$' | b'%' | b'&' | b'\'' | b'*' | b'+' | b'-' | b'.' | b'^' | b'_' | b'`' | b'|' | b'~' | b':' | b'/'),
-            Class::Space => byte == b' ',
-            Class::Blank => byte == b' ' || byte == b'\t',
-            Class::Semicolon => byte == b';',
-            Class::Comma => byte == b',',
-            Class::Equals => byte == b'=',
-            Class::Question => byte == b'?',
-            Class::Bit => byte == b'0' || byte == b'1',
-            Class::Open => byte == b'(',
-            Class::Close => byte == b')',
-            Class::Colon => byte == b':',
-            Class::Marker => byte == b'@' || byte == b'%',
-            Class::Base64 => matches!(byte, b'a'..=b'z' | b'A'..=b'Z' | b'0'..=b'9' | b'+' | b'/'),
+            SfClass::Escapable => byte == b'"' || byte == b'\\',
+            SfClass::Unescaped => matches!(byte, b' '..=b'~') && byte != b'"' && byte != b'\\',
+            SfClass::KeyFirst => byte.is_ascii_lowercase() || byte == b'*',
+            SfClass::KeyRest => byte.is_ascii_lowercase()
+                || byte.is_ascii_digit()
+                || matches!(byte, b'_' | b'-' | b'.' | b'*'),
+            SfClass::TokenFirst => byte.is_ascii_alphabetic() || byte == b'*',
+            SfClass::TokenRest => is_tchar(byte) || byte == b':' || byte == b'/',
+            SfClass::Bit => byte == b'0' || byte == b'1',
+            SfClass::Base64 => byte.is_ascii_alphanumeric() || byte == b'+' || byte == b'/',
+            SfClass::Marker => byte == b'@' || byte == b'%',
         }
     }
 }

@@ -2,7 +2,7 @@
 
 ghost use Rattle.sfv_text.specs.Range.{is_item_in_range, is_inner_in_range, is_list_in_range, is_dict_in_range};
 ghost use Rattle.sfv_text.specs.Strict.{item_text, inner_text, list_text, dict_text};
-ghost use Rattle.sfv_read.specs.Laws.{HasOneValue, ReadsOnly, BeginsShorter, ReadsBack, HasDistinctTexts};
+ghost use Rattle.sfv_read.specs.Laws.{HasOneValue, ReadsOnly, ReadsBack, HasDistinctTexts};
 ghost use Rattle.sfv_read.specs.Reads.{ReadsItem, ReadsInner, ReadsList, ReadsDict};
 
 /// A text reads as at most one value of a kind.
@@ -19,14 +19,6 @@ pub fn values_read_are_in_range()
     ensures inner { ReadsOnly ReadsInner is_inner_in_range }
     ensures list { ReadsOnly ReadsList is_list_in_range }
     ensures dict { ReadsOnly ReadsDict is_dict_in_range }
-{}
-
-/// A shorter prefix of what begins a text of a kind begins one too, so there is a longest.
-pub fn shorter_prefixes_begin()
-    ensures item { BeginsShorter ReadsItem }
-    ensures inner { BeginsShorter ReadsInner }
-    ensures list { BeginsShorter ReadsList }
-    ensures dict { BeginsShorter ReadsDict }
 {}
 
 /// The strict text of a value in range (RFC 9651 section 4.1) reads as that value.

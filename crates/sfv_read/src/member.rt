@@ -2,75 +2,75 @@
 
 ghost use Rattle.std.specs.Prelude.{◌≡◌};
 ghost use Rattle.sfv_read.specs.tools.Gives.{GivesUnlessMemory};
-ghost use Rattle.sfv_read.specs.tools.MemberWalk.{several_read, one_read, member_read, equals_member, pair_value, pair_read};
+ghost use Rattle.sfv_read.specs.tools.MemberWalk.{inner_member_read, item_member_read, member_read, equals_member_read, dict_value_read, dict_member_read};
 
-use crate::class::Class;
-use crate::inner::read_several;
-use crate::item::read_one;
-use crate::params::{read_key, read_params};
-use crate::stop::Stop;
+use crate::error::Stop;
+use crate::inner::read_inner_list_text;
+use crate::item::read_item_text;
+use crate::params::{read_key, read_parameters};
+use byte_classes::Byte;
 use byte_grammar::{read_byte, starts_with};
 use sfv_text::{BareItem, Item, Member, Pair};
 use std::alloc::Global;
 
-/// An Item or an Inner List.
-#[tactic(auto, unfolding(crate::specs::tools::MemberWalk::member_read, byte_grammar::specs::Walk::choose_read, byte_grammar::specs::Walk::pick_read))]
+/// Reads an Item or an Inner List.
+#[tactic(auto, unfolding(crate::specs::tools::MemberWalk::member_read, byte_grammar::specs::tools::Walks::choose_read, byte_grammar::specs::tools::Walks::pick_read))]
 pub fn read_member(alloc: Global, bytes: &[u8]) -> Result<(Member, &[u8]), Stop>
     ensures { GivesUnlessMemory (λ x. (x.0, x.1.now)) result (member_read bytes.now) }
 {
     if bytes.is_empty() {
         return Err(Stop::At(0));
     }
-    if starts_with(Class::Open, bytes) {
+    if starts_with(Byte(b'('), bytes) {
         return read_inner_member(alloc, bytes);
     }
     read_item_member(alloc, bytes)
 }
 
-#[tactic(auto, unfolding(crate::specs::tools::MemberWalk::several_read))]
+#[tactic(auto, unfolding(crate::specs::tools::MemberWalk::inner_member_read))]
 fn read_inner_member(alloc: Global, bytes: &[u8]) -> Result<(Member, &[u8]), Stop>
-    ensures { GivesUnlessMemory (λ x. (x.0, x.1.now)) result (several_read bytes.now) }
+    ensures { GivesUnlessMemory (λ x. (x.0, x.1.now)) result (inner_member_read bytes.now) }
 {
-    let (list, rest) = read_several(alloc, bytes)?;
+    let (list, rest) = read_inner_list_text(alloc, bytes)?;
     Ok((Member::InnerList(list), rest))
 }
 
-#[tactic(auto, unfolding(crate::specs::tools::MemberWalk::one_read))]
+#[tactic(auto, unfolding(crate::specs::tools::MemberWalk::item_member_read))]
 fn read_item_member(alloc: Global, bytes: &[u8]) -> Result<(Member, &[u8]), Stop>
-    ensures { GivesUnlessMemory (λ x. (x.0, x.1.now)) result (one_read bytes.now) }
+    ensures { GivesUnlessMemory (λ x. (x.0, x.1.now)) result (item_member_read bytes.now) }
 {
-    let (item, rest) = read_one(alloc, bytes)?;
+    let (item, rest) = read_item_text(alloc, bytes)?;
     Ok((Member::Item(item), rest))
 }
 
-/// A key and its member.
-#[tactic(auto, unfolding(crate::specs::tools::MemberWalk::pair_read))]
-pub fn read_pair(alloc: Global, bytes: &[u8]) -> Result<(Pair<Member>, &[u8]), Stop>
-    ensures { GivesUnlessMemory (λ x. (x.0, x.1.now)) result (pair_read bytes.now) }
+/// Reads a key and its value.
+#[tactic(auto, unfolding(crate::specs::tools::MemberWalk::dict_member_read))]
+pub fn read_dict_member(alloc: Global, bytes: &[u8]) -> Result<(Pair<Member>, &[u8]), Stop>
+    ensures { GivesUnlessMemory (λ x. (x.0, x.1.now)) result (dict_member_read bytes.now) }
 {
     let (key, rest) = read_key(alloc, bytes)?;
-    let (value, rest) = read_pair_value(alloc, rest)?;
+    let (value, rest) = read_dict_value(alloc, rest)?;
     Ok((Pair { key, value }, rest))
 }
 
-/// `=` and a member, or parameters alone for true.
-#[tactic(auto, unfolding(crate::specs::tools::MemberWalk::pair_value, byte_grammar::specs::Walk::optional_read))]
-fn read_pair_value(alloc: Global, bytes: &[u8]) -> Result<(Member, &[u8]), Stop>
-    ensures { GivesUnlessMemory (λ x. (x.0, x.1.now)) result (pair_value bytes.now) }
+/// Reads `=` and a member, or parameters alone for true.
+#[tactic(auto, unfolding(crate::specs::tools::MemberWalk::dict_value_read, byte_grammar::specs::tools::Walks::optional_read))]
+fn read_dict_value(alloc: Global, bytes: &[u8]) -> Result<(Member, &[u8]), Stop>
+    ensures { GivesUnlessMemory (λ x. (x.0, x.1.now)) result (dict_value_read bytes.now) }
 {
-    if starts_with(Class::Equals, bytes) {
+    if starts_with(Byte(b'='), bytes) {
         return read_equals_member(alloc, bytes);
     }
-    let (params, rest) = read_params(alloc, bytes)?;
+    let (params, rest) = read_parameters(alloc, bytes)?;
     let bare = BareItem::Bool(true);
     Ok((Member::Item(Item { bare, params }), rest))
 }
 
-/// `=` and a member.
-#[tactic(auto, unfolding(crate::specs::tools::MemberWalk::equals_member))]
+/// Reads `=` and a member.
+#[tactic(auto, unfolding(crate::specs::tools::MemberWalk::equals_member_read))]
 fn read_equals_member(alloc: Global, bytes: &[u8]) -> Result<(Member, &[u8]), Stop>
-    ensures { GivesUnlessMemory (λ x. (x.0, x.1.now)) result (equals_member bytes.now) }
+    ensures { GivesUnlessMemory (λ x. (x.0, x.1.now)) result (equals_member_read bytes.now) }
 {
-    let (_, rest) = read_byte(Class::Equals, bytes)?;
+    let (_, rest) = read_byte(Byte(b'='), bytes)?;
     read_member(alloc, rest)
 }

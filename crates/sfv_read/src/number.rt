@@ -1,22 +1,24 @@
 //! Integers and Decimals (RFC 9651 sections 3.3.1 and 3.3.2).
 
-ghost use Rattle.std.specs.Prelude.{◌≡◌, ◌≤◌, ◌<◌, ◌+◌, ◌-◌, ◌*◌, ◌^◌, ◌++◌, length, option_map, true, IfOk, IfSome};
+ghost use Rattle.std.specs.Prelude.{◌≡◌, ◌≤◌, ◌<◌, ◌+◌, ◌-◌, ◌*◌, ◌^◌, ◌++◌, length, option_map, IfOk, IfSome, IsTrue};
 ghost use Rattle.std.specs.List.{list_all};
 ghost use Rattle.byte_grammar.specs.Gives.{Gives};
+ghost use Rattle.byte_grammar.specs.Language.{AreBytesOf};
 ghost use Rattle.byte_classes.specs.Classes.{is_digit};
-ghost use Rattle.sfv_read.specs.BareItem.{spelled, spelled_from, signed};
+ghost use Rattle.std.specs.Str.Parse.{digits_value, digits_value_after};
+ghost use Rattle.sfv_read.specs.BareItem.{with_sign};
 ghost use Rattle.sfv_read.specs.tools.BareWalk.{fraction_read, part_read, number_read};
 
-use crate::class::Class;
+use byte_classes::{Byte, Class};
 use byte_grammar::{Left, read_byte, read_run, starts_with};
 use sfv_text::BareItem;
 
-/// An optional minus and 1 to 15 digits, or 1 to 12 digits, a point and 1 to 3 digits.
+/// Reads an optional minus and 1 to 15 digits, or 1 to 12 digits, a point and 1 to 3 digits.
 #[tactic(auto, unfolding(crate::specs::tools::BareWalk::number_read))]
 pub fn read_number(bytes: &[u8]) -> Result<(BareItem, &[u8]), Left>
     ensures { Gives (λ x. (x.0, x.1.now)) result (number_read bytes.now) }
 {
-    let (sign, rest) = read_run(Class::Minus, 0, 1, bytes)?;
+    let (sign, rest) = read_run(Byte(b'-'), 0, 1, bytes)?;
     let (digits, rest) = read_run(Class::Digit, 1, 15, rest)?;
     let (part, rest) = read_fraction(digits.len(), rest)?;
     match part {
@@ -28,37 +30,39 @@ pub fn read_number(bytes: &[u8]) -> Result<(BareItem, &[u8]), Left>
     }
 }
 
-/// The digits after the point, where a point comes. After more than 12 digits none may.
-#[tactic(auto, unfolding(crate::specs::tools::BareWalk::fraction_read, byte_grammar::specs::Walk::optional_read))]
+/// Reads the digits after the point, where a point comes. After more than 12 digits none may.
+#[tactic(auto, unfolding(crate::specs::tools::BareWalk::fraction_read, byte_grammar::specs::tools::Walks::optional_read))]
 fn read_fraction(digits: usize, bytes: &[u8]) -> Result<(Option<&[u8]>, &[u8]), Left>
-    ensures gives { Gives (λ x. (option_map (λ p. p.now) x.0, x.1.now)) result (fraction_read digits bytes.now) }
-    ensures part { IfOk result (λ x. IfSome x.0 (λ p. (digits ≤ 12) × (list_all is_digit p.now ≡ true) × (1 ≤ length p.now) × (length p.now ≤ 3))) }
+    ensures gives { Gives (λ x. (option_map (λ p. p.now) x.0, x.1.now)) result
+        (fraction_read digits bytes.now) }
+    ensures part { IfOk result (λ x. IfSome x.0 (λ p.
+        (digits ≤ 12) × AreBytesOf is_digit 1 3 p.now)) }
 {
     if digits > 12 {
         return Ok((None, bytes));
     }
-    if !starts_with(Class::Dot, bytes) {
+    if !starts_with(Byte(b'.'), bytes) {
         return Ok((None, bytes));
     }
     let (part, rest) = read_part(bytes)?;
     Ok((Some(part), rest))
 }
 
-/// A point and 1 to 3 digits.
+/// Reads a point and 1 to 3 digits.
 #[tactic(auto, unfolding(crate::specs::tools::BareWalk::part_read))]
 fn read_part(bytes: &[u8]) -> Result<(&[u8], &[u8]), Left>
     ensures gives { Gives (λ x. (x.0.now, x.1.now)) result (part_read bytes.now) }
-    ensures part { IfOk result (λ x. (list_all is_digit x.0.now ≡ true) × (1 ≤ length x.0.now) × (length x.0.now ≤ 3)) }
+    ensures part { IfOk result (λ x. AreBytesOf is_digit 1 3 x.0.now) }
 {
-    let (_dot, rest) = read_byte(Class::Dot, bytes)?;
+    let (_dot, rest) = read_byte(Byte(b'.'), bytes)?;
     read_run(Class::Digit, 1, 3, rest)
 }
 
 /// What the digits spell after the number `start`.
 fn value_of(start: u64, digits: &[u8]) -> u64
-    requires digits { list_all is_digit digits.now ≡ true }
+    requires digits { IsTrue (list_all is_digit digits.now) }
     requires room { (start + 1) * 10 ^ length digits.now ≤ 10 ^ 15 }
-    ensures value { result ≡ spelled_from start digits.now }
+    ensures value { result ≡ digits_value_after 10 start digits.now }
     ensures below { (result + 1) ≤ (start + 1) * 10 ^ length digits.now }
 {
     let mut total = start;
@@ -71,7 +75,7 @@ fn value_of(start: u64, digits: &[u8]) -> u64
 /// The number, negative where the sign isn't empty.
 fn with_sign(sign: &[u8], number: u64) -> i64
     requires { number < 10 ^ 15 }
-    ensures { result ≡ signed sign.now number }
+    ensures { result ≡ with_sign sign.now number }
 {
     if sign.is_empty() {
         return number as i64;
@@ -81,20 +85,19 @@ fn with_sign(sign: &[u8], number: u64) -> i64
 
 /// A Decimal with these digits before and after its point, in thousandths.
 fn thousandths(sign: &[u8], digits: &[u8], part: &[u8]) -> i64
-    requires digits { list_all is_digit digits.now ≡ true }
-    requires part { list_all is_digit part.now ≡ true }
+    requires digits { IsTrue (list_all is_digit digits.now) }
     requires whole { length digits.now ≤ 12 }
-    requires some { 1 ≤ length part.now }
-    requires few { length part.now ≤ 3 }
-    ensures { result ≡ signed sign.now (spelled (digits.now ++ part.now) * 10 ^ (3 - length part.now)) }
+    requires part { AreBytesOf is_digit 1 3 part.now }
+    ensures { result ≡ with_sign sign.now
+        (digits_value 10 (digits.now ++ part.now) * 10 ^ (3 - length part.now)) }
 {
     let whole = value_of(0, digits);
     let number = value_of(whole, part);
-    with_sign(sign, scaled(number, part.len()))
+    with_sign(sign, to_thousandths(number, part.len()))
 }
 
 /// A number with so many digits after its point, in thousandths.
-fn scaled(number: u64, digits: usize) -> u64
+fn to_thousandths(number: u64, digits: usize) -> u64
     requires number { number < 10 ^ 15 }
     requires some { 1 ≤ digits }
     requires few { digits ≤ 3 }

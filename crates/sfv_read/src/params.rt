@@ -2,24 +2,25 @@
 
 ghost use Rattle.std.specs.Prelude.{◌≡◌, List, ℕ};
 ghost use Rattle.sfv_read.specs.tools.Gives.{GivesUnlessMemory};
-ghost use Rattle.sfv_read.specs.tools.ItemWalk.{equals_read, value_read, key_read, param_read, param_turn, params_read};
+ghost use Rattle.sfv_read.specs.tools.ItemWalk.{equals_read, value_read, key_read, parameter_read, next_parameter_read, parameters_read};
 
-use crate::bare::read_bare;
-use crate::class::Class;
-use crate::stop::Stop;
-use crate::text::text_of;
+use crate::bare::read_bare_item;
+use crate::class::SfClass;
+use crate::error::Stop;
+use byte_classes::Byte;
 use byte_grammar::{read_all, read_byte, read_word, starts_with};
 use sfv_text::{BareItem, Pair, Params, Text};
 use std::alloc::Global;
 
-/// Parameters one after the other. A repeated key stands where it first stood and has its last value.
-pub fn read_params(alloc: Global, bytes: &[u8]) -> Result<(Params, &[u8]), Stop>
-    ensures { GivesUnlessMemory (λ x. (x.0, x.1.now)) result (params_read bytes.now) }
+/// Reads parameters one after the other. A repeated key stands where it first stood and has its
+/// last value.
+pub fn read_parameters(alloc: Global, bytes: &[u8]) -> Result<(Params, &[u8]), Stop>
+    ensures { GivesUnlessMemory (λ x. (x.0, x.1.now)) result (parameters_read bytes.now) }
 {
     let mut params = Params::new(alloc);
     let mut rest = bytes;
     'params: loop {
-        let (next, after) = read_turn(alloc, rest)?;
+        let (next, after) = read_next_parameter(alloc, rest)?;
         match next {
             None => return Ok((params, after)),
             Some(param) => {
@@ -30,55 +31,54 @@ pub fn read_params(alloc: Global, bytes: &[u8]) -> Result<(Params, &[u8]), Stop>
     }
 }
 
-/// A parameter where a semicolon comes.
-#[tactic(auto, unfolding(crate::specs::tools::ItemWalk::param_turn, byte_grammar::specs::Walk::optional_read))]
-fn read_turn(alloc: Global, bytes: &[u8]) -> Result<(Option<Pair<BareItem>>, &[u8]), Stop>
-    ensures { GivesUnlessMemory (λ x. (x.0, x.1.now)) result (param_turn bytes.now) }
+/// Reads a parameter where a semicolon comes.
+#[tactic(auto, unfolding(crate::specs::tools::ItemWalk::next_parameter_read, byte_grammar::specs::tools::Walks::optional_read))]
+fn read_next_parameter(alloc: Global, bytes: &[u8]) -> Result<(Option<Pair<BareItem>>, &[u8]), Stop>
+    ensures { GivesUnlessMemory (λ x. (x.0, x.1.now)) result (next_parameter_read bytes.now) }
 {
-    if !starts_with(Class::Semicolon, bytes) {
+    if !starts_with(Byte(b';'), bytes) {
         return Ok((None, bytes));
     }
-    let (param, rest) = read_param(alloc, bytes)?;
+    let (param, rest) = read_parameter(alloc, bytes)?;
     Ok((Some(param), rest))
 }
 
-/// A semicolon, spaces, a key and its value.
-#[tactic(auto, unfolding(crate::specs::tools::ItemWalk::param_read))]
-fn read_param(alloc: Global, bytes: &[u8]) -> Result<(Pair<BareItem>, &[u8]), Stop>
-    ensures { GivesUnlessMemory (λ x. (x.0, x.1.now)) result (param_read bytes.now) }
+/// Reads a semicolon, spaces, a key and its value.
+#[tactic(auto, unfolding(crate::specs::tools::ItemWalk::parameter_read))]
+fn read_parameter(alloc: Global, bytes: &[u8]) -> Result<(Pair<BareItem>, &[u8]), Stop>
+    ensures { GivesUnlessMemory (λ x. (x.0, x.1.now)) result (parameter_read bytes.now) }
 {
-    let (_, rest) = read_byte(Class::Semicolon, bytes)?;
-    let (_, rest) = read_all(Class::Space, rest);
+    let (_, rest) = read_byte(Byte(b';'), bytes)?;
+    let (_, rest) = read_all(Byte(b' '), rest);
     let (key, rest) = read_key(alloc, rest)?;
     let (value, rest) = read_value(alloc, rest)?;
     Ok((Pair { key, value }, rest))
 }
 
-/// A key.
 #[tactic(auto, unfolding(crate::specs::tools::ItemWalk::key_read))]
 pub fn read_key(alloc: Global, bytes: &[u8]) -> Result<(Text, &[u8]), Stop>
     ensures { GivesUnlessMemory (λ x. (x.0, x.1.now)) result (key_read bytes.now) }
 {
-    let (key, rest) = read_word(Class::KeyFirst, Class::KeyRest, bytes)?;
-    Ok((text_of(alloc, key)?, rest))
+    let (key, rest) = read_word(SfClass::KeyFirst, SfClass::KeyRest, bytes)?;
+    Ok((Text::from_bytes(alloc, key)?, rest))
 }
 
-/// `=` and a bare item, or nothing for true.
-#[tactic(auto, unfolding(crate::specs::tools::ItemWalk::value_read, byte_grammar::specs::Walk::optional_read))]
+/// Reads `=` and a bare item, or nothing for true.
+#[tactic(auto, unfolding(crate::specs::tools::ItemWalk::value_read, byte_grammar::specs::tools::Walks::optional_read))]
 fn read_value(alloc: Global, bytes: &[u8]) -> Result<(BareItem, &[u8]), Stop>
     ensures { GivesUnlessMemory (λ x. (x.0, x.1.now)) result (value_read bytes.now) }
 {
-    if !starts_with(Class::Equals, bytes) {
+    if !starts_with(Byte(b'='), bytes) {
         return Ok((BareItem::Bool(true), bytes));
     }
     read_equals(alloc, bytes)
 }
 
-/// `=` and a bare item.
+/// Reads `=` and a bare item.
 #[tactic(auto, unfolding(crate::specs::tools::ItemWalk::equals_read))]
 fn read_equals(alloc: Global, bytes: &[u8]) -> Result<(BareItem, &[u8]), Stop>
     ensures { GivesUnlessMemory (λ x. (x.0, x.1.now)) result (equals_read bytes.now) }
 {
-    let (_, rest) = read_byte(Class::Equals, bytes)?;
-    read_bare(alloc, rest)
+    let (_, rest) = read_byte(Byte(b'='), bytes)?;
+    read_bare_item(alloc, rest)
 }

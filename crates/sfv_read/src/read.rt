@@ -1,17 +1,16 @@
 //! The four readers.
 
-ghost use Rattle.std.specs.Prelude.{◌≡◌, ◌≤◌, ◌<◌, ◌+◌, List as Listed, length, take, IfOk, IfErr, IsTrue};
-ghost use Rattle.byte_grammar.specs.Language.{Begins};
+ghost use Rattle.std.specs.Prelude.{◌≡◌, List as Listed, IfOk, IfErr, IsTrue};
 ghost use Rattle.sfv_text.specs.declared.value.Item.{Item};
 ghost use Rattle.sfv_text.specs.declared.value.InnerList.{InnerList};
 ghost use Rattle.sfv_text.specs.declared.value.Member.{Member};
 ghost use Rattle.sfv_text.specs.Range.{is_item_in_range, is_inner_in_range, is_list_in_range, is_dict_in_range};
 ghost use Rattle.sfv_text.specs.declared.pair.Pair.{Pair};
-ghost use Rattle.sfv_read.specs.Fault.{IsRead, AtOffset, IfSyntax, IfItemKind, BeginsItemKind};
+ghost use Rattle.sfv_read.specs.Fault.{IsRead, IsFault};
 ghost use Rattle.sfv_read.specs.Reads.{ReadsItem, ReadsInner, ReadsList, ReadsDict};
 
-use crate::fault::SfError;
-use crate::whole::read_field;
+use crate::error::SfError;
+use crate::field::read_field;
 use sfv_text::{Dict, InnerList, Item, List};
 use std::alloc::Global;
 
@@ -20,12 +19,7 @@ pub fn read_item(alloc: Global, text: &[u8]) -> Result<Item, SfError>
     ensures ok { IfOk result (λ value. ReadsItem text.now value) }
     ensures in_range { IfOk result (λ value. IsTrue (is_item_in_range value)) }
     ensures only { (value : Item) → ReadsItem text.now value → IsRead result value }
-    ensures none { IfErr result (λ e. AtOffset e (λ _. (value : Item) → ReadsItem text.now value → ⊥)) }
-    ensures within { IfErr result (λ e. AtOffset e (λ offset. offset ≤ length text.now)) }
-    ensures begins { IfErr result (λ e. AtOffset e (λ offset. Begins ReadsItem (take offset text.now))) }
-    ensures longest { IfErr result (λ e. AtOffset e (λ offset. offset < length text.now → Begins ReadsItem (take (offset + 1) text.now) → ⊥)) }
-    ensures syntax { IfErr result (λ e. IfSyntax e (λ offset. BeginsItemKind ReadsItem text.now offset → ⊥)) }
-    ensures item_kind { IfErr result (λ e. IfItemKind e (λ offset. BeginsItemKind ReadsItem text.now offset)) }
+    ensures fault { IfErr result (λ e. IsFault ReadsItem text.now e) }
 {
     read_field(alloc, text)
 }
@@ -35,12 +29,7 @@ pub fn read_inner(alloc: Global, text: &[u8]) -> Result<InnerList, SfError>
     ensures ok { IfOk result (λ value. ReadsInner text.now value) }
     ensures in_range { IfOk result (λ value. IsTrue (is_inner_in_range value)) }
     ensures only { (value : InnerList) → ReadsInner text.now value → IsRead result value }
-    ensures none { IfErr result (λ e. AtOffset e (λ _. (value : InnerList) → ReadsInner text.now value → ⊥)) }
-    ensures within { IfErr result (λ e. AtOffset e (λ offset. offset ≤ length text.now)) }
-    ensures begins { IfErr result (λ e. AtOffset e (λ offset. Begins ReadsInner (take offset text.now))) }
-    ensures longest { IfErr result (λ e. AtOffset e (λ offset. offset < length text.now → Begins ReadsInner (take (offset + 1) text.now) → ⊥)) }
-    ensures syntax { IfErr result (λ e. IfSyntax e (λ offset. BeginsItemKind ReadsInner text.now offset → ⊥)) }
-    ensures item_kind { IfErr result (λ e. IfItemKind e (λ offset. BeginsItemKind ReadsInner text.now offset)) }
+    ensures fault { IfErr result (λ e. IsFault ReadsInner text.now e) }
 {
     read_field(alloc, text)
 }
@@ -51,12 +40,7 @@ pub fn read_list(alloc: Global, text: &[u8]) -> Result<List, SfError>
     ensures ok { IfOk result (λ value. ReadsList text.now value) }
     ensures in_range { IfOk result (λ value. IsTrue (is_list_in_range value)) }
     ensures only { (value : Listed Member) → ReadsList text.now value → IsRead result value }
-    ensures none { IfErr result (λ e. AtOffset e (λ _. (value : Listed Member) → ReadsList text.now value → ⊥)) }
-    ensures within { IfErr result (λ e. AtOffset e (λ offset. offset ≤ length text.now)) }
-    ensures begins { IfErr result (λ e. AtOffset e (λ offset. Begins ReadsList (take offset text.now))) }
-    ensures longest { IfErr result (λ e. AtOffset e (λ offset. offset < length text.now → Begins ReadsList (take (offset + 1) text.now) → ⊥)) }
-    ensures syntax { IfErr result (λ e. IfSyntax e (λ offset. BeginsItemKind ReadsList text.now offset → ⊥)) }
-    ensures item_kind { IfErr result (λ e. IfItemKind e (λ offset. BeginsItemKind ReadsList text.now offset)) }
+    ensures fault { IfErr result (λ e. IsFault ReadsList text.now e) }
 {
     read_field(alloc, text)
 }
@@ -67,12 +51,7 @@ pub fn read_dict(alloc: Global, text: &[u8]) -> Result<Dict, SfError>
     ensures ok { IfOk result (λ value. ReadsDict text.now value) }
     ensures in_range { IfOk result (λ value. IsTrue (is_dict_in_range value)) }
     ensures only { (value : Listed (Pair Member)) → ReadsDict text.now value → IsRead result value }
-    ensures none { IfErr result (λ e. AtOffset e (λ _. (value : Listed (Pair Member)) → ReadsDict text.now value → ⊥)) }
-    ensures within { IfErr result (λ e. AtOffset e (λ offset. offset ≤ length text.now)) }
-    ensures begins { IfErr result (λ e. AtOffset e (λ offset. Begins ReadsDict (take offset text.now))) }
-    ensures longest { IfErr result (λ e. AtOffset e (λ offset. offset < length text.now → Begins ReadsDict (take (offset + 1) text.now) → ⊥)) }
-    ensures syntax { IfErr result (λ e. IfSyntax e (λ offset. BeginsItemKind ReadsDict text.now offset → ⊥)) }
-    ensures item_kind { IfErr result (λ e. IfItemKind e (λ offset. BeginsItemKind ReadsDict text.now offset)) }
+    ensures fault { IfErr result (λ e. IsFault ReadsDict text.now e) }
 {
     read_field(alloc, text)
 }

@@ -2,18 +2,18 @@
 
 ghost use Rattle.std.specs.Prelude.{◌≡◌, ◌++◌, ◌∷◌, [], length, List, ℕ};
 ghost use Rattle.byte_grammar.specs.Gives.{Gives};
-ghost use Rattle.byte_grammar.specs.Walk.{kind_in};
+ghost use Rattle.byte_grammar.specs.tools.Walks.{kind_in};
 ghost use Rattle.sfv_read.specs.tools.Gives.{GivesUnlessMemory};
 ghost use Rattle.sfv_read.specs.tools.BareWalk.{char_kind, char_read, chars_read, string_read};
 
-use crate::class::Class;
-use crate::stop::Stop;
-use byte_classes::ByteClass;
+use crate::class::SfClass;
+use crate::error::Stop;
+use byte_classes::{Byte, ByteClass};
 use byte_grammar::{Left, read_byte};
 use sfv_text::Text;
 use std::alloc::Global;
 
-/// What the first byte of a character's text tells.
+/// What the first byte of a character's text says that it is.
 #[derive(Clone, Copy)]
 pub enum CharKind {
     /// The quote after the last character.
@@ -24,16 +24,16 @@ pub enum CharKind {
     Plain,
 }
 
-/// Characters in quotes, `"` and `\` after a backslash.
+/// Reads characters in quotes, `"` and `\` after a backslash.
 #[tactic(auto, unfolding(crate::specs::tools::BareWalk::string_read))]
 pub fn read_string(alloc: Global, bytes: &[u8]) -> Result<(Text, &[u8]), Stop>
     ensures { GivesUnlessMemory (λ x. (x.0, x.1.now)) result (string_read bytes.now) }
 {
-    let (_, rest) = read_byte(Class::Quote, bytes)?;
+    let (_, rest) = read_byte(Byte(b'"'), bytes)?;
     read_chars(alloc, rest)
 }
 
-/// Characters up to the quote that ends them.
+/// Reads characters up to the quote that ends them.
 fn read_chars(alloc: Global, bytes: &[u8]) -> Result<(Text, &[u8]), Stop>
     ensures { GivesUnlessMemory (λ x. (x.0, x.1.now)) result (chars_read bytes.now) }
 {
@@ -51,24 +51,24 @@ fn read_chars(alloc: Global, bytes: &[u8]) -> Result<(Text, &[u8]), Stop>
     }
 }
 
-/// A character, or the quote after the last.
-#[tactic(auto, unfolding(crate::specs::tools::BareWalk::char_read, byte_grammar::specs::Walk::pick_read))]
+/// Reads a character, or the quote after the last.
+#[tactic(auto, unfolding(crate::specs::tools::BareWalk::char_read, byte_grammar::specs::tools::Walks::pick_read))]
 fn read_char(bytes: &[u8]) -> Result<(Option<u8>, &[u8]), Left>
     ensures { Gives (λ x. (x.0, x.1.now)) result (char_read bytes.now) }
 {
     match first_kind(bytes) {
         None => Err(Left(bytes.len())),
         Some(CharKind::Finish) => {
-            let (_, rest) = read_byte(Class::Quote, bytes)?;
+            let (_, rest) = read_byte(Byte(b'"'), bytes)?;
             Ok((None, rest))
         }
         Some(CharKind::Escape) => {
-            let (_, rest) = read_byte(Class::Backslash, bytes)?;
-            let (byte, rest) = read_byte(Class::Escapable, rest)?;
+            let (_, rest) = read_byte(Byte(b'\\'), bytes)?;
+            let (byte, rest) = read_byte(SfClass::Escapable, rest)?;
             Ok((Some(byte), rest))
         }
         Some(CharKind::Plain) => {
-            let (byte, rest) = read_byte(Class::Unescaped, bytes)?;
+            let (byte, rest) = read_byte(SfClass::Unescaped, bytes)?;
             Ok((Some(byte), rest))
         }
     }
@@ -86,13 +86,13 @@ fn first_kind(bytes: &[u8]) -> Option<CharKind>
 fn kind_of(byte: u8) -> Option<CharKind>
     ensures { result ≡ char_kind byte }
 {
-    if Class::Quote.allows(byte) {
+    if byte == b'"' {
         return Some(CharKind::Finish);
     }
-    if Class::Backslash.allows(byte) {
+    if byte == b'\\' {
         return Some(CharKind::Escape);
     }
-    if Class::Unescaped.allows(byte) {
+    if SfClass::Unescaped.allows(byte) {
         return Some(CharKind::Plain);
     }
     None

@@ -1,17 +1,22 @@
 -- What a function returned is what a reader over lists gives, unless memory ran out.
+-- No public clause cites this module.
 use Rattle.std.specs.Prelude.{◌≡◌, ℕ, Result, Ok, Err}
-use Rattle.sfv_read.specs.declared.stop.Stop.{Stop}
-use Rattle.sfv_read.specs.declared.stop.Stop.TheVariants.{NoMemory, At}
+use Rattle.sfv_read.specs.declared.error.Stop.{Stop}
+use Rattle.sfv_read.specs.declared.error.Stop.TheVariants.{Memory, At}
 
 abbrev pub Stops : {Y : Type 0} → Stop → Result Y ℕ → Type 0
-Stops NoMemory read = Unit {0}
+Stops Memory read = Unit {0}
 Stops (At n) read = read ≡ Err n
 
 abbrev pub GivesUnlessMemory : {X Y : Type 0} → (X → Y) → Result X Stop → Result Y ℕ → Type 0
 GivesUnlessMemory view (Ok x) read = read ≡ Ok (view x)
 GivesUnlessMemory view (Err e) read = Stops e read
 
--- of how many bytes were left
-abbrev pub IfAt : Stop → (ℕ → Type 0) → Type 0
-IfAt NoMemory P = Unit {0}
-IfAt (At n) P = P n
+abbrev pub IfMemory : Stop → Type 0 → Type 0
+IfMemory Memory P = P
+IfMemory (At n) P = Unit {0}
+
+-- something was read, or memory ran out
+abbrev pub UnlessStopped : {X : Type 0} → Result X Stop → Type 0 → Type 0
+UnlessStopped (Ok x) P = P
+UnlessStopped (Err e) P = IfMemory e P

@@ -1,5 +1,5 @@
 use Rattle.byte_grammar.proofs.Whole.{one_value}
-use Rattle.sfv_read.proofs.Told.{item_judges, inner_judges, list_judges, dict_judges}
+use Rattle.sfv_read.proofs.Readings.{item_judges, inner_judges, list_judges, dict_judges}
 use Rattle.sfv_read.proofs.laws.a_text_has_one_value.Goals as goal
 
 pub returns : goal.returns

@@ -1,6 +1,6 @@
 use Rattle.std.proofs.Common.{◌≡◌, arith, ◌+◌, ◌<◌, ◌≤◌, length, suc, ◌-◌, ◌*◌, ◌^◌, ap, sym, subst, ◌∙◌, ℕ, drop}
-use Rattle.sfv_read.specs.BareItem.{spelled_from}
-use Rattle.sfv_read.proofs.Digits.{room_more, room_now, spelled_at, digit_small}
+use Rattle.std.specs.Str.Parse.{digits_value_after}
+use Rattle.sfv_read.proofs.Digits.{room_more, room_now, value_more, digit_small}
 use Rattle.sfv_read.proofs.number.value_of.Goals as goal
 
 -- nine more would still fit
@@ -23,6 +23,6 @@ loop-digit-preserved c =
     let small : c.from.result < 10 = omega (arith, c.from.ensures, digit_small c.args.digits.now c.loop-digit.digit-index c.requires.digits c.loop-digit-test.true) in
     let count : length c.args.digits.now - c.loop-digit.digit-index ≡ suc (length c.args.digits.now - (c.loop-digit.digit-index + 1)) = omega arith in
     record {
-      value = ap (λ (n : ℕ). spelled_from (c.loop-digit.total * 10 + n) (drop (c.loop-digit.digit-index + 1) c.args.digits.now)) c.from.ensures ∙ sym (spelled_at c.loop-digit.total c.loop-digit.digit-index c.args.digits.now 0 c.loop-digit-test.true) ∙ c.loop-digit.invariant.value;
+      value = ap (λ (n : ℕ). digits_value_after 10 (c.loop-digit.total * 10 + n) (drop (c.loop-digit.digit-index + 1) c.args.digits.now)) c.from.ensures ∙ sym (value_more c.loop-digit.total c.loop-digit.digit-index c.args.digits.now c.requires.digits c.loop-digit-test.true) ∙ c.loop-digit.invariant.value;
       room = room_more c.loop-digit.total c.from.result _ _ small (subst (λ (n : ℕ). (c.loop-digit.total + 1) * 10 ^ n ≤ (c.args.start + 1) * 10 ^ length c.args.digits.now) count c.loop-digit.invariant.room);
     }

@@ -1,19 +1,14 @@
 use Rattle.sfv_text.specs.Range.{is_dict_in_range}
 use Rattle.sfv_read.proofs.InRange.{dict_read_in_range}
-use Rattle.sfv_read.proofs.Told.{told, passing, dict_judges}
+use Rattle.sfv_read.proofs.Readings.{promises, passing, dict_judges}
 use Rattle.sfv_read.proofs.read.read_dict.Goals as goal
 
 pub returns : goal.returns
 returns c =
-    let t = told dict_judges c.args.text.now c.read_field.result c.read_field.ensures in
+    let p = promises dict_judges c.args.text.now c.read_field.result c.read_field.ensures in
     record {
-      ok = t.ok;
-      in_range = passing is_dict_in_range dict_read_in_range c.args.text.now c.read_field.result t.ok;
-      only = t.only;
-      none = t.none;
-      within = t.within;
-      begins = t.begins;
-      longest = t.longest;
-      syntax = t.syntax_only;
-      item_kind = t.item_kind;
+      ok = p.ok;
+      in_range = passing is_dict_in_range dict_read_in_range c.args.text.now c.read_field.result p.ok;
+      only = p.only;
+      fault = p.fault;
     }

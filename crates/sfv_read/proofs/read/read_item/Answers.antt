@@ -1,19 +1,14 @@
 use Rattle.sfv_text.specs.Range.{is_item_in_range}
 use Rattle.sfv_read.proofs.InRange.{item_read_in_range}
-use Rattle.sfv_read.proofs.Told.{told, passing, item_judges}
+use Rattle.sfv_read.proofs.Readings.{promises, passing, item_judges}
 use Rattle.sfv_read.proofs.read.read_item.Goals as goal
 
 pub returns : goal.returns
 returns c =
-    let t = told item_judges c.args.text.now c.read_field.result c.read_field.ensures in
+    let p = promises item_judges c.args.text.now c.read_field.result c.read_field.ensures in
     record {
-      ok = t.ok;
-      in_range = passing is_item_in_range item_read_in_range c.args.text.now c.read_field.result t.ok;
-      only = t.only;
-      none = t.none;
-      within = t.within;
-      begins = t.begins;
-      longest = t.longest;
-      syntax = t.syntax_only;
-      item_kind = t.item_kind;
+      ok = p.ok;
+      in_range = passing is_item_in_range item_read_in_range c.args.text.now c.read_field.result p.ok;
+      only = p.only;
+      fault = p.fault;
     }

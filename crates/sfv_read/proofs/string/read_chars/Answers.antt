@@ -1,6 +1,6 @@
 use Rattle.std.proofs.lemmas.Result.{err_from_is_err_and}
 use Rattle.sfv_read.specs.tools.BareWalk.{char_read}
-use Rattle.byte_grammar.specs.Walk.{turns_read}
+use Rattle.byte_grammar.specs.tools.Walks.{turns_read}
 use Rattle.byte_grammar.proofs.Loops.{loop_first, loop_last, loop_err, loop_more, some_next}
 use Rattle.sfv_read.proofs.Strings.{chars_step, chars_shorter}
 use Rattle.sfv_read.proofs.string.read_chars.Goals as goal

@@ -1,5 +1,5 @@
 use Rattle.std.proofs.Common.{◌≡◌, length}
-use Rattle.byte_grammar.specs.Walk.{turns_read, with_prefix}
+use Rattle.byte_grammar.specs.tools.Walks.{turns_read, with_prefix}
 use Rattle.sfv_read.specs.tools.BareWalk.{char_read, chars_read}
 use Rattle.sfv_read.proofs.string.read_chars.Given as goal
 

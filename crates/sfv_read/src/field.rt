@@ -1,0 +1,129 @@
+//! Whole texts of each kind of structured field.
+
+ghost use Rattle.std.specs.Prelude.{◌≡◌, ◌≤◌, ◌↔◌, ◌++◌, ℕ, List as Listed, Result, length, IfOk, IfErr, IsTrue, codes};
+ghost use Rattle.byte_grammar.specs.tools.Walks.{left, unread, whole_read, padded_read};
+ghost use Rattle.byte_classes.specs.Classes.{is_space};
+ghost use Rattle.sfv_read.specs.declared.error.Stop.TheVariants.{Memory};
+ghost use Rattle.sfv_read.specs.tools.Answers.{IsFaultAt, Answers};
+ghost use Rattle.sfv_read.specs.tools.Gives.{GivesUnlessMemory, IfMemory};
+ghost use Rattle.sfv_read.specs.tools.ItemWalk.{item_read};
+ghost use Rattle.sfv_read.specs.tools.InnerWalk.{inner_list_read};
+ghost use Rattle.sfv_read.specs.tools.MemberWalk.{list_read, dict_read};
+
+use crate::class::SfClass;
+use crate::error::{SfError, Stop};
+use crate::inner::read_inner_list_text;
+use crate::item::read_item_text;
+use crate::separated::read_separated;
+use byte_classes::Byte;
+use byte_grammar::{read_all, starts_with};
+use sfv_text::{Dict, InnerList, Item, List, Text};
+use std::alloc::Global;
+
+/// A kind of structured field.
+pub trait Field: Drop {
+    // How a text of the kind is read, with spaces at both ends.
+    ghost reading: { Listed ℕ → Result (Self × Listed ℕ) ℕ };
+
+    /// Reads a text of the kind, with spaces at both ends.
+    fn read(alloc: Global, text: &[u8]) -> Result<(Self, &[u8]), Stop>
+        ensures gives { GivesUnlessMemory (λ x. (x.0, x.1.now)) result (reading text.now) }
+        ensures within { left (reading text.now) ≤ length text.now }
+        ensures needed { IfErr result (λ e. IfMemory e (1 ≤ length text.now)) };
+}
+
+/// Reads a text of a kind to its end, or names the offset of its fault.
+pub fn read_field<F: Field>(alloc: Global, text: &[u8]) -> Result<F, SfError>
+    ensures { Answers (whole_read F.reading) text.now result }
+{
+    match read_whole(alloc, text) {
+        Ok(value) => Ok(value),
+        Err(Stop::Memory) => Err(SfError::Memory),
+        Err(Stop::At(left)) => Err(fault_at::<F>(alloc, text, text.len() - left)),
+    }
+}
+
+/// Reads a text of a kind to its end.
+#[tactic(auto, unfolding(byte_grammar::specs::tools::Walks::whole_read))]
+fn read_whole<F: Field>(alloc: Global, text: &[u8]) -> Result<F, Stop>
+    ensures gives { GivesUnlessMemory (λ x. x) result (whole_read F.reading text.now) }
+    ensures within { unread (whole_read F.reading text.now) ≤ length text.now }
+    ensures needed { IfErr result (λ e. IfMemory e (1 ≤ length text.now)) }
+{
+    let (value, rest) = F::read(alloc, text)?;
+    match rest {
+        [] => Ok(value),
+        [_, ..] => Err(Stop::At(rest.len())),
+    }
+}
+
+/// The fault at the offset where a text can't go on.
+fn fault_at<F: Field>(alloc: Global, text: &[u8], offset: usize) -> SfError
+    requires { offset ≤ length text.now }
+    ensures { IsFaultAt (whole_read F.reading) text.now offset result }
+{
+    let (prefix, rest) = text.split_at(offset);
+    if !starts_with(SfClass::Marker, rest) {
+        return SfError::Syntax(offset);
+    }
+    match takes_item::<F>(alloc, prefix) {
+        Ok(true) => SfError::ItemKind(offset),
+        Ok(false) => SfError::Syntax(offset),
+        Err(_) => SfError::Memory,
+    }
+}
+
+/// Whether `?1` could stand after the prefix.
+fn takes_item<F: Field>(alloc: Global, prefix: &[u8]) -> Result<bool, Stop>
+    ensures ok { IfOk result (λ b.
+        IsTrue b ↔ (unread (whole_read F.reading (prefix.now ++ codes "?1")) ≡ 0)) }
+    ensures err { IfErr result (λ e. e ≡ Memory) }
+{
+    let mut probe = Text::from_bytes(alloc, prefix)?;
+    probe.append(b"?1")?;
+    match read_whole::<F>(alloc, probe.bytes()) {
+        Ok(_) => Ok(true),
+        Err(Stop::Memory) => Err(Stop::Memory),
+        Err(Stop::At(left)) => Ok(left == 0),
+    }
+}
+
+impl Field for Item {
+    ghost reading = { λ text. padded_read is_space item_read text };
+
+    #[tactic(auto, unfolding(byte_grammar::specs::tools::Walks::padded_read))]
+    fn read(alloc: Global, text: &[u8]) -> Result<(Item, &[u8]), Stop> {
+        let (_, rest) = read_all(Byte(b' '), text);
+        let (item, rest) = read_item_text(alloc, rest)?;
+        let (_, rest) = read_all(Byte(b' '), rest);
+        Ok((item, rest))
+    }
+}
+
+impl Field for InnerList {
+    ghost reading = { λ text. padded_read is_space inner_list_read text };
+
+    #[tactic(auto, unfolding(byte_grammar::specs::tools::Walks::padded_read))]
+    fn read(alloc: Global, text: &[u8]) -> Result<(InnerList, &[u8]), Stop> {
+        let (_, rest) = read_all(Byte(b' '), text);
+        let (list, rest) = read_inner_list_text(alloc, rest)?;
+        let (_, rest) = read_all(Byte(b' '), rest);
+        Ok((list, rest))
+    }
+}
+
+impl Field for List {
+    ghost reading = { λ text. list_read text };
+
+    fn read(alloc: Global, text: &[u8]) -> Result<(List, &[u8]), Stop> {
+        read_separated(alloc, text)
+    }
+}
+
+impl Field for Dict {
+    ghost reading = { λ text. dict_read text };
+
+    fn read(alloc: Global, text: &[u8]) -> Result<(Dict, &[u8]), Stop> {
+        read_separated(alloc, text)
+    }
+}
