@@ -7,7 +7,8 @@ use Rattle.std.proofs.lemmas.Bool.Decides.{same_from_decides}
 use Rattle.std.proofs.lemmas.List.Folds.{list_all-append, list_any-append}
 use Rattle.std.proofs.lemmas.Slice.Eq.{bytes_eq-Decides}
 use Rattle.sfv_text.specs.declared.pair.Pair.{Pair}
-use Rattle.sfv_text.specs.Keys.{has_key, have_distinct_keys, with_value, put, IsFound}
+use Rattle.sfv_text.specs.Keys.{has_key, have_distinct_keys, with_value, put}
+use Rattle.sfv_text.specs.tools.Found.{IsFound}
 
 pub bytes_eq-sym : (a b : List ℕ) → bytes_eq a b ≡ bytes_eq b a
 bytes_eq-sym a b =
@@ -122,7 +123,3 @@ put_kept test ps key v old new = elim (cases_Bool (list_any (has_key key) ps)) [
   | inl h ↦ rw h (with_values_kept test key v ps old new)
   | inr n ↦ rw (n, list_all-append test ps (record { key = key; value = v } ∷ []), old, new) refl
 ]
-
-pub put_found_kept : {V : Type 0} (test : Pair V → Bool) (ps : List (Pair V)) (key : List ℕ) (v : V) (index : ℕ) → have_distinct_keys ps ≡ true → IsFound ps key index
-    → list_all test ps ≡ true → test (record { key = key; value = v }) ≡ true → list_all test (set ps index (record { key = key; value = v })) ≡ true
-put_found_kept test ps key v index d f old new = rw (put_found ps key v index d f) (put_kept test ps key v old new)

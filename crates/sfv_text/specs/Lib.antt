@@ -1,3 +1,6 @@
 pub mod Keys
+pub mod Laws
 pub mod Range
 pub mod Strict
+pub mod Values
+pub mod tools

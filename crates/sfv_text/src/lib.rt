@@ -3,6 +3,7 @@
 #![tactic(auto)]
 
 mod absorb;
+mod laws;
 mod memory;
 mod pair;
 mod pairs;
@@ -13,6 +14,7 @@ mod text;
 mod value;
 
 pub use absorb::Absorb;
+pub use laws::{keys_stay_distinct, strict_texts_are_printable};
 pub use memory::Memory;
 pub use pair::Pair;
 pub use pairs::Pairs;

@@ -1,15 +1,17 @@
 //! Lists of pairs with distinct keys.
 
-ghost use Rattle.std.specs.Prelude.{◌≡◌, ◌<◌, Bool, true, false, [], Some, IfSome, IfNone, length, slice_get, OnOk, OnErr};
-ghost use Rattle.std.specs.List.{list_all, list_any};
-ghost use Rattle.sfv_text.specs.declared.pair.Pair.{Pair};
-ghost use Rattle.sfv_text.specs.Keys.{put, has_key, have_distinct_keys, IsFound};
+ghost use Rattle.std.specs.Prelude.{◌≡◌, ◌<◌, ◌↔◌, true, false, [], Some, IfSome, IfNone, length, slice_get, option_copied, IsTrue, OnOk, OnErr};
+ghost use Rattle.std.specs.List.{find, list_any};
+ghost use Rattle.std.specs.Slice.Iter.{iter_rest};
+ghost use Rattle.sfv_text.specs.Keys.{put, has_key, have_distinct_keys, value_of};
+ghost use Rattle.sfv_text.specs.tools.Found.{IsFound};
 
 use crate::memory::Memory;
 use crate::pair::Pair;
 use crate::text::Text;
 use std::alloc::Global;
 use std::marker::Model;
+use std::slice::Iter;
 
 /// A list of pairs with distinct keys, in the order in which the keys came. A contract sees it as
 /// the list of its pairs.
@@ -43,6 +45,13 @@ fn index_of<V>(pairs: &[Pair<V>], key: &[u8]) -> Option<usize>
     None
 }
 
+/// The first pair of the key.
+fn pair_of<'a, V>(pairs: &'a [Pair<V>], key: &[u8]) -> Option<&'a Pair<V>>
+    ensures { option_copied result ≡ find (has_key key.now) pairs.now }
+{
+    pairs.iter().find(|pair| pair.key.bytes() == key)
+}
+
 impl<V: Drop> Pairs<V> {
     /// No pairs. It takes no memory.
     pub fn new(alloc: Global) -> Self
@@ -67,12 +76,33 @@ impl<V: Drop> Pairs<V> {
         self.pairs.len()
     }
 
+    /// Whether it has no pair.
+    pub fn is_empty(&self) -> bool
+        ensures { IsTrue result ↔ (self.now ≡ []) }
+    {
+        self.pairs.is_empty()
+    }
+
     /// The pair at the index.
     pub fn get(&self, index: usize) -> &Pair<V>
         requires { index < length self.now }
         ensures { slice_get self.now index ≡ Some result.now }
     {
         &self.pairs[index]
+    }
+
+    /// The value of the key, where a pair has it.
+    pub fn find(&self, key: &[u8]) -> Option<&V>
+        ensures { option_copied result ≡ value_of self.now key.now }
+    {
+        pair_of(self.pairs.as_slice(), key).map(|pair| &pair.value)
+    }
+
+    /// The pairs one by one, in order.
+    pub fn iter(&self) -> Iter<'_, Pair<V>>
+        ensures { iter_rest result ≡ self.now }
+    {
+        self.pairs.as_slice().iter()
     }
 
     /// The pairs, in order.
@@ -87,10 +117,8 @@ impl<V: Drop> Pairs<V> {
     /// found, the key and the value are dropped.
     pub fn put(&mut self, key: Text, value: V) -> Result<(), Memory>
         ensures ok { OnOk result (self.new ≡ put self.old key value) }
-        ensures distinct { have_distinct_keys self.new ≡ true }
-        ensures each { (test : Pair V → Bool) → list_all test self.old ≡ true
-            → test (record { key = key; value = value }) ≡ true → list_all test self.new ≡ true }
         ensures err { OnErr result (self.new ≡ self.old) }
+        ensures new_key { OnErr result (list_any (has_key key) self.old ≡ false) }
     {
         match index_of(self.pairs.as_slice(), key.bytes()) {
             Some(index) => self.pairs[index] = Pair { key, value },

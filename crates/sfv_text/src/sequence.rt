@@ -1,10 +1,12 @@
 //! Lists that own their elements.
 
-ghost use Rattle.std.specs.Prelude.{◌≡◌, ◌<◌, ◌++◌, ◌∷◌, [], Some, length, slice_get, OnOk, OnErr};
+ghost use Rattle.std.specs.Prelude.{◌≡◌, ◌↔◌, ◌<◌, ◌++◌, ◌∷◌, [], Some, length, slice_get, IsTrue, OnOk, OnErr};
+ghost use Rattle.std.specs.Slice.Iter.{iter_rest};
 
 use crate::memory::Memory;
 use std::alloc::Global;
 use std::marker::Model;
+use std::slice::Iter;
 
 /// A list that owns its elements. A contract sees it as the list of their values.
 #[derive(Debug, Drop)]
@@ -37,12 +39,26 @@ impl<T: Drop> Sequence<T> {
         self.elements.len()
     }
 
+    /// Whether it has no element.
+    pub fn is_empty(&self) -> bool
+        ensures { IsTrue result ↔ (self.now ≡ []) }
+    {
+        self.elements.is_empty()
+    }
+
     /// The element at the index.
     pub fn get(&self, index: usize) -> &T
         requires { index < length self.now }
         ensures { slice_get self.now index ≡ Some result.now }
     {
         &self.elements[index]
+    }
+
+    /// The elements one by one, in order.
+    pub fn iter(&self) -> Iter<'_, T>
+        ensures { iter_rest result ≡ self.now }
+    {
+        self.elements.as_slice().iter()
     }
 
     /// The elements, in order.

@@ -1,6 +1,8 @@
 //! The values of structured fields (RFC 9651 section 3).
 
-ghost use Rattle.std.specs.Prelude.{◌≡◌, IfOk};
+ghost use Rattle.std.specs.Prelude.{◌≡◌, ◌≤◌, ◌↔◌, ◌⊎◌, length, IsTrue, IfOk, IfErr};
+ghost use Rattle.sfv_text.specs.Values.{own_bytes};
+ghost use Rattle.sfv_text.specs.tools.EqualityTests.{is_equal_bare, is_equal_param};
 
 use crate::memory::Memory;
 use crate::pair::Pair;
@@ -26,7 +28,8 @@ pub enum BareItem {
 impl BareItem {
     /// An equal bare item of its own.
     pub fn copy(&self, alloc: Global) -> Result<BareItem, Memory>
-        ensures { IfOk result (λ bare. bare ≡ self.now) }
+        ensures ok { IfOk result (λ bare. bare ≡ self.now) }
+        ensures needed { IfErr result (λ _. 1 ≤ length (own_bytes self.now)) }
     {
         match self {
             BareItem::Integer(value) => Ok(BareItem::Integer(*value)),
@@ -37,10 +40,40 @@ impl BareItem {
             BareItem::Bool(value) => Ok(BareItem::Bool(*value)),
         }
     }
+
+    /// Whether the other is of the same type and has the same value.
+    pub fn is_equal(&self, other: &BareItem) -> bool
+        ensures { IsTrue result ↔ (self.now ≡ other.now) }
+    {
+        has_equal_value(self, other)
+    }
+}
+
+fn has_equal_value(bare: &BareItem, other: &BareItem) -> bool
+    ensures { result ≡ is_equal_bare bare.now other.now }
+{
+    match (bare, other) {
+        (BareItem::Integer(a), BareItem::Integer(b)) => a == b,
+        (BareItem::Decimal(a), BareItem::Decimal(b)) => a == b,
+        (BareItem::Str(a), BareItem::Str(b)) => a.bytes() == b.bytes(),
+        (BareItem::Token(a), BareItem::Token(b)) => a.bytes() == b.bytes(),
+        (BareItem::Bytes(a), BareItem::Bytes(b)) => a.bytes() == b.bytes(),
+        (BareItem::Bool(a), BareItem::Bool(b)) => a == b,
+        _ => false,
+    }
 }
 
 /// Parameters (RFC 9651 section 3.1.2).
 pub type Params = Pairs<BareItem>;
+
+impl Pair<BareItem> {
+    /// Whether the other has the same key and an equal value.
+    pub fn is_equal(&self, other: &Pair<BareItem>) -> bool
+        ensures { IsTrue result ↔ (self.now ≡ other.now) }
+    {
+        self.key.bytes() == other.key.bytes() && self.value.is_equal(&other.value)
+    }
+}
 
 fn copy_of_param(alloc: Global, param: &Pair<BareItem>) -> Result<Pair<BareItem>, Memory>
     ensures { IfOk result (λ copy. copy ≡ param.now) }
@@ -54,7 +87,8 @@ fn copy_of_param(alloc: Global, param: &Pair<BareItem>) -> Result<Pair<BareItem>
 impl Pairs<BareItem> {
     /// Equal parameters of their own.
     pub fn copy(&self, alloc: Global) -> Result<Params, Memory>
-        ensures { IfOk result (λ params. params ≡ self.now) }
+        ensures ok { IfOk result (λ params. params ≡ self.now) }
+        ensures needed { IfErr result (λ _. 1 ≤ length self.now) }
     {
         let params = self.as_slice();
         let mut copies = Vec::new(alloc);
@@ -75,7 +109,9 @@ pub struct Item {
 impl Item {
     /// An equal Item of its own.
     pub fn copy(&self, alloc: Global) -> Result<Item, Memory>
-        ensures { IfOk result (λ item. item ≡ self.now) }
+        ensures ok { IfOk result (λ item. item ≡ self.now) }
+        ensures needed { IfErr result (λ _. (1 ≤ length (own_bytes self.now.bare))
+            ⊎ (1 ≤ length self.now.params)) }
     {
         Ok(Item {
             bare: self.bare.copy(alloc)?,

@@ -1,0 +1,2 @@
+pub mod EqualityTests
+pub mod Found
