@@ -1,4 +1,3 @@
-pub mod EqualityLaws
 pub mod Groups
 pub mod Printable
 pub mod PutLaws

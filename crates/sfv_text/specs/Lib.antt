@@ -3,4 +3,3 @@ pub mod Laws
 pub mod Range
 pub mod Strict
 pub mod Values
-pub mod tools

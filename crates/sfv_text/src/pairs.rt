@@ -1,10 +1,9 @@
 //! Lists of pairs with distinct keys.
 
 ghost use Rattle.std.specs.Prelude.{◌≡◌, ◌<◌, ◌↔◌, true, false, [], Some, IfSome, IfNone, length, slice_get, option_copied, IsTrue, OnOk, OnErr};
-ghost use Rattle.std.specs.List.{find, list_any};
+ghost use Rattle.std.specs.List.{find, list_any, position};
 ghost use Rattle.std.specs.Slice.Iter.{iter_rest};
 ghost use Rattle.sfv_text.specs.Keys.{put, has_key, have_distinct_keys, value_of};
-ghost use Rattle.sfv_text.specs.tools.Found.{IsFound};
 
 use crate::memory::Memory;
 use crate::pair::Pair;
@@ -32,17 +31,11 @@ impl<V> Model for Pairs<V> {
     ghost invariant = { λ p. have_distinct_keys p.pairs.items ≡ true };
 }
 
-/// Where the first pair of the key stands.
+/// The index of the first pair of the key.
 fn index_of<V>(pairs: &[Pair<V>], key: &[u8]) -> Option<usize>
-    ensures some { IfSome result (λ index. IsFound pairs.now key.now index) }
-    ensures none { IfNone result (list_any (has_key key.now) pairs.now ≡ false) }
+    ensures { result ≡ position (has_key key.now) pairs.now }
 {
-    for (index, pair) in pairs.iter().enumerate() {
-        if pair.key.bytes() == key {
-            return Some(index);
-        }
-    }
-    None
+    pairs.iter().position(|pair| pair.key.bytes() == key)
 }
 
 /// The first pair of the key.
@@ -115,6 +108,7 @@ impl<V: Drop> Pairs<V> {
 
     /// Replaces the value of the key where it stands, or adds the pair at the end. Where no memory is
     /// found, the key and the value are dropped.
+    #[tactic(auto, using(crate::proofs::PutLaws::none_has, crate::proofs::PutLaws::put_new))]
     pub fn put(&mut self, key: Text, value: V) -> Result<(), Memory>
         ensures ok { OnOk result (self.new ≡ put self.old key value) }
         ensures err { OnErr result (self.new ≡ self.old) }

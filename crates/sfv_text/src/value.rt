@@ -2,7 +2,6 @@
 
 ghost use Rattle.std.specs.Prelude.{◌≡◌, ◌≤◌, ◌↔◌, ◌⊎◌, length, IsTrue, IfOk, IfErr};
 ghost use Rattle.sfv_text.specs.Values.{own_bytes};
-ghost use Rattle.sfv_text.specs.tools.EqualityTests.{is_equal_bare, is_equal_param};
 
 use crate::memory::Memory;
 use crate::pair::Pair;
@@ -45,21 +44,15 @@ impl BareItem {
     pub fn is_equal(&self, other: &BareItem) -> bool
         ensures { IsTrue result ↔ (self.now ≡ other.now) }
     {
-        has_equal_value(self, other)
-    }
-}
-
-fn has_equal_value(bare: &BareItem, other: &BareItem) -> bool
-    ensures { result ≡ is_equal_bare bare.now other.now }
-{
-    match (bare, other) {
-        (BareItem::Integer(a), BareItem::Integer(b)) => a == b,
-        (BareItem::Decimal(a), BareItem::Decimal(b)) => a == b,
-        (BareItem::Str(a), BareItem::Str(b)) => a.bytes() == b.bytes(),
-        (BareItem::Token(a), BareItem::Token(b)) => a.bytes() == b.bytes(),
-        (BareItem::Bytes(a), BareItem::Bytes(b)) => a.bytes() == b.bytes(),
-        (BareItem::Bool(a), BareItem::Bool(b)) => a == b,
-        _ => false,
+        match (self, other) {
+            (BareItem::Integer(a), BareItem::Integer(b)) => a == b,
+            (BareItem::Decimal(a), BareItem::Decimal(b)) => a == b,
+            (BareItem::Str(a), BareItem::Str(b)) => a.bytes() == b.bytes(),
+            (BareItem::Token(a), BareItem::Token(b)) => a.bytes() == b.bytes(),
+            (BareItem::Bytes(a), BareItem::Bytes(b)) => a.bytes() == b.bytes(),
+            (BareItem::Bool(a), BareItem::Bool(b)) => a == b,
+            _ => false,
+        }
     }
 }
 

@@ -1,2 +1,0 @@
-pub mod EqualityTests
-pub mod Found
