@@ -10,7 +10,8 @@ abbrev pub HasPrintableTexts : {V : Type 0} → (V → Bool) → (V → List ℕ
 HasPrintableTexts {V} is_in_range text_of =
     (value : V) → IsTrue (is_in_range value) → IsTrue (list_all is_string_byte (text_of value))
 
--- where keys are distinct, no other pair has the key of the first, nor stands a key twice in the others
+-- where keys are distinct, no other pair has the key of the first, and those of the others are
+-- distinct
 abbrev pub HasOwnKeyFirst : Type 0 → Type 0
 HasOwnKeyFirst V =
     (pair : Pair V) (pairs : List (Pair V)) → IsTrue (have_distinct_keys (pair ∷ pairs))

@@ -27,12 +27,14 @@ integer_text z = sign_text z ++ decimal (unsigned_abs z)
 -- three digits of thousandths, without zeros at the end after the first
 abbrev pub fraction_text : ℕ → List ℕ
 fraction_text n =
-    (byte "0" + n / 100) ∷ (if n % 100 == 0 then [] else (byte "0" + n / 10 % 10) ∷ (if n % 10 == 0 then [] else (byte "0" + n % 10) ∷ []))
+    (byte "0" + n / 100) ∷ (if n % 100 == 0 then [] else (byte "0" + n / 10 % 10)
+    ∷ (if n % 10 == 0 then [] else (byte "0" + n % 10) ∷ []))
 
 -- a Decimal by its thousandths (section 4.1.5)
 abbrev pub decimal_text : ℤ → List ℕ
 decimal_text z =
-    sign_text z ++ (decimal (unsigned_abs z / 1000) ++ byte "." ∷ fraction_text (unsigned_abs z % 1000))
+    sign_text z
+    ++ (decimal (unsigned_abs z / 1000) ++ byte "." ∷ fraction_text (unsigned_abs z % 1000))
 
 -- `"` and `\` stand after a `\`
 abbrev pub character_text : ℕ → List ℕ
@@ -80,7 +82,8 @@ item_text item = bare_text item.bare ++ params_text item.params
 
 -- (section 4.1.1.1)
 abbrev pub inner_text : InnerList → List ℕ
-inner_text inner = byte "(" ∷ (join_by item_text (codes " ") inner.items ++ byte ")" ∷ params_text inner.params)
+inner_text inner =
+    byte "(" ∷ (join_by item_text (codes " ") inner.items ++ byte ")" ∷ params_text inner.params)
 
 abbrev pub member_text : Member → List ℕ
 member_text (ItemMember item) = item_text item

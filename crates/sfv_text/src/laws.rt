@@ -13,7 +13,8 @@ pub fn strict_texts_are_printable()
     ensures dict { HasPrintableTexts is_dict_in_range dict_text }
 {}
 
-/// A key is put in place of an equal one, so that keys stay distinct (RFC 9651 section 4.2.3.2).
+/// A value takes the place of the one with the same key, so that keys stay distinct (RFC 9651
+/// sections 3.1.2 and 3.2).
 pub fn keys_stay_distinct<V>()
     ensures first { HasOwnKeyFirst V }
     ensures distinct { PutsDistinctly V }

@@ -1,5 +1,12 @@
-//! Texts of bytes, what takes in a text piece by piece, and the values of structured fields (RFC 9651)
-//! with their texts.
+//! Texts of bytes, what takes in a text piece by piece, and the values of structured fields
+//! (RFC 9651) with their texts.
+//!
+//! ```text
+//! let mut params = Params::new(alloc);
+//! params.put(Text::from_bytes(alloc, b"a")?, BareItem::Integer(1))?;
+//! let bare = BareItem::Token(Text::from_bytes(alloc, b"abc")?);
+//! print_item(alloc, &Item { bare, params })?.bytes() // abc;a=1
+//! ```
 #![tactic(auto)]
 
 mod absorb;

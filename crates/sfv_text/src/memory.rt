@@ -4,7 +4,7 @@ use std::alloc::{AllocError, AllocFailed};
 use std::error::Error;
 use std::fmt;
 
-/// No memory was found. Nothing is promised of when this comes.
+/// Out of memory. Where memory is asked for, nothing is promised of when this comes.
 #[derive(Clone, Copy, Debug, PartialEq, Eq)]
 pub struct Memory;
 

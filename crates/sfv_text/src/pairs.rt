@@ -20,7 +20,7 @@ pub struct Pairs<V> {
 }
 
 impl<V> Model for Pairs<V> {
-    ghost use Rattle.std.specs.Prelude.{◌≡◌, List, true};
+    ghost use Rattle.std.specs.Prelude.{IsTrue, List};
     ghost use Rattle.sfv_text.specs.declared.pair.Pair.{Pair};
     ghost use Rattle.sfv_text.specs.Keys.{have_distinct_keys};
 
@@ -28,7 +28,7 @@ impl<V> Model for Pairs<V> {
 
     ghost view = { λ p. p.pairs.items };
 
-    ghost invariant = { λ p. have_distinct_keys p.pairs.items ≡ true };
+    ghost invariant = { λ p. IsTrue (have_distinct_keys p.pairs.items) };
 }
 
 /// The index of the first pair of the key.
@@ -56,7 +56,7 @@ impl<V: Drop> Pairs<V> {
     }
 
     pub(crate) fn from_vec(pairs: Vec<Pair<V>>) -> Self
-        requires { have_distinct_keys pairs.items ≡ true }
+        requires { IsTrue (have_distinct_keys pairs.items) }
         ensures { result ≡ pairs.items }
     {
         Pairs { pairs }
@@ -101,13 +101,13 @@ impl<V: Drop> Pairs<V> {
     /// The pairs, in order.
     pub fn as_slice(&self) -> &[Pair<V>]
         ensures is { result.now ≡ self.now }
-        ensures distinct { have_distinct_keys self.now ≡ true }
+        ensures distinct { IsTrue (have_distinct_keys self.now) }
     {
         self.pairs.as_slice()
     }
 
-    /// Replaces the value of the key where it stands, or adds the pair at the end. Where no memory is
-    /// found, the key and the value are dropped.
+    /// Replaces the value of the key where it stands, or adds the pair at the end. Out of memory,
+    /// the key and the value are dropped.
     #[tactic(auto, using(crate::proofs::PutLaws::none_has, crate::proofs::PutLaws::put_new))]
     pub fn put(&mut self, key: Text, value: V) -> Result<(), Memory>
         ensures ok { OnOk result (self.new ≡ put self.old key value) }

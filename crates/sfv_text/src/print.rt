@@ -67,7 +67,7 @@ pub fn print_dict(alloc: Global, value: &Dict) -> Result<Text, Memory>
 }
 
 /// A value that has a text.
-trait Write {
+pub(crate) trait Write {
     ghost use Rattle.std.specs.Prelude.{ℕ, List};
 
     // The strict text of the value.
@@ -79,7 +79,7 @@ trait Write {
 }
 
 /// Adds the texts at the end, with the separator between each two.
-fn write_joined<T: Write>(
+pub(crate) fn write_joined<T: Write>(
     values: &[T],
     separator: &[u8],
     text: &mut Text,

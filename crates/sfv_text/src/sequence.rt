@@ -68,12 +68,12 @@ impl<T: Drop> Sequence<T> {
         self.elements.as_slice()
     }
 
-    /// Adds the item at the end. Where no memory is found, the item is dropped.
-    pub fn push(&mut self, item: T) -> Result<(), Memory>
-        ensures ok { OnOk result (self.new ≡ self.old ++ item ∷ []) }
+    /// Adds the element at the end. Out of memory, it is dropped.
+    pub fn push(&mut self, element: T) -> Result<(), Memory>
+        ensures ok { OnOk result (self.new ≡ self.old ++ element ∷ []) }
         ensures err { OnErr result (self.new ≡ self.old) }
     {
-        self.elements.push(item)?;
+        self.elements.push(element)?;
         Ok(())
     }
 }

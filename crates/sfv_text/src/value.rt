@@ -11,16 +11,24 @@ use crate::text::Text;
 use std::alloc::Global;
 
 /// A bare item (RFC 9651 section 3.3).
+///
+/// The ranges below are those of a structured field: only what is in range has a text.
 #[derive(Debug, Drop)]
 pub enum BareItem {
+    /// An Integer, from -999,999,999,999,999 to 999,999,999,999,999 (section 3.3.1).
     Integer(i64),
-    /// In thousandths.
+    /// A Decimal in thousandths: at most twelve digits before the point and three after it, so
+    /// from -999,999,999,999,999 to 999,999,999,999,999 thousandths (section 3.3.2).
     Decimal(i64),
-    /// The characters, without quotes and escapes.
+    /// The characters of a String, without quotes and escapes: printable ASCII, 0x20 to 0x7E
+    /// (section 3.3.3).
     Str(Text),
+    /// A Token: a letter or `*`, and after it letters, digits and ``!#$%&'*+-.^_`|~:/``
+    /// (section 3.3.4).
     Token(Text),
-    /// The bytes that a Byte Sequence spells in base64.
+    /// The bytes that a Byte Sequence spells in base64, whatever they are (section 3.3.5).
     Bytes(Text),
+    /// A Boolean (section 3.3.6).
     Bool(bool),
 }
 
@@ -92,7 +100,7 @@ impl Pairs<BareItem> {
     }
 }
 
-/// A bare item with its parameters (RFC 9651 section 3.3).
+/// An Item: a bare item with its parameters (RFC 9651 section 3.3).
 #[derive(Debug, Drop)]
 pub struct Item {
     pub bare: BareItem,
@@ -116,22 +124,22 @@ impl Item {
 /// The Items of an Inner List.
 pub type Items = Sequence<Item>;
 
-/// Items with parameters of their own (RFC 9651 section 3.1.1).
+/// An Inner List: Items, and parameters of the list itself (RFC 9651 section 3.1.1).
 #[derive(Debug, Drop)]
 pub struct InnerList {
     pub items: Items,
     pub params: Params,
 }
 
-/// A member of a List or a Dictionary.
+/// A member of a List, or the value of a Dictionary's member (RFC 9651 sections 3.1 and 3.2).
 #[derive(Debug, Drop)]
 pub enum Member {
     Item(Item),
     InnerList(InnerList),
 }
 
-/// A List (RFC 9651 section 3.1).
+/// A List: its members, in order (RFC 9651 section 3.1).
 pub type List = Sequence<Member>;
 
-/// A Dictionary (RFC 9651 section 3.2).
+/// A Dictionary: its members with their keys, in order (RFC 9651 section 3.2).
 pub type Dict = Pairs<Member>;
