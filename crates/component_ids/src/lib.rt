@@ -11,7 +11,7 @@ mod table;
 
 pub use fault::{BadReason, IdFault};
 pub use id::{ComponentId, Ids};
-pub use params::{MOST_COMPONENTS, SigParams, read_params};
+pub use params::{MAX_COMPONENTS, SigParams, read_params};
 pub use print::{print_id, print_params};
 pub use same::same_id;
 pub use table::is_field_name;
