@@ -1,5 +1,5 @@
--- Laws of strict texts, and of pairs with distinct keys.
-use Rattle.std.specs.Prelude.{◌≡◌, ℕ, Bool, false, List, [], ◌∷◌, ◌++◌, IsTrue}
+-- Laws of strict texts, of equality, and of pairs with distinct keys.
+use Rattle.std.specs.Prelude.{◌≡◌, ◌↔◌, ℕ, Bool, false, List, [], ◌∷◌, ◌++◌, IsTrue}
 use Rattle.std.specs.List.{list_all, list_any}
 use Rattle.sfv_text.specs.declared.pair.Pair.{Pair}
 use Rattle.sfv_text.specs.Keys.{has_key, have_distinct_keys, put}
@@ -9,6 +9,10 @@ use Rattle.sfv_text.specs.Range.{is_string_byte}
 abbrev pub HasPrintableTexts : {V : Type 0} → (V → Bool) → (V → List ℕ) → Type 0
 HasPrintableTexts {V} is_in_range text_of =
     (value : V) → IsTrue (is_in_range value) → IsTrue (list_all is_string_byte (text_of value))
+
+-- the test passes exactly on equal values
+abbrev pub IsEquality : {V : Type 0} → (V → V → Bool) → Type 0
+IsEquality {V} test = (a b : V) → IsTrue (test a b) ↔ (a ≡ b)
 
 -- where keys are distinct, no other pair has the key of the first, and those of the others are
 -- distinct

@@ -21,7 +21,7 @@ mod text;
 mod value;
 
 pub use absorb::Absorb;
-pub use laws::{keys_stay_distinct, strict_texts_are_printable};
+pub use laws::{equality_is_tested, keys_stay_distinct, strict_texts_are_printable};
 pub use memory::Memory;
 pub use pair::Pair;
 pub use pairs::Pairs;

@@ -1,6 +1,7 @@
 //! The values of structured fields (RFC 9651 section 3).
 
 ghost use Rattle.std.specs.Prelude.{◌≡◌, ◌≤◌, ◌↔◌, ◌⊎◌, length, IsTrue, IfOk, IfErr};
+ghost use Rattle.sfv_text.specs.Equality.{is_equal_bare, is_equal_param};
 ghost use Rattle.sfv_text.specs.Values.{own_bytes};
 
 use crate::memory::Memory;
@@ -50,7 +51,8 @@ impl BareItem {
 
     /// Whether the other is of the same type and has the same value.
     pub fn is_equal(&self, other: &BareItem) -> bool
-        ensures { IsTrue result ↔ (self.now ≡ other.now) }
+        ensures is { result ≡ is_equal_bare self.now other.now }
+        ensures exact { IsTrue result ↔ (self.now ≡ other.now) }
     {
         match (self, other) {
             (BareItem::Integer(a), BareItem::Integer(b)) => a == b,
@@ -70,7 +72,8 @@ pub type Params = Pairs<BareItem>;
 impl Pair<BareItem> {
     /// Whether the other has the same key and an equal value.
     pub fn is_equal(&self, other: &Pair<BareItem>) -> bool
-        ensures { IsTrue result ↔ (self.now ≡ other.now) }
+        ensures is { result ≡ is_equal_param self.now other.now }
+        ensures exact { IsTrue result ↔ (self.now ≡ other.now) }
     {
         self.key.bytes() == other.key.bytes() && self.value.is_equal(&other.value)
     }
