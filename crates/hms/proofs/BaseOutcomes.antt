@@ -38,7 +38,8 @@ use Rattle.hms_io.specs.Reading.{LosesPrefix}
 use Rattle.hms_io.specs.declared.read_write.FillError.{FillError}
 use Rattle.hms_io.specs.declared.read_write.FillError.TheVariants.{Memory as NoFillMemory, Failed, TooLong as Longer}
 use Rattle.std.proofs.lemmas.List.{length-replicate}
-use Rattle.hms.proofs.LowerLaws.{one_list, one_fault, no_fault, one_params}
+use Rattle.component_ids.proofs.FaultLaws.{one_fault}
+use Rattle.hms.proofs.LowerLaws.{one_list, no_fault, one_params}
 
 -- ---- what is there is there once
 
@@ -52,7 +53,7 @@ one_message : (input : List ℕ) (a b : Head) → IsMessage a input → IsMessag
 one_message input a b one other = one_head_of_text_law input a b one.alone other.alone
 
 one_sig : (params : List ℕ) (a b : SigParams) → ReadsParams params a → ReadsParams params b → a ≡ b
-one_sig params a b one other = one_params a b (one_list params (list_of a) (list_of b) one.reads other.reads)
+one_sig params a b one other = one_params a b one.is other.is (one_list params (list_of a) (list_of b) one.reads other.reads)
 
 one_lack : (params input id other : List ℕ) → LacksField params input id → LacksField params input other → id ≡ other
 one_lack params input id other a b =

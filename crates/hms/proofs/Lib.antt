@@ -6,3 +6,4 @@ pub mod LowerLaws
 pub mod NameTests
 pub mod Plain
 pub mod Reports
+pub mod Stops

@@ -26,7 +26,7 @@ pub fn read_signature_params(alloc: Global, params: &[u8]) -> Result<SigParams, 
 fn is_plain(id: &ComponentId) -> bool
     ensures { result ≡ is_plain id.now }
 {
-    is_field_name(id.name.bytes()) && id.params.len() == 0
+    is_field_name(id.name.bytes()) && id.params.is_empty()
 }
 
 /// Whether each identifier is the name of a field, without parameters.

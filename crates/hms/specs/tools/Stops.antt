@@ -4,8 +4,8 @@ use Rattle.byte_grammar.specs.FaultOffset.{IsFaultOffset}
 use Rattle.sfv_text.specs.declared.text.Text.{Text}
 use Rattle.sfv_read.specs.Reads.{ReadsInner}
 use Rattle.sfv_read.specs.Fault.{BeginsItemKind}
-use Rattle.sfv_read.specs.declared.fault.SfError.{SfError}
-use Rattle.sfv_read.specs.declared.fault.SfError.TheVariants.{Memory as NoErrorMemory, Syntax as BadSyntax, ItemKind as OtherKind}
+use Rattle.sfv_read.specs.declared.error.SfError.{SfError}
+use Rattle.sfv_read.specs.declared.error.SfError.TheVariants.{Memory as NoErrorMemory, Syntax as BadSyntax, ItemKind as OtherKind}
 use Rattle.component_ids.specs.declared.fault.IdFault.{IdFault}
 use Rattle.component_ids.specs.declared.fault.IdFault.TheVariants.{Memory as NoFaultMemory, TooMany, BadComponent, Repeated, BadParameter}
 use Rattle.hms_io.specs.Cause.{Rose}
