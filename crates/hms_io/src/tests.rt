@@ -282,50 +282,33 @@ impl<'a> Write for TurnWriter<'a> {
 #[derive(Clone, Copy)]
 struct WriteCase {
     turn: Turn,
-    piece: &'static [u8],
-    // The answers of two calls, and how many flushes they make.
-    first: Result<usize, Failed>,
-    second: Result<usize, Failed>,
+    // The answer of each of two calls, and how many flushes they make in all.
+    wanted: Result<usize, Failed>,
     flushes: u8,
 }
 
 #[test]
-fn a_sink_over_a_writer_gives_its_bytes_and_its_faults(rt: HostRuntime) -> Result<(), Fail> {
+fn a_sink_over_a_writer_flushes_each_write_and_counts_what_is_refused(rt: HostRuntime) {
     let cases = [
         WriteCase {
             turn: Turn::Moves(2),
-            piece: b"abc",
-            first: Ok(2),
-            second: Ok(2),
+            wanted: Ok(2),
             flushes: 2,
         },
         WriteCase {
             turn: Turn::Moves(0),
-            piece: b"",
-            first: Ok(0),
-            second: Ok(0),
-            flushes: 2,
-        },
-        WriteCase {
-            turn: Turn::Moves(0),
-            piece: b"abc",
-            first: Err(Failed),
-            second: Err(Failed),
+            wanted: Err(Failed),
             flushes: 0,
         },
         WriteCase {
             turn: Turn::Fails(ErrorKind::Interrupted),
-            piece: b"abc",
-            first: Err(Failed),
-            second: Err(Failed),
+            wanted: Err(Failed),
             flushes: 0,
         },
         // After bytes whose flush failed nothing is written.
         WriteCase {
             turn: Turn::FailsToFlush(ErrorKind::Interrupted),
-            piece: b"abc",
-            first: Err(Failed),
-            second: Err(Failed),
+            wanted: Err(Failed),
             flushes: 1,
         },
     ];
@@ -335,16 +318,20 @@ fn a_sink_over_a_writer_gives_its_bytes_and_its_faults(rt: HostRuntime) -> Resul
             turn: case.turn,
             flushes: &mut flushes,
         });
-        assert_eq!(rt; sink.write(case.piece), case.first);
-        assert_eq!(rt; sink.write(case.piece), case.second);
+        assert_eq!(rt; sink.write(b"abc"), case.wanted);
+        assert_eq!(rt; sink.write(b"abc"), case.wanted);
         assert_eq!(rt; flushes, case.flushes);
     }
+}
+
+#[test]
+fn a_sink_over_a_writer_takes_what_has_room(rt: HostRuntime) {
     let mut room = [0u8; 15];
     let mut sink = StdSink::new(room.as_mut_slice());
     assert_eq!(rt; put_all(&mut sink, TEXT), Ok(()));
+    assert_eq!(rt; sink.write(b""), Ok(0));
     assert_eq!(rt; put_all(&mut sink, b"more"), Err(Failed));
     assert_eq!(rt; room.as_slice(), TEXT);
-    Ok(())
 }
 
 #[derive(Clone, Copy)]
