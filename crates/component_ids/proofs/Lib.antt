@@ -1,5 +1,6 @@
-pub mod AnswerLaws
 pub mod Indices
-pub mod ReasonLaws
-pub mod RepeatedLaws
 pub mod SameLaws
+pub mod RepeatedLaws
+pub mod FaultLaws
+pub mod AnswerLaws
+pub mod Judged

@@ -9,8 +9,8 @@ use Rattle.std.proofs.lemmas.List.Quantifiers.{all_pairs_push}
 use Rattle.std.proofs.lemmas.Option.{slice_get-get_or, slice_get_within, get_or_from_slice_get}
 use Rattle.std.proofs.Math.ListN.{length-take}
 use Rattle.component_ids.specs.declared.id.ComponentId.{ComponentId}
-use Rattle.component_ids.specs.Identifiers.{Same, AreDistinct}
-use Rattle.component_ids.specs.Answers.{IsFirstRepeated}
+use Rattle.component_ids.specs.Identifiers.{IsSameId, AreDistinct}
+use Rattle.component_ids.specs.Causes.{IsFirstRepeated}
 use Rattle.component_ids.specs.tools.SameTests.{is_same}
 use Rattle.component_ids.proofs.Indices.{some_and, some_and_parts, slice_get_take}
 use Rattle.component_ids.proofs.SameLaws.{same_decides}
@@ -19,9 +19,9 @@ use Rattle.component_ids.proofs.SameLaws.{same_decides}
 pub distinct_more : (ids : List ComponentId) (i : ℕ) (id : ComponentId) → i < length ids → id ≡ get_or ids i id
     → list_any (λ other. is_same other id) (take i ids) ≡ false → AreDistinct (take i ids) → AreDistinct (take (i + 1) ids)
 distinct_more ids i id lt is none distinct =
-    let apart = λ (k : ℕ) (d : ComponentId) (k_lt : k < length (take i ids)) (s : Same (get_or (take i ids) k d) id).
+    let apart = λ (k : ℕ) (d : ComponentId) (k_lt : k < length (take i ids)) (s : IsSameId (get_or (take i ids) k d) id).
     false≢true (sym none ∙ list_any_at (λ (other : ComponentId). is_same other id) (take i ids) k d k_lt ((same_decides (get_or (take i ids) k d) id).1 s)) in
-    let more : AreDistinct (take i ids ++ id ∷ []) = all_pairs_push (λ (a b : ComponentId). Same a b → ⊥) (take i ids) id distinct apart in
+    let more : AreDistinct (take i ids ++ id ∷ []) = all_pairs_push (λ (a b : ComponentId). IsSameId a b → ⊥) (take i ids) id distinct apart in
     subst (λ (t : List ComponentId). AreDistinct t) (sym ((take_at_read ids i id lt).1 ∙ ap (λ (x : ComponentId). take i ids ++ x ∷ []) (sym is))) more
 
 -- an identifier that is there
@@ -32,14 +32,14 @@ first_repeated_is ids i id lt is any distinct =
     let there : slice_get ids i ≡ Some id = slice_get-get_or ids i id lt ∙ ap Some (sym is) in
     record {
       before = distinct;
-      there = some_and (λ (id : ComponentId). Any (λ (earlier : ComponentId). Same earlier id) (take i ids)) (slice_get ids i) id there
+      there = some_and (λ (id : ComponentId). Any (λ (earlier : ComponentId). IsSameId earlier id) (take i ids)) (slice_get ids i) id there
           (at.0, at.1, at.2, at.3, (same_decides at.1 id).0 at.4);
     }
 
 -- no identifier is repeated where all are distinct
 pub not_repeated : (ids : List ComponentId) (i : ℕ) → AreDistinct ids → IsFirstRepeated ids i → ⊥
 not_repeated ids i distinct first =
-    let here = some_and_parts (λ (id : ComponentId). Any (λ (earlier : ComponentId). Same earlier id) (take i ids)) (slice_get ids i) first.there in
+    let here = some_and_parts (λ (id : ComponentId). Any (λ (earlier : ComponentId). IsSameId earlier id) (take i ids)) (slice_get ids i) first.there in
     let id = here.0 in
     let lt : i < length ids = slice_get_within ids i id here.1 in
     let is : get_or ids i id ≡ id = get_or_from_slice_get ids i id id here.1 in
@@ -47,7 +47,7 @@ not_repeated ids i distinct first =
     let k_lt : at.0 < i = omega (arith, length-take {A = ComponentId}, at.2) in
     let earlier_is : get_or ids at.0 id ≡ at.1 =
     get_or_default ids at.0 id at.1 (omega arith) ∙ (sym (get_or-take i ids at.0 at.1 k_lt) ∙ at.3) in
-    let same : Same (get_or ids at.0 id) (get_or ids i id) = rw (earlier_is, is) at.4 in
+    let same : IsSameId (get_or ids at.0 id) (get_or ids i id) = rw (earlier_is, is) at.4 in
     distinct at.0 i id k_lt lt same
 
 -- the first of a list is the first of its prefix

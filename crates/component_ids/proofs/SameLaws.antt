@@ -12,7 +12,7 @@ use Rattle.sfv_text.specs.declared.pair.Pair.{Pair}
 use Rattle.sfv_text.specs.declared.value.BareItem.{BareItem}
 use Rattle.sfv_text.specs.declared.value.BareItem.TheVariants.{Integer, Decimal, Str, Token, Bytes, Bool as Boolean}
 use Rattle.component_ids.specs.declared.id.ComponentId.{ComponentId}
-use Rattle.component_ids.specs.Identifiers.{Same}
+use Rattle.component_ids.specs.Identifiers.{IsSameId}
 use Rattle.component_ids.specs.tools.SameTests.{is_same_value, is_same_param, is_among, are_among, is_same}
 
 value_same : (a b : BareItem) → Decides (is_same_value a b) (a ≡ b)
@@ -55,18 +55,18 @@ all_found : (others params : List (Pair BareItem)) → are_among others params �
 all_found others params h param at =
     found others param (rw at.2 at (AllPass-from_list_all (is_among others) params h at.0 param at.1))
 
-pub same_decides : (a b : ComponentId) → Decides (is_same a b) (Same a b)
+pub same_decides : (a b : ComponentId) → Decides (is_same a b) (IsSameId a b)
 same_decides a b =
     let names = bytes_eq-Decides a.name b.name in
     let there = λ (h : is_same a b ≡ true).
     let parts = and_parts (bytes_eq a.name b.name) (are_among b.params a.params && are_among a.params b.params) h in
     let both = and_parts (are_among b.params a.params) (are_among a.params b.params) parts.1 in
-    let same : Same a b = record {
+    let same : IsSameId a b = record {
       names = names.0 parts.0;
       params = λ param. (all_found b.params a.params both.0 param, all_found a.params b.params both.1 param);
     } in
     same in
-    let back = λ (s : Same a b).
+    let back = λ (s : IsSameId a b).
     let first : are_among b.params a.params ≡ true = all_among b.params a.params (λ param. (s.params param).0) in
     let second : are_among a.params b.params ≡ true = all_among a.params b.params (λ param. (s.params param).1) in
     let n : bytes_eq a.name b.name ≡ true = names.1 s.names in

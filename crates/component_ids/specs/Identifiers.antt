@@ -1,5 +1,5 @@
 -- Component identifiers (RFC 9421 section 2).
-use Rattle.std.specs.Prelude.{◌≡◌, ◌↔◌, ℕ, Bool, false, List, [], AllPairs, Contains}
+use Rattle.std.specs.Prelude.{◌≡◌, ◌↔◌, ℕ, Bool, is_none, List, [], AllPairs, Contains}
 use Rattle.sfv_text.specs.Range.{is_item_in_range}
 use Rattle.sfv_text.specs.Strict.{item_text}
 use Rattle.sfv_text.specs.declared.pair.Pair.{Pair}
@@ -7,37 +7,35 @@ use Rattle.sfv_text.specs.declared.value.BareItem.{BareItem}
 use Rattle.sfv_text.specs.declared.value.BareItem.TheVariants.{Str}
 use Rattle.sfv_text.specs.declared.value.Item.{Item}
 use Rattle.component_ids.specs.declared.id.ComponentId.{ComponentId}
-use Rattle.component_ids.specs.Table.{is_allowed}
+use Rattle.component_ids.specs.Reasons.{reason_of}
 
 -- the item that stands for an identifier
 abbrev pub item_of : ComponentId → Item
 item_of id = record { bare = Str id.name; params = id.params }
 
--- a String that the table allows with its parameters
-abbrev pub is_allowed_bare : BareItem → List (Pair BareItem) → Bool
-is_allowed_bare (Str name) params = is_allowed name params
-is_allowed_bare bare params = false
-
+-- there is no reason against the item
 abbrev pub is_identifier : Item → Bool
-is_identifier item = is_allowed_bare item.bare item.params
+is_identifier item = is_none (reason_of item)
 
--- the characters of a String
+-- the characters of a String; of another bare item none
 abbrev pub string_of : BareItem → List ℕ
 string_of (Str text) = text
 string_of bare = []
 
--- the identifier that an item stands for, where it is one
+-- the identifier that an item stands for, where it is one: of an item that is no String the name
+-- is empty, and no definition takes it for an identifier
 abbrev pub id_of : Item → ComponentId
 id_of item = record { name = string_of item.bare; params = item.params }
 
--- the names agree, and the same parameters with the same values are there, in whatever order (section 2)
-pub record Same (a b : ComponentId) : Type 0 where
+-- the names agree, and the same parameters with the same values are there, in whatever order
+-- (section 2)
+pub record IsSameId (a b : ComponentId) : Type 0 where
   pub names : a.name ≡ b.name
   pub params : (param : Pair BareItem) → Contains a.params param ↔ Contains b.params param
 
 -- no two identifiers are the same
 abbrev pub AreDistinct : List ComponentId → Type 0
-AreDistinct ids = AllPairs (λ a b. ¬ Same a b) ids
+AreDistinct ids = AllPairs (λ a b. ¬ IsSameId a b) ids
 
 -- the strict text of an identifier is that of its item (section 2.5)
 abbrev pub id_text : ComponentId → List ℕ

@@ -1,6 +1,9 @@
-pub mod Answers
-pub mod Identifiers
-pub mod Reasons
-pub mod SignatureParams
 pub mod Table
+pub mod Reasons
+pub mod Identifiers
+pub mod SignatureParams
+pub mod Causes
+pub mod Laws
 pub mod tools
+pub use Rattle.sfv_text.specs.Range
+pub use Rattle.sfv_text.specs.Strict

@@ -3,7 +3,7 @@ use Rattle.std.specs.Prelude.{ℕ, Bool, true, false, ◌&&◌, ◌||◌, not, O
 use Rattle.std.specs.Char.{is_ascii_uppercase}
 use Rattle.std.specs.List.{list_all, list_any}
 use Rattle.std.specs.Str.{bytes_eq}
-use Rattle.sfv_text.specs.Keys.{has_key}
+use Rattle.sfv_text.specs.Keys.{value_of}
 use Rattle.byte_classes.specs.Classes.{is_tchar}
 use Rattle.sfv_text.specs.declared.pair.Pair.{Pair}
 use Rattle.sfv_text.specs.declared.value.BareItem.{BareItem}
@@ -40,14 +40,15 @@ is_field_name name = nat_lt 0 (length name) && list_all is_name_byte name
 -- the derived components of a request without a parameter of their own (section 2.2)
 abbrev pub request_names : List (List ℕ)
 request_names =
-    codes "@method" ∷ codes "@target-uri" ∷ codes "@authority" ∷ codes "@scheme" ∷ codes "@request-target"
-    ∷ codes "@path" ∷ codes "@query" ∷ []
+    codes "@method" ∷ codes "@target-uri" ∷ codes "@authority" ∷ codes "@scheme"
+    ∷ codes "@request-target" ∷ codes "@path" ∷ codes "@query" ∷ []
 
 -- The table: the keys of the parameters that go with a name, or None where no component has the name
 -- (sections 2.1, 2.2 and 2.4; `@signature-params` is no covered component, section 2.3).
 abbrev pub keys_of : List ℕ → Option (List (List ℕ))
 keys_of name =
-    if is_field_name name then Some (codes "sf" ∷ codes "key" ∷ codes "bs" ∷ codes "tr" ∷ codes "req" ∷ [])
+    if is_field_name name then
+    Some (codes "sf" ∷ codes "key" ∷ codes "bs" ∷ codes "tr" ∷ codes "req" ∷ [])
     else if is_listed request_names name then Some (codes "req" ∷ [])
     else if bytes_eq name (codes "@query-param") then Some (codes "name" ∷ codes "req" ∷ [])
     else if bytes_eq name (codes "@status") then Some []
@@ -66,21 +67,18 @@ goes_with name key = is_listed (unwrap_or (keys_of name) []) key
 -- `key` and `name` are Strings, `sf`, `bs`, `tr` and `req` are Boolean true (sections 2.1, 2.2.8 and 2.4)
 abbrev pub has_value_type : Pair BareItem → Bool
 has_value_type param =
-    if is_listed (codes "key" ∷ codes "name" ∷ []) param.key then is_string param.value else is_true param.value
+    if is_listed (codes "key" ∷ codes "name" ∷ []) param.key then is_string param.value
+    else is_true param.value
 
 abbrev pub has_param : List (Pair BareItem) → List ℕ → Bool
-has_param params key = list_any (has_key key) params
+has_param params key = is_some (value_of params key)
 
--- `bs` goes with neither `sf` nor `key` (section 2.1.3)
+-- `bs` goes with neither `sf` nor `key` (section 2.1)
 abbrev pub have_clash : List (Pair BareItem) → Bool
-have_clash params = has_param params (codes "bs") && (has_param params (codes "sf") || has_param params (codes "key"))
+have_clash params =
+    has_param params (codes "bs") && (has_param params (codes "sf") || has_param params (codes "key"))
 
 -- `@query-param` has its `name` (section 2.2.8)
 abbrev pub has_needed : List ℕ → List (Pair BareItem) → Bool
-has_needed name params = not (bytes_eq name (codes "@query-param")) || has_param params (codes "name")
-
--- a component may have the name with these parameters
-abbrev pub is_allowed : List ℕ → List (Pair BareItem) → Bool
-is_allowed name params =
-    is_name name && (list_all (λ p. goes_with name p.key) params && (list_all has_value_type params
-    && (not (have_clash params) && has_needed name params)))
+has_needed name params =
+    not (bytes_eq name (codes "@query-param")) || has_param params (codes "name")

@@ -3,6 +3,7 @@
 
 mod fault;
 mod id;
+mod laws;
 mod params;
 mod print;
 mod read_ids;
@@ -11,7 +12,8 @@ mod table;
 
 pub use fault::{BadReason, IdFault};
 pub use id::{ComponentId, Ids};
-pub use params::{MOST_COMPONENTS, SigParams, read_params};
+pub use laws::a_list_has_one_answer;
+pub use params::{MAX_COMPONENTS, SigParams, read_params};
 pub use print::{print_id, print_params};
 pub use same::same_id;
 pub use table::is_field_name;

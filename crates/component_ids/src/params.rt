@@ -1,13 +1,12 @@
 //! Signature parameters.
 
-ghost use Rattle.std.specs.Prelude.{◌≡◌, ◌≤◌, ◌<◌, ◌⊎◌, ℕ, List, true, length, map, IsTrue, IfOk, IfSome, IfNone, MatchResult};
+ghost use Rattle.std.specs.Prelude.{◌≡◌, IsTrue, IfOk, IfSome, IfNone, MatchResult};
 ghost use Rattle.std.specs.List.{list_all};
 ghost use Rattle.sfv_text.specs.Range.{is_inner_in_range};
 ghost use Rattle.sfv_text.specs.Strict.{inner_text};
-ghost use Rattle.component_ids.specs.declared.fault.BadReason.{BadReason};
+ghost use Rattle.component_ids.specs.declared.fault.IdFault.{IdFault};
 ghost use Rattle.component_ids.specs.declared.params.SigParams.{SigParams};
-ghost use Rattle.component_ids.specs.Answers.{AnswersWhere, AreIdentifiers, IsFirstBad, IsFirstRepeated, IsFirstIllTyped};
-ghost use Rattle.component_ids.specs.Identifiers.{id_of, AreDistinct};
+ghost use Rattle.component_ids.specs.Causes.{AnswersWhere, IsFault, IsFirstIllTyped};
 ghost use Rattle.component_ids.specs.tools.Reads.{Explains};
 ghost use Rattle.component_ids.specs.SignatureParams.{string_keys, is_typed, list_of, sig_params_text, are_sig_params_in_range, IsSigParams};
 ghost use Rattle.component_ids.specs.Table.{is_listed};
@@ -19,7 +18,7 @@ use sfv_text::{BareItem, InnerList, Memory, Pair, Params, Text};
 use std::alloc::Global;
 
 /// The most covered components.
-pub const MOST_COMPONENTS: usize = 64;
+pub const MAX_COMPONENTS: usize = 64;
 
 /// Signature parameters (RFC 9421 section 2.3): the covered components, and the parameters of the signature.
 #[derive(Debug, Drop)]
@@ -54,10 +53,7 @@ impl SigParams {
 fn is_string_key(key: &[u8]) -> bool
     ensures { result ≡ is_listed string_keys key.now }
 {
-    key == b"nonce".as_slice()
-        || key == b"alg".as_slice()
-        || key == b"keyid".as_slice()
-        || key == b"tag".as_slice()
+    matches!(key, b"nonce" | b"alg" | b"keyid" | b"tag")
 }
 
 fn is_typed(param: &Pair<BareItem>) -> bool
@@ -76,7 +72,7 @@ fn is_typed(param: &Pair<BareItem>) -> bool
 /// The key of the first parameter of a wrong type.
 fn first_ill_typed(params: &[Pair<BareItem>]) -> Option<&Text>
     ensures some { IfSome result (λ key. IsFirstIllTyped params.now key.now) }
-    ensures none { IfNone result (list_all is_typed params.now ≡ true) }
+    ensures none { IfNone result (IsTrue (list_all is_typed params.now)) }
 {
     for param in params {
         if !is_typed(param) {
@@ -109,15 +105,9 @@ pub fn read_params(alloc: Global, list: &InnerList) -> Result<SigParams, IdFault
     ensures only { (params : SigParams) → IsSigParams params → list_of params ≡ list.now
         → MatchResult result (λ given. given ≡ params) (λ fault. fault ≡ IdFault.Memory) }
 
-    ensures too_many { AnswersWhere result IdFault.TooMany (64 < length list.now.items) }
-    ensures bad_component { (index : ℕ) (reason : BadReason)
-        → AnswersWhere result (IdFault.BadComponent index reason)
-        ((length list.now.items ≤ 64) × IsFirstBad list.now.items index reason) }
-    ensures repeated { (index : ℕ) → AnswersWhere result (IdFault.Repeated index)
-        (AreIdentifiers list.now.items × IsFirstRepeated (map id_of list.now.items) index) }
-    ensures bad_parameter { (key : List ℕ) → AnswersWhere result (IdFault.BadParameter key)
-        (AreIdentifiers list.now.items × AreDistinct (map id_of list.now.items)
-        × IsFirstIllTyped list.now.params key) }
+    // The first fault whose cause holds is answered, and no other.
+    ensures fault { (fault : IdFault) → ¬ (fault ≡ IdFault.Memory)
+        → AnswersWhere result fault (IsFault list.now fault) }
 
     // What was read prints as the list does, and may be printed where the list may.
     ensures text { IfOk result (λ params. sig_params_text params ≡ inner_text list.now) }

@@ -1,13 +1,13 @@
 //! Items as component identifiers.
 
-ghost use Rattle.std.specs.Prelude.{◌≡◌, ◌≤◌, true, length, map, IfOk, IfErr};
-ghost use Rattle.component_ids.specs.Answers.{AreIdentifiers};
+ghost use Rattle.std.specs.Prelude.{◌≡◌, ◌≤◌, length, map, IsTrue, IfOk, IfErr};
+ghost use Rattle.component_ids.specs.declared.params.TheConstants.{MAX_COMPONENTS};
 ghost use Rattle.component_ids.specs.Identifiers.{is_identifier, item_of, AreDistinct};
-ghost use Rattle.component_ids.specs.tools.Reads.{IsItemFault, IsIdsFault};
+ghost use Rattle.component_ids.specs.tools.Reads.{AreIdentifiers, IsItemFault, IsIdsFault};
 
 use crate::fault::{BadReason, IdFault};
 use crate::id::{ComponentId, Ids};
-use crate::params::MOST_COMPONENTS;
+use crate::params::MAX_COMPONENTS;
 use crate::same::first_repeated;
 use crate::table::reason_against_name;
 use sfv_text::{BareItem, Item};
@@ -33,13 +33,13 @@ impl From<sfv_text::Memory> for ItemFault {
 
 fn read_id(alloc: Global, item: &Item) -> Result<ComponentId, ItemFault>
     ensures is { IfOk result (λ id. item_of id ≡ item.now) }
-    ensures allowed { IfOk result (λ id. is_identifier item.now ≡ true) }
+    ensures allowed { IfOk result (λ id. IsTrue (is_identifier item.now)) }
     ensures fault { IfErr result (λ fault. IsItemFault item.now fault) }
 {
     let BareItem::Str(name) = &item.bare else {
         return Err(ItemFault::Bad(BadReason::NotAString));
     };
-    if let Some(reason) = reason_against_name(name.bytes(), item.params.as_slice()) {
+    if let Some(reason) = reason_against_name(name.bytes(), &item.params) {
         return Err(ItemFault::Bad(reason));
     }
     Ok(ComponentId {
@@ -50,7 +50,7 @@ fn read_id(alloc: Global, item: &Item) -> Result<ComponentId, ItemFault>
 
 /// Reads each item.
 fn read_each(alloc: Global, items: &[Item]) -> Result<Ids, IdFault>
-    requires { length items.now ≤ 64 }
+    requires { length items.now ≤ MAX_COMPONENTS }
     ensures is { IfOk result (λ ids. map item_of ids ≡ items.now) }
     ensures each { IfOk result (λ ids. AreIdentifiers items.now) }
     ensures fault { IfErr result (λ fault. IsIdsFault items.now fault) }
@@ -73,7 +73,7 @@ pub(crate) fn read_ids(alloc: Global, items: &[Item]) -> Result<Ids, IdFault>
     ensures distinct { IfOk result (λ ids. AreDistinct ids) }
     ensures fault { IfErr result (λ fault. IsIdsFault items.now fault) }
 {
-    if items.len() > MOST_COMPONENTS {
+    if items.len() > MAX_COMPONENTS {
         return Err(IdFault::TooMany);
     }
     let ids = read_each(alloc, items)?;

@@ -2,8 +2,8 @@
 
 ghost use Rattle.std.specs.Prelude.{◌≡◌, ◌↔◌, IsTrue, IfSome, IfNone};
 ghost use Rattle.std.specs.List.{list_any};
-ghost use Rattle.component_ids.specs.Answers.{IsFirstRepeated};
-ghost use Rattle.component_ids.specs.Identifiers.{Same, AreDistinct};
+ghost use Rattle.component_ids.specs.Causes.{IsFirstRepeated};
+ghost use Rattle.component_ids.specs.Identifiers.{IsSameId, AreDistinct};
 ghost use Rattle.component_ids.specs.tools.SameTests.{is_same_value, is_same_param, is_among, are_among, is_same};
 
 use crate::id::ComponentId;
@@ -62,7 +62,7 @@ fn is_same(a: &ComponentId, b: &ComponentId) -> bool
 /// Whether the names agree, and the parameters with their values in whatever order (RFC 9421 section 2).
 /// It takes no memory.
 pub fn same_id(a: &ComponentId, b: &ComponentId) -> bool
-    ensures { IsTrue result ↔ Same a.now b.now }
+    ensures { IsTrue result ↔ IsSameId a.now b.now }
 {
     is_same(a, b)
 }

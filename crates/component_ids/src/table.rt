@@ -2,12 +2,14 @@
 
 ghost use Rattle.std.specs.Prelude.{◌≡◌, ◌||◌, not, IfNone, Some, None, option_map, codes};
 ghost use Rattle.std.specs.List.{find, list_all, list_any};
+ghost use Rattle.std.specs.Str.{bytes_eq};
 ghost use Rattle.component_ids.specs.Table.{is_true, is_string, is_listed, is_name_byte, is_field_name, request_names, keys_of, has_value_type, has_param, have_clash, has_needed};
 ghost use Rattle.component_ids.specs.Reasons.{applies, reasons};
 ghost use Rattle.component_ids.specs.tools.Rows.{row_keys};
 
 use crate::fault::BadReason;
-use sfv_text::{BareItem, Pair};
+use byte_classes::is_tchar;
+use sfv_text::{BareItem, Pair, Params};
 
 /// A row of the table: which parameters go with a name.
 #[derive(Clone, Copy)]
@@ -25,31 +27,45 @@ enum Row {
 fn is_name_byte(byte: u8) -> bool
     ensures { result ≡ is_name_byte byte }
 {
-    matches!(byte, b'!' | b'#' | b'$' | b'%' | b'&' | b'\'' | b'*' | b'+' | b'-' | b'.' | b'^' | b'_' | b'`' | b'|' | b'~' | b'0'..=b'9' | b'a'..=b'z')
+    is_tchar(byte) && !byte.is_ascii_uppercase()
 }
 
-/// Whether the text is a field name as component identifiers have it: in lower case (RFC 9421 section 2.1).
+fn are_name_bytes(bytes: &[u8]) -> bool
+    ensures { result ≡ list_all is_name_byte bytes.now }
+{
+    bytes.iter().all(|byte| is_name_byte(*byte))
+}
+
+/// Whether the text is a field name as component identifiers have it, in lower case (RFC 9421
+/// section 2.1).
 pub fn is_field_name(name: &[u8]) -> bool
     ensures { result ≡ is_field_name name.now }
 {
-    for byte in name {
-        if !is_name_byte(*byte) {
-            return false;
-        }
-    }
-    !name.is_empty()
+    !name.is_empty() && are_name_bytes(name)
 }
+
+/// Whether the text is one of the texts.
+fn is_listed(texts: &[&[u8]], text: &[u8]) -> bool
+    ensures { result ≡ list_any (λ t. bytes_eq text.now t.now) texts.now }
+{
+    texts.iter().any(|other| text == *other)
+}
+
+/// The derived components of a request without a parameter of their own.
+const REQUEST_NAMES: [&[u8]; 7] = [
+    b"@method",
+    b"@target-uri",
+    b"@authority",
+    b"@scheme",
+    b"@request-target",
+    b"@path",
+    b"@query",
+];
 
 fn is_request_name(name: &[u8]) -> bool
     ensures { result ≡ is_listed request_names name.now }
 {
-    name == b"@method".as_slice()
-        || name == b"@target-uri".as_slice()
-        || name == b"@authority".as_slice()
-        || name == b"@scheme".as_slice()
-        || name == b"@request-target".as_slice()
-        || name == b"@path".as_slice()
-        || name == b"@query".as_slice()
+    is_listed(&REQUEST_NAMES, name)
 }
 
 /// The row of the name, where it has one.
@@ -74,11 +90,7 @@ fn row_of(name: &[u8]) -> Option<Row>
 fn is_field_key(key: &[u8]) -> bool
     ensures { result ≡ is_listed (row_keys Row.Field) key.now }
 {
-    key == b"sf".as_slice()
-        || key == b"key".as_slice()
-        || key == b"bs".as_slice()
-        || key == b"tr".as_slice()
-        || key == b"req".as_slice()
+    matches!(key, b"sf" | b"key" | b"bs" | b"tr" | b"req")
 }
 
 /// Whether a parameter of the key goes with the names of the row.
@@ -88,68 +100,52 @@ fn allows(row: Row, key: &[u8]) -> bool
     match row {
         Row::Field => is_field_key(key),
         Row::Request => key == b"req".as_slice(),
-        Row::QueryParam => key == b"name".as_slice() || key == b"req".as_slice(),
+        Row::QueryParam => matches!(key, b"name" | b"req"),
         Row::Status => false,
     }
 }
 
-fn has_unknown(row: Row, params: &[Pair<BareItem>]) -> bool
+fn has_unknown(row: Row, params: &Params) -> bool
     ensures { result ≡ list_any (λ p. not (is_listed (row_keys row) p.key)) params.now }
 {
-    for param in params {
-        if !allows(row, param.key.bytes()) {
-            return true;
-        }
-    }
-    false
+    params.iter().any(|param| !allows(row, param.key.bytes()))
 }
 
 fn has_value_type(param: &Pair<BareItem>) -> bool
     ensures { result ≡ has_value_type param.now }
 {
-    let key = param.key.bytes();
-    if key == b"key".as_slice() || key == b"name".as_slice() {
-        return matches!(param.value, BareItem::Str(_));
+    match param.key.bytes() {
+        b"key" | b"name" => matches!(param.value, BareItem::Str(_)),
+        _ => matches!(param.value, BareItem::Bool(true)),
     }
-    matches!(param.value, BareItem::Bool(true))
 }
 
-fn has_ill_typed(params: &[Pair<BareItem>]) -> bool
+fn has_ill_typed(params: &Params) -> bool
     ensures { result ≡ list_any (λ p. not (has_value_type p)) params.now }
 {
-    for param in params {
-        if !has_value_type(param) {
-            return true;
-        }
-    }
-    false
+    params.iter().any(|param| !has_value_type(param))
 }
 
-fn has_param(params: &[Pair<BareItem>], key: &[u8]) -> bool
+fn has_param(params: &Params, key: &[u8]) -> bool
     ensures { result ≡ has_param params.now key.now }
 {
-    for param in params {
-        if param.key.bytes() == key {
-            return true;
-        }
-    }
-    false
+    params.find(key).is_some()
 }
 
-fn have_clash(params: &[Pair<BareItem>]) -> bool
+fn have_clash(params: &Params) -> bool
     ensures { result ≡ have_clash params.now }
 {
     has_param(params, b"bs") && (has_param(params, b"sf") || has_param(params, b"key"))
 }
 
-fn has_needed(name: &[u8], params: &[Pair<BareItem>]) -> bool
+fn has_needed(name: &[u8], params: &Params) -> bool
     ensures { result ≡ has_needed name.now params.now }
 {
     name != b"@query-param".as_slice() || has_param(params, b"name")
 }
 
 /// The least reason for which no component has the name with these parameters.
-pub(crate) fn reason_against_name(name: &[u8], params: &[Pair<BareItem>]) -> Option<BadReason>
+pub(crate) fn reason_against_name(name: &[u8], params: &Params) -> Option<BadReason>
     ensures { result ≡ find (applies name.now params.now) reasons }
 {
     let Some(row) = row_of(name) else {

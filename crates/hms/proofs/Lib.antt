@@ -1,6 +1,8 @@
+pub mod ArgumentLists
+pub mod BaseOutcomes
+pub mod FirstFound
 pub mod Joins
+pub mod LowerLaws
 pub mod NameTests
-pub mod OneOutcomes
-pub mod OneReports
 pub mod Plain
-pub mod WordLists
+pub mod Reports

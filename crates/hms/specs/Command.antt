@@ -1,10 +1,16 @@
--- The words of a command line.
+-- The arguments of the program, and the commands that they spell.
 use Rattle.std.specs.Prelude.{◌≡◌, ℕ, List, [], ◌∷◌, codes}
+use Rattle.hms.specs.declared.command.Command.{Command}
+use Rattle.hms.specs.declared.command.Command.TheVariants.{Base}
 
--- the words are `base` and the covered components
+-- the arguments are `base` and PARAMS
 abbrev pub IsBase : List (List ℕ) → List ℕ → Type 0
-IsBase words params = words ≡ codes "base" ∷ params ∷ []
+IsBase arguments params = arguments ≡ codes "base" ∷ params ∷ []
 
--- the words are no command
+-- the arguments spell the command
+abbrev pub IsCommand : List (List ℕ) → Command → Type 0
+IsCommand arguments (Base params) = IsBase arguments params.now
+
+-- the arguments spell no command
 abbrev pub NoCommand : List (List ℕ) → Type 0
-NoCommand words = (params : List ℕ) → IsBase words params → ⊥
+NoCommand arguments = (params : List ℕ) → ¬ IsBase arguments params

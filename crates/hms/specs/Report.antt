@@ -1,89 +1,62 @@
--- What the program answers for its words and its input, and for nothing else.
-use Rattle.std.specs.Prelude.{◌≡◌, ◌≤◌, ◌<◌, ℕ, Bool, true, false, List, length, codes, ◌⊎◌}
-use Rattle.msg_head.specs.Heads.{Head}
+-- What the program answers for its arguments and its input, and for nothing else.
+use Rattle.std.specs.Prelude.{◌≡◌, ◌⊎◌, ◌+◌, ◌<◌, ◌≤◌, ℕ, List, [], length, take, Option, Some, IfSome}
+use Rattle.std.specs.Io.KnownBytes.{Appends, Keeps}
+use Rattle.hms_io.specs.Cause.{Rose}
+use Rattle.hms_io.specs.Reading.{LosesPrefix}
 use Rattle.hms_io.specs.declared.status.Status.{Status}
-use Rattle.hms_io.specs.declared.status.Status.TheVariants.{Done, NotOk, Words, Input, ReadFault, WriteFault, Memory, Conf, Limit, Missing}
+use Rattle.hms_io.specs.declared.status.Status.TheVariants.{ReadFault, WriteFault, OutOfMemory}
+use Rattle.hms.specs.Base.{ReportsBase}
 use Rattle.hms.specs.Command.{IsBase, NoCommand}
-use Rattle.hms.specs.Asked.{HasBase}
-use Rattle.hms.specs.declared.refusal.Refusal.{Refusal}
-use Rattle.hms.specs.Refusal.{Applies, refusal_line}
-use Rattle.hms.specs.Messages.{IsMessage, NoMessage}
+use Rattle.hms.specs.Outcome.{status_of, output_of}
+use Rattle.hms.specs.declared.refusal.TheConstants.{MAX_INPUT_BYTES}
+use Rattle.hms.specs.declared.refusal.Refusal.TheVariants.{Arguments, Input}
+use Rattle.hms.specs.declared.refusal.InputRefusal.TheVariants.{TooLong}
+use Rattle.hms.specs.declared.outcome.Outcome.{Outcome}
+use Rattle.hms.specs.declared.outcome.Outcome.TheVariants.{Refused}
 
--- the most bytes of an input
-abbrev pub most_bytes : ℕ
-most_bytes = 16777216
-
--- the input is too long
-pub record RefusesLength (input output : List ℕ) : Type 0 where
-  pub long : most_bytes < length input
-  pub writes : output ≡ codes "refused input bytes 16777216\n"
-
--- the input is no message
-pub record RefusesInput (input output : List ℕ) : Type 0 where
-  pub short : length input ≤ most_bytes
-  pub none : NoMessage input
-  pub writes : output ≡ codes "refused input not-yet\n"
-
--- the command is refused over a message
-pub record RefusesCommand (params input output : List ℕ) : Type 0 where
-  pub head : Head
-  pub message : IsMessage head input
-  pub refusal : Refusal
-  pub applies : Applies head.lines params refusal
-  pub writes : output ≡ refusal_line refusal
-
--- the signature base of the message over the covered components
-pub record WritesBase (params input output : List ℕ) : Type 0 where
-  pub head : Head
-  pub message : IsMessage head input
-  pub base : HasBase head.lines params output
-
--- the status and the whole output of `base` for these covered components and this input
-abbrev pub Answers : List ℕ → List ℕ → Status → List ℕ → Type 0
-Answers params input Done output = WritesBase params input output
-Answers params input Input output = RefusesInput input output ⊎ RefusesCommand params input output
-Answers params input Limit output = RefusesLength input output
-Answers params input NotOk output = ⊥
-Answers params input Words output = ⊥
-Answers params input ReadFault output = ⊥
-Answers params input WriteFault output = ⊥
-Answers params input Memory output = ⊥
-Answers params input Conf output = ⊥
-Answers params input Missing output = ⊥
-
--- the words are no command
-pub record RefusesWords (words : List (List ℕ)) (output : List ℕ) : Type 0 where
-  pub none : NoCommand words
-  pub writes : output ≡ codes "refused words\n"
-
--- the words are `base` and covered components, for which this is the answer
-pub record AnswersBase (words : List (List ℕ)) (input : List ℕ) (status : Status) (output : List ℕ) : Type 0 where
+-- the arguments are `base` and PARAMS, and this is the outcome of `base`
+pub record RunsBase (arguments : List (List ℕ)) (input : List ℕ) (outcome : Outcome) : Type 0 where
   pub params : List ℕ
-  pub command : IsBase words params
-  pub answer : Answers params input status output
+  pub command : IsBase arguments params
+  pub reports : ReportsBase params input outcome
 
--- the status and the whole output for these words and this input
-abbrev pub Reports : List (List ℕ) → List ℕ → Status → List ℕ → Type 0
-Reports words input Words output = RefusesWords words output
-Reports words input Done output = AnswersBase words input Done output
-Reports words input Input output = AnswersBase words input Input output
-Reports words input Limit output = AnswersBase words input Limit output
-Reports words input NotOk output = ⊥
-Reports words input ReadFault output = ⊥
-Reports words input WriteFault output = ⊥
-Reports words input Memory output = ⊥
-Reports words input Conf output = ⊥
-Reports words input Missing output = ⊥
+-- the outcome for these arguments and this input
+abbrev pub Reports : List (List ℕ) → List ℕ → Outcome → Type 0
+Reports arguments input outcome =
+    (NoCommand arguments × (outcome ≡ Refused Arguments)) ⊎ RunsBase arguments input outcome
 
--- the status comes with a whole output
-abbrev pub tells : Status → Bool
-tells Done = true
-tells Words = true
-tells Input = true
-tells Limit = true
-tells NotOk = false
-tells ReadFault = false
-tells WriteFault = false
-tells Memory = false
-tells Conf = false
-tells Missing = false
+-- what is left of the source, where its bytes are known: all of it where the arguments are no command,
+-- all but one byte more than the limit where it is too long, and else nothing
+abbrev pub Leaves : Option (List ℕ) → Option (List ℕ) → Outcome → Type 0
+Leaves before now (Refused Arguments) = now ≡ before
+Leaves before now (Refused (Input TooLong)) = LosesPrefix before now (MAX_INPUT_BYTES + 1)
+Leaves before now outcome = IfSome before (λ _. now ≡ Some [])
+
+-- Some input has the outcome. Where the bytes of the source are known, they are that input.
+pub record HasInput (R : List ℕ → Outcome → Type 0) (before now : Option (List ℕ)) (outcome : Outcome) : Type 0 where
+  pub input : List ℕ
+  pub known : IfSome before (λ bytes. bytes ≡ input)
+  pub reports : R input outcome
+  pub leaves : Leaves before now outcome
+
+-- a prefix of the text, and not all of it, was added to the known bytes
+abbrev pub AppendsPrefix : Option (List ℕ) → Option (List ℕ) → List ℕ → Type 0
+AppendsPrefix before now text = (n : ℕ) × (n < length text) × Appends before now (take n text)
+
+-- What the sink took, by the status: nothing, where a read failed or no memory was found; a proper
+-- prefix of the output, where a write failed; and else all of the output.
+abbrev pub Ends : List (List ℕ) → Option (List ℕ) → Option (List ℕ) → Option (List ℕ) → Option (List ℕ) → Status → Type 0
+Ends arguments before left taken now ReadFault = Keeps taken now
+Ends arguments before left taken now OutOfMemory = Keeps taken now
+Ends arguments before left taken now WriteFault =
+    (outcome : Outcome) × HasInput (Reports arguments) before left outcome
+    × AppendsPrefix taken now (output_of outcome)
+Ends arguments before left taken now status =
+    (outcome : Outcome) × HasInput (Reports arguments) before left outcome
+    × (status_of outcome ≡ status) × Appends taken now (output_of outcome)
+
+-- the count of faults never falls; it rose at the status of its fault, and else it is as it was
+pub record CountsFaults (fault status : Status) (before now : ℕ) : Type 0 where
+  pub later : before ≤ now
+  pub rose : status ≡ fault → Rose before now
+  pub kept : (status ≡ fault) ⊎ (now ≡ before)

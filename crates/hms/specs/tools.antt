@@ -1,3 +1,4 @@
-pub mod Fault
+pub mod Feed
+pub mod Lines
 pub mod Plain
-pub mod Sinks
+pub mod Stops

@@ -1,94 +1,161 @@
-//! Why a command is refused, and the line that says so.
+//! Refusals: why a run is refused, the status that this gives, and the one line that says so.
 
-ghost use Rattle.std.specs.Prelude.{◌≡◌, ◌++◌, ◌∷◌, [], codes, IfOk};
-ghost use Rattle.std.specs.Str.{byte};
+ghost use Rattle.std.specs.Prelude.{◌≡◌, ◌++◌, ◌∷◌, OnOk, IfOk};
 ghost use Rattle.std.specs.Fmt.{decimal};
+ghost use Rattle.std.specs.Str.{byte};
 ghost use Rattle.component_ids.specs.Reasons.{word_of};
-ghost use Rattle.hms.specs.Refusal.{refusal_line};
+ghost use Rattle.hms.specs.Refusal.{input_text, ids_text, command_text, refusal_text, refusal_line, refusal_status};
 
-use component_ids::BadReason;
+use component_ids::{BadReason, IdFault};
+use hms_io::Status;
 use sfv_text::{Memory, Text};
 use std::alloc::Global;
 
-/// Why the covered components are refused.
+/// The most bytes of an input.
+pub const MAX_INPUT_BYTES: usize = 16_777_216;
+
+/// Why a run is refused.
 #[derive(Debug, Drop)]
 pub enum Refusal {
-    /// They are no Inner List; the longest prefix that begins one has so many bytes.
+    /// The arguments are no command.
+    Arguments,
+    /// The input isn't read.
+    Input(InputRefusal),
+    /// The command can't be done over the input.
+    Command(CommandRefusal),
+}
+
+/// Why an input is refused.
+#[derive(Clone, Copy, Debug, PartialEq, Eq)]
+pub enum InputRefusal {
+    /// It has more than [`MAX_INPUT_BYTES`] bytes.
+    TooLong,
+    /// It is no message of the form that is read yet.
+    NotYet,
+}
+
+/// Why a command is refused.
+#[derive(Debug, Drop)]
+pub enum CommandRefusal {
+    /// PARAMS are no Inner List (RFC 9651 section 3.1.1): the longest prefix that begins one has so
+    /// many bytes.
     Syntax(usize),
     /// The same, where a Date or a Display String stands in place of an item.
     ItemKind(usize),
-    /// There are more than 64.
-    TooMany,
-    /// The one at this index is none.
-    Component(usize, BadReason),
-    /// The one at this index is the same as an earlier one.
-    Repeated(usize),
-    /// The signature parameter of this key has another type.
-    Parameter(Text),
-    /// One is known but not built yet.
+    /// PARAMS are no signature parameters (RFC 9421 section 2.3). The fault is never out of memory.
+    Ids(IdFault),
+    /// A covered component is known but not built yet.
     NotYet,
-    /// The one with this text has no field line.
+    /// A covered field has no field line. The text is that of its identifier, quotes included.
     Absent(Text),
 }
 
-/// Why there is no signature base.
-#[derive(Debug, Drop)]
-pub enum Fault {
-    /// No memory was found.
-    Memory,
-    /// The command is refused.
-    Refused(Refusal),
-}
+impl Refusal {
+    /// The status that the refusal gives.
+    pub fn status(&self) -> Status
+        ensures { result ≡ refusal_status self.now }
+    {
+        match self {
+            Refusal::Arguments => Status::BadArguments,
+            Refusal::Input(InputRefusal::TooLong) => Status::LimitPassed,
+            Refusal::Input(InputRefusal::NotYet) => Status::BadInput,
+            Refusal::Command(_) => Status::BadInput,
+        }
+    }
 
-impl From<Memory> for Fault {
-    ghost use Rattle.std.specs.Prelude.{◌≡◌};
-    ghost use Rattle.hms.specs.declared.refusal.Fault.TheVariants.{Memory as NoMemory};
-
-    ghost from_gives = { λ _ fault. fault ≡ NoMemory };
-
-    fn from(_memory: Memory) -> Fault {
-        Fault::Memory
+    /// The one line that says what is refused and why, with its line end.
+    pub fn line(&self, alloc: Global) -> Result<Text, Memory>
+        ensures { IfOk result (λ line. line ≡ refusal_line self.now) }
+    {
+        let mut line = Text::from_bytes(alloc, b"refused ")?;
+        append_refusal(alloc, self, &mut line)?;
+        line.append(b"\n")?;
+        Ok(line)
     }
 }
 
-fn ended(alloc: Global, prefix: &[u8], offset: &[u8]) -> Result<Vec<u8>, Memory>
-    ensures { IfOk result (λ line. line.items ≡ prefix.now ++ (offset.now ++ codes "\n")) }
+// Each function below adds its part at the end of the line.
+
+fn append_words(first: &[u8], second: &[u8], line: &mut Text) -> Result<(), Memory>
+    ensures { OnOk result (line.new ≡ line.old ++ (first.now ++ second.now)) }
 {
-    let mut line = Vec::from_slice(alloc, prefix)?;
-    line.extend_from_slice(offset)?;
-    line.push(b'\n')?;
-    Ok(line)
+    line.append(first)?;
+    line.append(second)
 }
 
-fn numbered(alloc: Global, prefix: &[u8], offset: usize) -> Result<Vec<u8>, Memory>
-    ensures { IfOk result (λ line. line.items ≡ prefix.now ++ (decimal offset ++ codes "\n")) }
+fn append_number(
+    alloc: Global,
+    word: &[u8],
+    number: usize,
+    line: &mut Text,
+) -> Result<(), Memory>
+    ensures { OnOk result (line.new ≡ line.old ++ (word.now ++ decimal number)) }
 {
-    let digits = format!(in alloc; "{offset}")?;
-    ended(alloc, prefix, digits.as_bytes())
+    let digits = format!(in alloc; "{number}")?;
+    append_words(word, digits.as_bytes(), line)
 }
 
-fn bad_component(alloc: Global, index: usize, reason: BadReason) -> Result<Vec<u8>, Memory>
-    ensures { IfOk result (λ line. line.items ≡ codes "refused command component-bad "
-        ++ ((decimal index ++ byte " " ∷ word_of reason) ++ codes "\n")) }
+fn append_component(
+    alloc: Global,
+    word: &[u8],
+    index: usize,
+    reason: BadReason,
+    line: &mut Text,
+) -> Result<(), Memory>
+    ensures { OnOk result
+        (line.new ≡ line.old ++ (word.now ++ (decimal index ++ byte " " ∷ word_of reason))) }
 {
-    let mut offset = Vec::from_slice(alloc, format!(in alloc; "{index}")?.as_bytes())?;
-    offset.push(b' ')?;
-    offset.extend_from_slice(reason.word().as_bytes())?;
-    ended(alloc, b"refused command component-bad ", offset.as_slice())
+    append_number(alloc, word, index, line)?;
+    append_words(b" ", reason.word().as_bytes(), line)
 }
 
-/// The line that tells the refusal.
-pub fn line_of(alloc: Global, refusal: &Refusal) -> Result<Vec<u8>, Memory>
-    ensures { IfOk result (λ line. line.items ≡ refusal_line refusal.now) }
+fn append_input(alloc: Global, refusal: InputRefusal, line: &mut Text) -> Result<(), Memory>
+    ensures { OnOk result (line.new ≡ line.old ++ input_text refusal) }
 {
     match refusal {
-        Refusal::Syntax(offset) => numbered(alloc, b"refused command params-syntax ", *offset),
-        Refusal::ItemKind(offset) => numbered(alloc, b"refused command params-kind ", *offset),
-        Refusal::TooMany => ended(alloc, b"refused command ", b"components-many"),
-        Refusal::Component(index, reason) => bad_component(alloc, *index, *reason),
-        Refusal::Repeated(index) => numbered(alloc, b"refused command component-repeated ", *index),
-        Refusal::Parameter(key) => ended(alloc, b"refused command parameter-bad ", key.bytes()),
-        Refusal::NotYet => ended(alloc, b"refused command ", b"not-yet"),
-        Refusal::Absent(id) => ended(alloc, b"refused command absent ", id.bytes()),
+        InputRefusal::TooLong => append_number(alloc, b"bytes ", MAX_INPUT_BYTES, line),
+        InputRefusal::NotYet => line.append(b"not-yet"),
+    }
+}
+
+fn append_ids(alloc: Global, fault: &IdFault, line: &mut Text) -> Result<(), Memory>
+    ensures { OnOk result (line.new ≡ line.old ++ ids_text fault.now) }
+{
+    match fault {
+        IdFault::Memory => Ok(()),
+        IdFault::TooMany => line.append(b"components-many"),
+        IdFault::BadComponent(index, reason) => {
+            append_component(alloc, b"component-bad ", *index, *reason, line)
+        }
+        IdFault::Repeated(index) => append_number(alloc, b"component-repeated ", *index, line),
+        IdFault::BadParameter(key) => append_words(b"parameter-bad ", key.bytes(), line),
+    }
+}
+
+fn append_command(alloc: Global, refusal: &CommandRefusal, line: &mut Text) -> Result<(), Memory>
+    ensures { OnOk result (line.new ≡ line.old ++ command_text refusal.now) }
+{
+    match refusal {
+        CommandRefusal::Syntax(offset) => append_number(alloc, b"params-syntax ", *offset, line),
+        CommandRefusal::ItemKind(offset) => append_number(alloc, b"params-kind ", *offset, line),
+        CommandRefusal::Ids(fault) => append_ids(alloc, fault, line),
+        CommandRefusal::NotYet => line.append(b"not-yet"),
+        CommandRefusal::Absent(id) => append_words(b"absent ", id.bytes(), line),
+    }
+}
+
+fn append_refusal(alloc: Global, refusal: &Refusal, line: &mut Text) -> Result<(), Memory>
+    ensures { OnOk result (line.new ≡ line.old ++ refusal_text refusal.now) }
+{
+    match refusal {
+        Refusal::Arguments => line.append(b"words"),
+        Refusal::Input(cause) => {
+            line.append(b"input ")?;
+            append_input(alloc, *cause, line)
+        }
+        Refusal::Command(cause) => {
+            line.append(b"command ")?;
+            append_command(alloc, cause, line)
+        }
     }
 }

@@ -1,17 +1,13 @@
-//! The combined value of a field's lines: RFC 9421, section 2.1.
+//! The combined value of a field's lines: RFC 9421 section 2.1.
 
-ghost use Rattle.std.specs.Prelude.{◌≡◌, ◌<◌, ◌++◌, ℕ, List, [], length, slice_index_or, reverse};
+ghost use Rattle.std.specs.Prelude.{◌≡◌, ◌<◌, ◌++◌, ℕ, List, length, slice_index_or, reverse};
 ghost use Rattle.byte_classes.specs.Classes.{is_blank};
+ghost use Rattle.hms.specs.tools.Lines.{no_line};
 ghost use Rattle.hms.specs.Values.{value, without_first_blanks, has_name, combined_value, is_there};
 
+use byte_classes::is_blank;
 use msg_head::HeadView;
 use sfv_text::Absorb;
-
-fn is_blank(byte: u8) -> bool
-    ensures { result ≡ is_blank byte }
-{
-    byte == b' ' || byte == b'\t'
-}
 
 fn skip_first(raw: &[u8]) -> &[u8]
     ensures { result.now ≡ without_first_blanks raw.now }
@@ -40,7 +36,7 @@ fn skip_last(raw: &[u8]) -> &[u8]
 }
 
 /// The raw value without the blanks at its ends.
-fn trimmed(raw: &[u8]) -> &[u8]
+fn value_of(raw: &[u8]) -> &[u8]
     ensures { result.now ≡ value raw.now }
 {
     skip_last(skip_first(raw))
@@ -49,7 +45,7 @@ fn trimmed(raw: &[u8]) -> &[u8]
 #[tactic(auto, using(std::proofs::lemmas::Option::get_or_from_slice_get))]
 fn name_at<'m>(head: &HeadView<'m>, index: usize) -> &'m [u8]
     requires { index < length head.now.lines }
-    ensures { result.now ≡ (slice_index_or head.now.lines index ([], [])).0 }
+    ensures { result.now ≡ (slice_index_or head.now.lines index no_line).name }
 {
     head.line(index).name
 }
@@ -57,15 +53,15 @@ fn name_at<'m>(head: &HeadView<'m>, index: usize) -> &'m [u8]
 #[tactic(auto, using(std::proofs::lemmas::Option::get_or_from_slice_get))]
 fn value_at<'m>(head: &HeadView<'m>, index: usize) -> &'m [u8]
     requires { index < length head.now.lines }
-    ensures { result.now ≡ value (slice_index_or head.now.lines index ([], [])).1 }
+    ensures { result.now ≡ value (slice_index_or head.now.lines index no_line).raw }
 {
-    trimmed(head.line(index).raw)
+    value_of(head.line(index).raw)
 }
 
-/// Whether the field line at this index has the name, whatever its case.
+/// Whether the field line at the index has the name, whatever its case.
 fn is_named(head: &HeadView<'_>, index: usize, name: &[u8]) -> bool
     requires { index < length head.now.lines }
-    ensures { result ≡ has_name name.now (slice_index_or head.now.lines index ([], [])) }
+    ensures { result ≡ has_name name.now (slice_index_or head.now.lines index no_line) }
 {
     name_at(head, index).eq_ignore_ascii_case(name)
 }

@@ -9,41 +9,41 @@ use Rattle.std.specs.Cmp.Lexicographic.{slice_cmp}
 use Rattle.std.specs.FinMap.{find}
 use Rattle.std.specs.Ordering.{nat_cmp}
 use Rattle.std.specs.Str.{bytes_eq}
-use Rattle.hms_io.specs.Whole.{LosesFront}
+use Rattle.hms_io.specs.Reading.{LosesPrefix}
 
--- two writes took the front of a text as one
+-- two writes took the prefix of a text as one
 pub appends_more : (a b c : Option (List ℕ)) (text : List ℕ) (i n : ℕ) → Appends a b (take i text)
     → Appends b c (take n (take (length text - i) (drop i text))) → Appends a c (take (i + n) text)
 appends_more a b c text i n p q =
     let rest = subst (λ l. Appends b c (take n l)) (take_rest text i) q in
     subst (Appends a c) (sym (take-add i n text)) (Appends-trans a b c _ _ p rest)
 
--- two reads filled the front of a piece as one
+-- two reads filled the prefix of a piece as one
 pub consumes_in_place : (a b c : Option (List ℕ)) (xs ys zs : List ℕ) (at n : ℕ) → at ≤ length xs → n ≤ length ys
     → take (at + length ys) zs ≡ take at xs ++ ys → Consumes a b (take at xs) → Consumes b c (take n ys) → Consumes a c (take (at + n) zs)
 consumes_in_place a b c xs ys zs at n within short is p q =
     let long = ap (λ k. take (k + n) (take at xs ++ ys)) (sym (length-take-le at xs within)) in
-    let front : take (at + n) zs ≡ take at xs ++ take n ys =
+    let prefix : take (at + n) zs ≡ take at xs ++ take n ys =
     sym (take-take (at + n) (at + length ys) zs (omega arith)) ∙ ap (take (at + n)) is ∙ long ∙ take-append-add (take at xs) ys n in
-    subst (Consumes a c) (sym front) (Consumes-trans a b c _ _ p q)
+    subst (Consumes a c) (sym prefix) (Consumes-trans a b c _ _ p q)
 
--- what was consumed is the front that is gone
-pub loses_front : (a b : Option (List ℕ)) (text : List ℕ) → Consumes a b text → LosesFront a b (length text)
-loses_front None b text p = tt
-loses_front (Some all) None text p = absurd p
-loses_front (Some all) (Some rest) text p =
+-- what was consumed is the prefix that is gone
+pub loses_prefix : (a b : Option (List ℕ)) (text : List ℕ) → Consumes a b text → LosesPrefix a b (length text)
+loses_prefix None b text p = tt
+loses_prefix (Some all) None text p = absurd p
+loses_prefix (Some all) (Some rest) text p =
     (omega (arith, ap length p, length-append text rest), ap Some (sym (ap (drop (length text)) p ∙ drop-append_seam text rest)))
 
 -- the same over two reads, the second of n bytes
 pub loses_more : (a b c : Option (List ℕ)) (text piece : List ℕ) (n : ℕ) → n ≤ length piece → Consumes a b text
-    → Consumes b c (take n piece) → LosesFront a c (length text + n)
+    → Consumes b c (take n piece) → LosesPrefix a c (length text + n)
 loses_more a b c text piece n short p q =
     let long : length (text ++ take n piece) ≡ length text + n = length-append text (take n piece) ∙ ap (λ k. length text + k) (length-take-le n piece short) in
-    subst (LosesFront a c) long (loses_front a c _ (Consumes-trans a b c _ _ p q))
+    subst (LosesPrefix a c) long (loses_prefix a c _ (Consumes-trans a b c _ _ p q))
 
 -- and so no more than the limit is gone at an error
 pub loses_at_most : {T E : Type 0} (result : Result T E) (a b c : Option (List ℕ)) (text piece : List ℕ) (n most : ℕ) → length text + n ≤ most
-    → n ≤ length piece → Consumes a b text → Consumes b c (take n piece) → OnErr result ((k : ℕ) × (k ≤ most) × LosesFront a c k)
+    → n ≤ length piece → Consumes a b text → Consumes b c (take n piece) → OnErr result ((k : ℕ) × (k ≤ most) × LosesPrefix a c k)
 loses_at_most (Ok x) a b c text piece n most within short p q = tt
 loses_at_most (Err e) a b c text piece n most within short p q = (length text + n, within, loses_more a b c text piece n short p q)
 
@@ -54,14 +54,14 @@ found_first name first rest log same is test =
     ap (find (slice_cmp nat_cmp) name) is
     ∙ ap (λ b. cond b (Some first.1) (find (slice_cmp nat_cmp) name rest)) (is_eq-slice_cmp name first.0 ∙ sym test)
 
--- what a source in memory gives is the front of what it has left
-pub given_front : (bytes front more : List ℕ) (at n : ℕ) → at + n ≤ length bytes → front ≡ take (at + n - at) (drop at bytes)
-    → drop at bytes ≡ take n (front ++ more) ++ drop (at + n) bytes
-given_front bytes front more at n within is =
+-- what a source in memory gives is the prefix of what it has left
+pub given_prefix : (bytes prefix more : List ℕ) (at n : ℕ) → at + n ≤ length bytes → prefix ≡ take (at + n - at) (drop at bytes)
+    → drop at bytes ≡ take n (prefix ++ more) ++ drop (at + n) bytes
+given_prefix bytes prefix more at n within is =
     let count : at + n - at ≡ n = omega arith in
-    let front_is : front ≡ take n (drop at bytes) = is ∙ ap (λ k. take k (drop at bytes)) count in
+    let prefix_is : prefix ≡ take n (drop at bytes) = is ∙ ap (λ k. take k (drop at bytes)) count in
     let left : n ≤ length (drop at bytes) = omega (arith, length-drop at bytes) in
-    let long : length front ≡ n = ap length front_is ∙ length-take-le n (drop at bytes) left in
-    let given : take n (front ++ more) ≡ front = subst (λ k. take k (front ++ more) ≡ front) long (take-append_seam front more) in
-    sym (take-append-drop n (drop at bytes)) ∙ ap (λ l. l ++ drop n (drop at bytes)) (sym (given ∙ front_is))
-    ∙ ap (λ l. take n (front ++ more) ++ l) (drop-drop n at bytes)
+    let long : length prefix ≡ n = ap length prefix_is ∙ length-take-le n (drop at bytes) left in
+    let given : take n (prefix ++ more) ≡ prefix = subst (λ k. take k (prefix ++ more) ≡ prefix) long (take-append_seam prefix more) in
+    sym (take-append-drop n (drop at bytes)) ∙ ap (λ l. l ++ drop n (drop at bytes)) (sym (given ∙ prefix_is))
+    ∙ ap (λ l. take n (prefix ++ more) ++ l) (drop-drop n at bytes)

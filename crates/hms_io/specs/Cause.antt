@@ -1,5 +1,7 @@
 -- What a count of faults says of an answer. The count stops at 2^64 - 1.
 use Rattle.std.specs.Prelude.{◌≡◌, ℕ, ◌+◌, ◌-◌, ◌^◌, ◌≤◌, min, Result, OnOk, OnErr}
+use Rattle.hms_io.specs.declared.read_write.FillError.{FillError}
+use Rattle.hms_io.specs.declared.read_write.FillError.TheVariants.{Memory, Failed, TooLong}
 
 -- the count after one more fault
 abbrev pub one_more : ℕ → ℕ
@@ -14,3 +16,9 @@ pub record HasCause {T E : Type 0} (before now : ℕ) (result : Result T E) : Ty
   pub later : before ≤ now
   pub failed : OnErr result (Rose before now)
   pub kept : OnOk result (now ≡ before)
+
+-- of the errors of `fill` only a failed read raises the count
+abbrev pub HasFillCause : ℕ → ℕ → FillError → Type 0
+HasFillCause before now Failed = Rose before now
+HasFillCause before now Memory = now ≡ before
+HasFillCause before now TooLong = now ≡ before

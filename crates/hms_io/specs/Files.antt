@@ -11,12 +11,14 @@ FileMap = map.FinMap (slice_cmp nat_cmp) (List ℕ)
 -- the first bytes of the file stand in the piece, as many as fit, and a missing file gives None
 abbrev pub GivesFile : Option (List ℕ) → List ℕ → Option ℕ → Type 0
 GivesFile None piece None = ⊤
-GivesFile (Some file) piece (Some n) = (n ≡ min (length file) (length piece)) × (take n piece ≡ take n file)
+GivesFile (Some file) piece (Some n) =
+    (n ≡ min (length file) (length piece)) × (take n piece ≡ take n file)
 GivesFile None piece (Some n) = ⊥
 GivesFile (Some file) piece None = ⊥
 
--- files that are told stay, and an answer gives the named one
-abbrev pub Fetches : {E : Type 0} → Option FileMap → Option FileMap → List ℕ → Result (Option ℕ) E → List ℕ → Type 0
+-- known files stay, and an answer gives the named one
+abbrev pub Fetches : {E : Type 0} → Option FileMap → Option FileMap → List ℕ
+    → Result (Option ℕ) E → List ℕ → Type 0
 Fetches None now name result piece = ⊤
 Fetches (Some files) now name result piece =
     (now ≡ Some files) × MatchResult result (GivesFile (map.get files name) piece) (λ _. ⊤)

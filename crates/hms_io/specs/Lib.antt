@@ -1,7 +1,8 @@
 pub mod Calls
 pub mod Cause
 pub mod Files
-pub mod FillCause
-pub mod Memory
+pub mod InMemory
+pub mod OverStd
+pub mod Reading
 pub mod Status
-pub mod Whole
+pub mod tools

@@ -1,10 +1,10 @@
 //! Calls that are numbered, of which some are to fail.
 
-ghost use Rattle.std.specs.Prelude.{◌≡◌, ◌≤◌, [], IfOk, OnErr, is_err};
+ghost use Rattle.std.specs.Prelude.{◌≡◌, ◌≤◌, IfOk, OnErr, is_err};
 ghost use Rattle.hms_io.specs.Calls.{fails_next};
 ghost use Rattle.hms_io.specs.Cause.{HasCause, one_more};
 
-use crate::status::Failed;
+use crate::faults::{Failed, Faults};
 use sfv_text::Memory;
 use std::alloc::Global;
 use std::marker::Model;
@@ -14,7 +14,7 @@ use std::marker::Model;
 pub struct Calls {
     fails: Vec<u64>,
     made: u64,
-    faults: u64,
+    faults: Faults,
 }
 
 impl Model for Calls {
@@ -34,7 +34,7 @@ impl Calls {
         Ok(Calls {
             fails,
             made: 0,
-            faults: 0,
+            faults: Faults::new(),
         })
     }
 
@@ -49,17 +49,16 @@ impl Calls {
         let call = self.made;
         self.made = call.saturating_add(1);
         if self.fails.contains(&call) {
-            return Err(self.fault());
+            return Err(self.count_fault());
         }
         Ok(())
     }
 
     // Counts a fault.
-    pub fn fault(&mut self) -> Failed
-        ensures counted { self.new ≡ record self.old { faults = one_more self.old.faults } }
+    pub fn count_fault(&mut self) -> Failed
+        ensures counts_one { self.new ≡ record self.old { faults = one_more self.old.faults } }
         ensures later { self.old.faults ≤ self.new.faults }
     {
-        self.faults = self.faults.saturating_add(1);
-        Failed
+        self.faults.count_fault()
     }
 }

@@ -1,23 +1,41 @@
-//! What the program reads and writes: the traits of the outside, with a count of faults, and what is
-//! made of them in memory and over the real thing.
+//! Input and output: the traits of what the program reads and writes, with a count of faults, and
+//! what stands for them in memory and over std.
+//!
+//! ```text
+//! let mut source = MemSource::new(alloc, b"abc", 2, &[])?;
+//! let text = fill(alloc, &mut source, 3)?; // two bytes, one byte, and the end: "abc"
+//! let mut sink = MemSink::new(alloc, 8, 1, &[])?;
+//! put_all(&mut sink, text.bytes())?;       // three calls of one byte
+//! sink.taken()                             // b"abc"
+//! ```
 #![tactic(auto)]
 
 mod calls;
+mod dir_shelf;
+mod faults;
 mod mem_shelf;
 mod mem_sink;
 mod mem_source;
-mod real;
+mod read_write;
+mod shelf;
+mod sink;
+mod source;
 mod status;
-mod traits;
-mod whole;
+mod std_sink;
+mod std_source;
 
+pub use dir_shelf::DirShelf;
+pub use faults::Failed;
 pub use mem_shelf::MemShelf;
 pub use mem_sink::MemSink;
 pub use mem_source::MemSource;
-pub use real::{DirShelf, StdSink, StdSource};
-pub use status::{Failed, Status};
-pub use traits::{Shelf, Sink, Source};
-pub use whole::{FillError, MAX_LIMIT, fill, put_all};
+pub use read_write::{FillError, MAX_LIMIT, fill, put_all};
+pub use shelf::Shelf;
+pub use sink::Sink;
+pub use source::Source;
+pub use status::Status;
+pub use std_sink::StdSink;
+pub use std_source::StdSource;
 
 #[cfg(test)]
 mod tests;

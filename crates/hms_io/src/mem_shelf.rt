@@ -1,21 +1,21 @@
 //! A shelf in memory.
 
-ghost use Rattle.std.specs.Prelude.{◌≡◌, ◌≤◌, length, Some, IfOk, IfSome, OnOk, OnErr, MatchOption, is_err};
+ghost use Rattle.std.specs.Prelude.{◌≡◌, ◌≤◌, length, drop, None, Some, IfOk, IfSome, IfNone, OnOk, OnErr, MatchOption, is_err};
 ghost use Rattle.std.specs.FinMap as map;
 ghost use Rattle.hms_io.specs.Calls.{fails_next};
 ghost use Rattle.hms_io.specs.Cause.{HasCause, one_more};
 ghost use Rattle.hms_io.specs.Files.{Fetches};
 
 use crate::calls::Calls;
-use crate::status::Failed;
-use crate::traits::Shelf;
+use crate::faults::Failed;
+use crate::shelf::Shelf;
 use sfv_text::{Memory, Text};
 use std::alloc::Global;
 use std::collections::VecDeque;
 use std::marker::Model;
 
-/// A shelf that keeps files in memory, and fails at the calls that it is told to. Calls are counted
-/// from 0, and the count stops at 2^64 - 1.
+/// A shelf that keeps files in memory, and fails at calls of given numbers. Calls are counted from
+/// 0, and the count stops at 2^64 - 1.
 #[derive(Drop)]
 pub struct MemShelf {
     // Names and files, the newest first, so the first of a name is the one that stands.
@@ -26,22 +26,14 @@ pub struct MemShelf {
 
 impl Model for MemShelf {
     ghost use Rattle.std.specs.FinMap as map;
-    ghost use Rattle.hms_io.specs.Memory.{MemoryShelf, shelf_code};
+    ghost use Rattle.hms_io.specs.InMemory.{MemoryShelf};
+    ghost use Rattle.hms_io.specs.tools.Codes.{shelf_code};
 
     ghost Value = { MemoryShelf };
 
     ghost coded = { shelf_code };
 
     ghost view = { λ s. record { files = map.from_entries s.log.items; calls = s.calls } };
-}
-
-// The bytes of a text in memory.
-fn text_of(alloc: Global, bytes: &[u8]) -> Result<Text, Memory>
-    ensures { IfOk result (λ text. text ≡ bytes.now) }
-{
-    let mut text = Text::new(alloc);
-    text.append(bytes)?;
-    Ok(text)
 }
 
 impl MemShelf {
@@ -66,8 +58,8 @@ impl MemShelf {
             record self.old { files = map.insert self.old.files name.now bytes.now }) }
         ensures err { OnErr result (self.new ≡ self.old) }
     {
-        let name = text_of(self.alloc, name.as_bytes())?;
-        let file = text_of(self.alloc, bytes)?;
+        let name = Text::from_bytes(self.alloc, name.as_bytes())?;
+        let file = Text::from_bytes(self.alloc, bytes)?;
         self.log.push_front((name, file))?;
         Ok(())
     }
@@ -95,14 +87,19 @@ impl Shelf for MemShelf {
 
     fn fetch(&mut self, name: &str, into: &mut [u8]) -> Result<Option<usize>, Failed>
         ensures bound { IfOk result (λ found. IfSome found (λ n. n ≤ length into.new)) }
-        ensures files { Fetches (Some self.old.files) (Some self.new.files) name.now result into.new }
+        ensures missing { IfOk result (λ found. IfNone found (into.new ≡ into.old)) }
+        ensures files { Fetches (Some self.old.files) (Some self.new.files) name.now result
+            into.new }
         ensures cause { HasCause self.old.calls.faults self.new.calls.faults result }
 
-        // It fails at the given calls alone.
+        // It fails at the given calls alone, and leaves what it doesn't fill.
         ensures fails { is_err result ≡ fails_next self.old.calls }
         ensures counts_one { OnErr result (self.new.calls.faults ≡ one_more self.old.calls.faults) }
         ensures made { self.new.calls.made ≡ one_more self.old.calls.made }
         ensures same_fails { self.new.calls.fails ≡ self.old.calls.fails }
+        ensures rest { IfOk result (λ found. IfSome found (λ n.
+            drop n into.new ≡ drop n into.old)) }
+        ensures unchanged { OnErr result (into.new ≡ into.old) }
     {
         self.calls.next()?;
         match self.find(name) {

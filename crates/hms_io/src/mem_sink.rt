@@ -5,17 +5,17 @@ ghost use Rattle.std.specs.Io.{WritesAtMost};
 ghost use Rattle.std.specs.Io.KnownBytes.{WriteAppends};
 ghost use Rattle.hms_io.specs.Calls.{fails_next};
 ghost use Rattle.hms_io.specs.Cause.{HasCause, one_more};
-ghost use Rattle.hms_io.specs.Memory.{is_full};
+ghost use Rattle.hms_io.specs.InMemory.{is_full};
 
 use crate::calls::Calls;
-use crate::status::Failed;
-use crate::traits::Sink;
+use crate::faults::Failed;
+use crate::sink::Sink;
 use sfv_text::Memory;
 use std::alloc::Global;
 use std::marker::Model;
 
-/// A sink that takes bytes into memory in pieces, and fails at the calls that it is told to, and
-/// where it is full. Calls are counted from 0, and the count stops at 2^64 - 1.
+/// A sink that takes bytes into memory in pieces, and fails at calls of given numbers, and where it
+/// is full. Calls are counted from 0, and the count stops at 2^64 - 1.
 #[derive(Drop)]
 pub struct MemSink {
     bytes: Vec<u8>,
@@ -26,18 +26,24 @@ pub struct MemSink {
 
 impl Model for MemSink {
     ghost use Rattle.std.specs.Prelude.{◌≤◌, vec_len, vec_capacity};
-    ghost use Rattle.hms_io.specs.Memory.{MemorySink};
+    ghost use Rattle.hms_io.specs.InMemory.{MemorySink};
 
     ghost Value = { MemorySink };
 
-    ghost view = { λ s. record { taken = s.bytes.items; room = s.room; piece = s.piece; calls = s.calls } };
+    ghost view = { λ s. record {
+      taken = s.bytes.items;
+      room = s.room;
+      piece = s.piece;
+      calls = s.calls;
+    } };
 
-    ghost invariant = { λ s. (vec_len s.bytes ≤ s.room) × (s.room ≤ vec_capacity s.bytes) × (1 ≤ s.piece) };
+    ghost invariant = { λ s. (vec_len s.bytes ≤ s.room) × (s.room ≤ vec_capacity s.bytes)
+        × (1 ≤ s.piece) };
 }
 
 impl MemSink {
-    /// An empty sink for at most `room` bytes in all, whose memory is found here. A call takes at most
-    /// `piece` bytes, and `fails` has the numbers of the calls that fail.
+    /// An empty sink for at most `room` bytes in all, whose memory is found here. A call takes at
+    /// most `piece` bytes, and `fails` has the numbers of the calls that fail.
     pub fn new(alloc: Global, room: usize, piece: usize, fails: &[u64]) -> Result<MemSink, Memory>
         requires { 1 ≤ piece }
         ensures { IfOk result (λ s. s ≡ record {
@@ -92,7 +98,7 @@ impl Sink for MemSink {
         self.calls.next()?;
         let room = self.room - self.bytes.len();
         if room == 0 && !piece.is_empty() {
-            return Err(self.calls.fault());
+            return Err(self.calls.count_fault());
         }
         let amount = room.min(self.piece).min(piece.len());
         let _ = self.bytes.extend_from_slice(&piece[..amount]);

@@ -1,20 +1,20 @@
 //! A source in memory.
 
-ghost use Rattle.std.specs.Prelude.{◌≡◌, ◌≤◌, min, length, Some, IfOk, OnErr, is_err};
+ghost use Rattle.std.specs.Prelude.{◌≡◌, ◌≤◌, min, length, drop, Some, IfOk, OnErr, is_err};
 ghost use Rattle.std.specs.Io.{ReadsAtMost};
 ghost use Rattle.std.specs.Io.KnownBytes.{ReadConsumes};
 ghost use Rattle.hms_io.specs.Calls.{fails_next};
 ghost use Rattle.hms_io.specs.Cause.{HasCause, one_more};
 
 use crate::calls::Calls;
-use crate::status::Failed;
-use crate::traits::Source;
+use crate::faults::Failed;
+use crate::source::Source;
 use sfv_text::Memory;
 use std::alloc::Global;
 use std::marker::Model;
 
-/// A source that gives bytes of memory in pieces, and fails at the calls that it is told to. Calls
-/// are counted from 0, and the count stops at 2^64 - 1.
+/// A source that gives bytes of memory in pieces, and fails at calls of given numbers. Calls are
+/// counted from 0, and the count stops at 2^64 - 1.
 #[derive(Drop)]
 pub struct MemSource {
     bytes: Vec<u8>,
@@ -25,18 +25,22 @@ pub struct MemSource {
 
 impl Model for MemSource {
     ghost use Rattle.std.specs.Prelude.{◌≤◌, drop, vec_len};
-    ghost use Rattle.hms_io.specs.Memory.{MemorySource};
+    ghost use Rattle.hms_io.specs.InMemory.{MemorySource};
 
     ghost Value = { MemorySource };
 
-    ghost view = { λ s. record { left = drop s.at s.bytes.items; piece = s.piece; calls = s.calls } };
+    ghost view = { λ s. record {
+      left = drop s.at s.bytes.items;
+      piece = s.piece;
+      calls = s.calls;
+    } };
 
     ghost invariant = { λ s. (s.at ≤ vec_len s.bytes) × (1 ≤ s.piece) };
 }
 
 impl MemSource {
-    /// A source of these bytes. A call gives at most `piece` of them, and `fails` has the numbers of
-    /// the calls that fail.
+    /// A source of these bytes. A call gives at most `piece` of them, and `fails` has the numbers
+    /// of the calls that fail.
     pub fn new(
         alloc: Global,
         bytes: &[u8],
@@ -77,6 +81,8 @@ impl Source for MemSource {
         ensures fails { is_err result ≡ fails_next self.old.calls }
         ensures amount { IfOk result (λ n.
             n ≡ min (length self.old.left) (min self.old.piece (length into.old))) }
+        ensures rest { IfOk result (λ n. drop n into.new ≡ drop n into.old) }
+        ensures unchanged { OnErr result (into.new ≡ into.old) }
         ensures counts_one { OnErr result (self.new.calls.faults ≡ one_more self.old.calls.faults) }
         ensures made { self.new.calls.made ≡ one_more self.old.calls.made }
         ensures same_fails { self.new.calls.fails ≡ self.old.calls.fails }

@@ -1,6 +1,6 @@
 use super::*;
+use crate::dir_shelf::give_file;
 use sfv_text::Text;
-use std::alloc::Global;
 use std::io::{ErrorKind, Read, Write};
 use std::process::Abort;
 use std::test::Fail;
@@ -16,23 +16,53 @@ fn assert_text(rt: &impl Abort, filled: Result<Text, FillError>, wanted: &[u8]) 
     }
 }
 
-#[test]
-fn statuses_have_their_numbers(rt: HostRuntime) {
-    let statuses = [
-        Status::Done,
-        Status::NotOk,
-        Status::Words,
-        Status::Input,
-        Status::ReadFault,
-        Status::WriteFault,
-        Status::Memory,
-        Status::Conf,
-        Status::Limit,
-        Status::Missing,
-    ];
-    for (number, status) in statuses.iter().enumerate() {
-        assert_eq!(rt; usize::from(status.code()), number);
+// Asserts that the source isn't read whole, and why.
+fn assert_error(rt: &impl Abort, filled: Result<Text, FillError>, wanted: FillError) {
+    match filled {
+        Ok(_) => assert_eq!(rt; Ok(()), Err(wanted)),
+        Err(error) => assert_eq!(rt; error, wanted),
     }
+}
+
+#[derive(Clone, Copy)]
+struct StatusCase {
+    status: Status,
+    code: u8,
+    text: &'static str,
+}
+
+#[test]
+fn statuses_and_errors_have_numbers_and_texts(rt: HostRuntime) -> Result<(), Fail> {
+    let cases = [
+        StatusCase {
+            status: Status::Done,
+            code: 0,
+            text: "done",
+        },
+        StatusCase {
+            status: Status::BadArguments,
+            code: 2,
+            text: "bad arguments",
+        },
+        StatusCase {
+            status: Status::FileMissing,
+            code: 9,
+            text: "a file is missing",
+        },
+    ];
+    for case in &cases {
+        assert_eq!(rt; case.status.code(), case.code);
+        assert_eq!(rt;
+            format!(in rt.alloc(); "{}", case.status)?.as_str(),
+            case.text
+        );
+    }
+    let failed = format!(in rt.alloc(); "{} / {}", Failed, FillError::Failed)?;
+    assert_eq!(rt;
+        failed.as_str(),
+        "a read, a write or a fetch failed / a read failed"
+    );
+    Ok(())
 }
 
 #[test]
@@ -49,14 +79,13 @@ fn fill_gives_a_source_however_cut(rt: HostRuntime) -> Result<(), Fail> {
 }
 
 #[test]
-fn fill_fails_at_each_failing_read(rt: HostRuntime) -> Result<(), Fail> {
+fn fill_fails_at_each_failing_read_and_makes_none_after_the_end(
+    rt: HostRuntime,
+) -> Result<(), Fail> {
     // The text takes 15 calls of one byte, and one more shows its end.
     for call in 0..16 {
         let mut source = MemSource::new(rt.alloc(), TEXT, 1, &[call])?;
-        match fill(rt.alloc(), &mut source, 100) {
-            Ok(_) => assert!(rt; false, "call {call}"),
-            Err(error) => assert_eq!(rt; error, FillError::Failed),
-        }
+        assert_error(&rt, fill(rt.alloc(), &mut source, 100), FillError::Failed);
         let given = usize::try_from(call)?;
         if given <= TEXT.len() {
             assert_text(&rt, fill(rt.alloc(), &mut source, 100), &TEXT[given..]);
@@ -64,18 +93,30 @@ fn fill_fails_at_each_failing_read(rt: HostRuntime) -> Result<(), Fail> {
     }
     let mut source = MemSource::new(rt.alloc(), TEXT, 1, &[16])?;
     assert_text(&rt, fill(rt.alloc(), &mut source, 100), TEXT);
+    assert_error(&rt, fill(rt.alloc(), &mut source, 100), FillError::Failed);
     Ok(())
+}
+
+#[derive(Clone, Copy)]
+struct LimitCase {
+    limit: usize,
+    rest: usize,
 }
 
 #[test]
 fn fill_stops_one_byte_past_its_limit(rt: HostRuntime) -> Result<(), Fail> {
-    for (limit, rest) in [(0, 14), (1, 13), (13, 1), (14, 0)] {
+    let cases = [
+        LimitCase { limit: 0, rest: 14 },
+        LimitCase { limit: 14, rest: 0 },
+    ];
+    for case in &cases {
         let mut source = MemSource::new(rt.alloc(), TEXT, 4, &[])?;
-        match fill(rt.alloc(), &mut source, limit) {
-            Ok(_) => assert!(rt; false, "limit {limit}"),
-            Err(error) => assert_eq!(rt; error, FillError::TooLong),
-        }
-        let at = TEXT.len() - rest;
+        assert_error(
+            &rt,
+            fill(rt.alloc(), &mut source, case.limit),
+            FillError::TooLong,
+        );
+        let at = TEXT.len() - case.rest;
         assert_text(&rt, fill(rt.alloc(), &mut source, 100), &TEXT[at..]);
     }
     Ok(())
@@ -127,78 +168,177 @@ fn a_shelf_in_memory_keeps_the_last_file_of_a_name(rt: HostRuntime) -> Result<()
     Ok(())
 }
 
-// Gives one byte in each call, and fails in the third.
-#[derive(Drop)]
-struct FailingReader {
-    calls: u8,
+// What a call of a reader or a writer does: it gives or takes at most so many bytes, or fails.
+#[derive(Clone, Copy)]
+enum Turn {
+    Moves(usize),
+    Fails(ErrorKind),
+    // It takes two bytes, and the flush after it fails.
+    FailsToFlush(ErrorKind),
 }
 
-impl Read for FailingReader {
+// Makes one turn a call, and is at its end after them.
+#[derive(Drop)]
+struct TurnReader<'a> {
+    turns: &'a [Turn],
+}
+
+impl<'a> Read for TurnReader<'a> {
     fn read(&mut self, buf: &mut [u8]) -> io::Result<usize> {
-        self.calls = self.calls.saturating_add(1);
-        if self.calls == 3 || buf.is_empty() {
-            return Err(io::Error::from(ErrorKind::Other));
+        let Some((turn, later)) = self.turns.split_first() else {
+            return Ok(0);
+        };
+        self.turns = later;
+        match *turn {
+            Turn::Moves(most) => {
+                let count = most.min(buf.len());
+                buf[..count].fill(b'x');
+                Ok(count)
+            }
+            Turn::Fails(kind) => Err(io::Error::from(kind)),
+            Turn::FailsToFlush(kind) => Err(io::Error::from(kind)),
         }
-        buf[0] = b'x';
-        Ok(1)
     }
+}
+
+#[derive(Clone, Copy)]
+struct ReadCase {
+    turn: Turn,
+    wanted: Result<usize, Failed>,
 }
 
 #[test]
 fn a_source_over_a_reader_gives_its_bytes_and_its_faults(rt: HostRuntime) {
     let mut source = StdSource::new(TEXT);
     assert_text(&rt, fill(rt.alloc(), &mut source, 15), TEXT);
-    let mut source = StdSource::new(FailingReader { calls: 0 });
-    let mut piece = [0u8; 4];
-    assert_eq!(rt; source.read(&mut piece), Ok(1));
-    assert_eq!(rt; piece, *b"x\0\0\0");
-    assert_eq!(rt; source.read(&mut piece), Ok(1));
-    assert_eq!(rt; source.read(&mut piece), Err(Failed));
-    assert_eq!(rt; source.read(&mut piece), Ok(1));
+    let cases = [
+        ReadCase {
+            turn: Turn::Moves(1),
+            wanted: Ok(1),
+        },
+        ReadCase {
+            turn: Turn::Fails(ErrorKind::Interrupted),
+            wanted: Err(Failed),
+        },
+        ReadCase {
+            turn: Turn::Moves(9),
+            wanted: Ok(4),
+        },
+        ReadCase {
+            turn: Turn::Moves(0),
+            wanted: Ok(0),
+        },
+        ReadCase {
+            turn: Turn::Fails(ErrorKind::Other),
+            wanted: Err(Failed),
+        },
+    ];
+    for case in &cases {
+        let turns = [case.turn];
+        let mut piece = [0u8; 4];
+        let mut source = StdSource::new(TurnReader {
+            turns: turns.as_slice(),
+        });
+        assert_eq!(rt; source.read(&mut piece), case.wanted);
+        assert_eq!(rt; source.read(&mut piece), Ok(0));
+    }
+    // A reader that fails after its end isn't asked again.
+    let turns = [
+        Turn::Moves(2),
+        Turn::Moves(0),
+        Turn::Fails(ErrorKind::Other),
+    ];
+    let mut source = StdSource::new(TurnReader {
+        turns: turns.as_slice(),
+    });
+    assert_text(&rt, fill(rt.alloc(), &mut source, 15), b"xx");
 }
 
-// Takes at most two bytes a call. It takes none in the second call, fails in the third, and fails to
-// flush after the fourth.
+// Makes one turn a call, and counts the flushes.
 #[derive(Drop)]
-struct FailingWriter<'a> {
-    calls: u8,
+struct TurnWriter<'a> {
+    turn: Turn,
     flushes: &'a mut u8,
 }
 
-impl<'a> Write for FailingWriter<'a> {
+impl<'a> Write for TurnWriter<'a> {
     fn write(&mut self, buf: &[u8]) -> io::Result<usize> {
-        self.calls = self.calls.saturating_add(1);
-        match self.calls {
-            2 => Ok(0),
-            3 => Err(io::Error::from(ErrorKind::BrokenPipe)),
-            _ => Ok(buf.len().min(2)),
+        match self.turn {
+            Turn::Moves(most) => Ok(most.min(buf.len())),
+            Turn::Fails(kind) => Err(io::Error::from(kind)),
+            Turn::FailsToFlush(_) => Ok(buf.len().min(2)),
         }
     }
 
     fn flush(&mut self) -> io::Result<()> {
         *self.flushes = self.flushes.saturating_add(1);
-        if self.calls == 4 {
-            Err(io::Error::from(ErrorKind::Other))
-        } else {
-            Ok(())
+        match self.turn {
+            Turn::FailsToFlush(kind) => Err(io::Error::from(kind)),
+            _ => Ok(()),
         }
     }
 }
 
+#[derive(Clone, Copy)]
+struct WriteCase {
+    turn: Turn,
+    piece: &'static [u8],
+    // The answers of two calls, and how many flushes they make.
+    first: Result<usize, Failed>,
+    second: Result<usize, Failed>,
+    flushes: u8,
+}
+
 #[test]
 fn a_sink_over_a_writer_gives_its_bytes_and_its_faults(rt: HostRuntime) -> Result<(), Fail> {
-    let mut flushes = 0;
-    let mut sink = StdSink::new(FailingWriter {
-        calls: 0,
-        flushes: &mut flushes,
-    });
-    assert_eq!(rt; sink.write(b"abc"), Ok(2));
-    assert_eq!(rt; sink.write(b"abc"), Err(Failed));
-    assert_eq!(rt; sink.write(b"abc"), Err(Failed));
-    assert_eq!(rt; sink.write(b"abc"), Err(Failed));
-    assert_eq!(rt; sink.write(b"a"), Ok(1));
-    assert_eq!(rt; sink.write(b""), Ok(0));
-    assert_eq!(rt; flushes, 4);
+    let cases = [
+        WriteCase {
+            turn: Turn::Moves(2),
+            piece: b"abc",
+            first: Ok(2),
+            second: Ok(2),
+            flushes: 2,
+        },
+        WriteCase {
+            turn: Turn::Moves(0),
+            piece: b"",
+            first: Ok(0),
+            second: Ok(0),
+            flushes: 2,
+        },
+        WriteCase {
+            turn: Turn::Moves(0),
+            piece: b"abc",
+            first: Err(Failed),
+            second: Err(Failed),
+            flushes: 0,
+        },
+        WriteCase {
+            turn: Turn::Fails(ErrorKind::Interrupted),
+            piece: b"abc",
+            first: Err(Failed),
+            second: Err(Failed),
+            flushes: 0,
+        },
+        // After bytes whose flush failed nothing is written.
+        WriteCase {
+            turn: Turn::FailsToFlush(ErrorKind::Interrupted),
+            piece: b"abc",
+            first: Err(Failed),
+            second: Err(Failed),
+            flushes: 1,
+        },
+    ];
+    for case in &cases {
+        let mut flushes = 0;
+        let mut sink = StdSink::new(TurnWriter {
+            turn: case.turn,
+            flushes: &mut flushes,
+        });
+        assert_eq!(rt; sink.write(case.piece), case.first);
+        assert_eq!(rt; sink.write(case.piece), case.second);
+        assert_eq!(rt; flushes, case.flushes);
+    }
     let mut room = [0u8; 15];
     let mut sink = StdSink::new(room.as_mut_slice());
     assert_eq!(rt; put_all(&mut sink, TEXT), Ok(()));
@@ -207,20 +347,98 @@ fn a_sink_over_a_writer_gives_its_bytes_and_its_faults(rt: HostRuntime) -> Resul
     Ok(())
 }
 
+#[derive(Clone, Copy)]
+struct FileCase<'a> {
+    turns: &'a [Turn],
+    wanted: Result<usize, ErrorKind>,
+}
+
+#[test]
+fn a_file_is_read_by_short_reads_and_an_interrupted_one_fails(rt: HostRuntime) {
+    let cases = [
+        FileCase {
+            turns: &[Turn::Moves(1), Turn::Moves(2)],
+            wanted: Ok(3),
+        },
+        FileCase {
+            turns: &[
+                Turn::Moves(3),
+                Turn::Moves(9),
+                Turn::Fails(ErrorKind::Other),
+            ],
+            wanted: Ok(4),
+        },
+        FileCase {
+            turns: &[Turn::Fails(ErrorKind::Interrupted)],
+            wanted: Err(ErrorKind::Interrupted),
+        },
+        FileCase {
+            turns: &[Turn::Moves(1), Turn::Fails(ErrorKind::NotFound)],
+            wanted: Err(ErrorKind::NotFound),
+        },
+    ];
+    for case in &cases {
+        let mut piece = [0u8; 4];
+        match give_file(Ok(TurnReader { turns: case.turns }), &mut piece) {
+            Ok(found) => assert_eq!(rt; found.ok_or(ErrorKind::NotFound), case.wanted),
+            Err(error) => assert_eq!(rt; Err(error.kind()), case.wanted),
+        }
+    }
+}
+
+#[derive(Clone, Copy)]
+struct FetchCase {
+    name: &'static str,
+    wanted: Result<Option<usize>, Failed>,
+}
+
 #[test]
 fn a_shelf_over_real_files_finds_and_misses_them(rt: HostRuntime) -> Result<(), Fail> {
     fs::create_dir(&rt, "shelf")?;
     fs::write(&rt, "shelf/a", TEXT)?;
+    fs::write(&rt, "shelf/b ", b"b")?;
+    let cases = [
+        FetchCase {
+            name: "shelf/a",
+            wanted: Ok(Some(15)),
+        },
+        FetchCase {
+            name: "shelf/b ",
+            wanted: Ok(Some(1)),
+        },
+        FetchCase {
+            name: "shelf/b",
+            wanted: Ok(None),
+        },
+        FetchCase {
+            name: " shelf/a",
+            wanted: Ok(None),
+        },
+        // A folder is there and is no file, and so is a path through a file.
+        FetchCase {
+            name: "shelf",
+            wanted: Err(Failed),
+        },
+        FetchCase {
+            name: "shelf/a/b",
+            wanted: Err(Failed),
+        },
+        // No file has such a name.
+        FetchCase {
+            name: "shelf/\0",
+            wanted: Err(Failed),
+        },
+    ];
     let mut shelf = DirShelf::new(&rt);
-    let mut piece = [0u8; 20];
-    assert_eq!(rt; shelf.fetch("shelf/a", &mut piece), Ok(Some(15)));
-    assert_eq!(rt; &piece[..15], TEXT);
-    assert_eq!(rt; shelf.fetch("shelf/a", &mut piece[..3]), Ok(Some(3)));
-    assert_eq!(rt; shelf.fetch("shelf/b", &mut piece), Ok(None));
-    // A folder is there and is no file, and so is a path through a file.
-    assert_eq!(rt; shelf.fetch("shelf", &mut piece), Err(Failed));
-    assert_eq!(rt; shelf.fetch("shelf/a/b", &mut piece), Err(Failed));
+    for case in &cases {
+        let mut piece = [0u8; 20];
+        assert_eq!(rt; shelf.fetch(case.name, &mut piece), case.wanted);
+    }
+    let mut piece = [0u8; 3];
+    assert_eq!(rt; shelf.fetch("shelf/a", &mut piece), Ok(Some(3)));
+    assert_eq!(rt; piece, *b"GET");
     fs::remove_file(&rt, "shelf/a")?;
+    fs::remove_file(&rt, "shelf/b ")?;
     fs::remove_dir(&rt, "shelf")?;
     Ok(())
 }

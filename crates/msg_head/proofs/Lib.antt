@@ -1,6 +1,7 @@
-pub mod Cuts
+pub mod Prefixes
 pub mod OneHeads
+pub mod StartParts
+pub mod LineParts
+pub mod Sections
 pub mod Ends
-pub mod Requests
-pub mod Walks
 pub mod Wholes

@@ -1,7 +1,9 @@
-pub mod Bytes
+pub mod RawValues
 pub mod Lines
 pub mod Starts
 pub mod Heads
-pub mod Fronts
+pub mod Laws
 pub mod Views
-pub mod Answers
+pub mod Outcome
+pub mod tools
+pub use Rattle.byte_classes.specs.Classes

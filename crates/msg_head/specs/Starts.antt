@@ -1,8 +1,8 @@
 -- Start lines: RFC 9112 sections 2.1 and 3. There is only the request line yet.
-use Rattle.std.specs.Prelude.{ℕ, Bool, IsTrue, ◌&&◌, ◌||◌, nat_lt, List, [], ◌∷◌, ◌++◌, length, codes}
+use Rattle.std.specs.Prelude.{ℕ, Bool, IsTrue, ◌&&◌, ◌||◌, nat_lt, List, ◌∷◌, ◌++◌, length, codes}
 use Rattle.std.specs.List.{list_all}
-use Rattle.std.specs.Str.{bytes_eq}
-use Rattle.msg_head.specs.Bytes.{is_token, is_visible}
+use Rattle.std.specs.Str.{byte, bytes_eq}
+use Rattle.byte_classes.specs.Classes.{is_token, is_visible}
 
 -- RFC 9112 section 3
 pub record RequestLine : Type 0 where
@@ -14,7 +14,7 @@ pub record RequestLine : Type 0 where
 abbrev pub is_target : List ℕ → Bool
 is_target text = nat_lt 0 (length text) && list_all is_visible text
 
--- HTTP-version: RFC 9112 section 2.3
+-- HTTP-version: RFC 9112 section 2.3. Of the versions that it has these two are read.
 abbrev pub is_version : List ℕ → Bool
 is_version text = bytes_eq text (codes "HTTP/1.1") || bytes_eq text (codes "HTTP/1.0")
 
@@ -26,7 +26,8 @@ pub record IsRequestLine (line : RequestLine) : Type 0 where
 
 -- method, SP, target, SP, version, CRLF
 abbrev pub request_text : RequestLine → List ℕ
-request_text line = line.method ++ 32 ∷ (line.target ++ 32 ∷ (line.version ++ 13 ∷ 10 ∷ []))
+request_text line =
+    line.method ++ byte " " ∷ (line.target ++ byte " " ∷ (line.version ++ codes "\r\n"))
 
 -- RFC 9112 section 2.1
 pub data StartLine : Type 0 where

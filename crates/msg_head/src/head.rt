@@ -1,60 +1,32 @@
 //! Reads a head.
 
 ghost use Rattle.std.specs.Prelude.{◌≡◌, ℕ, ◌≤◌, ◌↔◌, length, IsTrue, IfOk, IfSome, IfNone, Ok, Err};
-ghost use Rattle.msg_head.specs.Heads.{Head, SpellsHead, BeginsWithNone, IsUnfinished, OneHead, NoHeadInFront};
-ghost use Rattle.msg_head.specs.Answers.{IfWhole, IsWholeUnlessMemory};
+ghost use Rattle.msg_head.specs.Heads.{Head, SpellsHead, BeginsWithNone, IsUnfinished};
+ghost use Rattle.msg_head.specs.Outcome.{IfWhole, IsWholeUnlessMemory};
 
-use crate::front::{front_of, part_of};
+use crate::error::HeadError;
+use crate::limits::MAX_HEAD_BYTES;
 use crate::line::read_lines;
-use crate::request::{VERSION_LEN, read_request};
-use crate::view::{HeadView, Start};
+use crate::slices::prefix_of;
+use crate::start::read_start;
+use crate::view::HeadView;
 use memchr::memmem;
 use std::alloc::{AllocError, Global};
 
-/// What stands at the front of the bytes.
+/// What the bytes begin with.
 #[derive(Debug, Drop)]
 pub enum HeadRead<'m> {
-    /// A head, and how many bytes spell it.
+    /// A head, and how many bytes spell it, the empty line at its end included.
     Whole(HeadView<'m>, usize),
-    /// No head's end is there yet, and there is room for more bytes.
+    /// No end of a head is there yet, and there is room for more bytes.
     Partial,
 }
-
-/// Why no head was read.
-#[derive(Clone, Copy, Debug, PartialEq, Eq)]
-pub enum HeadError {
-    /// No memory was found.
-    Memory,
-    /// The bytes begin with no head of the form that is read yet.
-    NotYet,
-}
-
-impl From<AllocError> for HeadError {
-    ghost use Rattle.std.specs.Prelude.{◌≡◌};
-    ghost use Rattle.msg_head.specs.declared.head.HeadError.TheVariants.{Memory};
-
-    ghost from_gives = { λ _ e. e ≡ Memory };
-
-    fn from(_error: AllocError) -> HeadError {
-        HeadError::Memory
-    }
-}
-
-/// How many bytes a head may have, its end included.
-const MOST_BYTES: usize = 65_536;
-
-/// The laws of heads: bytes begin with at most one head, and the text of no head goes on behind
-/// another head's text.
-pub fn head_laws()
-    ensures one { OneHead }
-    ensures front { NoHeadInFront }
-{}
 
 // Whether the end of a head may still come.
 fn is_unfinished(bytes: &[u8]) -> bool
     ensures { IsTrue result ↔ IsUnfinished bytes.now }
 {
-    bytes.len() < MOST_BYTES && memmem::find(bytes, b"\r\n\r\n").is_none()
+    bytes.len() < MAX_HEAD_BYTES && memmem::find(bytes, b"\r\n\r\n").is_none()
 }
 
 // The head that the bytes begin with, and how many of them spell it.
@@ -62,37 +34,34 @@ fn read_whole<'m>(
     alloc: Global,
     bytes: &'m [u8],
 ) -> Result<Option<(HeadView<'m>, usize)>, AllocError>
-    requires { length bytes.now ≤ 65536 }
-    ensures some { IfOk result (λ found. IfSome found (λ head. SpellsHead head.0 head.1 bytes.now)) }
+    requires { length bytes.now ≤ MAX_HEAD_BYTES }
+    ensures some { IfOk result
+        (λ found. IfSome found (λ head. SpellsHead head.0 head.1 bytes.now)) }
     ensures none { IfOk result (λ found. IfNone found (BeginsWithNone bytes.now)) }
 {
-    let Some(lengths) = read_request(bytes) else {
+    let Some((start, rest)) = read_start(bytes) else {
         return Ok(None);
     };
-    let target = lengths.method + 1;
-    let version = target + lengths.target + 1;
-    let Some(lines) = read_lines(alloc, bytes, version + VERSION_LEN + 2)? else {
+    let Some((spans, after)) = read_lines(alloc, bytes, rest)? else {
         return Ok(None);
     };
-    let start = Start::Request {
-        method: front_of(bytes, lengths.method),
-        target: part_of(bytes, target, lengths.target),
-        version: part_of(bytes, version, VERSION_LEN),
-    };
-    Ok(Some((HeadView::new(bytes, start, lines.spans), lines.end)))
+    let used = bytes.len() - after.len();
+    Ok(Some((HeadView::new(bytes, start, spans), used)))
 }
 
-/// Reads the head that the bytes begin with.
+/// Reads the head that the bytes begin with (RFC 9112 section 2.1).
 pub fn read_head<'m>(alloc: Global, bytes: &'m [u8]) -> Result<HeadRead<'m>, HeadError>
     ensures whole { IfWhole result (λ head used. SpellsHead head used bytes.now) }
-    ensures found { (head : Head) (used : ℕ) → SpellsHead head used bytes.now → IsWholeUnlessMemory result head used }
+    ensures found { (head : Head) (used : ℕ) → SpellsHead head used bytes.now
+        → IsWholeUnlessMemory result head used }
     ensures partial { (result ≡ Ok HeadRead.Partial) ↔ IsUnfinished bytes.now }
-    ensures not_yet { result ≡ Err HeadError.NotYet → BeginsWithNone bytes.now × ¬ IsUnfinished bytes.now }
+    ensures not_yet { result ≡ Err HeadError.NotYet
+        → BeginsWithNone bytes.now × ¬ IsUnfinished bytes.now }
 {
     if is_unfinished(bytes) {
         return Ok(HeadRead::Partial);
     }
-    match read_whole(alloc, front_of(bytes, MOST_BYTES))? {
+    match read_whole(alloc, prefix_of(bytes, MAX_HEAD_BYTES))? {
         Some((view, used)) => Ok(HeadRead::Whole(view, used)),
         None => Err(HeadError::NotYet),
     }

@@ -1,19 +1,36 @@
 //! Heads of HTTP/1.1 messages: a start line and field lines (RFC 9112).
 //!
-//! A head is read from the front of the bytes that hold it, and the view of it borrows them. There is
-//! only the request line yet, and no obsolete line folding.
+//! A head is read from the start of the bytes that hold it, and the view of it borrows them. There
+//! is only the request line yet, and no obsolete line folding.
+//!
+//! ```text
+//! let bytes = b"GET / HTTP/1.1\r\nHost: example.com\r\n\r\n";
+//! match read_head(alloc, bytes)? {
+//!     HeadRead::Whole(head, used) => { .. } // used is 37, head.line(0).raw is b" example.com"
+//!     HeadRead::Partial => { .. }           // more bytes are wanted
+//! }
+//! ```
 #![tactic(auto)]
 
-mod class;
-mod front;
+mod error;
+mod field_lines;
 mod head;
+mod laws;
+mod limits;
 mod line;
-mod request;
+mod raw;
+mod slices;
+mod start;
 mod view;
 
-pub use head::{HeadError, HeadRead, head_laws, read_head};
+pub use error::HeadError;
+pub use field_lines::FieldLines;
+pub use head::{HeadRead, read_head};
+pub use laws::head_laws;
+pub use limits::{MAX_HEAD_BYTES, MAX_HEAD_LINES};
 pub use line::{LineSpan, LineView};
-pub use view::{HeadView, Start};
+pub use start::Start;
+pub use view::HeadView;
 
 #[cfg(test)]
 mod tests;

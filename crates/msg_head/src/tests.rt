@@ -4,7 +4,7 @@ use std::test::Fail;
 
 const SMALL: &[u8] = b"GET /a?b HTTP/1.1\r\nHost: example.com\r\nX-Empty:\r\n\r\n";
 
-// How many bytes are used by the head at the front; None where the end of a head may still come.
+// How many bytes the first head has; None where the end of a head may still come.
 fn used(alloc: Global, bytes: &[u8]) -> Result<Option<usize>, HeadError> {
     match read_head(alloc, bytes)? {
         HeadRead::Whole(_, used) => Ok(Some(used)),
@@ -48,11 +48,24 @@ fn view_has_the_start_and_the_lines_as_written(rt: HostRuntime) -> Result<(), Fa
     let last = view.line(2);
     assert_eq!(rt; last.name, b"host".as_slice());
     assert_eq!(rt; last.raw, b"\t2:3".as_slice());
+    assert_eq!(rt; view.lines().count(), 3);
     Ok(())
 }
 
 #[test]
-fn each_proper_front_of_a_head_is_partial(rt: HostRuntime) -> Result<(), Fail> {
+fn errors_are_printed(rt: HostRuntime) -> Result<(), Fail> {
+    let memory = format!(in rt.alloc(); "{}", HeadError::Memory)?;
+    assert_eq!(rt; memory.as_str(), "out of memory");
+    let not_yet = format!(in rt.alloc(); "{}", HeadError::NotYet)?;
+    assert_eq!(rt;
+        not_yet.as_str(),
+        "the message begins with no head of a form that is read yet"
+    );
+    Ok(())
+}
+
+#[test]
+fn each_proper_prefix_of_a_head_is_partial(rt: HostRuntime) -> Result<(), Fail> {
     for count in 0..SMALL.len() {
         assert_eq!(rt; used(rt.alloc(), &SMALL[..count])?, None);
     }

@@ -1,22 +1,13 @@
 //! The view of a head.
 
-ghost use Rattle.std.specs.Prelude.{◌≡◌, ◌<◌, ℕ, List, length, map, slice_get, Some, IsTrue};
+ghost use Rattle.std.specs.Prelude.{◌≡◌, ◌<◌, List, length, slice_get, Some, IsTrue};
 ghost use Rattle.std.specs.List.{list_all};
-ghost use Rattle.msg_head.specs.Views.{spelled, lies_in, shown};
+ghost use Rattle.msg_head.specs.Views.{lies_in, field_line_of, start_line_of, head_at};
 
-use crate::line::{LineSpan, LineView};
+use crate::field_lines::FieldLines;
+use crate::line::{LineSpan, LineView, line_at};
+use crate::start::Start;
 use std::marker::Model;
-
-/// A start line, borrowed from the bytes of its message (RFC 9112 section 2.1).
-#[derive(Clone, Copy, Debug)]
-pub enum Start<'m> {
-    /// A request line (RFC 9112 section 3).
-    Request {
-        method: &'m [u8],
-        target: &'m [u8],
-        version: &'m [u8],
-    },
-}
 
 /// A head, borrowed from the bytes of its message. A contract sees it as the head that they spell.
 #[derive(Debug, Drop)]
@@ -27,25 +18,23 @@ pub struct HeadView<'m> {
 }
 
 impl<'m> Model for HeadView<'m> {
-    ghost use Rattle.std.specs.Prelude.{length, map, IsTrue};
+    ghost use Rattle.std.specs.Prelude.{length, IsTrue};
     ghost use Rattle.std.specs.List.{list_all};
     ghost use Rattle.msg_head.specs.Heads.{Head};
+    ghost use Rattle.msg_head.specs.Views.{head_at, lies_in};
 
     ghost Value = { Head };
 
-    ghost use Rattle.msg_head.specs.Views.{spelled, lies_in, shown};
-
-    ghost view = { λ h. record { start = shown h.start; lines = map (spelled h.bytes.now) h.lines.items } };
+    ghost view = { λ h. head_at h.bytes.now h.start h.lines.items };
 
     ghost invariant = { λ h. IsTrue (list_all (lies_in (length h.bytes.now)) h.lines.items) };
 }
 
 impl<'m> HeadView<'m> {
-    /// The head that stands at these places.
+    /// The head whose field lines stand at these offsets.
     pub(crate) fn new(bytes: &'m [u8], start: Start<'m>, lines: Vec<LineSpan>) -> HeadView<'m>
         requires { IsTrue (list_all (lies_in (length bytes.now)) lines.items) }
-        ensures start { result.start ≡ shown start.entry }
-        ensures lines { result.lines ≡ map (spelled bytes.now) lines.items }
+        ensures { result ≡ head_at bytes.now start.entry lines.items }
     {
         HeadView {
             bytes,
@@ -56,7 +45,7 @@ impl<'m> HeadView<'m> {
 
     /// The start line.
     pub fn start(&self) -> Start<'m>
-        ensures { shown result ≡ self.now.start }
+        ensures { start_line_of result ≡ self.now.start }
     {
         self.start
     }
@@ -68,15 +57,18 @@ impl<'m> HeadView<'m> {
         self.lines.len()
     }
 
-    /// The field line at that place in their order.
+    /// The field line with that index in their order.
     pub fn line(&self, index: usize) -> LineView<'m>
         requires { index < length self.now.lines }
-        ensures { slice_get self.now.lines index ≡ Some (result.name.now, result.raw.now) }
+        ensures { slice_get self.now.lines index ≡ Some (field_line_of result) }
     {
-        let span = self.lines[index];
-        LineView {
-            name: &self.bytes[span.name..span.colon],
-            raw: &self.bytes[span.colon + 1..span.end],
-        }
+        line_at(self.bytes, self.lines[index])
+    }
+
+    /// The field lines, in order.
+    pub fn lines(&self) -> FieldLines<'_, 'm>
+        ensures { result ≡ self.now.lines }
+    {
+        FieldLines::new(self.bytes, &self.lines)
     }
 }

@@ -1,3 +1,4 @@
+pub mod EqualityLaws
 pub mod Groups
 pub mod Printable
 pub mod PutLaws

@@ -18,11 +18,11 @@ use Rattle.sfv_text.specs.declared.value.BareItem.TheVariants.{Integer, Decimal,
 use Rattle.sfv_text.specs.declared.value.Item.{Item}
 use Rattle.sfv_text.specs.declared.value.InnerList.{InnerList}
 use Rattle.sfv_text.specs.declared.value.Member.{Member}
-use Rattle.sfv_text.specs.declared.value.Member.TheVariants.{Item as OneItem, InnerList as SomeItems}
+use Rattle.sfv_text.specs.declared.value.Member.TheVariants.{Item as ItemMember, InnerList as InnerMember}
 use Rattle.sfv_text.specs.Keys.{have_distinct_keys}
 use Rattle.byte_classes.specs.Classes.{is_one_of, is_tchar}
-use Rattle.sfv_text.specs.Range.{is_string_byte, is_byte, is_token_first, is_token_rest, is_key_first, is_key_rest, is_word, is_token, is_key, is_number_in_range, is_bare_in_range, is_param_in_range, are_params_in_range, is_item_in_range, is_inner_in_range, is_member_in_range, is_list_in_range, is_entry_in_range, is_dict_in_range}
-use Rattle.sfv_text.specs.Strict.{sign_text, integer_text, fraction_text, decimal_text, character_text, string_text, bytes_text, bare_text, param_value_text, param_text, params_text, item_text, inner_text, member_text, list_text, entry_item_text, entry_value_text, entry_text, dict_text}
+use Rattle.sfv_text.specs.Range.{is_string_byte, is_byte, is_token_first, is_token_rest, is_key_first, is_key_rest, is_word, is_sf_token, is_key, is_number_in_range, is_bare_in_range, is_param_in_range, are_params_in_range, is_item_in_range, is_inner_in_range, is_member_in_range, is_list_in_range, is_dict_member_in_range, is_dict_in_range}
+use Rattle.sfv_text.specs.Strict.{sign_text, integer_text, fraction_text, decimal_text, character_text, string_text, bytes_text, bare_text, param_value_text, param_text, params_text, item_text, inner_text, member_text, list_text, dict_item_text, dict_value_text, dict_member_text, dict_text}
 
 abbrev pub IsPrintable : List ℕ → Type 0
 IsPrintable text = list_all is_string_byte text ≡ true
@@ -101,7 +101,7 @@ word first others f o (c ∷ cs) h =
     let p = and_parts (first c) (list_all others cs) h in
     rw (f c p.0) (all_more others o cs p.1)
 
-token : (text : List ℕ) → is_token text ≡ true → IsPrintable text
+token : (text : List ℕ) → is_sf_token text ≡ true → IsPrintable text
 token text h = word is_token_first is_token_rest token_first token_rest text h
 
 key : (text : List ℕ) → is_key text ≡ true → IsPrintable text
@@ -229,13 +229,13 @@ inner_is inner h =
     joined (join_by item_text (codes " ") inner.items) (41 ∷ params_text inner.params) (separated item_text (codes " ") is_item_in_range refl item_is inner.items p.0) (params inner.params p.1)
 
 member : (m : Member) → is_member_in_range m ≡ true → IsPrintable (member_text m)
-member (OneItem item) h = item_is item h
-member (SomeItems inner) h = inner_is inner h
+member (ItemMember item) h = item_is item h
+member (InnerMember inner) h = inner_is inner h
 
 pub list_is : (members : List Member) → is_list_in_range members ≡ true → IsPrintable (list_text members)
 list_is members h = separated member_text (codes ", ") is_member_in_range refl member members h
 
-entry_item : (bare : BareItem) (ps : List (Pair BareItem)) → is_bare_in_range bare ≡ true → IsPrintable (params_text ps) → IsPrintable (entry_item_text bare ps)
+entry_item : (bare : BareItem) (ps : List (Pair BareItem)) → is_bare_in_range bare ≡ true → IsPrintable (params_text ps) → IsPrintable (dict_item_text bare ps)
 entry_item (Integer z) ps h p = joined (bare_text (Integer z)) (params_text ps) (bare_is (Integer z) h) p
 entry_item (Decimal z) ps h p = joined (bare_text (Decimal z)) (params_text ps) (bare_is (Decimal z) h) p
 entry_item (Str text) ps h p = joined (bare_text (Str text)) (params_text ps) (bare_is (Str text) h) p
@@ -244,16 +244,16 @@ entry_item (Bytes b) ps h p = joined (bare_text (Bytes b)) (params_text ps) (bar
 entry_item (Boolean true) ps h p = p
 entry_item (Boolean false) ps h p = joined (bare_text (Boolean false)) (params_text ps) refl p
 
-entry_value : (m : Member) → is_member_in_range m ≡ true → IsPrintable (entry_value_text m)
-entry_value (OneItem item) h =
+entry_value : (m : Member) → is_member_in_range m ≡ true → IsPrintable (dict_value_text m)
+entry_value (ItemMember item) h =
     let p = and_parts (is_bare_in_range item.bare) (are_params_in_range item.params) h in
     entry_item item.bare item.params p.0 (params item.params p.1)
-entry_value (SomeItems inner) h = inner_is inner h
+entry_value (InnerMember inner) h = inner_is inner h
 
-entry : (e : Pair Member) → is_entry_in_range e ≡ true → IsPrintable (entry_text e)
+entry : (e : Pair Member) → is_dict_member_in_range e ≡ true → IsPrintable (dict_member_text e)
 entry e h =
     let p = and_parts (is_key e.key) (is_member_in_range e.value) h in
-    joined e.key (entry_value_text e.value) (key e.key p.0) (entry_value e.value p.1)
+    joined e.key (dict_value_text e.value) (key e.key p.0) (entry_value e.value p.1)
 
 pub dict_is : (entries : List (Pair Member)) → is_dict_in_range entries ≡ true → IsPrintable (dict_text entries)
-dict_is entries h = separated entry_text (codes ", ") is_entry_in_range refl entry entries (and_parts (have_distinct_keys entries) (list_all is_entry_in_range entries) h).1
+dict_is entries h = separated dict_member_text (codes ", ") is_dict_member_in_range refl entry entries (and_parts (have_distinct_keys entries) (list_all is_dict_member_in_range entries) h).1

@@ -1,13 +1,15 @@
 -- What holds of pairs when a key is put.
-use Rattle.std.proofs.Common.{◌≡◌, get_or, set, ℕ, zero, suc, ◌<◌, Bool, true, false, not, ◌||◌, map, List, [], ◌∷◌, ◌++◌, length, refl, sym, ap, ◌∙◌, arith, inl, inr}
-use Rattle.std.specs.List.{list_all, list_any}
+use Rattle.std.proofs.Common.{◌≡◌, get_or, set, ℕ, zero, suc, ◌<◌, Bool, true, false, not, ◌||◌, map, List, [], ◌∷◌, ◌++◌, length, refl, sym, ap, ◌∙◌, arith, inl, inr, Some, None}
+use Rattle.std.specs.List.{list_all, list_any, position, position_or_len}
+use Rattle.std.specs.Prelude.{nat_lt}
+use Rattle.std.proofs.lemmas.List.Quantifiers.{position-Some}
 use Rattle.std.specs.Str.{bytes_eq}
-use Rattle.std.proofs.lemmas.Bool.{cases_Bool, and_parts, false≢true}
+use Rattle.std.proofs.lemmas.Bool.{cases_Bool, and_parts, false≢true, lt-ltb}
 use Rattle.std.proofs.lemmas.Bool.Decides.{same_from_decides}
 use Rattle.std.proofs.lemmas.List.Folds.{list_all-append, list_any-append}
 use Rattle.std.proofs.lemmas.Slice.Eq.{bytes_eq-Decides}
 use Rattle.sfv_text.specs.declared.pair.Pair.{Pair}
-use Rattle.sfv_text.specs.Keys.{has_key, have_distinct_keys, with_value, put, IsFound}
+use Rattle.sfv_text.specs.Keys.{has_key, have_distinct_keys, with_value, put}
 
 pub bytes_eq-sym : (a b : List ℕ) → bytes_eq a b ≡ bytes_eq b a
 bytes_eq-sym a b =
@@ -55,14 +57,34 @@ set_found {V} (p ∷ ps) key v (suc index) d lt at = elim (cases_Bool (has_key k
   | inr n ↦ rw n (ap (λ (qs : List (Pair V)). p ∷ qs) (set_found ps key v index (distinct_parts p ps d).1 (omega arith) at))
 ]
 
--- a pair where the key's pair
-pub put_found : {V : Type 0} (ps : List (Pair V)) (key : List ℕ) (v : V) (index : ℕ) → have_distinct_keys ps ≡ true → IsFound ps key index
+-- a pair where the key's pair stands
+pub put_found : {V : Type 0} (ps : List (Pair V)) (key : List ℕ) (v : V) (index : ℕ) → have_distinct_keys ps ≡ true → position (has_key key) ps ≡ Some index
     → set ps index (record { key = key; value = v }) ≡ put ps key v
-put_found ps key v index d f = rw (found_any ps key index f.0 f.2) (set_found ps key v index d f.0 f.2)
+put_found {V} ps key v index d f =
+    let at = λ (d : Pair V). position-Some (has_key key) ps index d f in
+    let lt = (at (record { key = key; value = v })).0 in
+    rw (found_any ps key index lt (λ d. (at d).1)) (set_found ps key v index d lt (λ d. (at d).1))
+
+within : {X : Type 0} (p : X → Bool) (xs : List X) → list_any p xs ≡ true → position_or_len p xs < length xs
+within p [] h = absurd cc
+within p (x ∷ xs) h = elim (cases_Bool (p x)) [
+  | inl passes ↦ rw passes (omega arith)
+  | inr fails ↦ let more : list_any p xs ≡ true = rw fails at h in let lt = within p xs more in rw fails (omega arith)
+]
+
+-- no pair has the key where none is found
+none_found : {X : Type 0} (p : X → Bool) (xs : List X) → position p xs ≡ None → list_any p xs ≡ false
+none_found p xs none = elim (cases_Bool (list_any p xs)) [
+  | inl h ↦ let lt : nat_lt (position_or_len p xs) (length xs) ≡ true = lt-ltb (position_or_len p xs) (length xs) (within p xs h) in let found = rw lt at none in absurd cc
+  | inr n ↦ n
+]
 
 -- a pair at the end
 pub put_new : {V : Type 0} (ps : List (Pair V)) (key : List ℕ) (v : V) → list_any (has_key key) ps ≡ false → ps ++ record { key = key; value = v } ∷ [] ≡ put ps key v
 put_new ps key v none = rw none refl
+
+pub none_has : {V : Type 0} (ps : List (Pair V)) (key : List ℕ) → position (has_key key) ps ≡ None → list_any (has_key key) ps ≡ false
+none_has ps key none = none_found (has_key key) ps none
 
 with_value_key : {V : Type 0} (key k : List ℕ) (v : V) (p : Pair V) → has_key k (with_value key v p) ≡ has_key k p
 with_value_key key k v p = elim (cases_Bool (has_key key p)) [
@@ -96,7 +118,7 @@ put_distinct ps key v d = elim (cases_Bool (list_any (has_key key) ps)) [
   | inr n ↦ rw n (distinct_more ps (record { key = key; value = v }) n d)
 ]
 
-pub put_found_distinct : {V : Type 0} (ps : List (Pair V)) (key : List ℕ) (v : V) (index : ℕ) → have_distinct_keys ps ≡ true → IsFound ps key index
+pub put_found_distinct : {V : Type 0} (ps : List (Pair V)) (key : List ℕ) (v : V) (index : ℕ) → have_distinct_keys ps ≡ true → position (has_key key) ps ≡ Some index
     → have_distinct_keys (set ps index (record { key = key; value = v })) ≡ true
 put_found_distinct ps key v index d f = rw (put_found ps key v index d f) (put_distinct ps key v d)
 
@@ -122,7 +144,3 @@ put_kept test ps key v old new = elim (cases_Bool (list_any (has_key key) ps)) [
   | inl h ↦ rw h (with_values_kept test key v ps old new)
   | inr n ↦ rw (n, list_all-append test ps (record { key = key; value = v } ∷ []), old, new) refl
 ]
-
-pub put_found_kept : {V : Type 0} (test : Pair V → Bool) (ps : List (Pair V)) (key : List ℕ) (v : V) (index : ℕ) → have_distinct_keys ps ≡ true → IsFound ps key index
-    → list_all test ps ≡ true → test (record { key = key; value = v }) ≡ true → list_all test (set ps index (record { key = key; value = v })) ≡ true
-put_found_kept test ps key v index d f old new = rw (put_found ps key v index d f) (put_kept test ps key v old new)

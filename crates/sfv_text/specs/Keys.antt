@@ -1,6 +1,6 @@
 -- Lists of pairs by their keys (RFC 9651 sections 3.1.2 and 3.2).
-use Rattle.std.specs.Prelude.{◌≡◌, ℕ, ◌<◌, Bool, true, false, ◌&&◌, not, List, [], ◌∷◌, ◌++◌, length, take, map, slice_index_or, if◌then◌else◌}
-use Rattle.std.specs.List.{list_any}
+use Rattle.std.specs.Prelude.{ℕ, Bool, true, ◌&&◌, not, Option, option_map, List, [], ◌∷◌, ◌++◌, map, if◌then◌else◌}
+use Rattle.std.specs.List.{find, list_any}
 use Rattle.std.specs.Str.{bytes_eq}
 use Rattle.sfv_text.specs.declared.pair.Pair.{Pair}
 
@@ -10,7 +10,12 @@ has_key key pair = bytes_eq pair.key key
 -- no key stands twice
 abbrev pub have_distinct_keys : {V : Type 0} → List (Pair V) → Bool
 have_distinct_keys [] = true
-have_distinct_keys (pair ∷ pairs) = not (list_any (has_key pair.key) pairs) && have_distinct_keys pairs
+have_distinct_keys (pair ∷ pairs) =
+    not (list_any (has_key pair.key) pairs) && have_distinct_keys pairs
+
+-- the value of the key, where a pair has it
+abbrev pub value_of : {V : Type 0} → List (Pair V) → List ℕ → Option V
+value_of pairs key = option_map (λ pair. pair.value) (find (has_key key) pairs)
 
 -- the pair, with the value where it has the key
 abbrev pub with_value : {V : Type 0} → List ℕ → V → Pair V → Pair V
@@ -21,9 +26,3 @@ abbrev pub put : {V : Type 0} → List (Pair V) → List ℕ → V → List (Pai
 put pairs key value =
     if list_any (has_key key) pairs then map (with_value key value) pairs
     else pairs ++ record { key = key; value = value } ∷ []
-
--- the first pair of the key stands there
-abbrev pub IsFound : {V : Type 0} → List (Pair V) → List ℕ → ℕ → Type 0
-IsFound {V} pairs key index =
-    (index < length pairs) × (list_any (has_key key) (take index pairs) ≡ false)
-    × ((d : Pair V) → has_key key (slice_index_or pairs index d) ≡ true)

@@ -1,3 +1,7 @@
+pub mod Classes
+pub mod Equality
 pub mod Keys
+pub mod Laws
 pub mod Range
 pub mod Strict
+pub mod Values

@@ -11,7 +11,7 @@ use Rattle.sfv_text.specs.declared.value.BareItem.TheVariants.{Integer, Decimal,
 use Rattle.sfv_text.specs.declared.value.Item.{Item}
 use Rattle.sfv_text.specs.declared.value.InnerList.{InnerList}
 use Rattle.sfv_text.specs.declared.value.Member.{Member}
-use Rattle.sfv_text.specs.declared.value.Member.TheVariants.{Item as OneItem, InnerList as SomeItems}
+use Rattle.sfv_text.specs.declared.value.Member.TheVariants.{Item as ItemMember, InnerList as InnerMember}
 
 -- ---- bare items (section 4.1.3.1)
 
@@ -27,12 +27,14 @@ integer_text z = sign_text z ++ decimal (unsigned_abs z)
 -- three digits of thousandths, without zeros at the end after the first
 abbrev pub fraction_text : ℕ → List ℕ
 fraction_text n =
-    (byte "0" + n / 100) ∷ (if n % 100 == 0 then [] else (byte "0" + n / 10 % 10) ∷ (if n % 10 == 0 then [] else (byte "0" + n % 10) ∷ []))
+    (byte "0" + n / 100) ∷ (if n % 100 == 0 then [] else (byte "0" + n / 10 % 10)
+    ∷ (if n % 10 == 0 then [] else (byte "0" + n % 10) ∷ []))
 
 -- a Decimal by its thousandths (section 4.1.5)
 abbrev pub decimal_text : ℤ → List ℕ
 decimal_text z =
-    sign_text z ++ (decimal (unsigned_abs z / 1000) ++ byte "." ∷ fraction_text (unsigned_abs z % 1000))
+    sign_text z
+    ++ (decimal (unsigned_abs z / 1000) ++ byte "." ∷ fraction_text (unsigned_abs z % 1000))
 
 -- `"` and `\` stand after a `\`
 abbrev pub character_text : ℕ → List ℕ
@@ -80,28 +82,29 @@ item_text item = bare_text item.bare ++ params_text item.params
 
 -- (section 4.1.1.1)
 abbrev pub inner_text : InnerList → List ℕ
-inner_text inner = byte "(" ∷ (join_by item_text (codes " ") inner.items ++ byte ")" ∷ params_text inner.params)
+inner_text inner =
+    byte "(" ∷ (join_by item_text (codes " ") inner.items ++ byte ")" ∷ params_text inner.params)
 
 abbrev pub member_text : Member → List ℕ
-member_text (OneItem item) = item_text item
-member_text (SomeItems inner) = inner_text inner
+member_text (ItemMember item) = item_text item
+member_text (InnerMember inner) = inner_text inner
 
 -- (section 4.1.1)
 abbrev pub list_text : List Member → List ℕ
 list_text members = join_by member_text (codes ", ") members
 
 -- an Item of Boolean true is its parameters alone
-abbrev pub entry_item_text : BareItem → List (Pair BareItem) → List ℕ
-entry_item_text (Boolean true) params = params_text params
-entry_item_text bare params = byte "=" ∷ (bare_text bare ++ params_text params)
+abbrev pub dict_item_text : BareItem → List (Pair BareItem) → List ℕ
+dict_item_text (Boolean true) params = params_text params
+dict_item_text bare params = byte "=" ∷ (bare_text bare ++ params_text params)
 
-abbrev pub entry_value_text : Member → List ℕ
-entry_value_text (OneItem item) = entry_item_text item.bare item.params
-entry_value_text (SomeItems inner) = byte "=" ∷ inner_text inner
+abbrev pub dict_value_text : Member → List ℕ
+dict_value_text (ItemMember item) = dict_item_text item.bare item.params
+dict_value_text (InnerMember inner) = byte "=" ∷ inner_text inner
 
-abbrev pub entry_text : Pair Member → List ℕ
-entry_text entry = entry.key ++ entry_value_text entry.value
+abbrev pub dict_member_text : Pair Member → List ℕ
+dict_member_text entry = entry.key ++ dict_value_text entry.value
 
 -- (section 4.1.2)
 abbrev pub dict_text : List (Pair Member) → List ℕ
-dict_text entries = join_by entry_text (codes ", ") entries
+dict_text entries = join_by dict_member_text (codes ", ") entries

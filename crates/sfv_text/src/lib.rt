@@ -1,8 +1,16 @@
-//! Texts of bytes, what takes in a text piece by piece, and the values of structured fields (RFC 9651)
-//! with their texts.
+//! Texts of bytes, what takes in a text piece by piece, and the values of structured fields
+//! (RFC 9651) with their texts.
+//!
+//! ```text
+//! let mut params = Params::new(alloc);
+//! params.put(Text::from_bytes(alloc, b"a")?, BareItem::Integer(1))?;
+//! let bare = BareItem::Token(Text::from_bytes(alloc, b"abc")?);
+//! print_item(alloc, &Item { bare, params })?.bytes() // abc;a=1
+//! ```
 #![tactic(auto)]
 
 mod absorb;
+mod laws;
 mod memory;
 mod pair;
 mod pairs;
@@ -13,6 +21,7 @@ mod text;
 mod value;
 
 pub use absorb::Absorb;
+pub use laws::{equality_is_tested, keys_stay_distinct, strict_texts_are_printable};
 pub use memory::Memory;
 pub use pair::Pair;
 pub use pairs::Pairs;

@@ -1,15 +1,16 @@
 //! Lists of pairs with distinct keys.
 
-ghost use Rattle.std.specs.Prelude.{◌≡◌, ◌<◌, Bool, true, false, [], Some, IfSome, IfNone, length, slice_get, OnOk, OnErr};
-ghost use Rattle.std.specs.List.{list_all, list_any};
-ghost use Rattle.sfv_text.specs.declared.pair.Pair.{Pair};
-ghost use Rattle.sfv_text.specs.Keys.{put, has_key, have_distinct_keys, IsFound};
+ghost use Rattle.std.specs.Prelude.{◌≡◌, ◌<◌, ◌↔◌, true, false, [], Some, IfSome, IfNone, length, slice_get, option_copied, IsTrue, OnOk, OnErr};
+ghost use Rattle.std.specs.List.{find, list_any, position};
+ghost use Rattle.std.specs.Slice.Iter.{iter_rest};
+ghost use Rattle.sfv_text.specs.Keys.{put, has_key, have_distinct_keys, value_of};
 
 use crate::memory::Memory;
 use crate::pair::Pair;
 use crate::text::Text;
 use std::alloc::Global;
 use std::marker::Model;
+use std::slice::Iter;
 
 /// A list of pairs with distinct keys, in the order in which the keys came. A contract sees it as
 /// the list of its pairs.
@@ -19,7 +20,7 @@ pub struct Pairs<V> {
 }
 
 impl<V> Model for Pairs<V> {
-    ghost use Rattle.std.specs.Prelude.{◌≡◌, List, true};
+    ghost use Rattle.std.specs.Prelude.{IsTrue, List};
     ghost use Rattle.sfv_text.specs.declared.pair.Pair.{Pair};
     ghost use Rattle.sfv_text.specs.Keys.{have_distinct_keys};
 
@@ -27,20 +28,21 @@ impl<V> Model for Pairs<V> {
 
     ghost view = { λ p. p.pairs.items };
 
-    ghost invariant = { λ p. have_distinct_keys p.pairs.items ≡ true };
+    ghost invariant = { λ p. IsTrue (have_distinct_keys p.pairs.items) };
 }
 
-/// Where the first pair of the key stands.
+/// The index of the first pair of the key.
 fn index_of<V>(pairs: &[Pair<V>], key: &[u8]) -> Option<usize>
-    ensures some { IfSome result (λ index. IsFound pairs.now key.now index) }
-    ensures none { IfNone result (list_any (has_key key.now) pairs.now ≡ false) }
+    ensures { result ≡ position (has_key key.now) pairs.now }
 {
-    for (index, pair) in pairs.iter().enumerate() {
-        if pair.key.bytes() == key {
-            return Some(index);
-        }
-    }
-    None
+    pairs.iter().position(|pair| pair.key.bytes() == key)
+}
+
+/// The first pair of the key.
+fn pair_of<'a, V>(pairs: &'a [Pair<V>], key: &[u8]) -> Option<&'a Pair<V>>
+    ensures { option_copied result ≡ find (has_key key.now) pairs.now }
+{
+    pairs.iter().find(|pair| pair.key.bytes() == key)
 }
 
 impl<V: Drop> Pairs<V> {
@@ -54,7 +56,7 @@ impl<V: Drop> Pairs<V> {
     }
 
     pub(crate) fn from_vec(pairs: Vec<Pair<V>>) -> Self
-        requires { have_distinct_keys pairs.items ≡ true }
+        requires { IsTrue (have_distinct_keys pairs.items) }
         ensures { result ≡ pairs.items }
     {
         Pairs { pairs }
@@ -67,6 +69,13 @@ impl<V: Drop> Pairs<V> {
         self.pairs.len()
     }
 
+    /// Whether it has no pair.
+    pub fn is_empty(&self) -> bool
+        ensures { IsTrue result ↔ (self.now ≡ []) }
+    {
+        self.pairs.is_empty()
+    }
+
     /// The pair at the index.
     pub fn get(&self, index: usize) -> &Pair<V>
         requires { index < length self.now }
@@ -75,22 +84,35 @@ impl<V: Drop> Pairs<V> {
         &self.pairs[index]
     }
 
+    /// The value of the key, where a pair has it.
+    pub fn find(&self, key: &[u8]) -> Option<&V>
+        ensures { option_copied result ≡ value_of self.now key.now }
+    {
+        pair_of(self.pairs.as_slice(), key).map(|pair| &pair.value)
+    }
+
+    /// The pairs one by one, in order.
+    pub fn iter(&self) -> Iter<'_, Pair<V>>
+        ensures { iter_rest result ≡ self.now }
+    {
+        self.pairs.as_slice().iter()
+    }
+
     /// The pairs, in order.
     pub fn as_slice(&self) -> &[Pair<V>]
         ensures is { result.now ≡ self.now }
-        ensures distinct { have_distinct_keys self.now ≡ true }
+        ensures distinct { IsTrue (have_distinct_keys self.now) }
     {
         self.pairs.as_slice()
     }
 
-    /// Replaces the value of the key where it stands, or adds the pair at the end. Where no memory is
-    /// found, the key and the value are dropped.
+    /// Replaces the value of the key where it stands, or adds the pair at the end. Out of memory,
+    /// the key and the value are dropped.
+    #[tactic(auto, using(crate::proofs::PutLaws::none_has, crate::proofs::PutLaws::put_new))]
     pub fn put(&mut self, key: Text, value: V) -> Result<(), Memory>
         ensures ok { OnOk result (self.new ≡ put self.old key value) }
-        ensures distinct { have_distinct_keys self.new ≡ true }
-        ensures each { (test : Pair V → Bool) → list_all test self.old ≡ true
-            → test (record { key = key; value = value }) ≡ true → list_all test self.new ≡ true }
         ensures err { OnErr result (self.new ≡ self.old) }
+        ensures new_key { OnErr result (list_any (has_key key) self.old ≡ false) }
     {
         match index_of(self.pairs.as_slice(), key.bytes()) {
             Some(index) => self.pairs[index] = Pair { key, value },

@@ -1,9 +1,9 @@
 //! Values as text (RFC 9651 section 4.1).
 
-ghost use Rattle.std.specs.Prelude.{◌≡◌, ◌++◌, true, IsTrue, IfOk, OnOk, codes};
+ghost use Rattle.std.specs.Prelude.{◌≡◌, ◌++◌, IsTrue, IfOk, OnOk};
 ghost use Rattle.std.specs.List.{list_all, join_by};
 ghost use Rattle.sfv_text.specs.Range.{is_item_in_range, is_inner_in_range, is_list_in_range, is_dict_in_range, is_string_byte};
-ghost use Rattle.sfv_text.specs.Strict.{bare_text, param_value_text, param_text, params_text, item_text, inner_text, member_text, list_text, entry_item_text, entry_value_text, entry_text, dict_text};
+ghost use Rattle.sfv_text.specs.Strict.{param_value_text, params_text, item_text, inner_text, list_text, dict_item_text, dict_value_text, dict_text};
 
 use crate::memory::Memory;
 use crate::pair::Pair;
@@ -11,6 +11,9 @@ use crate::print_bare::write_bare;
 use crate::text::Text;
 use crate::value::{BareItem, Dict, InnerList, Item, List, Member, Params};
 use std::alloc::Global;
+
+/// Stands between two items of an Inner List.
+const BETWEEN_ITEMS: &[u8] = b" ";
 
 /// Stands between two members of a List or a Dictionary.
 const BETWEEN_MEMBERS: &[u8] = b", ";
@@ -20,10 +23,10 @@ const BETWEEN_MEMBERS: &[u8] = b", ";
 pub fn print_item(alloc: Global, value: &Item) -> Result<Text, Memory>
     requires { IsTrue (is_item_in_range value.now) }
     ensures is { IfOk result (λ text. text ≡ item_text value.now) }
-    ensures printable { IfOk result (λ text. list_all is_string_byte text ≡ true) }
+    ensures printable { IfOk result (λ text. IsTrue (list_all is_string_byte text)) }
 {
     let mut text = Text::new(alloc);
-    write_item(value, &mut text)?;
+    value.write(&mut text)?;
     Ok(text)
 }
 
@@ -32,10 +35,10 @@ pub fn print_item(alloc: Global, value: &Item) -> Result<Text, Memory>
 pub fn print_inner(alloc: Global, value: &InnerList) -> Result<Text, Memory>
     requires { IsTrue (is_inner_in_range value.now) }
     ensures is { IfOk result (λ text. text ≡ inner_text value.now) }
-    ensures printable { IfOk result (λ text. list_all is_string_byte text ≡ true) }
+    ensures printable { IfOk result (λ text. IsTrue (list_all is_string_byte text)) }
 {
     let mut text = Text::new(alloc);
-    write_inner(value, &mut text)?;
+    value.write(&mut text)?;
     Ok(text)
 }
 
@@ -44,10 +47,10 @@ pub fn print_inner(alloc: Global, value: &InnerList) -> Result<Text, Memory>
 pub fn print_list(alloc: Global, value: &List) -> Result<Text, Memory>
     requires { IsTrue (is_list_in_range value.now) }
     ensures is { IfOk result (λ text. text ≡ list_text value.now) }
-    ensures printable { IfOk result (λ text. list_all is_string_byte text ≡ true) }
+    ensures printable { IfOk result (λ text. IsTrue (list_all is_string_byte text)) }
 {
     let mut text = Text::new(alloc);
-    write_list(value.as_slice(), &mut text)?;
+    write_joined(value.as_slice(), BETWEEN_MEMBERS, &mut text)?;
     Ok(text)
 }
 
@@ -56,14 +59,43 @@ pub fn print_list(alloc: Global, value: &List) -> Result<Text, Memory>
 pub fn print_dict(alloc: Global, value: &Dict) -> Result<Text, Memory>
     requires { IsTrue (is_dict_in_range value.now) }
     ensures is { IfOk result (λ text. text ≡ dict_text value.now) }
-    ensures printable { IfOk result (λ text. list_all is_string_byte text ≡ true) }
+    ensures printable { IfOk result (λ text. IsTrue (list_all is_string_byte text)) }
 {
     let mut text = Text::new(alloc);
-    write_dict(value.as_slice(), &mut text)?;
+    write_joined(value.as_slice(), BETWEEN_MEMBERS, &mut text)?;
     Ok(text)
 }
 
-// Each function below adds its part at the end of the text.
+/// A value that has a text.
+pub(crate) trait Write {
+    ghost use Rattle.std.specs.Prelude.{ℕ, List};
+
+    // The strict text of the value.
+    ghost text_of: { Self → List ℕ };
+
+    /// Adds the text at the end.
+    fn write(&self, text: &mut Text) -> Result<(), Memory>
+        ensures { OnOk result (text.new ≡ text.old ++ text_of self.now) };
+}
+
+/// Adds the texts at the end, with the separator between each two.
+pub(crate) fn write_joined<T: Write>(
+    values: &[T],
+    separator: &[u8],
+    text: &mut Text,
+) -> Result<(), Memory>
+    ensures { OnOk result (text.new ≡ text.old ++ join_by T.text_of separator.now values.now) }
+{
+    let [first, others @ ..] = values else {
+        return Ok(());
+    };
+    first.write(text)?;
+    for value in others {
+        text.append(separator)?;
+        value.write(text)?;
+    }
+    Ok(())
+}
 
 fn write_param_value(value: &BareItem, text: &mut Text) -> Result<(), Memory>
     ensures { OnOk result (text.new ≡ text.old ++ param_value_text value.now) }
@@ -77,12 +109,16 @@ fn write_param_value(value: &BareItem, text: &mut Text) -> Result<(), Memory>
     }
 }
 
-fn write_param(param: &Pair<BareItem>, text: &mut Text) -> Result<(), Memory>
-    ensures { OnOk result (text.new ≡ text.old ++ param_text param.now) }
-{
-    text.append(b";")?;
-    text.append(param.key.bytes())?;
-    write_param_value(&param.value, text)
+impl Write for Pair<BareItem> {
+    ghost use Rattle.sfv_text.specs.Strict.{param_text};
+
+    ghost text_of = { param_text };
+
+    fn write(&self, text: &mut Text) -> Result<(), Memory> {
+        text.append(b";")?;
+        text.append(self.key.bytes())?;
+        write_param_value(&self.value, text)
+    }
 }
 
 fn write_params(params: &Params, text: &mut Text) -> Result<(), Memory>
@@ -90,106 +126,81 @@ fn write_params(params: &Params, text: &mut Text) -> Result<(), Memory>
 {
     let pairs = params.as_slice();
     for param in pairs {
-        write_param(param, text)?;
+        param.write(text)?;
     }
     Ok(())
 }
 
-fn write_item(item: &Item, text: &mut Text) -> Result<(), Memory>
-    ensures { OnOk result (text.new ≡ text.old ++ item_text item.now) }
-{
-    write_bare(&item.bare, text)?;
-    write_params(&item.params, text)
-}
+impl Write for Item {
+    ghost use Rattle.sfv_text.specs.Strict.{item_text};
 
-fn write_items(items: &[Item], text: &mut Text) -> Result<(), Memory>
-    ensures { OnOk result (text.new ≡ text.old ++ join_by item_text (codes " ") items.now) }
-{
-    let [first, others @ ..] = items else {
-        return Ok(());
-    };
-    write_item(first, text)?;
-    for item in others {
-        text.append(b" ")?;
-        write_item(item, text)?;
-    }
-    Ok(())
-}
+    ghost text_of = { item_text };
 
-fn write_inner(inner: &InnerList, text: &mut Text) -> Result<(), Memory>
-    ensures { OnOk result (text.new ≡ text.old ++ inner_text inner.now) }
-{
-    text.append(b"(")?;
-    write_items(inner.items.as_slice(), text)?;
-    text.append(b")")?;
-    write_params(&inner.params, text)
-}
-
-fn write_member(member: &Member, text: &mut Text) -> Result<(), Memory>
-    ensures { OnOk result (text.new ≡ text.old ++ member_text member.now) }
-{
-    match member {
-        Member::Item(item) => write_item(item, text),
-        Member::InnerList(inner) => write_inner(inner, text),
+    fn write(&self, text: &mut Text) -> Result<(), Memory> {
+        write_bare(&self.bare, text)?;
+        write_params(&self.params, text)
     }
 }
 
-fn write_list(members: &[Member], text: &mut Text) -> Result<(), Memory>
-    ensures { OnOk result (text.new ≡ text.old ++ list_text members.now) }
-{
-    let [first, others @ ..] = members else {
-        return Ok(());
-    };
-    write_member(first, text)?;
-    for member in others {
-        text.append(BETWEEN_MEMBERS)?;
-        write_member(member, text)?;
+impl Write for InnerList {
+    ghost use Rattle.sfv_text.specs.Strict.{inner_text};
+
+    ghost text_of = { inner_text };
+
+    fn write(&self, text: &mut Text) -> Result<(), Memory> {
+        text.append(b"(")?;
+        write_joined(self.items.as_slice(), BETWEEN_ITEMS, text)?;
+        text.append(b")")?;
+        write_params(&self.params, text)
     }
-    Ok(())
+}
+
+impl Write for Member {
+    ghost use Rattle.sfv_text.specs.Strict.{member_text};
+
+    ghost text_of = { member_text };
+
+    fn write(&self, text: &mut Text) -> Result<(), Memory> {
+        match self {
+            Member::Item(item) => item.write(text),
+            Member::InnerList(inner) => inner.write(text),
+        }
+    }
 }
 
 /// An Item after its key: Boolean true is its parameters alone.
-fn write_entry_item(item: &Item, text: &mut Text) -> Result<(), Memory>
-    ensures { OnOk result (text.new ≡ text.old ++ entry_item_text item.now.bare item.now.params) }
+fn write_dict_item(item: &Item, text: &mut Text) -> Result<(), Memory>
+    ensures { OnOk result (text.new ≡ text.old ++ dict_item_text item.now.bare item.now.params) }
 {
     match item.bare {
         BareItem::Bool(true) => write_params(&item.params, text),
         _ => {
             text.append(b"=")?;
-            write_item(item, text)
+            item.write(text)
         }
     }
 }
 
-fn write_entry_value(member: &Member, text: &mut Text) -> Result<(), Memory>
-    ensures { OnOk result (text.new ≡ text.old ++ entry_value_text member.now) }
+/// What stands after the key.
+fn write_dict_value(value: &Member, text: &mut Text) -> Result<(), Memory>
+    ensures { OnOk result (text.new ≡ text.old ++ dict_value_text value.now) }
 {
-    match member {
-        Member::Item(item) => write_entry_item(item, text),
+    match value {
+        Member::Item(item) => write_dict_item(item, text),
         Member::InnerList(inner) => {
             text.append(b"=")?;
-            write_inner(inner, text)
+            inner.write(text)
         }
     }
 }
 
-fn write_entry(entry: &Pair<Member>, text: &mut Text) -> Result<(), Memory>
-    ensures { OnOk result (text.new ≡ text.old ++ entry_text entry.now) }
-{
-    text.append(entry.key.bytes())?;
-    write_entry_value(&entry.value, text)
-}
+impl Write for Pair<Member> {
+    ghost use Rattle.sfv_text.specs.Strict.{dict_member_text};
 
-fn write_dict(entries: &[Pair<Member>], text: &mut Text) -> Result<(), Memory>
-    ensures { OnOk result (text.new ≡ text.old ++ dict_text entries.now) }
-{
-    let [first, others @ ..] = entries else {
-        return Ok(());
-    };
-    write_entry(first, text)?;
-    for entry in others {
-        text.append(BETWEEN_MEMBERS)?;
-        write_entry(entry, text)?;
+    ghost text_of = { dict_member_text };
+
+    fn write(&self, text: &mut Text) -> Result<(), Memory> {
+        text.append(self.key.bytes())?;
+        write_dict_value(&self.value, text)
     }
-    Ok(())
 }

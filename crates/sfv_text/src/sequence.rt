@@ -1,10 +1,12 @@
 //! Lists that own their elements.
 
-ghost use Rattle.std.specs.Prelude.{◌≡◌, ◌<◌, ◌++◌, ◌∷◌, [], Some, length, slice_get, OnOk, OnErr};
+ghost use Rattle.std.specs.Prelude.{◌≡◌, ◌↔◌, ◌<◌, ◌++◌, ◌∷◌, [], Some, length, slice_get, IsTrue, OnOk, OnErr};
+ghost use Rattle.std.specs.Slice.Iter.{iter_rest};
 
 use crate::memory::Memory;
 use std::alloc::Global;
 use std::marker::Model;
+use std::slice::Iter;
 
 /// A list that owns its elements. A contract sees it as the list of their values.
 #[derive(Debug, Drop)]
@@ -37,12 +39,26 @@ impl<T: Drop> Sequence<T> {
         self.elements.len()
     }
 
+    /// Whether it has no element.
+    pub fn is_empty(&self) -> bool
+        ensures { IsTrue result ↔ (self.now ≡ []) }
+    {
+        self.elements.is_empty()
+    }
+
     /// The element at the index.
     pub fn get(&self, index: usize) -> &T
         requires { index < length self.now }
         ensures { slice_get self.now index ≡ Some result.now }
     {
         &self.elements[index]
+    }
+
+    /// The elements one by one, in order.
+    pub fn iter(&self) -> Iter<'_, T>
+        ensures { iter_rest result ≡ self.now }
+    {
+        self.elements.as_slice().iter()
     }
 
     /// The elements, in order.
@@ -52,12 +68,12 @@ impl<T: Drop> Sequence<T> {
         self.elements.as_slice()
     }
 
-    /// Adds the item at the end. Where no memory is found, the item is dropped.
-    pub fn push(&mut self, item: T) -> Result<(), Memory>
-        ensures ok { OnOk result (self.new ≡ self.old ++ item ∷ []) }
+    /// Adds the element at the end. Out of memory, it is dropped.
+    pub fn push(&mut self, element: T) -> Result<(), Memory>
+        ensures ok { OnOk result (self.new ≡ self.old ++ element ∷ []) }
         ensures err { OnErr result (self.new ≡ self.old) }
     {
-        self.elements.push(item)?;
+        self.elements.push(element)?;
         Ok(())
     }
 }

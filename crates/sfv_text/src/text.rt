@@ -40,6 +40,13 @@ impl Text {
         Ok(text)
     }
 
+    /// The text that the vector holds. It takes no memory.
+    pub fn from_vec(bytes: Vec<u8>) -> Text
+        ensures { result ≡ bytes.items }
+    {
+        Text { bytes }
+    }
+
     /// The bytes, in order.
     pub fn bytes(&self) -> &[u8]
         ensures { result.now ≡ self.now }

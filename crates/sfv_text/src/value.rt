@@ -1,6 +1,8 @@
 //! The values of structured fields (RFC 9651 section 3).
 
-ghost use Rattle.std.specs.Prelude.{◌≡◌, IfOk};
+ghost use Rattle.std.specs.Prelude.{◌≡◌, ◌≤◌, ◌↔◌, ◌⊎◌, length, IsTrue, IfOk, IfErr};
+ghost use Rattle.sfv_text.specs.Equality.{is_equal_bare, is_equal_param};
+ghost use Rattle.sfv_text.specs.Values.{own_bytes};
 
 use crate::memory::Memory;
 use crate::pair::Pair;
@@ -10,23 +12,32 @@ use crate::text::Text;
 use std::alloc::Global;
 
 /// A bare item (RFC 9651 section 3.3).
+///
+/// The ranges below are those of a structured field: only what is in range has a text.
 #[derive(Debug, Drop)]
 pub enum BareItem {
+    /// An Integer, from -999,999,999,999,999 to 999,999,999,999,999 (section 3.3.1).
     Integer(i64),
-    /// In thousandths.
+    /// A Decimal in thousandths: at most twelve digits before the point and three after it, so
+    /// from -999,999,999,999,999 to 999,999,999,999,999 thousandths (section 3.3.2).
     Decimal(i64),
-    /// The characters, without quotes and escapes.
+    /// The characters of a String, without quotes and escapes: printable ASCII, 0x20 to 0x7E
+    /// (section 3.3.3).
     Str(Text),
+    /// A Token: a letter or `*`, and after it letters, digits and ``!#$%&'*+-.^_`|~:/``
+    /// (section 3.3.4).
     Token(Text),
-    /// The bytes that a Byte Sequence spells in base64.
+    /// The bytes that a Byte Sequence spells in base64, whatever they are (section 3.3.5).
     Bytes(Text),
+    /// A Boolean (section 3.3.6).
     Bool(bool),
 }
 
 impl BareItem {
     /// An equal bare item of its own.
     pub fn copy(&self, alloc: Global) -> Result<BareItem, Memory>
-        ensures { IfOk result (λ bare. bare ≡ self.now) }
+        ensures ok { IfOk result (λ bare. bare ≡ self.now) }
+        ensures needed { IfErr result (λ _. 1 ≤ length (own_bytes self.now)) }
     {
         match self {
             BareItem::Integer(value) => Ok(BareItem::Integer(*value)),
@@ -37,10 +48,36 @@ impl BareItem {
             BareItem::Bool(value) => Ok(BareItem::Bool(*value)),
         }
     }
+
+    /// Whether the other is of the same type and has the same value.
+    pub fn is_equal(&self, other: &BareItem) -> bool
+        ensures is { result ≡ is_equal_bare self.now other.now }
+        ensures exact { IsTrue result ↔ (self.now ≡ other.now) }
+    {
+        match (self, other) {
+            (BareItem::Integer(a), BareItem::Integer(b)) => a == b,
+            (BareItem::Decimal(a), BareItem::Decimal(b)) => a == b,
+            (BareItem::Str(a), BareItem::Str(b)) => a.bytes() == b.bytes(),
+            (BareItem::Token(a), BareItem::Token(b)) => a.bytes() == b.bytes(),
+            (BareItem::Bytes(a), BareItem::Bytes(b)) => a.bytes() == b.bytes(),
+            (BareItem::Bool(a), BareItem::Bool(b)) => a == b,
+            _ => false,
+        }
+    }
 }
 
 /// Parameters (RFC 9651 section 3.1.2).
 pub type Params = Pairs<BareItem>;
+
+impl Pair<BareItem> {
+    /// Whether the other has the same key and an equal value.
+    pub fn is_equal(&self, other: &Pair<BareItem>) -> bool
+        ensures is { result ≡ is_equal_param self.now other.now }
+        ensures exact { IsTrue result ↔ (self.now ≡ other.now) }
+    {
+        self.key.bytes() == other.key.bytes() && self.value.is_equal(&other.value)
+    }
+}
 
 fn copy_of_param(alloc: Global, param: &Pair<BareItem>) -> Result<Pair<BareItem>, Memory>
     ensures { IfOk result (λ copy. copy ≡ param.now) }
@@ -54,7 +91,8 @@ fn copy_of_param(alloc: Global, param: &Pair<BareItem>) -> Result<Pair<BareItem>
 impl Pairs<BareItem> {
     /// Equal parameters of their own.
     pub fn copy(&self, alloc: Global) -> Result<Params, Memory>
-        ensures { IfOk result (λ params. params ≡ self.now) }
+        ensures ok { IfOk result (λ params. params ≡ self.now) }
+        ensures needed { IfErr result (λ _. 1 ≤ length self.now) }
     {
         let params = self.as_slice();
         let mut copies = Vec::new(alloc);
@@ -65,7 +103,7 @@ impl Pairs<BareItem> {
     }
 }
 
-/// A bare item with its parameters (RFC 9651 section 3.3).
+/// An Item: a bare item with its parameters (RFC 9651 section 3.3).
 #[derive(Debug, Drop)]
 pub struct Item {
     pub bare: BareItem,
@@ -75,7 +113,9 @@ pub struct Item {
 impl Item {
     /// An equal Item of its own.
     pub fn copy(&self, alloc: Global) -> Result<Item, Memory>
-        ensures { IfOk result (λ item. item ≡ self.now) }
+        ensures ok { IfOk result (λ item. item ≡ self.now) }
+        ensures needed { IfErr result (λ _. (1 ≤ length (own_bytes self.now.bare))
+            ⊎ (1 ≤ length self.now.params)) }
     {
         Ok(Item {
             bare: self.bare.copy(alloc)?,
@@ -87,22 +127,22 @@ impl Item {
 /// The Items of an Inner List.
 pub type Items = Sequence<Item>;
 
-/// Items with parameters of their own (RFC 9651 section 3.1.1).
+/// An Inner List: Items, and parameters of the list itself (RFC 9651 section 3.1.1).
 #[derive(Debug, Drop)]
 pub struct InnerList {
     pub items: Items,
     pub params: Params,
 }
 
-/// A member of a List or a Dictionary.
+/// A member of a List, or the value of a Dictionary's member (RFC 9651 sections 3.1 and 3.2).
 #[derive(Debug, Drop)]
 pub enum Member {
     Item(Item),
     InnerList(InnerList),
 }
 
-/// A List (RFC 9651 section 3.1).
+/// A List: its members, in order (RFC 9651 section 3.1).
 pub type List = Sequence<Member>;
 
-/// A Dictionary (RFC 9651 section 3.2).
+/// A Dictionary: its members with their keys, in order (RFC 9651 section 3.2).
 pub type Dict = Pairs<Member>;

@@ -1,13 +1,16 @@
--- Covered fields by their names alone.
-use Rattle.std.specs.Prelude.{ℕ, List, [], ◌∷◌, ◌++◌, map}
+-- Covered fields by their names alone. No public clause cites this module.
+use Rattle.std.specs.Prelude.{ℕ, List, [], ◌∷◌, ◌++◌}
 use Rattle.std.specs.Str.{byte}
 use Rattle.component_ids.specs.declared.id.ComponentId.{ComponentId}
+use Rattle.msg_head.specs.Lines.{FieldLine}
+use Rattle.hms.specs.SignatureBase.{Component}
 use Rattle.hms.specs.Values.{combined_value}
 
 -- the name in quotation marks
-abbrev pub quoted : List ℕ → List ℕ
-quoted name = byte "\"" ∷ (name ++ byte "\"" ∷ [])
+abbrev pub quoted_name : List ℕ → List ℕ
+quoted_name name = byte "\"" ∷ (name ++ byte "\"" ∷ [])
 
--- each name in quotation marks with its combined value
-abbrev pub quoted_fields : List (List ℕ × List ℕ) → List ComponentId → List (List ℕ × List ℕ)
-quoted_fields lines ids = map (λ id. (quoted id.name, combined_value lines id.name)) ids
+-- the name of an identifier in quotation marks, with its combined value
+abbrev pub plain_component : List FieldLine → ComponentId → Component
+plain_component lines id =
+    record { id = quoted_name id.name; value = combined_value lines id.name }

@@ -1,6 +1,6 @@
 use Rattle.std.proofs.Common.{◌≡◌, map, ◌∙◌}
 use Rattle.component_ids.specs.Identifiers.{id_of, AreDistinct}
-use Rattle.component_ids.proofs.AnswerLaws.{ids_back, are_params}
+use Rattle.component_ids.proofs.FaultLaws.{ids_back, are_params}
 use Rattle.component_ids.proofs.params.read.Goals as goal
 
 pub returns-in-Some : goal.returns-in-Some
@@ -14,5 +14,5 @@ pub returns : goal.returns
 returns c =
     let list = c.args.list.now in
     rw c.ids.view_is (are_params list (record { ids = c.in_ok-ids.ids; params = c.in_ok-copy-2.field-0 }) (c.in_ok-ids.ensures.is ∙ c.as_slice.ensures)
-    c.in_ok-copy-2.ensures (rw (← c.as_slice.ensures) c.in_ok-ids.ensures.each) c.in_ok-ids.ensures.distinct
+    c.in_ok-copy-2.ensures.ok (rw (← c.as_slice.ensures) c.in_ok-ids.ensures.each) c.in_ok-ids.ensures.distinct
     (rw (← c.as_slice-params.ensures.is) c.in_default.ensures.none))

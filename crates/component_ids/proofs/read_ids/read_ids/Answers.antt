@@ -1,4 +1,4 @@
-use Rattle.component_ids.proofs.AnswerLaws.{ids_back}
+use Rattle.component_ids.proofs.FaultLaws.{ids_back}
 use Rattle.component_ids.proofs.read_ids.read_ids.Goals as goal
 
 pub returns-in-Some-clause-fault : goal.returns-in-Some-clause-fault

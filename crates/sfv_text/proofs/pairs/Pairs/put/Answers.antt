@@ -1,32 +1,18 @@
-use Rattle.sfv_text.proofs.PutLaws.{put_found, put_found_distinct, put_found_kept, put_new_distinct}
+use Rattle.std.proofs.Common.{sym}
+use Rattle.sfv_text.proofs.PutLaws.{put_found, put_found_distinct, put_new_distinct, none_has}
 use Rattle.sfv_text.proofs.pairs.Pairs.put.Goals as goal
 
 pub invariant_of-self : goal.invariant_of-self
 invariant_of-self g c =
-    let found = rw (c.bytes.ensures, c.as_slice.ensures.value) at c.in-Some.ensures.some in
+    let found = rw (c.bytes.ensures, c.as_slice.ensures.value) at (sym c.in-Some.ensures) in
     put_found_distinct c.self.inside.pairs.items c.args.key c.args.value c.in-Some.index c.self.invariant found
 
 pub invariant_of-self-in-Continue-1 : goal.invariant_of-self-in-Continue-1
 invariant_of-self-in-Continue-1 g c =
-    let none = rw (c.bytes.ensures, c.as_slice.ensures.value) at c.in-None.ensures.none in
+    let none = rw (c.bytes.ensures, c.as_slice.ensures.value) at (none_has c.as_slice.result.now c.bytes.result.now (sym c.in-None.ensures)) in
     rw c.in_ok-push-in-None.ensures.items (put_new_distinct c.self.inside.pairs.items c.args.key c.args.value c.self.invariant none)
 
 pub returns-in-Some-clause-ok : goal.returns-in-Some-clause-ok
 returns-in-Some-clause-ok g c =
-    let found = rw (c.bytes.ensures, c.as_slice.ensures.value) at c.in-Some.ensures.some in
+    let found = rw (c.bytes.ensures, c.as_slice.ensures.value) at (sym c.in-Some.ensures) in
     rw (← c.self.view_is) (put_found c.self.inside.pairs.items c.args.key c.args.value c.in-Some.index c.self.invariant found)
-
-pub returns-in-Some-clause-distinct : goal.returns-in-Some-clause-distinct
-returns-in-Some-clause-distinct g c =
-    let found = rw (c.bytes.ensures, c.as_slice.ensures.value) at c.in-Some.ensures.some in
-    put_found_distinct c.self.inside.pairs.items c.args.key c.args.value c.in-Some.index c.self.invariant found
-
-pub returns-in_ok-push-in-None-clause-distinct : goal.returns-in_ok-push-in-None-clause-distinct
-returns-in_ok-push-in-None-clause-distinct g c =
-    let none = rw (c.bytes.ensures, c.as_slice.ensures.value) at c.in-None.ensures.none in
-    rw c.in_ok-push-in-None.ensures.items (put_new_distinct c.self.inside.pairs.items c.args.key c.args.value c.self.invariant none)
-
-pub returns-in-Some-clause-each : goal.returns-in-Some-clause-each
-returns-in-Some-clause-each g c = λ test old new.
-    let found = rw (c.bytes.ensures, c.as_slice.ensures.value) at c.in-Some.ensures.some in
-    put_found_kept test c.self.inside.pairs.items c.args.key c.args.value c.in-Some.index c.self.invariant found (rw (← c.self.view_is) at old) new

@@ -1,0 +1,31 @@
+-- Laws of Inner Lists that are read as signature parameters.
+use Rattle.std.specs.Prelude.{◌≡◌, ◌⊎◌}
+use Rattle.sfv_text.specs.declared.value.InnerList.{InnerList}
+use Rattle.component_ids.specs.declared.fault.IdFault.{IdFault}
+use Rattle.component_ids.specs.declared.params.SigParams.{SigParams}
+use Rattle.component_ids.specs.Causes.{IsFault}
+use Rattle.component_ids.specs.SignatureParams.{IsParamsOf}
+
+-- an Inner List is signature parameters, or has a fault
+abbrev pub HasAnswer : Type 0
+HasAnswer =
+    (list : InnerList)
+    → ((params : SigParams) × IsParamsOf list params) ⊎ ((fault : IdFault) × IsFault list fault)
+
+-- it is signature parameters for one value
+abbrev pub HasOneValue : Type 0
+HasOneValue =
+    (list : InnerList) (params other : SigParams)
+    → IsParamsOf list params → IsParamsOf list other → params ≡ other
+
+-- it has one fault
+abbrev pub HasOneFault : Type 0
+HasOneFault =
+    (list : InnerList) (fault other : IdFault)
+    → IsFault list fault → IsFault list other → fault ≡ other
+
+-- it isn't both
+abbrev pub HasNotBoth : Type 0
+HasNotBoth =
+    (list : InnerList) (params : SigParams) (fault : IdFault)
+    → IsParamsOf list params → ¬ IsFault list fault

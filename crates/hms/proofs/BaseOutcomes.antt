@@ -1,0 +1,336 @@
+-- Of the outcomes of `base` one is the first that holds.
+use Rattle.std.proofs.Common.{◌≡◌, ◌+◌, ◌<◌, ◌≤◌, ◌⊎◌, inl, inr, lit<, lit≤, ℕ, Bool, true, false, Option, Some, None, Result, Ok, Err, List, length, replicate, drop, IsErrOf, IfSome, refl, sym, ap, subst, ◌∙◌, arith}
+use Rattle.std.specs.List.{list_all}
+use Rattle.std.proofs.lemmas.Bool.{false≢true}
+use Rattle.byte_grammar.specs.Causes.{IsFirst, AreDetermined}
+use Rattle.byte_grammar.specs.FaultOffset.{IsFaultOffset}
+use Rattle.byte_grammar.proofs.OffsetLaws.{one_offset}
+use Rattle.byte_grammar.proofs.CauseLaws.{first_is_one}
+use Rattle.sfv_text.specs.declared.value.InnerList.{InnerList}
+use Rattle.sfv_read.specs.Reads.{ReadsInner}
+use Rattle.sfv_read.specs.Fault.{BeginsItemKind}
+use Rattle.component_ids.specs.Causes.{IsFault}
+use Rattle.component_ids.specs.declared.fault.IdFault.{IdFault}
+use Rattle.component_ids.specs.declared.id.ComponentId.{ComponentId}
+use Rattle.component_ids.specs.declared.params.SigParams.{SigParams}
+use Rattle.component_ids.specs.Identifiers.{id_text}
+use Rattle.component_ids.specs.SignatureParams.{list_of}
+use Rattle.msg_head.specs.Heads.{Head}
+use Rattle.msg_head.proofs.OneHeads.{one_head_of_text_law}
+use Rattle.hms.specs.Base.{HasIdFault, CoversOther, LacksField, HasBase, Holds, IsInputCause, IsCommandCause, command_order, order_of, ReportsBase}
+use Rattle.hms.specs.Covered.{ReadsParams, is_plain, first_absent}
+use Rattle.hms.specs.Messages.{IsMessage, NoMessage}
+use Rattle.hms.specs.SignatureBase.{base_of}
+use Rattle.hms.specs.declared.refusal.TheConstants.{MAX_INPUT_BYTES}
+use Rattle.hms.specs.declared.refusal.Refusal.{Refusal}
+use Rattle.hms.specs.declared.refusal.Refusal.TheVariants.{Arguments, Input, Command}
+use Rattle.hms.specs.declared.refusal.InputRefusal.{InputRefusal}
+use Rattle.hms.specs.declared.refusal.InputRefusal.TheVariants.{TooLong, NotYet}
+use Rattle.hms.specs.declared.refusal.CommandRefusal.{CommandRefusal}
+use Rattle.hms.specs.declared.refusal.CommandRefusal.TheVariants.{Syntax, ItemKind, Ids, NotYet as NotBuilt, Absent}
+use Rattle.hms.specs.declared.outcome.Outcome.{Outcome}
+use Rattle.hms.specs.declared.outcome.Outcome.TheVariants.{Done, NotOk, Refused}
+use Rattle.hms.specs.declared.stop.Stop.{Stop}
+use Rattle.hms.specs.declared.stop.Stop.TheVariants.{Memory, ReadFault, Refused as IsRefused}
+use Rattle.hms.specs.tools.Stops.{IfRefused, IfOutcome, IsParamsCause, ReadsNothing, CountsRead, stop_of_fill}
+use Rattle.hms.specs.Report.{HasInput}
+use Rattle.hms_io.specs.Reading.{LosesPrefix}
+use Rattle.hms_io.specs.declared.read_write.FillError.{FillError}
+use Rattle.hms_io.specs.declared.read_write.FillError.TheVariants.{Memory as NoFillMemory, Failed, TooLong as Longer}
+use Rattle.std.proofs.lemmas.List.{length-replicate}
+use Rattle.hms.proofs.LowerLaws.{one_list, one_fault, no_fault, one_params}
+
+-- ---- what is there is there once
+
+some_is : {X : Type 0} (x y : X) → Some x ≡ Some y → x ≡ y
+some_is x y e = cc
+
+some_is_not_none : {X : Type 0} (x : X) → Some x ≡ None → ⊥
+some_is_not_none x e = absurd cc
+
+one_message : (input : List ℕ) (a b : Head) → IsMessage a input → IsMessage b input → a ≡ b
+one_message input a b one other = one_head_of_text_law input a b one.alone other.alone
+
+one_sig : (params : List ℕ) (a b : SigParams) → ReadsParams params a → ReadsParams params b → a ≡ b
+one_sig params a b one other = one_params a b (one_list params (list_of a) (list_of b) one.reads other.reads)
+
+one_lack : (params input id other : List ℕ) → LacksField params input id → LacksField params input other → id ≡ other
+one_lack params input id other a b =
+    let heads : a.head ≡ b.head = one_message input a.head b.head a.message b.message in
+    let sigs : a.sig ≡ b.sig = one_sig params a.sig b.sig a.reads b.reads in
+    let found : first_absent a.head.lines a.sig.ids ≡ first_absent b.head.lines b.sig.ids =
+        λ i. first_absent (heads i).lines (sigs i).ids in
+    let ids : a.absent ≡ b.absent = some_is a.absent b.absent (sym a.first ∙ (found ∙ b.first)) in
+    a.id_is ∙ (ap id_text ids ∙ sym b.id_is)
+
+one_base : (params input text other : List ℕ) → HasBase params input text → HasBase params input other → text ≡ other
+one_base params input text other a b =
+    let heads : a.head ≡ b.head = one_message input a.head b.head a.message b.message in
+    let sigs : a.sig ≡ b.sig = one_sig params a.sig b.sig a.reads b.reads in
+    a.base_is ∙ ((λ i. base_of (heads i).lines (sigs i)) ∙ sym b.base_is)
+
+one_id_fault : (params : List ℕ) (f g : IdFault) → HasIdFault params f → HasIdFault params g → f ≡ g
+one_id_fault params f g a b =
+    let lists : a.list ≡ b.list = one_list params a.list b.list a.reads b.reads in
+    one_fault b.list f g (subst (λ (list : InnerList). IsFault list f) lists a.is) b.is
+
+-- at the offset of a fault an item of another kind begins or not
+one_kind : (params : List ℕ) (i j : ℕ) → IsFaultOffset ReadsInner params i × ¬ BeginsItemKind ReadsInner params i
+    → IsFaultOffset ReadsInner params j × BeginsItemKind ReadsInner params j → ⊥
+one_kind params i j a b =
+    a.1 (subst (λ (k : ℕ). BeginsItemKind ReadsInner params k) (one_offset ReadsInner params j i b.0 a.0) b.1)
+
+-- ---- each cause determines its own offset, fault or identifier
+
+one_command : (params input : List ℕ) (c d : CommandRefusal) → command_order c ≡ command_order d
+    → IsCommandCause params input c → IsCommandCause params input d → c ≡ d
+one_command params input (Syntax i) (Syntax j) same a b = ap Syntax (one_offset ReadsInner params i j a.0 b.0)
+one_command params input (Syntax i) (ItemKind j) same a b = absurd (one_kind params i j a b)
+one_command params input (Syntax i) (Ids j) same a b = absurd (omega (arith, same))
+one_command params input (Syntax i) NotBuilt same a b = absurd (omega (arith, same))
+one_command params input (Syntax i) (Absent j) same a b = absurd (omega (arith, same))
+one_command params input (ItemKind i) (Syntax j) same a b = absurd (one_kind params j i b a)
+one_command params input (ItemKind i) (ItemKind j) same a b = ap ItemKind (one_offset ReadsInner params i j a.0 b.0)
+one_command params input (ItemKind i) (Ids j) same a b = absurd (omega (arith, same))
+one_command params input (ItemKind i) NotBuilt same a b = absurd (omega (arith, same))
+one_command params input (ItemKind i) (Absent j) same a b = absurd (omega (arith, same))
+one_command params input (Ids i) (Syntax j) same a b = absurd (omega (arith, same))
+one_command params input (Ids i) (ItemKind j) same a b = absurd (omega (arith, same))
+one_command params input (Ids i) (Ids j) same a b = ap Ids (one_id_fault params i j a b)
+one_command params input (Ids i) NotBuilt same a b = absurd (omega (arith, same))
+one_command params input (Ids i) (Absent j) same a b = absurd (omega (arith, same))
+one_command params input NotBuilt (Syntax j) same a b = absurd (omega (arith, same))
+one_command params input NotBuilt (ItemKind j) same a b = absurd (omega (arith, same))
+one_command params input NotBuilt (Ids j) same a b = absurd (omega (arith, same))
+one_command params input NotBuilt NotBuilt same a b = refl
+one_command params input NotBuilt (Absent j) same a b = absurd (omega (arith, same))
+one_command params input (Absent i) (Syntax j) same a b = absurd (omega (arith, same))
+one_command params input (Absent i) (ItemKind j) same a b = absurd (omega (arith, same))
+one_command params input (Absent i) (Ids j) same a b = absurd (omega (arith, same))
+one_command params input (Absent i) NotBuilt same a b = absurd (omega (arith, same))
+one_command params input (Absent i) (Absent j) same a b = ap Absent (one_lack params input i j a b)
+
+-- commands are judged after the input and before the base
+among_commands : (c : CommandRefusal) → (3 ≤ command_order c) × (command_order c < 7)
+among_commands (Syntax i) = (lit≤ tt, lit< tt)
+among_commands (ItemKind i) = (lit≤ tt, lit< tt)
+among_commands (Ids f) = (lit≤ tt, lit< tt)
+among_commands NotBuilt = (lit≤ tt, lit< tt)
+among_commands (Absent i) = (lit≤ tt, lit< tt)
+
+no_command_at : (c : CommandRefusal) (n : ℕ) → (n < 3) ⊎ (7 ≤ n) → command_order c ≡ n → ⊥
+no_command_at c n (inl low) same = let among = among_commands c in absurd (omega (arith, among.0, low, same))
+no_command_at c n (inr high) same = let among = among_commands c in absurd (omega (arith, among.1, high, same))
+
+pub determined : (params input : List ℕ) → AreDetermined order_of (Holds params input)
+determined params input (Refused Arguments) other same a b = absurd a
+determined params input (Refused (Input TooLong)) (Refused Arguments) same a b = absurd b
+determined params input (Refused (Input TooLong)) (Refused (Input TooLong)) same a b = refl
+determined params input (Refused (Input TooLong)) (Refused (Input NotYet)) same a b = absurd (omega (arith, same))
+determined params input (Refused (Input TooLong)) (Refused (Command d)) same a b = absurd (no_command_at d 1 (inl (lit< tt)) (sym same))
+determined params input (Refused (Input TooLong)) (Done other) same a b = absurd (omega (arith, same))
+determined params input (Refused (Input TooLong)) (NotOk other) same a b = absurd b
+determined params input (Refused (Input NotYet)) (Refused Arguments) same a b = absurd b
+determined params input (Refused (Input NotYet)) (Refused (Input TooLong)) same a b = absurd (omega (arith, same))
+determined params input (Refused (Input NotYet)) (Refused (Input NotYet)) same a b = refl
+determined params input (Refused (Input NotYet)) (Refused (Command d)) same a b = absurd (no_command_at d 2 (inl (lit< tt)) (sym same))
+determined params input (Refused (Input NotYet)) (Done other) same a b = absurd (omega (arith, same))
+determined params input (Refused (Input NotYet)) (NotOk other) same a b = absurd b
+determined params input (Refused (Command c)) (Refused Arguments) same a b = absurd b
+determined params input (Refused (Command c)) (Refused (Input TooLong)) same a b = absurd (no_command_at c 1 (inl (lit< tt)) same)
+determined params input (Refused (Command c)) (Refused (Input NotYet)) same a b = absurd (no_command_at c 2 (inl (lit< tt)) same)
+determined params input (Refused (Command c)) (Refused (Command d)) same a b = ap (λ (c : CommandRefusal). Refused (Command c)) (one_command params input c d same a b)
+determined params input (Refused (Command c)) (Done other) same a b = absurd (no_command_at c 7 (inr (lit≤ tt)) same)
+determined params input (Refused (Command c)) (NotOk other) same a b = absurd b
+determined params input (Done text) (Refused Arguments) same a b = absurd b
+determined params input (Done text) (Refused (Input TooLong)) same a b = absurd (omega (arith, same))
+determined params input (Done text) (Refused (Input NotYet)) same a b = absurd (omega (arith, same))
+determined params input (Done text) (Refused (Command d)) same a b = absurd (no_command_at d 7 (inr (lit≤ tt)) (sym same))
+determined params input (Done text) (Done other) same a b = ap Done (one_base params input text other a b)
+determined params input (Done text) (NotOk other) same a b = absurd b
+determined params input (NotOk text) other same a b = absurd a
+
+-- ---- what was passed: no outcome before this one in the order holds
+
+-- what is known of PARAMS and the input, where the outcome is the one of this number or comes after it
+pub record Passed (params input : List ℕ) (n : ℕ) : Type 0 where
+  pub short : 1 < n → length input ≤ MAX_INPUT_BYTES
+  pub message : 2 < n → (head : Head) × IsMessage head input
+  pub list : 3 < n → (list : InnerList) × ReadsInner params list
+  pub sig : 4 < n → (sig : SigParams) × ReadsParams params sig
+  pub plain : 5 < n → (sig : SigParams) × ReadsParams params sig × (list_all is_plain sig.ids ≡ true)
+  pub there : 6 < n → (head : Head) × IsMessage head input × (sig : SigParams) × ReadsParams params sig
+      × (first_absent head.lines sig.ids ≡ None)
+
+pub none_before : (params input : List ℕ) (n : ℕ) → n ≤ 7 → Passed params input n
+    → (other : Outcome) → order_of other < n → Holds params input other → ⊥
+none_before params input n most p (Refused Arguments) lt h = h
+none_before params input n most p (Refused (Input TooLong)) lt h = let short = p.short lt in absurd (omega (arith, short, h))
+none_before params input n most p (Refused (Input NotYet)) lt h = let m = p.message lt in h m.0 m.1
+none_before params input n most p (Refused (Command (Syntax i))) lt h = let l = p.list lt in h.0.none l.0 l.1
+none_before params input n most p (Refused (Command (ItemKind i))) lt h = let l = p.list lt in h.0.none l.0 l.1
+none_before params input n most p (Refused (Command (Ids f))) lt h =
+    let s = p.sig lt in
+    no_fault s.0 h.list f s.1.is (one_list params (list_of s.0) h.list s.1.reads h.reads) h.is
+none_before params input n most p (Refused (Command NotBuilt)) lt h =
+    let s = p.plain lt in
+    let sigs : s.0 ≡ h.sig = one_sig params s.0 h.sig s.1 h.reads in
+    false≢true (sym h.other ∙ (ap (λ (sig : SigParams). list_all is_plain sig.ids) (sym sigs) ∙ s.2))
+none_before params input n most p (Refused (Command (Absent i))) lt h =
+    let t = p.there lt in
+    let heads : t.0 ≡ h.head = one_message input t.0 h.head t.1 h.message in
+    let sigs : t.2 ≡ h.sig = one_sig params t.2 h.sig t.3 h.reads in
+    let found : first_absent t.0.lines t.2.ids ≡ first_absent h.head.lines h.sig.ids =
+        λ i. first_absent (heads i).lines (sigs i).ids in
+    absurd (some_is_not_none h.absent (sym h.first ∙ (sym found ∙ t.4)))
+none_before params input n most p (Done text) lt h = absurd (omega (arith, most, lt))
+none_before params input n most p (NotOk text) lt h = absurd (omega (arith, most, lt))
+
+-- the outcome that holds is the first, where what comes before it was passed
+pub first_outcome : (params input : List ℕ) (outcome : Outcome) → order_of outcome ≤ 7
+    → Passed params input (order_of outcome) → Holds params input outcome → ReportsBase params input outcome
+first_outcome params input outcome most passed holds = record {
+  holds = holds;
+  none_before = λ other lt. none_before params input (order_of outcome) most passed other lt;
+}
+
+pub one_outcome : (params input : List ℕ) (one other : Outcome) → ReportsBase params input one → ReportsBase params input other → one ≡ other
+one_outcome params input = first_is_one order_of (Holds params input) (determined params input)
+
+-- ---- what was passed, step by step
+
+pub passed_arguments : (params input : List ℕ) → Passed params input 1
+passed_arguments params input = record {
+  short = λ lt. absurd (omega (arith, lt));
+  message = λ lt. absurd (omega (arith, lt));
+  list = λ lt. absurd (omega (arith, lt));
+  sig = λ lt. absurd (omega (arith, lt));
+  plain = λ lt. absurd (omega (arith, lt));
+  there = λ lt. absurd (omega (arith, lt));
+}
+
+pub passed_length : (params input : List ℕ) → length input ≤ MAX_INPUT_BYTES → Passed params input 2
+passed_length params input short = record {
+  short = λ _. short;
+  message = λ lt. absurd (omega (arith, lt));
+  list = λ lt. absurd (omega (arith, lt));
+  sig = λ lt. absurd (omega (arith, lt));
+  plain = λ lt. absurd (omega (arith, lt));
+  there = λ lt. absurd (omega (arith, lt));
+}
+
+module _ (params input : List ℕ) (short : length input ≤ MAX_INPUT_BYTES) (head : Head) (message : IsMessage head input) where
+  pub passed_message : Passed params input 3
+  passed_message = record {
+    short = λ _. short;
+    message = λ _. (head, message);
+    list = λ lt. absurd (omega (arith, lt));
+    sig = λ lt. absurd (omega (arith, lt));
+    plain = λ lt. absurd (omega (arith, lt));
+    there = λ lt. absurd (omega (arith, lt));
+  }
+
+  pub passed_list : (list : InnerList) → ReadsInner params list → Passed params input 4
+  passed_list list reads = record {
+    short = λ _. short;
+    message = λ _. (head, message);
+    list = λ _. (list, reads);
+    sig = λ lt. absurd (omega (arith, lt));
+    plain = λ lt. absurd (omega (arith, lt));
+    there = λ lt. absurd (omega (arith, lt));
+  }
+
+  pub passed_sig : (sig : SigParams) → ReadsParams params sig → Passed params input 5
+  passed_sig sig reads = record {
+    short = λ _. short;
+    message = λ _. (head, message);
+    list = λ _. (list_of sig, reads.reads);
+    sig = λ _. (sig, reads);
+    plain = λ lt. absurd (omega (arith, lt));
+    there = λ lt. absurd (omega (arith, lt));
+  }
+
+  pub passed_plain : (sig : SigParams) → ReadsParams params sig → list_all is_plain sig.ids ≡ true → Passed params input 6
+  passed_plain sig reads plain = record {
+    short = λ _. short;
+    message = λ _. (head, message);
+    list = λ _. (list_of sig, reads.reads);
+    sig = λ _. (sig, reads);
+    plain = λ _. (sig, reads, plain);
+    there = λ lt. absurd (omega (arith, lt));
+  }
+
+  pub passed_there : (sig : SigParams) → ReadsParams params sig → list_all is_plain sig.ids ≡ true
+      → first_absent head.lines sig.ids ≡ None → Passed params input 7
+  passed_there sig reads plain there = record {
+    short = λ _. short;
+    message = λ _. (head, message);
+    list = λ _. (list_of sig, reads.reads);
+    sig = λ _. (sig, reads);
+    plain = λ _. (sig, reads, plain);
+    there = λ _. (head, message, sig, reads, there);
+  }
+
+  -- a refusal of PARAMS is the outcome
+  pub params_refused : (refusal : Refusal) → IsParamsCause params refusal → ReportsBase params input (Refused refusal)
+  params_refused (Command (Syntax i)) a = first_outcome params input (Refused (Command (Syntax i))) (lit≤ tt) passed_message a
+  params_refused (Command (ItemKind i)) a = first_outcome params input (Refused (Command (ItemKind i))) (lit≤ tt) passed_message a
+  params_refused (Command (Ids f)) a =
+      first_outcome params input (Refused (Command (Ids f))) (lit≤ tt) (passed_list a.list a.reads) a
+  params_refused (Command NotBuilt) a = absurd a
+  params_refused (Command (Absent i)) a = absurd a
+  params_refused (Input refusal) a = absurd a
+  params_refused Arguments a = absurd a
+
+  -- a stop while PARAMS are read is one
+  pub params_stop : (stop : Stop) → IfRefused stop (IsParamsCause params) → IfOutcome (Err stop) (ReportsBase params input)
+  params_stop Memory a = tt
+  params_stop ReadFault a = absurd a
+  params_stop (IsRefused refusal) a = params_refused refusal a
+
+  pub other_covered : (sig : SigParams) → ReadsParams params sig → list_all is_plain sig.ids ≡ false
+      → ReportsBase params input (Refused (Command NotBuilt))
+  other_covered sig reads other =
+      first_outcome params input (Refused (Command NotBuilt)) (lit≤ tt) (passed_sig sig reads) (record { sig = sig; reads = reads; other = other })
+
+  pub field_absent : (sig : SigParams) → ReadsParams params sig → list_all is_plain sig.ids ≡ true → (absent : ComponentId)
+      → first_absent head.lines sig.ids ≡ Some absent → ReportsBase params input (Refused (Command (Absent (id_text absent))))
+  field_absent sig reads plain absent first =
+      first_outcome params input (Refused (Command (Absent (id_text absent)))) (lit≤ tt) (passed_plain sig reads plain)
+      (record { head = head; message = message; sig = sig; reads = reads; absent = absent; first = first; id_is = refl })
+
+  pub base_done : (sig : SigParams) → ReadsParams params sig → list_all is_plain sig.ids ≡ true → first_absent head.lines sig.ids ≡ None
+      → ReportsBase params input (Done (base_of head.lines sig))
+  base_done sig reads plain there =
+      first_outcome params input (Done (base_of head.lines sig)) (lit≤ tt) (passed_there sig reads plain there)
+      (record { head = head; message = message; sig = sig; reads = reads; base_is = refl })
+
+-- an input that is too long, and one that is no message
+pub input_too_long : (params input : List ℕ) → MAX_INPUT_BYTES < length input → ReportsBase params input (Refused (Input TooLong))
+input_too_long params input long = first_outcome params input (Refused (Input TooLong)) (lit≤ tt) (passed_arguments params input) long
+
+pub input_not_yet : (params input : List ℕ) → length input ≤ MAX_INPUT_BYTES → NoMessage input → ReportsBase params input (Refused (Input NotYet))
+input_not_yet params input short none = first_outcome params input (Refused (Input NotYet)) (lit≤ tt) (passed_length params input short) none
+
+-- ---- stops of the source
+
+-- some input, the known bytes where they are known, that is longer than n
+longer : (n : ℕ) (before now : Option (List ℕ)) → LosesPrefix before now (n + 1)
+    → (input : List ℕ) × IfSome before (λ bytes. bytes ≡ input) × (n < length input)
+longer n None now lost = (replicate (n + 1) 0, tt, rw (length-replicate {A = ℕ} (n + 1) 0) (omega arith))
+longer n (Some all) now lost = (all, refl, omega (arith, lost.0))
+
+pub fill_stop : (params : List ℕ) (before now : Option (List ℕ)) (error : FillError)
+    → (error ≡ Longer → LosesPrefix before now (MAX_INPUT_BYTES + 1))
+    → IfOutcome (Err (stop_of_fill error)) (HasInput (ReportsBase params) before now)
+fill_stop params before now NoFillMemory lost = tt
+fill_stop params before now Failed lost = tt
+fill_stop params before now Longer lost =
+    let input = longer MAX_INPUT_BYTES before now (lost refl) in
+    record { input = input.0; known = input.1; reports = input_too_long params input.0 input.2; leaves = lost refl }
+
+pub reads_nothing_counts : (before now : ℕ) (result : Result (List ℕ) Stop) → ReadsNothing result → now ≡ before → CountsRead before now result
+reads_nothing_counts before now (Ok text) none same = same
+reads_nothing_counts before now (Err Memory) none same = same
+reads_nothing_counts before now (Err ReadFault) none same = absurd none
+reads_nothing_counts before now (Err (IsRefused refusal)) none same = same

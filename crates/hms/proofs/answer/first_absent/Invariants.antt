@@ -1,7 +1,0 @@
-use Rattle.std.proofs.Common.{◌≡◌, true, take}
-use Rattle.std.specs.List.{list_all}
-use Rattle.hms.specs.Asked.{has_field}
-use Rattle.hms.proofs.answer.first_absent.Given as goal
-
-abbrev pub invariant-loop-id : goal.invariant-loop-id
-invariant-loop-id l = list_all (has_field l.head.lines) (take l.id-index l.ids) ≡ true

@@ -1,0 +1,28 @@
+//! What gives bytes.
+
+ghost use Rattle.std.specs.Prelude.{ℕ, List, Option};
+ghost use Rattle.std.specs.Io.{ReadsAtMost};
+ghost use Rattle.std.specs.Io.KnownBytes.{ReadConsumes};
+ghost use Rattle.hms_io.specs.Cause.{HasCause};
+
+use crate::faults::Failed;
+
+/// What gives bytes.
+///
+/// Its count of faults never falls. It rises where a call answers `Failed` (or stands at its last
+/// value, 2^64 - 1), and every other answer leaves it as it was. The bytes left may be unknown, as
+/// those of a terminal are, and then only the clauses on counts and lengths say anything.
+pub trait Source {
+    // The bytes left, where they are known.
+    ghost left: { Self → Option (List ℕ) };
+
+    // How many faults were counted.
+    ghost faults: { Self → ℕ };
+
+    /// Gives bytes at the start of the piece, and answers how many. 0 for a piece that isn't empty
+    /// means the end. A failed call gives none, but may have changed the piece.
+    fn read(&mut self, into: &mut [u8]) -> Result<usize, Failed>
+        ensures bound { ReadsAtMost result into.new }
+        ensures bytes { ReadConsumes (left self.old) (left self.new) result into.new }
+        ensures cause { HasCause (faults self.old) (faults self.new) result };
+}

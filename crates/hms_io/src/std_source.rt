@@ -1,0 +1,54 @@
+//! A source over a reader of std.
+
+ghost use Rattle.std.specs.Prelude.{◌≡◌, OnErr};
+ghost use Rattle.std.specs.Io.{ReadsAtMost};
+ghost use Rattle.std.specs.Io.KnownBytes.{ReadConsumes};
+ghost use Rattle.hms_io.specs.Cause.{HasCause, one_more};
+
+use crate::faults::{Failed, Faults};
+use crate::source::Source;
+use std::io::Read;
+use std::marker::Model;
+
+/// A source over a reader of std. Its bytes are known where those of the reader are. Whatever the
+/// reader refuses is a fault, an interrupted call too.
+#[derive(Drop)]
+pub struct StdSource<R: Read> {
+    reader: R,
+    faults: Faults,
+}
+
+impl<R: Read> Model for StdSource<R> {
+    ghost use Rattle.hms_io.specs.OverStd.{ReaderSource};
+
+    ghost Value = { ReaderSource };
+
+    ghost view = { λ s. record { left = R.remaining s.reader; faults = s.faults } };
+}
+
+impl<R: Read> StdSource<R> {
+    /// A source of what the reader gives.
+    pub fn new(reader: R) -> StdSource<R>
+        ensures { result ≡ record { left = R.remaining reader; faults = 0 } }
+    {
+        StdSource {
+            reader,
+            faults: Faults::new(),
+        }
+    }
+}
+
+impl<R: Read> Source for StdSource<R> {
+    ghost left = { λ s. s.left };
+
+    ghost faults = { λ s. s.faults };
+
+    fn read(&mut self, into: &mut [u8]) -> Result<usize, Failed>
+        ensures bound { ReadsAtMost result into.new }
+        ensures bytes { ReadConsumes self.old.left self.new.left result into.new }
+        ensures cause { HasCause self.old.faults self.new.faults result }
+        ensures counts_one { OnErr result (self.new.faults ≡ one_more self.old.faults) }
+    {
+        self.faults.check(self.reader.read(into))
+    }
+}

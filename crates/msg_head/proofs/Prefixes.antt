@@ -1,0 +1,75 @@
+-- A byte outside a class separates a text after a prefix of the class in one way, and the first offset of that byte is the prefix's length.
+use Rattle.std.proofs.Common.{◌≡◌, ℕ, ◌<◌, Bool, true, false, List, [], ◌∷◌, ◌++◌, length, take, get_or, Option, Some, None, IfSome, IfNone, MatchOption, refl, sym, ap, ◌∙◌, inl, inr, arith, length-append}
+use Rattle.std.specs.List.{list_all}
+use Rattle.std.proofs.Math.ListN.{get_or-append}
+use Rattle.std.proofs.Math.Seq.{get_or-append_seam, take-append_seam}
+use Rattle.std.proofs.lemmas.Bool.{and_parts, cases_order, eq-eqb, eqb-true, false≢true}
+use Rattle.std.proofs.lemmas.List.{append_cancel_left}
+use Rattle.std.proofs.lemmas.List.Folds.{list_all_at}
+use Rattle.memchr.specs.Find.{IsFirstByte, is_byte}
+use Rattle.msg_head.specs.tools.Prefixes.{StandsBefore}
+
+-- a byte of the class is no byte outside it
+pub outside : (test : ℕ → Bool) (x y : ℕ) → test x ≡ true → test y ≡ false → x ≡ y → ⊥
+outside test x y in_class out same = false≢true (sym out ∙ sym (ap test same) ∙ in_class)
+
+-- two prefixes of the class before the same byte outside it are one
+pub one_prefix : (test : ℕ → Bool) (end : ℕ) (one other more rest : List ℕ) → test end ≡ false → list_all test one ≡ true → list_all test other ≡ true → one ++ end ∷ more ≡ other ++ end ∷ rest → (one ≡ other) × (more ≡ rest)
+one_prefix test end [] [] more rest out f o e = (refl, cc)
+one_prefix test end [] (y ∷ ys) more rest out f o e =
+    let first : y ≡ end = cc in absurd (outside test y end (and_parts _ _ o).0 out first)
+one_prefix test end (x ∷ xs) [] more rest out f o e =
+    let first : x ≡ end = cc in absurd (outside test x end (and_parts _ _ f).0 out first)
+one_prefix test end (x ∷ xs) (y ∷ ys) more rest out f o e =
+    let first : x ≡ y = cc in
+    let left : xs ++ end ∷ more ≡ ys ++ end ∷ rest = cc in
+    let others = one_prefix test end xs ys more rest out (and_parts _ _ f).1 (and_parts _ _ o).1 left in
+    (λ i. first i ∷ others.0 i, others.1)
+
+-- and so are two before the same end, where its first byte is outside the class
+pub one_before : (test : ℕ → Bool) (c : ℕ) (cs one other more rest bytes : List ℕ) → test c ≡ false → StandsBefore test (c ∷ cs) one more bytes → StandsBefore test (c ∷ cs) other rest bytes → (one ≡ other) × (more ≡ rest)
+one_before test c cs one other more rest bytes out a b =
+    let same = one_prefix test c one other (cs ++ more) (cs ++ rest) out a.each b.each (sym a.joined ∙ b.joined) in
+    (same.0, append_cancel_left cs more rest same.1)
+
+at_seam : (prefix : List ℕ) (end : ℕ) (more bytes : List ℕ) → bytes ≡ prefix ++ end ∷ more → get_or bytes (length prefix) 0 ≡ end
+at_seam prefix end more bytes joined = ap (λ (s : List ℕ). get_or s (length prefix) 0) joined ∙ get_or-append_seam prefix end more 0
+
+below_seam : (prefix : List ℕ) (end : ℕ) (more bytes : List ℕ) → bytes ≡ prefix ++ end ∷ more → length prefix < length bytes
+below_seam prefix end more bytes joined = omega (arith, ap (length {A = ℕ}) joined, length-append prefix (end ∷ more))
+
+-- a byte outside the class doesn't stand in the prefix
+not_before : (test : ℕ → Bool) (end : ℕ) (prefix more bytes : List ℕ) (k : ℕ) → test end ≡ false → StandsBefore test (end ∷ []) prefix more bytes → get_or bytes k 0 ≡ end → k < length prefix → ⊥
+not_before test end prefix more bytes k out s here low =
+    let inside : get_or prefix k 0 ≡ end = sym (get_or-append prefix (end ∷ more) 0 k low) ∙ sym (ap (λ (t : List ℕ). get_or t k 0) s.joined) ∙ here in
+    false≢true (sym (list_all_at test prefix k 0 low (ap test inside ∙ out)) ∙ s.each)
+
+-- the first offset of the byte is the prefix's length
+pub first_end : (test : ℕ → Bool) (end : ℕ) (prefix more bytes : List ℕ) (found : Option ℕ) → test end ≡ false → StandsBefore test (end ∷ []) prefix more bytes → IsFirstByte (is_byte end) bytes found → found ≡ Some (length prefix)
+first_end test end prefix more bytes None out s h =
+    absurd (h (length prefix) (omega arith) (below_seam prefix end more bytes s.joined) (eq-eqb _ _ (at_seam prefix end more bytes s.joined)))
+first_end test end prefix more bytes (Some k) out s h =
+    elim (cases_order k (length prefix)) [
+      | inl same ↦ ap Some same
+      | inr apart ↦ elim apart [
+        | inl low ↦ absurd (not_before test end prefix more bytes k out s (eqb-true _ _ h.1) low)
+        | inr high ↦ absurd (h.0.before (length prefix) (omega arith) high (eq-eqb _ _ (at_seam prefix end more bytes s.joined)))
+      ]
+    ]
+
+-- so the bytes before that offset are the prefix
+pub prefix_at : (test : ℕ → Bool) (end : ℕ) (prefix more bytes : List ℕ) (k : ℕ) → StandsBefore test (end ∷ []) prefix more bytes → k ≡ length prefix → take k bytes ≡ prefix
+prefix_at test end prefix more bytes k s same = ap (λ n. take n bytes) same ∙ ap (λ (t : List ℕ). take (length prefix) t) s.joined ∙ take-append_seam prefix (end ∷ more)
+
+-- what is so of no answer, and of an answer, by cases
+pub given_none : {X : Type 0} {P : Type 0} (found : Option X) → P → IfNone found P
+given_none None p = p
+given_none (Some x) p = tt
+
+pub at_some : {X : Type 0} (N : Type 0) (P : X → Type 0) (found : Option X) → MatchOption found N P → IfSome found P
+at_some N P None m = tt
+at_some N P (Some x) m = m
+
+pub at_none : {X : Type 0} (N : Type 0) (P : X → Type 0) (found : Option X) → MatchOption found N P → IfNone found N
+at_none N P None m = m
+at_none N P (Some x) m = tt

@@ -1,0 +1,7 @@
+//! What a head may have at most.
+
+/// How many bytes a head may have, the empty line at its end included.
+pub const MAX_HEAD_BYTES: usize = 65_536;
+
+/// How many field lines a head may have.
+pub const MAX_HEAD_LINES: usize = 256;
