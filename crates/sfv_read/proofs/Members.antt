@@ -16,7 +16,9 @@ use Rattle.sfv_read.specs.Member.{IsMember, IsDictValue, IsDictMember, true_item
 use Rattle.sfv_read.specs.tools.MemberWalk.{inner_member_read, item_member_read, member_read, equals_member_read, given_or_true, dict_value_read, dict_member_read, with_last, list_read, dict_read, next_member_read}
 use Rattle.sfv_text.specs.declared.value.BareItem.{BareItem}
 use Rattle.sfv_read.specs.declared.bare.BareKind.{BareKind}
-use Rattle.byte_grammar.proofs.Laws.{Meets, Starts, meets_then, meets_byte, meets_optional, optional_follow, meets_choose, meets_done, meets_same, meets_map, any_next, of_each, apart}
+use Rattle.byte_grammar.proofs.Laws.{Meets, meets_then, meets_done, meets_same, meets_map, any_next}
+use Rattle.byte_grammar.proofs.ChoiceLaws.{Starts, meets_optional, optional_follow, meets_choose, of_each, apart}
+use Rattle.byte_grammar.proofs.LeafLaws.{meets_byte}
 use Rattle.sfv_text.specs.declared.value.Item.{Item}
 use Rattle.sfv_text.specs.declared.value.InnerList.{InnerList}
 use Rattle.sfv_text.specs.declared.value.Member.{Member}

@@ -13,6 +13,7 @@ use Rattle.byte_classes.specs.Classes.{is_space, is_blank}
 use Rattle.sfv_read.specs.Item.{IsItem, IsKey, AreParameters, distinct_pairs}
 use Rattle.sfv_read.specs.Inner.{IsInner}
 
+-- an Item or an Inner List
 abbrev pub IsMember : List ℕ → Member → Type 0
 IsMember text (ItemMember item) = IsItem text item
 IsMember text (InnerMember list) = IsInner text list
