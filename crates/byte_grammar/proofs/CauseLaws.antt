@@ -1,5 +1,5 @@
 -- Of causes that are judged in an order at most one is the first that holds.
-use Rattle.std.proofs.Common.{◌≡◌, ℕ, ◌<◌, ◌⊎◌, inl, inr}
+use Rattle.std.proofs.Common.{◌≡◌, ℕ, inl, inr}
 use Rattle.std.proofs.lemmas.Bool.{cases_order}
 use Rattle.byte_grammar.specs.Causes.{IsFirst, AreDetermined}
 

@@ -1,4 +1,7 @@
 pub mod Laws
+pub mod LeafLaws
+pub mod ChoiceLaws
+pub mod TurnLaws
 pub mod Loops
 pub mod Count
 pub mod Whole

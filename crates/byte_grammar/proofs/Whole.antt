@@ -6,7 +6,8 @@ use Rattle.byte_grammar.specs.Language.{Begins, Padded}
 use Rattle.byte_grammar.specs.tools.Languages.{IsAll}
 use Rattle.byte_grammar.specs.Walk.{◌>>=◌}
 use Rattle.byte_grammar.specs.tools.Walks.{left, Next, padded_read, value_at_end, whole_read, unread}
-use Rattle.byte_grammar.proofs.Laws.{Meets, meets_then, meets_all, meets_same, meets_map, and_is, ok_is, not_err, left_less, bind_ok, bind_err}
+use Rattle.byte_grammar.proofs.Laws.{Meets, meets_then, meets_same, meets_map, and_is, ok_is, not_err, left_less, bind_ok, bind_err}
+use Rattle.byte_grammar.proofs.LeafLaws.{meets_all}
 use Rattle.byte_grammar.specs.FaultOffset.{IsFaultOffset}
 
 -- what only the end may follow

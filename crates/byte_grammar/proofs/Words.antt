@@ -1,5 +1,5 @@
 -- A byte of one class and then bytes of another, cut off in one piece.
-use Rattle.std.proofs.Common.{◌≡◌, ℕ, suc, ◌+◌, ◌≤◌, Bool, true, false, List, [], ◌∷◌, length, take, drop, Result, Ok, Err, refl, ap, arith}
+use Rattle.std.proofs.Common.{◌≡◌, ℕ, suc, ◌+◌, Bool, true, false, List, [], ◌∷◌, length, take, drop, Result, Ok, Err, refl, ap, arith}
 use Rattle.byte_grammar.specs.Walk.{byte_if, byte_read, run_length, all_read, word_read}
 
 -- what the reader of one byte takes stands first

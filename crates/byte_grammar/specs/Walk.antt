@@ -1,5 +1,5 @@
 -- The readers of bytes over lists, from left to right: what the code is compared with.
-use Rattle.std.specs.Prelude.{◌≡◌, ℕ, zero, suc, ◌-◌, nat_lt, Bool, List, [], ◌∷◌, length, take, drop, Result, Ok, Err, if◌then◌else◌}
+use Rattle.std.specs.Prelude.{ℕ, zero, suc, ◌-◌, nat_lt, Bool, List, [], ◌∷◌, length, take, drop, Result, Ok, Err, if◌then◌else◌}
 
 -- A reader gives a value and the bytes after its text, or how many bytes were left where it
 -- stopped.

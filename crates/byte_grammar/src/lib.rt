@@ -15,9 +15,13 @@
 //! and the readers over lists that the code is compared with. The laws that other crates cite stand
 //! in `proofs/`:
 //!
-//! - `Laws`: a reader meets a language (`Meets`) where its parts do: `meets_byte`, `meets_run`,
-//!   `meets_all`, `meets_word`, `meets_then`, `meets_optional`, `meets_choose`, `meets_pick`,
-//!   `meets_each`, `meets_turns`, `meets_map`, `meets_same`, `meets_done`.
+//! - `Laws`: a reader meets a language (`Meets`) where its parts do: one after another
+//!   (`meets_then`), or the same with other values (`meets_map`, `meets_same`, `meets_done`).
+//! - `LeafLaws`: the readers of bytes meet theirs (`meets_byte`, `meets_run`, `meets_all`,
+//!   `meets_word`).
+//! - `ChoiceLaws`: readers that the first byte chooses (`meets_pick`, `meets_optional`,
+//!   `meets_choose`), and what may come next (`of_each`, `apart`, `starts_next`).
+//! - `TurnLaws`: a text after a text (`meets_turns`, `meets_each`, `turns_step`, `shorter`).
 //! - `Loops`: a loop does what turns do, with a list (`loop_*`) or with a state (`state_*`).
 //! - `Whole`: a reader of whole texts judges the language and the offset of each fault (`Judges`,
 //!   `judges`), of texts with bytes of a class at both ends too (`meets_padded`); of what is judged

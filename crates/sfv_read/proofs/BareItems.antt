@@ -16,7 +16,9 @@ use Rattle.sfv_text.specs.declared.value.BareItem.{BareItem}
 use Rattle.sfv_text.specs.declared.value.BareItem.TheVariants.{Integer, Decimal, Str, Token, Bytes, Bool as Boolean}
 use Rattle.sfv_read.specs.declared.bare.BareKind.{BareKind}
 use Rattle.sfv_read.specs.declared.bare.BareKind.TheVariants.{Number as NumberKind, String as StringKind, Token as TokenKind, ByteSequence as ByteSequenceKind, Boolean as BooleanKind}
-use Rattle.byte_grammar.proofs.Laws.{Meets, Starts, Heads, meets_then, meets_byte, meets_word, meets_pick, meets_same, meets_map, and_is, any_next, of_each}
+use Rattle.byte_grammar.proofs.Laws.{Meets, meets_then, meets_same, meets_map, and_is, any_next}
+use Rattle.byte_grammar.proofs.ChoiceLaws.{Starts, Heads, meets_pick, of_each}
+use Rattle.byte_grammar.proofs.LeafLaws.{meets_byte, meets_word}
 use Rattle.sfv_read.proofs.Numbers.{ends, End, IsNumber, meets_number}
 use Rattle.sfv_read.proofs.Strings.{meets_string}
 use Rattle.sfv_read.proofs.Base64Letters.{meets_bytes}

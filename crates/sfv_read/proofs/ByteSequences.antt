@@ -10,7 +10,9 @@ use Rattle.byte_grammar.specs.Walk.{◌>>=◌, all_read, run_read}
 use Rattle.byte_grammar.specs.tools.Walks.{Next, optional_read}
 use Rattle.sfv_read.specs.tools.BareWalk.{pads, are_whole, padding_of, padding_read, padding_end_read, padding_if_whole, bytes_of, letters_end_read, byte_sequence_read}
 use Rattle.sfv_read.specs.Class.{is_base64, is_colon, is_equals}
-use Rattle.byte_grammar.proofs.Laws.{Meets, Partly, partly, Starts, meets_then, meets_then_with, meets_byte, meets_run, meets_all, meets_optional, optional_follow, meets_same, meets_map, and_is, any_next, run_starts, ok_is, not_err, bind_err}
+use Rattle.byte_grammar.proofs.Laws.{Meets, Partly, partly, meets_then, meets_then_with, meets_same, meets_map, and_is, ok_is, not_err, bind_err, any_next}
+use Rattle.byte_grammar.proofs.ChoiceLaws.{Starts, meets_optional, optional_follow, run_starts}
+use Rattle.byte_grammar.proofs.LeafLaws.{meets_byte, meets_run, meets_all}
 
 -- colons around letters, with all of the `=` that fill the last group or none, by the bytes that they spell
 pub record IsOctets (text bytes : List ℕ) : Type 0 where

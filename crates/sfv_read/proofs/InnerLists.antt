@@ -14,7 +14,10 @@ use Rattle.sfv_read.specs.tools.InnerWalk.{close_read, some_item_read, item_or_c
 use Rattle.sfv_read.specs.Item.{IsItem, distinct_pairs}
 use Rattle.sfv_text.specs.declared.value.BareItem.{BareItem}
 use Rattle.byte_grammar.proofs.Whole.{Nothing, meets_padded}
-use Rattle.byte_grammar.proofs.Laws.{Meets, Starts, meets_then, meets_byte, meets_all, meets_choose, meets_done, meets_turns, meets_same, meets_map, and_is, any_next, of_each, starts_next, starts_length, turns_step, shorter}
+use Rattle.byte_grammar.proofs.Laws.{Meets, meets_then, meets_done, meets_same, meets_map, and_is, any_next}
+use Rattle.byte_grammar.proofs.ChoiceLaws.{Starts, meets_choose, of_each, starts_next}
+use Rattle.byte_grammar.proofs.LeafLaws.{meets_byte, meets_all}
+use Rattle.byte_grammar.proofs.TurnLaws.{meets_turns, starts_length, turns_step, shorter}
 use Rattle.sfv_read.proofs.BareItems.{kind_blank, kind_close}
 use Rattle.sfv_read.proofs.Items.{after_params, AreDistinct, meets_kept, meets_item, item_starts, starts_append}
 use Rattle.sfv_text.specs.declared.value.Item.{Item}

@@ -16,7 +16,10 @@ use Rattle.sfv_read.specs.tools.ItemWalk.{equals_read, value_or_true, value_read
 use Rattle.sfv_text.specs.declared.value.BareItem.{BareItem}
 use Rattle.sfv_text.specs.declared.value.BareItem.TheVariants.{Bool as Boolean}
 use Rattle.sfv_read.specs.declared.bare.BareKind.{BareKind}
-use Rattle.byte_grammar.proofs.Laws.{Meets, Starts, meets_then, meets_byte, meets_all, meets_word, meets_optional, optional_follow, meets_each, meets_same, meets_map, any_next, of_each, apart, starts_next, next_more, starts_length, turns_step, shorter}
+use Rattle.byte_grammar.proofs.Laws.{Meets, meets_then, meets_same, meets_map, next_more, any_next}
+use Rattle.byte_grammar.proofs.ChoiceLaws.{Starts, meets_optional, optional_follow, of_each, apart, starts_next}
+use Rattle.byte_grammar.proofs.LeafLaws.{meets_byte, meets_all, meets_word}
+use Rattle.byte_grammar.proofs.TurnLaws.{meets_each, starts_length, turns_step, shorter}
 use Rattle.byte_grammar.proofs.Whole.{Nothing, meets_padded}
 use Rattle.sfv_read.proofs.Numbers.{ends, End}
 use Rattle.sfv_text.specs.declared.value.Item.{Item}

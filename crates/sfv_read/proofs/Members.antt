@@ -16,11 +16,13 @@ use Rattle.sfv_read.specs.Member.{IsMember, IsDictValue, IsDictMember, true_item
 use Rattle.sfv_read.specs.tools.MemberWalk.{inner_member_read, item_member_read, member_read, equals_member_read, given_or_true, dict_value_read, dict_member_read, with_last, list_read, dict_read, next_member_read}
 use Rattle.sfv_text.specs.declared.value.BareItem.{BareItem}
 use Rattle.sfv_read.specs.declared.bare.BareKind.{BareKind}
-use Rattle.byte_grammar.proofs.Laws.{Meets, Starts, meets_then, meets_byte, meets_optional, optional_follow, meets_choose, meets_done, meets_same, meets_map, any_next, of_each, apart}
+use Rattle.byte_grammar.proofs.Laws.{Meets, meets_then, meets_done, meets_same, meets_map, any_next}
+use Rattle.byte_grammar.proofs.ChoiceLaws.{Starts, meets_optional, optional_follow, meets_choose, of_each, apart}
+use Rattle.byte_grammar.proofs.LeafLaws.{meets_byte}
 use Rattle.sfv_text.specs.declared.value.Item.{Item}
 use Rattle.sfv_text.specs.declared.value.InnerList.{InnerList}
 use Rattle.sfv_text.specs.declared.value.Member.{Member}
-use Rattle.sfv_text.specs.declared.value.Member.TheVariants.{Item as OneItem, InnerList as SomeItems}
+use Rattle.sfv_text.specs.declared.value.Member.TheVariants.{Item as ItemMember, InnerList as InnerMember}
 use Rattle.sfv_text.specs.declared.pair.Pair.{Pair}
 use Rattle.sfv_read.specs.tools.ItemWalk.{pair_of}
 use Rattle.sfv_read.specs.tools.InnerWalk.{inner_of}
@@ -62,21 +64,21 @@ meets_member : Meets IsMember After member_read
 unfolding member_read inner_member_read item_member_read After
 meets_member =
     meets_same
-    (meets_choose is_open (meets_map meets_inner (λ (v : InnerList). SomeItems v) (λ v c h. h)) (meets_map meets_item (λ (v : Item). OneItem v) (λ v c h. h))
-    (λ x v h. inner_starts is_open refl x h.0 h.1) (λ x v h. item_starts (λ c. not (is_open c)) kind_open x h.0 h.1) (40 ∷ 41 ∷ []) (SomeItems (inner_of [] [])) (inner_of [] [], some_list, refl))
+    (meets_choose is_open (meets_map meets_inner (λ (v : InnerList). InnerMember v) (λ v c h. h)) (meets_map meets_item (λ (v : Item). ItemMember v) (λ v c h. h))
+    (λ x v h. inner_starts is_open refl x h.0 h.1) (λ x v h. item_starts (λ c. not (is_open c)) kind_open x h.0 h.1) (40 ∷ 41 ∷ []) (InnerMember (inner_of [] [])) (inner_of [] [], some_list, refl))
     to from (λ v c h. h)
   where
-    to : (x : List ℕ) (v : Member) → Mapped (λ (v : InnerList). SomeItems v) IsInner x v ⊎ Mapped (λ (v : Item). OneItem v) IsItem x v → IsMember x v
+    to : (x : List ℕ) (v : Member) → Mapped (λ (v : InnerList). InnerMember v) IsInner x v ⊎ Mapped (λ (v : Item). ItemMember v) IsItem x v → IsMember x v
     to x v (inl h) = subst (λ (v : Member). IsMember x v) h.2 h.1
     to x v (inr h) = subst (λ (v : Member). IsMember x v) h.2 h.1
 
-    from : (x : List ℕ) (v : Member) → IsMember x v → Mapped (λ (v : InnerList). SomeItems v) IsInner x v ⊎ Mapped (λ (v : Item). OneItem v) IsItem x v
-    from x (OneItem v) h = inr (v, h, refl)
-    from x (SomeItems v) h = inl (v, h, refl)
+    from : (x : List ℕ) (v : Member) → IsMember x v → Mapped (λ (v : InnerList). InnerMember v) IsInner x v ⊎ Mapped (λ (v : Item). ItemMember v) IsItem x v
+    from x (ItemMember v) h = inr (v, h, refl)
+    from x (InnerMember v) h = inl (v, h, refl)
 
 member_starts : (x : List ℕ) (v : Member) → IsMember x v → Starts (λ c. not (is_blank c)) x
-member_starts x (OneItem v) h = item_starts (λ c. not (is_blank c)) kind_ows x v h
-member_starts x (SomeItems v) h = inner_starts (λ c. not (is_blank c)) refl x v h
+member_starts x (ItemMember v) h = item_starts (λ c. not (is_blank c)) kind_ows x v h
+member_starts x (InnerMember v) h = inner_starts (λ c. not (is_blank c)) refl x v h
 
 after_ows : (c : ℕ) → is_blank c ≡ true → is_one_of after_params c ≡ true
 after_ows c e = go (eqb c 32) (eqb c 9) refl refl e
@@ -95,7 +97,7 @@ pub meets_list : Meets ReadsList Nothing (λ bytes. list_read bytes)
 unfolding After
 meets_list =
     meets_same
-    (meets_map {G = Nothing} (meets_separated meets_member member_starts (λ v. refl) (λ v c h. after_ows c h) (63 ∷ 49 ∷ []) (OneItem (true_item [])) true_read) (λ (vs : List Member). after_all with_last [] vs) (λ v c h. h))
+    (meets_map {G = Nothing} (meets_separated meets_member member_starts (λ v. refl) (λ v c h. after_ows c h) (63 ∷ 49 ∷ []) (ItemMember (true_item [])) true_read) (λ (vs : List Member). after_all with_last [] vs) (λ v c h. h))
     (λ x v h. subst (λ (vs : List Member). ReadsList x vs) (sym (all_last [] h.0) ∙ h.2) h.1) (λ x v h. (v, h, all_last [] v)) (λ v c h. h)
 
 -- ---- dictionaries
@@ -107,18 +109,18 @@ meets_equals_member : Meets EqualsMember After equals_member_read
 unfolding equals_member_read EqualsMember After
 meets_equals_member =
     meets_same
-    (meets_then (meets_byte is_equals 61 refl (λ _ _. true)) (λ _. meets_member) (λ x u h. (63 ∷ 49 ∷ [], OneItem (true_item []), true_read)) (λ u y v r h after. any_next (y ++ r)))
+    (meets_then (meets_byte is_equals 61 refl (λ _ _. true)) (λ _. meets_member) (λ x u h. (63 ∷ 49 ∷ [], ItemMember (true_item []), true_read)) (λ u y v r h after. any_next (y ++ r)))
     (λ x v t. (t.second, cc (t.joined, t.spells.same, eqb-true t.value 61 t.spells.passes), t.more))
     (λ x v h. record { first = 61 ∷ []; second = h.0; value = 61; joined = h.1; spells = record { same = refl; passes = refl }; more = h.2 })
     (λ v c h. h)
 
 MemberOr : Option Member → List ℕ → Member → Type 0
-MemberOr None x v = Mapped (λ (ps : List (Pair BareItem)). OneItem (true_item ps)) AreDistinct x v
+MemberOr None x v = Mapped (λ (ps : List (Pair BareItem)). ItemMember (true_item ps)) AreDistinct x v
 MemberOr (Some w) x v = (x ≡ []) × (w ≡ v)
 
 meets_member_or : (o : Option Member) → Meets (MemberOr o) After (given_or_true o)
 unfolding MemberOr After
-meets_member_or None = meets_map meets_kept (λ (ps : List (Pair BareItem)). OneItem (true_item ps)) (λ v c h. h)
+meets_member_or None = meets_map meets_kept (λ (ps : List (Pair BareItem)). ItemMember (true_item ps)) (λ v c h. h)
 meets_member_or (Some v) = meets_done v (λ _ c. is_one_of after_params c)
 
 PairValue : List ℕ → Member → Type 0
@@ -131,7 +133,7 @@ meets_dict_value =
     (λ x o h. fill o) (λ o y v r h after. next o y v r h after)
   where
     fill : (o : Option Member) → (y : List ℕ) × (v : Member) × MemberOr o y v
-    fill None = ([], OneItem (true_item []), ([], ([], refl, refl), refl))
+    fill None = ([], ItemMember (true_item []), ([], ([], refl, refl), refl))
     fill (Some w) = ([], w, (refl, refl))
 
     next : (o : Option Member) (y : List ℕ) (v : Member) (r : List ℕ) → MemberOr o y v → Next (λ c. is_one_of after_params c) r → Next (optional_follow is_equals (λ (_ : Member) c. is_one_of after_params c) o) (y ++ r)
@@ -145,7 +147,7 @@ to_value rest v t = go t.value t.spells t.more
   where
     go : (o : Option Member) → Optional EqualsMember t.first o → MemberOr o t.second v
         → IsDictValue rest v
-    go None e h = inr (h.1.0, subst (λ (x : List ℕ). AreParameters x h.1.0) (sym (t.joined ∙ ap (λ (y : List ℕ). y ++ t.second) e)) h.1.1, sym h.2 ∙ ap (λ (ps : List (Pair BareItem)). OneItem (true_item ps)) (sym h.1.2))
+    go None e h = inr (h.1.0, subst (λ (x : List ℕ). AreParameters x h.1.0) (sym (t.joined ∙ ap (λ (y : List ℕ). y ++ t.second) e)) h.1.1, sym h.2 ∙ ap (λ (ps : List (Pair BareItem)). ItemMember (true_item ps)) (sym h.1.2))
     go (Some w) e h = inl (e.0, t.joined ∙ ap (λ (y : List ℕ). t.first ++ y) h.0 ∙ append-nil t.first ∙ e.1, subst (λ (v : Member). IsMember e.0 v) h.1 e.2)
 
 from_value : (rest : List ℕ) (v : Member)
@@ -161,7 +163,7 @@ value_next y v r t after = go (to_value y v t)
     go (inl h) = subst (λ (y : List ℕ). Next (λ c. not (is_key_rest c)) (y ++ r)) (sym h.1) refl
     go (inr h) = params_next (λ c. not (is_key_rest c)) refl (λ c e. of_each (λ c. not (is_key_rest c)) after_params refl c e) y h.0 r h.1 after
 
-true_value : PairValue [] (OneItem (true_item []))
+true_value : PairValue [] (ItemMember (true_item []))
 true_value = from_value [] _ (inr ([], refl, refl))
 
 meets_dict_member : Meets IsDictMember After dict_member_read
@@ -169,7 +171,7 @@ unfolding dict_member_read After
 meets_dict_member =
     meets_same
     (meets_then meets_key (λ k. meets_map {G = λ _ c. is_one_of after_params c} meets_dict_value (λ (v : Member). pair_of k v) (λ v c h. h))
-    (λ x u h. ([], pair_of u (OneItem (true_item [])), (OneItem (true_item []), true_value, refl)))
+    (λ x u h. ([], pair_of u (ItemMember (true_item [])), (ItemMember (true_item []), true_value, refl)))
     (λ u y v r h after. value_next y h.0 r h.1 after))
     (λ x p t.
     let pair : pair_of t.value t.more.0 ≡ p = t.more.2 in
@@ -198,7 +200,7 @@ key_start (c ∷ x) h = key_ows c h
 dict_member_starts : (x : List ℕ) (p : Pair Member) → IsDictMember x p → Starts (λ c. not (is_blank c)) x
 dict_member_starts x p h = key_start x (subst (λ (y : List ℕ). Starts is_key_first y) (sym h.joined) (starts_append is_key_first h.key h.rest (word_starts is_key_first is_key_rest h.key p.key h.is_key)))
 
-some_dict_member : IsDictMember (97 ∷ []) (pair_of (97 ∷ []) (OneItem (true_item [])))
+some_dict_member : IsDictMember (97 ∷ []) (pair_of (97 ∷ []) (ItemMember (true_item [])))
 some_dict_member = record { key = 97 ∷ []; rest = []; joined = refl; is_key = (refl, refl, refl); value = inr ([], refl, refl) }
 
 -- a Dictionary's members, put one after the other
@@ -206,22 +208,22 @@ pub meets_dict : Meets ReadsDict Nothing (λ bytes. dict_read bytes)
 unfolding After
 meets_dict =
     meets_same
-    (meets_map {G = Nothing} (meets_separated meets_dict_member dict_member_starts (λ v. refl) (λ v c h. after_ows c h) (97 ∷ []) (pair_of (97 ∷ []) (OneItem (true_item []))) some_dict_member) (λ (ps : List (Pair Member)). distinct_pairs ps) (λ v c h. h))
+    (meets_map {G = Nothing} (meets_separated meets_dict_member dict_member_starts (λ v. refl) (λ v c h. after_ows c h) (97 ∷ []) (pair_of (97 ∷ []) (ItemMember (true_item []))) some_dict_member) (λ (ps : List (Pair Member)). distinct_pairs ps) (λ v c h. h))
     (λ x v h. (h.0, h.1, sym h.2)) (λ x v h. (h.0, h.1, sym h.2)) (λ v c h. h)
 
 -- how the loops over members go on
 pub members_step : (bytes : List ℕ) → turns_read (next_member_read member_read) bytes ≡ (next_member_read member_read bytes >>= λ a. with_turns a.0 a.1 (turns_read (next_member_read member_read) a.1))
 unfolding After
-members_step bytes = separated_step meets_member member_starts (λ v. refl) (λ v c h. after_ows c h) (63 ∷ 49 ∷ []) (OneItem (true_item [])) true_read bytes
+members_step bytes = separated_step meets_member member_starts (λ v. refl) (λ v c h. after_ows c h) (63 ∷ 49 ∷ []) (ItemMember (true_item [])) true_read bytes
 
 pub members_shorter : (bytes : List ℕ) (v : Member) (rest : List ℕ) → next_member_read member_read bytes ≡ Ok (Some v, rest) → length rest < length bytes
 unfolding After
-members_shorter bytes v rest e = separated_shorter meets_member member_starts (λ v. refl) (λ v c h. after_ows c h) (63 ∷ 49 ∷ []) (OneItem (true_item [])) true_read bytes v rest e
+members_shorter bytes v rest e = separated_shorter meets_member member_starts (λ v. refl) (λ v c h. after_ows c h) (63 ∷ 49 ∷ []) (ItemMember (true_item [])) true_read bytes v rest e
 
 pub dict_members_step : (bytes : List ℕ) → turns_read (next_member_read dict_member_read) bytes ≡ (next_member_read dict_member_read bytes >>= λ a. with_turns a.0 a.1 (turns_read (next_member_read dict_member_read) a.1))
 unfolding After
-dict_members_step bytes = separated_step meets_dict_member dict_member_starts (λ v. refl) (λ v c h. after_ows c h) (97 ∷ []) (pair_of (97 ∷ []) (OneItem (true_item []))) some_dict_member bytes
+dict_members_step bytes = separated_step meets_dict_member dict_member_starts (λ v. refl) (λ v c h. after_ows c h) (97 ∷ []) (pair_of (97 ∷ []) (ItemMember (true_item []))) some_dict_member bytes
 
 pub dict_members_shorter : (bytes : List ℕ) (v : Pair Member) (rest : List ℕ) → next_member_read dict_member_read bytes ≡ Ok (Some v, rest) → length rest < length bytes
 unfolding After
-dict_members_shorter bytes v rest e = separated_shorter meets_dict_member dict_member_starts (λ v. refl) (λ v c h. after_ows c h) (97 ∷ []) (pair_of (97 ∷ []) (OneItem (true_item []))) some_dict_member bytes v rest e
+dict_members_shorter bytes v rest e = separated_shorter meets_dict_member dict_member_starts (λ v. refl) (λ v c h. after_ows c h) (97 ∷ []) (pair_of (97 ∷ []) (ItemMember (true_item []))) some_dict_member bytes v rest e

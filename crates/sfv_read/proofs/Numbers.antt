@@ -12,7 +12,9 @@ use Rattle.sfv_read.specs.tools.BareWalk.{number_of, part_read, fraction_read, n
 use Rattle.sfv_read.specs.Class.{is_minus, is_dot}
 use Rattle.sfv_text.specs.declared.value.BareItem.{BareItem}
 use Rattle.sfv_text.specs.declared.value.BareItem.TheVariants.{Integer, Decimal, Str, Token, Bytes, Bool as Boolean}
-use Rattle.byte_grammar.proofs.Laws.{Meets, Starts, meets_then, meets_optional, meets_byte, meets_run, apart, starts_next, any_next, run_starts, not_err, ok_is, and_is, optional_follow, next_more, meets_same, meets_map}
+use Rattle.byte_grammar.proofs.Laws.{Meets, meets_then, not_err, ok_is, and_is, next_more, meets_same, meets_map, any_next}
+use Rattle.byte_grammar.proofs.ChoiceLaws.{Starts, meets_optional, apart, starts_next, run_starts, optional_follow}
+use Rattle.byte_grammar.proofs.LeafLaws.{meets_byte, meets_run}
 
 -- what may follow a bare item or a key
 abbrev pub ends : List ℕ

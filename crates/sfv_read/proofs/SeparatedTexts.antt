@@ -11,7 +11,10 @@ use Rattle.byte_classes.specs.Classes.{is_space, is_blank}
 use Rattle.sfv_read.specs.Class.{is_comma}
 use Rattle.sfv_read.specs.Member.{IsComma, AreMembers}
 use Rattle.sfv_read.specs.tools.MemberWalk.{further_read, next_member_read, members_read, members_or_none, some_members_read, separated_read}
-use Rattle.byte_grammar.proofs.Laws.{Meets, Starts, meets_then, meets_byte, meets_all, meets_optional, optional_follow, meets_turns, meets_same, meets_map, and_is, any_next, starts_next, starts_length, turns_step, shorter}
+use Rattle.byte_grammar.proofs.Laws.{Meets, meets_then, meets_same, meets_map, and_is, any_next}
+use Rattle.byte_grammar.proofs.ChoiceLaws.{Starts, meets_optional, optional_follow, starts_next}
+use Rattle.byte_grammar.proofs.LeafLaws.{meets_byte, meets_all}
+use Rattle.byte_grammar.proofs.TurnLaws.{meets_turns, starts_length, turns_step, shorter}
 use Rattle.byte_grammar.proofs.Loops.{state_cons}
 use Rattle.byte_grammar.proofs.Whole.{Nothing}
 

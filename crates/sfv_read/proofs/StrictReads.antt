@@ -15,7 +15,7 @@ use Rattle.sfv_text.specs.declared.value.BareItem.TheVariants.{Integer, Decimal,
 use Rattle.sfv_text.specs.declared.value.Item.{Item}
 use Rattle.sfv_text.specs.declared.value.InnerList.{InnerList}
 use Rattle.sfv_text.specs.declared.value.Member.{Member}
-use Rattle.sfv_text.specs.declared.value.Member.TheVariants.{Item as OneItem, InnerList as SomeItems}
+use Rattle.sfv_text.specs.declared.value.Member.TheVariants.{Item as ItemMember, InnerList as InnerMember}
 use Rattle.sfv_text.specs.declared.pair.Pair.{Pair}
 use Rattle.sfv_text.specs.Keys.{has_key, have_distinct_keys, put}
 use Rattle.sfv_text.specs.Range.{is_word, is_token_first, is_token_rest, is_key_first, is_key_rest, is_key, is_number_in_range, is_bare_in_range, is_param_in_range, are_params_in_range, is_item_in_range, is_inner_in_range, is_member_in_range, is_list_in_range, is_dict_member_in_range, is_dict_in_range}
@@ -223,28 +223,28 @@ inner_reads list h =
 -- ---- Lists and Dictionaries
 
 member_reads : (v : Member) → is_member_in_range v ≡ true → IsMember (member_text v) v
-member_reads (OneItem item) h = item_reads item h
-member_reads (SomeItems list) h = inner_reads list h
+member_reads (ItemMember item) h = item_reads item h
+member_reads (InnerMember list) h = inner_reads list h
 
-entry_item : (bare : BareItem) (params : List (Pair BareItem)) → is_item_in_range (item_of bare params) ≡ true → IsDictValue (dict_item_text bare params) (OneItem (item_of bare params))
-entry_item (Boolean true) params h =
+dict_item_reads : (bare : BareItem) (params : List (Pair BareItem)) → is_item_in_range (item_of bare params) ≡ true → IsDictValue (dict_item_text bare params) (ItemMember (item_of bare params))
+dict_item_reads (Boolean true) params h =
     let read = parameters_read params h in
-    inr (params, read.0, ap (λ (ps : List (Pair BareItem)). OneItem (true_item ps)) read.1)
-entry_item (Boolean false) params h = inl (item_text (item_of (Boolean false) params), refl, item_reads (item_of (Boolean false) params) h)
-entry_item (Integer z) params h = inl (item_text (item_of (Integer z) params), refl, item_reads (item_of (Integer z) params) h)
-entry_item (Decimal z) params h = inl (item_text (item_of (Decimal z) params), refl, item_reads (item_of (Decimal z) params) h)
-entry_item (Str s) params h = inl (item_text (item_of (Str s) params), refl, item_reads (item_of (Str s) params) h)
-entry_item (Token t) params h = inl (item_text (item_of (Token t) params), refl, item_reads (item_of (Token t) params) h)
-entry_item (Bytes b) params h = inl (item_text (item_of (Bytes b) params), refl, item_reads (item_of (Bytes b) params) h)
+    inr (params, read.0, ap (λ (ps : List (Pair BareItem)). ItemMember (true_item ps)) read.1)
+dict_item_reads (Boolean false) params h = inl (item_text (item_of (Boolean false) params), refl, item_reads (item_of (Boolean false) params) h)
+dict_item_reads (Integer z) params h = inl (item_text (item_of (Integer z) params), refl, item_reads (item_of (Integer z) params) h)
+dict_item_reads (Decimal z) params h = inl (item_text (item_of (Decimal z) params), refl, item_reads (item_of (Decimal z) params) h)
+dict_item_reads (Str s) params h = inl (item_text (item_of (Str s) params), refl, item_reads (item_of (Str s) params) h)
+dict_item_reads (Token t) params h = inl (item_text (item_of (Token t) params), refl, item_reads (item_of (Token t) params) h)
+dict_item_reads (Bytes b) params h = inl (item_text (item_of (Bytes b) params), refl, item_reads (item_of (Bytes b) params) h)
 
-entry_value : (v : Member) → is_member_in_range v ≡ true → IsDictValue (dict_value_text v) v
-entry_value (OneItem item) h = entry_item item.bare item.params h
-entry_value (SomeItems list) h = inl (inner_text list, refl, inner_reads list h)
+dict_value_reads : (v : Member) → is_member_in_range v ≡ true → IsDictValue (dict_value_text v) v
+dict_value_reads (ItemMember item) h = dict_item_reads item.bare item.params h
+dict_value_reads (InnerMember list) h = inl (inner_text list, refl, inner_reads list h)
 
-entry_reads : (p : Pair Member) → is_dict_member_in_range p ≡ true → IsDictMember (dict_member_text p) p
-entry_reads p h =
+dict_member_reads : (p : Pair Member) → is_dict_member_in_range p ≡ true → IsDictMember (dict_member_text p) p
+dict_member_reads p h =
     let both = and_is (is_key p.key) (is_member_in_range p.value) h in
-    record { key = p.key; rest = dict_value_text p.value; joined = refl; is_key = word_reads is_key_first is_key_rest p.key both.0; value = entry_value p.value both.1 }
+    record { key = p.key; rest = dict_value_text p.value; joined = refl; is_key = word_reads is_key_first is_key_rest p.key both.0; value = dict_value_reads p.value both.1 }
 
 module _ {V : Type 0} (M : List ℕ → V → Type 0) (f : V → List ℕ) (test : V → Bool) (one : (v : V) → test v ≡ true → M (f v) v) where
   further_reads : (v : V) → test v ≡ true → IsFurther IsComma M (codes ", " ++ f v) v
@@ -281,4 +281,4 @@ list_text_reads list h = members_read IsMember member_text is_member_in_range me
 pub dict_text_reads : (dict : List (Pair Member)) → is_dict_in_range dict ≡ true → ReadsDict (dict_text dict) dict
 dict_text_reads dict h =
     let both = and_is (have_distinct_keys dict) (list_all is_dict_member_in_range dict) h in
-    (dict, members_read IsDictMember dict_member_text is_dict_member_in_range entry_reads dict both.1, kept_same dict both.0)
+    (dict, members_read IsDictMember dict_member_text is_dict_member_in_range dict_member_reads dict both.1, kept_same dict both.0)

@@ -13,7 +13,10 @@ use Rattle.sfv_read.specs.tools.BareWalk.{char_kind, char_by, char_read, string_
 use Rattle.sfv_read.specs.Class.{is_unescaped, is_escapable, is_quote, is_backslash}
 use Rattle.sfv_read.specs.declared.string.CharKind.{CharKind}
 use Rattle.sfv_read.specs.declared.string.CharKind.TheVariants.{Finish, Escape, Plain}
-use Rattle.byte_grammar.proofs.Laws.{Meets, Heads, meets_then, meets_byte, meets_pick, meets_turns, meets_same, meets_map, and_is, any_next, turns_step, shorter}
+use Rattle.byte_grammar.proofs.Laws.{Meets, meets_then, meets_same, meets_map, and_is, any_next}
+use Rattle.byte_grammar.proofs.ChoiceLaws.{Heads, meets_pick}
+use Rattle.byte_grammar.proofs.LeafLaws.{meets_byte}
+use Rattle.byte_grammar.proofs.TurnLaws.{meets_turns, turns_step, shorter}
 
 -- a character, or the quote at the end
 pub IsChar : List ℕ → Option ℕ → Type 0

@@ -1,6 +1,11 @@
 -- The laws of texts, from a reading of whole texts.
-use Rattle.std.proofs.Common.{◌≡◌, ◌↔◌, ℕ, Bool, true, List, Result, sym, ap, subst}
+use Rattle.std.proofs.Common.{◌≡◌, ◌↔◌, ℕ, Bool, true, List, Result, refl, sym, ap, subst}
+use Rattle.byte_grammar.proofs.OffsetLaws.{one_offset}
 use Rattle.byte_grammar.proofs.Whole.{Judges, one_value}
+use Rattle.sfv_read.specs.Fault.{BeginsItemKind, IsFault}
+use Rattle.sfv_read.specs.Laws.{HasOneAnswer}
+use Rattle.sfv_read.specs.declared.error.SfError.{SfError}
+use Rattle.sfv_read.specs.declared.error.SfError.TheVariants.{Memory, Syntax, ItemKind}
 
 pub distinct_texts : {V : Type 0} {L : List ℕ → V → Type 0} {r : List ℕ → Result V ℕ} (j : Judges L r) (test : V → Bool) (text_of : V → List ℕ)
     → ((v : V) → test v ≡ true → L (text_of v) v) → (v w : V) → test v ≡ true → test w ≡ true → (text_of v ≡ text_of w) ↔ (v ≡ w)
@@ -8,3 +13,25 @@ distinct_texts {V} {L} j test text_of reads v w a b = (
   (λ e. one_value j (text_of v) v w (reads v a) (subst (λ (y : List ℕ). L y w) (sym e) (reads w b))),
   (λ e. ap text_of e),
 )
+
+module _ {V : Type 0} (L : List ℕ → V → Type 0) where
+  one_kind : (text : List ℕ) (p q : ℕ) → IsFault L text (Syntax p) → IsFault L text (ItemKind q) → ⊥
+  one_kind text p q a b = a.1 (subst (λ (n : ℕ). BeginsItemKind L text n) (sym (one_offset L text p q a.0 b.0)) b.1)
+
+  one_fault : (text : List ℕ) (e f : SfError) → IsFault L text e → IsFault L text f → (e ≡ Memory → ⊥) → (f ≡ Memory → ⊥) → e ≡ f
+  one_fault text Memory f a b x y = absurd (x refl)
+  one_fault text (Syntax p) Memory a b x y = absurd (y refl)
+  one_fault text (Syntax p) (Syntax q) a b x y = ap (λ (n : ℕ). Syntax n) (one_offset L text p q a.0 b.0)
+  one_fault text (Syntax p) (ItemKind q) a b x y = absurd (one_kind text p q a b)
+  one_fault text (ItemKind p) Memory a b x y = absurd (y refl)
+  one_fault text (ItemKind p) (Syntax q) a b x y = absurd (one_kind text q p b a)
+  one_fault text (ItemKind p) (ItemKind q) a b x y = ap (λ (n : ℕ). ItemKind n) (one_offset L text p q a.0 b.0)
+
+  no_fault : (text : List ℕ) (v : V) (e : SfError) → L text v → IsFault L text e → e ≡ Memory
+  no_fault text v Memory h a = refl
+  no_fault text v (Syntax p) h a = absurd (a.0.none v h)
+  no_fault text v (ItemKind p) h a = absurd (a.0.none v h)
+
+  -- a text has a value or one fault
+  pub one_answer : HasOneAnswer L
+  one_answer = record { one_fault = one_fault; no_fault = no_fault }

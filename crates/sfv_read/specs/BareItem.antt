@@ -59,6 +59,7 @@ pub record IsByteSequence (text : List ℕ) (bytes : List ℕ) : Type 0 where
 abbrev pub IsBoolean : List ℕ → Bool → Type 0
 IsBoolean text b = text ≡ bool_text b
 
+-- a bare item of each kind that is read
 abbrev pub IsBareItem : List ℕ → BareItem → Type 0
 IsBareItem text (Integer z) = IsInteger text z
 IsBareItem text (Decimal z) = IsDecimal text z

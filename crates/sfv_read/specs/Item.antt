@@ -35,6 +35,7 @@ pub record IsParameter (text : List ℕ) (p : Pair BareItem) : Type 0 where
 abbrev pub AreParameters : List ℕ → List (Pair BareItem) → Type 0
 AreParameters text ps = Each IsParameter text ps
 
+-- the pairs with one more: its value is put at its key
 abbrev pub put_pair : {V : Type 0} → List (Pair V) → Pair V → List (Pair V)
 put_pair ps p = put ps p.key p.value
 

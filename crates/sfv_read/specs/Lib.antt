@@ -8,5 +8,6 @@ pub mod Fault
 pub mod Laws
 pub mod tools
 pub use Rattle.byte_grammar.specs.Language
+pub use Rattle.byte_grammar.specs.FaultOffset
 pub use Rattle.sfv_text.specs.Range
 pub use Rattle.sfv_text.specs.Strict

@@ -7,15 +7,16 @@ use Rattle.sfv_text.specs.declared.value.BareItem.{BareItem}
 use Rattle.sfv_text.specs.declared.value.BareItem.TheVariants.{Bool as Boolean}
 use Rattle.sfv_text.specs.declared.value.Item.{Item}
 use Rattle.sfv_text.specs.declared.value.Member.{Member}
-use Rattle.sfv_text.specs.declared.value.Member.TheVariants.{Item as OneItem, InnerList as SomeItems}
+use Rattle.sfv_text.specs.declared.value.Member.TheVariants.{Item as ItemMember, InnerList as InnerMember}
 use Rattle.sfv_text.specs.declared.pair.Pair.{Pair}
 use Rattle.byte_classes.specs.Classes.{is_space, is_blank}
 use Rattle.sfv_read.specs.Item.{IsItem, IsKey, AreParameters, distinct_pairs}
 use Rattle.sfv_read.specs.Inner.{IsInner}
 
+-- an Item or an Inner List
 abbrev pub IsMember : List ℕ → Member → Type 0
-IsMember text (OneItem item) = IsItem text item
-IsMember text (SomeItems list) = IsInner text list
+IsMember text (ItemMember item) = IsItem text item
+IsMember text (InnerMember list) = IsInner text list
 
 -- the Item true with these parameters
 abbrev pub true_item : List (Pair BareItem) → Item
@@ -25,7 +26,7 @@ true_item params = record { bare = Boolean true; params = params }
 abbrev pub IsDictValue : List ℕ → Member → Type 0
 IsDictValue text value = ((member : List ℕ) × (text ≡ byte "=" ∷ member) × IsMember member value)
     ⊎ ((written : List (Pair BareItem)) × AreParameters text written
-    × (value ≡ OneItem (true_item (distinct_pairs written))))
+    × (value ≡ ItemMember (true_item (distinct_pairs written))))
 
 -- a key and its value
 pub record IsDictMember (text : List ℕ) (p : Pair Member) : Type 0 where

@@ -2,7 +2,7 @@
 
 ghost use Rattle.sfv_text.specs.Range.{is_item_in_range, is_inner_in_range, is_list_in_range, is_dict_in_range};
 ghost use Rattle.sfv_text.specs.Strict.{item_text, inner_text, list_text, dict_text};
-ghost use Rattle.sfv_read.specs.Laws.{HasOneValue, ReadsOnly, ReadsBack, HasDistinctTexts};
+ghost use Rattle.sfv_read.specs.Laws.{HasOneValue, HasOneAnswer, ReadsOnly, ReadsBack, HasDistinctTexts};
 ghost use Rattle.sfv_read.specs.Reads.{ReadsItem, ReadsInner, ReadsList, ReadsDict};
 
 /// A text reads as at most one value of a kind.
@@ -11,6 +11,14 @@ pub fn a_text_has_one_value()
     ensures inner { HasOneValue ReadsInner }
     ensures list { HasOneValue ReadsList }
     ensures dict { HasOneValue ReadsDict }
+{}
+
+/// Out of memory aside, a text has a value or one fault of a kind, and not both.
+pub fn a_text_has_one_answer()
+    ensures item { HasOneAnswer ReadsItem }
+    ensures inner { HasOneAnswer ReadsInner }
+    ensures list { HasOneAnswer ReadsList }
+    ensures dict { HasOneAnswer ReadsDict }
 {}
 
 /// What is read is in range: numbers are of at most 15 digits, keys are distinct, and so on.

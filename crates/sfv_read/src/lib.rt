@@ -28,7 +28,7 @@ mod string;
 
 pub use error::SfError;
 pub use laws::{
-    a_text_has_one_value, strict_texts_are_distinct, strict_texts_read_back,
+    a_text_has_one_answer, a_text_has_one_value, strict_texts_are_distinct, strict_texts_read_back,
     values_read_are_in_range,
 };
 pub use read::{read_dict, read_inner, read_item, read_list};

@@ -1,4 +1,4 @@
-//! The four readers.
+//! Readers of the four kinds of structured field.
 
 ghost use Rattle.std.specs.Prelude.{◌≡◌, List as Listed, IfOk, IfErr, IsTrue};
 ghost use Rattle.sfv_text.specs.declared.value.Item.{Item};

@@ -3,7 +3,7 @@ use Rattle.std.specs.Prelude.{true, List, [], ◌∷◌, ◌++◌, Option, Some,
 use Rattle.byte_grammar.specs.Walk.{Reader, ◌>>=◌, byte_read, all_read}
 use Rattle.byte_grammar.specs.tools.Walks.{optional_read, choose_read, turns_read, with_state}
 use Rattle.sfv_text.specs.declared.value.Member.{Member}
-use Rattle.sfv_text.specs.declared.value.Member.TheVariants.{Item as OneItem, InnerList as SomeItems}
+use Rattle.sfv_text.specs.declared.value.Member.TheVariants.{Item as ItemMember, InnerList as InnerMember}
 use Rattle.sfv_text.specs.declared.pair.Pair.{Pair}
 use Rattle.byte_classes.specs.Classes.{is_space, is_blank}
 use Rattle.sfv_read.specs.Class.{is_open, is_comma, is_equals}
@@ -42,10 +42,10 @@ separated_read p bytes = all_read is_space bytes >>= λ s. some_members_read p s
 -- ---- members
 
 unfoldable pub inner_member_read : Reader Member
-inner_member_read bytes = inner_list_read bytes >>= λ v. Ok (SomeItems v.0, v.1)
+inner_member_read bytes = inner_list_read bytes >>= λ v. Ok (InnerMember v.0, v.1)
 
 unfoldable pub item_member_read : Reader Member
-item_member_read bytes = item_read bytes >>= λ v. Ok (OneItem v.0, v.1)
+item_member_read bytes = item_read bytes >>= λ v. Ok (ItemMember v.0, v.1)
 
 unfoldable pub member_read : Reader Member
 member_read bytes = choose_read is_open inner_member_read item_member_read bytes
@@ -54,7 +54,7 @@ unfoldable pub equals_member_read : Reader Member
 equals_member_read bytes = byte_read is_equals bytes >>= λ e. member_read e.1
 
 abbrev pub given_or_true : Option Member → Reader Member
-given_or_true None bytes = parameters_read bytes >>= λ ps. Ok (OneItem (true_item ps.0), ps.1)
+given_or_true None bytes = parameters_read bytes >>= λ ps. Ok (ItemMember (true_item ps.0), ps.1)
 given_or_true (Some v) bytes = Ok (v, bytes)
 
 unfoldable pub dict_value_read : Reader Member
