@@ -1,11 +1,12 @@
 //! Signature parameters.
 
-ghost use Rattle.std.specs.Prelude.{◌≡◌, not, option_copied, IsTrue, IfOk, MatchResult};
+ghost use Rattle.std.specs.Prelude.{◌≡◌, ◌<◌, not, length, IsErrOf, option_copied, IsTrue, IfOk, MatchResult};
 ghost use Rattle.std.specs.List.{find};
 ghost use Rattle.sfv_text.specs.Range.{is_inner_in_range};
 ghost use Rattle.sfv_text.specs.Strict.{inner_text};
 ghost use Rattle.component_ids.specs.declared.fault.IdFault.{IdFault};
 ghost use Rattle.component_ids.specs.declared.params.SigParams.{SigParams};
+ghost use Rattle.component_ids.specs.declared.params.TheConstants.{MAX_COMPONENTS};
 ghost use Rattle.component_ids.specs.Causes.{AnswersWhere, IsFault};
 ghost use Rattle.component_ids.specs.tools.Reads.{Explains};
 ghost use Rattle.component_ids.specs.SignatureParams.{string_keys, is_typed, list_of, sig_params_text, are_sig_params_in_range, IsSigParams};
@@ -20,10 +21,13 @@ use std::alloc::Global;
 /// How many covered components signature parameters have at most. RFC 9421 sets no limit.
 pub const MAX_COMPONENTS: usize = 64;
 
-/// Signature parameters (RFC 9421 section 2.3): the covered components, and the parameters of the signature.
+/// Signature parameters (RFC 9421 section 2.3): the covered components, and the parameters of the
+/// signature.
 #[derive(Debug, Drop)]
 pub struct SigParams {
+    /// At most `MAX_COMPONENTS`, no two of them the same.
     pub ids: Ids,
+    /// `created`, `expires`, `nonce`, `alg`, `keyid` and `tag` of their types, and others.
     pub params: Params,
 }
 
@@ -78,7 +82,8 @@ fn first_ill_typed(params: &Params) -> Option<&Pair<BareItem>>
 
 /// The value of the list, or the first fault whose cause holds.
 fn judge_list(alloc: Global, list: &InnerList) -> Result<SigParams, IdFault>
-    ensures { Explains list.now result }
+    ensures explains { Explains list.now result }
+    ensures too_many { MAX_COMPONENTS < length list.now.items → IsErrOf result IdFault.TooMany }
 {
     let ids = read_ids(alloc, list.items.as_slice())?;
     if let Some(param) = first_ill_typed(&list.params) {
@@ -100,6 +105,7 @@ pub fn read_params(alloc: Global, list: &InnerList) -> Result<SigParams, IdFault
         → MatchResult result (λ given. given ≡ params) (λ fault. fault ≡ IdFault.Memory) }
 
     // The first fault whose cause holds is answered, and no other.
+    ensures too_many { MAX_COMPONENTS < length list.now.items → IsErrOf result IdFault.TooMany }
     ensures fault { (fault : IdFault) → ¬ (fault ≡ IdFault.Memory)
         → AnswersWhere result fault (IsFault list.now fault) }
 
