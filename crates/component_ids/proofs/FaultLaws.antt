@@ -1,11 +1,10 @@
 -- The causes of an Inner List: at most one is the first that holds, and none holds where the list is
 -- signature parameters.
-use Rattle.std.proofs.Common.{◌≡◌, ◌<◌, ◌≤◌, ◌⊎◌, ℕ, Bool, true, false, not, Result, Ok, Err, MatchResult, IfOk, IsTrue, ◌&&◌, Some, List, [], ◌∷◌, length, take, map, refl, sym, ap, ◌∙◌, arith, inl, inr}
+use Rattle.std.proofs.Common.{◌≡◌, ◌<◌, ◌≤◌, ℕ, true, false, not, Ok, Some, List, [], ◌∷◌, length, take, map, refl, sym, ap, ◌∙◌, arith, inl, inr}
 use Rattle.std.specs.List.{find, list_all, slice_get}
 use Rattle.std.proofs.lemmas.Bool.{cases_order, false≢true}
 use Rattle.std.proofs.lemmas.List.{length-map}
 use Rattle.std.proofs.lemmas.List.Folds.{list_all-map}
-use Rattle.sfv_text.specs.Range.{is_item_in_range, is_inner_in_range, are_params_in_range}
 use Rattle.sfv_text.specs.declared.pair.Pair.{Pair}
 use Rattle.sfv_text.specs.declared.value.BareItem.{BareItem}
 use Rattle.sfv_text.specs.declared.value.Item.{Item}
@@ -21,9 +20,9 @@ use Rattle.component_ids.specs.SignatureParams.{is_typed, list_of, IsSigParams, 
 use Rattle.byte_grammar.specs.Causes.{AreDetermined}
 use Rattle.byte_grammar.proofs.CauseLaws.{first_is_one}
 use Rattle.component_ids.specs.declared.params.TheConstants.{MAX_COMPONENTS}
-use Rattle.component_ids.specs.Causes.{IsFirstBad, IsFirstRepeated, IsFirstIllTyped, IsCause, order_of, IsFault}
+use Rattle.component_ids.specs.Causes.{IsFirstBad, IsFirstIllTyped, IsCause, order_of, IsFault}
 use Rattle.component_ids.specs.tools.Reads.{AreIdentifiers, IsListFault, Explains}
-use Rattle.component_ids.proofs.Indices.{some_and_parts, find_none, all_at, slice_get_take}
+use Rattle.component_ids.proofs.Indices.{some_and, some_and_parts, find_none, all_at, slice_get_take}
 use Rattle.component_ids.proofs.RepeatedLaws.{not_repeated, first_repeated_once}
 
 -- ---- identifiers and their items
@@ -102,6 +101,12 @@ not_ill_typed params key all first =
     let here = some_and_parts (λ (p : Pair BareItem). p.key ≡ key) (find (λ (p : Pair BareItem). not (is_typed p)) params) first in
     let none = find_none is_typed params all in
     absurd (cc (none, here.1))
+
+-- a parameter that is found is the first of a wrong type
+pub ill_typed_is : (params : List (Pair BareItem)) (param : Pair BareItem) (key : List ℕ) → Some param ≡ find (λ (p : Pair BareItem). not (is_typed p)) params → key ≡ param.key
+    → IsFirstIllTyped params key
+ill_typed_is params param key found is =
+    some_and (λ (p : Pair BareItem). p.key ≡ key) (find (λ (p : Pair BareItem). not (is_typed p)) params) param (sym found) (sym is)
 
 pub ill_typed_once : (params : List (Pair BareItem)) (key other : List ℕ) → IsFirstIllTyped params key → IsFirstIllTyped params other → key ≡ other
 ill_typed_once params key other first second =

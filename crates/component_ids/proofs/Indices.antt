@@ -1,6 +1,6 @@
 -- What holds at an index of a list.
 use Rattle.std.proofs.Common.{◌≡◌, ◌<◌, ℕ, zero, suc, Bool, true, false, not, Option, Some, None, List, [], ◌∷◌, take, refl, inl, inr, arith}
-use Rattle.std.specs.List.{find, list_all, list_any, slice_get}
+use Rattle.std.specs.List.{find, list_all, slice_get}
 use Rattle.std.specs.Option.{IsSomeAnd}
 use Rattle.std.proofs.lemmas.Bool.{cases_Bool, and_parts}
 
@@ -31,6 +31,14 @@ pub find_none : {X : Type 0} (p : X → Bool) (xs : List X) → list_all p xs �
 find_none p [] all = refl
 find_none p (y ∷ ys) all = let h = and_parts (p y) (list_all p ys) all in rw h.0 (find_none p ys h.1)
 
+-- none is found where none fails
+pub none_fails : {X : Type 0} (p : X → Bool) (xs : List X) → find (λ y. not (p y)) xs ≡ None → list_all p xs ≡ true
+none_fails p [] none = refl
+none_fails p (y ∷ ys) none = elim (cases_Bool (p y)) [
+  | inl passes ↦ rw passes (none_fails p ys (rw passes at none))
+  | inr fails ↦ let found = rw fails at none in absurd cc
+]
+
 -- a test passes at each index
 pub all_at : {X : Type 0} (p : X → Bool) (xs : List X) (i : ℕ) (x : X) → list_all p xs ≡ true → slice_get xs i ≡ Some x → p x ≡ true
 all_at p [] i x all there = absurd cc
@@ -43,11 +51,3 @@ slice_get_take [] (suc n) i lt = refl
 slice_get_take (x ∷ xs) zero i lt = absurd (omega arith)
 slice_get_take (x ∷ xs) (suc n) zero lt = refl
 slice_get_take (x ∷ xs) (suc n) (suc i) lt = slice_get_take xs n i (omega arith)
-
--- a test of each element, by the tests that fail
-pub list_all-not_any : {X : Type 0} (p : X → Bool) (xs : List X) → list_all p xs ≡ not (list_any (λ x. not (p x)) xs)
-list_all-not_any p [] = refl
-list_all-not_any p (x ∷ xs) = elim (cases_Bool (p x)) [
-  | inl h ↦ rw h (list_all-not_any p xs)
-  | inr n ↦ rw n refl
-]

@@ -1,8 +1,7 @@
 -- The tests of sameness decide it.
-use Rattle.std.proofs.Common.{◌≡◌, true, false, ◌&&◌, List, get_or, Contains, refl, sym, ap, Decides}
+use Rattle.std.proofs.Common.{◌≡◌, true, ◌&&◌, List, get_or, Contains, refl, sym, Decides}
 use Rattle.std.specs.Str.{bytes_eq}
-use Rattle.std.proofs.lemmas.Bool.{and_parts, false≢true}
-use Rattle.std.proofs.lemmas.Bool.Decides.{Decides-int_eq}
+use Rattle.std.proofs.lemmas.Bool.{and_parts}
 use Rattle.std.proofs.lemmas.Slice.Eq.{bytes_eq-Decides}
 use Rattle.std.proofs.lemmas.List.{get_or_default}
 use Rattle.std.proofs.lemmas.List.Folds.{list_any_at}
@@ -10,41 +9,20 @@ use Rattle.std.proofs.lemmas.List.Sums.{AllPass-from_list_all, list_all-from_All
 use Rattle.std.proofs.lemmas.Map.Views.{Contains-from_any}
 use Rattle.sfv_text.specs.declared.pair.Pair.{Pair}
 use Rattle.sfv_text.specs.declared.value.BareItem.{BareItem}
-use Rattle.sfv_text.specs.declared.value.BareItem.TheVariants.{Integer, Decimal, Str, Token, Bytes, Bool as Boolean}
+use Rattle.sfv_text.specs.Equality.{is_equal_param}
+use Rattle.sfv_text.proofs.EqualityLaws.{param_equal}
 use Rattle.component_ids.specs.declared.id.ComponentId.{ComponentId}
 use Rattle.component_ids.specs.Identifiers.{IsSameId}
-use Rattle.component_ids.specs.tools.SameTests.{is_same_value, is_same_param, is_among, are_among, is_same}
-
-value_same : (a b : BareItem) → Decides (is_same_value a b) (a ≡ b)
-value_same (Integer a) (Integer b) = let d = Decides-int_eq a b in ((λ h. ap Integer (d.0 h)), (λ e. d.1 cc))
-value_same (Decimal a) (Decimal b) = let d = Decides-int_eq a b in ((λ h. ap Decimal (d.0 h)), (λ e. d.1 cc))
-value_same (Str a) (Str b) = let d = bytes_eq-Decides a b in ((λ h. ap Str (d.0 h)), (λ e. d.1 cc))
-value_same (Token a) (Token b) = let d = bytes_eq-Decides a b in ((λ h. ap Token (d.0 h)), (λ e. d.1 cc))
-value_same (Bytes a) (Bytes b) = let d = bytes_eq-Decides a b in ((λ h. ap Bytes (d.0 h)), (λ e. d.1 cc))
-value_same (Boolean true) (Boolean true) = ((λ h. refl), (λ e. refl))
-value_same (Boolean false) (Boolean false) = ((λ h. refl), (λ e. refl))
-value_same a b = ((λ h. absurd (false≢true h)), (λ e. absurd cc))
-
-param_same : (a b : Pair BareItem) → Decides (is_same_param a b) (a ≡ b)
-param_same a b =
-    let keys = bytes_eq-Decides a.key b.key in
-    let values = value_same a.value b.value in
-    let there = λ (h : is_same_param a b ≡ true).
-    let parts = and_parts (bytes_eq a.key b.key) (is_same_value a.value b.value) h in
-    let k : a.key ≡ b.key = keys.0 parts.0 in
-    let v : a.value ≡ b.value = values.0 parts.1 in
-    let same : a ≡ b = λ i. record { key = k i; value = v i } in
-    same in
-    (there, (λ e. rw (keys.1 (ap (λ (p : Pair BareItem). p.key) e), values.1 (ap (λ (p : Pair BareItem). p.value) e)) refl))
+use Rattle.component_ids.specs.tools.SameTests.{is_among, are_among, is_same}
 
 -- a parameter that is there is found
 among : (params : List (Pair BareItem)) (param : Pair BareItem) → Contains params param → is_among params param ≡ true
 among params param at =
-    list_any_at (is_same_param param) params at.0 param at.1 ((param_same param (get_or params at.0 param)).1 (sym at.2))
+    list_any_at (is_equal_param param) params at.0 param at.1 ((param_equal param (get_or params at.0 param)).1 (sym at.2))
 
 -- a parameter that is found is there
 found : (params : List (Pair BareItem)) (param : Pair BareItem) → is_among params param ≡ true → Contains params param
-found params param h = Contains-from_any (λ a b. (param_same a b).0) param params h
+found params param h = Contains-from_any (λ a b. (param_equal a b).0) param params h
 
 -- each of the parameters is among the others
 all_among : (others params : List (Pair BareItem)) → ((param : Pair BareItem) → Contains params param → Contains others param) → are_among others params ≡ true

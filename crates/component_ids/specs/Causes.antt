@@ -51,6 +51,7 @@ abbrev pub IsFault : InnerList → IdFault → Type 0
 IsFault list fault = IsFirst order_of (IsCause list) fault
 
 -- the fault is answered exactly where the fact holds, being out of memory aside
-pub record AnswersWhere {T : Type 0} (result : Result T IdFault) (fault : IdFault) (P : Type 0) : Type 0 where
+pub record AnswersWhere {T : Type 0} (result : Result T IdFault) (fault : IdFault) (P : Type 0)
+    : Type 0 where
   pub only : result ≡ Err fault → P
   pub there : P → (result ≡ Err fault) ⊎ (result ≡ Err Memory)

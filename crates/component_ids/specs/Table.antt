@@ -43,7 +43,7 @@ request_names =
     codes "@method" ∷ codes "@target-uri" ∷ codes "@authority" ∷ codes "@scheme"
     ∷ codes "@request-target" ∷ codes "@path" ∷ codes "@query" ∷ []
 
--- The table: the keys of the parameters that go with a name, or None where no component has the name
+-- The table: the keys of the parameters that go with a name, or None where no component has it
 -- (sections 2.1, 2.2 and 2.4; `@signature-params` is no covered component, section 2.3).
 abbrev pub keys_of : List ℕ → Option (List (List ℕ))
 keys_of name =
@@ -64,7 +64,8 @@ goes_with name key = is_listed (unwrap_or (keys_of name) []) key
 
 -- ---- what else is asked of the parameters
 
--- `key` and `name` are Strings, `sf`, `bs`, `tr` and `req` are Boolean true (sections 2.1, 2.2.8 and 2.4)
+-- `key` and `name` are Strings, `sf`, `bs`, `tr` and `req` are Boolean true (sections 2.1, 2.2.8
+-- and 2.4)
 abbrev pub has_value_type : Pair BareItem → Bool
 has_value_type param =
     if is_listed (codes "key" ∷ codes "name" ∷ []) param.key then is_string param.value
@@ -76,7 +77,8 @@ has_param params key = is_some (value_of params key)
 -- `bs` goes with neither `sf` nor `key` (section 2.1)
 abbrev pub have_clash : List (Pair BareItem) → Bool
 have_clash params =
-    has_param params (codes "bs") && (has_param params (codes "sf") || has_param params (codes "key"))
+    has_param params (codes "bs")
+    && (has_param params (codes "sf") || has_param params (codes "key"))
 
 -- `@query-param` has its `name` (section 2.2.8)
 abbrev pub has_needed : List ℕ → List (Pair BareItem) → Bool

@@ -3,9 +3,12 @@
 ghost use Rattle.std.specs.Prelude.{◌≡◌};
 ghost use Rattle.component_ids.specs.Reasons.{word_of};
 
+use crate::params::MAX_COMPONENTS;
 use sfv_text::{self, Text};
+use std::error::Error;
+use std::fmt;
 
-/// Why an item is no component identifier, the least first.
+/// Why an item is no component identifier (RFC 9421 sections 2 to 2.4), the least first.
 #[derive(Clone, Copy, Debug, PartialEq, Eq)]
 pub enum BadReason {
     /// The bare item is no String.
@@ -38,12 +41,21 @@ impl BadReason {
     }
 }
 
-/// Why an Inner List is no signature parameters, in the order in which they are judged.
+impl fmt::Display for BadReason {
+    fn fmt<W: fmt::Write>(&self, f: &mut fmt::Formatter<W>) -> fmt::Result {
+        f.write_str(self.word())
+    }
+}
+
+impl Error for BadReason {}
+
+/// Why an Inner List is no signature parameters, in the order in which they are judged. An index
+/// counts the items from 0.
 #[derive(Debug, Drop)]
 pub enum IdFault {
-    /// No memory was found.
+    /// Out of memory, which is judged nowhere: it may come in place of any other answer.
     Memory,
-    /// There are more than 64 items.
+    /// There are more than `MAX_COMPONENTS` items.
     TooMany,
     /// The item at the index is no component identifier.
     BadComponent(usize, BadReason),
@@ -52,6 +64,22 @@ pub enum IdFault {
     /// The parameter of the key has a value of a wrong type.
     BadParameter(Text),
 }
+
+impl fmt::Display for IdFault {
+    fn fmt<W: fmt::Write>(&self, f: &mut fmt::Formatter<W>) -> fmt::Result {
+        match self {
+            IdFault::Memory => f.write_str("out of memory"),
+            IdFault::TooMany => write!(f, "more than {MAX_COMPONENTS} components"),
+            IdFault::BadComponent(index, reason) => {
+                write!(f, "the item at index {index} is no component: {reason}")
+            }
+            IdFault::Repeated(index) => write!(f, "the component at index {index} is repeated"),
+            IdFault::BadParameter(_) => f.write_str("a parameter has a value of a wrong type"),
+        }
+    }
+}
+
+impl Error for IdFault {}
 
 impl From<sfv_text::Memory> for IdFault {
     ghost use Rattle.std.specs.Prelude.{◌≡◌};

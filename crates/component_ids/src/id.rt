@@ -9,7 +9,9 @@ use std::alloc::Global;
 /// A component identifier (RFC 9421 section 2).
 #[derive(Debug, Drop)]
 pub struct ComponentId {
+    /// A field name in lower case, or the name of a derived component, as `@method`.
     pub name: Text,
+    /// Those that go with the name, as `key` or `req`.
     pub params: Params,
 }
 

@@ -1,4 +1,12 @@
-//! Component identifiers and signature parameters of HTTP Message Signatures (RFC 9421 sections 2 to 2.4).
+//! Component identifiers and signature parameters of HTTP Message Signatures (RFC 9421 sections 2
+//! to 2.4).
+//!
+//! ```text
+//! let list = read_inner(alloc, br#"("@method" "date");created=1"#)?;
+//! let params = read_params(alloc, &list)?;
+//! params.ids.len()                     // 2
+//! print_params(alloc, &params)?.bytes() // ("@method" "date");created=1
+//! ```
 #![tactic(auto)]
 
 mod fault;

@@ -1,12 +1,13 @@
 //! Signature parameters.
 
-ghost use Rattle.std.specs.Prelude.{◌≡◌, IsTrue, IfOk, IfSome, IfNone, MatchResult};
-ghost use Rattle.std.specs.List.{list_all};
+ghost use Rattle.std.specs.Prelude.{◌≡◌, ◌<◌, not, length, IsErrOf, option_copied, IsTrue, IfOk, MatchResult};
+ghost use Rattle.std.specs.List.{find};
 ghost use Rattle.sfv_text.specs.Range.{is_inner_in_range};
 ghost use Rattle.sfv_text.specs.Strict.{inner_text};
 ghost use Rattle.component_ids.specs.declared.fault.IdFault.{IdFault};
 ghost use Rattle.component_ids.specs.declared.params.SigParams.{SigParams};
-ghost use Rattle.component_ids.specs.Causes.{AnswersWhere, IsFault, IsFirstIllTyped};
+ghost use Rattle.component_ids.specs.declared.params.TheConstants.{MAX_COMPONENTS};
+ghost use Rattle.component_ids.specs.Causes.{AnswersWhere, IsFault};
 ghost use Rattle.component_ids.specs.tools.Reads.{Explains};
 ghost use Rattle.component_ids.specs.SignatureParams.{string_keys, is_typed, list_of, sig_params_text, are_sig_params_in_range, IsSigParams};
 ghost use Rattle.component_ids.specs.Table.{is_listed};
@@ -14,16 +15,19 @@ ghost use Rattle.component_ids.specs.Table.{is_listed};
 use crate::fault::IdFault;
 use crate::id::{ComponentId, Ids};
 use crate::read_ids::read_ids;
-use sfv_text::{BareItem, InnerList, Memory, Pair, Params, Text};
+use sfv_text::{BareItem, InnerList, Memory, Pair, Params};
 use std::alloc::Global;
 
-/// The most covered components.
+/// How many covered components signature parameters have at most. RFC 9421 sets no limit.
 pub const MAX_COMPONENTS: usize = 64;
 
-/// Signature parameters (RFC 9421 section 2.3): the covered components, and the parameters of the signature.
+/// Signature parameters (RFC 9421 section 2.3): the covered components, and the parameters of the
+/// signature.
 #[derive(Debug, Drop)]
 pub struct SigParams {
+    /// At most `MAX_COMPONENTS`, no two of them the same.
     pub ids: Ids,
+    /// `created`, `expires`, `nonce`, `alg`, `keyid` and `tag` of their types, and others.
     pub params: Params,
 }
 
@@ -69,26 +73,21 @@ fn is_typed(param: &Pair<BareItem>) -> bool
     true
 }
 
-/// The key of the first parameter of a wrong type.
-fn first_ill_typed(params: &[Pair<BareItem>]) -> Option<&Text>
-    ensures some { IfSome result (λ key. IsFirstIllTyped params.now key.now) }
-    ensures none { IfNone result (IsTrue (list_all is_typed params.now)) }
+/// The first parameter of a wrong type.
+fn first_ill_typed(params: &Params) -> Option<&Pair<BareItem>>
+    ensures { option_copied result ≡ find (λ p. not (is_typed p)) params.now }
 {
-    for param in params {
-        if !is_typed(param) {
-            return Some(&param.key);
-        }
-    }
-    None
+    params.iter().find(|param| !is_typed(param))
 }
 
-fn read(alloc: Global, list: &InnerList) -> Result<SigParams, IdFault>
-    ensures { Explains list.now result }
+/// The value of the list, or the first fault whose cause holds.
+fn judge_list(alloc: Global, list: &InnerList) -> Result<SigParams, IdFault>
+    ensures explains { Explains list.now result }
+    ensures too_many { MAX_COMPONENTS < length list.now.items → IsErrOf result IdFault.TooMany }
 {
     let ids = read_ids(alloc, list.items.as_slice())?;
-    let params = list.params.as_slice();
-    if let Some(key) = first_ill_typed(params) {
-        return Err(IdFault::BadParameter(key.copy(alloc)?));
+    if let Some(param) = first_ill_typed(&list.params) {
+        return Err(IdFault::BadParameter(param.key.copy(alloc)?));
     }
     Ok(SigParams {
         ids,
@@ -106,6 +105,7 @@ pub fn read_params(alloc: Global, list: &InnerList) -> Result<SigParams, IdFault
         → MatchResult result (λ given. given ≡ params) (λ fault. fault ≡ IdFault.Memory) }
 
     // The first fault whose cause holds is answered, and no other.
+    ensures too_many { MAX_COMPONENTS < length list.now.items → IsErrOf result IdFault.TooMany }
     ensures fault { (fault : IdFault) → ¬ (fault ≡ IdFault.Memory)
         → AnswersWhere result fault (IsFault list.now fault) }
 
@@ -114,5 +114,5 @@ pub fn read_params(alloc: Global, list: &InnerList) -> Result<SigParams, IdFault
     ensures in_range { IfOk result (λ params. IsTrue (is_inner_in_range list.now)
         → IsTrue (are_sig_params_in_range params)) }
 {
-    read(alloc, list)
+    judge_list(alloc, list)
 }

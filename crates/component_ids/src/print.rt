@@ -1,6 +1,6 @@
 //! Identifiers and signature parameters as text.
 
-ghost use Rattle.std.specs.Prelude.{◌≡◌, true, map, IsTrue, IfOk};
+ghost use Rattle.std.specs.Prelude.{◌≡◌, map, IsTrue, IfOk};
 ghost use Rattle.std.specs.List.{list_all};
 ghost use Rattle.sfv_text.specs.Range.{is_string_byte};
 ghost use Rattle.component_ids.specs.Identifiers.{item_of, id_text, is_id_in_range};
@@ -15,7 +15,7 @@ use std::alloc::Global;
 pub fn print_id(alloc: Global, id: &ComponentId) -> Result<Text, Memory>
     requires { IsTrue (is_id_in_range id.now) }
     ensures is { IfOk result (λ text. text ≡ id_text id.now) }
-    ensures printable { IfOk result (λ text. list_all is_string_byte text ≡ true) }
+    ensures printable { IfOk result (λ text. IsTrue (list_all is_string_byte text)) }
 {
     let item = id.to_item(alloc)?;
     print_item(alloc, &item)
@@ -35,7 +35,7 @@ fn items_of(alloc: Global, ids: &[ComponentId]) -> Result<Items, Memory>
 pub fn print_params(alloc: Global, params: &SigParams) -> Result<Text, Memory>
     requires { IsTrue (are_sig_params_in_range params.now) }
     ensures is { IfOk result (λ text. text ≡ sig_params_text params.now) }
-    ensures printable { IfOk result (λ text. list_all is_string_byte text ≡ true) }
+    ensures printable { IfOk result (λ text. IsTrue (list_all is_string_byte text)) }
 {
     let list = InnerList {
         items: items_of(alloc, params.ids.as_slice())?,

@@ -1,6 +1,6 @@
 //! Items as component identifiers.
 
-ghost use Rattle.std.specs.Prelude.{◌≡◌, ◌≤◌, length, map, IsTrue, IfOk, IfErr};
+ghost use Rattle.std.specs.Prelude.{◌≡◌, ◌≤◌, ◌<◌, length, IsErrOf, map, IsTrue, IfOk, IfErr};
 ghost use Rattle.component_ids.specs.declared.params.TheConstants.{MAX_COMPONENTS};
 ghost use Rattle.component_ids.specs.Identifiers.{is_identifier, item_of, AreDistinct};
 ghost use Rattle.component_ids.specs.tools.Reads.{AreIdentifiers, IsItemFault, IsIdsFault};
@@ -71,6 +71,7 @@ pub(crate) fn read_ids(alloc: Global, items: &[Item]) -> Result<Ids, IdFault>
     ensures is { IfOk result (λ ids. map item_of ids ≡ items.now) }
     ensures each { IfOk result (λ ids. AreIdentifiers items.now) }
     ensures distinct { IfOk result (λ ids. AreDistinct ids) }
+    ensures too_many { MAX_COMPONENTS < length items.now → IsErrOf result IdFault.TooMany }
     ensures fault { IfErr result (λ fault. IsIdsFault items.now fault) }
 {
     if items.len() > MAX_COMPONENTS {

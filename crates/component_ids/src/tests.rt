@@ -1,6 +1,5 @@
-ghost use Rattle.std.specs.Prelude.{◌≡◌, IfOk};
-
 use super::*;
+use BadReason::*;
 use sfv_read::read_inner;
 use sfv_text::{BareItem, Memory, Params, Text};
 use std::alloc::Global;
@@ -30,11 +29,22 @@ fn is_answer(given: Result<SigParams, IdFault>, want: Answer<'_>) -> bool {
     }
 }
 
-// Each of the texts is answered so.
-fn answers(rt: &impl Abort, alloc: Global, want: Answer<'_>, texts: &[&[u8]]) -> Result<(), Fail> {
-    for text in texts {
-        let list = read_inner(alloc, *text)?;
-        assert!(rt; is_answer(read_params(alloc, &list), want), "{text:?}");
+// Texts of Inner Lists that are answered alike.
+#[derive(Clone, Copy)]
+struct Case<'a> {
+    answer: Answer<'a>,
+    lists: &'a [&'a [u8]],
+}
+
+fn check_cases(rt: &impl Abort, alloc: Global, cases: &[Case<'_>]) -> Result<(), Fail> {
+    for case in cases {
+        for text in case.lists {
+            let list = read_inner(alloc, *text)?;
+            assert!(rt;
+                is_answer(read_params(alloc, &list), case.answer),
+                "{text:?}"
+            );
+        }
     }
     Ok(())
 }
@@ -53,129 +63,183 @@ fn only_id(rt: &impl Abort, alloc: Global, text: &[u8]) -> Result<ComponentId, F
 
 #[test]
 fn the_first_bad_component_is_refused_for_the_least_reason(rt: HostRuntime) -> Result<(), Fail> {
-    use BadReason::*;
-    let alloc = rt.alloc();
-    let strings: &[&[u8]] = &[
-        b"(\"a\" a 1)",
-        b"(\"a\" 1;x)",
-        b"(\"a\" :YQ==:)",
-        b"(\"a\" ?1)",
+    let cases = [
+        Case {
+            answer: Answer::Bad(1, NotAString),
+            lists: &[
+                br#"("a" a 1)"#,
+                br#"("a" 1;x)"#,
+                br#"("a" :YQ==:)"#,
+                br#"("a" ?1)"#,
+            ],
+        },
+        Case {
+            answer: Answer::Bad(0, Name),
+            lists: &[
+                br#"("")"#,
+                br#"("A";x)"#,
+                br#"("a(")"#,
+                br#"("@")"#,
+                br#"("@signature-params")"#,
+                br#"("@Path")"#,
+            ],
+        },
+        Case {
+            answer: Answer::Bad(0, ParameterUnknown),
+            lists: &[
+                br#"("a";x)"#,
+                br#"("a";sf=1;x)"#,
+                br#"("a";name="a")"#,
+                br#"("@path";sf)"#,
+                br#"("@query-param";key="a")"#,
+                br#"("@status";req)"#,
+            ],
+        },
+        Case {
+            answer: Answer::Bad(0, ParameterType),
+            lists: &[
+                br#"("a";sf=?0)"#,
+                br#"("a";tr=1)"#,
+                br#"("a";key)"#,
+                br#"("a";key=a)"#,
+                br#"("a";bs;sf="a")"#,
+                br#"("@path";req="")"#,
+                br#"("@query-param";name)"#,
+            ],
+        },
+        Case {
+            answer: Answer::Bad(0, ParametersClash),
+            lists: &[br#"("a";bs;sf)"#, br#"("a";key="b";bs)"#],
+        },
+        Case {
+            answer: Answer::Bad(0, NameMissing),
+            lists: &[br#"("@query-param")"#, br#"("@query-param";req)"#],
+        },
     ];
-    answers(&rt, alloc, Answer::Bad(1, NotAString), strings)?;
-    let names: &[&[u8]] = &[
-        b"(\"\")",
-        b"(\"A\";x)",
-        b"(\"a(\")",
-        b"(\"@\")",
-        b"(\"@signature-params\")",
-        b"(\"@Path\")",
-    ];
-    answers(&rt, alloc, Answer::Bad(0, Name), names)?;
-    let unknown: &[&[u8]] = &[
-        b"(\"a\";x)",
-        b"(\"a\";sf=1;x)",
-        b"(\"a\";name=\"a\")",
-        b"(\"@path\";sf)",
-        b"(\"@query-param\";key=\"a\")",
-        b"(\"@status\";req)",
-    ];
-    answers(&rt, alloc, Answer::Bad(0, ParameterUnknown), unknown)?;
-    let types: &[&[u8]] = &[
-        b"(\"a\";sf=?0)",
-        b"(\"a\";tr=1)",
-        b"(\"a\";key)",
-        b"(\"a\";key=a)",
-        b"(\"a\";bs;sf=\"a\")",
-        b"(\"@path\";req=\"\")",
-        b"(\"@query-param\";name)",
-    ];
-    answers(&rt, alloc, Answer::Bad(0, ParameterType), types)?;
-    let clashes: &[&[u8]] = &[b"(\"a\";bs;sf)", b"(\"a\";key=\"b\";bs)"];
-    answers(&rt, alloc, Answer::Bad(0, ParametersClash), clashes)?;
-    let missing: &[&[u8]] = &[b"(\"@query-param\")", b"(\"@query-param\";req)"];
-    answers(&rt, alloc, Answer::Bad(0, NameMissing), missing)
+    check_cases(&rt, rt.alloc(), &cases)
 }
 
 // Each name of RFC 9421 sections 2.1 and 2.2 with the parameters that go with it.
 #[test]
 fn identifiers_are_read_with_their_parameters(rt: HostRuntime) -> Result<(), Fail> {
-    let texts: &[&[u8]] = &[
-        b"(\"@method\" \"@target-uri\" \"@authority\" \"@scheme\" \"@request-target\" \"@path\" \"@query\")",
-        b"(\"@method\";req \"@target-uri\";req \"@authority\";req \"@scheme\";req \"@request-target\";req)",
-        b"(\"@path\";req \"@query\";req \"@query-param\";name=\"a\" \"@query-param\";req;name=\"\" \"@status\")",
-        b"(\"a\" \"a\";req \"a\";sf \"a\";key=\"b\" \"a\";tr;bs;req \"a\";key=\"b\";sf \"!#$%&'*+-.^_`|~09az\")",
-    ];
-    answers(&rt, rt.alloc(), Answer::Read, texts)
+    let case = Case {
+        answer: Answer::Read,
+        lists: &[
+            br#"("@method" "@target-uri" "@authority" "@scheme" "@request-target" "@path")"#,
+            br#"("@method";req "@target-uri";req "@authority";req "@scheme";req)"#,
+            br#"("@request-target";req "@path";req "@query" "@query";req "@status")"#,
+            br#"("@query-param";name="a" "@query-param";req;name="")"#,
+            br#"("a" "a";req "a";sf "a";key="b" "a";tr;bs;req "a";key="b";sf)"#,
+            br##"("!#$%&'*+-.^_`|~09az")"##,
+        ],
+    };
+    check_cases(&rt, rt.alloc(), &[case])
+}
+
+// The text of an Inner List of so many components, no two of them the same.
+fn list_text(alloc: Global, count: u8) -> Result<Text, Memory> {
+    let mut text = Text::from_bytes(alloc, b"(")?;
+    for index in 0..count {
+        if index > 0 {
+            text.append(b" ")?;
+        }
+        text.append(&[b'"', b'a' + index / 8, b'a' + index % 8, b'"'])?;
+    }
+    text.append(b")")?;
+    Ok(text)
 }
 
 #[test]
 fn at_most_64_components_are_read(rt: HostRuntime) -> Result<(), Fail> {
     let alloc = rt.alloc();
-    let mut text = Vec::from_slice(alloc, b"(\"a\"")?;
-    for _ in 1..64 {
-        text.extend_from_slice(b" \"a\"")?;
+    for (count, answer) in [
+        (17, Answer::Read),
+        (64, Answer::Read),
+        (65, Answer::TooMany),
+    ] {
+        let text = list_text(alloc, count)?;
+        let list = read_inner(alloc, text.bytes())?;
+        assert!(rt; is_answer(read_params(alloc, &list), answer), "{count}");
     }
-    text.push(b')')?;
-    answers(&rt, alloc, Answer::Repeated(1), &[text.as_slice()])?;
-    text.truncate(256);
-    text.extend_from_slice(b" \"a\")")?;
-    answers(&rt, alloc, Answer::TooMany, &[text.as_slice()])
+    Ok(())
 }
 
 #[test]
 fn repeated_components_are_refused_whatever_the_order_of_their_parameters(
     rt: HostRuntime,
 ) -> Result<(), Fail> {
-    let alloc = rt.alloc();
-    let swapped: &[&[u8]] = &[b"(\"a\";sf;tr \"a\";tr;sf)", b"(\"a\" \"a\" \"a\")"];
-    answers(&rt, alloc, Answer::Repeated(1), swapped)?;
-    answers(
-        &rt,
-        alloc,
-        Answer::Repeated(3),
-        &[b"(\"a\" \"b\" \"c\" \"a\")"],
-    )?;
-    answers(
-        &rt,
-        alloc,
-        Answer::Bad(2, BadReason::Name),
-        &[b"(\"a\" \"a\" \"A\")"],
-    )?;
-    let others: &[&[u8]] = &[
-        b"(\"a\" \"a\";sf \"a\";tr \"b\";sf)",
-        b"(\"a\";key=\"x\" \"a\";key=\"y\" \"b\";key=\"x\")",
-        b"(\"a\";sf;req \"a\";req \"a\")",
+    let cases = [
+        Case {
+            answer: Answer::Repeated(1),
+            lists: &[
+                br#"("a";sf;tr "a";tr;sf)"#,
+                br#"("a" "a" "a")"#,
+                br#"("a" "a");created"#,
+            ],
+        },
+        Case {
+            answer: Answer::Repeated(3),
+            lists: &[br#"("a" "b" "c" "a")"#],
+        },
+        Case {
+            answer: Answer::Bad(2, Name),
+            lists: &[br#"("a" "a" "A")"#],
+        },
+        Case {
+            answer: Answer::Read,
+            lists: &[
+                br#"("a" "a";sf "a";tr "b";sf)"#,
+                br#"("a";key="x" "a";key="y" "b";key="x")"#,
+                br#"("a";sf;req "a";req "a")"#,
+            ],
+        },
     ];
-    answers(&rt, alloc, Answer::Read, others)
+    check_cases(&rt, rt.alloc(), &cases)
 }
 
 #[test]
 fn the_first_parameter_of_a_wrong_type_is_named(rt: HostRuntime) -> Result<(), Fail> {
-    let alloc = rt.alloc();
-    let cases: &[(&[u8], &[u8])] = &[
-        (b"created", b"();created=\"1\""),
-        (b"expires", b"();expires=1.5;created"),
-        (b"nonce", b"();keyid=\"a\";nonce=1;expires=\"\""),
-        (b"alg", b"();alg"),
-        (b"keyid", b"();keyid=1"),
-        (b"tag", b"();x;created=1;tag;alg"),
+    let cases = [
+        Case {
+            answer: Answer::Parameter(b"created"),
+            lists: &[br#"();created="1""#],
+        },
+        Case {
+            answer: Answer::Parameter(b"expires"),
+            lists: &[br#"();expires=1.5;created"#],
+        },
+        Case {
+            answer: Answer::Parameter(b"nonce"),
+            lists: &[br#"();keyid="a";nonce=1;expires="""#],
+        },
+        Case {
+            answer: Answer::Parameter(b"alg"),
+            lists: &[br#"();alg"#],
+        },
+        Case {
+            answer: Answer::Parameter(b"keyid"),
+            lists: &[br#"();keyid=1"#],
+        },
+        Case {
+            answer: Answer::Parameter(b"tag"),
+            lists: &[br#"();x;created=1;tag;alg"#],
+        },
+        Case {
+            answer: Answer::Read,
+            lists: &[
+                br#"();created=1;expires=1;nonce="n";alg="a";keyid="k";tag="t""#,
+                br#"();x=1.5;created2=:YQ==:;name=1;z=t;y"#,
+            ],
+        },
     ];
-    for (key, text) in cases {
-        answers(&rt, alloc, Answer::Parameter(*key), &[*text])?;
-    }
-    let typed: &[&[u8]] = &[
-        b"();created=1;expires=1;nonce=\"n\";alg=\"a\";keyid=\"k\";tag=\"t\"",
-        b"();x=1.5;created2=:YQ==:;name=1;z=t;y",
-    ];
-    answers(&rt, alloc, Answer::Read, typed)?;
-    answers(&rt, alloc, Answer::Repeated(1), &[b"(\"a\" \"a\");created"])
+    check_cases(&rt, rt.alloc(), &cases)
 }
 
 // After RFC 9421 sections 2.2.8 and 2.3.
 #[test]
 fn what_was_read_prints_as_its_list(rt: HostRuntime) -> Result<(), Fail> {
     let alloc = rt.alloc();
-    let text = b"(\"@query-param\";name=\"var\" \"@authority\");created=1618884475".as_slice();
+    let text = br#"("@query-param";name="var" "@authority");created=1618884475"#.as_slice();
     let list = read_inner(alloc, text)?;
     match read_params(alloc, &list) {
         Ok(params) => {
@@ -188,11 +252,13 @@ fn what_was_read_prints_as_its_list(rt: HostRuntime) -> Result<(), Fail> {
 }
 
 #[test]
-fn identifiers_are_told_apart(rt: HostRuntime) -> Result<(), Fail> {
+fn identifiers_are_the_same_whatever_the_order_of_their_parameters(
+    rt: HostRuntime,
+) -> Result<(), Fail> {
     let alloc = rt.alloc();
-    let one = only_id(&rt, alloc, b"(\"a\";tr;key=\"b\")")?;
-    let same = only_id(&rt, alloc, b"(\"a\";key=\"b\";tr)")?;
-    let other = only_id(&rt, alloc, b"(\"a\";key=\"c\";tr)")?;
+    let one = only_id(&rt, alloc, br#"("a";tr;key="b")"#)?;
+    let same = only_id(&rt, alloc, br#"("a";key="b";tr)"#)?;
+    let other = only_id(&rt, alloc, br#"("a";key="c";tr)"#)?;
     assert!(rt; same_id(&one, &same));
     assert!(rt; !same_id(&one, &other));
     assert!(rt; is_field_name(b"x-a"));
@@ -200,26 +266,28 @@ fn identifiers_are_told_apart(rt: HostRuntime) -> Result<(), Fail> {
     Ok(())
 }
 
-fn text(alloc: Global, bytes: &[u8]) -> Result<Text, Memory>
-    ensures { IfOk result (λ text. text ≡ bytes.now) }
-{
-    let mut text = Text::new(alloc);
-    text.append(bytes)?;
-    Ok(text)
-}
-
 #[test]
 fn an_identifier_prints_with_its_parameters(rt: HostRuntime) -> Result<(), Fail> {
     let alloc = rt.alloc();
     let mut id = ComponentId {
-        name: text(alloc, b"a")?,
+        name: Text::from_bytes(alloc, b"a")?,
         params: Params::new(alloc),
     };
-    id.params
-        .put(text(alloc, b"key")?, BareItem::Str(text(alloc, b"b")?))?;
+    let value = BareItem::Str(Text::from_bytes(alloc, b"b")?);
+    id.params.put(Text::from_bytes(alloc, b"key")?, value)?;
+    assert_eq!(rt; print_id(alloc, &id)?.bytes(), br#""a";key="b""#.as_slice());
+    Ok(())
+}
+
+#[test]
+fn faults_say_what_they_are(rt: HostRuntime) -> Result<(), Fail> {
+    let alloc = rt.alloc();
+    let many = format!(in alloc; "{}", IdFault::TooMany)?;
+    assert_eq!(rt; many.as_str(), "more than 64 components");
+    let bad = format!(in alloc; "{}", IdFault::BadComponent(2, NameMissing))?;
     assert_eq!(rt;
-        print_id(alloc, &id)?.bytes(),
-        b"\"a\";key=\"b\"".as_slice()
+        bad.as_str(),
+        "the item at index 2 is no component: name-missing"
     );
     Ok(())
 }

@@ -1,4 +1,5 @@
-//! Laws of strict texts, of equality and of pairs. Each function does nothing; its contract is the law.
+//! Laws of strict texts, of equality and of pairs. Each function does nothing; its contract is the
+//! law.
 
 ghost use Rattle.sfv_text.specs.Laws.{HasPrintableTexts, IsEquality, HasOwnKeyFirst, PutsDistinctly, PutsWithTest, PutsNewLast};
 ghost use Rattle.sfv_text.specs.Equality.{is_equal_bare, is_equal_param};

@@ -1,4 +1,4 @@
--- What the code keeps of a name: the row of the table.
+-- What the code keeps of a name: the row of the table. No public clause cites this module.
 use Rattle.std.specs.Prelude.{ℕ, List, [], ◌∷◌, codes}
 use Rattle.component_ids.specs.declared.table.Row.{Row}
 use Rattle.component_ids.specs.declared.table.Row.TheVariants.{Field, Request, QueryParam, Status}
