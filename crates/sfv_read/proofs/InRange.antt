@@ -123,13 +123,8 @@ member_in_range : (text : List ℕ) (v : Member) → IsMember text v → is_memb
 member_in_range text (ItemMember item) h = item_in_range text item h
 member_in_range text (InnerMember list) h = inner_in_range text list h
 
-<<<<<<< HEAD
-pair_in_range : (text : List ℕ) (p : Pair Member) → IsDictMember text p → is_dict_member_in_range p ≡ true
-pair_in_range text p h = rw (word_in_range is_key_first is_key_rest h.key p.key h.is_key, value h.value) refl
-=======
 dict_member_in_range : (text : List ℕ) (p : Pair Member) → IsDictMember text p → is_dict_member_in_range p ≡ true
 dict_member_in_range text p h = rw (word_in_range is_key_first is_key_rest h.key p.key h.is_key, value h.value) refl
->>>>>>> 8e06ca0e29fbc37f803fd61b823351990b93434a
   where
     value : IsDictValue h.rest p.value → is_member_in_range p.value ≡ true
     value (inl m) = member_in_range m.0 p.value m.2
@@ -151,8 +146,4 @@ pub list_read_in_range : (text : List ℕ) (list : List Member) → ReadsList te
 list_read_in_range text list h = members_in_range IsMember is_member_in_range member_in_range text list h
 
 pub dict_read_in_range : (text : List ℕ) (dict : List (Pair Member)) → ReadsDict text dict → is_dict_in_range dict ≡ true
-<<<<<<< HEAD
-dict_read_in_range text dict h = ap is_dict_in_range h.2 ∙ kept_in_range is_dict_member_in_range h.0 (members_in_range IsDictMember is_dict_member_in_range pair_in_range text h.0 h.1)
-=======
 dict_read_in_range text dict h = ap is_dict_in_range h.2 ∙ kept_in_range is_dict_member_in_range h.0 (members_in_range IsDictMember is_dict_member_in_range dict_member_in_range text h.0 h.1)
->>>>>>> 8e06ca0e29fbc37f803fd61b823351990b93434a
