@@ -29,6 +29,14 @@ struct Refuses<'a> {
     texts: &'a [&'a [u8]],
 }
 
+fn read_as<'a>(text: &'a [u8], strict: &'a [u8]) -> Reads<'a> {
+    Reads { text, strict }
+}
+
+fn refused_for<'a>(fault: SfError, texts: &'a [&'a [u8]]) -> Refuses<'a> {
+    Refuses { fault, texts }
+}
+
 // The strict text of what is read.
 fn strict_text(kind: Kind, alloc: Global, text: &[u8]) -> Result<Text, SfError> {
     let printed = match kind {
@@ -55,15 +63,7 @@ fn check_reads(rt: &impl Abort, alloc: Global, kind: Kind, cases: &[Reads<'_>]) 
 // Each text is its own strict text.
 fn check_strict(rt: &impl Abort, alloc: Global, kind: Kind, texts: &[&[u8]]) {
     for text in texts {
-        check_reads(
-            rt,
-            alloc,
-            kind,
-            &[Reads {
-                text: *text,
-                strict: *text,
-            }],
-        );
+        check_reads(rt, alloc, kind, &[read_as(*text, *text)]);
     }
 }
 
@@ -95,42 +95,15 @@ fn items_read_as_their_values(rt: HostRuntime) {
         br#"1;a="a number before forty and more bytes""#,
     ];
     let cases: &[Reads<'_>] = &[
-        Reads {
-            text: b" 1 ",
-            strict: b"1",
-        },
-        Reads {
-            text: b"-007",
-            strict: b"-7",
-        },
-        Reads {
-            text: b"-0",
-            strict: b"0",
-        },
-        Reads {
-            text: b"-0.0",
-            strict: b"0.0",
-        },
-        Reads {
-            text: b"1.50",
-            strict: b"1.5",
-        },
-        Reads {
-            text: b":AAA:",
-            strict: b":AAA=:",
-        },
-        Reads {
-            text: b"a;b;c=?1",
-            strict: b"a;b;c",
-        },
-        Reads {
-            text: b"a; b;  c=1",
-            strict: b"a;b;c=1",
-        },
-        Reads {
-            text: b"a;b=1;c;b=2",
-            strict: b"a;b=2;c",
-        },
+        read_as(b" 1 ", b"1"),
+        read_as(b"-007", b"-7"),
+        read_as(b"-0", b"0"),
+        read_as(b"-0.0", b"0.0"),
+        read_as(b"1.50", b"1.5"),
+        read_as(b":AAA:", b":AAA=:"),
+        read_as(b"a;b;c=?1", b"a;b;c"),
+        read_as(b"a; b;  c=1", b"a;b;c=1"),
+        read_as(b"a;b=1;c;b=2", b"a;b=2;c"),
     ];
     check_strict(&rt, rt.alloc(), Kind::Item, short);
     check_strict(&rt, rt.alloc(), Kind::Item, long);
@@ -145,16 +118,7 @@ fn inner_lists_read_as_their_values(rt: HostRuntime) {
         b"(a;b c);d;e=1",
         br#"("date" "@method");created=1618884473;keyid="k""#,
     ];
-    let cases: &[Reads<'_>] = &[
-        Reads {
-            text: b" (  ) ",
-            strict: b"()",
-        },
-        Reads {
-            text: b"( a  b )",
-            strict: b"(a b)",
-        },
-    ];
+    let cases: &[Reads<'_>] = &[read_as(b" (  ) ", b"()"), read_as(b"( a  b )", b"(a b)")];
     check_strict(&rt, rt.alloc(), Kind::Inner, strict);
     check_reads(&rt, rt.alloc(), Kind::Inner, cases);
 }
@@ -168,22 +132,10 @@ fn lists_and_dictionaries_read_as_their_values(rt: HostRuntime) {
         br#"("foo" "bar"), ("baz"), ("bat" "one"), ()"#,
     ];
     let lists: &[Reads<'_>] = &[
-        Reads {
-            text: b"  ",
-            strict: b"",
-        },
-        Reads {
-            text: b"a,b",
-            strict: b"a, b",
-        },
-        Reads {
-            text: b" a ,\t b\t ",
-            strict: b"a, b",
-        },
-        Reads {
-            text: b"a;b=1; c_4, (d;e=4 f); q",
-            strict: b"a;b=1;c_4, (d;e=4 f);q",
-        },
+        read_as(b"  ", b""),
+        read_as(b"a,b", b"a, b"),
+        read_as(b" a ,\t b\t ", b"a, b"),
+        read_as(b"a;b=1; c_4, (d;e=4 f); q", b"a;b=1;c_4, (d;e=4 f);q"),
     ];
     check_strict(&rt, rt.alloc(), Kind::List, list_texts);
     check_reads(&rt, rt.alloc(), Kind::List, lists);
@@ -194,22 +146,10 @@ fn lists_and_dictionaries_read_as_their_values(rt: HostRuntime) {
         b"a=(1 2), b=3, c=4;aa=bb, d=(5 6);valid",
     ];
     let dicts: &[Reads<'_>] = &[
-        Reads {
-            text: b" ",
-            strict: b"",
-        },
-        Reads {
-            text: b"a=1, b, a=2",
-            strict: b"a=2, b",
-        },
-        Reads {
-            text: b"a=?0, b, c; foo=bar",
-            strict: b"a=?0, b, c;foo=bar",
-        },
-        Reads {
-            text: b"a=?1;x,b;x=1\t",
-            strict: b"a;x, b;x=1",
-        },
+        read_as(b" ", b""),
+        read_as(b"a=1, b, a=2", b"a=2, b"),
+        read_as(b"a=?0, b, c; foo=bar", b"a=?0, b, c;foo=bar"),
+        read_as(b"a=?1;x,b;x=1\t", b"a;x, b;x=1"),
     ];
     check_strict(&rt, rt.alloc(), Kind::Dict, dict_texts);
     check_reads(&rt, rt.alloc(), Kind::Dict, dicts);
@@ -219,53 +159,27 @@ fn lists_and_dictionaries_read_as_their_values(rt: HostRuntime) {
 fn items_are_refused_at_the_exact_offset(rt: HostRuntime) {
     // RFC 9651 section 3.3
     let cases: &[Refuses<'_>] = &[
-        Refuses {
-            fault: SfError::Syntax(0),
-            texts: &[b"", b"\t1", b"+1", b".5", b"'a'"],
-        },
-        Refuses {
-            fault: SfError::Syntax(1),
-            texts: &[
-                b"1\t",
-                b"1,2",
-                b"-",
-                b"--1",
-                b"1e3",
-                br#"""#,
-                b"a(b",
-                b"a\x80",
-                br#"a"b""#,
-                b":",
-                b":=:",
-                b"?",
-                b"?2",
+        refused_for(SfError::Syntax(0), &[b"", b"\t1", b"+1", b".5", b"'a'"]),
+        refused_for(
+            SfError::Syntax(1),
+            &[
+                b"1\t", b"1,2", b"-", b"--1", b"1e3", b"a(b", b"a\x80", b":", b":=:", b"?", b"?2",
                 b"a@1",
-                b"\"\xc3\xa9\"",
             ],
-        },
-        Refuses {
-            fault: SfError::Syntax(2),
-            texts: &[
-                b"  ",
-                b"1 \t",
-                b"1 2",
-                b"1.",
-                b":A:",
-                b":A-A=:",
-                b"?1?0",
-                b"1;",
-                b"1;=x",
-                b"1;A",
-                b"1 ;a",
-                b"1;\ta",
-                b"\"a\x7f\"",
-                b"\"a\tb\"",
+        ),
+        refused_for(SfError::Syntax(1), &[br#"""#, br#"a"b""#, b"\"\xc3\xa9\""]),
+        refused_for(SfError::Syntax(2), &[b"\"a\x7f\"", b"\"a\tb\""]),
+        refused_for(
+            SfError::Syntax(2),
+            &[
+                b"  ", b"1 \t", b"1 2", b"1.", b":A:", b":A-A=:", b"?1?0", b"1;", b"1;=x", b"1;A",
+                b"1 ;a", b"1;\ta",
             ],
-        },
-        Refuses {
-            fault: SfError::Syntax(3),
-            texts: &[b"1.2.3", br#""a"b"#, b":AB:", b":AB=", b":AA AA:", b"1;aB"],
-        },
+        ),
+        refused_for(
+            SfError::Syntax(3),
+            &[b"1.2.3", br#""a"b"#, b":AB:", b":AB=", b":AA AA:", b"1;aB"],
+        ),
     ];
     check_refuses(&rt, rt.alloc(), Kind::Item, cases);
 }
@@ -274,9 +188,9 @@ fn items_are_refused_at_the_exact_offset(rt: HostRuntime) {
 fn longer_items_are_refused_at_the_exact_offset(rt: HostRuntime) {
     // RFC 9651 section 3.3
     let cases: &[Refuses<'_>] = &[
-        Refuses {
-            fault: SfError::Syntax(4),
-            texts: &[
+        refused_for(
+            SfError::Syntax(4),
+            &[
                 br#""ab\"#,
                 br#""ab\c""#,
                 b":AA=:",
@@ -285,36 +199,21 @@ fn longer_items_are_refused_at_the_exact_offset(rt: HostRuntime) {
                 b"1;a= b",
                 b"a;b=(c)",
             ],
-        },
-        Refuses {
-            fault: SfError::Syntax(5),
-            texts: &[b"1.2345", b":AA===:", b":AAA==:", b":AAAA=:", b":AAAA"],
-        },
-        Refuses {
-            fault: SfError::Syntax(13),
-            texts: &[b"1234567890123.4", b"123456789012."],
-        },
-        Refuses {
-            fault: SfError::Syntax(15),
-            texts: &[b"1234567890123456", b"123456789012345."],
-        },
-        Refuses {
-            fault: SfError::Syntax(16),
-            texts: &[b"-1234567890123456"],
-        },
+        ),
+        refused_for(
+            SfError::Syntax(5),
+            &[b"1.2345", b":AA===:", b":AAA==:", b":AAAA=:", b":AAAA"],
+        ),
+        refused_for(SfError::Syntax(13), &[b"1234567890123.4", b"123456789012."]),
+        refused_for(
+            SfError::Syntax(15),
+            &[b"1234567890123456", b"123456789012345."],
+        ),
+        refused_for(SfError::Syntax(16), &[b"-1234567890123456"]),
         // a marker where no item may begin, and where one may
-        Refuses {
-            fault: SfError::Syntax(9),
-            texts: &[b"abcdefgh @1", b"abcdefgh %"],
-        },
-        Refuses {
-            fault: SfError::ItemKind(0),
-            texts: &[b"@1", br#"%"a""#],
-        },
-        Refuses {
-            fault: SfError::ItemKind(5),
-            texts: &[b" a;b=@1"],
-        },
+        refused_for(SfError::Syntax(9), &[b"abcdefgh @1", b"abcdefgh %"]),
+        refused_for(SfError::ItemKind(0), &[b"@1", br#"%"a""#]),
+        refused_for(SfError::ItemKind(5), &[b" a;b=@1"]),
     ];
     check_refuses(&rt, rt.alloc(), Kind::Item, cases);
 }
@@ -323,42 +222,18 @@ fn longer_items_are_refused_at_the_exact_offset(rt: HostRuntime) {
 fn inner_lists_are_refused_at_the_exact_offset(rt: HostRuntime) {
     // RFC 9651 section 3.1.1
     let cases: &[Refuses<'_>] = &[
-        Refuses {
-            fault: SfError::Syntax(0),
-            texts: &[b"", b"x"],
-        },
-        Refuses {
-            fault: SfError::Syntax(1),
-            texts: &[b"(", b"((a))"],
-        },
-        Refuses {
-            fault: SfError::Syntax(2),
-            texts: &[b"(a,b)", b"(a\tb)", b"(a@1)", b"()@", br#"(a"b")"#],
-        },
-        Refuses {
-            fault: SfError::Syntax(4),
-            texts: &[b"(a b"],
-        },
-        Refuses {
-            fault: SfError::Syntax(5),
-            texts: &[b"(a;b=)"],
-        },
-        Refuses {
-            fault: SfError::Syntax(6),
-            texts: &[b"(a b) c"],
-        },
-        Refuses {
-            fault: SfError::ItemKind(1),
-            texts: &[b"(@1)"],
-        },
-        Refuses {
-            fault: SfError::ItemKind(3),
-            texts: &[b"(a %"],
-        },
-        Refuses {
-            fault: SfError::ItemKind(5),
-            texts: &[b"();a=@1"],
-        },
+        refused_for(SfError::Syntax(0), &[b"", b"x"]),
+        refused_for(SfError::Syntax(1), &[b"(", b"((a))"]),
+        refused_for(
+            SfError::Syntax(2),
+            &[b"(a,b)", b"(a\tb)", b"(a@1)", b"()@", br#"(a"b")"#],
+        ),
+        refused_for(SfError::Syntax(4), &[b"(a b"]),
+        refused_for(SfError::Syntax(5), &[b"(a;b=)"]),
+        refused_for(SfError::Syntax(6), &[b"(a b) c"]),
+        refused_for(SfError::ItemKind(1), &[b"(@1)"]),
+        refused_for(SfError::ItemKind(3), &[b"(a %"]),
+        refused_for(SfError::ItemKind(5), &[b"();a=@1"]),
     ];
     check_refuses(&rt, rt.alloc(), Kind::Inner, cases);
 }
@@ -367,56 +242,26 @@ fn inner_lists_are_refused_at_the_exact_offset(rt: HostRuntime) {
 fn lists_and_dictionaries_are_refused_at_the_exact_offset(rt: HostRuntime) {
     // RFC 9651 sections 3.1 and 3.2
     let lists: &[Refuses<'_>] = &[
-        Refuses {
-            fault: SfError::Syntax(0),
-            texts: &[b"\ta", b",a"],
-        },
-        Refuses {
-            fault: SfError::Syntax(1),
-            texts: &[b" \t"],
-        },
-        Refuses {
-            fault: SfError::Syntax(2),
-            texts: &[b"a,", b"a,,b", b"a b", b"a ;b", b"a @"],
-        },
-        Refuses {
-            fault: SfError::Syntax(3),
-            texts: &[b"a, "],
-        },
-        Refuses {
-            fault: SfError::ItemKind(3),
-            texts: &[b"a, %", b"a,\t@"],
-        },
+        refused_for(SfError::Syntax(0), &[b"\ta", b",a"]),
+        refused_for(SfError::Syntax(1), &[b" \t"]),
+        refused_for(
+            SfError::Syntax(2),
+            &[b"a,", b"a,,b", b"a b", b"a ;b", b"a @"],
+        ),
+        refused_for(SfError::Syntax(3), &[b"a, "]),
+        refused_for(SfError::ItemKind(3), &[b"a, %", b"a,\t@"]),
     ];
     let dicts: &[Refuses<'_>] = &[
-        Refuses {
-            fault: SfError::Syntax(0),
-            texts: &[b"A=1", br#""a"=1"#, b"@a"],
-        },
-        Refuses {
-            fault: SfError::Syntax(1),
-            texts: &[b"aB"],
-        },
-        Refuses {
-            fault: SfError::Syntax(2),
-            texts: &[b"a=", b"a =1", b"a= 1"],
-        },
-        Refuses {
-            fault: SfError::Syntax(4),
-            texts: &[b"a=1,", b"a=1,,b", b"a=1 b=2", b"a=1;A"],
-        },
-        Refuses {
-            fault: SfError::ItemKind(2),
-            texts: &[b"a=@1"],
-        },
-        Refuses {
-            fault: SfError::ItemKind(3),
-            texts: &[b"a=(@"],
-        },
-        Refuses {
-            fault: SfError::ItemKind(4),
-            texts: &[b"a;b=%"],
-        },
+        refused_for(SfError::Syntax(0), &[b"A=1", br#""a"=1"#, b"@a"]),
+        refused_for(SfError::Syntax(1), &[b"aB"]),
+        refused_for(SfError::Syntax(2), &[b"a=", b"a =1", b"a= 1"]),
+        refused_for(
+            SfError::Syntax(4),
+            &[b"a=1,", b"a=1,,b", b"a=1 b=2", b"a=1;A"],
+        ),
+        refused_for(SfError::ItemKind(2), &[b"a=@1"]),
+        refused_for(SfError::ItemKind(3), &[b"a=(@"]),
+        refused_for(SfError::ItemKind(4), &[b"a;b=%"]),
     ];
     check_refuses(&rt, rt.alloc(), Kind::List, lists);
     check_refuses(&rt, rt.alloc(), Kind::Dict, dicts);
