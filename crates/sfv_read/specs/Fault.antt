@@ -1,5 +1,6 @@
 -- What a reader of a whole text answers.
 use Rattle.std.specs.Prelude.{◌≡◌, ℕ, ◌≤◌, List, ◌++◌, length, take, drop, Result, Ok, Err, codes, IsTrue}
+use Rattle.std.specs.Fmt.{decimal}
 use Rattle.byte_grammar.specs.Language.{starts_in, Begins}
 use Rattle.byte_grammar.specs.FaultOffset.{IsFaultOffset}
 use Rattle.sfv_read.specs.Class.{is_marker}
@@ -24,3 +25,10 @@ abbrev pub IsFault : {V : Type 0} → (List ℕ → V → Type 0) → List ℕ �
 IsFault L text Memory = 1 ≤ length text
 IsFault L text (Syntax offset) = IsFaultOffset L text offset × ¬ BeginsItemKind L text offset
 IsFault L text (ItemKind offset) = IsFaultOffset L text offset × BeginsItemKind L text offset
+
+-- what an error says
+abbrev pub error_text : SfError → List ℕ
+error_text Memory = codes "out of memory"
+error_text (Syntax offset) =
+    codes "not a structured field from byte " ++ (decimal offset ++ codes " on")
+error_text (ItemKind offset) = codes "a Date or a Display String at byte " ++ decimal offset

@@ -23,6 +23,11 @@ pub enum SfError {
 }
 
 impl fmt::Display for SfError {
+    ghost use Rattle.std.specs.Prelude.{Some};
+    ghost use Rattle.sfv_read.specs.Fault.{error_text};
+
+    ghost output = { λ e. Some (error_text e) };
+
     fn fmt<W: fmt::Write>(&self, f: &mut fmt::Formatter<W>) -> fmt::Result {
         match self {
             SfError::Memory => f.write_str("out of memory"),

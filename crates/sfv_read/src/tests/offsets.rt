@@ -12,6 +12,10 @@ struct Symbols<'a> {
     symbols: &'a [u8; 6],
 }
 
+fn symbols_of<'a>(kind: Kind, symbols: &'a [u8; 6]) -> Symbols<'a> {
+    Symbols { kind, symbols }
+}
+
 // How many texts of six symbols there are of each length.
 const COUNTS: [usize; 5] = [1, 6, 36, 216, 1296];
 
@@ -81,42 +85,15 @@ fn find_fault(case: &Symbols<'_>, alloc: Global, text: &[u8]) -> Result<SfError,
 #[test]
 fn offsets_are_those_found_by_trying_what_could_follow(rt: HostRuntime) -> Result<(), Fail> {
     let cases: [Symbols<'_>; 9] = [
-        Symbols {
-            kind: Kind::Item,
-            symbols: b"-1.a;=",
-        },
-        Symbols {
-            kind: Kind::Item,
-            symbols: br#""\:A= "#,
-        },
-        Symbols {
-            kind: Kind::Item,
-            symbols: b"?1;a=@",
-        },
-        Symbols {
-            kind: Kind::Inner,
-            symbols: b"()a; @",
-        },
-        Symbols {
-            kind: Kind::Inner,
-            symbols: b"(a)=;1",
-        },
-        Symbols {
-            kind: Kind::List,
-            symbols: b"a,()\t ",
-        },
-        Symbols {
-            kind: Kind::List,
-            symbols: b"a,;=%1",
-        },
-        Symbols {
-            kind: Kind::Dict,
-            symbols: b"a=,\t @",
-        },
-        Symbols {
-            kind: Kind::Dict,
-            symbols: b"Aa=(;)",
-        },
+        symbols_of(Kind::Item, b"-1.a;="),
+        symbols_of(Kind::Item, br#""\:A= "#),
+        symbols_of(Kind::Item, b"?1;a=@"),
+        symbols_of(Kind::Inner, b"()a; @"),
+        symbols_of(Kind::Inner, b"(a)=;1"),
+        symbols_of(Kind::List, b"a,()\t "),
+        symbols_of(Kind::List, b"a,;=%1"),
+        symbols_of(Kind::Dict, b"a=,\t @"),
+        symbols_of(Kind::Dict, b"Aa=(;)"),
     ];
     for case in &cases {
         for length in 0..4 {
