@@ -1,6 +1,6 @@
 //! Readers of one byte, and of bytes of a class.
 
-ghost use Rattle.std.specs.Prelude.{◌≡◌, ◌≤◌, ◌<◌, ◌+◌, ◌-◌, ◌∷◌, ◌++◌, ◌⊎◌, length, Ok, IfOk, IfErr, IsTrue, true, false, take, drop};
+ghost use Rattle.std.specs.Prelude.{◌≡◌, ◌≤◌, ◌<◌, ◌+◌, ◌-◌, ◌∷◌, ◌++◌, ◌⊎◌, length, Ok, IfOk, IfErr, IsTrue, false, take, drop};
 ghost use Rattle.std.specs.List.{list_all};
 ghost use Rattle.byte_grammar.specs.Language.{starts_in, AreBytesOf, IsWord};
 ghost use Rattle.byte_grammar.specs.Gives.{Gives};

@@ -1,6 +1,6 @@
 //! Byte Sequences (RFC 9651 section 3.3.5).
 
-ghost use Rattle.std.specs.Prelude.{◌≡◌, false, IsTrue, length, IfOk, IfErr, MatchOption};
+ghost use Rattle.std.specs.Prelude.{◌≡◌, false, IsTrue, IfOk, IfErr, MatchOption};
 ghost use Rattle.std.specs.List.{list_all};
 ghost use Rattle.byte_grammar.specs.Gives.{Gives};
 ghost use Rattle.sfv_read.specs.declared.error.Stop.TheVariants.{Memory};

@@ -1,6 +1,6 @@
 //! Items (RFC 9651 section 3.3).
 
-ghost use Rattle.std.specs.Prelude.{◌≡◌, ◌≤◌, length};
+ghost use Rattle.std.specs.Prelude.{◌≤◌, length};
 ghost use Rattle.sfv_read.specs.tools.Gives.{GivesUnlessMemory, UnlessStopped};
 ghost use Rattle.sfv_read.specs.tools.ItemWalk.{item_read};
 

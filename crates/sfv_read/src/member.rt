@@ -1,6 +1,5 @@
 //! Members of Lists and Dictionaries (RFC 9651 sections 3.1 and 3.2).
 
-ghost use Rattle.std.specs.Prelude.{◌≡◌};
 ghost use Rattle.sfv_read.specs.tools.Gives.{GivesUnlessMemory};
 ghost use Rattle.sfv_read.specs.tools.MemberWalk.{inner_member_read, item_member_read, member_read, equals_member_read, dict_value_read, dict_member_read};
 

@@ -1,6 +1,5 @@
 //! Keys and parameters (RFC 9651 section 3.1.2).
 
-ghost use Rattle.std.specs.Prelude.{◌≡◌, List, ℕ};
 ghost use Rattle.sfv_read.specs.tools.Gives.{GivesUnlessMemory};
 ghost use Rattle.sfv_read.specs.tools.ItemWalk.{equals_read, value_read, key_read, parameter_read, next_parameter_read, parameters_read};
 

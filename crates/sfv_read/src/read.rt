@@ -1,6 +1,6 @@
 //! Readers of the four kinds of structured field.
 
-ghost use Rattle.std.specs.Prelude.{◌≡◌, List as Listed, IfOk, IfErr, IsTrue};
+ghost use Rattle.std.specs.Prelude.{List as Listed, IfOk, IfErr, IsTrue};
 ghost use Rattle.sfv_text.specs.declared.value.Item.{Item};
 ghost use Rattle.sfv_text.specs.declared.value.InnerList.{InnerList};
 ghost use Rattle.sfv_text.specs.declared.value.Member.{Member};

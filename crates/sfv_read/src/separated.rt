@@ -2,8 +2,6 @@
 
 ghost use Rattle.std.specs.Prelude.{◌≡◌, ◌≤◌, ◌<◌, ℕ, List as Listed, [], Option, Some, Result, Ok, length, OnOk, IfErr};
 ghost use Rattle.byte_grammar.specs.tools.Walks.{with_state, IsLoop};
-ghost use Rattle.sfv_text.specs.declared.value.Member.{Member as MemberValue};
-ghost use Rattle.sfv_text.specs.declared.pair.Pair.{Pair as PairValue};
 ghost use Rattle.sfv_read.specs.Item.{put_pair};
 ghost use Rattle.sfv_read.specs.tools.Gives.{GivesUnlessMemory, IfMemory};
 ghost use Rattle.sfv_read.specs.tools.MemberWalk.{member_read, dict_member_read, with_last, further_read, next_member_read, members_read, some_members_read, separated_read};

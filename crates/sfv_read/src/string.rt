@@ -1,6 +1,6 @@
 //! Strings (RFC 9651 section 3.3.3).
 
-ghost use Rattle.std.specs.Prelude.{◌≡◌, ◌++◌, ◌∷◌, [], length, List, ℕ};
+ghost use Rattle.std.specs.Prelude.{◌≡◌};
 ghost use Rattle.byte_grammar.specs.Gives.{Gives};
 ghost use Rattle.byte_grammar.specs.tools.Walks.{kind_in};
 ghost use Rattle.sfv_read.specs.tools.Gives.{GivesUnlessMemory};
