@@ -1,5 +1,5 @@
-//! Classes of bytes: what the formats of HTTP call DIGIT, ALPHA, VCHAR, tchar and OWS, and the trait
-//! through which readers take a class.
+//! Classes of bytes: what the formats of HTTP call DIGIT, ALPHA, VCHAR, tchar and OWS, and the
+//! trait through which readers take a class.
 //!
 //! ```text
 //! is_tchar(b'!')            // true

@@ -60,7 +60,7 @@ one_lack params input id other a b =
     let heads : a.head ≡ b.head = one_message input a.head b.head a.message b.message in
     let sigs : a.sig ≡ b.sig = one_sig params a.sig b.sig a.reads b.reads in
     let found : first_absent a.head.lines a.sig.ids ≡ first_absent b.head.lines b.sig.ids =
-        λ i. first_absent (heads i).lines (sigs i).ids in
+    λ i. first_absent (heads i).lines (sigs i).ids in
     let ids : a.absent ≡ b.absent = some_is a.absent b.absent (sym a.first ∙ (found ∙ b.first)) in
     a.id_is ∙ (ap id_text ids ∙ sym b.id_is)
 
@@ -182,7 +182,7 @@ none_before params input n most p (Refused (Command (Absent i))) lt h =
     let heads : t.0 ≡ h.head = one_message input t.0 h.head t.1 h.message in
     let sigs : t.2 ≡ h.sig = one_sig params t.2 h.sig t.3 h.reads in
     let found : first_absent t.0.lines t.2.ids ≡ first_absent h.head.lines h.sig.ids =
-        λ i. first_absent (heads i).lines (sigs i).ids in
+    λ i. first_absent (heads i).lines (sigs i).ids in
     absurd (some_is_not_none h.absent (sym h.first ∙ (sym found ∙ t.4)))
 none_before params input n most p (Done text) lt h = absurd (omega (arith, most, lt))
 none_before params input n most p (NotOk text) lt h = absurd (omega (arith, most, lt))

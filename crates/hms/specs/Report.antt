@@ -25,7 +25,7 @@ abbrev pub Reports : List (List ℕ) → List ℕ → Outcome → Type 0
 Reports arguments input outcome =
     (NoCommand arguments × (outcome ≡ Refused Arguments)) ⊎ RunsBase arguments input outcome
 
--- what is left of the source, where its bytes are known: all of it where the arguments are no command,
+-- what is left of the source, where its bytes are known: all where the arguments are no command,
 -- all but one byte more than the limit where it is too long, and else nothing
 abbrev pub Leaves : Option (List ℕ) → Option (List ℕ) → Outcome → Type 0
 Leaves before now (Refused Arguments) = now ≡ before
@@ -33,7 +33,8 @@ Leaves before now (Refused (Input TooLong)) = LosesPrefix before now (MAX_INPUT_
 Leaves before now outcome = IfSome before (λ _. now ≡ Some [])
 
 -- Some input has the outcome. Where the bytes of the source are known, they are that input.
-pub record HasInput (R : List ℕ → Outcome → Type 0) (before now : Option (List ℕ)) (outcome : Outcome) : Type 0 where
+pub record HasInput (R : List ℕ → Outcome → Type 0) (before now : Option (List ℕ))
+    (outcome : Outcome) : Type 0 where
   pub input : List ℕ
   pub known : IfSome before (λ bytes. bytes ≡ input)
   pub reports : R input outcome
@@ -45,7 +46,8 @@ AppendsPrefix before now text = (n : ℕ) × (n < length text) × Appends before
 
 -- What the sink took, by the status: nothing, where a read failed or no memory was found; a proper
 -- prefix of the output, where a write failed; and else all of the output.
-abbrev pub Ends : List (List ℕ) → Option (List ℕ) → Option (List ℕ) → Option (List ℕ) → Option (List ℕ) → Status → Type 0
+abbrev pub Ends : List (List ℕ) → Option (List ℕ) → Option (List ℕ) → Option (List ℕ)
+    → Option (List ℕ) → Status → Type 0
 Ends arguments before left taken now ReadFault = Keeps taken now
 Ends arguments before left taken now OutOfMemory = Keeps taken now
 Ends arguments before left taken now WriteFault =

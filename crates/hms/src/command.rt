@@ -6,7 +6,7 @@ ghost use Rattle.hms.specs.Command.{IsCommand, NoCommand};
 /// What the arguments ask for. It borrows them.
 #[derive(Clone, Copy)]
 pub enum Command<'a> {
-    /// `base PARAMS`: the signature base over the components that PARAMS covers, an Inner List as the
+    /// `base PARAMS`: the signature base over the components that PARAMS cover, an Inner List as a
     /// member of a `Signature-Input` field is (RFC 9421 section 4.1).
     Base { params: &'a str },
 }

@@ -67,9 +67,9 @@ impl ByteBuffer {
         })
     }
 
-    /// What was absorbed, where it has just the size. Another length is answered as out of memory: a
-    /// text that was counted first has another length only where it has more bytes than a `usize`
-    /// counts.
+    /// What was absorbed, where it has just the size. Another length is answered as out of memory:
+    /// a text that was counted first has another length only where it has more bytes than a
+    /// `usize` counts.
     pub fn finish(self) -> Result<Text, Memory>
         ensures is { (text : List ℕ) → IsFilled self text → IfOk result (λ bytes. bytes ≡ text) }
         ensures whole { (text : List ℕ) → IsFilled self text → length text ≡ buffer_size self

@@ -83,12 +83,7 @@ fn append_words(first: &[u8], second: &[u8], line: &mut Text) -> Result<(), Memo
     line.append(second)
 }
 
-fn append_number(
-    alloc: Global,
-    word: &[u8],
-    number: usize,
-    line: &mut Text,
-) -> Result<(), Memory>
+fn append_number(alloc: Global, word: &[u8], number: usize, line: &mut Text) -> Result<(), Memory>
     ensures { OnOk result (line.new ≡ line.old ++ (word.now ++ decimal number)) }
 {
     let digits = format!(in alloc; "{number}")?;

@@ -17,15 +17,12 @@ use sfv_text::Text;
 use std::alloc::Global;
 
 /// Does what the arguments ask for.
-fn run_command<S: Source>(
-    alloc: Global,
-    arguments: &[String],
-    source: &mut S,
-) -> Result<Text, Stop>
+fn run_command<S: Source>(alloc: Global, arguments: &[String], source: &mut S) -> Result<Text, Stop>
     ensures report { IfOutcome result (HasInput (Reports (map string_bytes arguments.now))
         (S.left source.old) (S.left source.new)) }
     ensures cause { HasStopCause (S.faults source.old) (S.faults source.new) result }
-    ensures refused { NoCommand (map string_bytes arguments.now) → result ≡ Err (Refused Arguments) }
+    ensures refused { NoCommand (map string_bytes arguments.now)
+        → result ≡ Err (Refused Arguments) }
     ensures unread { NoCommand (map string_bytes arguments.now) → source.new ≡ source.old }
 {
     match read_words(arguments) {
@@ -55,8 +52,10 @@ pub fn run<F: Shelf, S: Source, K: Sink>(
     ensures unasked { shelf.new ≡ shelf.old }
 
     // The counts of faults say when a read or a write failed.
-    ensures reads { CountsFaults Status.ReadFault result (S.faults source.old) (S.faults source.new) }
-    ensures writes { CountsFaults Status.WriteFault result (K.faults out.old) (K.faults out.new) }
+    ensures reads { CountsFaults Status.ReadFault result
+        (S.faults source.old) (S.faults source.new) }
+    ensures writes { CountsFaults Status.WriteFault result
+        (K.faults out.old) (K.faults out.new) }
 {
     let _ = shelf;
     let outcome = match run_command(alloc, arguments, source) {

@@ -59,7 +59,9 @@ impl From<IdFault> for Stop {
     fn from(fault: IdFault) -> Stop {
         match fault {
             IdFault::Memory => Stop::Memory,
-            IdFault::TooMany => Stop::Refused(Refusal::Command(CommandRefusal::Ids(IdFault::TooMany))),
+            IdFault::TooMany => {
+                Stop::Refused(Refusal::Command(CommandRefusal::Ids(IdFault::TooMany)))
+            }
             IdFault::BadComponent(index, reason) => Stop::Refused(Refusal::Command(
                 CommandRefusal::Ids(IdFault::BadComponent(index, reason)),
             )),

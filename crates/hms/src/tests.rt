@@ -111,10 +111,7 @@ fn last_line_is_the_strict_text(rt: HostRuntime) -> Result<(), Fail> {
     let date = br#""date": Tue, 20 Apr 2021 02:07:55 GMT
 "@signature-params": "#;
     let texts = [
-        (
-            r#"("date");created=1"#,
-            br#"("date");created=1"#.as_slice(),
-        ),
+        (r#"("date");created=1"#, br#"("date");created=1"#.as_slice()),
         (
             r#" ( "date"  );a;  b=?0;c=1.50;a=:YQ: "#,
             br#"("date");a=:YQ==:;b=?0;c=1.5"#,
@@ -167,18 +164,12 @@ fn covered_components_are_refused_by_their_cause(rt: HostRuntime) -> Result<(), 
         ("(date)", b"component-bad 0 not-a-string"),
         (r#"("date" "Date")"#, b"component-bad 1 name"),
         (r#"("@signature-params")"#, b"component-bad 0 name"),
-        (
-            r#"("date";name="a")"#,
-            b"component-bad 0 parameter-unknown",
-        ),
+        (r#"("date";name="a")"#, b"component-bad 0 parameter-unknown"),
         (r#"("date";sf=1)"#, b"component-bad 0 parameter-type"),
         (r#"("date";sf;bs)"#, b"component-bad 0 parameters-clash"),
         (r#"("@query-param")"#, b"component-bad 0 name-missing"),
         (r#"("a";sf;tr "a";tr;sf)"#, b"component-repeated 1"),
-        (
-            r#"("a");expires=1.5;created="1""#,
-            b"parameter-bad expires",
-        ),
+        (r#"("a");expires=1.5;created="1""#, b"parameter-bad expires"),
         (r#"("@method")"#, b"not-yet"),
         (r#"("x" "date";sf)"#, b"not-yet"),
     ];

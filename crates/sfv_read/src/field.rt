@@ -13,7 +13,7 @@ ghost use Rattle.sfv_read.specs.tools.MemberWalk.{list_read, dict_read};
 use crate::class::SfClass;
 use crate::error::{SfError, Stop};
 use crate::inner::read_inner_list_text;
-use crate::item::read_item_text;
+use crate::params::read_item_text;
 use crate::separated::read_separated;
 use byte_classes::Byte;
 use byte_grammar::{read_all, starts_with};

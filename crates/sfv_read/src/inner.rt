@@ -7,8 +7,7 @@ ghost use Rattle.sfv_read.specs.tools.Gives.{GivesUnlessMemory, UnlessStopped};
 ghost use Rattle.sfv_read.specs.tools.InnerWalk.{close_read, some_item_read, item_or_close_read, next_item_read, items_read, inner_list_read};
 
 use crate::error::Stop;
-use crate::item::read_item_text;
-use crate::params::read_parameters;
+use crate::params::{read_item_text, read_parameters};
 use byte_classes::Byte;
 use byte_grammar::{Left, read_all, read_byte, starts_with};
 use sfv_text::{InnerList, Item, Items};

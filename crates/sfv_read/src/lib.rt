@@ -17,7 +17,6 @@ mod class;
 mod error;
 mod field;
 mod inner;
-mod item;
 mod laws;
 mod member;
 mod number;

@@ -1,15 +1,27 @@
-//! Keys and parameters (RFC 9651 section 3.1.2).
+//! Keys, parameters and Items (RFC 9651 sections 3.1.2 and 3.3).
 
-ghost use Rattle.sfv_read.specs.tools.Gives.{GivesUnlessMemory};
-ghost use Rattle.sfv_read.specs.tools.ItemWalk.{equals_read, value_read, key_read, parameter_read, next_parameter_read, parameters_read};
+ghost use Rattle.std.specs.Prelude.{◌≤◌, length};
+ghost use Rattle.sfv_read.specs.tools.Gives.{GivesUnlessMemory, UnlessStopped};
+ghost use Rattle.sfv_read.specs.tools.ItemWalk.{item_read, equals_read, value_read, key_read, parameter_read, next_parameter_read, parameters_read};
 
 use crate::bare::read_bare_item;
 use crate::class::SfClass;
 use crate::error::Stop;
 use byte_classes::Byte;
 use byte_grammar::{read_all, read_byte, read_word, starts_with};
-use sfv_text::{BareItem, Pair, Params, Text};
+use sfv_text::{BareItem, Item, Pair, Params, Text};
 use std::alloc::Global;
+
+/// Reads a bare item with parameters.
+#[tactic(auto, unfolding(crate::specs::tools::ItemWalk::item_read))]
+pub fn read_item_text(alloc: Global, bytes: &[u8]) -> Result<(Item, &[u8]), Stop>
+    ensures gives { GivesUnlessMemory (λ x. (x.0, x.1.now)) result (item_read bytes.now) }
+    ensures some { UnlessStopped result (1 ≤ length bytes.now) }
+{
+    let (bare, rest) = read_bare_item(alloc, bytes)?;
+    let (params, rest) = read_parameters(alloc, rest)?;
+    Ok((Item { bare, params }, rest))
+}
 
 /// Reads parameters one after the other. A repeated key stands where it first stood and has its
 /// last value.

@@ -1,7 +1,7 @@
 //! The offsets of faults, found apart from the readers: by trying what could follow.
 
-use super::Kind;
-use crate::{SfError, read_dict, read_inner, read_item, read_list};
+use super::{Kind, strict_text};
+use crate::SfError;
 use std::alloc::{AllocError, Global};
 use std::test::Fail;
 
@@ -36,22 +36,12 @@ fn with_text(
     Ok(whole)
 }
 
-// The fault of a text that isn't read.
-fn fault_of(kind: Kind, alloc: Global, text: &[u8]) -> Option<SfError> {
-    match kind {
-        Kind::Item => read_item(alloc, text).err(),
-        Kind::Inner => read_inner(alloc, text).err(),
-        Kind::List => read_list(alloc, text).err(),
-        Kind::Dict => read_dict(alloc, text).err(),
-    }
-}
-
 // Whether some text that is read begins with the prefix, by trying what could follow.
 fn begins(case: &Symbols<'_>, alloc: Global, prefix: &[u8]) -> Result<bool, AllocError> {
     for length in 0..4 {
         for number in 0..COUNTS[length] {
             let text = with_text(alloc, prefix, case.symbols, length, number)?;
-            if fault_of(case.kind, alloc, text.as_slice()).is_none() {
+            if strict_text(case.kind, alloc, text.as_slice()).is_ok() {
                 return Ok(true);
             }
         }
@@ -99,7 +89,7 @@ fn offsets_are_those_found_by_trying_what_could_follow(rt: HostRuntime) -> Resul
         for length in 0..4 {
             for number in 0..COUNTS[length] {
                 let text = with_text(rt.alloc(), b"", case.symbols, length, number)?;
-                if let Some(fault) = fault_of(case.kind, rt.alloc(), text.as_slice()) {
+                if let Err(fault) = strict_text(case.kind, rt.alloc(), text.as_slice()) {
                     let expected = find_fault(case, rt.alloc(), text.as_slice())?;
                     assert_eq!(rt; fault, expected, "{:?}: {text:?}", case.kind);
                 }
