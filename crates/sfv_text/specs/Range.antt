@@ -1,7 +1,8 @@
 -- The values that a structured field can hold (RFC 9651 section 3).
 use Rattle.std.specs.Prelude.{ℤ, ◌^◌, Bool, true, ◌&&◌, nat_lt, unsigned_abs, List}
 use Rattle.std.specs.List.{list_all}
-pub use Rattle.sfv_text.specs.Classes.{is_string_byte, is_byte, is_token_first, is_token_rest, is_key_first, is_key_rest, is_word, is_sf_token, is_key}
+pub use Rattle.sfv_text.specs.Classes.{is_string_byte, is_byte, is_token_first, is_token_rest}
+pub use Rattle.sfv_text.specs.Classes.{is_key_first, is_key_rest, is_word, is_sf_token, is_key}
 use Rattle.sfv_text.specs.Keys.{have_distinct_keys}
 use Rattle.sfv_text.specs.declared.pair.Pair.{Pair}
 use Rattle.sfv_text.specs.declared.value.BareItem.{BareItem}
