@@ -14,6 +14,10 @@ HasPrintableTexts {V} is_in_range text_of =
 abbrev pub IsEquality : {V : Type 0} → (V → V → Bool) → Type 0
 IsEquality {V} test = (a b : V) → IsTrue (test a b) ↔ (a ≡ b)
 
+-- the test answers the same whichever value comes first
+abbrev pub IsSymmetric : {V : Type 0} → (V → V → Bool) → Type 0
+IsSymmetric {V} test = (a b : V) → test a b ≡ test b a
+
 -- where keys are distinct, no other pair has the key of the first, and those of the others are
 -- distinct
 abbrev pub HasOwnKeyFirst : Type 0 → Type 0
