@@ -16,16 +16,23 @@
 //! in `proofs/`:
 //!
 //! - `Laws`: a reader meets a language (`Meets`) where its parts do: one after another
-//!   (`meets_then`), or the same with other values (`meets_map`, `meets_same`, `meets_done`).
+//!   (`meets_then`, and `meets_then_with` over `Partly`, `partly`), or the same with other values
+//!   (`meets_map`, `meets_same`, `meets_done`); it leaves no more bytes than it had (`left_less`).
+//!   Of results and what may come next: `ok_is`, `not_err`, `bind_err`, `and_is`, `any_next`,
+//!   `next_more`.
 //! - `LeafLaws`: the readers of bytes meet theirs (`meets_byte`, `meets_run`, `meets_all`,
 //!   `meets_word`).
-//! - `ChoiceLaws`: readers that the first byte chooses (`meets_pick`, `meets_optional`,
-//!   `meets_choose`), and what may come next (`of_each`, `apart`, `starts_next`).
-//! - `TurnLaws`: a text after a text (`meets_turns`, `meets_each`, `turns_step`, `shorter`).
-//! - `Loops`: a loop does what turns do, with a list (`loop_*`) or with a state (`state_*`).
-//! - `Whole`: a reader of whole texts judges the language and the offset of each fault (`Judges`,
-//!   `judges`), of texts with bytes of a class at both ends too (`meets_padded`); of what is judged
-//!   so a text has one value (`one_value`).
+//! - `ChoiceLaws`: readers that the first byte chooses (`meets_pick` over `Heads`,
+//!   `meets_optional`, `meets_choose`), and what texts begin with and what may come next (`Starts`,
+//!   `of_each`, `apart`, `starts_next`, `run_starts`, `optional_follow`).
+//! - `TurnLaws`: a text after a text (`meets_turns`, `meets_each`, `turns_step`, `shorter`,
+//!   `starts_length`).
+//! - `Loops`: a loop does what turns do, with a list (`loop_first`, `loop_last`, `loop_err`,
+//!   `loop_more`, `some_next`) or with a state (`state_last`, `state_err`, `state_more`,
+//!   `state_cons`).
+//! - `Whole`: a reader of whole texts, after which nothing comes (`Nothing`), judges the language
+//!   and the offset of each fault (`Judges`, `judges`), of texts with bytes of a class at both ends
+//!   too (`meets_padded`); of what is judged so a text has one value (`one_value`).
 //! - `OffsetLaws`: of one language and text two fault offsets are one (`one_offset`); a prefix of
 //!   what begins a text begins it too (`begins_shorter`).
 //! - `CauseLaws`: of causes that are judged in an order at most one is the first (`first_is_one`).

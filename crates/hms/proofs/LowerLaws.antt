@@ -1,9 +1,8 @@
 -- Laws of the crates below, in the form that the proofs here use.
-use Rattle.std.proofs.Common.{◌≡◌, ℕ, List, refl, sym}
-use Rattle.byte_grammar.proofs.Whole.{one_value as one_read}
+use Rattle.std.proofs.Common.{◌≡◌, ℕ, List, refl}
 use Rattle.sfv_text.specs.declared.value.InnerList.{InnerList}
 use Rattle.sfv_read.specs.Reads.{ReadsInner}
-use Rattle.sfv_read.proofs.Readings.{inner_judges}
+use Rattle.sfv_read.proofs.Readings.{inner_has_one_value}
 use Rattle.component_ids.specs.Causes.{IsFault}
 use Rattle.component_ids.specs.SignatureParams.{IsSigParams, list_of}
 use Rattle.component_ids.specs.declared.fault.IdFault.{IdFault}
@@ -12,7 +11,7 @@ use Rattle.component_ids.proofs.FaultLaws.{one_fault, not_both, one_value}
 
 -- PARAMS read as one list
 pub one_list : (params : List ℕ) (a b : InnerList) → ReadsInner params a → ReadsInner params b → a ≡ b
-one_list = one_read inner_judges
+one_list = inner_has_one_value
 
 -- a list that is signature parameters has no fault
 pub no_fault : (sig : SigParams) (list : InnerList) (f : IdFault) → IsSigParams sig → list_of sig ≡ list → IsFault list f → ⊥

@@ -5,9 +5,10 @@ use Rattle.byte_grammar.specs.tools.Walks.{whole_read, padded_read}
 use Rattle.byte_classes.specs.Classes.{is_space}
 use Rattle.byte_grammar.specs.FaultOffset.{IsFaultOffset}
 use Rattle.byte_grammar.proofs.Laws.{ok_is}
-use Rattle.byte_grammar.proofs.Whole.{Judges, judges}
+use Rattle.byte_grammar.proofs.Whole.{Judges, judges, one_value}
 use Rattle.sfv_read.specs.declared.error.SfError.{SfError}
 use Rattle.sfv_read.specs.declared.error.SfError.TheVariants.{Memory, Syntax, ItemKind}
+use Rattle.sfv_read.specs.Laws.{HasOneValue}
 use Rattle.sfv_read.specs.Fault.{IsRead, IsFault, BeginsItemKind}
 use Rattle.sfv_read.specs.tools.Answers.{StopsAt, MarksItemKind, Answers}
 use Rattle.sfv_read.specs.Reads.{ReadsItem, ReadsInner, ReadsList, ReadsDict}
@@ -55,6 +56,9 @@ item_judges = judges meets_whole_item
 
 pub inner_judges : Judges ReadsInner (whole_read (λ text. padded_read is_space inner_list_read text))
 inner_judges = judges meets_whole_inner
+
+pub inner_has_one_value : HasOneValue ReadsInner
+inner_has_one_value = one_value inner_judges
 
 pub list_judges : Judges ReadsList (whole_read (λ text. list_read text))
 list_judges = judges meets_list
