@@ -1,8 +1,8 @@
 -- Of the outcomes of `base` one is the first that holds.
-use Rattle.std.proofs.Common.{◌≡◌, ◌+◌, ◌<◌, ◌≤◌, ◌⊎◌, inl, inr, lit<, lit≤, ℕ, Bool, true, false, Option, Some, None, Result, Ok, Err, List, length, replicate, drop, IsErrOf, IfSome, refl, sym, ap, subst, ◌∙◌, arith}
+use Rattle.std.proofs.Common.{◌≡◌, ◌+◌, ◌<◌, ◌≤◌, ◌⊎◌, inl, inr, lit<, lit≤, ℕ, true, false, Option, Some, None, Result, Ok, Err, List, length, replicate, IfSome, refl, sym, ap, subst, ◌∙◌, arith}
 use Rattle.std.specs.List.{list_all}
 use Rattle.std.proofs.lemmas.Bool.{false≢true}
-use Rattle.byte_grammar.specs.Causes.{IsFirst, AreDetermined}
+use Rattle.byte_grammar.specs.Causes.{AreDetermined}
 use Rattle.byte_grammar.specs.FaultOffset.{IsFaultOffset}
 use Rattle.byte_grammar.proofs.OffsetLaws.{one_offset}
 use Rattle.byte_grammar.proofs.CauseLaws.{first_is_one}
@@ -17,14 +17,13 @@ use Rattle.component_ids.specs.Identifiers.{id_text}
 use Rattle.component_ids.specs.SignatureParams.{list_of}
 use Rattle.msg_head.specs.Heads.{Head}
 use Rattle.msg_head.proofs.OneHeads.{one_head_of_text_law}
-use Rattle.hms.specs.Base.{HasIdFault, CoversOther, LacksField, HasBase, Holds, IsInputCause, IsCommandCause, command_order, order_of, ReportsBase}
+use Rattle.hms.specs.Base.{HasIdFault, LacksField, HasBase, Holds, IsCommandCause, command_order, order_of, ReportsBase}
 use Rattle.hms.specs.Covered.{ReadsParams, is_plain, first_absent}
 use Rattle.hms.specs.Messages.{IsMessage, NoMessage}
 use Rattle.hms.specs.SignatureBase.{base_of}
 use Rattle.hms.specs.declared.refusal.TheConstants.{MAX_INPUT_BYTES}
 use Rattle.hms.specs.declared.refusal.Refusal.{Refusal}
 use Rattle.hms.specs.declared.refusal.Refusal.TheVariants.{Arguments, Input, Command}
-use Rattle.hms.specs.declared.refusal.InputRefusal.{InputRefusal}
 use Rattle.hms.specs.declared.refusal.InputRefusal.TheVariants.{TooLong, NotYet}
 use Rattle.hms.specs.declared.refusal.CommandRefusal.{CommandRefusal}
 use Rattle.hms.specs.declared.refusal.CommandRefusal.TheVariants.{Syntax, ItemKind, Ids, NotYet as NotBuilt, Absent}

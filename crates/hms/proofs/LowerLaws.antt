@@ -7,7 +7,7 @@ use Rattle.component_ids.specs.Causes.{IsFault}
 use Rattle.component_ids.specs.SignatureParams.{IsSigParams, list_of}
 use Rattle.component_ids.specs.declared.fault.IdFault.{IdFault}
 use Rattle.component_ids.specs.declared.params.SigParams.{SigParams}
-use Rattle.component_ids.proofs.FaultLaws.{one_fault, not_both, one_value}
+use Rattle.component_ids.proofs.FaultLaws.{not_both, one_value}
 
 -- PARAMS read as one list
 pub one_list : (params : List ℕ) (a b : InnerList) → ReadsInner params a → ReadsInner params b → a ≡ b

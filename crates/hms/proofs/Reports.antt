@@ -1,13 +1,11 @@
 -- The arguments and the input have one outcome, which the status and the sink show.
-use Rattle.std.proofs.Common.{◌≡◌, ◌⊎◌, ℕ, Option, Some, None, List, [], ◌∷◌, refl, sym, ap, subst, ◌∙◌, inl, inr, IfSome}
+use Rattle.std.proofs.Common.{◌≡◌, ℕ, Option, Some, None, List, [], ◌∷◌, refl, sym, subst, ◌∙◌, inl, inr}
 use Rattle.std.specs.Io.KnownBytes.{Appends}
-use Rattle.hms_io.specs.declared.status.Status.{Status}
-use Rattle.hms_io.specs.declared.status.Status.TheVariants.{ReadFault, WriteFault, OutOfMemory}
 use Rattle.hms.specs.Base.{ReportsBase}
-use Rattle.hms.specs.Command.{IsBase, NoCommand}
+use Rattle.hms.specs.Command.{NoCommand}
 use Rattle.hms.specs.Laws.{HasOneReport}
 use Rattle.hms.specs.Outcome.{status_of, output_of}
-use Rattle.hms.specs.Report.{RunsBase, Reports, HasInput, Ends}
+use Rattle.hms.specs.Report.{Reports, HasInput, Ends}
 use Rattle.hms.specs.declared.refusal.Refusal.TheVariants.{Arguments, Input, Command}
 use Rattle.hms.specs.declared.refusal.InputRefusal.TheVariants.{TooLong, NotYet}
 use Rattle.hms.specs.declared.outcome.Outcome.{Outcome}

@@ -1,7 +1,6 @@
 -- What ends a run before it is done. No public clause cites this module.
 use Rattle.std.specs.Prelude.{◌≡◌, ◌≤◌, ℕ, List, Result, Ok, Err}
 use Rattle.byte_grammar.specs.FaultOffset.{IsFaultOffset}
-use Rattle.sfv_text.specs.declared.text.Text.{Text}
 use Rattle.sfv_read.specs.Reads.{ReadsInner}
 use Rattle.sfv_read.specs.Fault.{BeginsItemKind}
 use Rattle.sfv_read.specs.declared.error.SfError.{SfError}

@@ -1,11 +1,10 @@
-use Rattle.std.proofs.Common.{◌≡◌, Option, Some, None, List, ℕ, true, false, not, sym, ap, subst, ◌∙◌}
+use Rattle.std.proofs.Common.{◌≡◌, Some, None, List, ℕ, true, false, not, sym, ap, subst, ◌∙◌}
 use Rattle.std.specs.List.{list_all}
 use Rattle.std.proofs.lemmas.Result.{err_from_is_err_and}
 use Rattle.component_ids.specs.declared.id.ComponentId.{ComponentId}
 use Rattle.component_ids.specs.Identifiers.{id_text}
 use Rattle.hms.specs.Base.{ReportsBase}
 use Rattle.hms.specs.Covered.{is_plain, has_field, first_absent}
-use Rattle.hms.specs.SignatureBase.{base_of}
 use Rattle.hms.specs.tools.Plain.{quoted_name}
 use Rattle.hms.specs.declared.refusal.Refusal.TheVariants.{Command}
 use Rattle.hms.specs.declared.refusal.CommandRefusal.TheVariants.{Absent}
