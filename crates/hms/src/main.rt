@@ -19,6 +19,7 @@ mod run;
 mod stop;
 mod values;
 
+use command::after_name;
 use hms_io::{DirShelf, Status, StdSink, StdSource};
 use std::env;
 use std::io::ErrorKind;
@@ -46,10 +47,15 @@ fn main(rt: HostRuntime) -> ExitCode {
         Ok(arguments) => arguments,
         Err(status) => return ExitCode::from(status.code()),
     };
-    let after_name = arguments.as_slice().get(1..).unwrap_or(&[]);
     let mut shelf = DirShelf::new(&rt);
     let mut source = StdSource::new(rt.stdin());
     let mut out = StdSink::new(rt.stdout());
-    let status = run::run(rt.alloc(), after_name, &mut shelf, &mut source, &mut out);
+    let status = run::run(
+        rt.alloc(),
+        after_name(&arguments),
+        &mut shelf,
+        &mut source,
+        &mut out,
+    );
     ExitCode::from(status.code())
 }

@@ -1,5 +1,6 @@
 -- What a source over a reader of std and a sink over a writer of std are.
-use Rattle.std.specs.Prelude.{ℕ, List, Option}
+use Rattle.std.specs.Prelude.{ℕ, ◌-◌, List, Option, length, take}
+use Rattle.std.specs.Option.{option_map}
 
 pub record ReaderSource : Type 0 where
   -- the bytes that the reader has left, where they are known
@@ -12,3 +13,7 @@ pub record WriterSink : Type 0 where
   -- how many bytes it took after those, in a write whose flush failed
   pub unflushed : ℕ
   pub faults : ℕ
+
+-- known bytes without the last n: those of a writer without the bytes whose flush failed
+abbrev pub without_last : ℕ → Option (List ℕ) → Option (List ℕ)
+without_last n known = option_map (λ bytes. take (length bytes - n) bytes) known

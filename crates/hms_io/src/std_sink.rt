@@ -26,7 +26,7 @@ pub struct StdSink<W: Write> {
 
 impl<W: Write> Model for StdSink<W> {
     ghost use Rattle.hms_io.specs.OverStd.{WriterSink};
-    ghost use Rattle.hms_io.specs.tools.Flushed.{without_last};
+    ghost use Rattle.hms_io.specs.OverStd.{without_last};
 
     ghost Value = { WriterSink };
 

@@ -13,7 +13,7 @@ pub fn a_text_has_one_value()
     ensures dict { HasOneValue ReadsDict }
 {}
 
-/// Out of memory aside, a text has a value or one fault of a kind, and not both.
+/// Out of memory aside, a text has at most one fault of a kind, and none where it has a value.
 pub fn a_text_has_one_answer()
     ensures item { HasOneAnswer ReadsItem }
     ensures inner { HasOneAnswer ReadsInner }
