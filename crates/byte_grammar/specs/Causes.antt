@@ -5,8 +5,3 @@ use Rattle.std.specs.Prelude.{◌≡◌, ℕ, ◌<◌}
 pub record IsFirst {F : Type 0} (order : F → ℕ) (Holds : F → Type 0) (fault : F) : Type 0 where
   pub holds : Holds fault
   pub none_before : (other : F) → order other < order fault → ¬ Holds other
-
--- each cause determines its own offset, index or key
-abbrev pub AreDetermined : {F : Type 0} → (F → ℕ) → (F → Type 0) → Type 0
-AreDetermined {F} order Holds =
-    (fault other : F) → order fault ≡ order other → Holds fault → Holds other → fault ≡ other

@@ -1,2 +1,3 @@
 pub mod Languages
 pub mod Walks
+pub mod Determined

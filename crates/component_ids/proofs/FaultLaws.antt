@@ -17,7 +17,7 @@ use Rattle.component_ids.specs.declared.params.SigParams.{SigParams}
 use Rattle.component_ids.specs.Identifiers.{item_of, is_identifier, id_of, AreDistinct}
 use Rattle.component_ids.specs.Reasons.{reason_of}
 use Rattle.component_ids.specs.SignatureParams.{is_typed, list_of, IsSigParams, IsParamsOf}
-use Rattle.byte_grammar.specs.Causes.{AreDetermined}
+use Rattle.byte_grammar.specs.tools.Determined.{AreDetermined}
 use Rattle.byte_grammar.proofs.CauseLaws.{first_is_one}
 use Rattle.component_ids.specs.declared.params.TheConstants.{MAX_COMPONENTS}
 use Rattle.component_ids.specs.Causes.{IsFirstBad, IsFirstIllTyped, IsCause, order_of, IsFault}

@@ -2,7 +2,7 @@
 use Rattle.std.proofs.Common.{◌≡◌, ◌+◌, ◌<◌, ◌≤◌, ◌⊎◌, inl, inr, lit<, lit≤, ℕ, true, false, Option, Some, None, Result, Ok, Err, List, length, replicate, IfSome, refl, sym, ap, subst, ◌∙◌, arith}
 use Rattle.std.specs.List.{list_all}
 use Rattle.std.proofs.lemmas.Bool.{false≢true}
-use Rattle.byte_grammar.specs.Causes.{AreDetermined}
+use Rattle.byte_grammar.specs.tools.Determined.{AreDetermined}
 use Rattle.byte_grammar.specs.FaultOffset.{IsFaultOffset}
 use Rattle.byte_grammar.proofs.OffsetLaws.{one_offset}
 use Rattle.byte_grammar.proofs.CauseLaws.{first_is_one}
