@@ -1,5 +1,5 @@
 -- Of the outcomes of `base` one is the first that holds.
-use Rattle.std.proofs.Common.{◌≡◌, ◌+◌, ◌<◌, ◌≤◌, ◌⊎◌, inl, inr, lit<, lit≤, ℕ, true, false, Option, Some, None, Result, Ok, Err, List, length, replicate, IfSome, refl, sym, ap, subst, ◌∙◌, arith}
+use Rattle.std.proofs.Common.{◌≡◌, ◌+◌, ◌<◌, ◌≤◌, ◌⊎◌, inl, inr, lit<, lit≤, ℕ, true, false, Option, Some, None, Result, Ok, Err, List, [], length, replicate, IfSome, refl, sym, ap, subst, ◌∙◌, arith}
 use Rattle.std.specs.List.{list_all}
 use Rattle.std.proofs.lemmas.Bool.{false≢true}
 use Rattle.byte_grammar.specs.tools.Determined.{AreDetermined}
@@ -15,30 +15,30 @@ use Rattle.component_ids.specs.declared.id.ComponentId.{ComponentId}
 use Rattle.component_ids.specs.declared.params.SigParams.{SigParams}
 use Rattle.component_ids.specs.Identifiers.{id_text}
 use Rattle.component_ids.specs.SignatureParams.{list_of}
-use Rattle.msg_head.specs.Heads.{Head}
-use Rattle.msg_head.proofs.OneHeads.{one_head_of_text_law}
+use Rattle.msg_body.specs.Messages.{Message, Spells}
+use Rattle.msg_body.specs.declared.error.MessageFault.{MessageFault}
 use Rattle.hms.specs.Base.{HasIdFault, LacksField, HasBase, Holds, IsCommandCause, command_order, order_of, ReportsBase}
 use Rattle.hms.specs.Covered.{ReadsParams, is_plain, first_absent}
-use Rattle.hms.specs.Messages.{IsMessage, NoMessage}
+use Rattle.hms.specs.Messages.{IsMessageFault}
 use Rattle.hms.specs.SignatureBase.{base_of}
 use Rattle.hms.specs.declared.refusal.TheConstants.{MAX_INPUT_BYTES}
 use Rattle.hms.specs.declared.refusal.Refusal.{Refusal}
 use Rattle.hms.specs.declared.refusal.Refusal.TheVariants.{Arguments, Input, Command}
-use Rattle.hms.specs.declared.refusal.InputRefusal.TheVariants.{TooLong, NotYet}
+use Rattle.hms.specs.declared.refusal.InputRefusal.TheVariants.{TooLong, Message as NoMessage}
 use Rattle.hms.specs.declared.refusal.CommandRefusal.{CommandRefusal}
 use Rattle.hms.specs.declared.refusal.CommandRefusal.TheVariants.{Syntax, ItemKind, Ids, NotYet as NotBuilt, Absent}
 use Rattle.hms.specs.declared.outcome.Outcome.{Outcome}
 use Rattle.hms.specs.declared.outcome.Outcome.TheVariants.{Done, NotOk, Refused}
 use Rattle.hms.specs.declared.stop.Stop.{Stop}
 use Rattle.hms.specs.declared.stop.Stop.TheVariants.{Memory, ReadFault, Refused as IsRefused}
-use Rattle.hms.specs.tools.Stops.{IfRefused, IfOutcome, IsParamsCause, ReadsNothing, CountsRead, stop_of_fill}
-use Rattle.hms.specs.Report.{HasInput}
-use Rattle.hms_io.specs.Reading.{LosesPrefix}
+use Rattle.hms.specs.tools.Stops.{IfRefused, IfOutcome, IsParamsCause, IsInputRefusal, ReadsNothing, CountsRead, stop_of_fill}
+use Rattle.hms.specs.Report.{HasInput, Leaves}
+use Rattle.hms_io.specs.Reading.{LosesPrefix, GivesAll}
 use Rattle.hms_io.specs.declared.read_write.FillError.{FillError}
 use Rattle.hms_io.specs.declared.read_write.FillError.TheVariants.{Memory as NoFillMemory, Failed, TooLong as Longer}
 use Rattle.std.proofs.lemmas.List.{length-replicate}
 use Rattle.component_ids.proofs.FaultLaws.{one_fault}
-use Rattle.hms.proofs.LowerLaws.{one_list, no_fault, one_params}
+use Rattle.hms.proofs.LowerLaws.{one_list, no_fault, one_params, one_text, one_message_fault, text_no_fault}
 
 -- ---- what is there is there once
 
@@ -48,26 +48,23 @@ some_is x y e = cc
 some_is_not_none : {X : Type 0} (x : X) → Some x ≡ None → ⊥
 some_is_not_none x e = absurd cc
 
-one_message : (input : List ℕ) (a b : Head) → IsMessage a input → IsMessage b input → a ≡ b
-one_message input a b one other = one_head_of_text_law input a b one.alone other.alone
-
 one_sig : (params : List ℕ) (a b : SigParams) → ReadsParams params a → ReadsParams params b → a ≡ b
 one_sig params a b one other = one_params a b one.is other.is (one_list params (list_of a) (list_of b) one.reads other.reads)
 
 one_lack : (params input id other : List ℕ) → LacksField params input id → LacksField params input other → id ≡ other
 one_lack params input id other a b =
-    let heads : a.head ≡ b.head = one_message input a.head b.head a.message b.message in
+    let messages : a.message ≡ b.message = one_text input a.message b.message a.spelled b.spelled in
     let sigs : a.sig ≡ b.sig = one_sig params a.sig b.sig a.reads b.reads in
-    let found : first_absent a.head.lines a.sig.ids ≡ first_absent b.head.lines b.sig.ids =
-    λ i. first_absent (heads i).lines (sigs i).ids in
+    let found : first_absent a.message.head.lines a.sig.ids ≡ first_absent b.message.head.lines b.sig.ids =
+    λ i. first_absent (messages i).head.lines (sigs i).ids in
     let ids : a.absent ≡ b.absent = some_is a.absent b.absent (sym a.first ∙ (found ∙ b.first)) in
     a.id_is ∙ (ap id_text ids ∙ sym b.id_is)
 
 one_base : (params input text other : List ℕ) → HasBase params input text → HasBase params input other → text ≡ other
 one_base params input text other a b =
-    let heads : a.head ≡ b.head = one_message input a.head b.head a.message b.message in
+    let messages : a.message ≡ b.message = one_text input a.message b.message a.spelled b.spelled in
     let sigs : a.sig ≡ b.sig = one_sig params a.sig b.sig a.reads b.reads in
-    a.base_is ∙ ((λ i. base_of (heads i).lines (sigs i)) ∙ sym b.base_is)
+    a.base_is ∙ ((λ i. base_of (messages i).head.lines (sigs i)) ∙ sym b.base_is)
 
 one_id_fault : (params : List ℕ) (f g : IdFault) → HasIdFault params f → HasIdFault params g → f ≡ g
 one_id_fault params f g a b =
@@ -126,25 +123,26 @@ pub determined : (params input : List ℕ) → AreDetermined order_of (Holds par
 determined params input (Refused Arguments) other same a b = absurd a
 determined params input (Refused (Input TooLong)) (Refused Arguments) same a b = absurd b
 determined params input (Refused (Input TooLong)) (Refused (Input TooLong)) same a b = refl
-determined params input (Refused (Input TooLong)) (Refused (Input NotYet)) same a b = absurd (omega (arith, same))
+determined params input (Refused (Input TooLong)) (Refused (Input (NoMessage f))) same a b = absurd (omega (arith, same))
 determined params input (Refused (Input TooLong)) (Refused (Command d)) same a b = absurd (no_command_at d 1 (inl (lit< tt)) (sym same))
 determined params input (Refused (Input TooLong)) (Done other) same a b = absurd (omega (arith, same))
 determined params input (Refused (Input TooLong)) (NotOk other) same a b = absurd b
-determined params input (Refused (Input NotYet)) (Refused Arguments) same a b = absurd b
-determined params input (Refused (Input NotYet)) (Refused (Input TooLong)) same a b = absurd (omega (arith, same))
-determined params input (Refused (Input NotYet)) (Refused (Input NotYet)) same a b = refl
-determined params input (Refused (Input NotYet)) (Refused (Command d)) same a b = absurd (no_command_at d 2 (inl (lit< tt)) (sym same))
-determined params input (Refused (Input NotYet)) (Done other) same a b = absurd (omega (arith, same))
-determined params input (Refused (Input NotYet)) (NotOk other) same a b = absurd b
+determined params input (Refused (Input (NoMessage f))) (Refused Arguments) same a b = absurd b
+determined params input (Refused (Input (NoMessage f))) (Refused (Input TooLong)) same a b = absurd (omega (arith, same))
+determined params input (Refused (Input (NoMessage f))) (Refused (Input (NoMessage g))) same a b =
+    ap (λ (h : MessageFault). Refused (Input (NoMessage h))) (one_message_fault input f g a b)
+determined params input (Refused (Input (NoMessage f))) (Refused (Command d)) same a b = absurd (no_command_at d 2 (inl (lit< tt)) (sym same))
+determined params input (Refused (Input (NoMessage f))) (Done other) same a b = absurd (omega (arith, same))
+determined params input (Refused (Input (NoMessage f))) (NotOk other) same a b = absurd b
 determined params input (Refused (Command c)) (Refused Arguments) same a b = absurd b
 determined params input (Refused (Command c)) (Refused (Input TooLong)) same a b = absurd (no_command_at c 1 (inl (lit< tt)) same)
-determined params input (Refused (Command c)) (Refused (Input NotYet)) same a b = absurd (no_command_at c 2 (inl (lit< tt)) same)
+determined params input (Refused (Command c)) (Refused (Input (NoMessage f))) same a b = absurd (no_command_at c 2 (inl (lit< tt)) same)
 determined params input (Refused (Command c)) (Refused (Command d)) same a b = ap (λ (c : CommandRefusal). Refused (Command c)) (one_command params input c d same a b)
 determined params input (Refused (Command c)) (Done other) same a b = absurd (no_command_at c 7 (inr (lit≤ tt)) same)
 determined params input (Refused (Command c)) (NotOk other) same a b = absurd b
 determined params input (Done text) (Refused Arguments) same a b = absurd b
 determined params input (Done text) (Refused (Input TooLong)) same a b = absurd (omega (arith, same))
-determined params input (Done text) (Refused (Input NotYet)) same a b = absurd (omega (arith, same))
+determined params input (Done text) (Refused (Input (NoMessage f))) same a b = absurd (omega (arith, same))
 determined params input (Done text) (Refused (Command d)) same a b = absurd (no_command_at d 7 (inr (lit≤ tt)) (sym same))
 determined params input (Done text) (Done other) same a b = ap Done (one_base params input text other a b)
 determined params input (Done text) (NotOk other) same a b = absurd b
@@ -155,18 +153,18 @@ determined params input (NotOk text) other same a b = absurd a
 -- what is known of PARAMS and the input, where the outcome is the one of this number or comes after it
 pub record Passed (params input : List ℕ) (n : ℕ) : Type 0 where
   pub short : 1 < n → length input ≤ MAX_INPUT_BYTES
-  pub message : 2 < n → (head : Head) × IsMessage head input
+  pub message : 2 < n → (message : Message) × Spells message input
   pub list : 3 < n → (list : InnerList) × ReadsInner params list
   pub sig : 4 < n → (sig : SigParams) × ReadsParams params sig
   pub plain : 5 < n → (sig : SigParams) × ReadsParams params sig × (list_all is_plain sig.ids ≡ true)
-  pub there : 6 < n → (head : Head) × IsMessage head input × (sig : SigParams) × ReadsParams params sig
-      × (first_absent head.lines sig.ids ≡ None)
+  pub there : 6 < n → (message : Message) × Spells message input × (sig : SigParams) × ReadsParams params sig
+      × (first_absent message.head.lines sig.ids ≡ None)
 
 pub none_before : (params input : List ℕ) (n : ℕ) → n ≤ 7 → Passed params input n
     → (other : Outcome) → order_of other < n → Holds params input other → ⊥
 none_before params input n most p (Refused Arguments) lt h = h
 none_before params input n most p (Refused (Input TooLong)) lt h = let short = p.short lt in absurd (omega (arith, short, h))
-none_before params input n most p (Refused (Input NotYet)) lt h = let m = p.message lt in h m.0 m.1
+none_before params input n most p (Refused (Input (NoMessage f))) lt h = let m = p.message lt in text_no_fault input m.0 f m.1 h
 none_before params input n most p (Refused (Command (Syntax i))) lt h = let l = p.list lt in h.0.none l.0 l.1
 none_before params input n most p (Refused (Command (ItemKind i))) lt h = let l = p.list lt in h.0.none l.0 l.1
 none_before params input n most p (Refused (Command (Ids f))) lt h =
@@ -178,10 +176,10 @@ none_before params input n most p (Refused (Command NotBuilt)) lt h =
     false≢true (sym h.other ∙ (ap (λ (sig : SigParams). list_all is_plain sig.ids) (sym sigs) ∙ s.2))
 none_before params input n most p (Refused (Command (Absent i))) lt h =
     let t = p.there lt in
-    let heads : t.0 ≡ h.head = one_message input t.0 h.head t.1 h.message in
+    let messages : t.0 ≡ h.message = one_text input t.0 h.message t.1 h.spelled in
     let sigs : t.2 ≡ h.sig = one_sig params t.2 h.sig t.3 h.reads in
-    let found : first_absent t.0.lines t.2.ids ≡ first_absent h.head.lines h.sig.ids =
-    λ i. first_absent (heads i).lines (sigs i).ids in
+    let found : first_absent t.0.head.lines t.2.ids ≡ first_absent h.message.head.lines h.sig.ids =
+    λ i. first_absent (messages i).head.lines (sigs i).ids in
     absurd (some_is_not_none h.absent (sym h.first ∙ (sym found ∙ t.4)))
 none_before params input n most p (Done text) lt h = absurd (omega (arith, most, lt))
 none_before params input n most p (NotOk text) lt h = absurd (omega (arith, most, lt))
@@ -219,11 +217,11 @@ passed_length params input short = record {
   there = λ lt. absurd (omega (arith, lt));
 }
 
-module _ (params input : List ℕ) (short : length input ≤ MAX_INPUT_BYTES) (head : Head) (message : IsMessage head input) where
+module _ (params input : List ℕ) (short : length input ≤ MAX_INPUT_BYTES) (message : Message) (spelled : Spells message input) where
   pub passed_message : Passed params input 3
   passed_message = record {
     short = λ _. short;
-    message = λ _. (head, message);
+    message = λ _. (message, spelled);
     list = λ lt. absurd (omega (arith, lt));
     sig = λ lt. absurd (omega (arith, lt));
     plain = λ lt. absurd (omega (arith, lt));
@@ -233,7 +231,7 @@ module _ (params input : List ℕ) (short : length input ≤ MAX_INPUT_BYTES) (h
   pub passed_list : (list : InnerList) → ReadsInner params list → Passed params input 4
   passed_list list reads = record {
     short = λ _. short;
-    message = λ _. (head, message);
+    message = λ _. (message, spelled);
     list = λ _. (list, reads);
     sig = λ lt. absurd (omega (arith, lt));
     plain = λ lt. absurd (omega (arith, lt));
@@ -243,7 +241,7 @@ module _ (params input : List ℕ) (short : length input ≤ MAX_INPUT_BYTES) (h
   pub passed_sig : (sig : SigParams) → ReadsParams params sig → Passed params input 5
   passed_sig sig reads = record {
     short = λ _. short;
-    message = λ _. (head, message);
+    message = λ _. (message, spelled);
     list = λ _. (list_of sig, reads.reads);
     sig = λ _. (sig, reads);
     plain = λ lt. absurd (omega (arith, lt));
@@ -253,7 +251,7 @@ module _ (params input : List ℕ) (short : length input ≤ MAX_INPUT_BYTES) (h
   pub passed_plain : (sig : SigParams) → ReadsParams params sig → list_all is_plain sig.ids ≡ true → Passed params input 6
   passed_plain sig reads plain = record {
     short = λ _. short;
-    message = λ _. (head, message);
+    message = λ _. (message, spelled);
     list = λ _. (list_of sig, reads.reads);
     sig = λ _. (sig, reads);
     plain = λ _. (sig, reads, plain);
@@ -261,14 +259,14 @@ module _ (params input : List ℕ) (short : length input ≤ MAX_INPUT_BYTES) (h
   }
 
   pub passed_there : (sig : SigParams) → ReadsParams params sig → list_all is_plain sig.ids ≡ true
-      → first_absent head.lines sig.ids ≡ None → Passed params input 7
+      → first_absent message.head.lines sig.ids ≡ None → Passed params input 7
   passed_there sig reads plain there = record {
     short = λ _. short;
-    message = λ _. (head, message);
+    message = λ _. (message, spelled);
     list = λ _. (list_of sig, reads.reads);
     sig = λ _. (sig, reads);
     plain = λ _. (sig, reads, plain);
-    there = λ _. (head, message, sig, reads, there);
+    there = λ _. (message, spelled, sig, reads, there);
   }
 
   -- a refusal of PARAMS is the outcome
@@ -294,23 +292,35 @@ module _ (params input : List ℕ) (short : length input ≤ MAX_INPUT_BYTES) (h
       first_outcome params input (Refused (Command NotBuilt)) (lit≤ tt) (passed_sig sig reads) (record { sig = sig; reads = reads; other = other })
 
   pub field_absent : (sig : SigParams) → ReadsParams params sig → list_all is_plain sig.ids ≡ true → (absent : ComponentId)
-      → first_absent head.lines sig.ids ≡ Some absent → ReportsBase params input (Refused (Command (Absent (id_text absent))))
+      → first_absent message.head.lines sig.ids ≡ Some absent → ReportsBase params input (Refused (Command (Absent (id_text absent))))
   field_absent sig reads plain absent first =
       first_outcome params input (Refused (Command (Absent (id_text absent)))) (lit≤ tt) (passed_plain sig reads plain)
-      (record { head = head; message = message; sig = sig; reads = reads; absent = absent; first = first; id_is = refl })
+      (record { message = message; spelled = spelled; sig = sig; reads = reads; absent = absent; first = first; id_is = refl })
 
-  pub base_done : (sig : SigParams) → ReadsParams params sig → list_all is_plain sig.ids ≡ true → first_absent head.lines sig.ids ≡ None
-      → ReportsBase params input (Done (base_of head.lines sig))
+  pub base_done : (sig : SigParams) → ReadsParams params sig → list_all is_plain sig.ids ≡ true → first_absent message.head.lines sig.ids ≡ None
+      → ReportsBase params input (Done (base_of message.head.lines sig))
   base_done sig reads plain there =
-      first_outcome params input (Done (base_of head.lines sig)) (lit≤ tt) (passed_there sig reads plain there)
-      (record { head = head; message = message; sig = sig; reads = reads; base_is = refl })
+      first_outcome params input (Done (base_of message.head.lines sig)) (lit≤ tt) (passed_there sig reads plain there)
+      (record { message = message; spelled = spelled; sig = sig; reads = reads; base_is = refl })
 
 -- an input that is too long, and one that is no message
 pub input_too_long : (params input : List ℕ) → MAX_INPUT_BYTES < length input → ReportsBase params input (Refused (Input TooLong))
 input_too_long params input long = first_outcome params input (Refused (Input TooLong)) (lit≤ tt) (passed_arguments params input) long
 
-pub input_not_yet : (params input : List ℕ) → length input ≤ MAX_INPUT_BYTES → NoMessage input → ReportsBase params input (Refused (Input NotYet))
-input_not_yet params input short none = first_outcome params input (Refused (Input NotYet)) (lit≤ tt) (passed_length params input short) none
+pub input_refused : (params input : List ℕ) → length input ≤ MAX_INPUT_BYTES → (refusal : Refusal) → IsInputRefusal input refusal
+    → ReportsBase params input (Refused refusal)
+input_refused params input short (Input (NoMessage f)) fault =
+    first_outcome params input (Refused (Input (NoMessage f))) (lit≤ tt) (passed_length params input short) fault
+input_refused params input short (Input TooLong) fault = absurd fault
+input_refused params input short Arguments fault = absurd fault
+input_refused params input short (Command refusal) fault = absurd fault
+
+-- a stop while the input is read is one
+pub input_stop : (params input : List ℕ) → length input ≤ MAX_INPUT_BYTES → (stop : Stop) → IfRefused stop (IsInputRefusal input)
+    → IfOutcome (Err stop) (ReportsBase params input)
+input_stop params input short Memory a = tt
+input_stop params input short ReadFault a = absurd a
+input_stop params input short (IsRefused refusal) a = input_refused params input short refusal a
 
 -- ---- stops of the source
 
@@ -334,3 +344,46 @@ reads_nothing_counts before now (Ok text) none same = same
 reads_nothing_counts before now (Err Memory) none same = same
 reads_nothing_counts before now (Err ReadFault) none same = absurd none
 reads_nothing_counts before now (Err (IsRefused refusal)) none same = same
+
+-- ---- an input that was read whole
+
+known_input : (before now : Option (List ℕ)) (input : List ℕ) → GivesAll before now input → IfSome before (λ bytes. bytes ≡ input)
+known_input None now input all = tt
+known_input (Some bytes) now input all = sym all.0
+
+nothing_left : (before now : Option (List ℕ)) (input : List ℕ) → GivesAll before now input → IfSome before (λ _. now ≡ Some [])
+nothing_left None now input all = tt
+nothing_left (Some bytes) now input all = all.1
+
+leaves_nothing : (params input : List ℕ) (before now : Option (List ℕ)) → length input ≤ MAX_INPUT_BYTES → GivesAll before now input
+    → (outcome : Outcome) → Holds params input outcome → Leaves before now outcome
+leaves_nothing params input before now short all (Refused Arguments) holds = absurd holds
+leaves_nothing params input before now short all (Refused (Input TooLong)) holds = absurd (omega (arith, short, holds))
+leaves_nothing params input before now short all (Refused (Input (NoMessage f))) holds = nothing_left before now input all
+leaves_nothing params input before now short all (Refused (Command c)) holds = nothing_left before now input all
+leaves_nothing params input before now short all (Done text) holds = nothing_left before now input all
+leaves_nothing params input before now short all (NotOk text) holds = nothing_left before now input all
+
+module _ (params input : List ℕ) (before now : Option (List ℕ)) (short : length input ≤ MAX_INPUT_BYTES) (all : GivesAll before now input) where
+  has_input : (outcome : Outcome) → ReportsBase params input outcome → HasInput (ReportsBase params) before now outcome
+  has_input outcome reports = record {
+    input = input;
+    known = known_input before now input all;
+    reports = reports;
+    leaves = leaves_nothing params input before now short all outcome reports.holds;
+  }
+
+  pub input_outcome : (result : Result (List ℕ) Stop) → IfOutcome result (ReportsBase params input)
+      → IfOutcome result (HasInput (ReportsBase params) before now)
+  input_outcome (Ok text) reports = has_input (Done text) reports
+  input_outcome (Err Memory) reports = tt
+  input_outcome (Err ReadFault) reports = tt
+  input_outcome (Err (IsRefused refusal)) reports = has_input (Refused refusal) reports
+
+-- the same, of equal texts
+pub input_outcome_of : (p i params input : List ℕ) (before now : Option (List ℕ)) → p ≡ params → i ≡ input
+    → length input ≤ MAX_INPUT_BYTES → GivesAll before now input → (result : Result (List ℕ) Stop)
+    → IfOutcome result (ReportsBase p i) → IfOutcome result (HasInput (ReportsBase params) before now)
+input_outcome_of p i params input before now a b short all result reports =
+    input_outcome params input before now short all result
+    (subst (λ (q : List ℕ). IfOutcome result (ReportsBase q input)) a (subst (λ (q : List ℕ). IfOutcome result (ReportsBase p q)) b reports))

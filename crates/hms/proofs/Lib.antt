@@ -3,7 +3,7 @@ pub mod BaseOutcomes
 pub mod FirstFound
 pub mod Joins
 pub mod LowerLaws
-pub mod NameTests
 pub mod Plain
 pub mod Reports
 pub mod Stops
+pub mod LineCounts

@@ -4,10 +4,16 @@ use Rattle.std.specs.Io.KnownBytes.{Appends}
 use Rattle.hms.specs.Base.{ReportsBase}
 use Rattle.hms.specs.Command.{NoCommand}
 use Rattle.hms.specs.Laws.{HasOneReport}
+use Rattle.msg_body.specs.declared.error.MessageError.{MessageError}
+use Rattle.msg_body.specs.declared.error.MessageError.TheVariants as error
+use Rattle.msg_body.specs.declared.error.MessageFault.{MessageFault}
+use Rattle.msg_body.specs.declared.error.MessageFault.TheVariants as fault
+use Rattle.hms.specs.Refusal.{message_status, fault_status}
+use Rattle.hms_io.specs.declared.status.Status.{Status}
 use Rattle.hms.specs.Outcome.{status_of, output_of}
 use Rattle.hms.specs.Report.{Reports, HasInput, Ends}
 use Rattle.hms.specs.declared.refusal.Refusal.TheVariants.{Arguments, Input, Command}
-use Rattle.hms.specs.declared.refusal.InputRefusal.TheVariants.{TooLong, NotYet}
+use Rattle.hms.specs.declared.refusal.InputRefusal.TheVariants.{TooLong, Message as NoMessage}
 use Rattle.hms.specs.declared.outcome.Outcome.{Outcome}
 use Rattle.hms.specs.declared.outcome.Outcome.TheVariants.{Done, NotOk, Refused}
 use Rattle.hms.proofs.BaseOutcomes.{one_outcome}
@@ -29,6 +35,26 @@ pub no_command : (arguments : List (List ℕ)) (before : Option (List ℕ)) → 
 no_command arguments None none = record { input = []; known = tt; reports = inl (none, refl); leaves = refl }
 no_command arguments (Some all) none = record { input = all; known = refl; reports = inl (none, refl); leaves = refl }
 
+whole_message : (arguments : List (List ℕ)) (before left taken now : Option (List ℕ)) (error : MessageError)
+    → HasInput (Reports arguments) before left (Refused (Input (NoMessage (fault.Refused error))))
+    → Appends taken now (output_of (Refused (Input (NoMessage (fault.Refused error)))))
+    → Ends arguments before left taken now (message_status error)
+whole_message arguments before left taken now error.Memory has all = (Refused (Input (NoMessage (fault.Refused error.Memory))), has, refl, all)
+whole_message arguments before left taken now (error.TooLong side) has all = (Refused (Input (NoMessage (fault.Refused (error.TooLong side)))), has, refl, all)
+whole_message arguments before left taken now (error.NakedEnd offset) has all = (Refused (Input (NoMessage (fault.Refused (error.NakedEnd offset)))), has, refl, all)
+whole_message arguments before left taken now error.BadStart has all = (Refused (Input (NoMessage (fault.Refused error.BadStart))), has, refl, all)
+whole_message arguments before left taken now (error.TooManyLines side) has all = (Refused (Input (NoMessage (fault.Refused (error.TooManyLines side)))), has, refl, all)
+whole_message arguments before left taken now (error.BadLine side index) has all = (Refused (Input (NoMessage (fault.Refused (error.BadLine side index)))), has, refl, all)
+whole_message arguments before left taken now error.NotYet has all = (Refused (Input (NoMessage (fault.Refused error.NotYet))), has, refl, all)
+
+whole_fault : (arguments : List (List ℕ)) (before left taken now : Option (List ℕ)) (f : MessageFault)
+    → HasInput (Reports arguments) before left (Refused (Input (NoMessage f)))
+    → Appends taken now (output_of (Refused (Input (NoMessage f))))
+    → Ends arguments before left taken now (fault_status f)
+whole_fault arguments before left taken now (fault.Refused error) has all = whole_message arguments before left taken now error has all
+whole_fault arguments before left taken now (fault.Truncated count) has all = (Refused (Input (NoMessage (fault.Truncated count))), has, refl, all)
+whole_fault arguments before left taken now (fault.Trailing offset) has all = (Refused (Input (NoMessage (fault.Trailing offset))), has, refl, all)
+
 -- an outcome that was written whole ends the run with its status
 pub whole_outcome : (arguments : List (List ℕ)) (before left taken now : Option (List ℕ)) (outcome : Outcome)
     → HasInput (Reports arguments) before left outcome → Appends taken now (output_of outcome)
@@ -37,5 +63,13 @@ whole_outcome arguments before left taken now (Done text) has all = (Done text, 
 whole_outcome arguments before left taken now (NotOk text) has all = (NotOk text, has, refl, all)
 whole_outcome arguments before left taken now (Refused Arguments) has all = (Refused Arguments, has, refl, all)
 whole_outcome arguments before left taken now (Refused (Input TooLong)) has all = (Refused (Input TooLong), has, refl, all)
-whole_outcome arguments before left taken now (Refused (Input NotYet)) has all = (Refused (Input NotYet), has, refl, all)
+whole_outcome arguments before left taken now (Refused (Input (NoMessage f))) has all = whole_fault arguments before left taken now f has all
 whole_outcome arguments before left taken now (Refused (Command refusal)) has all = (Refused (Command refusal), has, refl, all)
+
+-- the same, of an equal status and an equal output
+pub written_outcome : (arguments : List (List ℕ)) (before left taken now : Option (List ℕ)) (outcome : Outcome) (status : Status) (output : List ℕ)
+    → HasInput (Reports arguments) before left outcome → status ≡ status_of outcome → output ≡ output_of outcome → Appends taken now output
+    → Ends arguments before left taken now status
+written_outcome arguments before left taken now outcome status output has s o all =
+    subst (λ (st : Status). Ends arguments before left taken now st) (sym s)
+    (whole_outcome arguments before left taken now outcome has (subst (λ (text : List ℕ). Appends taken now text) o all))

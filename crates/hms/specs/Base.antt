@@ -11,14 +11,14 @@ use Rattle.component_ids.specs.declared.id.ComponentId.{ComponentId}
 use Rattle.component_ids.specs.declared.params.SigParams.{SigParams}
 use Rattle.component_ids.specs.Causes.{IsFault}
 use Rattle.component_ids.specs.Identifiers.{id_text}
-use Rattle.msg_head.specs.Heads.{Head}
+use Rattle.msg_body.specs.Messages.{Message, Spells}
 use Rattle.hms.specs.Covered.{ReadsParams, first_absent, is_plain}
-use Rattle.hms.specs.Messages.{IsMessage, NoMessage}
+use Rattle.hms.specs.Messages.{IsMessageFault}
 use Rattle.hms.specs.SignatureBase.{base_of}
 use Rattle.hms.specs.declared.refusal.TheConstants.{MAX_INPUT_BYTES}
 use Rattle.hms.specs.declared.refusal.Refusal.TheVariants.{Arguments, Input, Command}
 use Rattle.hms.specs.declared.refusal.InputRefusal.{InputRefusal}
-use Rattle.hms.specs.declared.refusal.InputRefusal.TheVariants.{TooLong, NotYet}
+use Rattle.hms.specs.declared.refusal.InputRefusal.TheVariants.{TooLong, Message as NoMessage}
 use Rattle.hms.specs.declared.refusal.CommandRefusal.{CommandRefusal}
 use Rattle.hms.specs.declared.refusal.CommandRefusal.TheVariants.{Syntax, ItemKind, Ids, NotYet as NotBuilt, Absent}
 use Rattle.hms.specs.declared.outcome.Outcome.{Outcome}
@@ -38,26 +38,26 @@ pub record CoversOther (params : List ℕ) : Type 0 where
 
 -- the first covered field without a field line has this identifier
 pub record LacksField (params input id : List ℕ) : Type 0 where
-  pub head : Head
-  pub message : IsMessage head input
+  pub message : Message
+  pub spelled : Spells message input
   pub sig : SigParams
   pub reads : ReadsParams params sig
   pub absent : ComponentId
-  pub first : first_absent head.lines sig.ids ≡ Some absent
+  pub first : first_absent message.head.lines sig.ids ≡ Some absent
   pub id_is : id ≡ id_text absent
 
 -- the text is the signature base of the message over the signature parameters that PARAMS spell
 pub record HasBase (params input text : List ℕ) : Type 0 where
-  pub head : Head
-  pub message : IsMessage head input
+  pub message : Message
+  pub spelled : Spells message input
   pub sig : SigParams
   pub reads : ReadsParams params sig
-  pub base_is : text ≡ base_of head.lines sig
+  pub base_is : text ≡ base_of message.head.lines sig
 
 -- the cause of each refusal of the input
 abbrev pub IsInputCause : List ℕ → InputRefusal → Type 0
 IsInputCause input TooLong = MAX_INPUT_BYTES < length input
-IsInputCause input NotYet = NoMessage input
+IsInputCause input (NoMessage fault) = IsMessageFault input fault
 
 -- the cause of each refusal of the command
 abbrev pub IsCommandCause : List ℕ → List ℕ → CommandRefusal → Type 0
@@ -88,7 +88,7 @@ command_order (Absent id) = 6
 abbrev pub order_of : Outcome → ℕ
 order_of (Refused Arguments) = 0
 order_of (Refused (Input TooLong)) = 1
-order_of (Refused (Input NotYet)) = 2
+order_of (Refused (Input (NoMessage fault))) = 2
 order_of (Refused (Command refusal)) = command_order refusal
 order_of (Done text) = 7
 order_of (NotOk text) = 8

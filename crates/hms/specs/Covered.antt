@@ -7,7 +7,7 @@ use Rattle.component_ids.specs.declared.params.SigParams.{SigParams}
 use Rattle.component_ids.specs.SignatureParams.{IsSigParams, list_of}
 use Rattle.component_ids.specs.Table.{is_field_name}
 use Rattle.msg_head.specs.Lines.{FieldLine}
-use Rattle.hms.specs.Values.{is_there}
+use Rattle.field_values.specs.Values.{is_there}
 
 -- the text reads as the Inner List of these signature parameters
 pub record ReadsParams (params : List ℕ) (sig : SigParams) : Type 0 where

@@ -7,5 +7,4 @@ pub mod Outcome
 pub mod Refusal
 pub mod Report
 pub mod SignatureBase
-pub mod Values
 pub mod tools

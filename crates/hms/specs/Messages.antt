@@ -1,20 +1,20 @@
--- Messages that are a head alone (RFC 9112 section 6.3).
-use Rattle.std.specs.Prelude.{ℕ, Bool, IsFalse, List, ◌||◌, codes}
-use Rattle.std.specs.List.{list_any}
-use Rattle.msg_head.specs.Heads.{Head, Spells}
-use Rattle.msg_head.specs.Lines.{FieldLine}
-use Rattle.hms.specs.Values.{has_name}
+-- Inputs that are one whole message, and why others aren't (RFC 9112 sections 2.1 and 6.3).
+use Rattle.std.specs.Prelude.{◌≡◌, ◌<◌, ℕ, List, length}
+use Rattle.msg_head.specs.Heads.{IsUnfinished}
+use Rattle.msg_body.specs.Causes.{IsFault}
+use Rattle.msg_body.specs.Messages.{Message, SpellsMessage}
+use Rattle.msg_body.specs.declared.error.MessageFault.{MessageFault}
+use Rattle.msg_body.specs.declared.error.MessageFault.TheVariants.{Refused, Truncated, Trailing}
+use Rattle.msg_body.specs.declared.framing.Expect.TheVariants.{Any}
 
--- the field line says how the content of its message ends
-abbrev pub is_framing_line : FieldLine → Bool
-is_framing_line line =
-    has_name (codes "content-length") line || has_name (codes "transfer-encoding") line
+-- a message of so many bytes, and further bytes
+pub record GoesOn (input : List ℕ) (offset : ℕ) : Type 0 where
+  pub message : Message
+  pub spells : SpellsMessage message offset input
+  pub more : offset < length input
 
--- the bytes are a head without a line that says how the content ends, and nothing more
-pub record IsMessage (head : Head) (bytes : List ℕ) : Type 0 where
-  pub alone : Spells head bytes
-  pub bare : IsFalse (list_any is_framing_line head.lines)
-
--- the bytes are no such message
-abbrev pub NoMessage : List ℕ → Type 0
-NoMessage bytes = (head : Head) → ¬ IsMessage head bytes
+-- why an input isn't one whole message
+abbrev pub IsMessageFault : List ℕ → MessageFault → Type 0
+IsMessageFault input (Refused error) = IsFault Any input error
+IsMessageFault input (Truncated count) = (count ≡ length input) × IsUnfinished input
+IsMessageFault input (Trailing offset) = GoesOn input offset

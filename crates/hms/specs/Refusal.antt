@@ -11,13 +11,42 @@ use Rattle.hms.specs.declared.refusal.TheConstants.{MAX_INPUT_BYTES}
 use Rattle.hms.specs.declared.refusal.Refusal.{Refusal}
 use Rattle.hms.specs.declared.refusal.Refusal.TheVariants.{Arguments, Input, Command}
 use Rattle.hms.specs.declared.refusal.InputRefusal.{InputRefusal}
-use Rattle.hms.specs.declared.refusal.InputRefusal.TheVariants.{TooLong, NotYet}
+use Rattle.hms.specs.declared.refusal.InputRefusal.TheVariants.{TooLong, Message}
+use Rattle.msg_head.specs.declared.error.Side.{Side}
+use Rattle.msg_head.specs.declared.error.Side.TheVariants.{Header, Trailer}
+use Rattle.msg_head.specs.declared.limits.TheConstants.{MAX_HEAD_BYTES, MAX_HEAD_LINES}
+use Rattle.msg_body.specs.declared.error.MessageError.{MessageError}
+use Rattle.msg_body.specs.declared.error.MessageError.TheVariants as message
+use Rattle.msg_body.specs.declared.error.MessageFault.{MessageFault}
+use Rattle.msg_body.specs.declared.error.MessageFault.TheVariants.{Refused, Truncated, Trailing}
 use Rattle.hms.specs.declared.refusal.CommandRefusal.{CommandRefusal}
 use Rattle.hms.specs.declared.refusal.CommandRefusal.TheVariants.{Syntax, ItemKind, Ids, NotYet as NotBuilt, Absent}
 
+-- how a section of field lines is called
+abbrev pub side_text : Side → List ℕ
+side_text Header = codes "head"
+side_text Trailer = codes "trailer"
+
+-- an error of a message, which out of memory is none of
+abbrev pub message_text : MessageError → List ℕ
+message_text message.Memory = []
+message_text (message.TooLong side) =
+    side_text side ++ (codes "-bytes " ++ decimal MAX_HEAD_BYTES)
+message_text (message.NakedEnd offset) = codes "naked-end " ++ decimal offset
+message_text message.BadStart = codes "start-line"
+message_text (message.TooManyLines side) =
+    side_text side ++ (codes "-lines " ++ decimal MAX_HEAD_LINES)
+message_text (message.BadLine side index) = side_text side ++ (codes "-line " ++ decimal index)
+message_text message.NotYet = codes "not-yet"
+
+abbrev pub fault_text : MessageFault → List ℕ
+fault_text (Refused error) = message_text error
+fault_text (Truncated count) = codes "truncated " ++ decimal count
+fault_text (Trailing offset) = codes "not-yet"
+
 abbrev pub input_text : InputRefusal → List ℕ
 input_text TooLong = codes "bytes " ++ decimal MAX_INPUT_BYTES
-input_text NotYet = codes "not-yet"
+input_text (Message fault) = fault_text fault
 
 -- a fault of identifiers, which out of memory is none of
 abbrev pub ids_text : IdFault → List ℕ
@@ -45,8 +74,18 @@ refusal_text (Command refusal) = codes "command " ++ command_text refusal
 abbrev pub refusal_line : Refusal → List ℕ
 refusal_line refusal = codes "refused " ++ (refusal_text refusal ++ codes "\n")
 
+-- a limit of messages is passed
+abbrev pub message_status : MessageError → Status
+message_status (message.TooLong side) = LimitPassed
+message_status (message.TooManyLines side) = LimitPassed
+message_status error = BadInput
+
+abbrev pub fault_status : MessageFault → Status
+fault_status (Refused error) = message_status error
+fault_status fault = BadInput
+
 abbrev pub refusal_status : Refusal → Status
 refusal_status Arguments = BadArguments
 refusal_status (Input TooLong) = LimitPassed
-refusal_status (Input NotYet) = BadInput
+refusal_status (Input (Message fault)) = fault_status fault
 refusal_status (Command refusal) = BadInput

@@ -6,7 +6,7 @@ use Rattle.component_ids.specs.declared.params.SigParams.{SigParams}
 use Rattle.component_ids.specs.Identifiers.{id_text}
 use Rattle.component_ids.specs.SignatureParams.{sig_params_text}
 use Rattle.msg_head.specs.Lines.{FieldLine}
-use Rattle.hms.specs.Values.{combined_value}
+use Rattle.field_values.specs.Values.{combined_value}
 
 -- the text of a component identifier, and the component's value
 pub record Component : Type 0 where

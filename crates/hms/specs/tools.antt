@@ -1,4 +1,3 @@
 pub mod Feed
-pub mod Lines
 pub mod Plain
 pub mod Stops

@@ -3,13 +3,14 @@
 ghost use Rattle.std.specs.Prelude.{◌≡◌, Some, None, IsTrue, IfOk, IfErr, MatchOption};
 ghost use Rattle.std.specs.List.{list_all};
 ghost use Rattle.component_ids.specs.SignatureParams.{are_sig_params_in_range};
+ghost use Rattle.msg_body.specs.Views.{message_of};
 ghost use Rattle.hms.specs.Covered.{ReadsParams, is_plain, first_absent};
 ghost use Rattle.hms.specs.tools.Stops.{IfRefused, IsParamsCause};
 
 use crate::stop::Stop;
 use crate::values::has_line;
 use component_ids::{ComponentId, SigParams, is_field_name, read_params};
-use msg_head::HeadView;
+use msg_body::MessageView;
 use sfv_read::read_inner;
 use std::alloc::Global;
 
@@ -37,12 +38,15 @@ pub fn are_plain(ids: &[ComponentId]) -> bool
 }
 
 /// The first identifier without a field line.
-pub fn first_absent<'s>(head: &HeadView<'_>, ids: &'s [ComponentId]) -> Option<&'s ComponentId>
-    ensures { MatchOption result (first_absent head.now.lines ids.now ≡ None)
-        (λ absent. first_absent head.now.lines ids.now ≡ Some absent.now) }
+pub fn first_absent<'s>(
+    message: &MessageView<'_>,
+    ids: &'s [ComponentId],
+) -> Option<&'s ComponentId>
+    ensures { MatchOption result (first_absent (message_of message.now).head.lines ids.now ≡ None)
+        (λ absent. first_absent (message_of message.now).head.lines ids.now ≡ Some absent.now) }
 {
     for id in ids {
-        if !has_line(head, id.name.bytes()) {
+        if !has_line(message, id.name.bytes()) {
             return Some(id);
         }
     }

@@ -4,10 +4,12 @@ ghost use Rattle.std.specs.Prelude.{◌≡◌, ◌++◌, ◌∷◌, OnOk, IfOk};
 ghost use Rattle.std.specs.Fmt.{decimal};
 ghost use Rattle.std.specs.Str.{byte};
 ghost use Rattle.component_ids.specs.Reasons.{word_of};
-ghost use Rattle.hms.specs.Refusal.{input_text, ids_text, command_text, refusal_text, refusal_line, refusal_status};
+ghost use Rattle.hms.specs.Refusal.{side_text, message_text, fault_text, message_status, fault_status, input_text, ids_text, command_text, refusal_text, refusal_line, refusal_status};
 
 use component_ids::{BadReason, IdFault};
 use hms_io::Status;
+use msg_body::{MessageError, MessageFault};
+use msg_head::{MAX_HEAD_BYTES, MAX_HEAD_LINES, Side};
 use sfv_text::{Memory, Text};
 use std::alloc::Global;
 
@@ -30,8 +32,9 @@ pub enum Refusal {
 pub enum InputRefusal {
     /// It has more than [`MAX_INPUT_BYTES`] bytes.
     TooLong,
-    /// It is no message of the form that is read yet.
-    NotYet,
+    /// It isn't one whole message (RFC 9112 section 2.1). The error of the fault is never out of
+    /// memory.
+    Message(MessageFault),
 }
 
 /// Why a command is refused.
@@ -58,7 +61,7 @@ impl Refusal {
         match self {
             Refusal::Arguments => Status::BadArguments,
             Refusal::Input(InputRefusal::TooLong) => Status::LimitPassed,
-            Refusal::Input(InputRefusal::NotYet) => Status::BadInput,
+            Refusal::Input(InputRefusal::Message(fault)) => fault_status(*fault),
             Refusal::Command(_) => Status::BadInput,
         }
     }
@@ -71,6 +74,25 @@ impl Refusal {
         append_refusal(alloc, self, &mut line)?;
         line.append(b"\n")?;
         Ok(line)
+    }
+}
+
+fn message_status(error: MessageError) -> Status
+    ensures { result ≡ message_status error }
+{
+    match error {
+        MessageError::TooLong(_) => Status::LimitPassed,
+        MessageError::TooManyLines(_) => Status::LimitPassed,
+        _ => Status::BadInput,
+    }
+}
+
+fn fault_status(fault: MessageFault) -> Status
+    ensures { result ≡ fault_status fault }
+{
+    match fault {
+        MessageFault::Refused(error) => message_status(error),
+        _ => Status::BadInput,
     }
 }
 
@@ -104,12 +126,63 @@ fn append_component(
     append_words(b" ", reason.word().as_bytes(), line)
 }
 
+fn append_side(side: Side, line: &mut Text) -> Result<(), Memory>
+    ensures { OnOk result (line.new ≡ line.old ++ side_text side) }
+{
+    match side {
+        Side::Header => line.append(b"head"),
+        Side::Trailer => line.append(b"trailer"),
+    }
+}
+
+fn append_of_side(
+    alloc: Global,
+    side: Side,
+    word: &[u8],
+    number: usize,
+    line: &mut Text,
+) -> Result<(), Memory>
+    ensures { OnOk result
+        (line.new ≡ line.old ++ (side_text side ++ (word.now ++ decimal number))) }
+{
+    append_side(side, line)?;
+    append_number(alloc, word, number, line)
+}
+
+fn append_message(alloc: Global, error: MessageError, line: &mut Text) -> Result<(), Memory>
+    ensures { OnOk result (line.new ≡ line.old ++ message_text error) }
+{
+    match error {
+        MessageError::Memory => Ok(()),
+        MessageError::TooLong(side) => {
+            append_of_side(alloc, side, b"-bytes ", MAX_HEAD_BYTES, line)
+        }
+        MessageError::NakedEnd(offset) => append_number(alloc, b"naked-end ", offset, line),
+        MessageError::BadStart => line.append(b"start-line"),
+        MessageError::TooManyLines(side) => {
+            append_of_side(alloc, side, b"-lines ", MAX_HEAD_LINES, line)
+        }
+        MessageError::BadLine(side, index) => append_of_side(alloc, side, b"-line ", index, line),
+        MessageError::NotYet => line.append(b"not-yet"),
+    }
+}
+
+fn append_fault(alloc: Global, fault: MessageFault, line: &mut Text) -> Result<(), Memory>
+    ensures { OnOk result (line.new ≡ line.old ++ fault_text fault) }
+{
+    match fault {
+        MessageFault::Refused(error) => append_message(alloc, error, line),
+        MessageFault::Truncated(count) => append_number(alloc, b"truncated ", count, line),
+        MessageFault::Trailing(_) => line.append(b"not-yet"),
+    }
+}
+
 fn append_input(alloc: Global, refusal: InputRefusal, line: &mut Text) -> Result<(), Memory>
     ensures { OnOk result (line.new ≡ line.old ++ input_text refusal) }
 {
     match refusal {
         InputRefusal::TooLong => append_number(alloc, b"bytes ", MAX_INPUT_BYTES, line),
-        InputRefusal::NotYet => line.append(b"not-yet"),
+        InputRefusal::Message(fault) => append_fault(alloc, fault, line),
     }
 }
 

@@ -34,6 +34,7 @@ fn run_command<S: Source>(alloc: Global, arguments: &[String], source: &mut S) -
 /// Does what the arguments ask for, over the bytes of the source, and writes the outcome to the
 /// sink: the text that was asked for, or one line that begins `refused ` and ends with LF. The
 /// shelf isn't asked.
+#[tactic(auto, using(crate::proofs::Reports::whole_outcome))]
 pub fn run<F: Shelf, S: Source, K: Sink>(
     alloc: Global,
     arguments: &[String],

@@ -5,6 +5,7 @@ ghost use Rattle.std.specs.Prelude.{◌≡◌};
 use crate::refusal::{CommandRefusal, InputRefusal, Refusal};
 use component_ids::IdFault;
 use hms_io::FillError;
+use msg_body::{MessageError, MessageFault};
 use sfv_read::SfError;
 use sfv_text::Memory;
 
@@ -71,6 +72,21 @@ impl From<IdFault> for Stop {
             IdFault::BadParameter(key) => {
                 Stop::Refused(Refusal::Command(CommandRefusal::Ids(IdFault::BadParameter(key))))
             }
+        }
+    }
+}
+
+/// An error of the input's message.
+impl From<MessageError> for Stop {
+    ghost use Rattle.std.specs.Prelude.{◌≡◌};
+    ghost use Rattle.hms.specs.tools.Stops.{stop_of_message};
+
+    ghost from_gives = { λ error stop. stop ≡ stop_of_message error };
+
+    fn from(error: MessageError) -> Stop {
+        match error {
+            MessageError::Memory => Stop::Memory,
+            _ => Stop::Refused(Refusal::Input(InputRefusal::Message(MessageFault::Refused(error)))),
         }
     }
 }

@@ -80,6 +80,7 @@ fn base_of_one_field_in_pieces_of_any_size(rt: HostRuntime) -> Result<(), Fail> 
 fn bases_of_fields(rt: HostRuntime) -> Result<(), Fail> {
     let joined =
         b"GET / HTTP/1.1\r\nCache-Control: max-age=60\r\nCache-Control:    must-revalidate\r\n\r\n";
+    let folded = b"GET / HTTP/1.1\r\nX-Obs-Fold: Obsolete\r\n    line folding.\r\n\r\n";
     let mixed = b"GET / HTTP/1.0\r\nB:\t 2 \t\r\na:1\r\nb:\r\nA: 3\r\n\r\n";
     let cases = [
         Case {
@@ -94,6 +95,13 @@ fn bases_of_fields(rt: HostRuntime) -> Result<(), Fail> {
             status: Status::Done,
             output: br#""cache-control": max-age=60, must-revalidate
 "@signature-params": ("cache-control")"#,
+        },
+        Case {
+            params: r#"("x-obs-fold")"#,
+            input: folded,
+            status: Status::Done,
+            output: br#""x-obs-fold": Obsolete line folding.
+"@signature-params": ("x-obs-fold")"#,
         },
         Case {
             params: r#"("b" "a")"#,
@@ -179,29 +187,48 @@ fn covered_components_are_refused_by_their_cause(rt: HostRuntime) -> Result<(), 
     Ok(())
 }
 
+// The input is refused by this line, whatever PARAMS are: it is judged first.
+fn assert_input_refused(
+    rt: &impl Abort,
+    alloc: Global,
+    input: &[u8],
+    status: Status,
+    cause: &[u8],
+) -> Result<(), Fail> {
+    let mut line = Vec::from_slice(alloc, b"refused input ")?;
+    line.extend_from_slice(cause)?;
+    line.push(b'\n')?;
+    let case = Case {
+        params: "(",
+        input,
+        status,
+        output: line.as_slice(),
+    };
+    assert_case(rt, alloc, 4096, &case)
+}
+
 #[test]
 fn inputs_that_are_no_message(rt: HostRuntime) -> Result<(), Fail> {
-    let inputs = [
-        b"".as_slice(),
-        b"GET / HTTP/1.1\r\n",
-        b"GET / HTTP/1.1\r\n\r\nx",
-        b"GET  / HTTP/1.1\r\n\r\n",
-        b"GET / HTTP/1.1\nA: b\r\n\r\n",
-        b"GET / HTTP/1.1\r\nA : b\r\n\r\n",
-        b"GET / HTTP/1.1\r\nA: b\r\n c\r\n\r\n",
-        b"GET / HTTP/1.1\r\nContent-Length: 0\r\n\r\n",
-        b"GET / HTTP/1.1\r\ntransfer-ENCODING: chunked\r\n\r\n",
-        b"HTTP/1.1 200 OK\r\n\r\n",
+    let causes = [
+        (b"".as_slice(), b"truncated 0".as_slice()),
+        (b"GET / HTTP/1.1\r\n", b"truncated 16"),
+        (b"GET / HTTP/1.1\r\n\r\nx", b"not-yet"),
+        (b"GET  / HTTP/1.1\r\n\r\n", b"start-line"),
+        (b"GET / HTTP/1.2\r\n\r\n", b"start-line"),
+        (b"GET / HTTP/1.1\nA: b\r\n\r\n", b"naked-end 14"),
+        (b"GET / HTTP/1.1\r\nA: b\0\r\n\r\n", b"naked-end 20"),
+        (b"GET / HTTP/1.1\r\nA : b\r\n\r\n", b"head-line 0"),
+        (b"GET / HTTP/1.1\r\nA: b\r\nC\r\n\r\n", b"head-line 1"),
+        (b"GET / HTTP/1.1\r\n A: b\r\n\r\n", b"head-line 0"),
+        (b"GET / HTTP/1.1\r\nContent-Length: 0\r\n\r\n", b"not-yet"),
+        (
+            b"GET / HTTP/1.1\r\ntransfer-ENCODING: x\r\n\r\n",
+            b"not-yet",
+        ),
+        (b"HTTP/1.1 200 OK\r\n\r\n", b"not-yet"),
     ];
-    for input in &inputs {
-        // the input is judged before PARAMS
-        let case = Case {
-            params: "(",
-            input: *input,
-            status: Status::BadInput,
-            output: b"refused input not-yet\n",
-        };
-        assert_case(&rt, rt.alloc(), 4096, &case)?;
+    for (input, cause) in &causes {
+        assert_input_refused(&rt, rt.alloc(), *input, Status::BadInput, *cause)?;
     }
     Ok(())
 }
@@ -232,21 +259,15 @@ fn longest_head_and_one_byte_more(rt: HostRuntime) -> Result<(), Fail> {
     let mut base = Vec::from_slice(alloc, br#""x": "#)?;
     base.extend_from_slice(letters.as_slice())?;
     base.extend_from_slice(b"\n\"@signature-params\": (\"x\")")?;
-    let cases = [
-        Case {
-            params: r#"("x")"#,
-            input: longest.as_slice(),
-            status: Status::Done,
-            output: base.as_slice(),
-        },
-        Case {
-            params: r#"("x")"#,
-            input: longer.as_slice(),
-            status: Status::BadInput,
-            output: b"refused input not-yet\n",
-        },
-    ];
-    assert_cases(&rt, alloc, &cases)
+    let case = Case {
+        params: r#"("x")"#,
+        input: longest.as_slice(),
+        status: Status::Done,
+        output: base.as_slice(),
+    };
+    assert_case(&rt, alloc, 4096, &case)?;
+    let cause = b"head-bytes 65536";
+    assert_input_refused(&rt, alloc, longer.as_slice(), Status::LimitPassed, cause)
 }
 
 #[test]
@@ -259,34 +280,23 @@ fn most_field_lines_and_one_more(rt: HostRuntime) -> Result<(), Fail> {
     let mut more = Vec::from_slice(alloc, most.as_slice())?;
     most.extend_from_slice(b"\r\n")?;
     more.extend_from_slice(b"a:\r\n\r\n")?;
-    let cases = [
-        Case {
-            params: "()",
-            input: most.as_slice(),
-            status: Status::Done,
-            output: br#""@signature-params": ()"#,
-        },
-        Case {
-            params: "()",
-            input: more.as_slice(),
-            status: Status::BadInput,
-            output: b"refused input not-yet\n",
-        },
-    ];
-    assert_cases(&rt, alloc, &cases)
+    let case = Case {
+        params: "()",
+        input: most.as_slice(),
+        status: Status::Done,
+        output: br#""@signature-params": ()"#,
+    };
+    assert_case(&rt, alloc, 4096, &case)?;
+    let cause = b"head-lines 256";
+    assert_input_refused(&rt, alloc, more.as_slice(), Status::LimitPassed, cause)
 }
 
 #[test]
 fn input_past_its_limit(rt: HostRuntime) -> Result<(), Fail> {
     let alloc = rt.alloc();
     let mut input = vec![in alloc; b'a'; 16_777_216]?;
-    let longest = Case {
-        params: "()",
-        input: input.as_slice(),
-        status: Status::BadInput,
-        output: b"refused input not-yet\n",
-    };
-    assert_case(&rt, alloc, 4096, &longest)?;
+    let cause = b"head-bytes 65536";
+    assert_input_refused(&rt, alloc, input.as_slice(), Status::LimitPassed, cause)?;
     input.push(b'a')?;
     let longer = Case {
         params: "(",

@@ -1,144 +1,121 @@
--- Bytes begin with at most one request line, field line and head.
-use Rattle.std.proofs.Common.{◌≡◌, ℕ, true, ◌⊎◌, inl, inr, List, [], ◌∷◌, ◌++◌, length, drop, refl, sym, ap, ◌∙◌, arith, append_assoc, length-drop, codes}
-use Rattle.std.specs.List.{list_all, flat_map}
-use Rattle.std.proofs.lemmas.Bool.{and_parts, or_cases, false≢true}
-use Rattle.std.proofs.lemmas.List.{append-nil, append_cancel_left, length-take-le, take-append-drop}
-use Rattle.std.proofs.lemmas.Slice.Eq.{bytes_eq-Decides}
-use Rattle.byte_classes.specs.Classes.{is_tchar, is_visible}
-use Rattle.msg_head.specs.RawValues.{is_raw}
-use Rattle.msg_head.specs.Lines.{FieldLine, is_line, line_text}
-use Rattle.msg_head.specs.Starts.{RequestLine, IsRequestLine, is_version, request_text, StartLine, request, IsStartLine, start_text}
-use Rattle.msg_head.specs.Heads.{Head, IsHead, SpellsHead, head_text}
+-- Bytes begin with at most one head.
+use Rattle.std.proofs.Common.{◌≡◌, ℕ, Bool, true, false, ◌==◌, not, inl, inr, List, [], ◌∷◌, ◌++◌, length, drop, Option, Some, None, refl, sym, subst, ap, ◌∙◌, arith}
+use Rattle.std.specs.List.{list_all}
+use Rattle.std.proofs.lemmas.Bool.{and_parts, and_from, cases_Bool, eqb-true, false≢true}
+use Rattle.std.proofs.lemmas.List.{append-nil, append_cancel_right, take-append-drop, length-take-le}
+use Rattle.std.proofs.lemmas.List.Folds.{list_all-append}
+use Rattle.byte_classes.specs.Classes.{is_digit, is_tchar, is_visible}
+use Rattle.msg_head.specs.RawValues.{Pieces, is_line_byte}
+use Rattle.msg_head.specs.Lines.{FieldLine}
+use Rattle.msg_head.specs.Starts.{StartLine, request, status, RequestLine, IsRequestLine, StatusLine, IsStatusLine, IsStartLine, start_text, reason_text, request_text, status_text}
+use Rattle.msg_head.specs.Cuts.{MakesLine}
+use Rattle.msg_head.specs.Heads.{Head, IsHead, head_text}
 use Rattle.msg_head.specs.Laws.{OneHead, OneHeadOfText, NoHeadInPrefix}
 use Rattle.msg_head.proofs.Prefixes.{outside, one_prefix}
-
--- ---- field lines
-
-pub opened_line : (line : FieldLine) (more : List ℕ) → line_text line ++ more ≡ line.name ++ 58 ∷ (line.raw ++ 13 ∷ 10 ∷ more)
-opened_line line more =
-    append_assoc line.name (58 ∷ (line.raw ++ 13 ∷ 10 ∷ [])) more ∙ ap (λ (s : List ℕ). line.name ++ 58 ∷ s) (append_assoc line.raw (13 ∷ 10 ∷ []) more)
-
--- bytes begin with at most one field line
-pub one_line : (one other : FieldLine) (more rest : List ℕ) → is_line one ≡ true → is_line other ≡ true → line_text one ++ more ≡ line_text other ++ rest → (one ≡ other) × (more ≡ rest)
-one_line one other more rest a b e =
-    let p = and_parts _ _ a in
-    let q = and_parts _ _ b in
-    let names = one_prefix is_tchar 58 one.name other.name (one.raw ++ 13 ∷ 10 ∷ more) (other.raw ++ 13 ∷ 10 ∷ rest) refl (and_parts _ _ p.0).1 (and_parts _ _ q.0).1 (sym (opened_line one more) ∙ e ∙ opened_line other rest) in
-    let raws = one_prefix is_raw 13 one.raw other.raw (10 ∷ more) (10 ∷ rest) refl p.1 q.1 names.1 in
-    (λ i. record { name = names.0 i; raw = raws.0 i }, append_cancel_left (10 ∷ []) more rest raws.1)
-
-line_begins : (name raw a b : List ℕ) → is_line (record { name = name; raw = raw }) ≡ true → line_text (record { name = name; raw = raw }) ++ a ≡ 13 ∷ b → ⊥
-line_begins [] raw a b is e = false≢true is
-line_begins (x ∷ xs) raw a b is e =
-    let first : x ≡ 13 = cc in outside is_tchar x 13 (and_parts _ _ (and_parts _ _ (and_parts _ _ is).0).1).0 refl first
-
--- no field line begins with a CR
-pub line_not_end : (line : FieldLine) (a b : List ℕ) → is_line line ≡ true → line_text line ++ a ≡ 13 ∷ b → ⊥
-line_not_end line a b is e = line_begins line.name line.raw a b is e
-
--- The lines are those that are done and others, which are left.
-pub record GoesOn (done lines : List FieldLine) (left more : List ℕ) : Type 0 where
-  pub others : List FieldLine
-  pub lines_are : lines ≡ done ++ others
-  pub each : list_all is_line others ≡ true
-  pub rest : left ≡ flat_map line_text others ++ 13 ∷ 10 ∷ more
-
--- field lines that bytes begin with are the first of all the field lines that stand there
-pub lines_on : (done lines : List FieldLine) (left more : List ℕ) → list_all is_line done ≡ true → list_all is_line lines ≡ true → flat_map line_text done ++ left ≡ flat_map line_text lines ++ 13 ∷ 10 ∷ more → GoesOn done lines left more
-lines_on [] lines left more a b e = record { others = lines; lines_are = refl; each = b; rest = e }
-lines_on (d ∷ ds) [] left more a b e =
-    absurd (line_not_end d (flat_map line_text ds ++ left) (10 ∷ more) (and_parts _ _ a).0 (sym (append_assoc (line_text d) (flat_map line_text ds) left) ∙ e))
-lines_on (d ∷ ds) (l ∷ ls) left more a b e =
-    let p = and_parts _ _ a in
-    let q = and_parts _ _ b in
-    let separated = sym (append_assoc (line_text d) (flat_map line_text ds) left) ∙ e ∙ append_assoc (line_text l) (flat_map line_text ls) (13 ∷ 10 ∷ more) in
-    let same = one_line d l (flat_map line_text ds ++ left) (flat_map line_text ls ++ 13 ∷ 10 ∷ more) p.0 q.0 separated in
-    let on = lines_on ds ls left more p.1 q.1 same.1 in
-    record { others = on.others; lines_are = λ i. sym same.0 i ∷ on.lines_are i; each = on.each; rest = on.rest }
-
--- where an empty line stands, no lines are left
-none_left : (others : List FieldLine) (more rest : List ℕ) → list_all is_line others ≡ true → 13 ∷ 10 ∷ more ≡ flat_map line_text others ++ 13 ∷ 10 ∷ rest → (others ≡ []) × (more ≡ rest)
-none_left [] more rest a e = (refl, cc)
-none_left (l ∷ ls) more rest a e =
-    absurd (line_not_end l (flat_map line_text ls ++ 13 ∷ 10 ∷ rest) (10 ∷ more) (and_parts _ _ a).0 (sym (append_assoc (line_text l) (flat_map line_text ls) (13 ∷ 10 ∷ rest)) ∙ sym e))
-
--- bytes begin with at most one list of field lines before an empty line
-pub one_lines : (one other : List FieldLine) (more rest : List ℕ) → list_all is_line one ≡ true → list_all is_line other ≡ true → flat_map line_text one ++ 13 ∷ 10 ∷ more ≡ flat_map line_text other ++ 13 ∷ 10 ∷ rest → (one ≡ other) × (more ≡ rest)
-one_lines one other more rest a b e =
-    let on = lines_on one other (13 ∷ 10 ∷ more) rest a b e in
-    let end = none_left on.others more rest on.each on.rest in
-    (sym (on.lines_are ∙ ap (λ (x : List FieldLine). one ++ x) end.0 ∙ append-nil one), end.1)
+use Rattle.msg_head.proofs.StartParts.{one_request, opened_request, version_is, version_visible}
+use Rattle.msg_head.proofs.StatusParts.{opened_status, clean_code}
+use Rattle.msg_head.proofs.LineLaws.{one_cut}
+use Rattle.msg_head.proofs.HeadParts.{AreMade, head_cut, spelled_first, used_is}
 
 -- ---- start lines
 
-version_is : (version : List ℕ) → is_version version ≡ true → (version ≡ codes "HTTP/1.1") ⊎ (version ≡ codes "HTTP/1.0")
-version_is version is = elim (or_cases _ _ is) [
-  | inl e ↦ inl ((bytes_eq-Decides version (codes "HTTP/1.1")).0 e)
-  | inr e ↦ inr ((bytes_eq-Decides version (codes "HTTP/1.0")).0 e)
-]
+one_code : (code other : List ℕ) (r s : Option (List ℕ)) → list_all is_digit code ≡ true → list_all is_digit other ≡ true → code ++ reason_text r ≡ other ++ reason_text s → (code ≡ other) × (r ≡ s)
+one_code code other None None a b e = (sym (append-nil code) ∙ e ∙ append-nil other, refl)
+one_code code other (Some r) (Some s) a b e =
+    let same = one_prefix is_digit 32 code other r s refl a b e in (same.0, ap Some same.1)
+one_code code other (Some r) None a b e = absurd (not_all code r (ap (list_all is_digit) (e ∙ append-nil other) ∙ b))
+  where
+    not_all : (code r : List ℕ) → list_all is_digit (code ++ 32 ∷ r) ≡ true → ⊥
+    not_all code r h = false≢true (and_parts (list_all is_digit code) false (sym (list_all-append is_digit code (32 ∷ r)) ∙ h)).1
+one_code code other None (Some s) a b e = absurd (not_all other s (ap (list_all is_digit) (sym e ∙ append-nil code) ∙ a))
+  where
+    not_all : (code r : List ℕ) → list_all is_digit (code ++ 32 ∷ r) ≡ true → ⊥
+    not_all code r h = false≢true (and_parts (list_all is_digit code) false (sym (list_all-append is_digit code (32 ∷ r)) ∙ h)).1
 
-pub version_visible : (version : List ℕ) → is_version version ≡ true → list_all is_visible version ≡ true
-version_visible version is = elim (version_is version is) [
-  | inl e ↦ ap (list_all is_visible) e
-  | inr e ↦ ap (list_all is_visible) e
-]
+one_status : (one other : StatusLine) (more rest : List ℕ) → IsStatusLine one → IsStatusLine other → status_text one ++ more ≡ status_text other ++ rest → one ≡ other
+one_status one other more rest a b e =
+    let versions = one_prefix is_visible 32 one.version other.version ((one.code ++ reason_text one.reason) ++ 13 ∷ 10 ∷ more) ((other.code ++ reason_text other.reason) ++ 13 ∷ 10 ∷ rest) refl (version_visible one.version a.version) (version_visible other.version b.version) (sym (opened_status one more) ∙ e ∙ opened_status other rest) in
+    let texts = one_prefix is_line_byte 13 (one.code ++ reason_text one.reason) (other.code ++ reason_text other.reason) (10 ∷ more) (10 ∷ rest) refl (clean_code one a) (clean_code other b) versions.1 in
+    let codes_are = one_code one.code other.code one.reason other.reason (and_parts _ _ a.code).1 (and_parts _ _ b.code).1 texts.0 in
+    λ i. record { version = versions.0 i; code = codes_are.0 i; reason = codes_are.1 i }
 
--- a version has eight bytes
-pub length-version : (version : List ℕ) → is_version version ≡ true → length version ≡ 8
-length-version version is = elim (version_is version is) [ inl e ↦ ap (length {A = ℕ}) e | inr e ↦ ap (length {A = ℕ}) e ]
+abbrev is_other : ℕ → Bool
+is_other c = not (c == 32)
 
-pub opened_request : (line : RequestLine) (more : List ℕ) → request_text line ++ more ≡ line.method ++ 32 ∷ (line.target ++ 32 ∷ (line.version ++ 13 ∷ 10 ∷ more))
-opened_request line more =
-    append_assoc line.method (32 ∷ (line.target ++ 32 ∷ (line.version ++ 13 ∷ 10 ∷ []))) more
-    ∙ ap (λ (s : List ℕ). line.method ++ 32 ∷ s) (append_assoc line.target (32 ∷ (line.version ++ 13 ∷ 10 ∷ [])) more
-    ∙ ap (λ (s : List ℕ). line.target ++ 32 ∷ s) (append_assoc line.version (13 ∷ 10 ∷ []) more))
+others_of : (test : ℕ → Bool) (text : List ℕ) → test 32 ≡ false → list_all test text ≡ true → list_all is_other text ≡ true
+others_of test [] out is = refl
+others_of test (c ∷ cs) out is =
+    let both = and_parts (test c) (list_all test cs) is in
+    and_from (is_other c) (list_all is_other cs) (elim (cases_Bool (c == 32)) [
+      | inl e ↦ absurd (outside test c 32 both.0 out (eqb-true c 32 e))
+      | inr e ↦ ap not e
+    ]) (others_of test cs out both.1)
 
--- bytes begin with at most one request line
-pub one_request : (one other : RequestLine) (more rest : List ℕ) → IsRequestLine one → IsRequestLine other → request_text one ++ more ≡ request_text other ++ rest → (one ≡ other) × (more ≡ rest)
-one_request one other more rest a b e =
-    let methods = one_prefix is_tchar 32 one.method other.method (one.target ++ 32 ∷ (one.version ++ 13 ∷ 10 ∷ more)) (other.target ++ 32 ∷ (other.version ++ 13 ∷ 10 ∷ rest)) refl (and_parts _ _ a.method).1 (and_parts _ _ b.method).1 (sym (opened_request one more) ∙ e ∙ opened_request other rest) in
-    let targets = one_prefix is_visible 32 one.target other.target (one.version ++ 13 ∷ 10 ∷ more) (other.version ++ 13 ∷ 10 ∷ rest) refl (and_parts _ _ a.target).1 (and_parts _ _ b.target).1 methods.1 in
-    let versions = one_prefix is_visible 13 one.version other.version (10 ∷ more) (10 ∷ rest) refl (version_visible one.version a.version) (version_visible other.version b.version) targets.1 in
-    (λ i. record { method = methods.0 i; target = targets.0 i; version = versions.0 i }, append_cancel_left (10 ∷ []) more rest versions.1)
+-- no request line is a status line: a version is no token
+not_both : (line : RequestLine) (other : StatusLine) (more rest : List ℕ) → IsRequestLine line → IsStatusLine other → request_text line ++ more ≡ status_text other ++ rest → ⊥
+not_both line other more rest a b e =
+    let tokens = (and_parts _ _ a.method).1 in
+    let same = one_prefix is_other 32 line.method other.version (line.target ++ 32 ∷ (line.version ++ 13 ∷ 10 ∷ more)) ((other.code ++ reason_text other.reason) ++ 13 ∷ 10 ∷ rest) refl (others_of is_tchar line.method refl tokens) (others_of is_visible other.version refl (version_visible other.version b.version)) (sym (opened_request line more) ∙ e ∙ opened_status other rest) in
+    let token : list_all is_tchar other.version ≡ true = ap (list_all is_tchar) (sym same.0) ∙ tokens in
+    elim (version_is other.version b.version) [
+      | inl one ↦ false≢true (sym (ap (list_all is_tchar) one) ∙ token)
+      | inr one ↦ false≢true (sym (ap (list_all is_tchar) one) ∙ token)
+    ]
 
--- bytes begin with at most one start line
-pub one_start : (one other : StartLine) (more rest : List ℕ) → IsStartLine one → IsStartLine other → start_text one ++ more ≡ start_text other ++ rest → (one ≡ other) × (more ≡ rest)
-one_start (request one) (request other) more rest a b e =
-    let same = one_request one other more rest a b e in (ap request same.0, same.1)
+pub one_start : (one other : StartLine) (more rest : List ℕ) → IsStartLine one → IsStartLine other → start_text one ++ more ≡ start_text other ++ rest → one ≡ other
+one_start (request one) (request other) more rest a b e = ap request (one_request one other more rest a b e).0
+one_start (status one) (status other) more rest a b e = ap status (one_status one other more rest a b e)
+one_start (request one) (status other) more rest a b e = absurd (not_both one other more rest a b e)
+one_start (status one) (request other) more rest a b e = absurd (not_both other one rest more b a (sym e))
+
+-- ---- field lines
+
+pub one_made : (cut : Pieces) (one other : FieldLine) → MakesLine cut one → MakesLine cut other → one ≡ other
+one_made cut one other a b =
+    let names = one_prefix is_tchar 58 one.name other.name (one.raw ++ 13 ∷ 10 ∷ []) (other.raw ++ 13 ∷ 10 ∷ []) refl (and_parts _ _ a.is.name).1 (and_parts _ _ b.is.name).1 (sym a.text ∙ b.text) in
+    let raws = append_cancel_right one.raw other.raw (13 ∷ 10 ∷ []) names.1 in
+    λ i. record { name = names.0 i; raw = raws i }
+
+one_lines_made : (cuts others : List Pieces) (ls ms : List FieldLine) → cuts ≡ others → AreMade cuts ls → AreMade others ms → ls ≡ ms
+one_lines_made [] [] [] [] e a b = refl
+one_lines_made (c ∷ cs) (d ∷ ds) (l ∷ ls) (m ∷ ms) e a b =
+    let first : c ≡ d = cc in
+    let rest : cs ≡ ds = cc in
+    let same = one_made d l m (subst (λ (x : Pieces). MakesLine x l) first a.0) b.0 in
+    let others = one_lines_made cs ds ls ms rest a.1 b.1 in
+    λ i. same i ∷ others i
+one_lines_made (c ∷ cs) [] ls ms e a b = absurd cc
+one_lines_made [] (d ∷ ds) ls ms e a b = absurd cc
+one_lines_made [] [] (l ∷ ls) ms e a b = absurd a
+one_lines_made [] [] [] (m ∷ ms) e a b = absurd b
+one_lines_made (c ∷ cs) (d ∷ ds) [] ms e a b = absurd a
+one_lines_made (c ∷ cs) (d ∷ ds) (l ∷ ls) [] e a b = absurd b
 
 -- ---- heads
 
-pub opened_head : (head : Head) (more : List ℕ) → head_text head ++ more ≡ start_text head.start ++ (flat_map line_text head.lines ++ 13 ∷ 10 ∷ more)
-opened_head head more =
-    append_assoc (start_text head.start) (flat_map line_text head.lines ++ 13 ∷ 10 ∷ []) more
-    ∙ ap (λ (s : List ℕ). start_text head.start ++ s) (append_assoc (flat_map line_text head.lines) (13 ∷ 10 ∷ []) more)
-
--- bytes begin with at most one head
-pub one_head : (one other : Head) (more rest : List ℕ) → IsHead one → IsHead other → head_text one ++ more ≡ head_text other ++ rest → (one ≡ other) × (more ≡ rest)
-one_head one other more rest a b e =
-    let starts = one_start one.start other.start (flat_map line_text one.lines ++ 13 ∷ 10 ∷ more) (flat_map line_text other.lines ++ 13 ∷ 10 ∷ rest) a.start b.start (sym (opened_head one more) ∙ e ∙ opened_head other rest) in
-    let lines = one_lines one.lines other.lines more rest a.lines b.lines starts.1 in
-    (λ i. record { start = starts.0 i; lines = lines.0 i }, lines.1)
-
--- the bytes are the text of the head that they begin with, and what is left
-pub spelled_first : (head : Head) (used : ℕ) (bytes : List ℕ) → SpellsHead head used bytes → bytes ≡ head_text head ++ drop used bytes
-spelled_first head used bytes s = sym (take-append-drop used bytes) ∙ ap (λ (x : List ℕ). x ++ drop used bytes) s.spells.text
-
--- and as many are used as the text has
-pub used_is : (head : Head) (used : ℕ) (bytes : List ℕ) → SpellsHead head used bytes → used ≡ length (head_text head)
-used_is head used bytes s = sym (length-take-le used bytes s.within) ∙ ap (length {A = ℕ}) s.spells.text
+pub one_head : (one other : Head) (more rest bytes : List ℕ) → IsHead one → IsHead other → bytes ≡ head_text one ++ more → bytes ≡ head_text other ++ rest → one ≡ other
+one_head one other more rest bytes a b e f =
+    let p = head_cut one more bytes a e in
+    let q = head_cut other rest bytes b f in
+    let same = one_cut p.start.text q.start.text p.lines.cuts q.lines.cuts bytes p.cut q.cut in
+    let texts : start_text one.start ++ [] ≡ start_text other.start ++ [] =
+    ap (λ (x : List ℕ). x ++ []) (p.start.is ∙ ap (λ (x : List ℕ). x ++ 13 ∷ 10 ∷ []) same.0 ∙ sym q.start.is) in
+    let starts = one_start one.start other.start [] [] a.start b.start texts in
+    let lines = one_lines_made p.lines.cuts q.lines.cuts one.lines other.lines same.1 p.lines.made q.lines.made in
+    λ i. record { start = starts i; lines = lines i }
 
 pub one_head_law : OneHead
 one_head_law bytes one other n m a b =
-    let same = one_head one other (drop n bytes) (drop m bytes) a.spells.is b.spells.is (sym (spelled_first one n bytes a) ∙ spelled_first other m bytes b) in
-    (same.0, used_is one n bytes a ∙ ap (λ (h : Head). length (head_text h)) same.0 ∙ sym (used_is other m bytes b))
+    let same = one_head one other (drop n bytes) (drop m bytes) bytes a.spells.is b.spells.is (spelled_first one n bytes a) (spelled_first other m bytes b) in
+    (same, used_is one n bytes a ∙ ap (λ (h : Head). length (head_text h)) same ∙ sym (used_is other m bytes b))
 
 pub one_head_of_text_law : OneHeadOfText
-one_head_of_text_law bytes one other a b = (one_head one other [] [] a.is b.is (ap (λ (x : List ℕ). x ++ []) (sym a.text ∙ b.text))).0
+one_head_of_text_law bytes one other a b =
+    one_head one other [] [] bytes a.is b.is (a.text ∙ sym (append-nil (head_text one))) (b.text ∙ sym (append-nil (head_text other)))
 
 pub no_head_in_prefix_law : NoHeadInPrefix
 no_head_in_prefix_law one other n a b low e =
     let text = head_text other in
-    let separated : head_text one ++ drop n text ≡ text ++ [] = ap (λ (x : List ℕ). x ++ drop n text) (sym e) ∙ take-append-drop n text ∙ sym (append-nil text) in
-    let left = ap (length {A = ℕ}) (one_head one other (drop n text) [] a b separated).1 in
-    omega (arith, left, length-drop n text)
+    let same = one_head one other (drop n text) [] text a b (sym (take-append-drop n text) ∙ ap (λ (x : List ℕ). x ++ drop n text) e) (sym (append-nil text)) in
+    let size : n ≡ length (head_text one) = sym (length-take-le n text (omega (arith, low))) ∙ ap (length {A = ℕ}) e in
+    omega (arith, low, size, ap (λ (h : Head). length (head_text h)) same)

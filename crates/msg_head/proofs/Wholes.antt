@@ -1,82 +1,99 @@
 -- A whole head, joined from its parts.
-use Rattle.std.proofs.Common.{◌≡◌, ℕ, ◌≤◌, ◌-◌, List, ◌∷◌, ◌++◌, length, map, take, drop, sym, ap, ◌∙◌, arith, length-append, length-take}
+use Rattle.std.proofs.Common.{◌≡◌, ℕ, ◌-◌, ◌<◌, ◌≤◌, List, [], ◌∷◌, ◌++◌, length, map, take, drop, refl, sym, subst, ap, ◌∙◌, arith, length-append, length-take, append_assoc}
 use Rattle.std.specs.List.{flat_map}
-use Rattle.std.proofs.Math.Seq.{take-append_seam}
-use Rattle.std.proofs.lemmas.List.{take-append-drop, take-append-le, length-map}
+use Rattle.std.proofs.Math.Seq.{take-append_seam, drop-append_seam}
+use Rattle.std.proofs.lemmas.List.{append-nil, take_all, take-append-drop, length-map}
 use Rattle.msg_head.specs.declared.limits.TheConstants.{MAX_HEAD_BYTES}
 use Rattle.msg_head.specs.declared.line.LineSpan.{LineSpan}
 use Rattle.msg_head.specs.Lines.{line_text}
 use Rattle.msg_head.specs.Starts.{StartLine, start_text}
-use Rattle.msg_head.specs.Heads.{Head, SpellsHead, BeginsWithNone, head_text}
-use Rattle.msg_head.specs.Views.{line_at}
-use Rattle.msg_head.specs.tools.Prefixes.{BeginsWithStart, BeginsWithNoStart}
-use Rattle.msg_head.specs.tools.Sections.{BeginsWithLines, BeginsWithNoLines}
-use Rattle.msg_head.proofs.OneHeads.{one_start, opened_head, spelled_first, used_is}
+use Rattle.msg_head.specs.Cuts.{HasNoEnd, IsSection}
+use Rattle.msg_head.specs.Heads.{Head, Spells, SpellsHead, IsUnfinished, head_text}
+use Rattle.msg_head.specs.Views.{View, line_at, head_of, FollowEachOther, IsViewOf}
+use Rattle.msg_head.specs.Causes.{IsTooLong}
+use Rattle.msg_head.specs.tools.Prefixes.{BeginsWithStart}
+use Rattle.msg_head.specs.tools.Sections.{IsRestOf, AreSpansOf}
+use Rattle.msg_head.specs.tools.Judged.{IsSectionView}
 
--- a start line, and after it field lines and an empty line
-pub whole_head : (bytes rest after : List ℕ) (start : StartLine) (spans : List LineSpan) → length bytes ≤ MAX_HEAD_BYTES → BeginsWithStart start rest bytes → BeginsWithLines bytes spans after rest → SpellsHead (record { start = start; lines = map (line_at bytes) spans }) (length bytes - length after) bytes
-whole_head bytes rest after start spans short b s =
-    let head : Head = record { start = start; lines = map (line_at bytes) spans } in
-    let joined : bytes ≡ head_text head ++ after =
-    b.joined ∙ ap (λ (x : List ℕ). start_text start ++ x) s.joined ∙ sym (opened_head head after) in
-    let sizes = ap (length {A = ℕ}) joined ∙ length-append (head_text head) after in
-    let used : length bytes - length after ≡ length (head_text head) = omega (arith, sizes) in
+-- what comes after the start line is a rest of the bytes
+pub rest_of_start : (bytes rest : List ℕ) (start : StartLine) → BeginsWithStart start rest bytes → IsRestOf bytes rest
+rest_of_start bytes rest start b =
+    let size = ap (length {A = ℕ}) b.joined ∙ length-append (start_text start) rest in
     record {
-      within = omega arith;
-      spells = record {
-        is = record { start = b.is; lines = s.each; few = omega (arith, s.few, length-map spans (line_at bytes)); short = omega (arith, sizes, short) };
-        text = ap (λ k. take k bytes) used ∙ ap (λ (x : List ℕ). take (length (head_text head)) x) joined ∙ take-append_seam (head_text head) after;
-      };
+      within = omega (arith, size);
+      is =
+          sym (drop-append_seam (start_text start) rest)
+          ∙ ap (λ (x : List ℕ). drop (length (start_text start)) x) (sym b.joined)
+          ∙ ap (λ k. drop k bytes) (omega (arith, size));
     }
 
--- ---- where no head is
-
-spelled_start : (head : Head) (used : ℕ) (bytes : List ℕ) → SpellsHead head used bytes → BeginsWithStart head.start (flat_map line_text head.lines ++ 13 ∷ 10 ∷ drop used bytes) bytes
-spelled_start head used bytes s = record { is = s.spells.is.start; joined = spelled_first head used bytes s ∙ opened_head head (drop used bytes) }
-
-pub no_start : (bytes : List ℕ) → BeginsWithNoStart bytes → BeginsWithNone bytes
-no_start bytes none head used s = none head.start _ (spelled_start head used bytes s)
-
-pub no_whole : (bytes rest : List ℕ) (start : StartLine) → BeginsWithStart start rest bytes → BeginsWithNoLines rest → BeginsWithNone bytes
-no_whole bytes rest start b none head used s =
-    let there = spelled_start head used bytes s in
-    let same = one_start start head.start rest (flat_map line_text head.lines ++ 13 ∷ 10 ∷ drop used bytes) b.is there.is (sym b.joined ∙ there.joined) in
-    none head.lines (drop used bytes) s.spells.is.lines s.spells.is.few same.1
+pub section_view : (section rest : List ℕ) (start : StartLine) (spans : List LineSpan) → length section ≤ MAX_HEAD_BYTES → BeginsWithStart start rest section → AreSpansOf section spans rest → IsSectionView (record { bytes = section; start = start; spans = spans }) section
+section_view section rest start spans short b s =
+    let head : Head = record { start = start; lines = map (line_at section) spans } in
+    let text : section ≡ head_text head = b.joined ∙ ap (λ (x : List ℕ). start_text start ++ x) s.joined in
+    let size = ap (length {A = ℕ}) b.joined ∙ length-append (start_text start) rest in
+    let rest_size = ap (length {A = ℕ}) s.joined ∙ length-append (flat_map line_text (map (line_at section) spans)) (13 ∷ 10 ∷ []) in
+    let from : length section - length rest ≡ length (start_text start) = omega (arith, size) in
+    record {
+      bytes_are = refl;
+      spells = record {
+        is = record { start = b.is; lines = s.each; few = omega (arith, s.few, length-map spans (line_at section)); short = omega (arith, short, ap (length {A = ℕ}) text) };
+        text = text;
+      };
+      fills = (
+        length section - 2,
+        subst (λ (n : ℕ). FollowEachOther n spans (length section - 2)) from s.follow,
+        omega (arith, size, rest_size),
+      );
+    }
 
 -- ---- the bytes that a head may have
 
 pub length-prefix : (count : ℕ) (bytes prefix : List ℕ) → prefix ≡ take count bytes → length prefix ≤ count
 length-prefix count bytes prefix is = omega (arith, ap (length {A = ℕ}) is, length-take {A = ℕ} count bytes)
 
-pub spelled_wider : (head : Head) (used count : ℕ) (bytes prefix : List ℕ) → prefix ≡ take count bytes → SpellsHead head used prefix → SpellsHead head used bytes
-spelled_wider head used count bytes prefix is s =
-    let low : used ≤ length (take count bytes) = omega (arith, s.within, ap (length {A = ℕ}) is) in
-    record {
-      within = omega (arith, low, length-take {A = ℕ} count bytes);
-      spells = record {
-        is = s.spells.is;
-        text =
-            ap (λ (x : List ℕ). take used x) (sym (take-append-drop count bytes))
-            ∙ take-append-le used (take count bytes) (drop count bytes) low
-            ∙ ap (λ (x : List ℕ). take used x) (sym is)
-            ∙ s.spells.text;
-      };
-    }
+-- a section of the first bytes is one of the bytes
+pub wider_section : (count : ℕ) (bytes prefix section : List ℕ) → prefix ≡ take count bytes → IsSection prefix section → IsSection bytes section
+wider_section count bytes prefix section is s = record {
+  more = s.more ++ drop count bytes;
+  joined =
+      sym (take-append-drop count bytes) ∙ ap (λ (x : List ℕ). x ++ drop count bytes) (sym is ∙ s.joined) ∙ append_assoc section s.more (drop count bytes);
+  before = s.before;
+  ends = s.ends;
+  first = s.first;
+}
 
-pub spelled_within : (head : Head) (used : ℕ) (bytes prefix : List ℕ) → prefix ≡ take MAX_HEAD_BYTES bytes → SpellsHead head used bytes → SpellsHead head used prefix
-spelled_within head used bytes prefix is s = in_prefix MAX_HEAD_BYTES is s.spells.is.short
+pub section_short : (count : ℕ) (bytes prefix section : List ℕ) → prefix ≡ take count bytes → IsSection prefix section → length section ≤ count
+section_short count bytes prefix section is s =
+    omega (arith, length-prefix count bytes prefix is, ap (length {A = ℕ}) s.joined, length-append section s.more)
+
+pub own_section : (bytes section : List ℕ) → IsSection bytes section → IsSection section section
+own_section bytes section s = record { more = []; joined = sym (append-nil section); before = s.before; ends = s.ends; first = s.first }
+
+-- where no end is among the first bytes
+pub unfinished : (bytes prefix : List ℕ) → prefix ≡ take MAX_HEAD_BYTES bytes → HasNoEnd prefix → length bytes < MAX_HEAD_BYTES → IsUnfinished bytes
+unfinished bytes prefix is none short = record { no_end = λ before after e. none before after (whole MAX_HEAD_BYTES is short ∙ e); short = short }
   where
-    in_prefix : (count : ℕ) → prefix ≡ take count bytes → length (head_text head) ≤ count → SpellsHead head used prefix
-    in_prefix count is short =
-        let low : used ≤ length (take count bytes) = omega (arith, s.within, short, used_is head used bytes s, length-take {A = ℕ} count bytes) in
-        record {
-          within = omega (arith, low, ap (length {A = ℕ}) is);
-          spells = record {
-            is = s.spells.is;
-            text =
-                ap (λ (x : List ℕ). take used x) is
-                ∙ sym (take-append-le used (take count bytes) (drop count bytes) low)
-                ∙ ap (λ (x : List ℕ). take used x) (take-append-drop count bytes)
-                ∙ s.spells.text;
-          };
-        }
+    whole : (count : ℕ) → prefix ≡ take count bytes → length bytes < count → prefix ≡ bytes
+    whole count is short = is ∙ take_all count bytes (omega (arith, short))
+
+pub long : (bytes prefix : List ℕ) → prefix ≡ take MAX_HEAD_BYTES bytes → HasNoEnd prefix → MAX_HEAD_BYTES ≤ length bytes → IsTooLong bytes
+long bytes prefix is none size = record { long = size; no_end = λ before after e. none before after (is ∙ e) }
+
+-- bytes that are unfinished have no section
+pub no_section : (bytes section : List ℕ) → IsUnfinished bytes → ¬ IsSection bytes section
+no_section bytes section u s =
+    u.no_end s.before s.more (s.joined ∙ ap (λ (x : List ℕ). x ++ s.more) s.ends ∙ append_assoc s.before (13 ∷ 10 ∷ 13 ∷ 10 ∷ []) s.more)
+
+-- the view of the section is one of the bytes
+pub view_of : (bytes section : List ℕ) (view : View) → IsSection bytes section → IsSectionView view section → IsViewOf bytes view (length section)
+view_of bytes section view s v = record {
+  within = omega (arith, ap (length {A = ℕ}) s.joined, length-append section s.more);
+  bytes_are = v.bytes_are ∙ sym (take-append_seam section s.more) ∙ ap (λ (x : List ℕ). take (length section) x) (sym s.joined);
+  spells = subst (λ (x : List ℕ). Spells (head_of view) x) (sym v.bytes_are) v.spells;
+  fills = v.fills;
+}
+
+-- the head that the first bytes spell, by its view
+pub spelled_by : (bytes : List ℕ) (view : View) (used : ℕ) → IsViewOf bytes view used → SpellsHead (head_of view) used bytes
+spelled_by bytes view used v = record { within = v.within; spells = subst (λ (x : List ℕ). Spells (head_of view) x) v.bytes_are v.spells }

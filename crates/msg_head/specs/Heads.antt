@@ -1,9 +1,10 @@
 -- Heads of messages: RFC 9112 section 2.1.
-use Rattle.std.specs.Prelude.{◌≡◌, ◌≢◌, ℕ, ◌<◌, ◌≤◌, IsTrue, List, ◌++◌, length, take, codes}
-use Rattle.std.specs.List.{list_all, flat_map}
+use Rattle.std.specs.Prelude.{◌≡◌, ℕ, ◌<◌, ◌≤◌, List, ◌++◌, length, take, codes}
+use Rattle.std.specs.List.{All, flat_map}
 use Rattle.msg_head.specs.declared.limits.TheConstants.{MAX_HEAD_BYTES, MAX_HEAD_LINES}
-use Rattle.msg_head.specs.Lines.{FieldLine, is_line, line_text}
+use Rattle.msg_head.specs.Lines.{FieldLine, IsLine, line_text}
 use Rattle.msg_head.specs.Starts.{StartLine, IsStartLine, start_text}
+use Rattle.msg_head.specs.Cuts.{HasNoEnd}
 
 -- a start line, and the field lines in order
 pub record Head : Type 0 where
@@ -17,7 +18,7 @@ head_text head = start_text head.start ++ (flat_map line_text head.lines ++ code
 -- the parts are those that a head has, within the limits that are set here
 pub record IsHead (head : Head) : Type 0 where
   pub start : IsStartLine head.start
-  pub lines : IsTrue (list_all is_line head.lines)
+  pub lines : All IsLine head.lines
   pub few : length head.lines ≤ MAX_HEAD_LINES
   pub short : length (head_text head) ≤ MAX_HEAD_BYTES
 
@@ -31,11 +32,7 @@ pub record SpellsHead (head : Head) (used : ℕ) (bytes : List ℕ) : Type 0 whe
   pub within : used ≤ length bytes
   pub spells : Spells head (take used bytes)
 
--- the bytes begin with no head
-abbrev pub BeginsWithNone : List ℕ → Type 0
-BeginsWithNone bytes = (head : Head) (used : ℕ) → ¬ SpellsHead head used bytes
-
 -- the end of a head, an empty line, isn't there, and may still come within the limit
 pub record IsUnfinished (bytes : List ℕ) : Type 0 where
-  pub no_end : (before after : List ℕ) → bytes ≢ before ++ (codes "\r\n\r\n" ++ after)
+  pub no_end : HasNoEnd bytes
   pub short : length bytes < MAX_HEAD_BYTES

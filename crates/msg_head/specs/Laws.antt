@@ -1,6 +1,9 @@
 -- Laws of heads.
 use Rattle.std.specs.Prelude.{◌≡◌, ◌≢◌, ℕ, ◌<◌, List, length, take}
-use Rattle.msg_head.specs.Heads.{Head, IsHead, Spells, SpellsHead, head_text}
+use Rattle.msg_head.specs.Cuts.{IsSection}
+use Rattle.msg_head.specs.Heads.{Head, IsHead, Spells, SpellsHead, IsUnfinished, head_text}
+use Rattle.msg_head.specs.Causes.{IsFault}
+use Rattle.msg_head.specs.declared.error.HeadError.{HeadError}
 
 -- Two heads that the same bytes begin with are one head of one length.
 abbrev pub OneHead : Type 0
@@ -19,3 +22,28 @@ NoHeadInPrefix =
     (one other : Head) (n : ℕ) →
     IsHead one → IsHead other → n < length (head_text other) →
     take n (head_text other) ≢ head_text one
+
+-- A head ends at the first CRLF CRLF.
+abbrev pub EndsAtFirstEnd : Type 0
+EndsAtFirstEnd =
+    (bytes : List ℕ) (head : Head) (used : ℕ) →
+    SpellsHead head used bytes → IsSection bytes (take used bytes)
+
+-- Bytes have at most one fault.
+abbrev pub OneFault : Type 0
+OneFault =
+    (bytes : List ℕ) (fault other : HeadError) →
+    IsFault bytes fault → IsFault bytes other → fault ≡ other
+
+-- Bytes that begin with a head have no fault.
+abbrev pub NoFaultAtHead : Type 0
+NoFaultAtHead =
+    (bytes : List ℕ) (head : Head) (used : ℕ) (fault : HeadError) →
+    SpellsHead head used bytes → ¬ IsFault bytes fault
+
+-- Bytes to which the end of a head may still come have no fault, and begin with no head.
+abbrev pub NoAnswerYet : Type 0
+NoAnswerYet =
+    (bytes : List ℕ) → IsUnfinished bytes →
+    ((fault : HeadError) → ¬ IsFault bytes fault)
+    × ((head : Head) (used : ℕ) → ¬ SpellsHead head used bytes)

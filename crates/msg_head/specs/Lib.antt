@@ -1,7 +1,9 @@
 pub mod RawValues
 pub mod Lines
 pub mod Starts
+pub mod Cuts
 pub mod Heads
+pub mod Causes
 pub mod Laws
 pub mod Views
 pub mod Outcome

@@ -1,2 +1,4 @@
+pub mod Texts
 pub mod Prefixes
 pub mod Sections
+pub mod Judged

@@ -1,24 +1,58 @@
 //! Why a head isn't read.
 
-use std::alloc::AllocError;
+use std::alloc::{AllocError, AllocFailed};
 use std::error::Error;
 use std::fmt;
 
-/// Why no head was read.
+/// Where field lines stand in a message.
+#[derive(Clone, Copy, Debug, PartialEq, Eq)]
+pub enum Side {
+    /// The header section, which ends the head (RFC 9112 section 2.1).
+    Header,
+    /// The trailer section after chunked content (RFC 9112 section 7.1.2).
+    Trailer,
+}
+
+/// Why no head was read. Where several hold, the first in this order is answered.
 #[derive(Clone, Copy, Debug, PartialEq, Eq)]
 pub enum HeadError {
     /// No memory was found for the offsets of the field lines.
     Memory,
-    /// The bytes begin with no head of a form that is read yet, and no head's end may still come.
-    NotYet,
+    /// As many bytes as the side may have are there, and its end isn't among them.
+    TooLong(Side),
+    /// NUL, a CR without LF after it or an LF without CR before it stands at this offset.
+    NakedEnd(usize),
+    /// The first line is neither a request line nor a status line.
+    BadStart,
+    /// The side has more field lines than it may have. A folded line counts as one.
+    TooManyLines(Side),
+    /// The line with this index on its side is no field line. Those before it are.
+    BadLine(Side, usize),
+}
+
+impl Side {
+    fn name(self) -> &'static str {
+        match self {
+            Side::Header => "header",
+            Side::Trailer => "trailer",
+        }
+    }
 }
 
 impl fmt::Display for HeadError {
     fn fmt<W: fmt::Write>(&self, f: &mut fmt::Formatter<W>) -> fmt::Result {
-        f.write_str(match self {
-            HeadError::Memory => "out of memory",
-            HeadError::NotYet => "the message begins with no head of a form that is read yet",
-        })
+        match self {
+            HeadError::Memory => f.write_str("out of memory"),
+            HeadError::TooLong(side) => write!(f, "the {} is too long", side.name()),
+            HeadError::NakedEnd(offset) => {
+                write!(f, "NUL or half of a line's end stands at offset {}", offset)
+            }
+            HeadError::BadStart => f.write_str("the first line is no start line"),
+            HeadError::TooManyLines(side) => { write!(f, "the {} has too many lines", side.name()) }
+            HeadError::BadLine(side, index) => {
+                write!(f, "line {} of the {} is no field line", index, side.name())
+            }
+        }
     }
 }
 
@@ -31,6 +65,17 @@ impl From<AllocError> for HeadError {
     ghost from_gives = { λ _ e. e ≡ Memory };
 
     fn from(_error: AllocError) -> Self {
+        Self::Memory
+    }
+}
+
+impl<T: Drop> From<AllocFailed<T>> for HeadError {
+    ghost use Rattle.std.specs.Prelude.{◌≡◌};
+    ghost use Rattle.msg_head.specs.declared.error.HeadError.TheVariants.{Memory};
+
+    ghost from_gives = { λ _ e. e ≡ Memory };
+
+    fn from(_error: AllocFailed<T>) -> Self {
         Self::Memory
     }
 }

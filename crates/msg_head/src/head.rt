@@ -1,17 +1,20 @@
 //! Reads a head.
 
-ghost use Rattle.std.specs.Prelude.{◌≡◌, ℕ, ◌≤◌, ◌↔◌, length, IsTrue, IfOk, IfSome, IfNone, Ok, Err};
-ghost use Rattle.msg_head.specs.Heads.{Head, SpellsHead, BeginsWithNone, IsUnfinished};
+ghost use Rattle.std.specs.Prelude.{◌≡◌, ◌≢◌, ℕ, ◌≤◌, ◌↔◌, length, IfOk, IfErr, Ok, Err};
+ghost use Rattle.msg_head.specs.Heads.{Head, SpellsHead, IsUnfinished};
+ghost use Rattle.msg_head.specs.Causes.{IsFault, AnswersWhere};
+ghost use Rattle.msg_head.specs.Views.{IsViewOf};
 ghost use Rattle.msg_head.specs.Outcome.{IfWhole, IsWholeUnlessMemory};
+ghost use Rattle.msg_head.specs.tools.Judged.{IsCleanSection, IsSectionView, IsSectionFault, Explains};
 
-use crate::error::HeadError;
+use crate::error::{HeadError, Side};
 use crate::limits::MAX_HEAD_BYTES;
 use crate::line::read_lines;
+use crate::section::{first_naked_end, head_section};
 use crate::slices::prefix_of;
 use crate::start::read_start;
 use crate::view::HeadView;
-use memchr::memmem;
-use std::alloc::{AllocError, Global};
+use std::alloc::Global;
 
 /// What the bytes begin with.
 #[derive(Debug, Drop)]
@@ -22,47 +25,49 @@ pub enum HeadRead<'m> {
     Partial,
 }
 
-// Whether the end of a head may still come.
-fn is_unfinished(bytes: &[u8]) -> bool
-    ensures { IsTrue result ↔ IsUnfinished bytes.now }
+// The head that the section spells.
+fn read_section<'m>(alloc: Global, section: &'m [u8]) -> Result<HeadView<'m>, HeadError>
+    requires { IsCleanSection section.now }
+    ensures ok { IfOk result (λ view. IsSectionView view section.now) }
+    ensures err { IfErr result (λ fault. IsSectionFault section.now fault) }
 {
-    bytes.len() < MAX_HEAD_BYTES && memmem::find(bytes, b"\r\n\r\n").is_none()
+    let Some((start, rest)) = read_start(section) else {
+        return Err(HeadError::BadStart);
+    };
+    let spans = read_lines(alloc, Side::Header, section, rest)?;
+    Ok(HeadView::new(section, start, spans))
 }
 
-// The head that the bytes begin with, and how many of them spell it.
-fn read_whole<'m>(
-    alloc: Global,
-    bytes: &'m [u8],
-) -> Result<Option<(HeadView<'m>, usize)>, AllocError>
-    requires { length bytes.now ≤ MAX_HEAD_BYTES }
-    ensures some { IfOk result
-        (λ found. IfSome found (λ head. SpellsHead head.0 head.1 bytes.now)) }
-    ensures none { IfOk result (λ found. IfNone found (BeginsWithNone bytes.now)) }
+// The answer to bytes, by its cause.
+fn judge<'m>(alloc: Global, bytes: &'m [u8]) -> Result<HeadRead<'m>, HeadError>
+    ensures explains { Explains bytes.now result }
+    ensures partial { IsUnfinished bytes.now → result ≡ Ok HeadRead.Partial }
 {
-    let Some((start, rest)) = read_start(bytes) else {
-        return Ok(None);
+    let Some(section) = head_section(prefix_of(bytes, MAX_HEAD_BYTES)) else {
+        if bytes.len() < MAX_HEAD_BYTES {
+            return Ok(HeadRead::Partial);
+        }
+        return Err(HeadError::TooLong(Side::Header));
     };
-    let Some((spans, after)) = read_lines(alloc, bytes, rest)? else {
-        return Ok(None);
-    };
-    let used = bytes.len() - after.len();
-    Ok(Some((HeadView::new(bytes, start, spans), used)))
+    if let Some(offset) = first_naked_end(section) {
+        return Err(HeadError::NakedEnd(offset));
+    }
+    let view = read_section(alloc, section)?;
+    Ok(HeadRead::Whole(view, section.len()))
 }
 
 /// Reads the head that the bytes begin with (RFC 9112 section 2.1).
+///
+/// Of several faults the first in the order of `HeadError` is answered.
 pub fn read_head<'m>(alloc: Global, bytes: &'m [u8]) -> Result<HeadRead<'m>, HeadError>
-    ensures whole { IfWhole result (λ head used. SpellsHead head used bytes.now) }
+    ensures whole { IfWhole result (λ view used. IsViewOf bytes.now view used) }
     ensures found { (head : Head) (used : ℕ) → SpellsHead head used bytes.now
         → IsWholeUnlessMemory result head used }
     ensures partial { (result ≡ Ok HeadRead.Partial) ↔ IsUnfinished bytes.now }
-    ensures not_yet { result ≡ Err HeadError.NotYet
-        → BeginsWithNone bytes.now × ¬ IsUnfinished bytes.now }
+
+    // The first fault whose cause holds is answered, and no other.
+    ensures fault { (fault : HeadError) → fault ≢ HeadError.Memory
+        → AnswersWhere result fault (IsFault bytes.now fault) }
 {
-    if is_unfinished(bytes) {
-        return Ok(HeadRead::Partial);
-    }
-    match read_whole(alloc, prefix_of(bytes, MAX_HEAD_BYTES))? {
-        Some((view, used)) => Ok(HeadRead::Whole(view, used)),
-        None => Err(HeadError::NotYet),
-    }
+    judge(alloc, bytes)
 }

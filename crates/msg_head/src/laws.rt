@@ -1,11 +1,20 @@
 //! Laws of heads.
 
-ghost use Rattle.msg_head.specs.Laws.{OneHead, OneHeadOfText, NoHeadInPrefix};
+ghost use Rattle.msg_head.specs.Laws.{OneHead, OneHeadOfText, NoHeadInPrefix, EndsAtFirstEnd, OneFault, NoFaultAtHead, NoAnswerYet};
 
-/// The laws of heads: bytes begin with at most one head, a text is that of at most one head, and no
-/// head's text is a proper prefix of another's.
+/// The laws of heads: bytes begin with at most one head, a text is that of at most one head, no
+/// head's text is a proper prefix of another's, and a head ends at the first CRLF CRLF.
 pub fn head_laws()
     ensures one { OneHead }
     ensures text { OneHeadOfText }
     ensures prefix { NoHeadInPrefix }
+    ensures end { EndsAtFirstEnd }
+{}
+
+/// Out of memory aside, the answer to bytes is one: they begin with a head, or its end may still
+/// come, or they have one fault.
+pub fn bytes_have_one_answer()
+    ensures fault { OneFault }
+    ensures head { NoFaultAtHead }
+    ensures unfinished { NoAnswerYet }
 {}

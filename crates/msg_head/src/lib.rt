@@ -1,7 +1,7 @@
 //! Heads of HTTP/1.1 messages: a start line and field lines (RFC 9112).
 //!
-//! A head is read from the start of the bytes that hold it, and the view of it borrows them. There
-//! is only the request line yet, and no obsolete line folding.
+//! A head is read from the start of the bytes that hold it, and the view of it borrows them. Raw
+//! values keep their obsolete line folding.
 //!
 //! ```text
 //! let bytes = b"GET / HTTP/1.1\r\nHost: example.com\r\n\r\n";
@@ -19,14 +19,15 @@ mod laws;
 mod limits;
 mod line;
 mod raw;
+mod section;
 mod slices;
 mod start;
 mod view;
 
-pub use error::HeadError;
+pub use error::{HeadError, Side};
 pub use field_lines::FieldLines;
 pub use head::{HeadRead, read_head};
-pub use laws::head_laws;
+pub use laws::{bytes_have_one_answer, head_laws};
 pub use limits::{MAX_HEAD_BYTES, MAX_HEAD_LINES};
 pub use line::{LineSpan, LineView};
 pub use start::Start;

@@ -1,15 +1,21 @@
 //! Field lines.
 
-ghost use Rattle.std.specs.Prelude.{◌≡◌, ◌+◌, ◌<◌, ◌^◌, length, IsTrue, IfSome, IfNone, IfOk};
+ghost use Rattle.std.specs.Prelude.{◌≡◌, ◌+◌, ◌<◌, ◌≤◌, ◌^◌, ℕ, List, length, IsTrue, IsSomeAnd, IfSome, IfNone, IfOk, IfErr, MatchOption};
+ghost use Rattle.byte_classes.specs.Classes.{is_blank};
+ghost use Rattle.byte_grammar.specs.Language.{starts_in};
+ghost use Rattle.msg_head.specs.RawValues.{Pieces, pieces_text};
+ghost use Rattle.msg_head.specs.Cuts.{AreLinesOf, MakesNoLine};
 ghost use Rattle.msg_head.specs.Views.{line_at, lies_in, field_line_of};
-ghost use Rattle.msg_head.specs.tools.Prefixes.{BeginsWithLine, BeginsWithNoLine};
-ghost use Rattle.msg_head.specs.tools.Sections.{IsRestOf, BeginsWithLines, BeginsWithNoLines, span_at};
+ghost use Rattle.msg_head.specs.tools.Texts.{BeginsWithPieces, BeginsWithCut};
+ghost use Rattle.msg_head.specs.tools.Prefixes.{ReadsLine};
+ghost use Rattle.msg_head.specs.tools.Sections.{IsRestOf, AreSpansOf, IsLinesFault, IsFaultFrom, span_at};
 
+use crate::error::{HeadError, Side};
 use crate::limits::MAX_HEAD_LINES;
-use crate::raw::Raw;
-use crate::slices::{prefix_before, prefix_before_crlf, rest_after};
-use byte_classes::Class;
-use std::alloc::{AllocError, Global};
+use crate::slices::{begins_with_crlf, prefix_before, rest_after, rest_from};
+use byte_classes::{Class, is_blank};
+use memchr::memchr;
+use std::alloc::Global;
 
 /// Where a field line stands in the bytes of its message, in offsets from their first.
 #[derive(Clone, Copy, Debug, PartialEq, Eq)]
@@ -27,7 +33,7 @@ pub struct LineSpan {
 pub struct LineView<'m> {
     /// The name as it is written, a token (RFC 9110 section 5.1).
     pub name: &'m [u8],
-    /// All that stands between the colon and the line's end, blanks included.
+    /// All that stands between the colon and the line's end, blanks and folds included.
     pub raw: &'m [u8],
 }
 
@@ -42,17 +48,48 @@ pub(crate) fn line_at<'m>(bytes: &'m [u8], span: LineSpan) -> LineView<'m>
     }
 }
 
+// Whether a blank stands first.
+fn starts_with_blank(bytes: &[u8]) -> bool
+    ensures { result ≡ starts_in is_blank bytes.now }
+{
+    match bytes.first() {
+        Some(byte) => is_blank(*byte),
+        None => false,
+    }
+}
+
+// What comes before the first CRLF that no blank follows, and what comes after it.
+fn split_folded(text: &[u8]) -> Option<(&[u8], &[u8])>
+    ensures sized { IfSome result
+        (λ parts. length parts.0.now + 2 + length parts.1.now ≡ length text.now) }
+    ensures there { (pieces : Pieces) (more : List ℕ) → BeginsWithPieces pieces more text.now
+        → IsSomeAnd result
+        (λ parts. (parts.0.now ≡ pieces_text pieces) × (parts.1.now ≡ more)) }
+{
+    let mut left = text;
+    'folds: loop {
+        let n = memchr(b'\r', left)?;
+        let after = rest_after(b"\r\n", rest_from(left, n))?;
+        if !starts_with_blank(after) {
+            return Some((&text[..text.len() - (after.len() + 2)], after));
+        }
+        left = after;
+    }
+}
+
 // The field line that the bytes begin with, and what comes after it.
 fn read_line(bytes: &[u8]) -> Option<(LineView<'_>, &[u8])>
-    ensures some { IfSome result
-        (λ parts. BeginsWithLine (field_line_of parts.0) parts.1.now bytes.now) }
-    ensures none { IfNone result (BeginsWithNoLine bytes.now) }
+    ensures sized { IfSome result (λ parts. length parts.0.name.now + 1
+        + length parts.0.raw.now + 2 + length parts.1.now ≡ length bytes.now) }
+    ensures there { (cut : Pieces) (more : List ℕ) → BeginsWithCut cut more bytes.now
+        → MatchOption result (MakesNoLine cut)
+        (λ parts. ReadsLine cut more (field_line_of parts.0) parts.1.now) }
 {
     let (name, after_name) = prefix_before(Class::Tchar, b':', bytes)?;
     if name.is_empty() {
         return None;
     }
-    let (raw, rest) = prefix_before_crlf(Raw, after_name)?;
+    let (raw, rest) = split_folded(after_name)?;
     Some((LineView { name, raw }, rest))
 }
 
@@ -69,29 +106,62 @@ fn span_at(offset: usize, line: LineView<'_>) -> LineSpan
     }
 }
 
-/// Where the field lines stand with which the rest of the bytes begins, up to an empty line, and
-/// what comes after it.
-pub(crate) fn read_lines<'m>(
+// How many lines stand before the empty line, right or wrong.
+fn count_lines(text: &[u8]) -> usize
+    ensures few { result ≤ length text.now }
+    ensures there { (lines : List Pieces) → AreLinesOf text.now lines → result ≡ length lines }
+{
+    let mut left = text;
+    let mut count = 0;
+    'lines: loop {
+        if begins_with_crlf(left) {
+            return count;
+        }
+        let Some((_, after)) = split_folded(left) else {
+            return count;
+        };
+        left = after;
+        count += 1;
+    }
+}
+
+// Why lines are refused of which so many are field lines and the next one, which is left, is none.
+fn fault_from(side: Side, index: usize, left: &[u8]) -> HeadError
+    requires { index ≤ MAX_HEAD_LINES }
+    ensures { (lines : List Pieces) → AreLinesOf left.now lines
+        → IsFaultFrom side index lines result }
+{
+    if count_lines(left) > MAX_HEAD_LINES - index {
+        HeadError::TooManyLines(side)
+    } else {
+        HeadError::BadLine(side, index)
+    }
+}
+
+/// Where the field lines stand that the rest of the bytes is, an empty line after them.
+pub(crate) fn read_lines(
     alloc: Global,
+    side: Side,
     bytes: &[u8],
-    rest: &'m [u8],
-) -> Result<Option<(Vec<LineSpan>, &'m [u8])>, AllocError>
+    rest: &[u8],
+) -> Result<Vec<LineSpan>, HeadError>
     requires { IsRestOf bytes.now rest.now }
-    ensures some { IfOk result (λ found. IfSome found
-        (λ parts. BeginsWithLines bytes.now parts.0.items parts.1.now rest.now)) }
-    ensures none { IfOk result (λ found. IfNone found (BeginsWithNoLines rest.now)) }
+    ensures ok { (lines : List Pieces) → AreLinesOf rest.now lines
+        → IfOk result (λ spans. AreSpansOf bytes.now spans.items rest.now) }
+    ensures err { (lines : List Pieces) → AreLinesOf rest.now lines
+        → IfErr result (λ fault. IsLinesFault side lines fault) }
 {
     let mut spans = Vec::new(alloc);
     let mut left = rest;
     'lines: loop {
-        if let Some(after) = rest_after(b"\r\n", left) {
-            return Ok(Some((spans, after)));
+        if begins_with_crlf(left) {
+            return Ok(spans);
         }
         if spans.len() == MAX_HEAD_LINES {
-            return Ok(None);
+            return Err(HeadError::TooManyLines(side));
         }
         let Some((line, after)) = read_line(left) else {
-            return Ok(None);
+            return Err(fault_from(side, spans.len(), left));
         };
         spans.push(span_at(bytes.len() - left.len(), line))?;
         left = after;

@@ -1,17 +1,17 @@
-//! The bytes of raw values.
+//! The bytes of lines.
 
 use byte_classes::ByteClass;
 
-/// The class of the bytes that a raw value of a field line may have.
+/// The class of the bytes that a line may have between its ends.
 #[derive(Clone, Copy, Debug, PartialEq, Eq)]
-pub(crate) struct Raw;
+pub(crate) struct LineByte;
 
-impl ByteClass for Raw {
-    ghost use Rattle.msg_head.specs.RawValues.{is_raw};
+impl ByteClass for LineByte {
+    ghost use Rattle.msg_head.specs.RawValues.{is_line_byte};
 
-    ghost members = { λ _ c. is_raw c };
+    ghost members = { λ _ c. is_line_byte c };
 
     fn allows(self, byte: u8) -> bool {
-        byte.is_ascii() && !b"\0\r\n".contains(&byte)
+        !b"\0\r\n".contains(&byte)
     }
 }

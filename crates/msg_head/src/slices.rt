@@ -1,8 +1,9 @@
 //! Parts of slices of bytes.
 
-ghost use Rattle.std.specs.Prelude.{◌≡◌, ◌≢◌, ◌++◌, ℕ, List, [], ◌∷◌, length, take, false, IfSome, IfNone, codes};
+ghost use Rattle.std.specs.Prelude.{◌≡◌, ◌≢◌, ◌++◌, ℕ, List, [], ◌∷◌, ◌≤◌, length, take, drop, false, IfSome, IfNone, IsTrue, IsFalse, codes};
 ghost use Rattle.std.specs.List.{list_all};
 ghost use Rattle.std.specs.Str.{byte};
+ghost use Rattle.msg_head.specs.tools.Texts.{BeginsWithCrlf};
 ghost use Rattle.msg_head.specs.tools.Prefixes.{StandsBefore, NoneStandsBefore};
 
 use byte_classes::ByteClass;
@@ -19,6 +20,14 @@ pub(crate) fn prefix_of(bytes: &[u8], count: usize) -> &[u8]
     }
 }
 
+/// The bytes from that offset on.
+pub(crate) fn rest_from(bytes: &[u8], offset: usize) -> &[u8]
+    requires { offset ≤ length bytes.now }
+    ensures { result.now ≡ drop offset bytes.now }
+{
+    &bytes[offset..]
+}
+
 /// What comes after the prefix, where the bytes begin with it.
 pub(crate) fn rest_after<'m>(prefix: &[u8], bytes: &'m [u8]) -> Option<&'m [u8]>
     ensures some { IfSome result (λ rest. bytes.now ≡ prefix.now ++ rest.now) }
@@ -27,8 +36,19 @@ pub(crate) fn rest_after<'m>(prefix: &[u8], bytes: &'m [u8]) -> Option<&'m [u8]>
     bytes.strip_prefix(prefix)
 }
 
-// Whether each of the bytes is of the class.
-fn allows_all<C: ByteClass>(class: C, bytes: &[u8]) -> bool
+/// Whether the bytes begin with CRLF.
+pub(crate) fn begins_with_crlf(bytes: &[u8]) -> bool
+    ensures yes { IsTrue result → BeginsWithCrlf bytes.now }
+    ensures not { IsFalse result → ¬ BeginsWithCrlf bytes.now }
+{
+    match rest_after(b"\r\n", bytes) {
+        Some(_) => true,
+        None => false,
+    }
+}
+
+/// Whether each of the bytes is of the class.
+pub(crate) fn allows_all<C: ByteClass>(class: C, bytes: &[u8]) -> bool
     ensures { result ≡ list_all (C.members class) bytes.now }
 {
     bytes.iter().all(|byte| class.allows(*byte))

@@ -34,7 +34,10 @@ fn view_has_the_start_and_the_lines_as_written(rt: HostRuntime) -> Result<(), Fa
         method,
         target,
         version,
-    } = view.start();
+    } = view.start()
+    else {
+        return Err("no request line".into());
+    };
     assert_eq!(rt; method, b"GET".as_slice());
     assert_eq!(rt; target, b"/a?b".as_slice());
     assert_eq!(rt; version, b"HTTP/1.1".as_slice());
@@ -53,14 +56,36 @@ fn view_has_the_start_and_the_lines_as_written(rt: HostRuntime) -> Result<(), Fa
 }
 
 #[test]
+fn view_has_a_status_line_and_folds(rt: HostRuntime) -> Result<(), Fail> {
+    let bytes = b"HTTP/1.0 404 Not \xff\r\nA:b\r\n c\r\n\t\r\nD: e\r\n\r\n";
+    let HeadRead::Whole(view, used) = read_head(rt.alloc(), bytes)? else {
+        return Err("no head".into());
+    };
+    assert_eq!(rt; used, bytes.len());
+    let Start::Status {
+        version,
+        code,
+        reason,
+    } = view.start()
+    else {
+        return Err("no status line".into());
+    };
+    assert_eq!(rt; version, b"HTTP/1.0".as_slice());
+    assert_eq!(rt; code, b"404".as_slice());
+    assert!(rt; reason == Some(b"Not \xff".as_slice()));
+    assert_eq!(rt; view.line_count(), 2);
+    assert_eq!(rt; view.line(0).name, b"A".as_slice());
+    assert_eq!(rt; view.line(0).raw, b"b\r\n c\r\n\t".as_slice());
+    assert_eq!(rt; view.line(1).raw, b" e".as_slice());
+    Ok(())
+}
+
+#[test]
 fn errors_are_printed(rt: HostRuntime) -> Result<(), Fail> {
     let memory = format!(in rt.alloc(); "{}", HeadError::Memory)?;
     assert_eq!(rt; memory.as_str(), "out of memory");
-    let not_yet = format!(in rt.alloc(); "{}", HeadError::NotYet)?;
-    assert_eq!(rt;
-        not_yet.as_str(),
-        "the message begins with no head of a form that is read yet"
-    );
+    let line = format!(in rt.alloc(); "{}", HeadError::BadLine(Side::Header, 3))?;
+    assert_eq!(rt; line.as_str(), "line 3 of the header is no field line");
     Ok(())
 }
 
@@ -79,8 +104,11 @@ fn heads_use_their_own_bytes_alone(rt: HostRuntime) -> Result<(), Fail> {
         b"GET / HTTP/1.1\r\n\r\n".as_slice(),
         b"OPTIONS * HTTP/1.0\r\n\r\n",
         b"!#$%&'*+-.^_`|~09azAZ ! HTTP/1.1\r\n\r\n",
-        b"A ~ HTTP/1.1\r\n!#$%&'*+-.^_`|~09azAZ: \x01\x1f\x7f\r\n\r\n",
+        b"A ~ HTTP/1.1\r\n!#$%&'*+-.^_`|~09azAZ: \x01\x1f\x7f\x80\xff\r\n\r\n",
         b"CONNECT example.com:443 HTTP/1.1\r\na::\r\nb: \t c \t\r\n\r\n",
+        b"HTTP/1.1 200\r\n\r\n",
+        b"HTTP/1.0 200 \r\n\r\n",
+        b"HTTP/1.1 999 \x01 \xff \r\nA:\r\n \r\n\r\n",
     ];
     for head in heads {
         let mut text = Vec::new(rt.alloc());
@@ -92,38 +120,73 @@ fn heads_use_their_own_bytes_alone(rt: HostRuntime) -> Result<(), Fail> {
 }
 
 #[test]
-fn other_bytes_with_an_end_are_refused(rt: HostRuntime) {
-    let others = [
+fn each_fault_is_named(rt: HostRuntime) {
+    let starts = [
         b"\r\n\r\n".as_slice(),
         b"\r\nGET / HTTP/1.1\r\n\r\n",
-        b"HTTP/1.1 200 OK\r\n\r\n",
         b" GET / HTTP/1.1\r\n\r\n",
         b"GET  / HTTP/1.1\r\n\r\n",
         b"GET /  HTTP/1.1\r\n\r\n",
         b"GET / HTTP/1.1 \r\n\r\n",
         b" / HTTP/1.1\r\n\r\n",
-        b"GET  HTTP/1.1\r\n\r\n",
         b"GET /\r\n\r\n",
         b"G@T / HTTP/1.1\r\n\r\n",
         b"GET /\x7f HTTP/1.1\r\n\r\n",
         b"GET /\xc3\xa4 HTTP/1.1\r\n\r\n",
         b"GET / http/1.1\r\n\r\n",
         b"GET / HTTP/1.2\r\n\r\n",
-        b"GET / HTTP/2\r\n\r\n",
-        b"GET / HTTP/1.1\nA: b\r\n\r\n",
-        b"GET / HTTP/1.1\r\nA\r\n\r\n",
-        b"GET / HTTP/1.1\r\n: b\r\n\r\n",
-        b"GET / HTTP/1.1\r\nA : b\r\n\r\n",
-        b"GET / HTTP/1.1\r\n A: b\r\n\r\n",
-        b"GET / HTTP/1.1\r\nA: b\r\n c\r\n\r\n",
-        b"GET / HTTP/1.1\r\nA: b\n\r\n\r\n",
-        b"GET / HTTP/1.1\r\nA: b\rc\r\n\r\n",
-        b"GET / HTTP/1.1\r\nA: b\0\r\n\r\n",
-        b"GET / HTTP/1.1\r\nA: \x80\r\n\r\n",
-        b"GET / HTTP/1.1\r\nA\xff: b\r\n\r\n",
+        b"GET / HTTP/2\r\nA\r\n\r\n",
+        b"HTTP/1.1 20\r\n\r\n",
+        b"HTTP/1.1 2000\r\n\r\n",
+        b"HTTP/1.1 2x0 OK\r\n\r\n",
+        b"HTTP/1.1  200 OK\r\n\r\n",
+        b"HTTP/1.1 200\tOK\r\n\r\n",
+        b"HTTP/1.2 200 OK\r\n\r\n",
+        b"HTTP/1.1\r\n\r\n",
     ];
-    for other in others {
-        assert_eq!(rt; used(rt.alloc(), other), Err(HeadError::NotYet));
+    for start in starts {
+        assert_eq!(rt; used(rt.alloc(), start), Err(HeadError::BadStart));
+    }
+    let others = [
+        (
+            b"GET / HTTP/1.1\nA: b\r\n\r\n".as_slice(),
+            HeadError::NakedEnd(14),
+        ),
+        (b"GET / HTTP/1.2\r\nA: b\n\r\n\r\n", HeadError::NakedEnd(20)),
+        (
+            b"GET / HTTP/1.1\r\nA: b\rc\r\n\r\n",
+            HeadError::NakedEnd(20),
+        ),
+        (b"GET / HTTP/1.1\r\nA: b\0\r\n\r\n", HeadError::NakedEnd(20)),
+        (b"GET / HTTP/1.1\r\nA: b\r\r\n\r\n", HeadError::NakedEnd(20)),
+        (b"\n\r\n\r\n", HeadError::NakedEnd(0)),
+        (
+            b"GET / HTTP/1.1\r\nA\r\n\r\n",
+            HeadError::BadLine(Side::Header, 0),
+        ),
+        (
+            b"GET / HTTP/1.1\r\n: b\r\n\r\n",
+            HeadError::BadLine(Side::Header, 0),
+        ),
+        (
+            b"GET / HTTP/1.1\r\nA : b\r\n\r\n",
+            HeadError::BadLine(Side::Header, 0),
+        ),
+        (
+            b"GET / HTTP/1.1\r\n A: b\r\n\r\n",
+            HeadError::BadLine(Side::Header, 0),
+        ),
+        (
+            b"GET / HTTP/1.1\r\nA:\r\n b\r\nC\r\n D: e\r\n\r\n",
+            HeadError::BadLine(Side::Header, 1),
+        ),
+        (
+            b"GET / HTTP/1.1\r\nA:\r\nA\xff: b\r\n\r\n\0",
+            HeadError::BadLine(Side::Header, 1),
+        ),
+    ];
+    for (bytes, error) in others {
+        assert_eq!(rt; used(rt.alloc(), bytes), Err(error));
     }
 }
 
@@ -144,10 +207,133 @@ fn head_has_at_most_65536_bytes(rt: HostRuntime) -> Result<(), Fail> {
     assert_eq!(rt; used(rt.alloc(), &text)?, None);
     text.extend_from_slice(b"\r\n")?;
     assert_eq!(rt; text.len(), 65_537);
-    assert_eq!(rt; used(rt.alloc(), &text), Err(HeadError::NotYet));
+    assert_eq!(rt;
+        used(rt.alloc(), &text),
+        Err(HeadError::TooLong(Side::Header))
+    );
     text.truncate(65_536);
-    assert_eq!(rt; used(rt.alloc(), &text), Err(HeadError::NotYet));
+    assert_eq!(rt;
+        used(rt.alloc(), &text),
+        Err(HeadError::TooLong(Side::Header))
+    );
     Ok(())
+}
+
+// The bytes that may stand between two parts of a head, beside which no NUL, CR or LF may.
+#[derive(Clone, Copy)]
+enum Allowed {
+    Tchars,
+    Visible,
+    TcharsAndColon,
+    Colon,
+    All,
+}
+
+impl Allowed {
+    fn has(self, byte: u8) -> bool {
+        let tchar = byte.is_ascii_alphanumeric() || b"!#$%&'*+-.^_`|~".contains(&byte);
+        match self {
+            Allowed::Tchars => tchar,
+            Allowed::Visible => (0x21..=0x7e).contains(&byte),
+            Allowed::TcharsAndColon => tchar || byte == b':',
+            Allowed::Colon => byte == b':',
+            Allowed::All => true,
+        }
+    }
+}
+
+#[derive(Drop)]
+struct Slot {
+    before: &'static [u8],
+    after: &'static [u8],
+    allowed: Allowed,
+    otherwise: HeadError,
+}
+
+// What is answered where the byte stands between the two texts.
+fn between(
+    alloc: Global,
+    before: &[u8],
+    byte: u8,
+    after: &[u8],
+) -> Result<Option<usize>, HeadError> {
+    let mut text = Vec::new(alloc);
+    text.extend_from_slice(before)?;
+    text.push(byte)?;
+    text.extend_from_slice(after)?;
+    used(alloc, &text)
+}
+
+#[test]
+fn each_byte_is_judged_where_it_stands(rt: HostRuntime) {
+    let slots = [
+        Slot {
+            before: b"G",
+            after: b"T / HTTP/1.1\r\nab: c\r\n\r\n",
+            allowed: Allowed::Tchars,
+            otherwise: HeadError::BadStart,
+        },
+        Slot {
+            before: b"GET ",
+            after: b" HTTP/1.1\r\nab: c\r\n\r\n",
+            allowed: Allowed::Visible,
+            otherwise: HeadError::BadStart,
+        },
+        Slot {
+            before: b"GET / HTTP/1.1\r\na",
+            after: b": c\r\n\r\n",
+            allowed: Allowed::TcharsAndColon,
+            otherwise: HeadError::BadLine(Side::Header, 0),
+        },
+        Slot {
+            before: b"GET / HTTP/1.1\r\nab",
+            after: b" c\r\n\r\n",
+            allowed: Allowed::Colon,
+            otherwise: HeadError::BadLine(Side::Header, 0),
+        },
+        Slot {
+            before: b"GET / HTTP/1.1\r\nab: ",
+            after: b"\r\n\r\n",
+            allowed: Allowed::All,
+            otherwise: HeadError::BadStart,
+        },
+    ];
+    for slot in slots {
+        for byte in 0..=255 {
+            let wanted = if b"\0\r\n".contains(&byte) {
+                Err(HeadError::NakedEnd(slot.before.len()))
+            } else if slot.allowed.has(byte) {
+                Ok(Some(25))
+            } else {
+                Err(slot.otherwise)
+            };
+            assert_eq!(rt; between(rt.alloc(), slot.before, byte, slot.after), wanted);
+        }
+    }
+}
+
+#[test]
+fn each_byte_is_judged_beside_half_an_end(rt: HostRuntime) {
+    let line = b"GET / HTTP/1.1".as_slice();
+    for byte in 0..=255 {
+        let after_cr = if byte == b'\n' {
+            Ok(Some(18))
+        } else {
+            Err(HeadError::NakedEnd(14))
+        };
+        assert_eq!(rt;
+            between(rt.alloc(), b"GET / HTTP/1.1\r", byte, b"\r\n\r\n"),
+            after_cr
+        );
+        let before_lf = if byte == b'\r' {
+            Ok(Some(18))
+        } else if b"\0\n".contains(&byte) {
+            Err(HeadError::NakedEnd(14))
+        } else {
+            Err(HeadError::NakedEnd(15))
+        };
+        assert_eq!(rt; between(rt.alloc(), line, byte, b"\n\r\n\r\n"), before_lf);
+    }
 }
 
 #[test]
@@ -157,6 +343,21 @@ fn head_has_at_most_256_lines(rt: HostRuntime) -> Result<(), Fail> {
     assert_eq!(rt; used(rt.alloc(), &text)?, Some(1_042));
     let mut more = repeated(rt.alloc(), b"a:\r\n", 257)?;
     more.extend_from_slice(b"\r\n")?;
-    assert_eq!(rt; used(rt.alloc(), &more), Err(HeadError::NotYet));
+    assert_eq!(rt;
+        used(rt.alloc(), &more),
+        Err(HeadError::TooManyLines(Side::Header))
+    );
+    let mut bad = repeated(rt.alloc(), b"bad\r\n", 256)?;
+    bad.extend_from_slice(b"\r\n")?;
+    assert_eq!(rt;
+        used(rt.alloc(), &bad),
+        Err(HeadError::BadLine(Side::Header, 0))
+    );
+    let mut many = repeated(rt.alloc(), b"bad\r\n", 257)?;
+    many.extend_from_slice(b"\r\n")?;
+    assert_eq!(rt;
+        used(rt.alloc(), &many),
+        Err(HeadError::TooManyLines(Side::Header))
+    );
     Ok(())
 }

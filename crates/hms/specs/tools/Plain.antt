@@ -4,7 +4,7 @@ use Rattle.std.specs.Str.{byte}
 use Rattle.component_ids.specs.declared.id.ComponentId.{ComponentId}
 use Rattle.msg_head.specs.Lines.{FieldLine}
 use Rattle.hms.specs.SignatureBase.{Component}
-use Rattle.hms.specs.Values.{combined_value}
+use Rattle.field_values.specs.Values.{combined_value}
 
 -- the name in quotation marks
 abbrev pub quoted_name : List ℕ → List ℕ

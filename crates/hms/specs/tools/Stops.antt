@@ -13,7 +13,12 @@ use Rattle.hms_io.specs.declared.read_write.FillError.TheVariants.{Memory as NoF
 use Rattle.hms.specs.Base.{HasIdFault}
 use Rattle.hms.specs.declared.refusal.Refusal.{Refusal}
 use Rattle.hms.specs.declared.refusal.Refusal.TheVariants.{Arguments, Input, Command}
-use Rattle.hms.specs.declared.refusal.InputRefusal.TheVariants.{TooLong}
+use Rattle.hms.specs.declared.refusal.InputRefusal.TheVariants.{TooLong, Message as NoMessage}
+use Rattle.msg_body.specs.declared.error.MessageError.{MessageError}
+use Rattle.msg_body.specs.declared.error.MessageError.TheVariants as message
+use Rattle.msg_body.specs.declared.error.MessageFault.{MessageFault}
+use Rattle.msg_body.specs.declared.error.MessageFault.TheVariants as fault
+use Rattle.hms.specs.Messages.{IsMessageFault}
 use Rattle.hms.specs.declared.refusal.CommandRefusal.TheVariants.{Syntax, ItemKind, Ids, NotYet, Absent}
 use Rattle.hms.specs.declared.outcome.Outcome.{Outcome}
 use Rattle.hms.specs.declared.outcome.Outcome.TheVariants.{Done, Refused as IsRefused}
@@ -37,6 +42,13 @@ stop_of_fill NoFillMemory = Memory
 stop_of_fill Failed = ReadFault
 stop_of_fill Longer = Refused (Input TooLong)
 
+abbrev pub stop_for : MessageFault → Stop
+stop_for fault = Refused (Input (NoMessage fault))
+
+abbrev pub stop_of_message : MessageError → Stop
+stop_of_message message.Memory = Memory
+stop_of_message error = stop_for (fault.Refused error)
+
 -- where nothing is read, a run is stopped by a refusal of which this holds, or out of memory
 abbrev pub IfRefused : Stop → (Refusal → Type 0) → Type 0
 IfRefused Memory P = Unit {0}
@@ -49,6 +61,11 @@ IfOutcome (Ok text) P = P (Done text)
 IfOutcome (Err Memory) P = Unit {0}
 IfOutcome (Err ReadFault) P = Unit {0}
 IfOutcome (Err (Refused refusal)) P = P (IsRefused refusal)
+
+-- the refusal of an input that isn't one whole message, for this fault
+abbrev pub IsInputRefusal : List ℕ → Refusal → Type 0
+IsInputRefusal input (Input (NoMessage fault)) = IsMessageFault input fault
+IsInputRefusal input refusal = ⊥
 
 -- the refusals of PARAMS by themselves
 abbrev pub IsParamsCause : List ℕ → Refusal → Type 0

@@ -1,10 +1,15 @@
 -- Field lines up to an empty line. No public clause cites this module.
-use Rattle.std.specs.Prelude.{◌≡◌, ◌≢◌, ℕ, ◌+◌, ◌-◌, ◌≤◌, IsTrue, List, ◌++◌, length, map, drop, codes}
-use Rattle.std.specs.List.{list_all, flat_map}
+use Rattle.std.specs.Prelude.{◌≡◌, ℕ, ◌+◌, ◌-◌, ◌<◌, ◌≤◌, ⊤, IsTrue, List, ◌++◌, length, map, drop, codes}
+use Rattle.std.specs.List.{All, list_all, flat_map}
 use Rattle.msg_head.specs.declared.limits.TheConstants.{MAX_HEAD_LINES}
 use Rattle.msg_head.specs.declared.line.LineSpan.{LineSpan}
-use Rattle.msg_head.specs.Lines.{FieldLine, is_line, line_text}
-use Rattle.msg_head.specs.Views.{line_at, lies_in}
+use Rattle.msg_head.specs.declared.error.Side.{Side}
+use Rattle.msg_head.specs.declared.error.HeadError.{HeadError}
+use Rattle.msg_head.specs.declared.error.HeadError.TheVariants.{Memory, TooLong, NakedEnd, BadStart, TooManyLines, BadLine}
+use Rattle.msg_head.specs.RawValues.{Pieces}
+use Rattle.msg_head.specs.Lines.{FieldLine, IsLine, line_text}
+use Rattle.msg_head.specs.Causes.{AreTooMany, IsFirstBad}
+use Rattle.msg_head.specs.Views.{line_at, lies_in, FollowEachOther}
 
 -- the bytes end with that rest
 pub record IsRestOf (bytes rest : List ℕ) : Type 0 where
@@ -19,17 +24,31 @@ span_at offset line = record {
   end = offset + length line.name + 1 + length line.raw;
 }
 
--- the rest is the field lines at these offsets in the bytes, an empty line, and more
-pub record BeginsWithLines (bytes : List ℕ) (spans : List LineSpan) (more rest : List ℕ) :
-    Type 0 where
-  pub joined : rest ≡ flat_map line_text (map (line_at bytes) spans) ++ (codes "\r\n" ++ more)
-  pub each : IsTrue (list_all is_line (map (line_at bytes) spans))
+-- the rest is the field lines at these offsets in the bytes, and an empty line
+pub record AreSpansOf (bytes : List ℕ) (spans : List LineSpan) (rest : List ℕ) : Type 0 where
+  pub joined : rest ≡ flat_map line_text (map (line_at bytes) spans) ++ codes "\r\n"
+  pub each : All IsLine (map (line_at bytes) spans)
   pub few : length spans ≤ MAX_HEAD_LINES
   pub lie : IsTrue (list_all (lies_in (length bytes)) spans)
+  pub follow : FollowEachOther (length bytes - length rest) spans (length bytes - 2)
 
--- no field lines, an empty line and more make up the rest
-abbrev pub BeginsWithNoLines : List ℕ → Type 0
-BeginsWithNoLines rest =
-    (lines : List FieldLine) (more : List ℕ) →
-    IsTrue (list_all is_line lines) → length lines ≤ MAX_HEAD_LINES →
-    rest ≢ flat_map line_text lines ++ (codes "\r\n" ++ more)
+-- why these lines are refused
+abbrev pub IsLinesFault : Side → List Pieces → HeadError → Type 0
+IsLinesFault side lines Memory = ⊤
+IsLinesFault side lines (TooManyLines other) = (other ≡ side) × AreTooMany lines
+IsLinesFault side lines (BadLine other index) =
+    (other ≡ side) × (length lines ≤ MAX_HEAD_LINES) × IsFirstBad lines index
+IsLinesFault side lines (TooLong other) = ⊥
+IsLinesFault side lines (NakedEnd offset) = ⊥
+IsLinesFault side lines BadStart = ⊥
+
+-- why they are refused, of which so many are done and these are left
+abbrev pub IsFaultFrom : Side → ℕ → List Pieces → HeadError → Type 0
+IsFaultFrom side index left (TooManyLines other) =
+    (other ≡ side) × (MAX_HEAD_LINES < index + length left)
+IsFaultFrom side index left (BadLine other at) =
+    (other ≡ side) × (at ≡ index) × (index + length left ≤ MAX_HEAD_LINES)
+IsFaultFrom side index left Memory = ⊥
+IsFaultFrom side index left (TooLong other) = ⊥
+IsFaultFrom side index left (NakedEnd offset) = ⊥
+IsFaultFrom side index left BadStart = ⊥

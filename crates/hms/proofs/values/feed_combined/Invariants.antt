@@ -1,11 +1,10 @@
-use Rattle.std.proofs.Common.{ℕ, List, ◌++◌, take}
-use Rattle.hms.specs.Values.{values, combined_value}
-use Rattle.hms.proofs.Joins.{IsFirst}
+use Rattle.std.proofs.Common.{◌≡◌, ℕ, List, ◌++◌}
+use Rattle.msg_body.specs.Views.{message_of}
+use Rattle.field_values.specs.LeftInFields.{combined_left}
+use Rattle.field_values.specs.Values.{combined_value}
 use Rattle.hms.proofs.values.feed_combined.Given as goal
 
-abbrev pub invariant-loop-index : goal.invariant-loop-index
-invariant-loop-index g l = record {
-  first : IsFirst l.is_first (values (take l.index l.head.lines) l.name);
-  fed : (text : List ℕ) → g.A.Absorb.absorbed l.initial.into text →
-      g.A.Absorb.absorbed l.into (text ++ combined_value (take l.index l.head.lines) l.name);
-}
+abbrev pub invariant-loop-piece : goal.invariant-loop-piece
+invariant-loop-piece g l = (done : List ℕ)
+    × (done ++ combined_left l.piece-iterator ≡ combined_value (message_of l.fn.message).head.lines l.fn.name)
+    × ((text : List ℕ) → g.A.Absorb.absorbed l.initial.into text → g.A.Absorb.absorbed l.into (text ++ done))

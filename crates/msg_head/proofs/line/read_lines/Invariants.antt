@@ -1,9 +1,9 @@
 use Rattle.std.proofs.Common.{length}
-use Rattle.msg_head.proofs.Sections.{Walked}
+use Rattle.msg_head.proofs.Spans.{Reading}
 use Rattle.msg_head.proofs.line.read_lines.Given as goal
 
 abbrev pub invariant-lines : goal.invariant-lines
-invariant-lines l = Walked l.bytes l.rest l.spans.items l.left
+invariant-lines l = Reading l.bytes l.rest l.spans.items l.left
 
 abbrev pub decreases-lines : goal.decreases-lines
 decreases-lines l = length l.left

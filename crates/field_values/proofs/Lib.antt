@@ -1,0 +1,3 @@
+mod Bytes
+mod TextLaws
+mod Unfolded

@@ -1,0 +1,4 @@
+pub mod AnswerLaws
+mod Drops
+mod Judged
+pub mod MessageLaws

@@ -1,0 +1,8 @@
+pub mod Names
+pub mod Messages
+pub mod Views
+pub mod Errors
+pub mod Causes
+pub mod Outcome
+pub mod Laws
+pub use Rattle.msg_head.specs.Heads

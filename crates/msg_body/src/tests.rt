@@ -1,0 +1,109 @@
+use super::*;
+use msg_head::{Side, Start};
+use std::test::Fail;
+
+// A message's text, the kind that is expected, and the error that comes.
+#[derive(Clone, Copy)]
+struct Refused {
+    bytes: &'static [u8],
+    expect: Expect,
+    error: MessageError,
+}
+
+#[test]
+fn request_without_content_is_whole(rt: HostRuntime) -> Result<(), Fail> {
+    let bytes = b"GET / HTTP/1.1\r\nHost: h\r\nA: b\r\n c\r\n\r\nrest";
+    let MessageRead::Whole(view, used) = read_message(rt.alloc(), bytes, Expect::Any, false)? else {
+        return Err("no message".into());
+    };
+    assert_eq!(rt; used, 37);
+    let Start::Request { method, .. } = view.start() else {
+        return Err("no request".into());
+    };
+    assert_eq!(rt; method, b"GET".as_slice());
+    assert_eq!(rt; view.framing(), Framing::None);
+    assert_eq!(rt; view.line_count(Side::Header), 2);
+    assert_eq!(rt; view.line_count(Side::Trailer), 0);
+    assert_eq!(rt; view.line(Side::Header, 1).raw, b" b\r\n c".as_slice());
+    assert_eq!(rt; view.lines(Side::Header).count(), 2);
+    assert_eq!(rt; view.lines(Side::Trailer).count(), 0);
+    let mut lines = view.lines(Side::Header);
+    let Some(first) = lines.next() else {
+        return Err("no line".into());
+    };
+    assert_eq!(rt; first.name, b"Host".as_slice());
+    assert!(rt; is_named(first, b"host") && !is_named(first, b"Host"));
+    assert!(rt; !is_named(first, b"hos") && !is_named(first, b"hosts"));
+    Ok(())
+}
+
+#[test]
+fn other_messages_are_refused(rt: HostRuntime) {
+    let cases = [
+        Refused {
+            bytes: b"POST / HTTP/1.1\r\nContent-Length: 0\r\n\r\n",
+            expect: Expect::Request,
+            error: MessageError::NotYet,
+        },
+        Refused {
+            bytes: b"POST / HTTP/1.1\r\nA: b\r\ntransfer-ENCODING: x\r\n\r\n",
+            expect: Expect::Any,
+            error: MessageError::NotYet,
+        },
+        Refused {
+            bytes: b"HTTP/1.1 204\r\n\r\n",
+            expect: Expect::Any,
+            error: MessageError::NotYet,
+        },
+        Refused {
+            bytes: b"HTTP/1.1 204\r\n\r\n",
+            expect: Expect::Request,
+            error: MessageError::BadStart,
+        },
+        Refused {
+            bytes: b"POST / HTTP/1.1\r\nContent-Length: 0\r\n\r\n",
+            expect: Expect::Response,
+            error: MessageError::BadStart,
+        },
+        Refused {
+            bytes: b"HTTP/1.1 204\r\nA\r\n\r\n",
+            expect: Expect::Request,
+            error: MessageError::BadLine(Side::Header, 0),
+        },
+        Refused {
+            bytes: b"GET / HTTP/1.1\nA: b\r\n\r\n",
+            expect: Expect::Response,
+            error: MessageError::NakedEnd(14),
+        },
+        Refused {
+            bytes: b"GET /\r\n\r\n",
+            expect: Expect::Any,
+            error: MessageError::BadStart,
+        },
+    ];
+    for case in cases {
+        let answer = read_message(rt.alloc(), case.bytes, case.expect, false);
+        assert!(rt; matches!(&answer, Err(error) if *error == case.error));
+    }
+}
+
+#[test]
+fn message_without_its_end_is_partial(rt: HostRuntime) {
+    let answer = read_message(
+        rt.alloc(),
+        b"HTTP/1.1 204\r\nContent-Length: 0\r\n",
+        Expect::Request,
+        true,
+    );
+    assert!(rt; matches!(&answer, Ok(MessageRead::Partial)));
+}
+
+#[test]
+fn errors_are_printed(rt: HostRuntime) -> Result<(), Fail> {
+    let error = MessageError::BadLine(Side::Header, 3);
+    let line = format!(in rt.alloc(); "{}", error)?;
+    assert_eq!(rt; line.as_str(), "line 3 of the header is no field line");
+    let cut = format!(in rt.alloc(); "{}", MessageFault::Truncated(5))?;
+    assert_eq!(rt; cut.as_str(), "the message is cut off after 5 bytes");
+    Ok(())
+}

@@ -1,0 +1,189 @@
+-- Heads as they are cut.
+use Rattle.std.proofs.Common.{◌≡◌, ℕ, Bool, true, false, ◌&&◌, ◌==◌, not, inl, inr, nat_lt, List, [], ◌∷◌, ◌++◌, length, drop, refl, sym, ap, ◌∙◌, arith, append_assoc}
+use Rattle.std.specs.Prelude.{⊤}
+use Rattle.std.specs.List.{All, list_all, flat_map}
+use Rattle.std.proofs.lemmas.Bool.{and_parts, and_from, cases_Bool, or_cases, eqb-true, lt-ltb, false≢true}
+use Rattle.std.proofs.lemmas.List.{take-append-drop, length-take-le}
+use Rattle.std.proofs.lemmas.List.Elements.{All-nil, All-cons, All-head, All-tail}
+use Rattle.std.proofs.lemmas.List.Folds.{list_all-append}
+use Rattle.byte_classes.specs.Classes.{is_blank, is_tchar, is_visible}
+use Rattle.byte_grammar.specs.Language.{starts_in}
+use Rattle.msg_head.specs.RawValues.{Pieces, are_pieces, is_fold, is_line_byte, fold_text}
+use Rattle.msg_head.specs.Lines.{FieldLine, IsLine, line_text}
+use Rattle.msg_head.specs.Starts.{StartLine, request, status, IsStartLine, start_text, reason_text}
+use Rattle.msg_head.specs.Cuts.{IsCut, MakesLine, MakesNoStart, cut_text, is_cut, begins_anew}
+use Rattle.msg_head.specs.Heads.{Head, IsHead, SpellsHead, head_text}
+use Rattle.msg_head.proofs.Prefixes.{outside}
+use Rattle.msg_head.proofs.LineBytes.{line_bytes_of}
+use Rattle.msg_head.proofs.StartParts.{version_visible}
+use Rattle.msg_head.proofs.StatusParts.{clean_code}
+use Rattle.msg_head.proofs.Spans.{MakesSome}
+
+-- ---- start lines
+
+-- the text before the start line's end, in which no end stands
+pub record StartCut (start : StartLine) : Type 0 where
+  pub text : List ℕ
+  pub is : start_text start ≡ text ++ 13 ∷ 10 ∷ []
+  pub clean : list_all is_line_byte text ≡ true
+
+clean_join : (one other : List ℕ) → list_all is_line_byte one ≡ true → list_all is_line_byte other ≡ true → list_all is_line_byte (one ++ 32 ∷ other) ≡ true
+clean_join one other a b = list_all-append is_line_byte one (32 ∷ other) ∙ and_from (list_all is_line_byte one) (list_all is_line_byte other) a b
+
+pub start_cut : (start : StartLine) → IsStartLine start → StartCut start
+start_cut (request line) is = record {
+  text = line.method ++ 32 ∷ (line.target ++ 32 ∷ line.version);
+  is =
+      sym (append_assoc line.method (32 ∷ (line.target ++ 32 ∷ line.version)) (13 ∷ 10 ∷ [])
+      ∙ ap (λ (x : List ℕ). line.method ++ 32 ∷ x) (append_assoc line.target (32 ∷ line.version) (13 ∷ 10 ∷ [])));
+  clean =
+      clean_join line.method (line.target ++ 32 ∷ line.version) (line_bytes_of is_tchar line.method refl refl refl (and_parts _ _ is.method).1) (
+      clean_join line.target line.version (line_bytes_of is_visible line.target refl refl refl (and_parts _ _ is.target).1) (line_bytes_of is_visible line.version refl refl refl (version_visible line.version is.version))
+      );
+}
+start_cut (status line) is = record {
+  text = line.version ++ 32 ∷ (line.code ++ reason_text line.reason);
+  is =
+      ap (λ (x : List ℕ). line.version ++ 32 ∷ x) (sym (append_assoc line.code (reason_text line.reason) (13 ∷ 10 ∷ [])))
+      ∙ sym (append_assoc line.version (32 ∷ (line.code ++ reason_text line.reason)) (13 ∷ 10 ∷ []));
+  clean =
+      clean_join line.version (line.code ++ reason_text line.reason) (line_bytes_of is_visible line.version refl refl refl (version_visible line.version is.version)) (clean_code line is);
+}
+
+-- ---- field lines
+
+not_blank : (c : ℕ) → is_tchar c ≡ true → is_blank c ≡ false
+not_blank c is = elim (cases_Bool (is_blank c)) [
+  | inl e ↦ absurd (tchar_blank c is e)
+  | inr e ↦ e
+]
+  where
+    tchar_blank : (c : ℕ) → is_tchar c ≡ true → is_blank c ≡ true → ⊥
+    tchar_blank c is e = elim (or_cases (c == 32) (c == 9) e) [
+      | inl sp ↦ outside is_tchar c 32 is refl (eqb-true c 32 sp)
+      | inr tab ↦ outside is_tchar c 9 is refl (eqb-true c 9 tab)
+    ]
+
+-- the field line as it is cut
+pub record LineCut (line : FieldLine) : Type 0 where
+  pub cut : Pieces
+  pub is : (nat_lt 0 (length cut.first) && are_pieces cut) ≡ true
+  pub ends : not (starts_in is_blank cut.first) ≡ true
+  pub makes : MakesLine cut line
+
+first_some : (name more : List ℕ) → (nat_lt 0 (length name) && list_all is_tchar name) ≡ true → (nat_lt 0 (length (name ++ more)) ≡ true) × (not (starts_in is_blank (name ++ more)) ≡ true)
+first_some [] more is = absurd (false≢true is)
+first_some (c ∷ cs) more is =
+    let all = (and_parts (nat_lt 0 (length (c ∷ cs))) (list_all is_tchar (c ∷ cs)) is).1 in
+    (lt-ltb 0 (length (c ∷ (cs ++ more))) (omega arith), ap not (not_blank c (and_parts (is_tchar c) (list_all is_tchar cs) all).0))
+
+pub line_cut : (line : FieldLine) → IsLine line → LineCut line
+line_cut line is =
+    let raw = is.raw.0 in
+    let first = line.name ++ 58 ∷ raw.first in
+    let folds = flat_map fold_text raw.folds in
+    let are = and_parts (list_all is_line_byte raw.first) (list_all is_fold raw.folds) is.raw.1 in
+    let some = first_some line.name (58 ∷ raw.first) is.name in
+    let clean : list_all is_line_byte first ≡ true =
+    list_all-append is_line_byte line.name (58 ∷ raw.first)
+    ∙ and_from (list_all is_line_byte line.name) (list_all is_line_byte raw.first) (line_bytes_of is_tchar line.name refl refl refl (and_parts (nat_lt 0 (length line.name)) (list_all is_tchar line.name) is.name).1) are.0 in
+    record {
+      cut = record { first = first; folds = raw.folds };
+      is = and_from (nat_lt 0 (length first)) (list_all is_line_byte first && list_all is_fold raw.folds) some.0 (and_from (list_all is_line_byte first) (list_all is_fold raw.folds) clean are.1);
+      ends = some.1;
+      makes = record {
+        is = is;
+        text =
+            ap (λ (s : List ℕ). s ++ 13 ∷ 10 ∷ []) (append_assoc line.name (58 ∷ raw.first) folds)
+            ∙ append_assoc line.name (58 ∷ (raw.first ++ folds)) (13 ∷ 10 ∷ [])
+            ∙ ap (λ (s : List ℕ). line.name ++ 58 ∷ (s ++ 13 ∷ 10 ∷ [])) (sym is.raw.2);
+      };
+    }
+
+-- each cut line is the field line at its index
+abbrev pub AreMade : List Pieces → List FieldLine → Type 0
+AreMade [] [] = ⊤
+AreMade (c ∷ cs) (l ∷ ls) = MakesLine c l × AreMade cs ls
+AreMade [] (l ∷ ls) = ⊥
+AreMade (c ∷ cs) [] = ⊥
+
+pub record LinesCut (lines : List FieldLine) : Type 0 where
+  pub cuts : List Pieces
+  pub each : list_all is_cut cuts ≡ true
+  pub ends : list_all begins_anew cuts ≡ true
+  pub text : flat_map cut_text cuts ≡ flat_map line_text lines
+  pub count : length cuts ≡ length lines
+  pub makes : All MakesSome cuts
+  pub made : AreMade cuts lines
+
+pub lines_cut : (lines : List FieldLine) → All IsLine lines → LinesCut lines
+lines_cut [] each = record { cuts = []; each = refl; ends = refl; text = refl; count = refl; makes = All-nil MakesSome; made = tt }
+lines_cut (l ∷ ls) each =
+    let one = line_cut l (All-head IsLine l ls each) in
+    let others = lines_cut ls (All-tail IsLine l ls each) in
+    record {
+      cuts = one.cut ∷ others.cuts;
+      each = and_from _ _ one.is others.each;
+      ends = and_from _ _ one.ends others.ends;
+      text = λ i. one.makes.text i ++ others.text i;
+      count = omega (arith, others.count);
+      makes = All-cons MakesSome one.cut others.cuts (l, one.makes) others.makes;
+      made = (one.makes, others.made);
+    }
+
+all_but_first : (lines : List Pieces) (p : Pieces → Bool) → list_all p lines ≡ true → list_all p (drop 1 lines) ≡ true
+all_but_first [] p h = refl
+all_but_first (l ∷ ls) p h = (and_parts _ _ h).1
+
+-- ---- heads
+
+pub opened_head : (head : Head) (more : List ℕ) → head_text head ++ more ≡ start_text head.start ++ (flat_map line_text head.lines ++ 13 ∷ 10 ∷ more)
+opened_head head more =
+    append_assoc (start_text head.start) (flat_map line_text head.lines ++ 13 ∷ 10 ∷ []) more
+    ∙ ap (λ (s : List ℕ). start_text head.start ++ s) (append_assoc (flat_map line_text head.lines) (13 ∷ 10 ∷ []) more)
+
+-- the head's text and more, as it is cut
+pub record HeadCut (head : Head) (more bytes : List ℕ) : Type 0 where
+  pub start : StartCut head.start
+  pub lines : LinesCut head.lines
+  pub cut : IsCut start.text lines.cuts bytes
+  pub more_is : cut.more ≡ more
+
+pub head_cut : (head : Head) (more bytes : List ℕ) → IsHead head → bytes ≡ head_text head ++ more → HeadCut head more bytes
+head_cut head more bytes is e =
+    let start = start_cut head.start is.start in
+    let lines = lines_cut head.lines is.lines in
+    let section = flat_map cut_text lines.cuts ++ 13 ∷ 10 ∷ [] in
+    record {
+      start = start;
+      lines = lines;
+      cut = record {
+        section = section;
+        more = more;
+        clean = start.clean;
+        joined =
+            e
+            ∙ opened_head head more
+            ∙ ap (λ (x : List ℕ). x ++ (flat_map line_text head.lines ++ 13 ∷ 10 ∷ more)) start.is
+            ∙ append_assoc start.text (13 ∷ 10 ∷ []) (flat_map line_text head.lines ++ 13 ∷ 10 ∷ more)
+            ∙ ap (λ (x : List ℕ). start.text ++ 13 ∷ 10 ∷ (x ++ 13 ∷ 10 ∷ more)) (sym lines.text)
+            ∙ ap (λ (x : List ℕ). start.text ++ 13 ∷ 10 ∷ x) (sym (append_assoc (flat_map cut_text lines.cuts) (13 ∷ 10 ∷ []) more));
+        lines_are = record { joined = refl; each = lines.each; ends = all_but_first lines.cuts _ lines.ends };
+      };
+      more_is = refl;
+    }
+
+-- the bytes are the text of the head that they begin with, and what is left
+pub spelled_first : (head : Head) (used : ℕ) (bytes : List ℕ) → SpellsHead head used bytes → bytes ≡ head_text head ++ drop used bytes
+spelled_first head used bytes s = sym (take-append-drop used bytes) ∙ ap (λ (x : List ℕ). x ++ drop used bytes) s.spells.text
+
+-- and as many are used as the text has
+pub used_is : (head : Head) (used : ℕ) (bytes : List ℕ) → SpellsHead head used bytes → used ≡ length (head_text head)
+used_is head used bytes s = sym (length-take-le used bytes s.within) ∙ ap (length {A = ℕ}) s.spells.text
+
+pub spelled_cut : (head : Head) (used : ℕ) (bytes : List ℕ) → SpellsHead head used bytes → HeadCut head (drop used bytes) bytes
+spelled_cut head used bytes s = head_cut head (drop used bytes) bytes s.spells.is (spelled_first head used bytes s)
+
+-- its start line is one
+pub starts_well : (start : StartLine) → IsStartLine start → (cut : StartCut start) → ¬ MakesNoStart cut.text
+starts_well start is cut none = none start is (sym cut.is)

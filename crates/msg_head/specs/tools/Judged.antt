@@ -1,0 +1,49 @@
+-- What is answered to bytes, by its cause. No public clause cites this module.
+use Rattle.std.specs.Prelude.{◌≡◌, ◌≢◌, ℕ, ◌≤◌, List, length, Result, Ok, Err}
+use Rattle.msg_head.specs.declared.limits.TheConstants.{MAX_HEAD_BYTES}
+use Rattle.msg_head.specs.declared.head.HeadRead.{HeadRead}
+use Rattle.msg_head.specs.declared.head.HeadRead.TheVariants.{Whole, Partial}
+use Rattle.msg_head.specs.declared.error.Side.TheVariants.{Header}
+use Rattle.msg_head.specs.declared.error.HeadError.{HeadError}
+use Rattle.msg_head.specs.declared.error.HeadError.TheVariants.{Memory, BadStart}
+use Rattle.msg_head.specs.RawValues.{Pieces}
+use Rattle.msg_head.specs.Cuts.{IsSection, IsCut, MakesNoStart}
+use Rattle.msg_head.specs.Heads.{Spells, IsUnfinished}
+use Rattle.msg_head.specs.Views.{View, IsViewOf, Fills, head_of}
+use Rattle.msg_head.specs.Causes.{IsFault}
+use Rattle.msg_head.specs.tools.Texts.{IsClean}
+use Rattle.msg_head.specs.tools.Sections.{IsLinesFault}
+
+-- the bytes up to their first end, short enough and clean
+pub record IsCleanSection (section : List ℕ) : Type 0 where
+  pub is : IsSection section section
+  pub clean : IsClean section
+  pub short : length section ≤ MAX_HEAD_BYTES
+
+-- the view is that of the head which the section spells
+pub record IsSectionView (view : View) (section : List ℕ) : Type 0 where
+  pub bytes_are : view.bytes ≡ section
+  pub spells : Spells (head_of view) section
+  pub fills : Fills view
+
+-- the start is a start line, and the lines are refused for the fault
+pub record IsLateFault (start : List ℕ) (lines : List Pieces) (fault : HeadError) : Type 0 where
+  pub good : ¬ MakesNoStart start
+  pub lines_are : IsLinesFault Header lines fault
+
+-- why a clean section that is so cut is refused
+abbrev pub IsCutFault : List ℕ → List Pieces → HeadError → Type 0
+IsCutFault start lines BadStart = MakesNoStart start
+IsCutFault start lines fault = IsLateFault start lines fault
+
+-- why a clean section is refused
+abbrev pub IsSectionFault : List ℕ → HeadError → Type 0
+IsSectionFault section fault =
+    (start : List ℕ) × (lines : List Pieces)
+    × IsCut start lines section × IsCutFault start lines fault
+
+-- the answer's fact: a head's view, no end yet, or the first cause that holds
+abbrev pub Explains : List ℕ → Result HeadRead HeadError → Type 0
+Explains bytes (Ok (Whole view used)) = IsViewOf bytes view used
+Explains bytes (Ok Partial) = IsUnfinished bytes
+Explains bytes (Err fault) = fault ≢ Memory → IsFault bytes fault

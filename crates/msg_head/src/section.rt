@@ -1,0 +1,33 @@
+//! Where a head ends, and the ends in it that are none.
+
+ghost use Rattle.std.specs.Prelude.{IfSome, IfNone};
+ghost use Rattle.msg_head.specs.Cuts.{HasNoEnd, IsSection, IsFirstNakedEnd};
+ghost use Rattle.msg_head.specs.tools.Texts.{EndsWithLf, IsClean};
+
+use crate::slices::{rest_after, rest_from};
+use memchr::{memchr3, memmem};
+
+/// The bytes up to and with the first CRLF CRLF.
+pub(crate) fn head_section(bytes: &[u8]) -> Option<&[u8]>
+    ensures some { IfSome result (λ section. IsSection bytes.now section.now) }
+    ensures none { IfNone result (HasNoEnd bytes.now) }
+{
+    let end = memmem::find(bytes, b"\r\n\r\n")?;
+    Some(&bytes[..end + 4])
+}
+
+/// Where the first NUL stands, or the first CR without LF after it or LF without CR before it.
+pub(crate) fn first_naked_end(section: &[u8]) -> Option<usize>
+    requires { EndsWithLf section.now }
+    ensures some { IfSome result (λ offset. IsFirstNakedEnd section.now offset) }
+    ensures none { IfNone result (IsClean section.now) }
+{
+    let mut left = section;
+    'pieces: loop {
+        let n = memchr3(b'\0', b'\r', b'\n', left)?;
+        let Some(after) = rest_after(b"\r\n", rest_from(left, n)) else {
+            return Some(section.len() - left.len() + n);
+        };
+        left = after;
+    }
+}
