@@ -62,7 +62,27 @@ impl ByteClass for Class {
 pub fn is_tchar(byte: u8) -> bool
     ensures { result ≡ is_tchar byte }
 {
-    byte.is_ascii_alphanumeric() || b"!#$%&'*+-.^_`|~".contains(&byte)
+    matches!(
+        byte,
+        b'a'..=b'z'
+            | b'A'..=b'Z'
+            | b'0'..=b'9'
+            | b'!'
+            | b'#'
+            | b'$'
+            | b'%'
+            | b'&'
+            | b'\''
+            | b'*'
+            | b'+'
+            | b'-'
+            | b'.'
+            | b'^'
+            | b'_'
+            | b'`'
+            | b'|'
+            | b'~'
+    )
 }
 
 /// Whether the byte is SP or HTAB (RFC 9110 section 5.6.3).

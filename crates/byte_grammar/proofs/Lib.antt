@@ -6,5 +6,6 @@ pub mod Loops
 pub mod Count
 pub mod Whole
 pub mod Words
+pub mod Indices
 pub mod CauseLaws
 pub mod OffsetLaws

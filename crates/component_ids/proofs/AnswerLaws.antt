@@ -1,6 +1,7 @@
 -- The clauses of the reader of signature parameters.
 use Rattle.std.proofs.Common.{◌≡◌, ◌⊎◌, Bool, Result, Ok, Err, MatchResult, IfOk, IsTrue, ◌&&◌, refl, sym, ap, ◌∙◌, inl, inr}
 use Rattle.std.proofs.lemmas.List.Folds.{list_all-map}
+use Rattle.byte_grammar.specs.Causes.{AnswersWhere}
 use Rattle.sfv_text.specs.Range.{is_item_in_range, is_inner_in_range, are_params_in_range}
 use Rattle.sfv_text.specs.declared.value.InnerList.{InnerList}
 use Rattle.component_ids.specs.declared.fault.IdFault.{IdFault}
@@ -8,7 +9,7 @@ use Rattle.component_ids.specs.declared.fault.IdFault.TheVariants.{Memory, TooMa
 use Rattle.component_ids.specs.declared.params.SigParams.{SigParams}
 use Rattle.component_ids.specs.Identifiers.{item_of}
 use Rattle.component_ids.specs.SignatureParams.{list_of, are_sig_params_in_range, IsSigParams}
-use Rattle.component_ids.specs.Causes.{IsFault, AnswersWhere}
+use Rattle.component_ids.specs.Causes.{IsIdFault}
 use Rattle.component_ids.specs.tools.Reads.{Explains}
 use Rattle.component_ids.proofs.FaultLaws.{one_value, one_fault, no_cause, first_of}
 
@@ -16,13 +17,13 @@ use Rattle.component_ids.proofs.FaultLaws.{one_value, one_fault, no_cause, first
 
 -- what was read stands for the list, and of what was refused a fault comes first
 pub answers_fault : (list : InnerList) (result : Result SigParams IdFault) → Explains list result → (fault : IdFault) → ¬ (fault ≡ Memory)
-    → AnswersWhere result fault (IsFault list fault)
+    → AnswersWhere Memory result fault (IsIdFault list fault)
 answers_fault list result x fault not_memory = record { only = only_first list result x fault not_memory; there = first_there list result x fault }
   where
-    only_first : (list : InnerList) (result : Result SigParams IdFault) → Explains list result → (fault : IdFault) → ¬ (fault ≡ Memory) → result ≡ Err fault → IsFault list fault
+    only_first : (list : InnerList) (result : Result SigParams IdFault) → Explains list result → (fault : IdFault) → ¬ (fault ≡ Memory) → result ≡ Err fault → IsIdFault list fault
     only_first list result x fault known e = first_of list fault known (rw e at x)
 
-    first_there : (list : InnerList) (result : Result SigParams IdFault) → Explains list result → (fault : IdFault) → IsFault list fault → (result ≡ Err fault) ⊎ (result ≡ Err Memory)
+    first_there : (list : InnerList) (result : Result SigParams IdFault) → Explains list result → (fault : IdFault) → IsIdFault list fault → (result ≡ Err fault) ⊎ (result ≡ Err Memory)
     first_there list (Ok params) x fault first = absurd (no_cause list params x fault first.holds)
     first_there list (Err Memory) x fault first = inr refl
     first_there list (Err TooMany) x fault first = inl (ap (λ (f : IdFault). Err f) (one_fault list TooMany fault (first_of list TooMany (λ e. absurd cc) x) first))

@@ -20,9 +20,9 @@ use Rattle.component_ids.specs.SignatureParams.{is_typed, list_of, IsSigParams, 
 use Rattle.byte_grammar.specs.tools.Determined.{AreDetermined}
 use Rattle.byte_grammar.proofs.CauseLaws.{first_is_one}
 use Rattle.component_ids.specs.declared.params.TheConstants.{MAX_COMPONENTS}
-use Rattle.component_ids.specs.Causes.{IsFirstBad, IsFirstIllTyped, IsCause, order_of, IsFault}
+use Rattle.component_ids.specs.Causes.{IsFirstBadComponent, IsFirstIllTyped, IsCause, id_order, IsIdFault}
 use Rattle.component_ids.specs.tools.Reads.{AreIdentifiers, IsListFault, Explains}
-use Rattle.component_ids.proofs.Indices.{some_and, some_and_parts, find_none, all_at, slice_get_take}
+use Rattle.byte_grammar.proofs.Indices.{some_and, some_and_parts, find_none, all_at, slice_get_take}
 use Rattle.component_ids.proofs.RepeatedLaws.{not_repeated, first_repeated_once}
 
 -- ---- identifiers and their items
@@ -71,17 +71,17 @@ facts list params x =
 
 -- ---- the first item that is no identifier
 
-pub not_bad : (items : List Item) (i : ℕ) (r : BadReason) → list_all is_identifier items ≡ true → IsFirstBad items i r → ⊥
+pub not_bad : (items : List Item) (i : ℕ) (r : BadReason) → list_all is_identifier items ≡ true → IsFirstBadComponent items i r → ⊥
 not_bad items i r all first =
     let here = some_and_parts (λ (item : Item). reason_of item ≡ Some r) (slice_get items i) first.there in
     let isnt : is_identifier here.0 ≡ false = rw here.2 refl in false≢true (sym isnt ∙ all_at is_identifier items i here.0 all here.1)
 
-not_before : (items : List Item) (i j : ℕ) (r : BadReason) → i < j → list_all is_identifier (take j items) ≡ true → IsFirstBad items i r → ⊥
+not_before : (items : List Item) (i j : ℕ) (r : BadReason) → i < j → list_all is_identifier (take j items) ≡ true → IsFirstBadComponent items i r → ⊥
 not_before items i j r lt all first =
     let here = some_and_parts (λ (item : Item). reason_of item ≡ Some r) (slice_get items i) first.there in
     let isnt : is_identifier here.0 ≡ false = rw here.2 refl in false≢true (sym isnt ∙ all_at is_identifier (take j items) i here.0 all (slice_get_take items j i lt ∙ here.1))
 
-pub bad_once : (items : List Item) (i j : ℕ) (r s : BadReason) → IsFirstBad items i r → IsFirstBad items j s → (i ≡ j) × (r ≡ s)
+pub bad_once : (items : List Item) (i j : ℕ) (r s : BadReason) → IsFirstBadComponent items i r → IsFirstBadComponent items j s → (i ≡ j) × (r ≡ s)
 bad_once items i j r s first second = elim (cases_order i j) [
   | inl same ↦
       let one = some_and_parts (λ (item : Item). reason_of item ≡ Some r) (slice_get items i) first.there in
@@ -118,7 +118,7 @@ ill_typed_once params key other first second =
 -- ---- one cause each
 
 -- each cause determines its index, its reason or its key
-determined : (list : InnerList) → AreDetermined order_of (IsCause list)
+determined : (list : InnerList) → AreDetermined id_order (IsCause list)
 determined list TooMany TooMany e h k = refl
 determined list (BadComponent i r) (BadComponent j s) e h k = let once = bad_once list.items i j r s h k in cc (once.0, once.1)
 determined list (Repeated i) (Repeated j) e h k = cc (first_repeated_once (map id_of list.items) i j h k)
@@ -127,8 +127,8 @@ determined list Memory other e h k = absurd h
 determined list fault Memory e h k = absurd k
 determined list fault other e h k = absurd (omega arith)
 
-pub one_fault : (list : InnerList) (fault other : IdFault) → IsFault list fault → IsFault list other → fault ≡ other
-one_fault list fault other first second = first_is_one order_of (IsCause list) (determined list) fault other first second
+pub one_fault : (list : InnerList) (fault other : IdFault) → IsIdFault list fault → IsIdFault list other → fault ≡ other
+one_fault list fault other first second = first_is_one id_order (IsCause list) (determined list) fault other first second
 
 -- no cause holds of signature parameters
 pub no_cause : (list : InnerList) (params : SigParams) → IsParamsOf list params → (fault : IdFault) → ¬ IsCause list fault
@@ -138,7 +138,7 @@ no_cause list params is (Repeated i) repeated = not_repeated (map id_of list.ite
 no_cause list params is (BadParameter key) typed = not_ill_typed list.params key (facts list params is).typed typed
 no_cause list params is Memory none = none
 
-pub not_both : (list : InnerList) (params : SigParams) (fault : IdFault) → IsParamsOf list params → ¬ IsFault list fault
+pub not_both : (list : InnerList) (params : SigParams) (fault : IdFault) → IsParamsOf list params → ¬ IsIdFault list fault
 not_both list params fault is first = no_cause list params is fault first.holds
 
 -- signature parameters with one list are the same
@@ -150,21 +150,21 @@ one_value list a b a_is b_is =
 
 -- ---- what comes before a cause
 
-before_bad : (list : InnerList) → length list.items ≤ MAX_COMPONENTS → (other : IdFault) → order_of other < 1 → ¬ IsCause list other
+before_bad : (list : InnerList) → length list.items ≤ MAX_COMPONENTS → (other : IdFault) → id_order other < 1 → ¬ IsCause list other
 before_bad list few TooMany lt many = absurd (omega arith)
 before_bad list few (BadComponent i r) lt h = absurd (omega arith)
 before_bad list few (Repeated i) lt h = absurd (omega arith)
 before_bad list few (BadParameter key) lt h = absurd (omega arith)
 before_bad list few Memory lt h = absurd (omega arith)
 
-before_repeated : (list : InnerList) → AreIdentifiers list.items → (other : IdFault) → order_of other < 2 → ¬ IsCause list other
+before_repeated : (list : InnerList) → AreIdentifiers list.items → (other : IdFault) → id_order other < 2 → ¬ IsCause list other
 before_repeated list are TooMany lt many = let few = are.few in absurd (omega arith)
 before_repeated list are (BadComponent i r) lt bad = not_bad list.items i r are.each bad
 before_repeated list are (Repeated i) lt h = absurd (omega arith)
 before_repeated list are (BadParameter key) lt h = absurd (omega arith)
 before_repeated list are Memory lt h = absurd (omega arith)
 
-before_parameter : (list : InnerList) → AreIdentifiers list.items → AreDistinct (map id_of list.items) → (other : IdFault) → order_of other < 3 → ¬ IsCause list other
+before_parameter : (list : InnerList) → AreIdentifiers list.items → AreDistinct (map id_of list.items) → (other : IdFault) → id_order other < 3 → ¬ IsCause list other
 before_parameter list are distinct TooMany lt many = let few = are.few in absurd (omega arith)
 before_parameter list are distinct (BadComponent i r) lt bad = not_bad list.items i r are.each bad
 before_parameter list are distinct (Repeated i) lt repeated = not_repeated (map id_of list.items) i distinct repeated
@@ -172,7 +172,7 @@ before_parameter list are distinct (BadParameter key) lt h = absurd (omega arith
 before_parameter list are distinct Memory lt h = absurd (omega arith)
 
 -- what the reader refuses for is the first cause that holds
-pub first_of : (list : InnerList) (fault : IdFault) → ¬ (fault ≡ Memory) → IsListFault list fault → IsFault list fault
+pub first_of : (list : InnerList) (fault : IdFault) → ¬ (fault ≡ Memory) → IsListFault list fault → IsIdFault list fault
 first_of list TooMany known h = record { holds = h; none_before = λ other lt. absurd (omega arith) }
 first_of list (BadComponent i r) known h = record { holds = h.1; none_before = before_bad list h.0 }
 first_of list (Repeated i) known h = record { holds = h.1; none_before = before_repeated list h.0 }

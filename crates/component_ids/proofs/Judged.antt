@@ -18,10 +18,10 @@ use Rattle.component_ids.specs.declared.params.TheConstants.{MAX_COMPONENTS}
 use Rattle.component_ids.specs.Reasons.{reason_of, reason_against}
 use Rattle.component_ids.specs.Identifiers.{item_of, id_of, string_of, is_identifier, AreDistinct}
 use Rattle.component_ids.specs.SignatureParams.{is_typed, IsParamsOf}
-use Rattle.component_ids.specs.Causes.{IsFirstBad, IsFirstRepeated, IsFirstIllTyped, IsFault}
+use Rattle.component_ids.specs.Causes.{IsFirstBadComponent, IsFirstRepeated, IsFirstIllTyped, IsIdFault}
 use Rattle.component_ids.specs.tools.Reads.{AreIdentifiers}
 use Rattle.component_ids.specs.tools.SameTests.{is_same}
-use Rattle.component_ids.proofs.Indices.{some_and, find_failed}
+use Rattle.byte_grammar.proofs.Indices.{some_and, find_failed}
 use Rattle.component_ids.proofs.RepeatedLaws.{distinct_more, first_repeated_is}
 use Rattle.component_ids.proofs.FaultLaws.{are_params, first_of}
 
@@ -41,7 +41,7 @@ some_of : {X : Type 0} (o : Option X) → is_none o ≡ false → (x : X) × (o 
 some_of (Some x) h = (x, refl)
 some_of None h = absurd (false≢true (sym h))
 
-identifiers_or_bad : (items : List Item) → (list_all is_identifier items ≡ true) ⊎ ((i : ℕ) × (r : BadReason) × IsFirstBad items i r)
+identifiers_or_bad : (items : List Item) → (list_all is_identifier items ≡ true) ⊎ ((i : ℕ) × (r : BadReason) × IsFirstBadComponent items i r)
 identifiers_or_bad items = elim (first_failed is_identifier items) [
   | inl all ↦ inl all
   | inr at ↦
@@ -93,7 +93,7 @@ items_back (item ∷ items) h =
     λ i. first i ∷ others i
 
 abbrev Answer : InnerList → Type 0
-Answer list = ((params : SigParams) × IsParamsOf list params) ⊎ ((fault : IdFault) × IsFault list fault)
+Answer list = ((params : SigParams) × IsParamsOf list params) ⊎ ((fault : IdFault) × IsIdFault list fault)
 
 judge_params : (list : InnerList) → AreIdentifiers list.items → AreDistinct (map id_of list.items) → Answer list
 judge_params list identifiers distinct = elim (typed_or_not list.params) [

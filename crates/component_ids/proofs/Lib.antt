@@ -1,4 +1,3 @@
-pub mod Indices
 pub mod SameLaws
 pub mod RepeatedLaws
 pub mod FaultLaws

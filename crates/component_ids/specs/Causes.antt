@@ -1,5 +1,5 @@
 -- When an Inner List is no signature parameters, and for what fault (RFC 9421 sections 2 and 2.3).
-use Rattle.std.specs.Prelude.{◌≡◌, ◌⊎◌, ◌<◌, ℕ, not, Result, Err, Some, IsSomeAnd, IsTrue, Any, List, length, map, take, slice_get}
+use Rattle.std.specs.Prelude.{◌≡◌, ◌<◌, ℕ, not, Some, IsSomeAnd, IsTrue, Any, List, length, map, take, slice_get}
 use Rattle.std.specs.List.{find, list_all}
 use Rattle.byte_grammar.specs.Causes.{IsFirst}
 use Rattle.sfv_text.specs.declared.pair.Pair.{Pair}
@@ -16,7 +16,7 @@ use Rattle.component_ids.specs.Reasons.{reason_of}
 use Rattle.component_ids.specs.SignatureParams.{is_typed}
 
 -- the first item that is no identifier stands at the index, and this is the least reason
-pub record IsFirstBad (items : List Item) (index : ℕ) (reason : BadReason) : Type 0 where
+pub record IsFirstBadComponent (items : List Item) (index : ℕ) (reason : BadReason) : Type 0 where
   pub before : IsTrue (list_all is_identifier (take index items))
   pub there : IsSomeAnd (slice_get items index) (λ item. reason_of item ≡ Some reason)
 
@@ -33,25 +33,19 @@ IsFirstIllTyped params key = IsSomeAnd (find (λ p. not (is_typed p)) params) (�
 -- the fact for which the fault is answered, of an Inner List; being out of memory is none of them
 abbrev pub IsCause : InnerList → IdFault → Type 0
 IsCause list TooMany = MAX_COMPONENTS < length list.items
-IsCause list (BadComponent index reason) = IsFirstBad list.items index reason
+IsCause list (BadComponent index reason) = IsFirstBadComponent list.items index reason
 IsCause list (Repeated index) = IsFirstRepeated (map id_of list.items) index
 IsCause list (BadParameter key) = IsFirstIllTyped list.params key
 IsCause list Memory = ⊥
 
 -- the order in which the causes are judged
-abbrev pub order_of : IdFault → ℕ
-order_of TooMany = 0
-order_of (BadComponent index reason) = 1
-order_of (Repeated index) = 2
-order_of (BadParameter key) = 3
-order_of Memory = 4
+abbrev pub id_order : IdFault → ℕ
+id_order TooMany = 0
+id_order (BadComponent index reason) = 1
+id_order (Repeated index) = 2
+id_order (BadParameter key) = 3
+id_order Memory = 4
 
 -- the fault's cause is the first that holds
-abbrev pub IsFault : InnerList → IdFault → Type 0
-IsFault list fault = IsFirst order_of (IsCause list) fault
-
--- the fault is answered exactly where the fact holds, being out of memory aside
-pub record AnswersWhere {T : Type 0} (result : Result T IdFault) (fault : IdFault) (P : Type 0)
-    : Type 0 where
-  pub only : result ≡ Err fault → P
-  pub there : P → (result ≡ Err fault) ⊎ (result ≡ Err Memory)
+abbrev pub IsIdFault : InnerList → IdFault → Type 0
+IsIdFault list fault = IsFirst id_order (IsCause list) fault

@@ -3,18 +3,18 @@ use Rattle.std.specs.Prelude.{◌≡◌, ◌⊎◌}
 use Rattle.sfv_text.specs.declared.value.InnerList.{InnerList}
 use Rattle.component_ids.specs.declared.fault.IdFault.{IdFault}
 use Rattle.component_ids.specs.declared.params.SigParams.{SigParams}
-use Rattle.component_ids.specs.Causes.{IsFault}
+use Rattle.component_ids.specs.Causes.{IsIdFault}
 use Rattle.component_ids.specs.SignatureParams.{IsParamsOf}
 
 -- an Inner List is signature parameters, or has a fault
 abbrev pub HasAnswer : Type 0
 HasAnswer =
     (list : InnerList)
-    → ((params : SigParams) × IsParamsOf list params) ⊎ ((fault : IdFault) × IsFault list fault)
+    → ((params : SigParams) × IsParamsOf list params) ⊎ ((fault : IdFault) × IsIdFault list fault)
 
 -- it is signature parameters for one value
-abbrev pub HasOneValue : Type 0
-HasOneValue =
+abbrev pub HasOneSigParams : Type 0
+HasOneSigParams =
     (list : InnerList) (params other : SigParams)
     → IsParamsOf list params → IsParamsOf list other → params ≡ other
 
@@ -22,10 +22,10 @@ HasOneValue =
 abbrev pub HasOneFault : Type 0
 HasOneFault =
     (list : InnerList) (fault other : IdFault)
-    → IsFault list fault → IsFault list other → fault ≡ other
+    → IsIdFault list fault → IsIdFault list other → fault ≡ other
 
 -- it isn't both
 abbrev pub HasNotBoth : Type 0
 HasNotBoth =
     (list : InnerList) (params : SigParams) (fault : IdFault)
-    → IsParamsOf list params → ¬ IsFault list fault
+    → IsParamsOf list params → ¬ IsIdFault list fault

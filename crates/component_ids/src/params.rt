@@ -2,12 +2,13 @@
 
 ghost use Rattle.std.specs.Prelude.{◌≡◌, ◌<◌, not, length, IsErrOf, option_copied, IsTrue, IfOk, MatchResult};
 ghost use Rattle.std.specs.List.{find};
+ghost use Rattle.byte_grammar.specs.Causes.{AnswersWhere};
 ghost use Rattle.sfv_text.specs.Range.{is_inner_in_range};
 ghost use Rattle.sfv_text.specs.Strict.{inner_text};
 ghost use Rattle.component_ids.specs.declared.fault.IdFault.{IdFault};
 ghost use Rattle.component_ids.specs.declared.params.SigParams.{SigParams};
 ghost use Rattle.component_ids.specs.declared.params.TheConstants.{MAX_COMPONENTS};
-ghost use Rattle.component_ids.specs.Causes.{AnswersWhere, IsFault};
+ghost use Rattle.component_ids.specs.Causes.{IsIdFault};
 ghost use Rattle.component_ids.specs.tools.Reads.{Explains};
 ghost use Rattle.component_ids.specs.SignatureParams.{string_keys, is_typed, list_of, sig_params_text, are_sig_params_in_range, IsSigParams};
 ghost use Rattle.component_ids.specs.Table.{is_listed};
@@ -107,7 +108,7 @@ pub fn read_params(alloc: Global, list: &InnerList) -> Result<SigParams, IdFault
     // The first fault whose cause holds is answered, and no other.
     ensures too_many { MAX_COMPONENTS < length list.now.items → IsErrOf result IdFault.TooMany }
     ensures fault { (fault : IdFault) → ¬ (fault ≡ IdFault.Memory)
-        → AnswersWhere result fault (IsFault list.now fault) }
+        → AnswersWhere IdFault.Memory result fault (IsIdFault list.now fault) }
 
     // What was read prints as the list does, and may be printed where the list may.
     ensures text { IfOk result (λ params. sig_params_text params ≡ inner_text list.now) }

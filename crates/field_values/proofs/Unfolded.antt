@@ -7,7 +7,7 @@ use Rattle.std.proofs.lemmas.List.{append-nil, reverse-append, reverse-reverse}
 use Rattle.std.proofs.lemmas.List.Folds.{list_all-append}
 use Rattle.byte_classes.specs.Classes.{is_blank}
 use Rattle.byte_grammar.specs.Language.{starts_in}
-use Rattle.msg_head.specs.RawValues.{Pieces, is_line_byte, is_fold, are_pieces, fold_text, pieces_text}
+use Rattle.msg_head.specs.RawValues.{RawPieces, is_line_byte, is_fold, are_pieces, fold_text, pieces_text}
 use Rattle.field_values.specs.Values.{is_end, without_first_blanks, without_blanks, has_bytes, texts_of, value}
 use Rattle.field_values.specs.Laws.{IsTrimmed, AreTrimmed, IsUnfolded, ValueIsUnfolded}
 use Rattle.field_values.proofs.TextLaws.{kept, after_line, Stops, line_then, texts_after, texts_end}
@@ -122,7 +122,7 @@ texts_of_pieces first (fold ∷ folds) (text ∷ texts) line all are =
     ∙ ap (λ t. added t (kept (after_line (flat_map fold_text (fold ∷ folds))))) (text_is first text are.0)
     ∙ ap (added text) (texts_after (13 ∷ 10 ∷ rest) (inr refl) ∙ texts_end 13 (10 ∷ rest) refl ∙ texts_end 10 rest refl ∙ more)
 
-texts_are : (pieces : Pieces) (texts : List (List ℕ)) → are_pieces pieces ≡ true → AreTrimmed (pieces.first ∷ pieces.folds) texts → texts_of (pieces_text pieces) ≡ filter has_bytes texts
+texts_are : (pieces : RawPieces) (texts : List (List ℕ)) → are_pieces pieces ≡ true → AreTrimmed (pieces.first ∷ pieces.folds) texts → texts_of (pieces_text pieces) ≡ filter has_bytes texts
 texts_are pieces texts are is =
     let both = and_parts (list_all is_line_byte pieces.first) (list_all is_fold pieces.folds) are in
     texts_of_pieces pieces.first pieces.folds texts both.0 both.1 is

@@ -3,7 +3,7 @@ use Rattle.std.specs.Prelude.{◌≡◌, ⊤, ℕ, ◌↔◌, IsTrue, IsFalse, L
 use Rattle.std.specs.List.{list_all, join_by}
 use Rattle.byte_classes.specs.Classes.{is_blank}
 use Rattle.byte_grammar.specs.Language.{starts_in}
-use Rattle.msg_head.specs.RawValues.{Pieces, are_pieces, pieces_text}
+use Rattle.msg_head.specs.RawValues.{RawPieces, are_pieces, pieces_text}
 use Rattle.field_values.specs.Values.{value, has_bytes}
 
 -- the piece is blanks, the text, and blanks, and the text has no blank at either end
@@ -26,7 +26,7 @@ AreTrimmed (piece ∷ pieces) [] = ⊥
 -- The raw value is pieces joined by CRLF, and the value is their texts joined by SP. A piece of
 -- blanks alone lies within a run of SP, HTAB and CRLF, which makes one SP or ends the value.
 pub record IsUnfolded (raw unfolded : List ℕ) : Type 0 where
-  pub pieces : Pieces
+  pub pieces : RawPieces
   pub are : IsTrue (are_pieces pieces)
   pub joined : raw ≡ pieces_text pieces
   pub texts : List (List ℕ)
@@ -36,5 +36,5 @@ pub record IsUnfolded (raw unfolded : List ℕ) : Type 0 where
 -- The pieces of a raw value have one value, which is the line's.
 abbrev pub ValueIsUnfolded : Type 0
 ValueIsUnfolded =
-    (pieces : Pieces) → IsTrue (are_pieces pieces) → (unfolded : List ℕ)
+    (pieces : RawPieces) → IsTrue (are_pieces pieces) → (unfolded : List ℕ)
     → (IsUnfolded (pieces_text pieces) unfolded) ↔ (unfolded ≡ value (pieces_text pieces))

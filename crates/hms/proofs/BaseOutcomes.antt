@@ -9,7 +9,7 @@ use Rattle.byte_grammar.proofs.CauseLaws.{first_is_one}
 use Rattle.sfv_text.specs.declared.value.InnerList.{InnerList}
 use Rattle.sfv_read.specs.Reads.{ReadsInner}
 use Rattle.sfv_read.specs.Fault.{BeginsItemKind}
-use Rattle.component_ids.specs.Causes.{IsFault}
+use Rattle.component_ids.specs.Causes.{IsIdFault}
 use Rattle.component_ids.specs.declared.fault.IdFault.{IdFault}
 use Rattle.component_ids.specs.declared.id.ComponentId.{ComponentId}
 use Rattle.component_ids.specs.declared.params.SigParams.{SigParams}
@@ -17,7 +17,7 @@ use Rattle.component_ids.specs.Identifiers.{id_text}
 use Rattle.component_ids.specs.SignatureParams.{list_of}
 use Rattle.msg_body.specs.Messages.{Message, Spells}
 use Rattle.msg_body.specs.declared.error.MessageFault.{MessageFault}
-use Rattle.hms.specs.Base.{HasIdFault, LacksField, HasBase, Holds, IsCommandCause, command_order, order_of, ReportsBase}
+use Rattle.hms.specs.Base.{HasIdFault, LacksField, HasBase, Holds, IsCommandCause, command_order, outcome_order, ReportsBase}
 use Rattle.hms.specs.Covered.{ReadsParams, is_plain, first_absent}
 use Rattle.hms.specs.Messages.{IsMessageFault}
 use Rattle.hms.specs.SignatureBase.{base_of}
@@ -69,7 +69,7 @@ one_base params input text other a b =
 one_id_fault : (params : List ℕ) (f g : IdFault) → HasIdFault params f → HasIdFault params g → f ≡ g
 one_id_fault params f g a b =
     let lists : a.list ≡ b.list = one_list params a.list b.list a.reads b.reads in
-    one_fault b.list f g (subst (λ (list : InnerList). IsFault list f) lists a.is) b.is
+    one_fault b.list f g (subst (λ (list : InnerList). IsIdFault list f) lists a.is) b.is
 
 -- at the offset of a fault an item of another kind begins or not
 one_kind : (params : List ℕ) (i j : ℕ) → IsFaultOffset ReadsInner params i × ¬ BeginsItemKind ReadsInner params i
@@ -119,7 +119,7 @@ no_command_at : (c : CommandRefusal) (n : ℕ) → (n < 3) ⊎ (7 ≤ n) → com
 no_command_at c n (inl low) same = let among = among_commands c in absurd (omega (arith, among.0, low, same))
 no_command_at c n (inr high) same = let among = among_commands c in absurd (omega (arith, among.1, high, same))
 
-pub determined : (params input : List ℕ) → AreDetermined order_of (Holds params input)
+pub determined : (params input : List ℕ) → AreDetermined outcome_order (Holds params input)
 determined params input (Refused Arguments) other same a b = absurd a
 determined params input (Refused (Input TooLong)) (Refused Arguments) same a b = absurd b
 determined params input (Refused (Input TooLong)) (Refused (Input TooLong)) same a b = refl
@@ -161,7 +161,7 @@ pub record Passed (params input : List ℕ) (n : ℕ) : Type 0 where
       × (first_absent message.head.lines sig.ids ≡ None)
 
 pub none_before : (params input : List ℕ) (n : ℕ) → n ≤ 7 → Passed params input n
-    → (other : Outcome) → order_of other < n → Holds params input other → ⊥
+    → (other : Outcome) → outcome_order other < n → Holds params input other → ⊥
 none_before params input n most p (Refused Arguments) lt h = h
 none_before params input n most p (Refused (Input TooLong)) lt h = let short = p.short lt in absurd (omega (arith, short, h))
 none_before params input n most p (Refused (Input (NoMessage f))) lt h = let m = p.message lt in text_no_fault input m.0 f m.1 h
@@ -185,15 +185,15 @@ none_before params input n most p (Done text) lt h = absurd (omega (arith, most,
 none_before params input n most p (NotOk text) lt h = absurd (omega (arith, most, lt))
 
 -- the outcome that holds is the first, where what comes before it was passed
-pub first_outcome : (params input : List ℕ) (outcome : Outcome) → order_of outcome ≤ 7
-    → Passed params input (order_of outcome) → Holds params input outcome → ReportsBase params input outcome
+pub first_outcome : (params input : List ℕ) (outcome : Outcome) → outcome_order outcome ≤ 7
+    → Passed params input (outcome_order outcome) → Holds params input outcome → ReportsBase params input outcome
 first_outcome params input outcome most passed holds = record {
   holds = holds;
-  none_before = λ other lt. none_before params input (order_of outcome) most passed other lt;
+  none_before = λ other lt. none_before params input (outcome_order outcome) most passed other lt;
 }
 
 pub one_outcome : (params input : List ℕ) (one other : Outcome) → ReportsBase params input one → ReportsBase params input other → one ≡ other
-one_outcome params input = first_is_one order_of (Holds params input) (determined params input)
+one_outcome params input = first_is_one outcome_order (Holds params input) (determined params input)
 
 -- ---- what was passed, step by step
 

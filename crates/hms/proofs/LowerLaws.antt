@@ -10,7 +10,7 @@ use Rattle.msg_body.specs.declared.framing.Expect.TheVariants.{Any}
 use Rattle.msg_body.proofs.AnswerLaws.{one_message_at_law, one_message_fault_law, no_fault_at_message_law, no_message_yet_law}
 use Rattle.msg_body.specs.declared.error.MessageFault.{MessageFault}
 use Rattle.hms.specs.Messages.{IsMessageFault}
-use Rattle.component_ids.specs.Causes.{IsFault}
+use Rattle.component_ids.specs.Causes.{IsIdFault}
 use Rattle.component_ids.specs.SignatureParams.{IsSigParams, list_of}
 use Rattle.component_ids.specs.declared.fault.IdFault.{IdFault}
 use Rattle.component_ids.specs.declared.params.SigParams.{SigParams}
@@ -21,7 +21,7 @@ pub one_list : (params : List ℕ) (a b : InnerList) → ReadsInner params a →
 one_list = inner_has_one_value
 
 -- a list that is signature parameters has no fault
-pub no_fault : (sig : SigParams) (list : InnerList) (f : IdFault) → IsSigParams sig → list_of sig ≡ list → IsFault list f → ⊥
+pub no_fault : (sig : SigParams) (list : InnerList) (f : IdFault) → IsSigParams sig → list_of sig ≡ list → IsIdFault list f → ⊥
 no_fault sig list f is same fault = not_both list sig f (is, same) fault
 
 -- a list is one value of signature parameters

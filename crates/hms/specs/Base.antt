@@ -9,7 +9,7 @@ use Rattle.sfv_read.specs.Fault.{BeginsItemKind}
 use Rattle.component_ids.specs.declared.fault.IdFault.{IdFault}
 use Rattle.component_ids.specs.declared.id.ComponentId.{ComponentId}
 use Rattle.component_ids.specs.declared.params.SigParams.{SigParams}
-use Rattle.component_ids.specs.Causes.{IsFault}
+use Rattle.component_ids.specs.Causes.{IsIdFault}
 use Rattle.component_ids.specs.Identifiers.{id_text}
 use Rattle.msg_body.specs.Messages.{Message, Spells}
 use Rattle.hms.specs.Covered.{ReadsParams, first_absent, is_plain}
@@ -28,7 +28,7 @@ use Rattle.hms.specs.declared.outcome.Outcome.TheVariants.{Done, NotOk, Refused}
 pub record HasIdFault (params : List ℕ) (fault : IdFault) : Type 0 where
   pub list : InnerList
   pub reads : ReadsInner params list
-  pub is : IsFault list fault
+  pub is : IsIdFault list fault
 
 -- some covered component isn't the plain name of a field
 pub record CoversOther (params : List ℕ) : Type 0 where
@@ -85,14 +85,14 @@ command_order NotBuilt = 5
 command_order (Absent id) = 6
 
 -- the order in which outcomes are judged
-abbrev pub order_of : Outcome → ℕ
-order_of (Refused Arguments) = 0
-order_of (Refused (Input TooLong)) = 1
-order_of (Refused (Input (NoMessage fault))) = 2
-order_of (Refused (Command refusal)) = command_order refusal
-order_of (Done text) = 7
-order_of (NotOk text) = 8
+abbrev pub outcome_order : Outcome → ℕ
+outcome_order (Refused Arguments) = 0
+outcome_order (Refused (Input TooLong)) = 1
+outcome_order (Refused (Input (NoMessage fault))) = 2
+outcome_order (Refused (Command refusal)) = command_order refusal
+outcome_order (Done text) = 7
+outcome_order (NotOk text) = 8
 
 -- the outcome is the first that holds
 abbrev pub ReportsBase : List ℕ → List ℕ → Outcome → Type 0
-ReportsBase params input outcome = IsFirst order_of (Holds params input) outcome
+ReportsBase params input outcome = IsFirst outcome_order (Holds params input) outcome

@@ -1,7 +1,7 @@
 -- Inputs that are one whole message, and why others aren't (RFC 9112 sections 2.1 and 6.3).
 use Rattle.std.specs.Prelude.{◌≡◌, ◌<◌, ℕ, List, length}
 use Rattle.msg_head.specs.Heads.{IsUnfinished}
-use Rattle.msg_body.specs.Causes.{IsFault}
+use Rattle.msg_body.specs.Causes.{IsMessageError}
 use Rattle.msg_body.specs.Messages.{Message, SpellsMessage}
 use Rattle.msg_body.specs.declared.error.MessageFault.{MessageFault}
 use Rattle.msg_body.specs.declared.error.MessageFault.TheVariants.{Refused, Truncated, Trailing}
@@ -15,6 +15,6 @@ pub record GoesOn (input : List ℕ) (offset : ℕ) : Type 0 where
 
 -- why an input isn't one whole message
 abbrev pub IsMessageFault : List ℕ → MessageFault → Type 0
-IsMessageFault input (Refused error) = IsFault Any input error
+IsMessageFault input (Refused error) = IsMessageError Any input error
 IsMessageFault input (Truncated count) = (count ≡ length input) × IsUnfinished input
 IsMessageFault input (Trailing offset) = GoesOn input offset

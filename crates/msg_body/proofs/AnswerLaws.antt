@@ -2,7 +2,7 @@
 use Rattle.std.proofs.Common.{◌≡◌, ◌⊎◌, ℕ, Bool, true, false, List, refl, sym, ap, subst, ◌∙◌, inl, inr, IsTrue, IsFalse}
 use Rattle.std.proofs.lemmas.Bool.{false≢true}
 use Rattle.msg_head.specs.Heads.{Head, SpellsHead, IsUnfinished}
-use Rattle.msg_head.specs.Causes.{IsFault as IsHeadFault}
+use Rattle.msg_head.specs.Causes.{IsHeadError}
 use Rattle.msg_head.specs.declared.error.HeadError.{HeadError}
 use Rattle.msg_head.specs.declared.error.HeadError.TheVariants as head
 use Rattle.msg_head.proofs.FaultLaws.{one_fault}
@@ -11,19 +11,19 @@ use Rattle.msg_head.proofs.Outcomes.{no_fault_at_head_law, no_answer_yet_law}
 use Rattle.msg_body.specs.declared.framing.Expect.{Expect}
 use Rattle.msg_body.specs.declared.error.MessageError.{MessageError}
 use Rattle.msg_body.specs.declared.error.MessageError.TheVariants.{Memory, TooLong, NakedEnd, BadStart, TooManyLines, BadLine, NotYet}
-use Rattle.msg_body.specs.Causes.{HasHead, IsOfOtherKind, IsUnread, IsFault}
+use Rattle.msg_body.specs.Causes.{HasHead, IsOfOtherKind, IsUnread, IsMessageError}
 use Rattle.msg_body.specs.Errors.{error_of}
 use Rattle.msg_body.specs.Messages.{Message, SpellsMessage, is_expected, has_no_content}
-use Rattle.msg_body.specs.Laws.{OneMessageAt, OneFault, NoFaultAtMessage, NoAnswerYet}
+use Rattle.msg_body.specs.Laws.{OneMessageAt, OneMessageFault, NoFaultAtMessage, NoMessageAnswerYet}
 use Rattle.msg_body.proofs.Judged.{begins_with_head, is_unframed}
 
 -- a fault is one of the head, or of a whole head
 IsKind : Expect → List ℕ → MessageError → Type 0
 IsKind expect bytes f =
-    ((h : HeadError) × (error_of h ≡ f) × IsHeadFault bytes h)
+    ((h : HeadError) × (error_of h ≡ f) × IsHeadError bytes h)
     ⊎ (((BadStart ≡ f) × HasHead (IsOfOtherKind expect) bytes) ⊎ ((NotYet ≡ f) × HasHead (IsUnread expect) bytes))
 
-kind_of : (expect : Expect) (bytes : List ℕ) (f : MessageError) → IsFault expect bytes f → IsKind expect bytes f
+kind_of : (expect : Expect) (bytes : List ℕ) (f : MessageError) → IsMessageError expect bytes f → IsKind expect bytes f
 unfolding IsKind
 kind_of expect bytes (TooLong side) is = inl (head.TooLong side, refl, is)
 kind_of expect bytes (NakedEnd offset) is = inl (head.NakedEnd offset, refl, is)
@@ -34,7 +34,7 @@ kind_of expect bytes (BadLine side index) is = inl (head.BadLine side index, ref
 kind_of expect bytes NotYet is = inr (inr (refl, is))
 kind_of expect bytes Memory is = absurd is
 
-no_head_here : {P : Head → Type 0} (bytes : List ℕ) (h : HeadError) → IsHeadFault bytes h → HasHead P bytes → ⊥
+no_head_here : {P : Head → Type 0} (bytes : List ℕ) (h : HeadError) → IsHeadError bytes h → HasHead P bytes → ⊥
 no_head_here bytes h fault has = no_fault_at_head_law bytes has.head has.used h has.spells fault
 
 not_both_kinds : (expect : Expect) (bytes : List ℕ) → HasHead (IsOfOtherKind expect) bytes → HasHead (IsUnread expect) bytes → ⊥
@@ -54,7 +54,7 @@ same_kinds expect bytes f g (inr (inl a)) (inr (inr b)) = absurd (not_both_kinds
 same_kinds expect bytes f g (inr (inr a)) (inr (inl b)) = absurd (not_both_kinds expect bytes b.1 a.1)
 same_kinds expect bytes f g (inr (inr a)) (inr (inr b)) = sym a.0 ∙ b.0
 
-pub one_message_fault_law : OneFault
+pub one_message_fault_law : OneMessageFault
 one_message_fault_law expect bytes f g a b = same_kinds expect bytes f g (kind_of expect bytes f a) (kind_of expect bytes g b)
 
 no_kind : (expect : Expect) (bytes : List ℕ) (message : Message) (used : ℕ) (f : MessageError) → SpellsMessage message used bytes
@@ -78,7 +78,7 @@ no_kind_yet expect bytes f unfinished (inl a) = (no_answer_yet_law bytes unfinis
 no_kind_yet expect bytes f unfinished (inr (inl a)) = (no_answer_yet_law bytes unfinished).1 a.1.head a.1.used a.1.spells
 no_kind_yet expect bytes f unfinished (inr (inr a)) = (no_answer_yet_law bytes unfinished).1 a.1.head a.1.used a.1.spells
 
-pub no_message_yet_law : NoAnswerYet
+pub no_message_yet_law : NoMessageAnswerYet
 no_message_yet_law bytes unfinished = (
   (λ expect f is. no_kind_yet expect bytes f unfinished (kind_of expect bytes f is)),
   (λ message used spells. (no_answer_yet_law bytes unfinished).1 message.head used (begins_with_head message used bytes spells)),

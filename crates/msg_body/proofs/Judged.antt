@@ -8,8 +8,9 @@ use Rattle.msg_head.specs.declared.error.HeadError.{HeadError}
 use Rattle.msg_head.specs.declared.error.HeadError.TheVariants as error
 use Rattle.msg_head.specs.Heads.{Head, SpellsHead, head_text}
 use Rattle.msg_head.specs.Views.{View, IsViewOf, head_of}
-use Rattle.msg_head.specs.Causes.{IsFault as IsHeadFault, AnswersWhere as AnswersHeadWhere}
-use Rattle.msg_head.specs.Outcome.{IsWholeUnlessMemory as IsHeadUnlessMemory}
+use Rattle.byte_grammar.specs.Causes.{AnswersWhere}
+use Rattle.msg_head.specs.Causes.{IsHeadError}
+use Rattle.msg_head.specs.Outcome.{IsHeadUnlessMemory}
 use Rattle.msg_body.specs.declared.framing.Framing.{Framing}
 use Rattle.msg_body.specs.declared.framing.Framing.TheVariants as framing
 use Rattle.msg_body.specs.declared.framing.Expect.{Expect}
@@ -20,14 +21,14 @@ use Rattle.msg_body.specs.declared.error.MessageError.TheVariants.{Memory, TooLo
 use Rattle.msg_body.specs.Messages.{Message, SpellsMessage, IsFramedBy, is_expected, has_no_content}
 use Rattle.msg_body.specs.Views.{MessageParts}
 use Rattle.msg_body.specs.Errors.{error_of}
-use Rattle.msg_body.specs.Causes.{HasHead, IsOfOtherKind, IsUnread, IsFault, AnswersWhere}
+use Rattle.msg_body.specs.Causes.{HasHead, IsOfOtherKind, IsUnread, IsMessageError}
 
 -- what is known of the reader of heads, by its contract
 abbrev pub Finds : List ℕ → Result HeadRead HeadError → Type 0
 Finds bytes result = (head : Head) (used : ℕ) → SpellsHead head used bytes → IsHeadUnlessMemory result head used
 
 abbrev pub Faults : List ℕ → Result HeadRead HeadError → Type 0
-Faults bytes result = (fault : HeadError) → fault ≢ error.Memory → AnswersHeadWhere result fault (IsHeadFault bytes fault)
+Faults bytes result = (fault : HeadError) → fault ≢ error.Memory → AnswersWhere error.Memory result fault (IsHeadError bytes fault)
 
 -- ---- messages and heads
 
@@ -48,7 +49,7 @@ head_of_view bytes view n is = record { within = is.within; spells = rw (sym is.
 
 -- ---- a whole head
 
-pub no_head_fault : (bytes : List ℕ) (found : HeadRead) → Faults bytes (Ok found) → (fault : HeadError) → fault ≢ error.Memory → ¬ IsHeadFault bytes fault
+pub no_head_fault : (bytes : List ℕ) (found : HeadRead) → Faults bytes (Ok found) → (fault : HeadError) → fault ≢ error.Memory → ¬ IsHeadError bytes fault
 no_head_fault bytes found faults fault other is = elim ((faults fault other).there is) [
   | inl e ↦ absurd cc
   | inr e ↦ absurd cc
@@ -58,9 +59,9 @@ no_head_fault bytes found faults fault other is = elim ((faults fault other).the
 pub from_whole : (expect : Expect) (bytes : List ℕ) (found : HeadRead) → Faults bytes (Ok found)
     → (out : Result MessageRead MessageError)
     → ((fault : HeadError) → fault ≢ error.BadStart → fault ≢ error.Memory → out ≢ Err (error_of fault))
-    → AnswersWhere out BadStart (HasHead (IsOfOtherKind expect) bytes)
-    → AnswersWhere out NotYet (HasHead (IsUnread expect) bytes)
-    → (fault : MessageError) → fault ≢ Memory → AnswersWhere out fault (IsFault expect bytes fault)
+    → AnswersWhere Memory out BadStart (HasHead (IsOfOtherKind expect) bytes)
+    → AnswersWhere Memory out NotYet (HasHead (IsUnread expect) bytes)
+    → (fault : MessageError) → fault ≢ Memory → AnswersWhere Memory out fault (IsMessageError expect bytes fault)
 from_whole expect bytes found faults out others kind unread (TooLong side) other = record {
   only = λ e. absurd (others (error.TooLong side) (λ q. cc) (λ q. cc) e);
   there = λ is. absurd (no_head_fault bytes found faults (error.TooLong side) (λ q. cc) is);
@@ -116,7 +117,7 @@ never_not_yet (error.TooManyLines side) e = cc
 never_not_yet (error.BadLine side index) e = cc
 
 pub other_kind : (expect : Expect) (bytes : List ℕ) (view : View) (n : ℕ) → Finds bytes (Ok (read.Whole view n)) → Faults bytes (Ok (read.Whole view n)) → IsViewOf bytes view n → IsFalse (is_expected expect view.start)
-    → (fault : MessageError) → fault ≢ Memory → AnswersWhere {T = MessageRead} (Err BadStart) fault (IsFault expect bytes fault)
+    → (fault : MessageError) → fault ≢ Memory → AnswersWhere {T = MessageRead} Memory (Err BadStart) fault (IsMessageError expect bytes fault)
 other_kind expect bytes view n finds faults is fails =
     from_whole expect bytes (read.Whole view n) faults (Err BadStart)
     (λ fault a b e. not_bad_start fault a e)
@@ -129,7 +130,7 @@ other_kind expect bytes view n finds faults is fails =
     })
 
 pub unread : (expect : Expect) (bytes : List ℕ) (view : View) (n : ℕ) → Finds bytes (Ok (read.Whole view n)) → Faults bytes (Ok (read.Whole view n)) → IsViewOf bytes view n → IsTrue (is_expected expect view.start) → IsFalse (has_no_content (head_of view))
-    → (fault : MessageError) → fault ≢ Memory → AnswersWhere {T = MessageRead} (Err NotYet) fault (IsFault expect bytes fault)
+    → (fault : MessageError) → fault ≢ Memory → AnswersWhere {T = MessageRead} Memory (Err NotYet) fault (IsMessageError expect bytes fault)
 unread expect bytes view n finds faults is fits fails =
     from_whole expect bytes (read.Whole view n) faults (Err NotYet)
     (λ fault a b e. never_not_yet fault e)
@@ -137,7 +138,7 @@ unread expect bytes view n finds faults is fits fails =
     (record { only = λ e. record { head = head_of view; used = n; spells = head_of_view bytes view n is; holds = (fits, fails) }; there = λ h. inl refl })
 
 pub no_fault : (expect : Expect) (bytes : List ℕ) (view : View) (n : ℕ) → Finds bytes (Ok (read.Whole view n)) → Faults bytes (Ok (read.Whole view n)) → IsTrue (is_expected expect view.start) → IsTrue (has_no_content (head_of view))
-    → (answer : MessageRead) (fault : MessageError) → fault ≢ Memory → AnswersWhere (Ok answer) fault (IsFault expect bytes fault)
+    → (answer : MessageRead) (fault : MessageError) → fault ≢ Memory → AnswersWhere Memory (Ok answer) fault (IsMessageError expect bytes fault)
 no_fault expect bytes view n finds faults fits bare answer =
     from_whole expect bytes (read.Whole view n) faults (Ok answer)
     (λ fault a b e. cc)
@@ -155,7 +156,7 @@ pub no_head_yet : (bytes : List ℕ) → Finds bytes (Ok read.Partial) → {Hold
 no_head_yet bytes finds has = finds has.head has.used has.spells
 
 pub from_partial : (expect : Expect) (bytes : List ℕ) → Finds bytes (Ok read.Partial) → Faults bytes (Ok read.Partial)
-    → (fault : MessageError) → fault ≢ Memory → AnswersWhere {T = MessageRead} (Ok Partial) fault (IsFault expect bytes fault)
+    → (fault : MessageError) → fault ≢ Memory → AnswersWhere {T = MessageRead} Memory (Ok Partial) fault (IsMessageError expect bytes fault)
 from_partial expect bytes finds faults =
     from_whole expect bytes read.Partial faults (Ok Partial)
     (λ fault a b e. cc)
@@ -176,54 +177,41 @@ handed_on fault other same = elim same [
   | inr e ↦ inr (ap (λ x. Err (error_of x)) (of_errors fault error.Memory e))
 ]
 
+-- the error of a head that an error of a message comes from
+abbrev head_error : MessageError → HeadError
+head_error Memory = error.Memory
+head_error (TooLong side) = error.TooLong side
+head_error (NakedEnd offset) = error.NakedEnd offset
+head_error BadStart = error.BadStart
+head_error (TooManyLines side) = error.TooManyLines side
+head_error (BadLine side index) = error.BadLine side index
+head_error NotYet = error.Memory
+
+head_error_is : (fault : HeadError) → head_error (error_of fault) ≡ fault
+head_error_is error.Memory = refl
+head_error_is (error.TooLong side) = refl
+head_error_is (error.NakedEnd offset) = refl
+head_error_is error.BadStart = refl
+head_error_is (error.TooManyLines side) = refl
+head_error_is (error.BadLine side index) = refl
+
+of_message_errors : (a b : MessageError) → ◌≡◌ {A = Result MessageRead MessageError} (Err a) (Err b) → a ≡ b
+of_message_errors a b e = cc
+
 -- where the errors of messages are the same those of heads are
 pub same_error : (fault other : HeadError) → ◌≡◌ {A = Result MessageRead MessageError} (Err (error_of fault)) (Err (error_of other)) → fault ≡ other
-same_error error.Memory error.Memory e = refl
-same_error error.Memory (error.TooLong side) e = absurd cc
-same_error error.Memory (error.NakedEnd offset) e = absurd cc
-same_error error.Memory error.BadStart e = absurd cc
-same_error error.Memory (error.TooManyLines side) e = absurd cc
-same_error error.Memory (error.BadLine side index) e = absurd cc
-same_error (error.TooLong side) error.Memory e = absurd cc
-same_error (error.TooLong side) (error.TooLong other) e = cc
-same_error (error.TooLong side) (error.NakedEnd offset) e = absurd cc
-same_error (error.TooLong side) error.BadStart e = absurd cc
-same_error (error.TooLong side) (error.TooManyLines other) e = absurd cc
-same_error (error.TooLong side) (error.BadLine other index) e = absurd cc
-same_error (error.NakedEnd offset) error.Memory e = absurd cc
-same_error (error.NakedEnd offset) (error.TooLong other) e = absurd cc
-same_error (error.NakedEnd offset) (error.NakedEnd other) e = cc
-same_error (error.NakedEnd offset) error.BadStart e = absurd cc
-same_error (error.NakedEnd offset) (error.TooManyLines other) e = absurd cc
-same_error (error.NakedEnd offset) (error.BadLine other index) e = absurd cc
-same_error error.BadStart error.Memory e = absurd cc
-same_error error.BadStart (error.TooLong side) e = absurd cc
-same_error error.BadStart (error.NakedEnd offset) e = absurd cc
-same_error error.BadStart error.BadStart e = refl
-same_error error.BadStart (error.TooManyLines side) e = absurd cc
-same_error error.BadStart (error.BadLine side index) e = absurd cc
-same_error (error.TooManyLines side) error.Memory e = absurd cc
-same_error (error.TooManyLines side) (error.TooLong other) e = absurd cc
-same_error (error.TooManyLines side) (error.NakedEnd offset) e = absurd cc
-same_error (error.TooManyLines side) error.BadStart e = absurd cc
-same_error (error.TooManyLines side) (error.TooManyLines other) e = cc
-same_error (error.TooManyLines side) (error.BadLine other index) e = absurd cc
-same_error (error.BadLine side index) error.Memory e = absurd cc
-same_error (error.BadLine side index) (error.TooLong other) e = absurd cc
-same_error (error.BadLine side index) (error.NakedEnd offset) e = absurd cc
-same_error (error.BadLine side index) error.BadStart e = absurd cc
-same_error (error.BadLine side index) (error.TooManyLines other) e = absurd cc
-same_error (error.BadLine side index) (error.BadLine other at) e = cc
+same_error fault other e =
+    sym (head_error_is fault) ∙ ap head_error (of_message_errors (error_of fault) (error_of other) e) ∙ head_error_is other
 
 -- a fault of a head is answered where its error is
-pub of_head : (bytes : List ℕ) (fault : HeadError) → Faults bytes (Err fault) → (other : HeadError) → other ≢ error.Memory → AnswersWhere {T = MessageRead} (Err (error_of fault)) (error_of other) (IsHeadFault bytes other)
+pub of_head : (bytes : List ℕ) (fault : HeadError) → Faults bytes (Err fault) → (other : HeadError) → other ≢ error.Memory → AnswersWhere {T = MessageRead} Memory (Err (error_of fault)) (error_of other) (IsHeadError bytes other)
 of_head bytes fault faults other some = record {
   only = λ e. (faults other some).only (ap Err (same_error fault other e));
   there = λ is. handed_on fault other ((faults other some).there is);
 }
 
 pub from_error : (expect : Expect) (bytes : List ℕ) (fault : HeadError) → Finds bytes (Err fault) → Faults bytes (Err fault)
-    → (other : MessageError) → other ≢ Memory → AnswersWhere {T = MessageRead} (Err (error_of fault)) other (IsFault expect bytes other)
+    → (other : MessageError) → other ≢ Memory → AnswersWhere {T = MessageRead} Memory (Err (error_of fault)) other (IsMessageError expect bytes other)
 from_error expect bytes fault finds faults (TooLong side) some = of_head bytes fault faults (error.TooLong side) (λ q. cc)
 from_error expect bytes fault finds faults (NakedEnd offset) some = of_head bytes fault faults (error.NakedEnd offset) (λ q. cc)
 from_error expect bytes fault finds faults BadStart some =

@@ -1,9 +1,9 @@
 -- Why bytes are refused as a message of the expected kind. The faults of its head come first, in
 -- their order; where the head is whole there is none.
-use Rattle.std.specs.Prelude.{◌≡◌, ◌⊎◌, ℕ, IsTrue, IsFalse, List, Result, Err}
+use Rattle.std.specs.Prelude.{◌⊎◌, ℕ, IsTrue, IsFalse, List}
 use Rattle.msg_head.specs.declared.error.HeadError.TheVariants as head
 use Rattle.msg_head.specs.Heads.{Head, SpellsHead}
-use Rattle.msg_head.specs.Causes.{IsFault as IsHeadFault}
+use Rattle.msg_head.specs.Causes.{IsHeadError}
 use Rattle.msg_body.specs.declared.framing.Expect.{Expect}
 use Rattle.msg_body.specs.declared.error.MessageError.{MessageError}
 use Rattle.msg_body.specs.declared.error.MessageError.TheVariants.{Memory, TooLong, NakedEnd, BadStart, TooManyLines, BadLine, NotYet}
@@ -25,18 +25,12 @@ abbrev pub IsUnread : Expect → Head → Type 0
 IsUnread expect head = IsTrue (is_expected expect head.start) × IsFalse (has_no_content head)
 
 -- the fact for which the fault is answered; being out of memory is none of them
-abbrev pub IsFault : Expect → List ℕ → MessageError → Type 0
-IsFault expect bytes (TooLong side) = IsHeadFault bytes (head.TooLong side)
-IsFault expect bytes (NakedEnd offset) = IsHeadFault bytes (head.NakedEnd offset)
-IsFault expect bytes BadStart =
-    IsHeadFault bytes head.BadStart ⊎ HasHead (IsOfOtherKind expect) bytes
-IsFault expect bytes (TooManyLines side) = IsHeadFault bytes (head.TooManyLines side)
-IsFault expect bytes (BadLine side index) = IsHeadFault bytes (head.BadLine side index)
-IsFault expect bytes NotYet = HasHead (IsUnread expect) bytes
-IsFault expect bytes Memory = ⊥
-
--- the fault is answered exactly where the fact holds, being out of memory aside
-pub record AnswersWhere {T : Type 0} (result : Result T MessageError) (fault : MessageError)
-    (P : Type 0) : Type 0 where
-  pub only : result ≡ Err fault → P
-  pub there : P → (result ≡ Err fault) ⊎ (result ≡ Err Memory)
+abbrev pub IsMessageError : Expect → List ℕ → MessageError → Type 0
+IsMessageError expect bytes (TooLong side) = IsHeadError bytes (head.TooLong side)
+IsMessageError expect bytes (NakedEnd offset) = IsHeadError bytes (head.NakedEnd offset)
+IsMessageError expect bytes BadStart =
+    IsHeadError bytes head.BadStart ⊎ HasHead (IsOfOtherKind expect) bytes
+IsMessageError expect bytes (TooManyLines side) = IsHeadError bytes (head.TooManyLines side)
+IsMessageError expect bytes (BadLine side index) = IsHeadError bytes (head.BadLine side index)
+IsMessageError expect bytes NotYet = HasHead (IsUnread expect) bytes
+IsMessageError expect bytes Memory = ⊥

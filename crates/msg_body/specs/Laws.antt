@@ -3,7 +3,7 @@ use Rattle.std.specs.Prelude.{◌≡◌, ◌≢◌, ℕ, ◌<◌, List, length, 
 use Rattle.msg_head.specs.Heads.{IsUnfinished}
 use Rattle.msg_body.specs.declared.framing.Expect.{Expect}
 use Rattle.msg_body.specs.declared.error.MessageError.{MessageError}
-use Rattle.msg_body.specs.Causes.{IsFault}
+use Rattle.msg_body.specs.Causes.{IsMessageError}
 use Rattle.msg_body.specs.Messages.{Message, Spells, SpellsMessage, is_expected}
 
 -- Bytes spell at most one message.
@@ -25,21 +25,21 @@ OneMessageAt =
     SpellsMessage one n bytes → SpellsMessage other m bytes → (one ≡ other) × (n ≡ m)
 
 -- Bytes have at most one fault.
-abbrev pub OneFault : Type 0
-OneFault =
+abbrev pub OneMessageFault : Type 0
+OneMessageFault =
     (expect : Expect) (bytes : List ℕ) (fault other : MessageError) →
-    IsFault expect bytes fault → IsFault expect bytes other → fault ≡ other
+    IsMessageError expect bytes fault → IsMessageError expect bytes other → fault ≡ other
 
 -- Bytes that begin with a message of the expected kind have no fault.
 abbrev pub NoFaultAtMessage : Type 0
 NoFaultAtMessage =
     (expect : Expect) (bytes : List ℕ) (message : Message) (used : ℕ) (fault : MessageError) →
     SpellsMessage message used bytes → IsTrue (is_expected expect message.head.start)
-    → ¬ IsFault expect bytes fault
+    → ¬ IsMessageError expect bytes fault
 
 -- Bytes to which the end of a head may still come have no fault, and begin with no message.
-abbrev pub NoAnswerYet : Type 0
-NoAnswerYet =
+abbrev pub NoMessageAnswerYet : Type 0
+NoMessageAnswerYet =
     (bytes : List ℕ) → IsUnfinished bytes →
-    ((expect : Expect) (fault : MessageError) → ¬ IsFault expect bytes fault)
+    ((expect : Expect) (fault : MessageError) → ¬ IsMessageError expect bytes fault)
     × ((message : Message) (used : ℕ) → ¬ SpellsMessage message used bytes)

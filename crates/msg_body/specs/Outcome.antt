@@ -8,14 +8,14 @@ use Rattle.msg_body.specs.Messages.{Message}
 use Rattle.msg_body.specs.Views.{MessageParts, message_of}
 
 -- where the answer is a message's view and length, this holds of them
-abbrev pub IfWhole : Result MessageRead MessageError → (MessageParts → ℕ → Type 0) → Type 0
-IfWhole (Ok (Whole view used)) P = P view used
-IfWhole (Ok Partial) P = ⊤
-IfWhole (Err _) P = ⊤
+abbrev pub IfWholeMessage : Result MessageRead MessageError → (MessageParts → ℕ → Type 0) → Type 0
+IfWholeMessage (Ok (Whole view used)) P = P view used
+IfWholeMessage (Ok Partial) P = ⊤
+IfWholeMessage (Err _) P = ⊤
 
 -- the answer is a view of this message, and its length, or out of memory
-abbrev pub IsWholeUnlessMemory : Result MessageRead MessageError → Message → ℕ → Type 0
-IsWholeUnlessMemory (Ok (Whole view count)) message used =
+abbrev pub IsMessageUnlessMemory : Result MessageRead MessageError → Message → ℕ → Type 0
+IsMessageUnlessMemory (Ok (Whole view count)) message used =
     (message_of view ≡ message) × (count ≡ used)
-IsWholeUnlessMemory (Ok Partial) message used = ⊥
-IsWholeUnlessMemory (Err error) message used = error ≡ Memory
+IsMessageUnlessMemory (Ok Partial) message used = ⊥
+IsMessageUnlessMemory (Err error) message used = error ≡ Memory

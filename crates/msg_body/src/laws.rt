@@ -1,6 +1,6 @@
 //! Laws of messages.
 
-ghost use Rattle.msg_body.specs.Laws.{OneMessage, NoMessageInPrefix, OneMessageAt, OneFault, NoFaultAtMessage, NoAnswerYet};
+ghost use Rattle.msg_body.specs.Laws.{OneMessage, NoMessageInPrefix, OneMessageAt, OneMessageFault, NoFaultAtMessage, NoMessageAnswerYet};
 
 use msg_head::head_laws;
 
@@ -15,9 +15,9 @@ pub fn message_laws()
 
 /// Out of memory aside, the answer to bytes is one: they begin with a message of one length, or its
 /// end may still come, or they have one fault.
-pub fn bytes_have_one_answer()
+pub fn messages_have_one_answer()
     ensures at { OneMessageAt }
-    ensures fault { OneFault }
+    ensures fault { OneMessageFault }
     ensures message { NoFaultAtMessage }
-    ensures unfinished { NoAnswerYet }
+    ensures unfinished { NoMessageAnswerYet }
 {}

@@ -1,12 +1,13 @@
 //! Reads a message.
 
 ghost use Rattle.std.specs.Prelude.{◌≡◌, ◌≢◌, ℕ, ◌≤◌, ◌↔◌, length, Ok, IsTrue};
+ghost use Rattle.byte_grammar.specs.Causes.{AnswersWhere};
 ghost use Rattle.msg_head.specs.Heads.{IsUnfinished};
 ghost use Rattle.msg_body.specs.declared.limits.TheConstants.{MAX_MESSAGE_BYTES};
 ghost use Rattle.msg_body.specs.Messages.{Message, SpellsMessage, is_expected};
 ghost use Rattle.msg_body.specs.Views.{IsMessageViewOf};
-ghost use Rattle.msg_body.specs.Causes.{IsFault, AnswersWhere};
-ghost use Rattle.msg_body.specs.Outcome.{IfWhole, IsWholeUnlessMemory};
+ghost use Rattle.msg_body.specs.Causes.{IsMessageError};
+ghost use Rattle.msg_body.specs.Outcome.{IfWholeMessage, IsMessageUnlessMemory};
 
 use crate::error::MessageError;
 use crate::framing::{Expect, Framing};
@@ -35,15 +36,15 @@ pub fn read_message<'m>(
     _to_head: bool,
 ) -> Result<MessageRead<'m>, MessageError>
     requires { length bytes.now ≤ MAX_MESSAGE_BYTES }
-    ensures whole { IfWhole result (λ view used. IsMessageViewOf expect bytes.now view used) }
+    ensures whole { IfWholeMessage result (λ view used. IsMessageViewOf expect bytes.now view used) }
     ensures found { (message : Message) (used : ℕ) → SpellsMessage message used bytes.now
         → IsTrue (is_expected expect message.head.start)
-        → IsWholeUnlessMemory result message used }
+        → IsMessageUnlessMemory result message used }
     ensures partial { (result ≡ Ok MessageRead.Partial) ↔ IsUnfinished bytes.now }
 
     // The first fault whose cause holds is answered, and no other.
     ensures fault { (fault : MessageError) → fault ≢ MessageError.Memory
-        → AnswersWhere result fault (IsFault expect bytes.now fault) }
+        → AnswersWhere MessageError.Memory result fault (IsMessageError expect bytes.now fault) }
 {
     let (head, used) = match read_head(alloc, bytes)? {
         HeadRead::Whole(head, used) => (head, used),

@@ -12,10 +12,10 @@ use Rattle.msg_head.specs.declared.limits.TheConstants.{MAX_HEAD_BYTES, MAX_HEAD
 use Rattle.msg_head.specs.declared.error.Side.TheVariants.{Header, Trailer}
 use Rattle.msg_head.specs.declared.error.HeadError.{HeadError}
 use Rattle.msg_head.specs.declared.error.HeadError.TheVariants.{Memory, TooLong, NakedEnd, BadStart, TooManyLines, BadLine}
-use Rattle.msg_head.specs.RawValues.{Pieces}
+use Rattle.msg_head.specs.RawValues.{RawPieces}
 use Rattle.msg_head.specs.Cuts.{IsSection, IsFirstNakedEnd, IsCut, MakesNoLine, MakesNoStart}
 use Rattle.msg_head.specs.Heads.{Head, SpellsHead}
-use Rattle.msg_head.specs.Causes.{IsTooLong, HasNakedEnd, IsFirstBad, IsCause, order_of, IsFault}
+use Rattle.msg_head.specs.Causes.{IsTooLong, HasNakedEnd, IsFirstBadLine, IsHeadCause, head_order, IsHeadError}
 use Rattle.msg_head.specs.tools.Texts.{IsClean}
 use Rattle.msg_head.specs.tools.Sections.{IsLinesFault}
 use Rattle.msg_head.specs.tools.Judged.{IsCutFault, IsSectionFault}
@@ -38,13 +38,13 @@ all_there P (y ∷ ys) (suc j) zero x low is all =
     let same : y ≡ x = cc in subst P same (All-head P y (take j ys) all)
 all_there P (y ∷ ys) (suc j) (suc i) x low is all = all_there P ys j i x (omega (arith, low)) is (All-tail P y (take j ys) all)
 
-not_before : (lines : List Pieces) (i j : ℕ) → i < j → IsFirstBad lines i → IsFirstBad lines j → ⊥
+not_before : (lines : List RawPieces) (i j : ℕ) → i < j → IsFirstBadLine lines i → IsFirstBadLine lines j → ⊥
 not_before lines i j low a b =
     let here = some_and_parts MakesNoLine (slice_get lines i) a.there in
     let good = all_there MakesSome lines j i here.0 low here.1 b.before in
     here.2 good.0 good.1
 
-bad_once : (lines : List Pieces) (i j : ℕ) → IsFirstBad lines i → IsFirstBad lines j → i ≡ j
+bad_once : (lines : List RawPieces) (i j : ℕ) → IsFirstBadLine lines i → IsFirstBadLine lines j → i ≡ j
 bad_once lines i j a b = elim (cases_order i j) [
   | inl same ↦ same
   | inr apart ↦ elim apart [ inl less ↦ absurd (not_before lines i j less a b) | inr more ↦ absurd (not_before lines j i more b a) ]
@@ -57,7 +57,7 @@ naked_once text i j a b = elim (cases_order i j) [
 ]
 
 -- each cause determines its offset or its index
-determined : (bytes : List ℕ) → AreDetermined order_of (IsCause bytes)
+determined : (bytes : List ℕ) → AreDetermined head_order (IsHeadCause bytes)
 determined bytes (TooLong Header) (TooLong Header) e h k = refl
 determined bytes (NakedEnd i) (NakedEnd j) e h k =
     let section = one_section bytes h.section k.section h.is k.is in
@@ -66,7 +66,7 @@ determined bytes BadStart BadStart e h k = refl
 determined bytes (TooManyLines Header) (TooManyLines Header) e h k = refl
 determined bytes (BadLine Header i) (BadLine Header j) e h k =
     let same = one_cut h.start k.start h.lines k.lines bytes h.cut k.cut in
-    ap (BadLine Header) (bad_once k.lines i j (subst (λ (ls : List Pieces). IsFirstBad ls i) same.1 h.are) k.are)
+    ap (BadLine Header) (bad_once k.lines i j (subst (λ (ls : List RawPieces). IsFirstBadLine ls i) same.1 h.are) k.are)
 determined bytes (TooLong Trailer) other e h k = absurd h
 determined bytes (TooManyLines Trailer) other e h k = absurd h
 determined bytes (BadLine Trailer i) other e h k = absurd h
@@ -77,8 +77,8 @@ determined bytes fault (BadLine Trailer i) e h k = absurd k
 determined bytes fault Memory e h k = absurd k
 determined bytes fault other e h k = absurd (omega arith)
 
-pub one_fault : (bytes : List ℕ) (fault other : HeadError) → IsFault bytes fault → IsFault bytes other → fault ≡ other
-one_fault bytes fault other first second = first_is_one order_of (IsCause bytes) (determined bytes) fault other first second
+pub one_fault : (bytes : List ℕ) (fault other : HeadError) → IsHeadError bytes fault → IsHeadError bytes other → fault ≡ other
+one_fault bytes fault other first second = first_is_one head_order (IsHeadCause bytes) (determined bytes) fault other first second
 
 -- ---- where causes don't hold
 
@@ -105,7 +105,7 @@ not_naked : (bytes section : List ℕ) (at : ℕ) → IsSection bytes section �
 not_naked bytes section at is clean h =
     none_in_clean section at clean (subst (λ (s : List ℕ). IsFirstNakedEnd s at) (one_section bytes h.section section h.is is) h.first).is
 
-early : (bytes section : List ℕ) → Sectioned bytes section → (other : HeadError) → order_of other < 2 → ¬ IsCause bytes other
+early : (bytes section : List ℕ) → Sectioned bytes section → (other : HeadError) → head_order other < 2 → ¬ IsHeadCause bytes other
 early bytes section s (TooLong Header) low h = not_long bytes section s.is s.short h
 early bytes section s (NakedEnd at) low h = not_naked bytes section at s.is s.clean h
 early bytes section s (TooLong Trailer) low h = h
@@ -115,7 +115,7 @@ early bytes section s (BadLine side at) low h = omega (arith, low)
 early bytes section s Memory low h = h
 
 -- and the start is a start line
-middle : (bytes section start : List ℕ) (lines : List Pieces) → Sectioned bytes section → IsCut start lines bytes → ¬ MakesNoStart start → (other : HeadError) → order_of other < 3 → ¬ IsCause bytes other
+middle : (bytes section start : List ℕ) (lines : List RawPieces) → Sectioned bytes section → IsCut start lines bytes → ¬ MakesNoStart start → (other : HeadError) → head_order other < 3 → ¬ IsHeadCause bytes other
 middle bytes section start lines s cut good BadStart low h =
     good (subst MakesNoStart (one_cut h.start start h.lines lines bytes h.cut cut).0 h.bad)
 middle bytes section start lines s cut good (TooLong side) low h = early bytes section s (TooLong side) (omega arith) h
@@ -125,11 +125,11 @@ middle bytes section start lines s cut good (BadLine side at) low h = omega (ari
 middle bytes section start lines s cut good Memory low h = h
 
 -- and the lines are few
-late : (bytes section start : List ℕ) (lines : List Pieces) → Sectioned bytes section → IsCut start lines bytes → ¬ MakesNoStart start → length lines ≤ MAX_HEAD_LINES → (other : HeadError) → order_of other < 4 → ¬ IsCause bytes other
+late : (bytes section start : List ℕ) (lines : List RawPieces) → Sectioned bytes section → IsCut start lines bytes → ¬ MakesNoStart start → length lines ≤ MAX_HEAD_LINES → (other : HeadError) → head_order other < 4 → ¬ IsHeadCause bytes other
 late bytes section start lines s cut good few (TooManyLines Header) low h =
     let same = (one_cut h.start start h.lines lines bytes h.cut cut).1 in
     let many = h.are in
-    omega (arith, few, many, ap (length {A = Pieces}) same)
+    omega (arith, few, many, ap (length {A = RawPieces}) same)
 late bytes section start lines s cut good few (TooManyLines Trailer) low h = h
 late bytes section start lines s cut good few (TooLong side) low h = middle bytes section start lines s cut good (TooLong side) (omega arith) h
 late bytes section start lines s cut good few (NakedEnd at) low h = middle bytes section start lines s cut good (NakedEnd at) (omega arith) h
@@ -139,16 +139,16 @@ late bytes section start lines s cut good few Memory low h = h
 
 -- ---- which cause is the first
 
-pub too_long : (bytes : List ℕ) → IsTooLong bytes → IsFault bytes (TooLong Header)
+pub too_long : (bytes : List ℕ) → IsTooLong bytes → IsHeadError bytes (TooLong Header)
 too_long bytes long = record { holds = long; none_before = λ other low h. omega (arith, low) }
 
-pub first_naked : (bytes section : List ℕ) (at : ℕ) → IsSection bytes section → length section ≤ MAX_HEAD_BYTES → IsFirstNakedEnd section at → IsFault bytes (NakedEnd at)
+pub first_naked : (bytes section : List ℕ) (at : ℕ) → IsSection bytes section → length section ≤ MAX_HEAD_BYTES → IsFirstNakedEnd section at → IsHeadError bytes (NakedEnd at)
 first_naked bytes section at is short first = record {
   holds = record { section = section; is = is; first = first };
   none_before = none;
 }
   where
-    none : (other : HeadError) → order_of other < 1 → ¬ IsCause bytes other
+    none : (other : HeadError) → head_order other < 1 → ¬ IsHeadCause bytes other
     none (TooLong Header) low h = not_long bytes section is short h
     none (TooLong Trailer) low h = h
     none (NakedEnd i) low h = omega (arith, low)
@@ -158,7 +158,7 @@ first_naked bytes section at is short first = record {
     none Memory low h = h
 
 -- what is cut from the section is cut from the bytes
-wider_cut : (bytes section start : List ℕ) (lines : List Pieces) → IsSection bytes section → IsCut start lines section → IsCut start lines bytes
+wider_cut : (bytes section start : List ℕ) (lines : List RawPieces) → IsSection bytes section → IsCut start lines section → IsCut start lines bytes
 wider_cut bytes section start lines is cut = record {
   section = cut.section;
   more = cut.more ++ is.more;
@@ -171,7 +171,7 @@ wider_cut bytes section start lines is cut = record {
   lines_are = cut.lines_are;
 }
 
-pub section_fault : (bytes section : List ℕ) (fault : HeadError) → Sectioned bytes section → IsSectionFault section fault → fault ≢ Memory → IsFault bytes fault
+pub section_fault : (bytes section : List ℕ) (fault : HeadError) → Sectioned bytes section → IsSectionFault section fault → fault ≢ Memory → IsHeadError bytes fault
 section_fault bytes section BadStart s f own =
     let cut = wider_cut bytes section f.0 f.1 s.is f.2 in
     record { holds = record { start = f.0; lines = f.1; cut = cut; bad = f.3 }; none_before = early bytes section s }
@@ -193,7 +193,7 @@ section_fault bytes section (TooLong side) s f own = absurd f.3.lines_are
 section_fault bytes section (NakedEnd at) s f own = absurd f.3.lines_are
 section_fault bytes section Memory s f own = absurd (own refl)
 
-pub late_fault : (start : List ℕ) (lines : List Pieces) (fault : HeadError) → ¬ MakesNoStart start → IsLinesFault Header lines fault → IsCutFault start lines fault
+pub late_fault : (start : List ℕ) (lines : List RawPieces) (fault : HeadError) → ¬ MakesNoStart start → IsLinesFault Header lines fault → IsCutFault start lines fault
 late_fault start lines (TooLong side) good is = absurd is
 late_fault start lines (NakedEnd at) good is = absurd is
 late_fault start lines BadStart good is = absurd is
@@ -203,16 +203,16 @@ late_fault start lines Memory good is = record { good = good; lines_are = is }
 
 -- ---- where a head is spelled
 
-all_good : (lines : List Pieces) (i : ℕ) → All MakesSome lines → ¬ IsFirstBad lines i
+all_good : (lines : List RawPieces) (i : ℕ) → All MakesSome lines → ¬ IsFirstBadLine lines i
 all_good lines i all bad =
     let here = some_and_parts MakesNoLine (slice_get lines i) bad.there in
     let good = all_there MakesSome lines (suc i) i here.0 (omega arith) here.1 (All-take MakesSome (suc i) lines all) in
     here.2 good.0 good.1
 
-no_cause_cut : (bytes section start : List ℕ) (lines : List Pieces) → Sectioned bytes section → IsCut start lines bytes → ¬ MakesNoStart start → length lines ≤ MAX_HEAD_LINES → All MakesSome lines → (fault : HeadError) → ¬ IsCause bytes fault
+no_cause_cut : (bytes section start : List ℕ) (lines : List RawPieces) → Sectioned bytes section → IsCut start lines bytes → ¬ MakesNoStart start → length lines ≤ MAX_HEAD_LINES → All MakesSome lines → (fault : HeadError) → ¬ IsHeadCause bytes fault
 no_cause_cut bytes section start lines s cut good few makes (BadLine Header at) h =
     let same = (one_cut h.start start h.lines lines bytes h.cut cut).1 in
-    all_good lines at makes (subst (λ (ls : List Pieces). IsFirstBad ls at) same h.are)
+    all_good lines at makes (subst (λ (ls : List RawPieces). IsFirstBadLine ls at) same h.are)
 no_cause_cut bytes section start lines s cut good few makes (BadLine Trailer at) h = h
 no_cause_cut bytes section start lines s cut good few makes (TooLong side) h = late bytes section start lines s cut good few (TooLong side) (omega arith) h
 no_cause_cut bytes section start lines s cut good few makes (NakedEnd at) h = late bytes section start lines s cut good few (NakedEnd at) (omega arith) h
@@ -220,7 +220,7 @@ no_cause_cut bytes section start lines s cut good few makes BadStart h = late by
 no_cause_cut bytes section start lines s cut good few makes (TooManyLines side) h = late bytes section start lines s cut good few (TooManyLines side) (omega arith) h
 no_cause_cut bytes section start lines s cut good few makes Memory h = h
 
-pub no_cause_spelled : (bytes : List ℕ) (head : Head) (used : ℕ) → SpellsHead head used bytes → (fault : HeadError) → ¬ IsCause bytes fault
+pub no_cause_spelled : (bytes : List ℕ) (head : Head) (used : ℕ) → SpellsHead head used bytes → (fault : HeadError) → ¬ IsHeadCause bytes fault
 no_cause_spelled bytes head used s fault h =
     let own = spelled_cut head used bytes s in
     let there = cut_section own.start.text own.lines.cuts bytes own.cut in

@@ -7,7 +7,7 @@ use Rattle.std.proofs.lemmas.List.Folds.{list_all-append}
 use Rattle.std.proofs.lemmas.Grind.{flat_map-append}
 use Rattle.byte_classes.specs.Classes.{is_blank}
 use Rattle.byte_grammar.specs.Language.{starts_in}
-use Rattle.msg_head.specs.RawValues.{Pieces, are_pieces, is_fold, is_line_byte}
+use Rattle.msg_head.specs.RawValues.{RawPieces, are_pieces, is_fold, is_line_byte}
 use Rattle.msg_head.specs.Starts.{StartLine}
 use Rattle.msg_head.specs.Cuts.{AreLinesOf, IsCut, MakesNoStart, cut_text, is_cut, begins_anew}
 use Rattle.msg_head.specs.tools.Texts.{ended}
@@ -21,17 +21,17 @@ use Rattle.msg_head.proofs.Sectioning.{is_full, cut_ended}
 -- ---- pieces, joined to lines
 
 pub record Grouped (ps : List (List ℕ)) : Type 0 where
-  pub lines : List Pieces
+  pub lines : List RawPieces
   pub text : flat_map cut_text lines ≡ flat_map ended ps
   pub each : list_all is_cut lines ≡ true
   pub ends : list_all begins_anew (drop 1 lines) ≡ true
 
-one_more : (p : List ℕ) (ps : List (List ℕ)) → is_full p ≡ true → (lines : List Pieces) → flat_map cut_text lines ≡ flat_map ended ps
+one_more : (p : List ℕ) (ps : List (List ℕ)) → is_full p ≡ true → (lines : List RawPieces) → flat_map cut_text lines ≡ flat_map ended ps
     → list_all is_cut lines ≡ true
     → list_all begins_anew (drop 1 lines) ≡ true → Grouped (p ∷ ps)
 one_more p ps full [] text each ends =
     let both = and_parts (nat_lt 0 (length p)) (list_all is_line_byte p) full in
-    let own : Pieces = record { first = p; folds = [] } in
+    let own : RawPieces = record { first = p; folds = [] } in
     record {
       lines = own ∷ [];
       text = append-nil (cut_text own) ∙ cut_ended own ∙ append-nil (ended p) ∙ sym (append-nil (ended p)) ∙ ap (λ (x : List ℕ). ended p ++ x) text;
@@ -44,7 +44,7 @@ one_more p ps full (l ∷ ls) text each ends =
     let are = and_parts (list_all is_line_byte l.first) (list_all is_fold l.folds) (and_parts (nat_lt 0 (length l.first)) (are_pieces l) one.0).1 in
     elim (cases_Bool (starts_in is_blank l.first)) [
       | inl blank ↦
-          let own : Pieces = record { first = p; folds = l.first ∷ l.folds } in
+          let own : RawPieces = record { first = p; folds = l.first ∷ l.folds } in
           let fold : is_fold l.first ≡ true = and_from (starts_in is_blank l.first) (list_all is_line_byte l.first) blank are.0 in
           let own_text : cut_text own ≡ ended p ++ cut_text l = cut_ended own ∙ ap (λ (x : List ℕ). ended p ++ x) (sym (cut_ended l)) in
           record {
@@ -54,7 +54,7 @@ one_more p ps full (l ∷ ls) text each ends =
             ends = ends;
           }
       | inr plain ↦
-          let own : Pieces = record { first = p; folds = [] } in
+          let own : RawPieces = record { first = p; folds = [] } in
           record {
             lines = own ∷ l ∷ ls;
             text = λ i. (cut_ended own ∙ append-nil (ended p)) i ++ text i;
@@ -112,7 +112,7 @@ all_full section pre ((c ∷ cs) ∷ qs) clean e first =
 
 pub record SectionCut (section : List ℕ) : Type 0 where
   pub start : List ℕ
-  pub lines : List Pieces
+  pub lines : List RawPieces
   pub cut : IsCut start lines section
   pub no_more : cut.more ≡ []
 

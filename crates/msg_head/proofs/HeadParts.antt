@@ -8,7 +8,7 @@ use Rattle.std.proofs.lemmas.List.Elements.{All-nil, All-cons, All-head, All-tai
 use Rattle.std.proofs.lemmas.List.Folds.{list_all-append}
 use Rattle.byte_classes.specs.Classes.{is_blank, is_tchar, is_visible}
 use Rattle.byte_grammar.specs.Language.{starts_in}
-use Rattle.msg_head.specs.RawValues.{Pieces, are_pieces, is_fold, is_line_byte, fold_text}
+use Rattle.msg_head.specs.RawValues.{RawPieces, are_pieces, is_fold, is_line_byte, fold_text}
 use Rattle.msg_head.specs.Lines.{FieldLine, IsLine, line_text}
 use Rattle.msg_head.specs.Starts.{StartLine, request, status, IsStartLine, start_text, reason_text}
 use Rattle.msg_head.specs.Cuts.{IsCut, MakesLine, MakesNoStart, cut_text, is_cut, begins_anew}
@@ -66,7 +66,7 @@ not_blank c is = elim (cases_Bool (is_blank c)) [
 
 -- the field line as it is cut
 pub record LineCut (line : FieldLine) : Type 0 where
-  pub cut : Pieces
+  pub cut : RawPieces
   pub is : (nat_lt 0 (length cut.first) && are_pieces cut) ≡ true
   pub ends : not (starts_in is_blank cut.first) ≡ true
   pub makes : MakesLine cut line
@@ -101,14 +101,14 @@ line_cut line is =
     }
 
 -- each cut line is the field line at its index
-abbrev pub AreMade : List Pieces → List FieldLine → Type 0
+abbrev pub AreMade : List RawPieces → List FieldLine → Type 0
 AreMade [] [] = ⊤
 AreMade (c ∷ cs) (l ∷ ls) = MakesLine c l × AreMade cs ls
 AreMade [] (l ∷ ls) = ⊥
 AreMade (c ∷ cs) [] = ⊥
 
 pub record LinesCut (lines : List FieldLine) : Type 0 where
-  pub cuts : List Pieces
+  pub cuts : List RawPieces
   pub each : list_all is_cut cuts ≡ true
   pub ends : list_all begins_anew cuts ≡ true
   pub text : flat_map cut_text cuts ≡ flat_map line_text lines
@@ -131,7 +131,7 @@ lines_cut (l ∷ ls) each =
       made = (one.makes, others.made);
     }
 
-all_but_first : (lines : List Pieces) (p : Pieces → Bool) → list_all p lines ≡ true → list_all p (drop 1 lines) ≡ true
+all_but_first : (lines : List RawPieces) (p : RawPieces → Bool) → list_all p lines ≡ true → list_all p (drop 1 lines) ≡ true
 all_but_first [] p h = refl
 all_but_first (l ∷ ls) p h = (and_parts _ _ h).1
 

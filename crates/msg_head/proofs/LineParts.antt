@@ -4,7 +4,7 @@ use Rattle.std.specs.List.{list_all, flat_map}
 use Rattle.std.proofs.lemmas.Bool.{and_parts, and_from, lt-ltb}
 use Rattle.std.proofs.lemmas.List.Folds.{list_all-append}
 use Rattle.byte_classes.specs.Classes.{is_tchar}
-use Rattle.msg_head.specs.RawValues.{Pieces, are_pieces, is_fold, is_line_byte, pieces_text, fold_text}
+use Rattle.msg_head.specs.RawValues.{RawPieces, are_pieces, is_fold, is_line_byte, pieces_text, fold_text}
 use Rattle.msg_head.specs.Lines.{FieldLine, line_text}
 use Rattle.msg_head.specs.Cuts.{MakesLine, MakesNoLine}
 use Rattle.msg_head.specs.tools.Texts.{BeginsWithPieces, BeginsWithCut}
@@ -19,14 +19,14 @@ opened_line line more =
 
 -- ---- what stands in bytes that begin with a line which is a field line
 
-made_bytes : (cut : Pieces) (line : FieldLine) (more bytes : List ℕ) → BeginsWithCut cut more bytes → MakesLine cut line → bytes ≡ line.name ++ 58 ∷ (line.raw ++ 13 ∷ 10 ∷ more)
+made_bytes : (cut : RawPieces) (line : FieldLine) (more bytes : List ℕ) → BeginsWithCut cut more bytes → MakesLine cut line → bytes ≡ line.name ++ 58 ∷ (line.raw ++ 13 ∷ 10 ∷ more)
 made_bytes cut line more bytes b m =
     b.begins.joined ∙ sym (append_assoc (pieces_text cut) (13 ∷ 10 ∷ []) more) ∙ ap (λ (s : List ℕ). s ++ more) m.text ∙ opened_line line more
 
-name_stands : (cut : Pieces) (line : FieldLine) (more bytes : List ℕ) → BeginsWithCut cut more bytes → MakesLine cut line → StandsBefore is_tchar (58 ∷ []) line.name (line.raw ++ 13 ∷ 10 ∷ more) bytes
+name_stands : (cut : RawPieces) (line : FieldLine) (more bytes : List ℕ) → BeginsWithCut cut more bytes → MakesLine cut line → StandsBefore is_tchar (58 ∷ []) line.name (line.raw ++ 13 ∷ 10 ∷ more) bytes
 name_stands cut line more bytes b m = record { each = (and_parts _ _ m.is.name).1; joined = made_bytes cut line more bytes b m }
 
-raw_begins : (cut : Pieces) (line : FieldLine) (more bytes name rest : List ℕ) → BeginsWithCut cut more bytes → (m : MakesLine cut line) → StandsBefore is_tchar (58 ∷ []) name rest bytes → BeginsWithPieces m.is.raw.0 more rest
+raw_begins : (cut : RawPieces) (line : FieldLine) (more bytes name rest : List ℕ) → BeginsWithCut cut more bytes → (m : MakesLine cut line) → StandsBefore is_tchar (58 ∷ []) name rest bytes → BeginsWithPieces m.is.raw.0 more rest
 raw_begins cut line more bytes name rest b m n = record {
   are = m.is.raw.1;
   ends = b.begins.ends;
@@ -36,15 +36,15 @@ raw_begins cut line more bytes name rest b m n = record {
 
 -- ---- where no field line stands
 
-pub no_name : (cut : Pieces) (more bytes : List ℕ) → BeginsWithCut cut more bytes → NoneStandsBefore is_tchar (58 ∷ []) bytes → MakesNoLine cut
+pub no_name : (cut : RawPieces) (more bytes : List ℕ) → BeginsWithCut cut more bytes → NoneStandsBefore is_tchar (58 ∷ []) bytes → MakesNoLine cut
 no_name cut more bytes b none line m = none line.name _ (name_stands cut line more bytes b m)
 
-pub empty_name : (cut : Pieces) (more bytes name rest : List ℕ) → BeginsWithCut cut more bytes → StandsBefore is_tchar (58 ∷ []) name rest bytes → length name ≡ 0 → MakesNoLine cut
+pub empty_name : (cut : RawPieces) (more bytes name rest : List ℕ) → BeginsWithCut cut more bytes → StandsBefore is_tchar (58 ∷ []) name rest bytes → length name ≡ 0 → MakesNoLine cut
 empty_name cut more bytes name rest b n empty line m =
     let same = (one_before is_tchar 58 [] name line.name rest _ bytes refl n (name_stands cut line more bytes b m)).0 in
     empty_not is_tchar line.name m.is.name (sym (ap (length {A = ℕ}) same) ∙ empty)
 
-pub no_raw : (cut : Pieces) (more bytes name rest : List ℕ) → BeginsWithCut cut more bytes → StandsBefore is_tchar (58 ∷ []) name rest bytes → ((pieces : Pieces) (other : List ℕ) → ¬ BeginsWithPieces pieces other rest) → MakesNoLine cut
+pub no_raw : (cut : RawPieces) (more bytes name rest : List ℕ) → BeginsWithCut cut more bytes → StandsBefore is_tchar (58 ∷ []) name rest bytes → ((pieces : RawPieces) (other : List ℕ) → ¬ BeginsWithPieces pieces other rest) → MakesNoLine cut
 no_raw cut more bytes name rest b n none line m = none m.is.raw.0 more (raw_begins cut line more bytes name rest b m n)
 
 -- ---- where one stands
@@ -62,15 +62,15 @@ colon_in_first (x ∷ xs) rest (f ∷ fs) tail each e =
     (others.0, λ i. same i ∷ others.1 i, others.2)
 
 -- the name and the raw value's pieces
-pub record PartsOf (cut : Pieces) (more name rest : List ℕ) : Type 0 where
-  pub pieces : Pieces
+pub record PartsOf (cut : RawPieces) (more name rest : List ℕ) : Type 0 where
+  pub pieces : RawPieces
   pub begins : BeginsWithPieces pieces more rest
   pub makes : MakesLine cut (record { name = name; raw = pieces_text pieces })
 
-pub parts_of : (cut : Pieces) (more bytes name rest : List ℕ) → BeginsWithCut cut more bytes → StandsBefore is_tchar (58 ∷ []) name rest bytes → 0 < length name → PartsOf cut more name rest
+pub parts_of : (cut : RawPieces) (more bytes name rest : List ℕ) → BeginsWithCut cut more bytes → StandsBefore is_tchar (58 ∷ []) name rest bytes → 0 < length name → PartsOf cut more name rest
 parts_of cut more bytes name rest b n some =
     let at = colon_in_first name rest cut.first (10 ∷ after_first cut.folds more) n.each (sym n.joined ∙ b.begins.joined ∙ opened_pieces cut more) in
-    let pieces : Pieces = record { first = at.0; folds = cut.folds } in
+    let pieces : RawPieces = record { first = at.0; folds = cut.folds } in
     let cut_are = and_parts (list_all is_line_byte cut.first) (list_all is_fold cut.folds) b.begins.are in
     let clean = and_parts (list_all is_line_byte name) (list_all is_line_byte (58 ∷ at.0)) (sym (list_all-append is_line_byte name (58 ∷ at.0)) ∙ ap (list_all is_line_byte) (sym at.1) ∙ cut_are.0) in
     let are : are_pieces pieces ≡ true = and_from (list_all is_line_byte at.0) (list_all is_fold cut.folds) clean.1 cut_are.1 in

@@ -5,7 +5,7 @@ use Rattle.std.proofs.lemmas.Bool.{and_parts, and_from, cases_Bool, eqb-true, fa
 use Rattle.std.proofs.lemmas.List.{append-nil, append_cancel_right, take-append-drop, length-take-le}
 use Rattle.std.proofs.lemmas.List.Folds.{list_all-append}
 use Rattle.byte_classes.specs.Classes.{is_digit, is_tchar, is_visible}
-use Rattle.msg_head.specs.RawValues.{Pieces, is_line_byte}
+use Rattle.msg_head.specs.RawValues.{RawPieces, is_line_byte}
 use Rattle.msg_head.specs.Lines.{FieldLine}
 use Rattle.msg_head.specs.Starts.{StartLine, request, status, RequestLine, IsRequestLine, StatusLine, IsStatusLine, IsStartLine, start_text, reason_text, request_text, status_text}
 use Rattle.msg_head.specs.Cuts.{MakesLine}
@@ -70,18 +70,18 @@ one_start (status one) (request other) more rest a b e = absurd (not_both other 
 
 -- ---- field lines
 
-pub one_made : (cut : Pieces) (one other : FieldLine) → MakesLine cut one → MakesLine cut other → one ≡ other
+pub one_made : (cut : RawPieces) (one other : FieldLine) → MakesLine cut one → MakesLine cut other → one ≡ other
 one_made cut one other a b =
     let names = one_prefix is_tchar 58 one.name other.name (one.raw ++ 13 ∷ 10 ∷ []) (other.raw ++ 13 ∷ 10 ∷ []) refl (and_parts _ _ a.is.name).1 (and_parts _ _ b.is.name).1 (sym a.text ∙ b.text) in
     let raws = append_cancel_right one.raw other.raw (13 ∷ 10 ∷ []) names.1 in
     λ i. record { name = names.0 i; raw = raws i }
 
-one_lines_made : (cuts others : List Pieces) (ls ms : List FieldLine) → cuts ≡ others → AreMade cuts ls → AreMade others ms → ls ≡ ms
+one_lines_made : (cuts others : List RawPieces) (ls ms : List FieldLine) → cuts ≡ others → AreMade cuts ls → AreMade others ms → ls ≡ ms
 one_lines_made [] [] [] [] e a b = refl
 one_lines_made (c ∷ cs) (d ∷ ds) (l ∷ ls) (m ∷ ms) e a b =
     let first : c ≡ d = cc in
     let rest : cs ≡ ds = cc in
-    let same = one_made d l m (subst (λ (x : Pieces). MakesLine x l) first a.0) b.0 in
+    let same = one_made d l m (subst (λ (x : RawPieces). MakesLine x l) first a.0) b.0 in
     let others = one_lines_made cs ds ls ms rest a.1 b.1 in
     λ i. same i ∷ others i
 one_lines_made (c ∷ cs) [] ls ms e a b = absurd cc

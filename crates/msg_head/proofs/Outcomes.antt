@@ -1,40 +1,41 @@
 -- Each answer to bytes has its cause, and no two causes are met.
 use Rattle.std.proofs.Common.{◌≡◌, ◌≢◌, ℕ, ◌⊎◌, inl, inr, List, ◌∷◌, [], ◌++◌, refl, sym, subst, ap, ◌∙◌, arith, append_assoc}
 use Rattle.std.specs.Prelude.{Result, Ok, Err, IsErrAnd}
+use Rattle.byte_grammar.specs.Causes.{AnswersWhere}
 use Rattle.msg_head.specs.declared.head.HeadRead.{HeadRead}
 use Rattle.msg_head.specs.declared.head.HeadRead.TheVariants.{Whole, Partial}
 use Rattle.msg_head.specs.declared.error.Side.TheVariants.{Header, Trailer}
 use Rattle.msg_head.specs.declared.error.HeadError.{HeadError}
 use Rattle.msg_head.specs.declared.error.HeadError.TheVariants.{Memory, TooLong, NakedEnd, BadStart, TooManyLines, BadLine}
-use Rattle.msg_head.specs.RawValues.{Pieces}
+use Rattle.msg_head.specs.RawValues.{RawPieces}
 use Rattle.msg_head.specs.Cuts.{IsSection, IsCut}
 use Rattle.msg_head.specs.Heads.{Head, SpellsHead, IsUnfinished}
 use Rattle.msg_head.specs.Views.{head_of}
-use Rattle.msg_head.specs.Causes.{IsCause, IsFault, AnswersWhere}
-use Rattle.msg_head.specs.Outcome.{IsWholeUnlessMemory}
+use Rattle.msg_head.specs.Causes.{IsHeadCause, IsHeadError}
+use Rattle.msg_head.specs.Outcome.{IsHeadUnlessMemory}
 use Rattle.msg_head.specs.tools.Texts.{EndsWithLf}
-use Rattle.msg_head.specs.tools.Judged.{Explains}
-use Rattle.msg_head.specs.Laws.{NoFaultAtHead, NoAnswerYet}
+use Rattle.msg_head.specs.tools.Judged.{ExplainsHead}
+use Rattle.msg_head.specs.Laws.{NoFaultAtHead, NoHeadAnswerYet}
 use Rattle.msg_head.proofs.HeadParts.{spelled_cut}
 use Rattle.msg_head.proofs.Sectioning.{cut_section}
 use Rattle.msg_head.proofs.OneHeads.{one_head_law}
 use Rattle.msg_head.proofs.FaultLaws.{one_fault, no_cause_spelled}
 use Rattle.msg_head.proofs.Wholes.{no_section, spelled_by}
 
-pub explains_err : (bytes : List ℕ) (result : Result HeadRead HeadError) (e : HeadError) → IsErrAnd result (λ given. given ≡ e) → (e ≢ Memory → IsFault bytes e) → Explains bytes result
+pub explains_err : (bytes : List ℕ) (result : Result HeadRead HeadError) (e : HeadError) → IsErrAnd result (λ given. given ≡ e) → (e ≢ Memory → IsHeadError bytes e) → ExplainsHead bytes result
 explains_err bytes (Ok x) e is fault = absurd is
-explains_err bytes (Err f) e is fault = λ own. subst (IsFault bytes) (sym is) (fault (λ same. own (is ∙ same)))
+explains_err bytes (Err f) e is fault = λ own. subst (IsHeadError bytes) (sym is) (fault (λ same. own (is ∙ same)))
 
 pub ends_with_lf : (bytes section : List ℕ) → IsSection bytes section → EndsWithLf section
 ends_with_lf bytes section s = (s.before ++ 13 ∷ 10 ∷ 13 ∷ [], s.ends ∙ sym (append_assoc s.before (13 ∷ 10 ∷ 13 ∷ []) (10 ∷ [])))
 
 -- ---- where bytes are unfinished
 
-unfinished_cut : (bytes start : List ℕ) (lines : List Pieces) → IsUnfinished bytes → ¬ IsCut start lines bytes
+unfinished_cut : (bytes start : List ℕ) (lines : List RawPieces) → IsUnfinished bytes → ¬ IsCut start lines bytes
 unfinished_cut bytes start lines u cut =
     let there = cut_section start lines bytes cut in no_section bytes there.section u there.is
 
-no_cause_unfinished : (bytes : List ℕ) → IsUnfinished bytes → (fault : HeadError) → ¬ IsCause bytes fault
+no_cause_unfinished : (bytes : List ℕ) → IsUnfinished bytes → (fault : HeadError) → ¬ IsHeadCause bytes fault
 no_cause_unfinished bytes u (TooLong Header) h =
     let short = u.short in
     let long = h.long in
@@ -54,7 +55,7 @@ not_both bytes head used s u =
 
 -- ---- the clauses of the reader
 
-pub found_is : (bytes : List ℕ) (result : Result HeadRead HeadError) → Explains bytes result → (head : Head) (used : ℕ) → SpellsHead head used bytes → IsWholeUnlessMemory result head used
+pub found_is : (bytes : List ℕ) (result : Result HeadRead HeadError) → ExplainsHead bytes result → (head : Head) (used : ℕ) → SpellsHead head used bytes → IsHeadUnlessMemory result head used
 found_is bytes (Ok (Whole view count)) x head used s =
     one_head_law bytes (head_of view) head count used (spelled_by bytes view count x) s
 found_is bytes (Ok Partial) x head used s = not_both bytes head used s x
@@ -73,12 +74,12 @@ memory_or_not BadStart = inr (λ e. cc)
 memory_or_not (TooManyLines side) = inr (λ e. cc)
 memory_or_not (BadLine side at) = inr (λ e. cc)
 
-only_fault : (bytes : List ℕ) (result : Result HeadRead HeadError) → Explains bytes result → (fault : HeadError) → fault ≢ Memory → result ≡ Err fault → IsFault bytes fault
+only_fault : (bytes : List ℕ) (result : Result HeadRead HeadError) → ExplainsHead bytes result → (fault : HeadError) → fault ≢ Memory → result ≡ Err fault → IsHeadError bytes fault
 only_fault bytes (Ok x) h fault own e = absurd cc
 only_fault bytes (Err f) h fault own e =
-    let same : f ≡ fault = cc in subst (IsFault bytes) same (h (λ m. own (sym same ∙ m)))
+    let same : f ≡ fault = cc in subst (IsHeadError bytes) same (h (λ m. own (sym same ∙ m)))
 
-fault_there : (bytes : List ℕ) (result : Result HeadRead HeadError) → Explains bytes result → (fault : HeadError) → IsFault bytes fault → (result ≡ Err fault) ⊎ (result ≡ Err Memory)
+fault_there : (bytes : List ℕ) (result : Result HeadRead HeadError) → ExplainsHead bytes result → (fault : HeadError) → IsHeadError bytes fault → (result ≡ Err fault) ⊎ (result ≡ Err Memory)
 fault_there bytes (Ok (Whole view count)) x fault f =
     absurd (no_cause_spelled bytes (head_of view) count (spelled_by bytes view count x) fault f.holds)
 fault_there bytes (Ok Partial) x fault f = absurd (no_cause_unfinished bytes x fault f.holds)
@@ -87,13 +88,13 @@ fault_there bytes (Err e) x fault f = elim (memory_or_not e) [
   | inr own ↦ inl (ap Err (one_fault bytes e fault (x own) f))
 ]
 
-pub fault_is : (bytes : List ℕ) (result : Result HeadRead HeadError) → Explains bytes result → (fault : HeadError) → fault ≢ Memory → AnswersWhere result fault (IsFault bytes fault)
+pub fault_is : (bytes : List ℕ) (result : Result HeadRead HeadError) → ExplainsHead bytes result → (fault : HeadError) → fault ≢ Memory → AnswersWhere Memory result fault (IsHeadError bytes fault)
 fault_is bytes result x fault own = record { only = only_fault bytes result x fault own; there = fault_there bytes result x fault }
 
 -- the laws of answers
 pub no_fault_at_head_law : NoFaultAtHead
 no_fault_at_head_law bytes head used fault spells is = no_cause_spelled bytes head used spells fault is.holds
 
-pub no_answer_yet_law : NoAnswerYet
+pub no_answer_yet_law : NoHeadAnswerYet
 no_answer_yet_law bytes unfinished =
     ((λ fault is. no_cause_unfinished bytes unfinished fault is.holds), (λ head used spells. not_both bytes head used spells unfinished))

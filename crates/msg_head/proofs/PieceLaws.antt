@@ -5,7 +5,7 @@ use Rattle.std.proofs.lemmas.Bool.{and_parts, false≢true}
 use Rattle.std.proofs.lemmas.List.{append_cancel_left}
 use Rattle.byte_classes.specs.Classes.{is_blank}
 use Rattle.byte_grammar.specs.Language.{starts_in}
-use Rattle.msg_head.specs.RawValues.{Pieces, is_fold, is_line_byte, fold_text, pieces_text}
+use Rattle.msg_head.specs.RawValues.{RawPieces, is_fold, is_line_byte, fold_text, pieces_text}
 use Rattle.msg_head.specs.tools.Texts.{BeginsWithPieces}
 use Rattle.msg_head.proofs.Prefixes.{one_prefix}
 
@@ -19,7 +19,7 @@ opened_folds [] more = refl
 opened_folds (f ∷ fs) more =
     ap (λ (s : List ℕ). 13 ∷ 10 ∷ s) (append_assoc f (flat_map fold_text fs) (13 ∷ 10 ∷ more) ∙ ap (λ (s : List ℕ). f ++ s) (opened_folds fs more))
 
-pub opened_pieces : (pieces : Pieces) (more : List ℕ) → pieces_text pieces ++ 13 ∷ 10 ∷ more ≡ pieces.first ++ 13 ∷ 10 ∷ after_first pieces.folds more
+pub opened_pieces : (pieces : RawPieces) (more : List ℕ) → pieces_text pieces ++ 13 ∷ 10 ∷ more ≡ pieces.first ++ 13 ∷ 10 ∷ after_first pieces.folds more
 opened_pieces pieces more =
     append_assoc pieces.first (flat_map fold_text pieces.folds) (13 ∷ 10 ∷ more) ∙ ap (λ (s : List ℕ). pieces.first ++ s) (opened_folds pieces.folds more)
 
@@ -41,7 +41,7 @@ one_folds (f ∷ fs) (g ∷ gs) more rest a b m r e =
     let others = one_folds fs gs more rest p.1 q.1 m r (append_cancel_left (10 ∷ []) _ _ same.1) in
     (λ i. same.0 i ∷ others.0 i, others.1)
 
-pub one_pieces : (one other : Pieces) (more rest bytes : List ℕ) → BeginsWithPieces one more bytes → BeginsWithPieces other rest bytes → (one ≡ other) × (more ≡ rest)
+pub one_pieces : (one other : RawPieces) (more rest bytes : List ℕ) → BeginsWithPieces one more bytes → BeginsWithPieces other rest bytes → (one ≡ other) × (more ≡ rest)
 one_pieces one other more rest bytes a b =
     let p = and_parts _ _ a.are in
     let q = and_parts _ _ b.are in

@@ -7,7 +7,7 @@ use Rattle.std.proofs.lemmas.List.Folds.{list_all-append}
 use Rattle.std.proofs.lemmas.Grind.{flat_map-append}
 use Rattle.byte_classes.specs.Classes.{is_blank}
 use Rattle.byte_grammar.specs.Language.{starts_in}
-use Rattle.msg_head.specs.RawValues.{Pieces, are_pieces, is_fold, is_line_byte, fold_text}
+use Rattle.msg_head.specs.RawValues.{RawPieces, are_pieces, is_fold, is_line_byte, fold_text}
 use Rattle.msg_head.specs.Cuts.{IsCut, IsSection, cut_text, is_cut}
 use Rattle.msg_head.specs.tools.Texts.{IsClean, ended}
 use Rattle.msg_head.proofs.Prefixes.{outside}
@@ -24,7 +24,7 @@ folds_ended [] = refl
 folds_ended (f ∷ fs) =
     ap (λ (s : List ℕ). 13 ∷ 10 ∷ s) (append_assoc f (flat_map fold_text fs) (13 ∷ 10 ∷ []) ∙ ap (λ (s : List ℕ). f ++ s) (folds_ended fs) ∙ sym (append_assoc f (13 ∷ 10 ∷ []) (flat_map ended fs)))
 
-pub cut_ended : (line : Pieces) → cut_text line ≡ flat_map ended (line.first ∷ line.folds)
+pub cut_ended : (line : RawPieces) → cut_text line ≡ flat_map ended (line.first ∷ line.folds)
 cut_ended line =
     append_assoc line.first (flat_map fold_text line.folds) (13 ∷ 10 ∷ [])
     ∙ ap (λ (s : List ℕ). line.first ++ s) (folds_ended line.folds)
@@ -41,12 +41,12 @@ full_folds (f ∷ fs) is =
     and_from (is_full f) (list_all is_full fs) (full_fold f both.0) (full_folds fs both.1)
 
 -- all pieces of the lines
-pub record PiecesOf (lines : List Pieces) : Type 0 where
+pub record PiecesOf (lines : List RawPieces) : Type 0 where
   pub pieces : List (List ℕ)
   pub text : flat_map cut_text lines ≡ flat_map ended pieces
   pub full : list_all is_full pieces ≡ true
 
-pub pieces_of : (lines : List Pieces) → list_all is_cut lines ≡ true → PiecesOf lines
+pub pieces_of : (lines : List RawPieces) → list_all is_cut lines ≡ true → PiecesOf lines
 pieces_of [] each = record { pieces = []; text = refl; full = refl }
 pieces_of (l ∷ ls) each =
     let both = and_parts (nat_lt 0 (length l.first) && are_pieces l) _ each in
@@ -120,7 +120,7 @@ ended_ends p (q ∷ qs) =
 
 -- ---- what is cut is a clean section
 
-pub record CutSection (start : List ℕ) (lines : List Pieces) (bytes : List ℕ) (cut : IsCut start lines bytes) : Type 0 where
+pub record CutSection (start : List ℕ) (lines : List RawPieces) (bytes : List ℕ) (cut : IsCut start lines bytes) : Type 0 where
   pub section : List ℕ
   pub is : IsSection bytes section
   pub clean : IsClean section
@@ -132,7 +132,7 @@ full_clean (p ∷ ps) full =
     let both = and_parts (is_full p) (list_all is_full ps) full in
     and_from (list_all is_line_byte p) (list_all (list_all is_line_byte) ps) (and_parts (nat_lt 0 (length p)) (list_all is_line_byte p) both.0).1 (full_clean ps both.1)
 
-pub cut_section : (start : List ℕ) (lines : List Pieces) (bytes : List ℕ) (cut : IsCut start lines bytes) → CutSection start lines bytes cut
+pub cut_section : (start : List ℕ) (lines : List RawPieces) (bytes : List ℕ) (cut : IsCut start lines bytes) → CutSection start lines bytes cut
 cut_section start lines bytes cut =
     let ps = pieces_of lines cut.lines_are.each in
     let own = start ∷ ps.pieces in

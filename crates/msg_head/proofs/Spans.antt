@@ -12,7 +12,7 @@ use Rattle.msg_head.specs.declared.line.LineSpan.{LineSpan}
 use Rattle.msg_head.specs.declared.error.Side.{Side}
 use Rattle.msg_head.specs.declared.error.HeadError.{HeadError}
 use Rattle.msg_head.specs.declared.error.HeadError.TheVariants.{Memory, TooLong, NakedEnd, BadStart, TooManyLines, BadLine}
-use Rattle.msg_head.specs.RawValues.{Pieces, pieces_text}
+use Rattle.msg_head.specs.RawValues.{RawPieces, pieces_text}
 use Rattle.msg_head.specs.Lines.{FieldLine, IsLine, line_text}
 use Rattle.msg_head.specs.Cuts.{AreLinesOf, MakesLine, MakesNoLine}
 use Rattle.msg_head.specs.Views.{line_at, lies_in, FollowEachOther}
@@ -28,7 +28,7 @@ pub record BeginsWithLine (line : FieldLine) (more bytes : List ℕ) : Type 0 wh
   pub is : IsLine line
   pub joined : bytes ≡ line_text line ++ more
 
-pub read_begins : (cut : Pieces) (more bytes rest : List ℕ) (line : FieldLine) → BeginsWithCut cut more bytes → ReadsLine cut more line rest → BeginsWithLine line more bytes
+pub read_begins : (cut : RawPieces) (more bytes rest : List ℕ) (line : FieldLine) → BeginsWithCut cut more bytes → ReadsLine cut more line rest → BeginsWithLine line more bytes
 read_begins cut more bytes rest line b r = record {
   is = r.makes.is;
   joined = b.begins.joined ∙ sym (append_assoc (pieces_text cut) (13 ∷ 10 ∷ []) more) ∙ ap (λ (s : List ℕ). s ++ more) r.makes.text;
@@ -93,18 +93,18 @@ follow_more from at to (s ∷ spans) span follow name colon end is =
     (follow.0, follow.1, follow.2, follow_more (s.end + 2) at to spans span follow.3 name colon end is)
 
 -- the cut line is some field line
-abbrev pub MakesSome : Pieces → Type 0
+abbrev pub MakesSome : RawPieces → Type 0
 MakesSome cut = (line : FieldLine) × MakesLine cut line
 
 -- the rest's lines are the field lines at these offsets in the bytes, and others, which are left
-pub record Walked (bytes rest : List ℕ) (lines : List Pieces) (spans : List LineSpan) (left : List ℕ) : Type 0 where
+pub record Walked (bytes rest : List ℕ) (lines : List RawPieces) (spans : List LineSpan) (left : List ℕ) : Type 0 where
   pub joined : rest ≡ flat_map line_text (map (line_at bytes) spans) ++ left
   pub each : All IsLine (map (line_at bytes) spans)
   pub lie : list_all (lies_in (length bytes)) spans ≡ true
   pub follow : FollowEachOther (length bytes - length rest) spans (length bytes - length left)
   pub ends : IsRestOf bytes left
-  pub done : List Pieces
-  pub others : List Pieces
+  pub done : List RawPieces
+  pub others : List RawPieces
   pub lines_are : lines ≡ done ++ others
   pub count : length done ≡ length spans
   pub makes : All MakesSome done
@@ -113,9 +113,9 @@ pub record Walked (bytes rest : List ℕ) (lines : List Pieces) (spans : List Li
 pub record Reading (bytes rest : List ℕ) (spans : List LineSpan) (left : List ℕ) : Type 0 where
   pub within : length left ≤ length bytes
   pub few : length spans ≤ MAX_HEAD_LINES
-  pub still : (lines : List Pieces) → AreLinesOf rest lines → Walked bytes rest lines spans left
+  pub still : (lines : List RawPieces) → AreLinesOf rest lines → Walked bytes rest lines spans left
 
-pub begins : (bytes rest : List ℕ) (lines : List Pieces) → IsRestOf bytes rest → AreLinesOf rest lines → Walked bytes rest lines [] rest
+pub begins : (bytes rest : List ℕ) (lines : List RawPieces) → IsRestOf bytes rest → AreLinesOf rest lines → Walked bytes rest lines [] rest
 begins bytes rest lines ends a = record {
   joined = refl;
   each = All-nil IsLine;
@@ -130,7 +130,7 @@ begins bytes rest lines ends a = record {
   left_are = a;
 }
 
-pub walk_more : (bytes rest : List ℕ) (lines : List Pieces) (spans : List LineSpan) (left after : List ℕ) (line : FieldLine) (w : Walked bytes rest lines spans left) → (next : NextOf left w.others) → ReadsLine next.line (lines_text next.others []) line after → Walked bytes rest lines (spans ++ span_at (length bytes - length left) line ∷ []) after
+pub walk_more : (bytes rest : List ℕ) (lines : List RawPieces) (spans : List LineSpan) (left after : List ℕ) (line : FieldLine) (w : Walked bytes rest lines spans left) → (next : NextOf left w.others) → ReadsLine next.line (lines_text next.others []) line after → Walked bytes rest lines (spans ++ span_at (length bytes - length left) line ∷ []) after
 walk_more bytes rest lines spans left after line w next r =
     let more = lines_text next.others [] in
     let b = read_begins next.line more left after line next.begins r in
@@ -159,7 +159,7 @@ walk_more bytes rest lines spans left after line w next r =
       done = w.done ++ next.line ∷ [];
       others = next.others;
       lines_are =
-          w.lines_are ∙ ap (λ (x : List Pieces). w.done ++ x) next.are ∙ sym (append_assoc w.done (next.line ∷ []) next.others);
+          w.lines_are ∙ ap (λ (x : List RawPieces). w.done ++ x) next.are ∙ sym (append_assoc w.done (next.line ∷ []) next.others);
       count = omega (arith, length-append w.done (next.line ∷ []), length-append spans (span ∷ []), w.count);
       makes = All-push MakesSome w.done next.line w.makes (line, r.makes);
       left_are = subst (λ (x : List ℕ). AreLinesOf x next.others) (sym r.rest_is) next.rest;
@@ -167,10 +167,10 @@ walk_more bytes rest lines spans left after line w next r =
 
 -- ---- where the walk ends
 
-pub all_walked : (bytes rest : List ℕ) (lines : List Pieces) (spans : List LineSpan) (left : List ℕ) → length spans ≤ MAX_HEAD_LINES → Walked bytes rest lines spans left → BeginsWithCrlf left → AreSpansOf bytes spans rest
+pub all_walked : (bytes rest : List ℕ) (lines : List RawPieces) (spans : List LineSpan) (left : List ℕ) → length spans ≤ MAX_HEAD_LINES → Walked bytes rest lines spans left → BeginsWithCrlf left → AreSpansOf bytes spans rest
 all_walked bytes rest lines spans left few w end =
     let none = at_end left w.others w.left_are end in
-    let left_is : left ≡ 13 ∷ 10 ∷ [] = w.left_are.joined ∙ ap (λ (x : List Pieces). lines_text x []) none in
+    let left_is : left ≡ 13 ∷ 10 ∷ [] = w.left_are.joined ∙ ap (λ (x : List RawPieces). lines_text x []) none in
     record {
       joined = w.joined ∙ ap (λ (x : List ℕ). flat_map line_text (map (line_at bytes) spans) ++ x) left_is;
       each = w.each;
@@ -179,34 +179,34 @@ all_walked bytes rest lines spans left few w end =
       follow = subst (λ (x : List ℕ). FollowEachOther (length bytes - length rest) spans (length bytes - length x)) left_is w.follow;
     }
 
-lines_size : (bytes rest : List ℕ) (lines : List Pieces) (spans : List LineSpan) (left : List ℕ) (w : Walked bytes rest lines spans left) → length lines ≡ length spans + length w.others
-lines_size bytes rest lines spans left w = omega (arith, ap (length {A = Pieces}) w.lines_are, length-append w.done w.others, w.count)
+lines_size : (bytes rest : List ℕ) (lines : List RawPieces) (spans : List LineSpan) (left : List ℕ) (w : Walked bytes rest lines spans left) → length lines ≡ length spans + length w.others
+lines_size bytes rest lines spans left w = omega (arith, ap (length {A = RawPieces}) w.lines_are, length-append w.done w.others, w.count)
 
-pub too_many : (bytes rest : List ℕ) (lines : List Pieces) (spans : List LineSpan) (left : List ℕ) (w : Walked bytes rest lines spans left) → NextOf left w.others → length spans ≡ MAX_HEAD_LINES → MAX_HEAD_LINES < length lines
+pub too_many : (bytes rest : List ℕ) (lines : List RawPieces) (spans : List LineSpan) (left : List ℕ) (w : Walked bytes rest lines spans left) → NextOf left w.others → length spans ≡ MAX_HEAD_LINES → MAX_HEAD_LINES < length lines
 too_many bytes rest lines spans left w next full =
     let size = lines_size bytes rest lines spans left w in
-    let one = ap (length {A = Pieces}) next.are in
+    let one = ap (length {A = RawPieces}) next.are in
     omega (arith, size, one, full)
 
-next_at : (done : List Pieces) (line : Pieces) (others lines : List Pieces) → lines ≡ done ++ line ∷ others → slice_get lines (length done) ≡ Some line
-next_at done line others lines e = ap (λ (x : List Pieces). slice_get x (length done)) e ∙ there done
+next_at : (done : List RawPieces) (line : RawPieces) (others lines : List RawPieces) → lines ≡ done ++ line ∷ others → slice_get lines (length done) ≡ Some line
+next_at done line others lines e = ap (λ (x : List RawPieces). slice_get x (length done)) e ∙ there done
   where
-    there : (done : List Pieces) → slice_get (done ++ line ∷ others) (length done) ≡ Some line
+    there : (done : List RawPieces) → slice_get (done ++ line ∷ others) (length done) ≡ Some line
     there [] = refl
     there (d ∷ ds) = there ds
 
-pub fault_is : (side : Side) (fault : HeadError) (bytes rest : List ℕ) (lines : List Pieces) (spans : List LineSpan) (left : List ℕ) (w : Walked bytes rest lines spans left) → (next : NextOf left w.others) → MakesNoLine next.line → IsFaultFrom side (length spans) w.others fault → IsLinesFault side lines fault
+pub fault_is : (side : Side) (fault : HeadError) (bytes rest : List ℕ) (lines : List RawPieces) (spans : List LineSpan) (left : List ℕ) (w : Walked bytes rest lines spans left) → (next : NextOf left w.others) → MakesNoLine next.line → IsFaultFrom side (length spans) w.others fault → IsLinesFault side lines fault
 fault_is side (TooManyLines other) bytes rest lines spans left w next none is =
     (is.0, omega (arith, is.1, lines_size bytes rest lines spans left w))
 fault_is side (BadLine other at) bytes rest lines spans left w next none is =
     let same : at ≡ length w.done = is.1 ∙ sym w.count in
-    let lines_are = w.lines_are ∙ ap (λ (x : List Pieces). w.done ++ x) next.are in
-    let before : take at lines ≡ w.done = ap (λ k. take k lines) same ∙ ap (λ (x : List Pieces). take (length w.done) x) w.lines_are ∙ take-append_seam w.done w.others in
+    let lines_are = w.lines_are ∙ ap (λ (x : List RawPieces). w.done ++ x) next.are in
+    let before : take at lines ≡ w.done = ap (λ k. take k lines) same ∙ ap (λ (x : List RawPieces). take (length w.done) x) w.lines_are ∙ take-append_seam w.done w.others in
     let there : slice_get lines at ≡ Some next.line = ap (slice_get lines) same ∙ next_at w.done next.line next.others lines lines_are in (
       is.0,
       omega (arith, is.2, lines_size bytes rest lines spans left w),
       record {
-        before = subst (λ (x : List Pieces). All MakesSome x) (sym before) w.makes;
+        before = subst (λ (x : List RawPieces). All MakesSome x) (sym before) w.makes;
         there = rw there none;
       },
     )

@@ -7,7 +7,7 @@ use Rattle.std.proofs.lemmas.List.{append_cancel_left}
 use Rattle.byte_classes.specs.Classes.{is_blank}
 use Rattle.byte_grammar.specs.Language.{starts_in}
 use Rattle.memchr.specs.Find.{IsFirstByte, is_byte}
-use Rattle.msg_head.specs.RawValues.{Pieces, is_fold, is_line_byte, pieces_text}
+use Rattle.msg_head.specs.RawValues.{RawPieces, is_fold, is_line_byte, pieces_text}
 use Rattle.msg_head.specs.tools.Prefixes.{StandsBefore}
 use Rattle.msg_head.specs.tools.Texts.{BeginsWithPieces}
 use Rattle.msg_head.proofs.Prefixes.{first_end}
@@ -16,21 +16,21 @@ use Rattle.msg_head.proofs.PieceLaws.{after_first, opened_pieces, fold_starts}
 -- where the text begins with pieces, what is left of it still does, with the same after them
 pub record GoesOn (text left : List ℕ) : Type 0 where
   pub within : length left ≤ length text
-  pub still : (pieces : Pieces) (more : List ℕ) → BeginsWithPieces pieces more text → (others : Pieces) × BeginsWithPieces others more left
+  pub still : (pieces : RawPieces) (more : List ℕ) → BeginsWithPieces pieces more text → (others : RawPieces) × BeginsWithPieces others more left
 
-first_stands : (pieces : Pieces) (more left : List ℕ) → BeginsWithPieces pieces more left → StandsBefore is_line_byte (13 ∷ []) pieces.first (10 ∷ after_first pieces.folds more) left
+first_stands : (pieces : RawPieces) (more left : List ℕ) → BeginsWithPieces pieces more left → StandsBefore is_line_byte (13 ∷ []) pieces.first (10 ∷ after_first pieces.folds more) left
 first_stands pieces more left b = record { each = (and_parts _ _ b.are).0; joined = b.joined ∙ opened_pieces pieces more }
 
 -- the search for CR finds the end of the first piece
-pub cr_found : (pieces : Pieces) (more left : List ℕ) (found : Option ℕ) → BeginsWithPieces pieces more left → IsFirstByte (is_byte 13) left found → found ≡ Some (length pieces.first)
+pub cr_found : (pieces : RawPieces) (more left : List ℕ) (found : Option ℕ) → BeginsWithPieces pieces more left → IsFirstByte (is_byte 13) left found → found ≡ Some (length pieces.first)
 cr_found pieces more left found b h = first_end is_line_byte 13 pieces.first (10 ∷ after_first pieces.folds more) left found refl (first_stands pieces more left b) h
 
 -- what stands there
-pub at_cr : (pieces : Pieces) (more left : List ℕ) (n : ℕ) → BeginsWithPieces pieces more left → n ≡ length pieces.first → drop n left ≡ 13 ∷ 10 ∷ after_first pieces.folds more
+pub at_cr : (pieces : RawPieces) (more left : List ℕ) (n : ℕ) → BeginsWithPieces pieces more left → n ≡ length pieces.first → drop n left ≡ 13 ∷ 10 ∷ after_first pieces.folds more
 at_cr pieces more left n b same =
     ap (λ k. drop k left) same ∙ ap (λ (s : List ℕ). drop (length pieces.first) s) (b.joined ∙ opened_pieces pieces more) ∙ drop-append_seam pieces.first (13 ∷ 10 ∷ after_first pieces.folds more)
 
-pub after_is : (pieces : Pieces) (more left after : List ℕ) (n : ℕ) → BeginsWithPieces pieces more left → n ≡ length pieces.first → drop n left ≡ codes "\r\n" ++ after → after ≡ after_first pieces.folds more
+pub after_is : (pieces : RawPieces) (more left after : List ℕ) (n : ℕ) → BeginsWithPieces pieces more left → n ≡ length pieces.first → drop n left ≡ codes "\r\n" ++ after → after ≡ after_first pieces.folds more
 after_is pieces more left after n b same there = append_cancel_left (13 ∷ 10 ∷ []) _ _ (sym there ∙ at_cr pieces more left n b same)
 
 -- no blank stands first after the last piece
@@ -39,16 +39,16 @@ last_piece [] more each none = refl
 last_piece (f ∷ fs) more each none = absurd (false≢true (sym none ∙ fold_starts f (13 ∷ 10 ∷ after_first fs more) (and_parts _ _ each).0))
 
 -- and one does after another
-pub next_piece : (folds : List (List ℕ)) (more : List ℕ) → list_all is_fold folds ≡ true → starts_in is_blank more ≡ false → starts_in is_blank (after_first folds more) ≡ true → (others : Pieces) × BeginsWithPieces others more (after_first folds more)
+pub next_piece : (folds : List (List ℕ)) (more : List ℕ) → list_all is_fold folds ≡ true → starts_in is_blank more ≡ false → starts_in is_blank (after_first folds more) ≡ true → (others : RawPieces) × BeginsWithPieces others more (after_first folds more)
 next_piece [] more each ends some = absurd (false≢true (sym ends ∙ some))
 next_piece (f ∷ fs) more each ends some =
     let all = and_parts (is_fold f) (list_all is_fold fs) each in
     let fold = and_parts (starts_in is_blank f) (list_all is_line_byte f) all.0 in
-    let others : Pieces = record { first = f; folds = fs } in
+    let others : RawPieces = record { first = f; folds = fs } in
     (others, record { are = and_from (list_all is_line_byte f) (list_all is_fold fs) fold.1 all.1; ends = ends; joined = sym (opened_pieces others more) })
 
 -- the pieces are what stands before the end
-pub pieces_are : (pieces : Pieces) (more text after : List ℕ) → BeginsWithPieces pieces more text → after ≡ more → take (length text - (length after + 2)) text ≡ pieces_text pieces
+pub pieces_are : (pieces : RawPieces) (more text after : List ℕ) → BeginsWithPieces pieces more text → after ≡ more → take (length text - (length after + 2)) text ≡ pieces_text pieces
 pieces_are pieces more text after b same =
     let size : length text - (length after + 2) ≡ length (pieces_text pieces) =
     omega (arith, ap (length {A = ℕ}) b.joined, length-append (pieces_text pieces) (13 ∷ 10 ∷ more), ap (length {A = ℕ}) same) in

@@ -8,7 +8,7 @@ use Rattle.msg_head.specs.declared.line.LineSpan.{LineSpan}
 use Rattle.msg_head.specs.Lines.{line_text}
 use Rattle.msg_head.specs.Starts.{StartLine, start_text}
 use Rattle.msg_head.specs.Cuts.{HasNoEnd, IsSection}
-use Rattle.msg_head.specs.Heads.{Head, Spells, SpellsHead, IsUnfinished, head_text}
+use Rattle.msg_head.specs.Heads.{Head, IsHeadText, SpellsHead, IsUnfinished, head_text}
 use Rattle.msg_head.specs.Views.{View, line_at, head_of, FollowEachOther, IsViewOf}
 use Rattle.msg_head.specs.Causes.{IsTooLong}
 use Rattle.msg_head.specs.tools.Prefixes.{BeginsWithStart}
@@ -90,10 +90,10 @@ pub view_of : (bytes section : List ℕ) (view : View) → IsSection bytes secti
 view_of bytes section view s v = record {
   within = omega (arith, ap (length {A = ℕ}) s.joined, length-append section s.more);
   bytes_are = v.bytes_are ∙ sym (take-append_seam section s.more) ∙ ap (λ (x : List ℕ). take (length section) x) (sym s.joined);
-  spells = subst (λ (x : List ℕ). Spells (head_of view) x) (sym v.bytes_are) v.spells;
+  spells = subst (λ (x : List ℕ). IsHeadText (head_of view) x) (sym v.bytes_are) v.spells;
   fills = v.fills;
 }
 
 -- the head that the first bytes spell, by its view
 pub spelled_by : (bytes : List ℕ) (view : View) (used : ℕ) → IsViewOf bytes view used → SpellsHead (head_of view) used bytes
-spelled_by bytes view used v = record { within = v.within; spells = subst (λ (x : List ℕ). Spells (head_of view) x) v.bytes_are v.spells }
+spelled_by bytes view used v = record { within = v.within; spells = subst (λ (x : List ℕ). IsHeadText (head_of view) x) v.bytes_are v.spells }

@@ -5,7 +5,7 @@ use Rattle.std.specs.List.{list_all, flat_map}
 use Rattle.std.specs.Str.{byte}
 use Rattle.byte_classes.specs.Classes.{is_blank}
 use Rattle.byte_grammar.specs.Language.{starts_in}
-use Rattle.msg_head.specs.RawValues.{Pieces, are_pieces, is_line_byte, pieces_text}
+use Rattle.msg_head.specs.RawValues.{RawPieces, are_pieces, is_line_byte, pieces_text}
 use Rattle.msg_head.specs.Lines.{FieldLine, IsLine, line_text}
 use Rattle.msg_head.specs.Starts.{StartLine, IsStartLine, start_text}
 
@@ -48,27 +48,27 @@ pub record IsFirstNakedEnd (text : List ℕ) (offset : ℕ) : Type 0 where
 -- ---- lines as they are cut
 
 -- the line's pieces, and its end
-abbrev pub cut_text : Pieces → List ℕ
+abbrev pub cut_text : RawPieces → List ℕ
 cut_text line = pieces_text line ++ codes "\r\n"
 
 -- a line isn't empty, and has no end in it but those of its folds
-abbrev pub is_cut : Pieces → Bool
+abbrev pub is_cut : RawPieces → Bool
 is_cut line = nat_lt 0 (length line.first) && are_pieces line
 
 -- neither SP nor HTAB begins the line
-abbrev pub begins_anew : Pieces → Bool
+abbrev pub begins_anew : RawPieces → Bool
 begins_anew line = not (starts_in is_blank line.first)
 
 -- The section is the lines and an empty line. Each ends at the first CRLF that neither SP nor HTAB
 -- follows, so only the first line may begin with one of these.
-pub record AreLinesOf (section : List ℕ) (lines : List Pieces) : Type 0 where
+pub record AreLinesOf (section : List ℕ) (lines : List RawPieces) : Type 0 where
   pub joined : section ≡ flat_map cut_text lines ++ codes "\r\n"
   pub each : IsTrue (list_all is_cut lines)
   pub ends : IsTrue (list_all begins_anew (drop 1 lines))
 
 -- The bytes begin with a line that ends at the first CRLF, further lines, and an empty line. No
 -- NUL, CR or LF stands elsewhere in them.
-pub record IsCut (start : List ℕ) (lines : List Pieces) (bytes : List ℕ) : Type 0 where
+pub record IsCut (start : List ℕ) (lines : List RawPieces) (bytes : List ℕ) : Type 0 where
   pub section : List ℕ
   pub more : List ℕ
   pub clean : IsTrue (list_all is_line_byte start)
@@ -78,12 +78,12 @@ pub record IsCut (start : List ℕ) (lines : List Pieces) (bytes : List ℕ) : T
 -- ---- lines that are judged
 
 -- the line as it is cut is this field line
-pub record MakesLine (cut : Pieces) (line : FieldLine) : Type 0 where
+pub record MakesLine (cut : RawPieces) (line : FieldLine) : Type 0 where
   pub is : IsLine line
   pub text : cut_text cut ≡ line_text line
 
 -- the line as it is cut is no field line
-abbrev pub MakesNoLine : Pieces → Type 0
+abbrev pub MakesNoLine : RawPieces → Type 0
 MakesNoLine cut = (line : FieldLine) → ¬ MakesLine cut line
 
 -- the text, and CRLF, is no start line

@@ -23,14 +23,14 @@ pub record IsHead (head : Head) : Type 0 where
   pub short : length (head_text head) ≤ MAX_HEAD_BYTES
 
 -- the bytes are a head's text, and nothing more
-pub record Spells (head : Head) (bytes : List ℕ) : Type 0 where
+pub record IsHeadText (head : Head) (bytes : List ℕ) : Type 0 where
   pub is : IsHead head
   pub text : bytes ≡ head_text head
 
 -- the first bytes, so many, are a head's text
 pub record SpellsHead (head : Head) (used : ℕ) (bytes : List ℕ) : Type 0 where
   pub within : used ≤ length bytes
-  pub spells : Spells head (take used bytes)
+  pub spells : IsHeadText head (take used bytes)
 
 -- the end of a head, an empty line, isn't there, and may still come within the limit
 pub record IsUnfinished (bytes : List ℕ) : Type 0 where

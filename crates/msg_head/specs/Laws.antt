@@ -1,8 +1,8 @@
 -- Laws of heads.
 use Rattle.std.specs.Prelude.{◌≡◌, ◌≢◌, ℕ, ◌<◌, List, length, take}
 use Rattle.msg_head.specs.Cuts.{IsSection}
-use Rattle.msg_head.specs.Heads.{Head, IsHead, Spells, SpellsHead, IsUnfinished, head_text}
-use Rattle.msg_head.specs.Causes.{IsFault}
+use Rattle.msg_head.specs.Heads.{Head, IsHead, IsHeadText, SpellsHead, IsUnfinished, head_text}
+use Rattle.msg_head.specs.Causes.{IsHeadError}
 use Rattle.msg_head.specs.declared.error.HeadError.{HeadError}
 
 -- Two heads that the same bytes begin with are one head of one length.
@@ -14,7 +14,7 @@ OneHead =
 -- A text is that of at most one head.
 abbrev pub OneHeadOfText : Type 0
 OneHeadOfText =
-    (bytes : List ℕ) (one other : Head) → Spells one bytes → Spells other bytes → one ≡ other
+    (bytes : List ℕ) (one other : Head) → IsHeadText one bytes → IsHeadText other bytes → one ≡ other
 
 -- No head's text is a proper prefix of another head's text.
 abbrev pub NoHeadInPrefix : Type 0
@@ -30,20 +30,20 @@ EndsAtFirstEnd =
     SpellsHead head used bytes → IsSection bytes (take used bytes)
 
 -- Bytes have at most one fault.
-abbrev pub OneFault : Type 0
-OneFault =
+abbrev pub OneHeadFault : Type 0
+OneHeadFault =
     (bytes : List ℕ) (fault other : HeadError) →
-    IsFault bytes fault → IsFault bytes other → fault ≡ other
+    IsHeadError bytes fault → IsHeadError bytes other → fault ≡ other
 
 -- Bytes that begin with a head have no fault.
 abbrev pub NoFaultAtHead : Type 0
 NoFaultAtHead =
     (bytes : List ℕ) (head : Head) (used : ℕ) (fault : HeadError) →
-    SpellsHead head used bytes → ¬ IsFault bytes fault
+    SpellsHead head used bytes → ¬ IsHeadError bytes fault
 
 -- Bytes to which the end of a head may still come have no fault, and begin with no head.
-abbrev pub NoAnswerYet : Type 0
-NoAnswerYet =
+abbrev pub NoHeadAnswerYet : Type 0
+NoHeadAnswerYet =
     (bytes : List ℕ) → IsUnfinished bytes →
-    ((fault : HeadError) → ¬ IsFault bytes fault)
+    ((fault : HeadError) → ¬ IsHeadError bytes fault)
     × ((head : Head) (used : ℕ) → ¬ SpellsHead head used bytes)

@@ -8,13 +8,13 @@ use Rattle.msg_head.specs.Heads.{Head}
 use Rattle.msg_head.specs.Views.{View, head_of}
 
 -- where the answer is a head's view and length, this holds of them
-abbrev pub IfWhole : Result HeadRead HeadError → (View → ℕ → Type 0) → Type 0
-IfWhole (Ok (Whole view used)) P = P view used
-IfWhole (Ok Partial) P = ⊤
-IfWhole (Err _) P = ⊤
+abbrev pub IfWholeHead : Result HeadRead HeadError → (View → ℕ → Type 0) → Type 0
+IfWholeHead (Ok (Whole view used)) P = P view used
+IfWholeHead (Ok Partial) P = ⊤
+IfWholeHead (Err _) P = ⊤
 
 -- the answer is a view of this head, and its length, or out of memory
-abbrev pub IsWholeUnlessMemory : Result HeadRead HeadError → Head → ℕ → Type 0
-IsWholeUnlessMemory (Ok (Whole view count)) head used = (head_of view ≡ head) × (count ≡ used)
-IsWholeUnlessMemory (Ok Partial) head used = ⊥
-IsWholeUnlessMemory (Err error) head used = error ≡ Memory
+abbrev pub IsHeadUnlessMemory : Result HeadRead HeadError → Head → ℕ → Type 0
+IsHeadUnlessMemory (Ok (Whole view count)) head used = (head_of view ≡ head) × (count ≡ used)
+IsHeadUnlessMemory (Ok Partial) head used = ⊥
+IsHeadUnlessMemory (Err error) head used = error ≡ Memory

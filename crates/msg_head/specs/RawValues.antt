@@ -10,7 +10,7 @@ abbrev pub is_line_byte : ℕ → Bool
 is_line_byte c = not (is_one_of (codes "\0\r\n") c)
 
 -- a text in pieces: the first one, and those that obsolete folds add
-pub record Pieces : Type 0 where
+pub record RawPieces : Type 0 where
   pub first : List ℕ
   pub folds : List (List ℕ)
 
@@ -18,7 +18,7 @@ pub record Pieces : Type 0 where
 abbrev pub is_fold : List ℕ → Bool
 is_fold piece = starts_in is_blank piece && list_all is_line_byte piece
 
-abbrev pub are_pieces : Pieces → Bool
+abbrev pub are_pieces : RawPieces → Bool
 are_pieces pieces = list_all is_line_byte pieces.first && list_all is_fold pieces.folds
 
 -- CRLF, and the piece
@@ -26,9 +26,9 @@ abbrev pub fold_text : List ℕ → List ℕ
 fold_text piece = codes "\r\n" ++ piece
 
 -- the pieces joined by CRLF
-abbrev pub pieces_text : Pieces → List ℕ
+abbrev pub pieces_text : RawPieces → List ℕ
 pieces_text pieces = pieces.first ++ flat_map fold_text pieces.folds
 
 -- the text is made of pieces, each after the first begun by SP or HTAB, which CRLF joins
 abbrev pub IsRaw : List ℕ → Type 0
-IsRaw raw = (pieces : Pieces) × IsTrue (are_pieces pieces) × (raw ≡ pieces_text pieces)
+IsRaw raw = (pieces : RawPieces) × IsTrue (are_pieces pieces) × (raw ≡ pieces_text pieces)

@@ -7,7 +7,7 @@ use Rattle.msg_head.specs.declared.start.Start.{Start}
 use Rattle.msg_head.specs.declared.start.Start.TheVariants.{Request, Status}
 use Rattle.msg_head.specs.Lines.{FieldLine}
 use Rattle.msg_head.specs.Starts.{StartLine, request, status, start_text}
-use Rattle.msg_head.specs.Heads.{Head, Spells}
+use Rattle.msg_head.specs.Heads.{Head, IsHeadText}
 
 -- the bytes of a head, its start line, and where its field lines stand in the bytes
 pub record View : Type 0 where
@@ -52,7 +52,7 @@ Fills view = (end : ℕ) × FollowEachOther (length (start_text view.start)) vie
 pub record IsViewOf (bytes : List ℕ) (view : View) (used : ℕ) : Type 0 where
   pub within : used ≤ length bytes
   pub bytes_are : view.bytes ≡ take used bytes
-  pub spells : Spells (head_of view) view.bytes
+  pub spells : IsHeadText (head_of view) view.bytes
   pub fills : Fills view
 
 -- the field line of these borrowed parts

@@ -2,10 +2,11 @@
 
 ghost use Rattle.std.specs.Prelude.{◌≡◌, ◌≢◌, ℕ, ◌≤◌, ◌↔◌, length, IfOk, IfErr, Ok, Err};
 ghost use Rattle.msg_head.specs.Heads.{Head, SpellsHead, IsUnfinished};
-ghost use Rattle.msg_head.specs.Causes.{IsFault, AnswersWhere};
+ghost use Rattle.byte_grammar.specs.Causes.{AnswersWhere};
+ghost use Rattle.msg_head.specs.Causes.{IsHeadError};
 ghost use Rattle.msg_head.specs.Views.{IsViewOf};
-ghost use Rattle.msg_head.specs.Outcome.{IfWhole, IsWholeUnlessMemory};
-ghost use Rattle.msg_head.specs.tools.Judged.{IsCleanSection, IsSectionView, IsSectionFault, Explains};
+ghost use Rattle.msg_head.specs.Outcome.{IfWholeHead, IsHeadUnlessMemory};
+ghost use Rattle.msg_head.specs.tools.Judged.{IsCleanSection, IsSectionView, IsSectionFault, ExplainsHead};
 
 use crate::error::{HeadError, Side};
 use crate::limits::MAX_HEAD_BYTES;
@@ -40,7 +41,7 @@ fn read_section<'m>(alloc: Global, section: &'m [u8]) -> Result<HeadView<'m>, He
 
 // The answer to bytes, by its cause.
 fn judge<'m>(alloc: Global, bytes: &'m [u8]) -> Result<HeadRead<'m>, HeadError>
-    ensures explains { Explains bytes.now result }
+    ensures explains { ExplainsHead bytes.now result }
     ensures partial { IsUnfinished bytes.now → result ≡ Ok HeadRead.Partial }
 {
     let Some(section) = head_section(prefix_of(bytes, MAX_HEAD_BYTES)) else {
@@ -60,14 +61,14 @@ fn judge<'m>(alloc: Global, bytes: &'m [u8]) -> Result<HeadRead<'m>, HeadError>
 ///
 /// Of several faults the first in the order of `HeadError` is answered.
 pub fn read_head<'m>(alloc: Global, bytes: &'m [u8]) -> Result<HeadRead<'m>, HeadError>
-    ensures whole { IfWhole result (λ view used. IsViewOf bytes.now view used) }
+    ensures whole { IfWholeHead result (λ view used. IsViewOf bytes.now view used) }
     ensures found { (head : Head) (used : ℕ) → SpellsHead head used bytes.now
-        → IsWholeUnlessMemory result head used }
+        → IsHeadUnlessMemory result head used }
     ensures partial { (result ≡ Ok HeadRead.Partial) ↔ IsUnfinished bytes.now }
 
     // The first fault whose cause holds is answered, and no other.
     ensures fault { (fault : HeadError) → fault ≢ HeadError.Memory
-        → AnswersWhere result fault (IsFault bytes.now fault) }
+        → AnswersWhere HeadError.Memory result fault (IsHeadError bytes.now fault) }
 {
     judge(alloc, bytes)
 }

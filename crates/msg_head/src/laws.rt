@@ -1,6 +1,6 @@
 //! Laws of heads.
 
-ghost use Rattle.msg_head.specs.Laws.{OneHead, OneHeadOfText, NoHeadInPrefix, EndsAtFirstEnd, OneFault, NoFaultAtHead, NoAnswerYet};
+ghost use Rattle.msg_head.specs.Laws.{OneHead, OneHeadOfText, NoHeadInPrefix, EndsAtFirstEnd, OneHeadFault, NoFaultAtHead, NoHeadAnswerYet};
 
 /// The laws of heads: bytes begin with at most one head, a text is that of at most one head, no
 /// head's text is a proper prefix of another's, and a head ends at the first CRLF CRLF.
@@ -13,8 +13,8 @@ pub fn head_laws()
 
 /// Out of memory aside, the answer to bytes is one: they begin with a head, or its end may still
 /// come, or they have one fault.
-pub fn bytes_have_one_answer()
-    ensures fault { OneFault }
+pub fn heads_have_one_answer()
+    ensures fault { OneHeadFault }
     ensures head { NoFaultAtHead }
-    ensures unfinished { NoAnswerYet }
+    ensures unfinished { NoHeadAnswerYet }
 {}

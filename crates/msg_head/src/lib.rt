@@ -27,7 +27,7 @@ mod view;
 pub use error::{HeadError, Side};
 pub use field_lines::FieldLines;
 pub use head::{HeadRead, read_head};
-pub use laws::{bytes_have_one_answer, head_laws};
+pub use laws::{head_laws, heads_have_one_answer};
 pub use limits::{MAX_HEAD_BYTES, MAX_HEAD_LINES};
 pub use line::{LineSpan, LineView};
 pub use start::Start;

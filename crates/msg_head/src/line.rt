@@ -3,7 +3,7 @@
 ghost use Rattle.std.specs.Prelude.{◌≡◌, ◌+◌, ◌<◌, ◌≤◌, ◌^◌, ℕ, List, length, IsTrue, IsSomeAnd, IfSome, IfNone, IfOk, IfErr, MatchOption};
 ghost use Rattle.byte_classes.specs.Classes.{is_blank};
 ghost use Rattle.byte_grammar.specs.Language.{starts_in};
-ghost use Rattle.msg_head.specs.RawValues.{Pieces, pieces_text};
+ghost use Rattle.msg_head.specs.RawValues.{RawPieces, pieces_text};
 ghost use Rattle.msg_head.specs.Cuts.{AreLinesOf, MakesNoLine};
 ghost use Rattle.msg_head.specs.Views.{line_at, lies_in, field_line_of};
 ghost use Rattle.msg_head.specs.tools.Texts.{BeginsWithPieces, BeginsWithCut};
@@ -62,7 +62,7 @@ fn starts_with_blank(bytes: &[u8]) -> bool
 fn split_folded(text: &[u8]) -> Option<(&[u8], &[u8])>
     ensures sized { IfSome result
         (λ parts. length parts.0.now + 2 + length parts.1.now ≡ length text.now) }
-    ensures there { (pieces : Pieces) (more : List ℕ) → BeginsWithPieces pieces more text.now
+    ensures there { (pieces : RawPieces) (more : List ℕ) → BeginsWithPieces pieces more text.now
         → IsSomeAnd result
         (λ parts. (parts.0.now ≡ pieces_text pieces) × (parts.1.now ≡ more)) }
 {
@@ -81,7 +81,7 @@ fn split_folded(text: &[u8]) -> Option<(&[u8], &[u8])>
 fn read_line(bytes: &[u8]) -> Option<(LineView<'_>, &[u8])>
     ensures sized { IfSome result (λ parts. length parts.0.name.now + 1
         + length parts.0.raw.now + 2 + length parts.1.now ≡ length bytes.now) }
-    ensures there { (cut : Pieces) (more : List ℕ) → BeginsWithCut cut more bytes.now
+    ensures there { (cut : RawPieces) (more : List ℕ) → BeginsWithCut cut more bytes.now
         → MatchOption result (MakesNoLine cut)
         (λ parts. ReadsLine cut more (field_line_of parts.0) parts.1.now) }
 {
@@ -107,9 +107,9 @@ fn span_at(offset: usize, line: LineView<'_>) -> LineSpan
 }
 
 // How many lines stand before the empty line, right or wrong.
-fn count_lines(text: &[u8]) -> usize
+fn number_of_lines(text: &[u8]) -> usize
     ensures few { result ≤ length text.now }
-    ensures there { (lines : List Pieces) → AreLinesOf text.now lines → result ≡ length lines }
+    ensures there { (lines : List RawPieces) → AreLinesOf text.now lines → result ≡ length lines }
 {
     let mut left = text;
     let mut count = 0;
@@ -128,10 +128,10 @@ fn count_lines(text: &[u8]) -> usize
 // Why lines are refused of which so many are field lines and the next one, which is left, is none.
 fn fault_from(side: Side, index: usize, left: &[u8]) -> HeadError
     requires { index ≤ MAX_HEAD_LINES }
-    ensures { (lines : List Pieces) → AreLinesOf left.now lines
+    ensures { (lines : List RawPieces) → AreLinesOf left.now lines
         → IsFaultFrom side index lines result }
 {
-    if count_lines(left) > MAX_HEAD_LINES - index {
+    if number_of_lines(left) > MAX_HEAD_LINES - index {
         HeadError::TooManyLines(side)
     } else {
         HeadError::BadLine(side, index)
@@ -146,9 +146,9 @@ pub(crate) fn read_lines(
     rest: &[u8],
 ) -> Result<Vec<LineSpan>, HeadError>
     requires { IsRestOf bytes.now rest.now }
-    ensures ok { (lines : List Pieces) → AreLinesOf rest.now lines
+    ensures ok { (lines : List RawPieces) → AreLinesOf rest.now lines
         → IfOk result (λ spans. AreSpansOf bytes.now spans.items rest.now) }
-    ensures err { (lines : List Pieces) → AreLinesOf rest.now lines
+    ensures err { (lines : List RawPieces) → AreLinesOf rest.now lines
         → IfErr result (λ fault. IsLinesFault side lines fault) }
 {
     let mut spans = Vec::new(alloc);

@@ -24,7 +24,7 @@ use Rattle.byte_grammar.proofs.Whole.{Nothing, meets_padded}
 use Rattle.sfv_read.proofs.Numbers.{ends, End}
 use Rattle.sfv_text.specs.declared.value.Item.{Item}
 use Rattle.sfv_text.specs.declared.pair.Pair.{Pair}
-use Rattle.sfv_read.specs.tools.ItemWalk.{pair_of, item_of, key_read}
+use Rattle.sfv_read.specs.tools.ItemWalk.{pair_of, item_with, key_read}
 use Rattle.sfv_read.proofs.BareItems.{meets_bare, boolean_some, bare_next, bare_starts, kind_blank, word_starts}
 
 -- ---- parameters
@@ -160,11 +160,11 @@ pub meets_item : Meets IsItem (λ _ c. is_one_of after_params c) item_read
 unfolding item_read
 meets_item =
     meets_same
-    (meets_then meets_bare (λ b. meets_map {G = λ _ c. is_one_of after_params c} meets_kept (λ (ps : List (Pair BareItem)). item_of b ps) (λ v c h. h))
-    (λ x u h. ([], item_of u [], ([], ([], refl, refl), refl)))
+    (meets_then meets_bare (λ b. meets_map {G = λ _ c. is_one_of after_params c} meets_kept (λ (ps : List (Pair BareItem)). item_with b ps) (λ v c h. h))
+    (λ x u h. ([], item_with u [], ([], ([], refl, refl), refl)))
     (λ u y v r h after. params_next (is_one_of ends) refl (λ c e. of_each (is_one_of ends) after_params refl c e) y h.1.0 r h.1.1 after))
     (λ x v t.
-    let pair : item_of t.value t.more.0 ≡ v = t.more.2 in
+    let pair : item_with t.value t.more.0 ≡ v = t.more.2 in
     record {
       bare = t.first;
       params = t.second;
@@ -174,7 +174,7 @@ meets_item =
       are_params = t.more.1.1;
       are_distinct = ap (λ (p : Item). p.params) (sym pair) ∙ sym t.more.1.2;
     })
-    (λ x v h. record { first = h.bare; second = h.params; value = v.bare; joined = h.joined; spells = h.is_bare; more = (distinct_pairs h.written, (h.written, h.are_params, refl), λ i. item_of v.bare (sym h.are_distinct i)) })
+    (λ x v h. record { first = h.bare; second = h.params; value = v.bare; joined = h.joined; spells = h.is_bare; more = (distinct_pairs h.written, (h.written, h.are_params, refl), λ i. item_with v.bare (sym h.are_distinct i)) })
     (λ v c h. h)
 
 pub item_next : (P : ℕ → Bool) → ((k : BareKind) (c : ℕ) → kind_of_bare_item c ≡ Some k → P c ≡ true) → (x : List ℕ) (v : Item) (r : List ℕ) → IsItem x v → Next P (x ++ r)
@@ -197,11 +197,11 @@ params_shorter bytes p rest e = shorter meets_turn param_grows bytes p rest e
 item_blank : (v : Item) (c : ℕ) → is_space c ≡ true → is_one_of after_params c ≡ true
 item_blank v c e = subst (λ (c : ℕ). is_one_of after_params c ≡ true) (sym (eqb-true c 32 e)) refl
 
-some_item_read : IsItem (63 ∷ 49 ∷ []) (item_of (Boolean true) [])
+some_item_read : IsItem (63 ∷ 49 ∷ []) (item_with (Boolean true) [])
 some_item_read = record { bare = 63 ∷ 49 ∷ []; params = []; written = []; joined = refl; is_bare = refl; are_params = refl; are_distinct = refl }
 
 pub meets_whole_item : Meets (Padded is_space IsItem) Nothing (λ bytes. padded_read is_space item_read bytes)
-meets_whole_item = meets_padded is_space meets_item item_blank (λ x v r h. item_next (λ c. not (is_space c)) kind_blank x v r h) (63 ∷ 49 ∷ []) (item_of (Boolean true) []) some_item_read
+meets_whole_item = meets_padded is_space meets_item item_blank (λ x v r h. item_next (λ c. not (is_space c)) kind_blank x v r h) (63 ∷ 49 ∷ []) (item_with (Boolean true) []) some_item_read
 
 pub starts_append : (P : ℕ → Bool) (x y : List ℕ) → Starts P x → Starts P (x ++ y)
 starts_append P [] y h = absurd h

@@ -9,7 +9,7 @@ use Rattle.byte_grammar.proofs.Whole.{Judges, judges, one_value}
 use Rattle.sfv_read.specs.declared.error.SfError.{SfError}
 use Rattle.sfv_read.specs.declared.error.SfError.TheVariants.{Memory, Syntax, ItemKind}
 use Rattle.sfv_read.specs.Laws.{HasOneValue}
-use Rattle.sfv_read.specs.Fault.{IsRead, IsFault, BeginsItemKind}
+use Rattle.sfv_read.specs.Fault.{IsRead, IsSfError, BeginsItemKind}
 use Rattle.sfv_read.specs.tools.Answers.{StopsAt, MarksItemKind, Answers}
 use Rattle.sfv_read.specs.Reads.{ReadsItem, ReadsInner, ReadsList, ReadsDict}
 use Rattle.sfv_read.specs.tools.ItemWalk.{item_read}
@@ -23,7 +23,7 @@ use Rattle.sfv_read.proofs.Members.{meets_list, meets_dict}
 pub record Promises {V : Type 0} (L : List ℕ → V → Type 0) (text : List ℕ) (result : Result V SfError) : Type 0 where
   pub ok : IfOk result (λ v. L text v)
   pub only : (v : V) → L text v → IsRead result v
-  pub fault : IfErr result (λ e. IsFault L text e)
+  pub fault : IfErr result (λ e. IsSfError L text e)
 
 module _ {V : Type 0} {L : List ℕ → V → Type 0} {r : List ℕ → Result V ℕ} (j : Judges L r) where
   offset_at : (text : List ℕ) (offset : ℕ) → StopsAt r text offset → IsFaultOffset L text offset

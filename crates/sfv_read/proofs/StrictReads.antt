@@ -29,7 +29,7 @@ use Rattle.sfv_read.specs.Item.{IsValue, IsParameter, AreParameters, put_pair, d
 use Rattle.sfv_read.specs.Inner.{AreSpaces, AreItems, IsInner}
 use Rattle.sfv_read.specs.Member.{IsMember, IsDictValue, IsDictMember, IsComma, AreMembers, true_item}
 use Rattle.sfv_read.specs.Reads.{ReadsItem, ReadsInner, ReadsList, ReadsDict}
-use Rattle.sfv_read.specs.tools.ItemWalk.{item_of}
+use Rattle.sfv_read.specs.tools.ItemWalk.{item_with}
 use Rattle.sfv_read.proofs.Digits.{digit_of, value_append}
 
 -- ---- numbers
@@ -226,16 +226,16 @@ member_reads : (v : Member) → is_member_in_range v ≡ true → IsMember (memb
 member_reads (ItemMember item) h = item_reads item h
 member_reads (InnerMember list) h = inner_reads list h
 
-dict_item_reads : (bare : BareItem) (params : List (Pair BareItem)) → is_item_in_range (item_of bare params) ≡ true → IsDictValue (dict_item_text bare params) (ItemMember (item_of bare params))
+dict_item_reads : (bare : BareItem) (params : List (Pair BareItem)) → is_item_in_range (item_with bare params) ≡ true → IsDictValue (dict_item_text bare params) (ItemMember (item_with bare params))
 dict_item_reads (Boolean true) params h =
     let read = parameters_read params h in
     inr (params, read.0, ap (λ (ps : List (Pair BareItem)). ItemMember (true_item ps)) read.1)
-dict_item_reads (Boolean false) params h = inl (item_text (item_of (Boolean false) params), refl, item_reads (item_of (Boolean false) params) h)
-dict_item_reads (Integer z) params h = inl (item_text (item_of (Integer z) params), refl, item_reads (item_of (Integer z) params) h)
-dict_item_reads (Decimal z) params h = inl (item_text (item_of (Decimal z) params), refl, item_reads (item_of (Decimal z) params) h)
-dict_item_reads (Str s) params h = inl (item_text (item_of (Str s) params), refl, item_reads (item_of (Str s) params) h)
-dict_item_reads (Token t) params h = inl (item_text (item_of (Token t) params), refl, item_reads (item_of (Token t) params) h)
-dict_item_reads (Bytes b) params h = inl (item_text (item_of (Bytes b) params), refl, item_reads (item_of (Bytes b) params) h)
+dict_item_reads (Boolean false) params h = inl (item_text (item_with (Boolean false) params), refl, item_reads (item_with (Boolean false) params) h)
+dict_item_reads (Integer z) params h = inl (item_text (item_with (Integer z) params), refl, item_reads (item_with (Integer z) params) h)
+dict_item_reads (Decimal z) params h = inl (item_text (item_with (Decimal z) params), refl, item_reads (item_with (Decimal z) params) h)
+dict_item_reads (Str s) params h = inl (item_text (item_with (Str s) params), refl, item_reads (item_with (Str s) params) h)
+dict_item_reads (Token t) params h = inl (item_text (item_with (Token t) params), refl, item_reads (item_with (Token t) params) h)
+dict_item_reads (Bytes b) params h = inl (item_text (item_with (Bytes b) params), refl, item_reads (item_with (Bytes b) params) h)
 
 dict_value_reads : (v : Member) → is_member_in_range v ≡ true → IsDictValue (dict_value_text v) v
 dict_value_reads (ItemMember item) h = dict_item_reads item.bare item.params h

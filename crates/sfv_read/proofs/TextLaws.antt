@@ -2,7 +2,7 @@
 use Rattle.std.proofs.Common.{◌≡◌, ◌↔◌, ℕ, Bool, true, List, Result, refl, sym, ap, subst}
 use Rattle.byte_grammar.proofs.OffsetLaws.{one_offset}
 use Rattle.byte_grammar.proofs.Whole.{Judges, one_value}
-use Rattle.sfv_read.specs.Fault.{BeginsItemKind, IsFault}
+use Rattle.sfv_read.specs.Fault.{BeginsItemKind, IsSfError}
 use Rattle.sfv_read.specs.Laws.{HasOneAnswer}
 use Rattle.sfv_read.specs.declared.error.SfError.{SfError}
 use Rattle.sfv_read.specs.declared.error.SfError.TheVariants.{Memory, Syntax, ItemKind}
@@ -15,10 +15,10 @@ distinct_texts {V} {L} j test text_of reads v w a b = (
 )
 
 module _ {V : Type 0} (L : List ℕ → V → Type 0) where
-  one_kind : (text : List ℕ) (p q : ℕ) → IsFault L text (Syntax p) → IsFault L text (ItemKind q) → ⊥
+  one_kind : (text : List ℕ) (p q : ℕ) → IsSfError L text (Syntax p) → IsSfError L text (ItemKind q) → ⊥
   one_kind text p q a b = a.1 (subst (λ (n : ℕ). BeginsItemKind L text n) (sym (one_offset L text p q a.0 b.0)) b.1)
 
-  one_fault : (text : List ℕ) (e f : SfError) → IsFault L text e → IsFault L text f → (e ≡ Memory → ⊥) → (f ≡ Memory → ⊥) → e ≡ f
+  one_fault : (text : List ℕ) (e f : SfError) → IsSfError L text e → IsSfError L text f → (e ≡ Memory → ⊥) → (f ≡ Memory → ⊥) → e ≡ f
   one_fault text Memory f a b x y = absurd (x refl)
   one_fault text (Syntax p) Memory a b x y = absurd (y refl)
   one_fault text (Syntax p) (Syntax q) a b x y = ap (λ (n : ℕ). Syntax n) (one_offset L text p q a.0 b.0)
@@ -27,7 +27,7 @@ module _ {V : Type 0} (L : List ℕ → V → Type 0) where
   one_fault text (ItemKind p) (Syntax q) a b x y = absurd (one_kind text q p b a)
   one_fault text (ItemKind p) (ItemKind q) a b x y = ap (λ (n : ℕ). ItemKind n) (one_offset L text p q a.0 b.0)
 
-  no_fault : (text : List ℕ) (v : V) (e : SfError) → L text v → IsFault L text e → e ≡ Memory
+  no_fault : (text : List ℕ) (v : V) (e : SfError) → L text v → IsSfError L text e → e ≡ Memory
   no_fault text v Memory h a = refl
   no_fault text v (Syntax p) h a = absurd (a.0.none v h)
   no_fault text v (ItemKind p) h a = absurd (a.0.none v h)

@@ -21,10 +21,10 @@ pub record BeginsItemKind {V : Type 0} (L : List ℕ → V → Type 0) (text : L
   pub item : Begins L (take offset text ++ codes "?1")
 
 -- why a text of the kind isn't read; memory may run out, but not over the empty text
-abbrev pub IsFault : {V : Type 0} → (List ℕ → V → Type 0) → List ℕ → SfError → Type 0
-IsFault L text Memory = 1 ≤ length text
-IsFault L text (Syntax offset) = IsFaultOffset L text offset × ¬ BeginsItemKind L text offset
-IsFault L text (ItemKind offset) = IsFaultOffset L text offset × BeginsItemKind L text offset
+abbrev pub IsSfError : {V : Type 0} → (List ℕ → V → Type 0) → List ℕ → SfError → Type 0
+IsSfError L text Memory = 1 ≤ length text
+IsSfError L text (Syntax offset) = IsFaultOffset L text offset × ¬ BeginsItemKind L text offset
+IsSfError L text (ItemKind offset) = IsFaultOffset L text offset × BeginsItemKind L text offset
 
 -- what an error says
 abbrev pub error_text : SfError → List ℕ

@@ -1,6 +1,6 @@
 -- Laws of the texts that are read.
 use Rattle.std.specs.Prelude.{◌≡◌, ◌↔◌, ℕ, Bool, List, IsTrue}
-use Rattle.sfv_read.specs.Fault.{IsFault}
+use Rattle.sfv_read.specs.Fault.{IsSfError}
 use Rattle.sfv_read.specs.declared.error.SfError.{SfError}
 use Rattle.sfv_read.specs.declared.error.SfError.TheVariants.{Memory}
 
@@ -10,9 +10,9 @@ HasOneValue {V} L = (text : List ℕ) (v w : V) → L text v → L text w → v 
 
 -- out of memory aside, a text has at most one fault, and none where it has a value
 pub record HasOneAnswer {V : Type 0} (L : List ℕ → V → Type 0) : Type 0 where
-  pub one_fault : (text : List ℕ) (e f : SfError) → IsFault L text e → IsFault L text f
+  pub one_fault : (text : List ℕ) (e f : SfError) → IsSfError L text e → IsSfError L text f
       → ¬ (e ≡ Memory) → ¬ (f ≡ Memory) → e ≡ f
-  pub no_fault : (text : List ℕ) (v : V) (e : SfError) → L text v → IsFault L text e → e ≡ Memory
+  pub no_fault : (text : List ℕ) (v : V) (e : SfError) → L text v → IsSfError L text e → e ≡ Memory
 
 -- what is read passes the test
 abbrev pub ReadsOnly : {V : Type 0} → (List ℕ → V → Type 0) → (V → Bool) → Type 0

@@ -8,7 +8,7 @@ ghost use Rattle.sfv_read.specs.tools.BareWalk.{kind_of_bare_item, bare_item_rea
 
 use crate::byte_sequence::read_byte_sequence;
 use crate::class::SfClass;
-use crate::error::Stop;
+use crate::error::PartError;
 use crate::number::read_number;
 use crate::string::read_string;
 use byte_classes::{Byte, ByteClass, Class};
@@ -29,12 +29,12 @@ pub enum BareKind {
 
 /// Reads a bare item, by its first byte.
 #[tactic(auto, unfolding(crate::specs::tools::BareWalk::bare_item_read, byte_grammar::specs::tools::Walks::pick_read))]
-pub fn read_bare_item(alloc: Global, bytes: &[u8]) -> Result<(BareItem, &[u8]), Stop>
+pub fn read_bare_item(alloc: Global, bytes: &[u8]) -> Result<(BareItem, &[u8]), PartError>
     ensures gives { GivesUnlessMemory (λ x. (x.0, x.1.now)) result (bare_item_read bytes.now) }
     ensures some { UnlessStopped result (1 ≤ length bytes.now) }
 {
     match first_kind(bytes) {
-        None => Err(Stop::At(bytes.len())),
+        None => Err(PartError::At(bytes.len())),
         Some(BareKind::Number) => Ok(read_number(bytes)?),
         Some(BareKind::String) => {
             let (text, rest) = read_string(alloc, bytes)?;

@@ -3,13 +3,13 @@
 ghost use Rattle.std.specs.Prelude.{◌≡◌, false, IsTrue, IfOk, IfErr, MatchOption};
 ghost use Rattle.std.specs.List.{list_all};
 ghost use Rattle.byte_grammar.specs.Gives.{Gives};
-ghost use Rattle.sfv_read.specs.declared.error.Stop.TheVariants.{Memory};
+ghost use Rattle.sfv_read.specs.declared.error.PartError.TheVariants.{Memory};
 ghost use Rattle.sfv_read.specs.tools.Gives.{GivesUnlessMemory};
 ghost use Rattle.sfv_read.specs.Class.{is_base64};
 ghost use Rattle.sfv_read.specs.tools.BareWalk.{bytes_of, are_whole, pads, padding_read, padding_end_read, letters_end_read, byte_sequence_read};
 
 use crate::class::SfClass;
-use crate::error::Stop;
+use crate::error::PartError;
 use base64::DecodeAllocError;
 use base64::engine::general_purpose::STANDARD_NO_PAD;
 use byte_classes::Byte;
@@ -19,7 +19,7 @@ use std::alloc::Global;
 
 /// Reads letters between colons, with all of the `=` that fill their last group or none.
 #[tactic(auto, unfolding(crate::specs::tools::BareWalk::byte_sequence_read))]
-pub fn read_byte_sequence(alloc: Global, bytes: &[u8]) -> Result<(Text, &[u8]), Stop>
+pub fn read_byte_sequence(alloc: Global, bytes: &[u8]) -> Result<(Text, &[u8]), PartError>
     ensures { GivesUnlessMemory (λ x. (x.0, x.1.now)) result (byte_sequence_read bytes.now) }
 {
     let (_, rest) = read_byte(Byte(b':'), bytes)?;
@@ -33,13 +33,13 @@ fn read_letters_end<'a>(
     alloc: Global,
     letters: &[u8],
     bytes: &'a [u8],
-) -> Result<(Text, &'a [u8]), Stop>
+) -> Result<(Text, &'a [u8]), PartError>
     requires { IsTrue (list_all is_base64 letters.now) }
     ensures { GivesUnlessMemory (λ x. (x.0, x.1.now)) result
         (letters_end_read letters.now bytes.now) }
 {
     match decode(alloc, letters)? {
-        None => Err(Stop::At(bytes.len())),
+        None => Err(PartError::At(bytes.len())),
         Some(text) => {
             let (_, rest) = read_padding_end((4 - letters.len() % 4) % 4, bytes)?;
             Ok((text, rest))
@@ -49,7 +49,7 @@ fn read_letters_end<'a>(
 
 /// The bytes that letters spell, where they spell some: the last group is no single letter, and
 /// its bits that no byte needs are zero.
-fn decode(alloc: Global, letters: &[u8]) -> Result<Option<Text>, Stop>
+fn decode(alloc: Global, letters: &[u8]) -> Result<Option<Text>, PartError>
     requires { IsTrue (list_all is_base64 letters.now) }
     ensures ok { IfOk result (λ o. MatchOption o (are_whole letters.now ≡ false)
         (λ text. IsTrue (are_whole letters.now) × (text ≡ bytes_of letters.now))) }
@@ -57,7 +57,7 @@ fn decode(alloc: Global, letters: &[u8]) -> Result<Option<Text>, Stop>
 {
     match STANDARD_NO_PAD.decode(alloc, letters) {
         Ok(bytes) => Ok(Some(Text::from_bytes(alloc, bytes.as_slice())?)),
-        Err(DecodeAllocError::OutOfMemory) => Err(Stop::Memory),
+        Err(DecodeAllocError::OutOfMemory) => Err(PartError::Memory),
         Err(DecodeAllocError::DecodeError(_)) => Ok(None),
     }
 }

@@ -1,7 +1,7 @@
 //! Why a text isn't read, and why a reader inside it stopped.
 
 ghost use Rattle.std.specs.Prelude.{◌≡◌};
-ghost use Rattle.sfv_read.specs.declared.error.Stop.TheVariants.{Memory as NoMore, At};
+ghost use Rattle.sfv_read.specs.declared.error.PartError.TheVariants.{Memory as NoMore, At};
 
 use byte_grammar::Left;
 use sfv_text::Memory;
@@ -41,25 +41,25 @@ impl Error for SfError {}
 
 /// Why a reader inside a text stopped.
 #[derive(Clone, Copy, Debug, PartialEq, Eq)]
-pub enum Stop {
+pub enum PartError {
     /// Out of memory.
     Memory,
     /// So many bytes were left.
     At(usize),
 }
 
-impl From<Left> for Stop {
+impl From<Left> for PartError {
     ghost from_gives = { λ left e. e ≡ At left.0 };
 
-    fn from(left: Left) -> Stop {
-        Stop::At(left.0)
+    fn from(left: Left) -> PartError {
+        PartError::At(left.0)
     }
 }
 
-impl From<Memory> for Stop {
+impl From<Memory> for PartError {
     ghost from_gives = { λ _ e. e ≡ NoMore };
 
-    fn from(_memory: Memory) -> Stop {
-        Stop::Memory
+    fn from(_memory: Memory) -> PartError {
+        PartError::Memory
     }
 }

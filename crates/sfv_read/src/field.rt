@@ -3,7 +3,7 @@
 ghost use Rattle.std.specs.Prelude.{◌≡◌, ◌≤◌, ◌↔◌, ◌++◌, ℕ, List as Listed, Result, length, IfOk, IfErr, IsTrue, codes};
 ghost use Rattle.byte_grammar.specs.tools.Walks.{left, unread, whole_read, padded_read};
 ghost use Rattle.byte_classes.specs.Classes.{is_space};
-ghost use Rattle.sfv_read.specs.declared.error.Stop.TheVariants.{Memory};
+ghost use Rattle.sfv_read.specs.declared.error.PartError.TheVariants.{Memory};
 ghost use Rattle.sfv_read.specs.tools.Answers.{IsFaultAt, Answers};
 ghost use Rattle.sfv_read.specs.tools.Gives.{GivesUnlessMemory, IfMemory};
 ghost use Rattle.sfv_read.specs.tools.ItemWalk.{item_read};
@@ -11,7 +11,7 @@ ghost use Rattle.sfv_read.specs.tools.InnerWalk.{inner_list_read};
 ghost use Rattle.sfv_read.specs.tools.MemberWalk.{list_read, dict_read};
 
 use crate::class::SfClass;
-use crate::error::{SfError, Stop};
+use crate::error::{PartError, SfError};
 use crate::inner::read_inner_list_text;
 use crate::params::read_item_text;
 use crate::separated::read_separated;
@@ -26,7 +26,7 @@ pub trait Field: Drop {
     ghost reading: { Listed ℕ → Result (Self × Listed ℕ) ℕ };
 
     /// Reads a text of the kind, with spaces at both ends.
-    fn read(alloc: Global, text: &[u8]) -> Result<(Self, &[u8]), Stop>
+    fn read(alloc: Global, text: &[u8]) -> Result<(Self, &[u8]), PartError>
         ensures gives { GivesUnlessMemory (λ x. (x.0, x.1.now)) result (reading text.now) }
         ensures within { left (reading text.now) ≤ length text.now }
         ensures needed { IfErr result (λ e. IfMemory e (1 ≤ length text.now)) };
@@ -38,14 +38,14 @@ pub fn read_field<F: Field>(alloc: Global, text: &[u8]) -> Result<F, SfError>
 {
     match read_whole(alloc, text) {
         Ok(value) => Ok(value),
-        Err(Stop::Memory) => Err(SfError::Memory),
-        Err(Stop::At(left)) => Err(fault_at::<F>(alloc, text, text.len() - left)),
+        Err(PartError::Memory) => Err(SfError::Memory),
+        Err(PartError::At(left)) => Err(fault_at::<F>(alloc, text, text.len() - left)),
     }
 }
 
 /// Reads a text of a kind to its end.
 #[tactic(auto, unfolding(byte_grammar::specs::tools::Walks::whole_read))]
-fn read_whole<F: Field>(alloc: Global, text: &[u8]) -> Result<F, Stop>
+fn read_whole<F: Field>(alloc: Global, text: &[u8]) -> Result<F, PartError>
     ensures gives { GivesUnlessMemory (λ x. x) result (whole_read F.reading text.now) }
     ensures within { unread (whole_read F.reading text.now) ≤ length text.now }
     ensures needed { IfErr result (λ e. IfMemory e (1 ≤ length text.now)) }
@@ -53,7 +53,7 @@ fn read_whole<F: Field>(alloc: Global, text: &[u8]) -> Result<F, Stop>
     let (value, rest) = F::read(alloc, text)?;
     match rest {
         [] => Ok(value),
-        [_, ..] => Err(Stop::At(rest.len())),
+        [_, ..] => Err(PartError::At(rest.len())),
     }
 }
 
@@ -74,7 +74,7 @@ fn fault_at<F: Field>(alloc: Global, text: &[u8], offset: usize) -> SfError
 }
 
 /// Whether `?1` could stand after the prefix.
-fn takes_item<F: Field>(alloc: Global, prefix: &[u8]) -> Result<bool, Stop>
+fn takes_item<F: Field>(alloc: Global, prefix: &[u8]) -> Result<bool, PartError>
     ensures ok { IfOk result (λ b.
         IsTrue b ↔ (unread (whole_read F.reading (prefix.now ++ codes "?1")) ≡ 0)) }
     ensures err { IfErr result (λ e. e ≡ Memory) }
@@ -83,8 +83,8 @@ fn takes_item<F: Field>(alloc: Global, prefix: &[u8]) -> Result<bool, Stop>
     probe.append(b"?1")?;
     match read_whole::<F>(alloc, probe.bytes()) {
         Ok(_) => Ok(true),
-        Err(Stop::Memory) => Err(Stop::Memory),
-        Err(Stop::At(left)) => Ok(left == 0),
+        Err(PartError::Memory) => Err(PartError::Memory),
+        Err(PartError::At(left)) => Ok(left == 0),
     }
 }
 
@@ -92,7 +92,7 @@ impl Field for Item {
     ghost reading = { λ text. padded_read is_space item_read text };
 
     #[tactic(auto, unfolding(byte_grammar::specs::tools::Walks::padded_read))]
-    fn read(alloc: Global, text: &[u8]) -> Result<(Item, &[u8]), Stop> {
+    fn read(alloc: Global, text: &[u8]) -> Result<(Item, &[u8]), PartError> {
         let (_, rest) = read_all(Byte(b' '), text);
         let (item, rest) = read_item_text(alloc, rest)?;
         let (_, rest) = read_all(Byte(b' '), rest);
@@ -104,7 +104,7 @@ impl Field for InnerList {
     ghost reading = { λ text. padded_read is_space inner_list_read text };
 
     #[tactic(auto, unfolding(byte_grammar::specs::tools::Walks::padded_read))]
-    fn read(alloc: Global, text: &[u8]) -> Result<(InnerList, &[u8]), Stop> {
+    fn read(alloc: Global, text: &[u8]) -> Result<(InnerList, &[u8]), PartError> {
         let (_, rest) = read_all(Byte(b' '), text);
         let (list, rest) = read_inner_list_text(alloc, rest)?;
         let (_, rest) = read_all(Byte(b' '), rest);
@@ -115,7 +115,7 @@ impl Field for InnerList {
 impl Field for List {
     ghost reading = { λ text. list_read text };
 
-    fn read(alloc: Global, text: &[u8]) -> Result<(List, &[u8]), Stop> {
+    fn read(alloc: Global, text: &[u8]) -> Result<(List, &[u8]), PartError> {
         read_separated(alloc, text)
     }
 }
@@ -123,7 +123,7 @@ impl Field for List {
 impl Field for Dict {
     ghost reading = { λ text. dict_read text };
 
-    fn read(alloc: Global, text: &[u8]) -> Result<(Dict, &[u8]), Stop> {
+    fn read(alloc: Global, text: &[u8]) -> Result<(Dict, &[u8]), PartError> {
         read_separated(alloc, text)
     }
 }

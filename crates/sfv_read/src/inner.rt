@@ -6,7 +6,7 @@ ghost use Rattle.byte_grammar.specs.tools.Walks.{turns_read, with_prefix};
 ghost use Rattle.sfv_read.specs.tools.Gives.{GivesUnlessMemory, UnlessStopped};
 ghost use Rattle.sfv_read.specs.tools.InnerWalk.{close_read, some_item_read, item_or_close_read, next_item_read, items_read, inner_list_read};
 
-use crate::error::Stop;
+use crate::error::PartError;
 use crate::params::{read_item_text, read_parameters};
 use byte_classes::Byte;
 use byte_grammar::{Left, read_all, read_byte, starts_with};
@@ -15,7 +15,7 @@ use std::alloc::Global;
 
 /// Reads Items in parentheses, separated by spaces, and parameters.
 #[tactic(auto, unfolding(crate::specs::tools::InnerWalk::inner_list_read))]
-pub fn read_inner_list_text(alloc: Global, bytes: &[u8]) -> Result<(InnerList, &[u8]), Stop>
+pub fn read_inner_list_text(alloc: Global, bytes: &[u8]) -> Result<(InnerList, &[u8]), PartError>
     ensures gives { GivesUnlessMemory (λ x. (x.0, x.1.now)) result (inner_list_read bytes.now) }
     ensures some { UnlessStopped result (1 ≤ length bytes.now) }
 {
@@ -28,7 +28,7 @@ pub fn read_inner_list_text(alloc: Global, bytes: &[u8]) -> Result<(InnerList, &
 
 /// Reads Items up to the parenthesis that ends them.
 #[tactic(auto, unfolding(crate::specs::tools::InnerWalk::items_read))]
-fn read_items(alloc: Global, bytes: &[u8]) -> Result<(Items, &[u8]), Stop>
+fn read_items(alloc: Global, bytes: &[u8]) -> Result<(Items, &[u8]), PartError>
     ensures { GivesUnlessMemory (λ x. (x.0, x.1.now)) result (items_read bytes.now) }
 {
     let (first, rest) = read_item_or_close(alloc, bytes)?;
@@ -43,7 +43,7 @@ fn read_items(alloc: Global, bytes: &[u8]) -> Result<(Items, &[u8]), Stop>
 }
 
 /// Reads the Items after those that were read, up to the parenthesis that ends them.
-fn read_more(alloc: Global, first: Items, bytes: &[u8]) -> Result<(Items, &[u8]), Stop>
+fn read_more(alloc: Global, first: Items, bytes: &[u8]) -> Result<(Items, &[u8]), PartError>
     ensures { GivesUnlessMemory (λ x. (x.0, x.1.now)) result
         (with_prefix first (turns_read next_item_read bytes.now)) }
 {
@@ -63,7 +63,7 @@ fn read_more(alloc: Global, first: Items, bytes: &[u8]) -> Result<(Items, &[u8])
 
 /// Reads spaces and an Item, or the parenthesis. An Item stands after a space alone.
 #[tactic(auto, unfolding(crate::specs::tools::InnerWalk::next_item_read))]
-fn read_next_item(alloc: Global, bytes: &[u8]) -> Result<(Option<Item>, &[u8]), Stop>
+fn read_next_item(alloc: Global, bytes: &[u8]) -> Result<(Option<Item>, &[u8]), PartError>
     ensures { GivesUnlessMemory (λ x. (x.0, x.1.now)) result (next_item_read bytes.now) }
 {
     let (gap, rest) = read_all(Byte(b' '), bytes);
@@ -75,11 +75,11 @@ fn read_next_item(alloc: Global, bytes: &[u8]) -> Result<(Option<Item>, &[u8]), 
 
 /// Reads an Item, or the parenthesis.
 #[tactic(auto, unfolding(crate::specs::tools::InnerWalk::item_or_close_read, byte_grammar::specs::tools::Walks::choose_read, byte_grammar::specs::tools::Walks::pick_read))]
-fn read_item_or_close(alloc: Global, bytes: &[u8]) -> Result<(Option<Item>, &[u8]), Stop>
+fn read_item_or_close(alloc: Global, bytes: &[u8]) -> Result<(Option<Item>, &[u8]), PartError>
     ensures { GivesUnlessMemory (λ x. (x.0, x.1.now)) result (item_or_close_read bytes.now) }
 {
     if bytes.is_empty() {
-        return Err(Stop::At(0));
+        return Err(PartError::At(0));
     }
     if starts_with(Byte(b')'), bytes) {
         return Ok(read_close(bytes)?);
@@ -88,7 +88,7 @@ fn read_item_or_close(alloc: Global, bytes: &[u8]) -> Result<(Option<Item>, &[u8
 }
 
 #[tactic(auto, unfolding(crate::specs::tools::InnerWalk::some_item_read))]
-fn read_some_item(alloc: Global, bytes: &[u8]) -> Result<(Option<Item>, &[u8]), Stop>
+fn read_some_item(alloc: Global, bytes: &[u8]) -> Result<(Option<Item>, &[u8]), PartError>
     ensures { GivesUnlessMemory (λ x. (x.0, x.1.now)) result (some_item_read bytes.now) }
 {
     let (item, rest) = read_item_text(alloc, bytes)?;

@@ -23,7 +23,7 @@ pub fn read_number(bytes: &[u8]) -> Result<(BareItem, &[u8]), Left>
     let (part, rest) = read_fraction(digits.len(), rest)?;
     match part {
         None => Ok((
-            BareItem::Integer(with_sign(sign, value_of(0, digits))),
+            BareItem::Integer(with_sign(sign, number_of(0, digits))),
             rest,
         )),
         Some(part) => Ok((BareItem::Decimal(thousandths(sign, digits, part)), rest)),
@@ -59,7 +59,7 @@ fn read_part(bytes: &[u8]) -> Result<(&[u8], &[u8]), Left>
 }
 
 /// What the digits spell after the number `start`.
-fn value_of(start: u64, digits: &[u8]) -> u64
+fn number_of(start: u64, digits: &[u8]) -> u64
     requires digits { IsTrue (list_all is_digit digits.now) }
     requires room { (start + 1) * 10 ^ length digits.now ≤ 10 ^ 15 }
     ensures value { result ≡ digits_value_after 10 start digits.now }
@@ -91,8 +91,8 @@ fn thousandths(sign: &[u8], digits: &[u8], part: &[u8]) -> i64
     ensures { result ≡ with_sign sign.now
         (digits_value 10 (digits.now ++ part.now) * 10 ^ (3 - length part.now)) }
 {
-    let whole = value_of(0, digits);
-    let number = value_of(whole, part);
+    let whole = number_of(0, digits);
+    let number = number_of(whole, part);
     with_sign(sign, to_thousandths(number, part.len()))
 }
 

@@ -6,7 +6,7 @@ ghost use Rattle.sfv_read.specs.tools.ItemWalk.{item_read, equals_read, value_re
 
 use crate::bare::read_bare_item;
 use crate::class::SfClass;
-use crate::error::Stop;
+use crate::error::PartError;
 use byte_classes::Byte;
 use byte_grammar::{read_all, read_byte, read_word, starts_with};
 use sfv_text::{BareItem, Item, Pair, Params, Text};
@@ -14,7 +14,7 @@ use std::alloc::Global;
 
 /// Reads a bare item with parameters.
 #[tactic(auto, unfolding(crate::specs::tools::ItemWalk::item_read))]
-pub fn read_item_text(alloc: Global, bytes: &[u8]) -> Result<(Item, &[u8]), Stop>
+pub fn read_item_text(alloc: Global, bytes: &[u8]) -> Result<(Item, &[u8]), PartError>
     ensures gives { GivesUnlessMemory (λ x. (x.0, x.1.now)) result (item_read bytes.now) }
     ensures some { UnlessStopped result (1 ≤ length bytes.now) }
 {
@@ -25,7 +25,7 @@ pub fn read_item_text(alloc: Global, bytes: &[u8]) -> Result<(Item, &[u8]), Stop
 
 /// Reads parameters one after the other. A repeated key stands where it first stood and has its
 /// last value.
-pub fn read_parameters(alloc: Global, bytes: &[u8]) -> Result<(Params, &[u8]), Stop>
+pub fn read_parameters(alloc: Global, bytes: &[u8]) -> Result<(Params, &[u8]), PartError>
     ensures { GivesUnlessMemory (λ x. (x.0, x.1.now)) result (parameters_read bytes.now) }
 {
     let mut params = Params::new(alloc);
@@ -44,7 +44,10 @@ pub fn read_parameters(alloc: Global, bytes: &[u8]) -> Result<(Params, &[u8]), S
 
 /// Reads a parameter where a semicolon comes.
 #[tactic(auto, unfolding(crate::specs::tools::ItemWalk::next_parameter_read, byte_grammar::specs::tools::Walks::optional_read))]
-fn read_next_parameter(alloc: Global, bytes: &[u8]) -> Result<(Option<Pair<BareItem>>, &[u8]), Stop>
+fn read_next_parameter(
+    alloc: Global,
+    bytes: &[u8],
+) -> Result<(Option<Pair<BareItem>>, &[u8]), PartError>
     ensures { GivesUnlessMemory (λ x. (x.0, x.1.now)) result (next_parameter_read bytes.now) }
 {
     if !starts_with(Byte(b';'), bytes) {
@@ -56,7 +59,7 @@ fn read_next_parameter(alloc: Global, bytes: &[u8]) -> Result<(Option<Pair<BareI
 
 /// Reads a semicolon, spaces, a key and its value.
 #[tactic(auto, unfolding(crate::specs::tools::ItemWalk::parameter_read))]
-fn read_parameter(alloc: Global, bytes: &[u8]) -> Result<(Pair<BareItem>, &[u8]), Stop>
+fn read_parameter(alloc: Global, bytes: &[u8]) -> Result<(Pair<BareItem>, &[u8]), PartError>
     ensures { GivesUnlessMemory (λ x. (x.0, x.1.now)) result (parameter_read bytes.now) }
 {
     let (_, rest) = read_byte(Byte(b';'), bytes)?;
@@ -67,7 +70,7 @@ fn read_parameter(alloc: Global, bytes: &[u8]) -> Result<(Pair<BareItem>, &[u8])
 }
 
 #[tactic(auto, unfolding(crate::specs::tools::ItemWalk::key_read))]
-pub fn read_key(alloc: Global, bytes: &[u8]) -> Result<(Text, &[u8]), Stop>
+pub fn read_key(alloc: Global, bytes: &[u8]) -> Result<(Text, &[u8]), PartError>
     ensures { GivesUnlessMemory (λ x. (x.0, x.1.now)) result (key_read bytes.now) }
 {
     let (key, rest) = read_word(SfClass::KeyFirst, SfClass::KeyRest, bytes)?;
@@ -76,7 +79,7 @@ pub fn read_key(alloc: Global, bytes: &[u8]) -> Result<(Text, &[u8]), Stop>
 
 /// Reads `=` and a bare item, or nothing for true.
 #[tactic(auto, unfolding(crate::specs::tools::ItemWalk::value_read, byte_grammar::specs::tools::Walks::optional_read))]
-fn read_value(alloc: Global, bytes: &[u8]) -> Result<(BareItem, &[u8]), Stop>
+fn read_value(alloc: Global, bytes: &[u8]) -> Result<(BareItem, &[u8]), PartError>
     ensures { GivesUnlessMemory (λ x. (x.0, x.1.now)) result (value_read bytes.now) }
 {
     if !starts_with(Byte(b'='), bytes) {
@@ -87,7 +90,7 @@ fn read_value(alloc: Global, bytes: &[u8]) -> Result<(BareItem, &[u8]), Stop>
 
 /// Reads `=` and a bare item.
 #[tactic(auto, unfolding(crate::specs::tools::ItemWalk::equals_read))]
-fn read_equals(alloc: Global, bytes: &[u8]) -> Result<(BareItem, &[u8]), Stop>
+fn read_equals(alloc: Global, bytes: &[u8]) -> Result<(BareItem, &[u8]), PartError>
     ensures { GivesUnlessMemory (λ x. (x.0, x.1.now)) result (equals_read bytes.now) }
 {
     let (_, rest) = read_byte(Byte(b'='), bytes)?;

@@ -6,7 +6,7 @@ ghost use Rattle.sfv_text.specs.declared.value.InnerList.{InnerList};
 ghost use Rattle.sfv_text.specs.declared.value.Member.{Member};
 ghost use Rattle.sfv_text.specs.Range.{is_item_in_range, is_inner_in_range, is_list_in_range, is_dict_in_range};
 ghost use Rattle.sfv_text.specs.declared.pair.Pair.{Pair};
-ghost use Rattle.sfv_read.specs.Fault.{IsRead, IsFault};
+ghost use Rattle.sfv_read.specs.Fault.{IsRead, IsSfError};
 ghost use Rattle.sfv_read.specs.Reads.{ReadsItem, ReadsInner, ReadsList, ReadsDict};
 
 use crate::error::SfError;
@@ -19,7 +19,7 @@ pub fn read_item(alloc: Global, text: &[u8]) -> Result<Item, SfError>
     ensures ok { IfOk result (λ value. ReadsItem text.now value) }
     ensures in_range { IfOk result (λ value. IsTrue (is_item_in_range value)) }
     ensures only { (value : Item) → ReadsItem text.now value → IsRead result value }
-    ensures fault { IfErr result (λ e. IsFault ReadsItem text.now e) }
+    ensures fault { IfErr result (λ e. IsSfError ReadsItem text.now e) }
 {
     read_field(alloc, text)
 }
@@ -29,7 +29,7 @@ pub fn read_inner(alloc: Global, text: &[u8]) -> Result<InnerList, SfError>
     ensures ok { IfOk result (λ value. ReadsInner text.now value) }
     ensures in_range { IfOk result (λ value. IsTrue (is_inner_in_range value)) }
     ensures only { (value : InnerList) → ReadsInner text.now value → IsRead result value }
-    ensures fault { IfErr result (λ e. IsFault ReadsInner text.now e) }
+    ensures fault { IfErr result (λ e. IsSfError ReadsInner text.now e) }
 {
     read_field(alloc, text)
 }
@@ -40,7 +40,7 @@ pub fn read_list(alloc: Global, text: &[u8]) -> Result<List, SfError>
     ensures ok { IfOk result (λ value. ReadsList text.now value) }
     ensures in_range { IfOk result (λ value. IsTrue (is_list_in_range value)) }
     ensures only { (value : Listed Member) → ReadsList text.now value → IsRead result value }
-    ensures fault { IfErr result (λ e. IsFault ReadsList text.now e) }
+    ensures fault { IfErr result (λ e. IsSfError ReadsList text.now e) }
 {
     read_field(alloc, text)
 }
@@ -51,7 +51,7 @@ pub fn read_dict(alloc: Global, text: &[u8]) -> Result<Dict, SfError>
     ensures ok { IfOk result (λ value. ReadsDict text.now value) }
     ensures in_range { IfOk result (λ value. IsTrue (is_dict_in_range value)) }
     ensures only { (value : Listed (Pair Member)) → ReadsDict text.now value → IsRead result value }
-    ensures fault { IfErr result (λ e. IsFault ReadsDict text.now e) }
+    ensures fault { IfErr result (λ e. IsSfError ReadsDict text.now e) }
 {
     read_field(alloc, text)
 }

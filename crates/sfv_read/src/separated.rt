@@ -6,7 +6,7 @@ ghost use Rattle.sfv_read.specs.Item.{put_pair};
 ghost use Rattle.sfv_read.specs.tools.Gives.{GivesUnlessMemory, IfMemory};
 ghost use Rattle.sfv_read.specs.tools.MemberWalk.{member_read, dict_member_read, with_last, further_read, next_member_read, members_read, some_members_read, separated_read};
 
-use crate::error::Stop;
+use crate::error::PartError;
 use crate::member::{read_dict_member, read_member};
 use byte_classes::{Byte, Class};
 use byte_grammar::{read_all, read_byte, starts_with};
@@ -38,7 +38,7 @@ pub trait Separated: Drop {
         ensures { OnOk result (self.new ≡ with_part self.old part) };
 
     /// Reads a member.
-    fn read_part(alloc: Global, bytes: &[u8]) -> Result<(Self::Part, &[u8]), Stop>
+    fn read_part(alloc: Global, bytes: &[u8]) -> Result<(Self::Part, &[u8]), PartError>
         ensures { GivesUnlessMemory (λ x. (x.0, x.1.now)) result (reading bytes.now) };
 }
 
@@ -59,7 +59,7 @@ impl Separated for List {
         self.push(part)
     }
 
-    fn read_part(alloc: Global, bytes: &[u8]) -> Result<(Member, &[u8]), Stop> {
+    fn read_part(alloc: Global, bytes: &[u8]) -> Result<(Member, &[u8]), PartError> {
         read_member(alloc, bytes)
     }
 }
@@ -81,14 +81,14 @@ impl Separated for Dict {
         self.put(part.key, part.value)
     }
 
-    fn read_part(alloc: Global, bytes: &[u8]) -> Result<(Pair<Member>, &[u8]), Stop> {
+    fn read_part(alloc: Global, bytes: &[u8]) -> Result<(Pair<Member>, &[u8]), PartError> {
         read_dict_member(alloc, bytes)
     }
 }
 
 /// Reads spaces, and nothing or members separated by commas.
 #[tactic(auto, unfolding(crate::specs::tools::MemberWalk::separated_read, crate::specs::tools::MemberWalk::some_members_read, byte_grammar::specs::tools::Walks::optional_read))]
-pub fn read_separated<S: Separated>(alloc: Global, bytes: &[u8]) -> Result<(S, &[u8]), Stop>
+pub fn read_separated<S: Separated>(alloc: Global, bytes: &[u8]) -> Result<(S, &[u8]), PartError>
     ensures gives { GivesUnlessMemory (λ x. (x.0, x.1.now)) result
         (with_state S.with_part S.nothing (separated_read S.reading bytes.now)) }
     ensures needed { IfErr result (λ e. IfMemory e (1 ≤ length bytes.now)) }
@@ -101,7 +101,7 @@ pub fn read_separated<S: Separated>(alloc: Global, bytes: &[u8]) -> Result<(S, &
 }
 
 /// Reads members separated by commas, and blanks after the last.
-fn read_members<S: Separated>(alloc: Global, bytes: &[u8]) -> Result<(S, &[u8]), Stop>
+fn read_members<S: Separated>(alloc: Global, bytes: &[u8]) -> Result<(S, &[u8]), PartError>
     ensures { GivesUnlessMemory (λ x. (x.0, x.1.now)) result
         (with_state S.with_part S.nothing (members_read S.reading bytes.now)) }
 {
@@ -126,7 +126,7 @@ fn read_members<S: Separated>(alloc: Global, bytes: &[u8]) -> Result<(S, &[u8]),
 fn read_next_member<S: Separated>(
     alloc: Global,
     bytes: &[u8],
-) -> Result<(Option<S::Part>, &[u8]), Stop>
+) -> Result<(Option<S::Part>, &[u8]), PartError>
     ensures { GivesUnlessMemory (λ x. (x.0, x.1.now)) result
         (next_member_read S.reading bytes.now) }
 {
@@ -140,7 +140,7 @@ fn read_next_member<S: Separated>(
 
 /// Reads a comma, blanks and a member.
 #[tactic(auto, unfolding(crate::specs::tools::MemberWalk::further_read))]
-fn read_further<S: Separated>(alloc: Global, bytes: &[u8]) -> Result<(S::Part, &[u8]), Stop>
+fn read_further<S: Separated>(alloc: Global, bytes: &[u8]) -> Result<(S::Part, &[u8]), PartError>
     ensures { GivesUnlessMemory (λ x. (x.0, x.1.now)) result (further_read S.reading bytes.now) }
 {
     let (_, rest) = read_byte(Byte(b','), bytes)?;

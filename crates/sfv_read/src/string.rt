@@ -7,7 +7,7 @@ ghost use Rattle.sfv_read.specs.tools.Gives.{GivesUnlessMemory};
 ghost use Rattle.sfv_read.specs.tools.BareWalk.{char_kind, char_read, chars_read, string_read};
 
 use crate::class::SfClass;
-use crate::error::Stop;
+use crate::error::PartError;
 use byte_classes::{Byte, ByteClass};
 use byte_grammar::{Left, read_byte};
 use sfv_text::Text;
@@ -26,7 +26,7 @@ pub enum CharKind {
 
 /// Reads characters in quotes, `"` and `\` after a backslash.
 #[tactic(auto, unfolding(crate::specs::tools::BareWalk::string_read))]
-pub fn read_string(alloc: Global, bytes: &[u8]) -> Result<(Text, &[u8]), Stop>
+pub fn read_string(alloc: Global, bytes: &[u8]) -> Result<(Text, &[u8]), PartError>
     ensures { GivesUnlessMemory (λ x. (x.0, x.1.now)) result (string_read bytes.now) }
 {
     let (_, rest) = read_byte(Byte(b'"'), bytes)?;
@@ -34,7 +34,7 @@ pub fn read_string(alloc: Global, bytes: &[u8]) -> Result<(Text, &[u8]), Stop>
 }
 
 /// Reads characters up to the quote that ends them.
-fn read_chars(alloc: Global, bytes: &[u8]) -> Result<(Text, &[u8]), Stop>
+fn read_chars(alloc: Global, bytes: &[u8]) -> Result<(Text, &[u8]), PartError>
     ensures { GivesUnlessMemory (λ x. (x.0, x.1.now)) result (chars_read bytes.now) }
 {
     let mut text = Text::new(alloc);

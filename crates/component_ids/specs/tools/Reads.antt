@@ -9,7 +9,7 @@ use Rattle.component_ids.specs.declared.params.SigParams.{SigParams}
 use Rattle.component_ids.specs.declared.params.TheConstants.{MAX_COMPONENTS}
 use Rattle.component_ids.specs.declared.read_ids.ItemFault.{ItemFault}
 use Rattle.component_ids.specs.declared.read_ids.ItemFault.TheVariants.{Memory as ItemMemory, Bad}
-use Rattle.component_ids.specs.Causes.{IsFirstBad, IsFirstRepeated, IsFirstIllTyped}
+use Rattle.component_ids.specs.Causes.{IsFirstBadComponent, IsFirstRepeated, IsFirstIllTyped}
 use Rattle.component_ids.specs.Identifiers.{id_of, is_identifier, AreDistinct}
 use Rattle.component_ids.specs.Reasons.{reason_of}
 use Rattle.component_ids.specs.SignatureParams.{IsParamsOf}
@@ -29,7 +29,7 @@ abbrev pub IsIdsFault : List Item → IdFault → Type 0
 IsIdsFault items Memory = ⊤
 IsIdsFault items TooMany = MAX_COMPONENTS < length items
 IsIdsFault items (BadComponent index reason) =
-    (length items ≤ MAX_COMPONENTS) × IsFirstBad items index reason
+    (length items ≤ MAX_COMPONENTS) × IsFirstBadComponent items index reason
 IsIdsFault items (Repeated index) =
     AreIdentifiers items × IsFirstRepeated (map id_of items) index
 IsIdsFault items (BadParameter key) = ⊥

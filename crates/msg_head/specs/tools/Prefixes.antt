@@ -1,7 +1,7 @@
 -- What bytes begin with, by parts of a head. No public clause cites this module.
 use Rattle.std.specs.Prelude.{◌≡◌, ◌≢◌, ℕ, Bool, IsTrue, List, ◌++◌, Option}
 use Rattle.std.specs.List.{list_all}
-use Rattle.msg_head.specs.RawValues.{Pieces}
+use Rattle.msg_head.specs.RawValues.{RawPieces}
 use Rattle.msg_head.specs.Lines.{FieldLine}
 use Rattle.msg_head.specs.Starts.{StartLine, IsStartLine, start_text, request, status, RequestLine, IsRequestLine, StatusLine, IsStatusLine, request_text, status_text, is_code, reason_text}
 use Rattle.msg_head.specs.Cuts.{MakesLine}
@@ -53,7 +53,7 @@ NoCodeAndReason text =
     (code : List ℕ) (reason : Option (List ℕ)) → ¬ IsCodeAndReason code reason text
 
 -- the line as it is cut is the field line, and more comes after it
-pub record ReadsLine (cut : Pieces) (more : List ℕ) (line : FieldLine) (rest : List ℕ)
+pub record ReadsLine (cut : RawPieces) (more : List ℕ) (line : FieldLine) (rest : List ℕ)
     : Type 0 where
   pub makes : MakesLine cut line
   pub rest_is : rest ≡ more

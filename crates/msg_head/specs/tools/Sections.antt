@@ -6,9 +6,9 @@ use Rattle.msg_head.specs.declared.line.LineSpan.{LineSpan}
 use Rattle.msg_head.specs.declared.error.Side.{Side}
 use Rattle.msg_head.specs.declared.error.HeadError.{HeadError}
 use Rattle.msg_head.specs.declared.error.HeadError.TheVariants.{Memory, TooLong, NakedEnd, BadStart, TooManyLines, BadLine}
-use Rattle.msg_head.specs.RawValues.{Pieces}
+use Rattle.msg_head.specs.RawValues.{RawPieces}
 use Rattle.msg_head.specs.Lines.{FieldLine, IsLine, line_text}
-use Rattle.msg_head.specs.Causes.{AreTooMany, IsFirstBad}
+use Rattle.msg_head.specs.Causes.{AreTooMany, IsFirstBadLine}
 use Rattle.msg_head.specs.Views.{line_at, lies_in, FollowEachOther}
 
 -- the bytes end with that rest
@@ -33,17 +33,17 @@ pub record AreSpansOf (bytes : List ℕ) (spans : List LineSpan) (rest : List �
   pub follow : FollowEachOther (length bytes - length rest) spans (length bytes - 2)
 
 -- why these lines are refused
-abbrev pub IsLinesFault : Side → List Pieces → HeadError → Type 0
+abbrev pub IsLinesFault : Side → List RawPieces → HeadError → Type 0
 IsLinesFault side lines Memory = ⊤
 IsLinesFault side lines (TooManyLines other) = (other ≡ side) × AreTooMany lines
 IsLinesFault side lines (BadLine other index) =
-    (other ≡ side) × (length lines ≤ MAX_HEAD_LINES) × IsFirstBad lines index
+    (other ≡ side) × (length lines ≤ MAX_HEAD_LINES) × IsFirstBadLine lines index
 IsLinesFault side lines (TooLong other) = ⊥
 IsLinesFault side lines (NakedEnd offset) = ⊥
 IsLinesFault side lines BadStart = ⊥
 
 -- why they are refused, of which so many are done and these are left
-abbrev pub IsFaultFrom : Side → ℕ → List Pieces → HeadError → Type 0
+abbrev pub IsFaultFrom : Side → ℕ → List RawPieces → HeadError → Type 0
 IsFaultFrom side index left (TooManyLines other) =
     (other ≡ side) × (MAX_HEAD_LINES < index + length left)
 IsFaultFrom side index left (BadLine other at) =

@@ -4,7 +4,7 @@ use Rattle.std.specs.List.{list_all, flat_map}
 use Rattle.std.specs.Str.{byte}
 use Rattle.byte_classes.specs.Classes.{is_blank}
 use Rattle.byte_grammar.specs.Language.{starts_in}
-use Rattle.msg_head.specs.RawValues.{Pieces, are_pieces, is_line_byte, pieces_text}
+use Rattle.msg_head.specs.RawValues.{RawPieces, are_pieces, is_line_byte, pieces_text}
 
 abbrev pub EndsWithLf : List ℕ → Type 0
 EndsWithLf text = (before : List ℕ) × (text ≡ before ++ byte "\n" ∷ [])
@@ -23,12 +23,12 @@ pub record IsClean (text : List ℕ) : Type 0 where
   pub joined : text ≡ flat_map ended pieces
 
 -- the bytes are these pieces, a CRLF that no blank follows, and more
-pub record BeginsWithPieces (pieces : Pieces) (more bytes : List ℕ) : Type 0 where
+pub record BeginsWithPieces (pieces : RawPieces) (more bytes : List ℕ) : Type 0 where
   pub are : IsTrue (are_pieces pieces)
   pub ends : IsFalse (starts_in is_blank more)
   pub joined : bytes ≡ pieces_text pieces ++ (codes "\r\n" ++ more)
 
 -- the same of a line as it is cut, which isn't empty
-pub record BeginsWithCut (cut : Pieces) (more bytes : List ℕ) : Type 0 where
+pub record BeginsWithCut (cut : RawPieces) (more bytes : List ℕ) : Type 0 where
   pub begins : BeginsWithPieces cut more bytes
   pub some : 0 < length cut.first

@@ -15,8 +15,8 @@ use Rattle.sfv_read.specs.tools.BareWalk.{bare_item_read}
 abbrev pub pair_of : {V : Type 0} → List ℕ → V → Pair V
 pair_of key value = record { key = key; value = value }
 
-abbrev pub item_of : BareItem → List (Pair BareItem) → Item
-item_of bare params = record { bare = bare; params = params }
+abbrev pub item_with : BareItem → List (Pair BareItem) → Item
+item_with bare params = record { bare = bare; params = params }
 
 unfoldable pub equals_read : Reader BareItem
 equals_read bytes = byte_read is_equals bytes >>= λ e. bare_item_read e.1
@@ -51,4 +51,4 @@ unfoldable pub item_read : Reader Item
 item_read bytes = do
   b ← bare_item_read bytes
   p ← parameters_read b.1
-  Ok (item_of b.0 p.0, p.1)
+  Ok (item_with b.0 p.0, p.1)

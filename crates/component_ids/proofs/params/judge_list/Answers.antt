@@ -1,7 +1,7 @@
 use Rattle.std.proofs.Common.{◌≡◌, map, sym, ◌∙◌}
 use Rattle.component_ids.specs.Identifiers.{id_of, AreDistinct}
 use Rattle.component_ids.specs.SignatureParams.{is_typed}
-use Rattle.component_ids.proofs.Indices.{none_fails}
+use Rattle.byte_grammar.proofs.Indices.{none_fails}
 use Rattle.component_ids.proofs.FaultLaws.{ids_back, are_params, ill_typed_is}
 use Rattle.component_ids.proofs.params.judge_list.Goals as goal
 

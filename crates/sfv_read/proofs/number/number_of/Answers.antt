@@ -1,7 +1,7 @@
 use Rattle.std.proofs.Common.{◌≡◌, arith, ◌+◌, ◌<◌, ◌≤◌, length, suc, ◌-◌, ◌*◌, ◌^◌, ap, sym, subst, ◌∙◌, ℕ, drop}
 use Rattle.std.specs.Str.Parse.{digits_value_after}
 use Rattle.sfv_read.proofs.Digits.{room_more, room_now, value_more, digit_small}
-use Rattle.sfv_read.proofs.number.value_of.Goals as goal
+use Rattle.sfv_read.proofs.number.number_of.Goals as goal
 
 -- nine more would still fit
 ten_fits : (total k n limit : ℕ) → n ≡ suc k → (total + 1) * 10 ^ n ≤ limit → total * 10 + 10 ≤ limit

@@ -1,6 +1,6 @@
 use Rattle.std.proofs.Common.{◌≡◌, ◌+◌, ◌-◌, ◌*◌, ◌^◌, ◌≤◌, length, drop}
 use Rattle.std.specs.Str.Parse.{digits_value_after}
-use Rattle.sfv_read.proofs.number.value_of.Given as goal
+use Rattle.sfv_read.proofs.number.number_of.Given as goal
 
 abbrev pub invariant-loop-digit : goal.invariant-loop-digit
 invariant-loop-digit l = record {

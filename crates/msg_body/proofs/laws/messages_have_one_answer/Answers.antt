@@ -1,5 +1,5 @@
 use Rattle.msg_body.proofs.AnswerLaws.{one_message_at_law, one_message_fault_law, no_fault_at_message_law, no_message_yet_law}
-use Rattle.msg_body.proofs.laws.bytes_have_one_answer.Goals as goal
+use Rattle.msg_body.proofs.laws.messages_have_one_answer.Goals as goal
 
 pub returns-clause-at : goal.returns-clause-at
 returns-clause-at c = one_message_at_law
