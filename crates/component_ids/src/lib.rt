@@ -16,7 +16,9 @@ mod params;
 mod print;
 mod read_ids;
 mod same;
+mod scheme;
 mod table;
+mod types;
 
 pub use fault::{BadReason, IdFault};
 pub use id::{ComponentId, Ids};
@@ -24,7 +26,9 @@ pub use laws::a_list_has_one_answer;
 pub use params::{MAX_COMPONENTS, SigParams, read_params};
 pub use print::{print_id, print_params};
 pub use same::same_id;
+pub use scheme::Scheme;
 pub use table::is_field_name;
+pub use types::{FieldKind, Types};
 
 #[cfg(test)]
 mod tests;
