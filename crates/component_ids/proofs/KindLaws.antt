@@ -39,11 +39,11 @@ pub inserted : (entries : List (Key × FieldKind)) (key : Key) (kind : FieldKind
     → map.from_entries {R = names_cmp} (by_name (insert_entry key_cmp entries key kind)) ≡ map.insert (map.from_entries (by_name entries)) key.items kind
 inserted entries key kind =
     map.same_map nat_list_cmp_total (map.slice_cmp-IsAntisymmetric map.nat_cmp-IsAntisymmetric) _ _ (λ name.
-        map.get-from_entries nat_list_cmp_total (by_name (insert_entry key_cmp entries key kind)) name
-        ∙ ap (map.find names_cmp name) (by_name-insert_entry entries key kind)
-        ∙ find-put names_cmp nat_list_cmp_total name key.items kind (by_name entries)
-        ∙ ap (cond (is_eq (names_cmp name key.items)) (Some kind)) (sym (map.get-from_entries nat_list_cmp_total (by_name entries) name))
-        ∙ sym (map.get-insert nat_list_cmp_total (map.from_entries (by_name entries)) key.items kind name))
+    map.get-from_entries nat_list_cmp_total (by_name (insert_entry key_cmp entries key kind)) name
+    ∙ ap (map.find names_cmp name) (by_name-insert_entry entries key kind)
+    ∙ find-put names_cmp nat_list_cmp_total name key.items kind (by_name entries)
+    ∙ ap (cond (is_eq (names_cmp name key.items)) (Some kind)) (sym (map.get-from_entries nat_list_cmp_total (by_name entries) name))
+    ∙ sym (map.get-insert nat_list_cmp_total (map.from_entries (by_name entries)) key.items kind name))
 
 lookup_is_find : (entries : List (Key × FieldKind)) (name : List ℕ)
     → lookup (λ (key : Key). is_eq (names_cmp name key.items)) entries ≡ map.find names_cmp name (by_name entries)

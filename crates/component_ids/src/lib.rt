@@ -27,7 +27,7 @@ pub use params::{MAX_COMPONENTS, SigParams, read_params};
 pub use print::{print_id, print_params};
 pub use same::same_id;
 pub use scheme::Scheme;
-pub use table::is_field_name;
+pub use table::{has_param, is_field_name};
 pub use types::{FieldKind, Types};
 
 #[cfg(test)]
