@@ -1,5 +1,5 @@
 -- A map of kinds by the entries of the code's map.
-use Rattle.std.proofs.Common.{◌≡◌, ℕ, cond, List, [], ◌∷◌, Option, Some, None, Vec, Global, Ordering, Less, Equal, Greater, refl, sym, ◌∙◌, ap}
+use Rattle.std.proofs.Common.{◌≡◌, ℕ, cond, List, [], ◌∷◌, Some, Vec, Global, Ordering, Less, Equal, Greater, refl, sym, ◌∙◌, ap}
 use Rattle.std.specs.BTreeMap.{insert_entry}
 use Rattle.std.specs.Cmp.Lexicographic.{slice_cmp, nat_list_cmp_total}
 use Rattle.std.specs.FinMap as map
@@ -7,7 +7,6 @@ use Rattle.std.specs.FinMap.Entries.{put, by_order, find-put}
 use Rattle.std.specs.Map.{lookup}
 use Rattle.std.specs.Ordering.{is_eq, nat_cmp, match_ordering}
 use Rattle.component_ids.specs.declared.types.FieldKind.{FieldKind}
-use Rattle.component_ids.specs.Types.{KindMap}
 use Rattle.component_ids.specs.tools.Kinds.{by_name}
 
 abbrev Key : Type 0
@@ -39,11 +38,11 @@ pub inserted : (entries : List (Key × FieldKind)) (key : Key) (kind : FieldKind
     → map.from_entries {R = names_cmp} (by_name (insert_entry key_cmp entries key kind)) ≡ map.insert (map.from_entries (by_name entries)) key.items kind
 inserted entries key kind =
     map.same_map nat_list_cmp_total (map.slice_cmp-IsAntisymmetric map.nat_cmp-IsAntisymmetric) _ _ (λ name.
-        map.get-from_entries nat_list_cmp_total (by_name (insert_entry key_cmp entries key kind)) name
-        ∙ ap (map.find names_cmp name) (by_name-insert_entry entries key kind)
-        ∙ find-put names_cmp nat_list_cmp_total name key.items kind (by_name entries)
-        ∙ ap (cond (is_eq (names_cmp name key.items)) (Some kind)) (sym (map.get-from_entries nat_list_cmp_total (by_name entries) name))
-        ∙ sym (map.get-insert nat_list_cmp_total (map.from_entries (by_name entries)) key.items kind name))
+    map.get-from_entries nat_list_cmp_total (by_name (insert_entry key_cmp entries key kind)) name
+    ∙ ap (map.find names_cmp name) (by_name-insert_entry entries key kind)
+    ∙ find-put names_cmp nat_list_cmp_total name key.items kind (by_name entries)
+    ∙ ap (cond (is_eq (names_cmp name key.items)) (Some kind)) (sym (map.get-from_entries nat_list_cmp_total (by_name entries) name))
+    ∙ sym (map.get-insert nat_list_cmp_total (map.from_entries (by_name entries)) key.items kind name))
 
 lookup_is_find : (entries : List (Key × FieldKind)) (name : List ℕ)
     → lookup (λ (key : Key). is_eq (names_cmp name key.items)) entries ≡ map.find names_cmp name (by_name entries)

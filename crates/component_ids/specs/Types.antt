@@ -18,5 +18,5 @@ kind_in types name = map.get types name
 abbrev pub standard_types : KindMap
 standard_types =
     map.from_entries (
-        (codes "signature", Dictionary) ∷ (codes "signature-input", Dictionary)
-        ∷ (codes "accept-signature", Dictionary) ∷ (codes "content-digest", Dictionary) ∷ [])
+    (codes "signature", Dictionary) ∷ (codes "signature-input", Dictionary)
+    ∷ (codes "accept-signature", Dictionary) ∷ (codes "content-digest", Dictionary) ∷ [])
