@@ -1,5 +1,5 @@
 -- A map of kinds by the entries of the code's map.
-use Rattle.std.proofs.Common.{◌≡◌, ℕ, cond, List, [], ◌∷◌, Option, Some, None, Vec, Global, Ordering, Less, Equal, Greater, refl, sym, ◌∙◌, ap}
+use Rattle.std.proofs.Common.{◌≡◌, ℕ, cond, List, [], ◌∷◌, Some, Vec, Global, Ordering, Less, Equal, Greater, refl, sym, ◌∙◌, ap}
 use Rattle.std.specs.BTreeMap.{insert_entry}
 use Rattle.std.specs.Cmp.Lexicographic.{slice_cmp, nat_list_cmp_total}
 use Rattle.std.specs.FinMap as map
@@ -7,7 +7,6 @@ use Rattle.std.specs.FinMap.Entries.{put, by_order, find-put}
 use Rattle.std.specs.Map.{lookup}
 use Rattle.std.specs.Ordering.{is_eq, nat_cmp, match_ordering}
 use Rattle.component_ids.specs.declared.types.FieldKind.{FieldKind}
-use Rattle.component_ids.specs.Types.{KindMap}
 use Rattle.component_ids.specs.tools.Kinds.{by_name}
 
 abbrev Key : Type 0

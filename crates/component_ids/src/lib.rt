@@ -1,11 +1,13 @@
 //! Component identifiers and signature parameters of HTTP Message Signatures (RFC 9421 sections 2
-//! to 2.4).
+//! to 2.4), and which fields are structured.
 //!
 //! ```text
 //! let list = read_inner(alloc, br#"("@method" "date");created=1"#)?;
 //! let params = read_params(alloc, &list)?;
 //! params.ids.len()                     // 2
 //! print_params(alloc, &params)?.bytes() // ("@method" "date");created=1
+//! let types = Types::standard(alloc)?;
+//! types.kind_of(b"signature")          // Some(FieldKind::Dictionary)
 //! ```
 #![tactic(auto)]
 

@@ -22,7 +22,7 @@ pub enum FieldKind {
 
 /// Which fields are structured, and how, by their names in lower case. No message tells it: an
 /// application has to know it (RFC 9421 section 2.1.1).
-#[derive(Drop)]
+#[derive(Debug, Drop)]
 pub struct Types {
     kinds: BTreeMap<Vec<u8>, FieldKind>,
     alloc: Global,

@@ -1,4 +1,4 @@
-use Rattle.std.proofs.Common.{ap, sym, ◌∙◌}
+use Rattle.std.proofs.Common.{ap, ◌∙◌}
 use Rattle.component_ids.specs.Types.{kind_in}
 use Rattle.component_ids.proofs.KindLaws.{looked_up}
 use Rattle.component_ids.proofs.types.Types.kind_of.Goals as goal
