@@ -1,0 +1,4 @@
+mod Below
+mod FirstLacks
+mod Sequences
+mod Unread

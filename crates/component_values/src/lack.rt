@@ -3,6 +3,7 @@
 ghost use Rattle.std.specs.Prelude.{◌≡◌};
 ghost use Rattle.component_values.specs.Words.{word_of};
 
+use sfv_read::SfError;
 use sfv_text::Memory;
 use std::error::Error;
 use std::fmt;
@@ -96,6 +97,22 @@ impl From<Memory> for NoValue {
 
     fn from(_memory: Memory) -> NoValue {
         NoValue::Memory
+    }
+}
+
+/// A text that isn't read.
+impl From<SfError> for NoValue {
+    ghost use Rattle.std.specs.Prelude.{◌≡◌};
+    ghost use Rattle.component_values.specs.tools.Rows.{no_value_of};
+
+    ghost from_gives = { λ error why. why ≡ no_value_of error };
+
+    fn from(error: SfError) -> NoValue {
+        match error {
+            SfError::Memory => NoValue::Memory,
+            SfError::Syntax(_) => NoValue::Lacks(Lack::Unreadable),
+            SfError::ItemKind(_) => NoValue::Lacks(Lack::Unreadable),
+        }
     }
 }
 

@@ -1,6 +1,6 @@
 //! The lines of a field, and what is kept of a value.
 
-ghost use Rattle.std.specs.Prelude.{◌≡◌, ◌++◌, ℕ, List, IfOk};
+ghost use Rattle.std.specs.Prelude.{◌≡◌, ◌++◌, ◌∷◌, [], ℕ, List, IfOk, OnOk};
 ghost use Rattle.std.specs.Char.{is_ascii};
 ghost use Rattle.std.specs.List.{list_all};
 ghost use Rattle.field_values.specs.Values.{value, values, combined_value, is_there};
@@ -96,6 +96,19 @@ fn line_text(alloc: Global, line: LineView<'_>) -> Result<Text, Memory>
     Ok(text)
 }
 
+/// Adds one more Byte Sequence, after a comma and a space where others stand before it.
+#[tactic(auto, using(crate::proofs::Sequences::first_sequence, crate::proofs::Sequences::next_sequence))]
+fn add_byte_sequence(alloc: Global, bytes: &[u8], text: &mut Text) -> Result<(), Memory>
+    ensures { OnOk result ((texts : List (List ℕ)) → text.old ≡ byte_sequences texts
+        → text.new ≡ byte_sequences (texts ++ bytes.now ∷ [])) }
+{
+    if text.bytes().is_empty() {
+        return append_byte_sequence(alloc, bytes, text);
+    }
+    text.append(b", ")?;
+    append_byte_sequence(alloc, bytes, text)
+}
+
 /// The value of each line as a Byte Sequence, joined by a comma and a space.
 pub(crate) fn byte_sequences(alloc: Global, field: Field<'_, '_>) -> Result<Text, Memory>
     ensures { IfOk result (λ text. text
@@ -104,11 +117,8 @@ pub(crate) fn byte_sequences(alloc: Global, field: Field<'_, '_>) -> Result<Text
     let mut text = Text::new(alloc);
     for line in field.message.lines(field.side) {
         if is_named(line, field.name) {
-            if !text.bytes().is_empty() {
-                text.append(b", ")?;
-            }
             let value = line_text(alloc, line)?;
-            append_byte_sequence(alloc, value.bytes(), &mut text)?;
+            add_byte_sequence(alloc, value.bytes(), &mut text)?;
         }
     }
     Ok(text)

@@ -9,10 +9,9 @@ ghost use Rattle.component_values.specs.tools.Rows.{AnswersRow};
 
 use crate::lack::{Lack, NoValue};
 use component_ids::FieldKind;
-use sfv_read::{SfError, read_dict, read_item, read_list};
+use sfv_read::{read_dict, read_item, read_list};
 use sfv_text::{
-    BareItem, Dict, Item, Member, Memory, Params, Text, print_dict, print_inner, print_item,
-    print_list,
+    BareItem, Item, Member, Memory, Params, Text, print_dict, print_inner, print_item, print_list,
 };
 use std::alloc::Global;
 
@@ -32,34 +31,28 @@ pub(crate) fn append_byte_sequence(
     text.append(printed.bytes())
 }
 
+#[tactic(auto, using(crate::proofs::Unread::unread))]
 fn strict_item(alloc: Global, text: &[u8]) -> Result<Text, NoValue>
     ensures { AnswersRow (StrictRow ReadsItem item_text text.now) result }
 {
-    match read_item(alloc, text) {
-        Ok(item) => Ok(print_item(alloc, &item)?),
-        Err(SfError::Memory) => Err(NoValue::Memory),
-        Err(_) => Err(NoValue::Lacks(Lack::Unreadable)),
-    }
+    let item = read_item(alloc, text)?;
+    Ok(print_item(alloc, &item)?)
 }
 
+#[tactic(auto, using(crate::proofs::Unread::unread))]
 fn strict_list(alloc: Global, text: &[u8]) -> Result<Text, NoValue>
     ensures { AnswersRow (StrictRow ReadsList list_text text.now) result }
 {
-    match read_list(alloc, text) {
-        Ok(list) => Ok(print_list(alloc, &list)?),
-        Err(SfError::Memory) => Err(NoValue::Memory),
-        Err(_) => Err(NoValue::Lacks(Lack::Unreadable)),
-    }
+    let list = read_list(alloc, text)?;
+    Ok(print_list(alloc, &list)?)
 }
 
+#[tactic(auto, using(crate::proofs::Unread::unread))]
 fn strict_dict(alloc: Global, text: &[u8]) -> Result<Text, NoValue>
     ensures { AnswersRow (StrictRow ReadsDict dict_text text.now) result }
 {
-    match read_dict(alloc, text) {
-        Ok(dict) => Ok(print_dict(alloc, &dict)?),
-        Err(SfError::Memory) => Err(NoValue::Memory),
-        Err(_) => Err(NoValue::Lacks(Lack::Unreadable)),
-    }
+    let dict = read_dict(alloc, text)?;
+    Ok(print_dict(alloc, &dict)?)
 }
 
 /// The strict text of what the text reads as, by the kind of its field.
@@ -89,14 +82,11 @@ fn print_member(alloc: Global, member: &Member) -> Result<Text, Memory>
 }
 
 /// The strict text of the member of the key.
+#[tactic(auto, using(crate::proofs::Unread::no_member, crate::proofs::Unread::member_in_range))]
 fn strict_member(alloc: Global, key: &[u8], text: &[u8]) -> Result<Text, NoValue>
     ensures { AnswersRow (MemberRow key.now text.now) result }
 {
-    let dict: Dict = match read_dict(alloc, text) {
-        Ok(dict) => dict,
-        Err(SfError::Memory) => return Err(NoValue::Memory),
-        Err(_) => return Err(NoValue::Lacks(Lack::Unreadable)),
-    };
+    let dict = read_dict(alloc, text)?;
     match dict.find(key) {
         Some(member) => Ok(print_member(alloc, member)?),
         None => Err(NoValue::Lacks(Lack::Absent)),
