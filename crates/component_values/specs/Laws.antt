@@ -1,9 +1,10 @@
 -- Laws of components and their values.
-use Rattle.std.specs.Prelude.{◌≡◌, ◌⊎◌, ℕ, Bool, ◌&&◌, not, IsTrue, Option, IfSome, List, codes}
+use Rattle.std.specs.Prelude.{◌≡◌, ◌⊎◌, ℕ, Bool, ◌&&◌, not, IsTrue, IfSome, List, codes}
 use Rattle.std.specs.Char.{is_ascii}
 use Rattle.std.specs.List.{list_all}
 use Rattle.byte_classes.specs.Classes.{is_one_of}
-use Rattle.msg_body.specs.Messages.{Message, IsMessage}
+use Rattle.sfv_text.specs.Classes.{is_byte}
+use Rattle.msg_body.specs.Messages.{Message, Spells}
 use Rattle.component_ids.specs.Table.{is_field_name}
 use Rattle.component_ids.specs.declared.id.ComponentId.{ComponentId}
 use Rattle.component_values.specs.declared.lack.Lack.{Lack}
@@ -38,10 +39,16 @@ LacksNoValue =
 abbrev pub is_value_byte : ℕ → Bool
 is_value_byte c = is_ascii c && not (is_one_of (codes "\0\r\n") c)
 
--- what the values are drawn from are messages
+-- some bytes spell the message
+pub record IsSpelled (message : Message) : Type 0 where
+  pub text : List ℕ
+  pub are_bytes : IsTrue (list_all is_byte text)
+  pub spells : Spells message text
+
+-- what the values are drawn from are messages, which bytes spell
 pub record HasMessages (context : MessageContext) : Type 0 where
-  pub message : IsMessage context.message
-  pub related : IfSome context.related IsMessage
+  pub message : IsSpelled context.message
+  pub related : IfSome context.related IsSpelled
 
 -- no line of a signature base is broken by a value
 abbrev pub HasCleanValues : Type 0

@@ -1,9 +1,9 @@
 -- The laws of texts, from a reading of whole texts.
-use Rattle.std.proofs.Common.{◌≡◌, ◌↔◌, ℕ, Bool, true, List, Result, refl, sym, ap, subst}
+use Rattle.std.proofs.Common.{◌≡◌, ◌↔◌, ◌⊎◌, ℕ, Bool, true, List, Result, Ok, Err, inl, inr, refl, sym, ap, subst}
 use Rattle.byte_grammar.proofs.OffsetLaws.{one_offset}
 use Rattle.byte_grammar.proofs.Whole.{Judges, one_value}
 use Rattle.sfv_read.specs.Fault.{BeginsItemKind, IsSfError}
-use Rattle.sfv_read.specs.Laws.{HasOneAnswer}
+use Rattle.sfv_read.specs.Laws.{HasOneAnswer, IsDecided}
 use Rattle.sfv_read.specs.declared.error.SfError.{SfError}
 use Rattle.sfv_read.specs.declared.error.SfError.TheVariants.{Memory, Syntax, ItemKind}
 
@@ -13,6 +13,14 @@ distinct_texts {V} {L} j test text_of reads v w a b = (
   (λ e. one_value j (text_of v) v w (reads v a) (subst (λ (y : List ℕ). L y w) (sym e) (reads w b))),
   (λ e. ap text_of e),
 )
+
+-- the reading tells whether a text has a value
+pub decided : {V : Type 0} {L : List ℕ → V → Type 0} {r : List ℕ → Result V ℕ} → Judges L r → IsDecided L
+decided {V} {L} {r} j text = by_reading (r text) refl
+  where
+    by_reading : (answer : Result V ℕ) → r text ≡ answer → ((v : V) × L text v) ⊎ ((v : V) → L text v → ⊥)
+    by_reading (Ok v) e = inl (v, j.ok text v e)
+    by_reading (Err n) e = inr (j.offset text n e).none
 
 module _ {V : Type 0} (L : List ℕ → V → Type 0) where
   one_kind : (text : List ℕ) (p q : ℕ) → IsSfError L text (Syntax p) → IsSfError L text (ItemKind q) → ⊥

@@ -1,5 +1,5 @@
 -- Laws of the texts that are read.
-use Rattle.std.specs.Prelude.{◌≡◌, ◌↔◌, ℕ, Bool, List, IsTrue}
+use Rattle.std.specs.Prelude.{◌≡◌, ◌↔◌, ◌⊎◌, ℕ, Bool, List, IsTrue}
 use Rattle.sfv_read.specs.Fault.{IsSfError}
 use Rattle.sfv_read.specs.declared.error.SfError.{SfError}
 use Rattle.sfv_read.specs.declared.error.SfError.TheVariants.{Memory}
@@ -13,6 +13,10 @@ pub record HasOneAnswer {V : Type 0} (L : List ℕ → V → Type 0) : Type 0 wh
   pub one_fault : (text : List ℕ) (e f : SfError) → IsSfError L text e → IsSfError L text f
       → ¬ (e ≡ Memory) → ¬ (f ≡ Memory) → e ≡ f
   pub no_fault : (text : List ℕ) (v : V) (e : SfError) → L text v → IsSfError L text e → e ≡ Memory
+
+-- each text has a value or none
+abbrev pub IsDecided : {V : Type 0} → (List ℕ → V → Type 0) → Type 0
+IsDecided {V} L = (text : List ℕ) → ((v : V) × L text v) ⊎ ((v : V) → ¬ L text v)
 
 -- what is read passes the test
 abbrev pub ReadsOnly : {V : Type 0} → (List ℕ → V → Type 0) → (V → Bool) → Type 0

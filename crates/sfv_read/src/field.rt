@@ -33,27 +33,15 @@ pub trait Field: Drop {
 }
 
 /// Reads a text of a kind to its end, or names the offset of its fault.
+#[tactic(auto, unfolding(byte_grammar::specs::tools::Walks::whole_read))]
 pub fn read_field<F: Field>(alloc: Global, text: &[u8]) -> Result<F, SfError>
     ensures { Answers (whole_read F.reading) text.now result }
 {
-    match read_whole(alloc, text) {
-        Ok(value) => Ok(value),
+    match F::read(alloc, text) {
+        Ok((value, [])) => Ok(value),
+        Ok((_, rest)) => Err(fault_at::<F>(alloc, text, text.len() - rest.len())),
         Err(PartError::Memory) => Err(SfError::Memory),
         Err(PartError::At(left)) => Err(fault_at::<F>(alloc, text, text.len() - left)),
-    }
-}
-
-/// Reads a text of a kind to its end.
-#[tactic(auto, unfolding(byte_grammar::specs::tools::Walks::whole_read))]
-fn read_whole<F: Field>(alloc: Global, text: &[u8]) -> Result<F, PartError>
-    ensures gives { GivesUnlessMemory (λ x. x) result (whole_read F.reading text.now) }
-    ensures within { unread (whole_read F.reading text.now) ≤ length text.now }
-    ensures needed { IfErr result (λ e. IfMemory e (1 ≤ length text.now)) }
-{
-    let (value, rest) = F::read(alloc, text)?;
-    match rest {
-        [] => Ok(value),
-        [_, ..] => Err(PartError::At(rest.len())),
     }
 }
 
@@ -74,6 +62,7 @@ fn fault_at<F: Field>(alloc: Global, text: &[u8], offset: usize) -> SfError
 }
 
 /// Whether `?1` could stand after the prefix.
+#[tactic(auto, unfolding(byte_grammar::specs::tools::Walks::whole_read))]
 fn takes_item<F: Field>(alloc: Global, prefix: &[u8]) -> Result<bool, PartError>
     ensures ok { IfOk result (λ b.
         IsTrue b ↔ (unread (whole_read F.reading (prefix.now ++ codes "?1")) ≡ 0)) }
@@ -81,8 +70,8 @@ fn takes_item<F: Field>(alloc: Global, prefix: &[u8]) -> Result<bool, PartError>
 {
     let mut probe = Text::from_bytes(alloc, prefix)?;
     probe.append(b"?1")?;
-    match read_whole::<F>(alloc, probe.bytes()) {
-        Ok(_) => Ok(true),
+    match F::read(alloc, probe.bytes()) {
+        Ok((_, rest)) => Ok(rest.is_empty()),
         Err(PartError::Memory) => Err(PartError::Memory),
         Err(PartError::At(left)) => Ok(left == 0),
     }

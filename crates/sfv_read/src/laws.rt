@@ -2,7 +2,7 @@
 
 ghost use Rattle.sfv_text.specs.Range.{is_item_in_range, is_inner_in_range, is_list_in_range, is_dict_in_range};
 ghost use Rattle.sfv_text.specs.Strict.{item_text, inner_text, list_text, dict_text};
-ghost use Rattle.sfv_read.specs.Laws.{HasOneValue, HasOneAnswer, ReadsOnly, ReadsBack, HasDistinctTexts};
+ghost use Rattle.sfv_read.specs.Laws.{HasOneValue, HasOneAnswer, IsDecided, ReadsOnly, ReadsBack, HasDistinctTexts};
 ghost use Rattle.sfv_read.specs.Reads.{ReadsItem, ReadsInner, ReadsList, ReadsDict};
 
 /// A text reads as at most one value of a kind.
@@ -19,6 +19,14 @@ pub fn a_text_has_one_answer()
     ensures inner { HasOneAnswer ReadsInner }
     ensures list { HasOneAnswer ReadsList }
     ensures dict { HasOneAnswer ReadsDict }
+{}
+
+/// A text is read as some value of a kind, or as none.
+pub fn a_text_is_read_or_not()
+    ensures item { IsDecided ReadsItem }
+    ensures inner { IsDecided ReadsInner }
+    ensures list { IsDecided ReadsList }
+    ensures dict { IsDecided ReadsDict }
 {}
 
 /// What is read is in range: numbers are of at most 15 digits, keys are distinct, and so on.
