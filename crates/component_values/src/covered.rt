@@ -1,6 +1,6 @@
 //! The values of the components that a signature covers.
 
-ghost use Rattle.std.specs.Prelude.{◌≡◌, ◌≢◌, ℕ, map, IsTrue, IfOk};
+ghost use Rattle.std.specs.Prelude.{◌≡◌, ◌≢◌, ℕ, map, IsTrue, IfOk, IfErr};
 ghost use Rattle.std.specs.List.{list_all};
 ghost use Rattle.byte_grammar.specs.Causes.{AnswersWhere};
 ghost use Rattle.component_ids.specs.Identifiers.{id_text, is_id_in_range};
@@ -8,7 +8,7 @@ ghost use Rattle.component_ids.specs.SignatureParams.{are_sig_params_in_range};
 ghost use Rattle.component_values.specs.declared.lack.Lack.{Lack};
 ghost use Rattle.component_values.specs.Context.{context_of};
 ghost use Rattle.component_values.specs.Values.{HaveValues, IsFirstLack, are_fields};
-ghost use Rattle.component_values.specs.tools.Rows.{kept_text};
+ghost use Rattle.component_values.specs.tools.Rows.{IsFaultOf, kept_text};
 
 use crate::context::Context;
 use crate::field::component_value;
@@ -28,8 +28,8 @@ fn values_of<'a, 'm>(
     requires { IsTrue (are_fields ids.now) }
     ensures ok { IfOk result (λ values.
         HaveValues (context_of context.now) ids.now (map kept_text values)) }
-    ensures lacks { (index : ℕ) (lack : Lack) → result ≡ Err (ValueFault.Lacks index lack)
-        → IsFirstLack (context_of context.now) ids.now index lack }
+    ensures fault { IfErr result (λ fault.
+        IsFaultOf (context_of context.now) ids.now fault) }
 {
     let mut values = Sequence::new(alloc);
     for id in ids {

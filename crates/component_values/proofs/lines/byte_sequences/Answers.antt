@@ -12,8 +12,8 @@ loop-line-preserved-then-is_named c =
       done ++ line ∷ [],
       append_assoc done (line ∷ []) c.next.new.self ∙ (ap (λ x. done ++ x) (sym c.in-Some.ensures.steps) ∙ c.loop-line.invariant.1),
       c.in_ok-add_byte_sequence.ensures (values done c.args.field.name.now) c.loop-line.invariant.2
-      ∙ ap (λ t. byte_sequences (values done c.args.field.name.now ++ t ∷ [])) (c.bytes.ensures ∙ c.in_ok-value.ensures)
-      ∙ ap byte_sequences (sym (values_named done line c.args.field.name.now (sym c.is_named.ensures ∙ c.if-is_named.true))),
+          ∙ ap (λ t. byte_sequences (values done c.args.field.name.now ++ t ∷ [])) (c.bytes.ensures ∙ c.in_ok-value.ensures)
+          ∙ ap byte_sequences (sym (values_named done line c.args.field.name.now (sym c.is_named.ensures ∙ c.if-is_named.true))),
     )
 
 pub loop-line-preserved : goal.loop-line-preserved
