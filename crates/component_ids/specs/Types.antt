@@ -14,9 +14,9 @@ KindMap = map.FinMap (slice_cmp nat_cmp) FieldKind
 abbrev pub kind_in : KindMap → List ℕ → Option FieldKind
 kind_in types name = map.get types name
 
--- the fields of RFC 9421 sections 4.2, 4.1 and 5.1, and that of RFC 9530 section 2
+-- the fields of RFC 9421 sections 4.1, 4.2 and 5.1, and that of RFC 9530 section 2
 abbrev pub standard_types : KindMap
 standard_types =
     map.from_entries (
-    (codes "signature", Dictionary) ∷ (codes "signature-input", Dictionary)
+    (codes "signature-input", Dictionary) ∷ (codes "signature", Dictionary)
     ∷ (codes "accept-signature", Dictionary) ∷ (codes "content-digest", Dictionary) ∷ [])

@@ -41,7 +41,7 @@ impl Model for Types {
 }
 
 impl Types {
-    /// Those of `signature`, `signature-input` and `accept-signature` (RFC 9421 sections 4.1, 4.2
+    /// Those of `signature-input`, `signature` and `accept-signature` (RFC 9421 sections 4.1, 4.2
     /// and 5.1) and of `content-digest` (RFC 9530 section 2): each is a Dictionary.
     pub fn standard(alloc: Global) -> Result<Types, Memory>
         ensures { IfOk result (λ types. types ≡ standard_types) }
@@ -52,12 +52,12 @@ impl Types {
         };
         types.add(b"content-digest", FieldKind::Dictionary)?;
         types.add(b"accept-signature", FieldKind::Dictionary)?;
-        types.add(b"signature-input", FieldKind::Dictionary)?;
         types.add(b"signature", FieldKind::Dictionary)?;
+        types.add(b"signature-input", FieldKind::Dictionary)?;
         Ok(types)
     }
 
-    /// Gives the name this kind, in place of an earlier one. Field names are matched in lower case.
+    /// Gives the name, which is to be in lower case, this kind, in place of an earlier one.
     pub fn add(&mut self, name: &[u8], kind: FieldKind) -> Result<(), Memory>
         ensures ok { OnOk result (self.new ≡ map.insert self.old name.now kind) }
         ensures err { OnErr result (self.new ≡ self.old) }
@@ -68,7 +68,7 @@ impl Types {
         Ok(())
     }
 
-    /// The kind of the field of that name, where it is structured.
+    /// The kind of the field of that name, in lower case, where it is structured.
     pub fn kind_of(&self, name: &[u8]) -> Option<FieldKind>
         ensures { result ≡ kind_in self.now name.now }
     {
