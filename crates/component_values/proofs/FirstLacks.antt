@@ -1,17 +1,25 @@
 -- The first component that lacks a value.
-use Rattle.std.proofs.Common.{◌≡◌, ◌⊎◌, ◌<◌, ℕ, zero, suc, List, [], ◌∷◌, ◌++◌, length, map, take, get_or, ◌+◌, Option, Some, None, IsSomeAnd, refl, sym, ap, ◌∙◌, inl, inr, arith}
+use Rattle.std.proofs.Common.{◌≡◌, ◌⊎◌, ◌<◌, ℕ, zero, suc, List, [], ◌∷◌, ◌++◌, length, map, take, get_or, ◌+◌, Option, Some, None, Result, Ok, Err, IsSomeAnd, refl, sym, ap, ◌∙◌, inl, inr, arith}
 use Rattle.std.specs.List.{slice_get}
 use Rattle.std.proofs.lemmas.Bool.{cases_order}
 use Rattle.std.proofs.lemmas.Grind.{take_at_read}
 use Rattle.std.proofs.lemmas.List.{map-append, length-map, length-take}
 use Rattle.std.proofs.lemmas.Option.{slice_get-get_or}
+use Rattle.byte_grammar.specs.Causes.{AnswersWhere}
 use Rattle.byte_grammar.proofs.Indices.{some_and, some_and_parts, slice_get_take}
 use Rattle.component_ids.specs.declared.id.ComponentId.{ComponentId}
 use Rattle.component_values.specs.declared.lack.Lack.{Lack}
+use Rattle.component_ids.specs.declared.params.SigParams.{SigParams}
+use Rattle.component_values.specs.declared.lack.NoValue.{NoValue}
+use Rattle.component_values.specs.declared.lack.NoValue.TheVariants.{Memory, Lacks as NoValueLacks}
+use Rattle.component_values.specs.declared.lack.ValueFault.{ValueFault}
+use Rattle.component_values.specs.declared.lack.ValueFault.TheVariants as fault
 use Rattle.component_values.specs.declared.lines.Value.{Value}
+use Rattle.component_values.specs.declared.prepared.Prepared.{Prepared}
 use Rattle.component_values.specs.Context.{MessageContext}
-use Rattle.component_values.specs.Values.{Has, Lacks, HaveValues, IsFirstLack}
-use Rattle.component_values.specs.tools.Rows.{kept_text}
+use Rattle.component_values.specs.Values.{ComesTo, Has, Lacks, HaveValues, IsFirstLack}
+use Rattle.component_values.specs.tools.Rows.{KeepsRow, fault_at, kept_text}
+use Rattle.component_values.specs.tools.Answered.{ExplainsPrepared, IsFaultOf}
 use Rattle.component_values.proofs.RowLaws.{lacks_in_one_way, lacks_no_value}
 
 pub have_length : (context : MessageContext) (ids : List ComponentId) (values : List (List ℕ)) → HaveValues context ids values → length values ≡ length ids
@@ -77,9 +85,32 @@ pub first_lack_at : (context : MessageContext) (ids : List ComponentId) (n count
     → count ≡ length values → HaveValues context (take n ids) (map kept_text values) → Lacks context id lack → IsFirstLack context ids count lack
 first_lack_at context ids n count id lack values lt is counted have lacks =
     let same : count ≡ n =
-    counted ∙ sym (length-map kept_text values) ∙ have_length context (take n ids) (map kept_text values) have ∙ omega (arith, length-take {A = ComponentId}) in
+    counted ∙ sym (length-map values kept_text) ∙ have_length context (take n ids) (map kept_text values) have ∙ omega (arith, length-take {A = ComponentId}) in
     rw same (record {
       values = map kept_text values;
       before = have;
       there = some_and (λ id. Lacks context id lack) (slice_get ids n) id (slice_get-get_or ids n id lt ∙ ap Some (sym is)) lacks;
     })
+
+pub first_fault_at : (context : MessageContext) (ids : List ComponentId) (n count : ℕ) (id : ComponentId) (why : NoValue) (values : List Value) → n < length ids → id ≡ get_or ids n id
+    → count ≡ length values → HaveValues context (take n ids) (map kept_text values) → KeepsRow (ComesTo context id) (Err why) → IsFaultOf context ids (fault_at count why)
+first_fault_at context ids n count id Memory values lt is counted have row = tt
+first_fault_at context ids n count id (NoValueLacks lack) values lt is counted have row = first_lack_at context ids n count id lack values lt is counted have row
+
+pub kept_count : (context : MessageContext) (ids : List ComponentId) (values : List Value) → HaveValues context ids (map kept_text values) → length values ≡ length ids
+kept_count context ids values have = sym (length-map values kept_text) ∙ have_length context ids (map kept_text values) have
+
+-- the first lack is answered, and no other
+pub lacks_are : (context : MessageContext) (params : SigParams) (result : Result Prepared ValueFault) → ExplainsPrepared context params result → (index : ℕ) (lack : Lack)
+    → AnswersWhere fault.Memory result (fault.Lacks index lack) (IsFirstLack context params.ids index lack)
+lacks_are context params (Ok prepared) x index lack = record {
+  only = λ e. absurd cc;
+  there = λ first. absurd (none_lacks context params.ids prepared.values index lack x.1 first);
+}
+lacks_are context params (Err fault.Memory) x index lack = record { only = λ e. absurd cc; there = λ first. inr refl }
+lacks_are context params (Err (fault.Lacks at other)) x index lack = record {
+  only = λ e. let i : at ≡ index = cc in let l : other ≡ lack = cc in rw (sym i, sym l) x;
+  there = λ first.
+      let same = first_lack_is_one context params.ids at index other lack x first in
+      inl (rw (same.0, same.1) refl);
+}

@@ -8,11 +8,12 @@ ghost use Rattle.component_ids.specs.SignatureParams.{are_sig_params_in_range};
 ghost use Rattle.component_values.specs.declared.lack.Lack.{Lack};
 ghost use Rattle.component_values.specs.Context.{context_of};
 ghost use Rattle.component_values.specs.Values.{HaveValues, IsFirstLack, are_fields};
-ghost use Rattle.component_values.specs.tools.Rows.{IsFaultOf, kept_text};
+ghost use Rattle.component_values.specs.tools.Rows.{kept_text};
+ghost use Rattle.component_values.specs.tools.Answered.{ExplainsPrepared, IsFaultOf};
 
 use crate::context::Context;
 use crate::field::component_value;
-use crate::lack::{NoValue, ValueFault};
+use crate::lack::ValueFault;
 use crate::lines::Value;
 use crate::prepared::Prepared;
 use component_ids::{ComponentId, SigParams, print_id, print_params};
@@ -35,8 +36,7 @@ fn values_of<'a, 'm>(
     for id in ids {
         match component_value(alloc, context, id) {
             Ok(value) => values.push(value)?,
-            Err(NoValue::Memory) => return Err(ValueFault::Memory),
-            Err(NoValue::Lacks(lack)) => return Err(ValueFault::Lacks(values.len(), lack)),
+            Err(why) => return Err(why.at(values.len())),
         }
     }
     Ok(values)
@@ -54,8 +54,31 @@ fn id_texts(alloc: Global, ids: &[ComponentId]) -> Result<Sequence<Text>, Memory
     Ok(texts)
 }
 
+/// The components that the signature parameters cover, or the first that lacks a value.
+#[tactic(auto, using(crate::proofs::FirstLacks::kept_count))]
+fn prepare_components<'a, 'm>(
+    alloc: Global,
+    context: &Context<'a, 'm>,
+    params: &'a SigParams,
+) -> Result<Prepared<'a, 'm>, ValueFault>
+    requires in_range { IsTrue (are_sig_params_in_range params.now) }
+    requires fields { IsTrue (are_fields params.now.ids) }
+    ensures { ExplainsPrepared (context_of context.now) params.now result }
+{
+    let values = values_of(alloc, context, params.ids.as_slice())?;
+    let id_texts = id_texts(alloc, params.ids.as_slice())?;
+    let params_text = print_params(alloc, params)?;
+    Ok(Prepared {
+        params,
+        values,
+        id_texts,
+        params_text,
+    })
+}
+
 /// Prepares the components that the signature parameters cover (RFC 9421 section 2.5), each of them
 /// a field: derived components aren't there yet.
+#[tactic(auto, using(crate::proofs::FirstLacks::lacks_are))]
 pub fn prepare<'a, 'm>(
     alloc: Global,
     context: &Context<'a, 'm>,
@@ -72,13 +95,5 @@ pub fn prepare<'a, 'm>(
         (ValueFault.Lacks index lack)
         (IsFirstLack (context_of context.now) params.now.ids index lack) }
 {
-    let values = values_of(alloc, context, params.ids.as_slice())?;
-    let id_texts = id_texts(alloc, params.ids.as_slice())?;
-    let params_text = print_params(alloc, params)?;
-    Ok(Prepared {
-        params,
-        values,
-        id_texts,
-        params_text,
-    })
+    prepare_components(alloc, context, params)
 }

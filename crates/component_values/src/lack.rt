@@ -89,6 +89,21 @@ pub(crate) enum NoValue {
     Lacks(Lack),
 }
 
+impl NoValue {
+    ghost use Rattle.std.specs.Prelude.{◌≡◌};
+    ghost use Rattle.component_values.specs.tools.Rows.{fault_at};
+
+    /// The fault of the component at the index.
+    pub(crate) fn at(self, index: usize) -> ValueFault
+        ensures { result ≡ fault_at index self }
+    {
+        match self {
+            NoValue::Memory => ValueFault::Memory,
+            NoValue::Lacks(lack) => ValueFault::Lacks(index, lack),
+        }
+    }
+}
+
 impl From<Memory> for NoValue {
     ghost use Rattle.std.specs.Prelude.{◌≡◌};
     ghost use Rattle.component_values.specs.declared.lack.NoValue.TheVariants.{Memory as OutOfMemory};

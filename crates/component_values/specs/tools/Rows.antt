@@ -9,12 +9,9 @@ use Rattle.sfv_read.specs.declared.error.SfError.TheVariants as sf
 use Rattle.component_values.specs.declared.lack.Lack.TheVariants.{Unreadable}
 use Rattle.component_values.specs.declared.lack.NoValue.{NoValue}
 use Rattle.component_values.specs.declared.lack.NoValue.TheVariants.{Memory, Lacks}
-use Rattle.component_ids.specs.declared.id.ComponentId.{ComponentId}
 use Rattle.component_values.specs.declared.lack.ValueFault.{ValueFault}
 use Rattle.component_values.specs.declared.lack.ValueFault.TheVariants as fault
 use Rattle.component_values.specs.declared.lines.Field.{Field}
-use Rattle.component_values.specs.Context.{MessageContext}
-use Rattle.component_values.specs.Values.{IsFirstLack}
 use Rattle.component_values.specs.declared.lines.Value.{Value}
 use Rattle.component_values.specs.declared.lines.Value.TheVariants as kept
 
@@ -45,7 +42,7 @@ KeepsRow Row (Ok value) = Row (Ok (kept_text value))
 KeepsRow Row (Err (Lacks lack)) = Row (Err lack)
 KeepsRow Row (Err Memory) = ⊤
 
--- what a fault says of the components
-abbrev pub IsFaultOf : MessageContext → List ComponentId → ValueFault → Type 0
-IsFaultOf context ids fault.Memory = ⊤
-IsFaultOf context ids (fault.Lacks index lack) = IsFirstLack context ids index lack
+-- the fault of the component at the index
+abbrev pub fault_at : ℕ → NoValue → ValueFault
+fault_at index Memory = fault.Memory
+fault_at index (Lacks lack) = fault.Lacks index lack

@@ -1,5 +1,5 @@
 use Rattle.component_values.specs.Context.{context_of}
-use Rattle.component_values.proofs.FirstLacks.{values_more, first_lack_at}
+use Rattle.component_values.proofs.FirstLacks.{values_more, first_fault_at}
 use Rattle.component_values.proofs.covered.values_of.Goals as goal
 
 pub loop-id-preserved : goal.loop-id-preserved
@@ -8,7 +8,8 @@ loop-id-preserved c =
     (values_more (context_of c.args.context.now) c.args.ids.now c.loop-id.id-index c.id-item.result c.loop-id.values c.in-Ok.value
     c.loop-id-test.true c.id-item.is c.loop-id.invariant c.in-Ok.ensures)
 
-pub returns-in-Err-Lacks-clause-fault : goal.returns-in-Err-Lacks-clause-fault
-returns-in-Err-Lacks-clause-fault c =
-    first_lack_at (context_of c.args.context.now) c.args.ids.now c.loop-id.id-index c.len.result c.id-item.result c.in-Err-Lacks.lack c.loop-id.values
-    c.loop-id-test.true c.id-item.is c.len.ensures c.loop-id.invariant c.in-Err-Lacks.ensures
+pub returns-in-Err-clause-fault : goal.returns-in-Err-clause-fault
+returns-in-Err-clause-fault c =
+    rw c.at.ensures
+    (first_fault_at (context_of c.args.context.now) c.args.ids.now c.loop-id.id-index c.len.result c.id-item.result c.in-Err.why c.loop-id.values
+    c.loop-id-test.true c.id-item.is c.len.ensures c.loop-id.invariant c.in-Err.ensures)
