@@ -18,7 +18,7 @@ use Rattle.component_values.specs.declared.lines.Value.{Value}
 use Rattle.component_values.specs.declared.prepared.Prepared.{Prepared}
 use Rattle.component_values.specs.Context.{MessageContext}
 use Rattle.component_values.specs.Values.{ComesTo, Has, Lacks, HaveValues, IsFirstLack}
-use Rattle.component_values.specs.tools.Rows.{KeepsRow, fault_at, kept_text}
+use Rattle.component_values.specs.tools.Rows.{KeepsRow, lack_fault_at, kept_text}
 use Rattle.component_values.specs.tools.Answered.{ExplainsPrepared, IsFaultOf}
 use Rattle.component_values.proofs.RowLaws.{lacks_in_one_way, lacks_no_value}
 
@@ -93,7 +93,7 @@ first_lack_at context ids n count id lack values lt is counted have lacks =
     })
 
 pub first_fault_at : (context : MessageContext) (ids : List ComponentId) (n count : ℕ) (id : ComponentId) (why : NoValue) (values : List Value) → n < length ids → id ≡ get_or ids n id
-    → count ≡ length values → HaveValues context (take n ids) (map kept_text values) → KeepsRow (ComesTo context id) (Err why) → IsFaultOf context ids (fault_at count why)
+    → count ≡ length values → HaveValues context (take n ids) (map kept_text values) → KeepsRow (ComesTo context id) (Err why) → IsFaultOf context ids (lack_fault_at count why)
 first_fault_at context ids n count id Memory values lt is counted have row = tt
 first_fault_at context ids n count id (NoValueLacks lack) values lt is counted have row = first_lack_at context ids n count id lack values lt is counted have row
 

@@ -11,7 +11,7 @@ ghost use Rattle.component_values.specs.tools.Rows.{KeepsRow, field_lines};
 
 use crate::context::Context;
 use crate::lack::{Lack, NoValue};
-use crate::lines::{Field, Value, byte_sequences, combined_text, is_ascii, is_there};
+use crate::lines::{NamedLines, Value, byte_sequences, combined_text, is_ascii, is_there};
 use crate::strict::{member_value, strict_value};
 use component_ids::{ComponentId, FieldKind, has_param};
 use msg_body::{MessageView, is_request};
@@ -32,7 +32,7 @@ fn member_key(params: &Params) -> Option<&[u8]>
 /// The value of a field that has lines, in the form that the parameters ask for.
 fn value_in_form<'a, 'm>(
     alloc: Global,
-    field: Field<'a, 'm>,
+    field: NamedLines<'a, 'm>,
     kind: Option<FieldKind>,
     params: &Params,
 ) -> Result<Value<'a, 'm>, NoValue>
@@ -60,7 +60,7 @@ fn value_in_form<'a, 'm>(
 /// The value of a field.
 fn field_value<'a, 'm>(
     alloc: Global,
-    field: Field<'a, 'm>,
+    field: NamedLines<'a, 'm>,
     kind: Option<FieldKind>,
     params: &Params,
 ) -> Result<Value<'a, 'm>, NoValue>
@@ -125,7 +125,7 @@ pub(crate) fn component_value<'a, 'm>(
     ensures { KeepsRow (ComesTo (context_of context.now) id.now) result }
 {
     let message = message_for(context, &id.params)?;
-    let field = Field {
+    let field = NamedLines {
         message,
         side: side_of(&id.params),
         name: id.name.bytes(),

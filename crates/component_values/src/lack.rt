@@ -1,7 +1,7 @@
 //! How a component lacks a value.
 
 ghost use Rattle.std.specs.Prelude.{◌≡◌};
-ghost use Rattle.component_values.specs.Words.{word_of};
+ghost use Rattle.component_values.specs.Words.{lack_word};
 
 use sfv_read::SfError;
 use sfv_text::Memory;
@@ -29,7 +29,7 @@ pub enum Lack {
 impl Lack {
     /// The word that stands for it in output.
     pub fn word(self) -> &'static str
-        ensures { result.now ≡ word_of self }
+        ensures { result.now ≡ lack_word self }
     {
         match self {
             Lack::Absent => "absent",
@@ -91,11 +91,11 @@ pub(crate) enum NoValue {
 
 impl NoValue {
     ghost use Rattle.std.specs.Prelude.{◌≡◌};
-    ghost use Rattle.component_values.specs.tools.Rows.{fault_at};
+    ghost use Rattle.component_values.specs.tools.Rows.{lack_fault_at};
 
     /// The fault of the component at the index.
     pub(crate) fn at(self, index: usize) -> ValueFault
-        ensures { result ≡ fault_at index self }
+        ensures { result ≡ lack_fault_at index self }
     {
         match self {
             NoValue::Memory => ValueFault::Memory,

@@ -16,7 +16,7 @@ use std::alloc::Global;
 
 /// The lines of a message's side that have a name.
 #[derive(Clone, Copy)]
-pub(crate) struct Field<'a, 'm> {
+pub(crate) struct NamedLines<'a, 'm> {
     pub message: &'a MessageView<'m>,
     pub side: Side,
     /// In lower case.
@@ -27,20 +27,20 @@ pub(crate) struct Field<'a, 'm> {
 #[derive(Drop)]
 pub(crate) enum Value<'a, 'm> {
     /// It is the combined value of these lines.
-    Lines(Field<'a, 'm>),
+    Lines(NamedLines<'a, 'm>),
     /// The value itself.
     Text(Text),
 }
 
 /// Whether there is a line.
-pub(crate) fn is_there(field: Field<'_, '_>) -> bool
+pub(crate) fn is_there(field: NamedLines<'_, '_>) -> bool
     ensures { result ≡ is_there (field_lines field.entry) field.entry.name.now }
 {
     count_lines(field.message, field.side, field.name) > 0
 }
 
 /// Whether the combined value is ASCII.
-pub(crate) fn is_ascii(field: Field<'_, '_>) -> bool
+pub(crate) fn is_ascii(field: NamedLines<'_, '_>) -> bool
     ensures { result ≡ list_all is_ascii
         (combined_value (field_lines field.entry) field.entry.name.now) }
 {
@@ -53,7 +53,7 @@ pub(crate) fn is_ascii(field: Field<'_, '_>) -> bool
 }
 
 /// Feeds the combined value.
-fn feed_combined<A: Absorb>(field: Field<'_, '_>, into: &mut A)
+fn feed_combined<A: Absorb>(field: NamedLines<'_, '_>, into: &mut A)
     ensures { (text : List ℕ) → A.absorbed into.old text → A.absorbed into.new
         (text ++ combined_value (field_lines field.entry) field.entry.name.now) }
 {
@@ -74,7 +74,7 @@ pub(crate) fn feed_value<A: Absorb>(value: &Value<'_, '_>, into: &mut A)
 }
 
 /// The combined value.
-pub(crate) fn combined_text(alloc: Global, field: Field<'_, '_>) -> Result<Text, Memory>
+pub(crate) fn combined_text(alloc: Global, field: NamedLines<'_, '_>) -> Result<Text, Memory>
     ensures { IfOk result (λ text. text
         ≡ combined_value (field_lines field.entry) field.entry.name.now) }
 {
@@ -110,7 +110,7 @@ fn add_byte_sequence(alloc: Global, bytes: &[u8], text: &mut Text) -> Result<(),
 }
 
 /// The value of each line as a Byte Sequence, joined by a comma and a space.
-pub(crate) fn byte_sequences(alloc: Global, field: Field<'_, '_>) -> Result<Text, Memory>
+pub(crate) fn byte_sequences(alloc: Global, field: NamedLines<'_, '_>) -> Result<Text, Memory>
     ensures { IfOk result (λ text. text
         ≡ byte_sequences (values (field_lines field.entry) field.entry.name.now)) }
 {

@@ -11,7 +11,7 @@ use Rattle.component_values.specs.declared.lack.NoValue.{NoValue}
 use Rattle.component_values.specs.declared.lack.NoValue.TheVariants.{Memory, Lacks}
 use Rattle.component_values.specs.declared.lack.ValueFault.{ValueFault}
 use Rattle.component_values.specs.declared.lack.ValueFault.TheVariants as fault
-use Rattle.component_values.specs.declared.lines.Field.{Field}
+use Rattle.component_values.specs.declared.lines.NamedLines.{NamedLines}
 use Rattle.component_values.specs.declared.lines.Value.{Value}
 use Rattle.component_values.specs.declared.lines.Value.TheVariants as kept
 
@@ -28,7 +28,7 @@ AnswersRow Row (Err (Lacks lack)) = Row (Err lack)
 AnswersRow Row (Err Memory) = ⊤
 
 -- the lines among which those of the field are
-abbrev pub field_lines : Field → List FieldLine
+abbrev pub field_lines : NamedLines → List FieldLine
 field_lines field = lines_on field.side (message_of field.message.now)
 
 -- the text that a kept value stands for
@@ -43,6 +43,6 @@ KeepsRow Row (Err (Lacks lack)) = Row (Err lack)
 KeepsRow Row (Err Memory) = ⊤
 
 -- the fault of the component at the index
-abbrev pub fault_at : ℕ → NoValue → ValueFault
-fault_at index Memory = fault.Memory
-fault_at index (Lacks lack) = fault.Lacks index lack
+abbrev pub lack_fault_at : ℕ → NoValue → ValueFault
+lack_fault_at index Memory = fault.Memory
+lack_fault_at index (Lacks lack) = fault.Lacks index lack
