@@ -1,2 +1,1 @@
 pub mod Feed
-pub mod Lines

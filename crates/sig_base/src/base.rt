@@ -1,8 +1,9 @@
 //! The signature base, fed or as a text.
 
-ghost use Rattle.std.specs.Prelude.{◌≡◌, ◌≤◌, ◌<◌, ◌++◌, ℕ, List, length, IfOk};
-ghost use Rattle.sig_base.specs.SignatureBase.{signature_base};
-ghost use Rattle.sig_base.specs.tools.Lines.{lines_before, line_at};
+ghost use Rattle.std.specs.Prelude.{◌≡◌, ◌<◌, ◌++◌, [], ℕ, Some, List, length, slice_get, slice_index_or, IfOk};
+ghost use Rattle.std.specs.List.{flat_map, zip};
+ghost use Rattle.component_ids.specs.declared.id.ComponentId.{ComponentId};
+ghost use Rattle.sig_base.specs.SignatureBase.{component_line, signature_base};
 
 use crate::buffer::{ByteBuffer, ByteCount};
 use component_values::Prepared;
@@ -11,9 +12,11 @@ use std::alloc::Global;
 
 /// Feeds the line of one component, with its end.
 fn feed_line<A: Absorb>(prepared: &Prepared<'_, '_>, index: usize, into: &mut A)
-    requires { index < length prepared.now.values }
-    ensures { (text : List ℕ) → A.absorbed into.old text
-        → A.absorbed into.new (text ++ line_at prepared.now index) }
+    requires id { index < length prepared.now.params.ids }
+    requires value { index < length prepared.now.values }
+    ensures { (id : ComponentId) → slice_get prepared.now.params.ids index ≡ Some id
+        → (text : List ℕ) → A.absorbed into.old text → A.absorbed into.new
+        (text ++ component_line (id, slice_index_or prepared.now.values index [])) }
 {
     into.absorb(prepared.id_text(index));
     into.absorb(b": ");
@@ -24,7 +27,7 @@ fn feed_line<A: Absorb>(prepared: &Prepared<'_, '_>, index: usize, into: &mut A)
 /// Feeds the lines of the components, in order.
 fn feed_lines<A: Absorb>(prepared: &Prepared<'_, '_>, into: &mut A)
     ensures { (text : List ℕ) → A.absorbed into.old text → A.absorbed into.new
-        (text ++ lines_before prepared.now (length prepared.now.values)) }
+        (text ++ flat_map component_line (zip prepared.now.params.ids prepared.now.values)) }
 {
     for index in 0..prepared.len() {
         feed_line(prepared, index, into);
