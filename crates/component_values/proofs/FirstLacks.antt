@@ -1,12 +1,13 @@
 -- The first component that lacks a value.
 use Rattle.std.proofs.Common.{◌≡◌, ◌⊎◌, ◌<◌, ℕ, zero, suc, List, [], ◌∷◌, ◌++◌, length, map, take, get_or, ◌+◌, Option, Some, None, Result, Ok, Err, IsSomeAnd, refl, sym, ap, ◌∙◌, inl, inr, arith}
 use Rattle.std.specs.List.{slice_get}
-use Rattle.std.proofs.lemmas.Bool.{cases_order}
+use Rattle.std.proofs.lemmas.Bool.{cases_order, and_parts}
 use Rattle.std.proofs.lemmas.Grind.{take_at_read}
 use Rattle.std.proofs.lemmas.List.{map-append, length-map, length-take}
 use Rattle.std.proofs.lemmas.Option.{slice_get-get_or}
 use Rattle.byte_grammar.specs.Causes.{AnswersWhere}
 use Rattle.byte_grammar.proofs.Indices.{some_and, some_and_parts, slice_get_take}
+use Rattle.component_ids.specs.Table.{is_field_name}
 use Rattle.component_ids.specs.declared.id.ComponentId.{ComponentId}
 use Rattle.component_values.specs.declared.lack.Lack.{Lack}
 use Rattle.component_ids.specs.declared.params.SigParams.{SigParams}
@@ -17,10 +18,11 @@ use Rattle.component_values.specs.declared.lack.ValueFault.TheVariants as fault
 use Rattle.component_values.specs.declared.lines.Value.{Value}
 use Rattle.component_values.specs.declared.prepared.Prepared.{Prepared}
 use Rattle.component_values.specs.Context.{MessageContext}
-use Rattle.component_values.specs.Values.{ComesTo, Has, Lacks, HaveValues, IsFirstLack}
+use Rattle.component_values.specs.Values.{ComesTo, Has, Lacks, HaveValues, IsFirstLack, are_fields}
+use Rattle.component_values.specs.Laws.{HaveOrLack, HaveOneList}
 use Rattle.component_values.specs.tools.Rows.{KeepsRow, lack_fault_at, kept_text}
 use Rattle.component_values.specs.tools.Answered.{ExplainsPrepared, IsFaultOf}
-use Rattle.component_values.proofs.RowLaws.{lacks_in_one_way, lacks_no_value}
+use Rattle.component_values.proofs.RowLaws.{has_or_lacks, has_one_value, lacks_in_one_way, lacks_no_value}
 
 pub have_length : (context : MessageContext) (ids : List ComponentId) (values : List (List ℕ)) → HaveValues context ids values → length values ≡ length ids
 have_length context [] [] have = refl
@@ -72,6 +74,32 @@ first_lack_is_one context ids i j lack other first second = elim (cases_order i 
     | inr more ↦ absurd (earlier context ids j i other lack more second first)
   ]
 ]
+
+-- ---- the laws
+
+pub have_one_list : HaveOneList
+have_one_list context [] [] [] a b = refl
+have_one_list context (id ∷ ids) (v ∷ values) (w ∷ others) a b =
+    let first : v ≡ w = has_one_value context id v w a.0 b.0 in
+    let rest : values ≡ others = have_one_list context ids values others a.1 b.1 in λ i. first i ∷ rest i
+have_one_list context [] (v ∷ values) others a b = absurd a
+have_one_list context [] [] (w ∷ others) a b = absurd b
+have_one_list context (id ∷ ids) [] others a b = absurd a
+have_one_list context (id ∷ ids) (v ∷ values) [] a b = absurd b
+
+pub have_or_lack : HaveOrLack
+have_or_lack context [] named = inl ([], tt)
+have_or_lack context (id ∷ ids) named =
+    let fields = and_parts (is_field_name id.name) (are_fields ids) named in
+    by_first (has_or_lacks context id fields.0) (have_or_lack context ids fields.1)
+  where
+    by_first : ((value : List ℕ) × Has context id value) ⊎ ((lack : Lack) × Lacks context id lack)
+        → ((values : List (List ℕ)) × HaveValues context ids values) ⊎ ((index : ℕ) × (lack : Lack) × IsFirstLack context ids index lack)
+        → ((values : List (List ℕ)) × HaveValues context (id ∷ ids) values) ⊎ ((index : ℕ) × (lack : Lack) × IsFirstLack context (id ∷ ids) index lack)
+    by_first (inl has) (inl all) = inl (has.0 ∷ all.0, (has.1, all.1))
+    by_first (inl has) (inr later) =
+        inr (suc later.0, later.1, record { values = has.0 ∷ later.2.values; before = (has.1, later.2.before); there = later.2.there })
+    by_first (inr lacks) rest = inr (0, lacks.0, record { values = []; before = tt; there = lacks.1 })
 
 -- ---- what is kept
 

@@ -9,7 +9,7 @@ use Rattle.component_ids.specs.Table.{is_field_name}
 use Rattle.component_ids.specs.declared.id.ComponentId.{ComponentId}
 use Rattle.component_values.specs.declared.lack.Lack.{Lack}
 use Rattle.component_values.specs.Context.{MessageContext}
-use Rattle.component_values.specs.Values.{Has, Lacks}
+use Rattle.component_values.specs.Values.{Has, Lacks, HaveValues, IsFirstLack, are_fields}
 
 -- a field component has a value, or lacks one
 abbrev pub HasOrLacks : Type 0
@@ -55,3 +55,31 @@ abbrev pub HasCleanValues : Type 0
 HasCleanValues =
     (context : MessageContext) (id : ComponentId) (value : List ℕ) → HasMessages context
     → Has context id value → IsTrue (list_all is_value_byte value)
+
+-- ---- the components of a signature
+
+-- fields have values, or a first of them lacks one
+abbrev pub HaveOrLack : Type 0
+HaveOrLack =
+    (context : MessageContext) (ids : List ComponentId) → IsTrue (are_fields ids)
+    → ((values : List (List ℕ)) × HaveValues context ids values)
+    ⊎ ((index : ℕ) × (lack : Lack) × IsFirstLack context ids index lack)
+
+-- components have one list of values
+abbrev pub HaveOneList : Type 0
+HaveOneList =
+    (context : MessageContext) (ids : List ComponentId) (values others : List (List ℕ))
+    → HaveValues context ids values → HaveValues context ids others → values ≡ others
+
+-- one component is the first that lacks a value, and lacks it in one way
+abbrev pub HaveOneFirstLack : Type 0
+HaveOneFirstLack =
+    (context : MessageContext) (ids : List ComponentId) (i j : ℕ) (lack other : Lack)
+    → IsFirstLack context ids i lack → IsFirstLack context ids j other
+    → (i ≡ j) × (lack ≡ other)
+
+-- where all have values there is none
+abbrev pub HaveNoLack : Type 0
+HaveNoLack =
+    (context : MessageContext) (ids : List ComponentId) (values : List (List ℕ)) (index : ℕ)
+    (lack : Lack) → HaveValues context ids values → ¬ IsFirstLack context ids index lack

@@ -16,9 +16,16 @@ use crate::field::component_value;
 use crate::lack::ValueFault;
 use crate::lines::Value;
 use crate::prepared::Prepared;
-use component_ids::{ComponentId, SigParams, print_id, print_params};
+use component_ids::{ComponentId, SigParams, is_field_name, print_id, print_params};
 use sfv_text::{Memory, Sequence, Text};
 use std::alloc::Global;
+
+/// Whether each component is a field, and none a derived one (RFC 9421 section 2.1).
+pub fn are_fields(ids: &[ComponentId]) -> bool
+    ensures { result ≡ are_fields ids.now }
+{
+    ids.iter().all(|id| is_field_name(id.name.bytes()))
+}
 
 /// The value of each component, or the first that lacks one.
 fn values_of<'a, 'm>(

@@ -1,6 +1,6 @@
-//! Laws of components and their values. The function does nothing; its contract is the law.
+//! Laws of components and their values. Each function does nothing; its contract is the law.
 
-ghost use Rattle.component_values.specs.Laws.{HasOrLacks, HasOneValueOnly, LacksInOneWay, LacksNoValue, HasCleanValues};
+ghost use Rattle.component_values.specs.Laws.{HasOrLacks, HasOneValueOnly, LacksInOneWay, LacksNoValue, HasCleanValues, HaveOrLack, HaveOneList, HaveOneFirstLack, HaveNoLack};
 
 /// A field component has one value, or lacks one in one way, and not both. A value is ASCII, and
 /// has no NUL, CR or LF.
@@ -10,4 +10,13 @@ pub fn components_have_one_answer()
     ensures lack { LacksInOneWay }
     ensures either { LacksNoValue }
     ensures clean { HasCleanValues }
+{}
+
+/// The components of a signature have one list of values, or one of them is the first that lacks
+/// one, in one way, and not both.
+pub fn signatures_have_one_answer()
+    ensures some { HaveOrLack }
+    ensures values { HaveOneList }
+    ensures lack { HaveOneFirstLack }
+    ensures either { HaveNoLack }
 {}

@@ -20,9 +20,9 @@ mod prepared;
 mod strict;
 
 pub use context::Context;
-pub use covered::prepare;
+pub use covered::{are_fields, prepare};
 pub use lack::{Lack, ValueFault};
-pub use laws::components_have_one_answer;
+pub use laws::{components_have_one_answer, signatures_have_one_answer};
 pub use prepared::Prepared;
 
 #[cfg(test)]
