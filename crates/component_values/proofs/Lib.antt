@@ -1,7 +1,7 @@
 mod Below
-mod FirstLacks
+pub mod FirstLacks
 mod ListLaws
-mod RowLaws
+pub mod RowLaws
 mod CleanLaws
 mod Sequences
 mod Unread

@@ -16,3 +16,31 @@ pub struct Context<'a, 'm> {
     /// Which fields are structured, and how (RFC 9421 section 2.1.1).
     pub types: &'a Types,
 }
+
+impl<'a, 'm> Context<'a, 'm> {
+    ghost use Rattle.std.specs.Prelude.{◌≡◌, None};
+    ghost use Rattle.msg_body.specs.Views.{message_of};
+    ghost use Rattle.component_values.specs.Context.{context_of};
+
+    /// The context of a message without a related request.
+    pub fn of_message(
+        message: &'a MessageView<'m>,
+        scheme: Scheme,
+        types: &'a Types,
+    ) -> Context<'a, 'm>
+        ensures { context_of result ≡ record {
+          message = message_of message.now;
+          related = None;
+          scheme = scheme;
+          types = types.now;
+        } }
+    {
+        let related = None;
+        Context {
+            message,
+            related,
+            scheme,
+            types,
+        }
+    }
+}

@@ -1,6 +1,8 @@
 -- Of the outcomes of `base` one is the first that holds.
 use Rattle.std.proofs.Common.{◌≡◌, ◌+◌, ◌<◌, ◌≤◌, ◌⊎◌, inl, inr, lit<, lit≤, ℕ, true, false, Option, Some, None, Result, Ok, Err, List, [], length, replicate, IfSome, refl, sym, ap, subst, ◌∙◌, arith}
-use Rattle.std.specs.List.{list_all}
+use Rattle.std.specs.List.{slice_get}
+use Rattle.std.specs.Option.{IsSomeAnd}
+use Rattle.byte_grammar.proofs.Indices.{some_and, some_and_parts}
 use Rattle.std.proofs.lemmas.Bool.{false≢true}
 use Rattle.byte_grammar.specs.tools.Determined.{AreDetermined}
 use Rattle.byte_grammar.specs.FaultOffset.{IsFaultOffset}
@@ -17,20 +19,24 @@ use Rattle.component_ids.specs.Identifiers.{id_text}
 use Rattle.component_ids.specs.SignatureParams.{list_of}
 use Rattle.msg_body.specs.Messages.{Message, Spells}
 use Rattle.msg_body.specs.declared.error.MessageFault.{MessageFault}
-use Rattle.hms.specs.Base.{HasIdFault, LacksField, HasBase, Holds, IsCommandCause, command_order, outcome_order, ReportsBase}
-use Rattle.hms.specs.Covered.{ReadsParams, is_plain, first_absent}
+use Rattle.hms.specs.Base.{HasIdFault, LacksValue, HasBase, context_for, Holds, IsCommandCause, command_order, outcome_order, ReportsBase}
+use Rattle.hms.specs.Covered.{ReadsParams}
 use Rattle.hms.specs.Messages.{IsMessageFault}
-use Rattle.hms.specs.SignatureBase.{base_of}
+use Rattle.component_values.specs.declared.lack.Lack.{Lack}
+use Rattle.component_values.specs.Values.{HaveValues, IsFirstLack, are_fields}
+use Rattle.component_values.proofs.FirstLacks.{have_one_list, first_lack_is_one, none_lacks}
+use Rattle.sig_base.specs.SignatureBase.{signature_base}
 use Rattle.hms.specs.declared.refusal.TheConstants.{MAX_INPUT_BYTES}
 use Rattle.hms.specs.declared.refusal.Refusal.{Refusal}
 use Rattle.hms.specs.declared.refusal.Refusal.TheVariants.{Arguments, Input, Command}
 use Rattle.hms.specs.declared.refusal.InputRefusal.TheVariants.{TooLong, Message as NoMessage}
 use Rattle.hms.specs.declared.refusal.CommandRefusal.{CommandRefusal}
-use Rattle.hms.specs.declared.refusal.CommandRefusal.TheVariants.{Syntax, ItemKind, Ids, NotYet as NotBuilt, Absent}
+use Rattle.hms.specs.declared.refusal.CommandRefusal.TheVariants.{Syntax, ItemKind, Ids, NotYet as NotBuilt, Lacks}
 use Rattle.hms.specs.declared.outcome.Outcome.{Outcome}
 use Rattle.hms.specs.declared.outcome.Outcome.TheVariants.{Done, NotOk, Refused}
 use Rattle.hms.specs.declared.stop.Stop.{Stop}
 use Rattle.hms.specs.declared.stop.Stop.TheVariants.{Memory, ReadFault, Refused as IsRefused}
+use Rattle.hms.specs.tools.Prepared.{ExplainsBase, stop_for_lack}
 use Rattle.hms.specs.tools.Stops.{IfRefused, IfOutcome, IsParamsCause, IsInputRefusal, ReadsNothing, CountsRead, stop_of_fill}
 use Rattle.hms.specs.Report.{HasInput, Leaves}
 use Rattle.hms_io.specs.Reading.{LosesPrefix, GivesAll}
@@ -45,26 +51,31 @@ use Rattle.hms.proofs.LowerLaws.{one_list, no_fault, one_params, one_text, one_m
 some_is : {X : Type 0} (x y : X) → Some x ≡ Some y → x ≡ y
 some_is x y e = cc
 
-some_is_not_none : {X : Type 0} (x : X) → Some x ≡ None → ⊥
-some_is_not_none x e = absurd cc
-
 one_sig : (params : List ℕ) (a b : SigParams) → ReadsParams params a → ReadsParams params b → a ≡ b
 one_sig params a b one other = one_params a b one.is other.is (one_list params (list_of a) (list_of b) one.reads other.reads)
 
-one_lack : (params input id other : List ℕ) → LacksField params input id → LacksField params input other → id ≡ other
-one_lack params input id other a b =
+one_lack : (params input : List ℕ) (lack other : Lack) (id another : List ℕ) → LacksValue params input lack id → LacksValue params input other another
+    → (lack ≡ other) × (id ≡ another)
+one_lack params input lack other id another a b =
     let messages : a.message ≡ b.message = one_text input a.message b.message a.spelled b.spelled in
     let sigs : a.sig ≡ b.sig = one_sig params a.sig b.sig a.reads b.reads in
-    let found : first_absent a.message.head.lines a.sig.ids ≡ first_absent b.message.head.lines b.sig.ids =
-    λ i. first_absent (messages i).head.lines (sigs i).ids in
-    let ids : a.absent ≡ b.absent = some_is a.absent b.absent (sym a.first ∙ (found ∙ b.first)) in
-    a.id_is ∙ (ap id_text ids ∙ sym b.id_is)
+    let first : IsFirstLack (context_for b.message) b.sig.ids a.index lack = subst (λ (m : Message). IsFirstLack (context_for m) b.sig.ids a.index lack) messages
+    (subst (λ (sig : SigParams). IsFirstLack (context_for a.message) sig.ids a.index lack) sigs a.first) in
+    let same = first_lack_is_one (context_for b.message) b.sig.ids a.index b.index lack other first b.first in
+    let one = some_and_parts (λ (lacking : ComponentId). id ≡ id_text lacking) (slice_get a.sig.ids a.index) a.id_is in
+    let two = some_and_parts (λ (lacking : ComponentId). another ≡ id_text lacking) (slice_get b.sig.ids b.index) b.id_is in
+    let at : slice_get a.sig.ids a.index ≡ slice_get b.sig.ids b.index = λ i. slice_get (sigs i).ids (same.0 i) in
+    let ids : one.0 ≡ two.0 = some_is one.0 two.0 (sym one.1 ∙ (at ∙ two.1)) in
+    (same.1, one.2 ∙ (ap id_text ids ∙ sym two.2))
 
 one_base : (params input text other : List ℕ) → HasBase params input text → HasBase params input other → text ≡ other
 one_base params input text other a b =
     let messages : a.message ≡ b.message = one_text input a.message b.message a.spelled b.spelled in
     let sigs : a.sig ≡ b.sig = one_sig params a.sig b.sig a.reads b.reads in
-    a.base_is ∙ ((λ i. base_of (messages i).head.lines (sigs i)) ∙ sym b.base_is)
+    let have : HaveValues (context_for b.message) b.sig.ids a.values = subst (λ (m : Message). HaveValues (context_for m) b.sig.ids a.values) messages
+    (subst (λ (sig : SigParams). HaveValues (context_for a.message) sig.ids a.values) sigs a.have) in
+    let values : a.values ≡ b.values = have_one_list (context_for b.message) b.sig.ids a.values b.values have b.have in
+    a.base_is ∙ ((λ i. signature_base (sigs i) (values i)) ∙ sym b.base_is)
 
 one_id_fault : (params : List ℕ) (f g : IdFault) → HasIdFault params f → HasIdFault params g → f ≡ g
 one_id_fault params f g a b =
@@ -85,27 +96,27 @@ one_command params input (Syntax i) (Syntax j) same a b = ap Syntax (one_offset 
 one_command params input (Syntax i) (ItemKind j) same a b = absurd (one_kind params i j a b)
 one_command params input (Syntax i) (Ids j) same a b = absurd (omega (arith, same))
 one_command params input (Syntax i) NotBuilt same a b = absurd (omega (arith, same))
-one_command params input (Syntax i) (Absent j) same a b = absurd (omega (arith, same))
+one_command params input (Syntax i) (Lacks l j) same a b = absurd (omega (arith, same))
 one_command params input (ItemKind i) (Syntax j) same a b = absurd (one_kind params j i b a)
 one_command params input (ItemKind i) (ItemKind j) same a b = ap ItemKind (one_offset ReadsInner params i j a.0 b.0)
 one_command params input (ItemKind i) (Ids j) same a b = absurd (omega (arith, same))
 one_command params input (ItemKind i) NotBuilt same a b = absurd (omega (arith, same))
-one_command params input (ItemKind i) (Absent j) same a b = absurd (omega (arith, same))
+one_command params input (ItemKind i) (Lacks l j) same a b = absurd (omega (arith, same))
 one_command params input (Ids i) (Syntax j) same a b = absurd (omega (arith, same))
 one_command params input (Ids i) (ItemKind j) same a b = absurd (omega (arith, same))
 one_command params input (Ids i) (Ids j) same a b = ap Ids (one_id_fault params i j a b)
 one_command params input (Ids i) NotBuilt same a b = absurd (omega (arith, same))
-one_command params input (Ids i) (Absent j) same a b = absurd (omega (arith, same))
+one_command params input (Ids i) (Lacks l j) same a b = absurd (omega (arith, same))
 one_command params input NotBuilt (Syntax j) same a b = absurd (omega (arith, same))
 one_command params input NotBuilt (ItemKind j) same a b = absurd (omega (arith, same))
 one_command params input NotBuilt (Ids j) same a b = absurd (omega (arith, same))
 one_command params input NotBuilt NotBuilt same a b = refl
-one_command params input NotBuilt (Absent j) same a b = absurd (omega (arith, same))
-one_command params input (Absent i) (Syntax j) same a b = absurd (omega (arith, same))
-one_command params input (Absent i) (ItemKind j) same a b = absurd (omega (arith, same))
-one_command params input (Absent i) (Ids j) same a b = absurd (omega (arith, same))
-one_command params input (Absent i) NotBuilt same a b = absurd (omega (arith, same))
-one_command params input (Absent i) (Absent j) same a b = ap Absent (one_lack params input i j a b)
+one_command params input NotBuilt (Lacks l j) same a b = absurd (omega (arith, same))
+one_command params input (Lacks k i) (Syntax j) same a b = absurd (omega (arith, same))
+one_command params input (Lacks k i) (ItemKind j) same a b = absurd (omega (arith, same))
+one_command params input (Lacks k i) (Ids j) same a b = absurd (omega (arith, same))
+one_command params input (Lacks k i) NotBuilt same a b = absurd (omega (arith, same))
+one_command params input (Lacks k i) (Lacks l j) same a b = let lacks = one_lack params input k l i j a b in λ t. Lacks (lacks.0 t) (lacks.1 t)
 
 -- commands are judged after the input and before the base
 among_commands : (c : CommandRefusal) → (3 ≤ command_order c) × (command_order c < 7)
@@ -113,7 +124,7 @@ among_commands (Syntax i) = (lit≤ tt, lit< tt)
 among_commands (ItemKind i) = (lit≤ tt, lit< tt)
 among_commands (Ids f) = (lit≤ tt, lit< tt)
 among_commands NotBuilt = (lit≤ tt, lit< tt)
-among_commands (Absent i) = (lit≤ tt, lit< tt)
+among_commands (Lacks l i) = (lit≤ tt, lit< tt)
 
 no_command_at : (c : CommandRefusal) (n : ℕ) → (n < 3) ⊎ (7 ≤ n) → command_order c ≡ n → ⊥
 no_command_at c n (inl low) same = let among = among_commands c in absurd (omega (arith, among.0, low, same))
@@ -156,9 +167,9 @@ pub record Passed (params input : List ℕ) (n : ℕ) : Type 0 where
   pub message : 2 < n → (message : Message) × Spells message input
   pub list : 3 < n → (list : InnerList) × ReadsInner params list
   pub sig : 4 < n → (sig : SigParams) × ReadsParams params sig
-  pub plain : 5 < n → (sig : SigParams) × ReadsParams params sig × (list_all is_plain sig.ids ≡ true)
-  pub there : 6 < n → (message : Message) × Spells message input × (sig : SigParams) × ReadsParams params sig
-      × (first_absent message.head.lines sig.ids ≡ None)
+  pub fields : 5 < n → (sig : SigParams) × ReadsParams params sig × (are_fields sig.ids ≡ true)
+  pub values : 6 < n → (message : Message) × Spells message input × (sig : SigParams) × ReadsParams params sig
+      × (values : List (List ℕ)) × HaveValues (context_for message) sig.ids values
 
 pub none_before : (params input : List ℕ) (n : ℕ) → n ≤ 7 → Passed params input n
     → (other : Outcome) → outcome_order other < n → Holds params input other → ⊥
@@ -171,16 +182,16 @@ none_before params input n most p (Refused (Command (Ids f))) lt h =
     let s = p.sig lt in
     no_fault s.0 h.list f s.1.is (one_list params (list_of s.0) h.list s.1.reads h.reads) h.is
 none_before params input n most p (Refused (Command NotBuilt)) lt h =
-    let s = p.plain lt in
-    let sigs : s.0 ≡ h.sig = one_sig params s.0 h.sig s.1 h.reads in
-    false≢true (sym h.other ∙ (ap (λ (sig : SigParams). list_all is_plain sig.ids) (sym sigs) ∙ s.2))
-none_before params input n most p (Refused (Command (Absent i))) lt h =
-    let t = p.there lt in
-    let messages : t.0 ≡ h.message = one_text input t.0 h.message t.1 h.spelled in
-    let sigs : t.2 ≡ h.sig = one_sig params t.2 h.sig t.3 h.reads in
-    let found : first_absent t.0.head.lines t.2.ids ≡ first_absent h.message.head.lines h.sig.ids =
-    λ i. first_absent (messages i).head.lines (sigs i).ids in
-    absurd (some_is_not_none h.absent (sym h.first ∙ (sym found ∙ t.4)))
+    let s = p.fields lt in
+    let sigs : s.0 ≡ h.0 = one_sig params s.0 h.0 s.1 h.1 in
+    false≢true (sym h.2 ∙ (ap (λ (sig : SigParams). are_fields sig.ids) (sym sigs) ∙ s.2))
+none_before params input n most p (Refused (Command (Lacks lack id))) lt h =
+    let v = p.values lt in
+    let messages : h.message ≡ v.0 = one_text input h.message v.0 h.spelled v.1 in
+    let sigs : h.sig ≡ v.2 = one_sig params h.sig v.2 h.reads v.3 in
+    let first : IsFirstLack (context_for v.0) v.2.ids h.index lack = subst (λ (m : Message). IsFirstLack (context_for m) v.2.ids h.index lack) messages
+    (subst (λ (sig : SigParams). IsFirstLack (context_for h.message) sig.ids h.index lack) sigs h.first) in
+    none_lacks (context_for v.0) v.2.ids v.4 h.index lack v.5 first
 none_before params input n most p (Done text) lt h = absurd (omega (arith, most, lt))
 none_before params input n most p (NotOk text) lt h = absurd (omega (arith, most, lt))
 
@@ -203,8 +214,8 @@ passed_arguments params input = record {
   message = λ lt. absurd (omega (arith, lt));
   list = λ lt. absurd (omega (arith, lt));
   sig = λ lt. absurd (omega (arith, lt));
-  plain = λ lt. absurd (omega (arith, lt));
-  there = λ lt. absurd (omega (arith, lt));
+  fields = λ lt. absurd (omega (arith, lt));
+  values = λ lt. absurd (omega (arith, lt));
 }
 
 pub passed_length : (params input : List ℕ) → length input ≤ MAX_INPUT_BYTES → Passed params input 2
@@ -213,8 +224,8 @@ passed_length params input short = record {
   message = λ lt. absurd (omega (arith, lt));
   list = λ lt. absurd (omega (arith, lt));
   sig = λ lt. absurd (omega (arith, lt));
-  plain = λ lt. absurd (omega (arith, lt));
-  there = λ lt. absurd (omega (arith, lt));
+  fields = λ lt. absurd (omega (arith, lt));
+  values = λ lt. absurd (omega (arith, lt));
 }
 
 module _ (params input : List ℕ) (short : length input ≤ MAX_INPUT_BYTES) (message : Message) (spelled : Spells message input) where
@@ -224,8 +235,8 @@ module _ (params input : List ℕ) (short : length input ≤ MAX_INPUT_BYTES) (m
     message = λ _. (message, spelled);
     list = λ lt. absurd (omega (arith, lt));
     sig = λ lt. absurd (omega (arith, lt));
-    plain = λ lt. absurd (omega (arith, lt));
-    there = λ lt. absurd (omega (arith, lt));
+    fields = λ lt. absurd (omega (arith, lt));
+    values = λ lt. absurd (omega (arith, lt));
   }
 
   pub passed_list : (list : InnerList) → ReadsInner params list → Passed params input 4
@@ -234,8 +245,8 @@ module _ (params input : List ℕ) (short : length input ≤ MAX_INPUT_BYTES) (m
     message = λ _. (message, spelled);
     list = λ _. (list, reads);
     sig = λ lt. absurd (omega (arith, lt));
-    plain = λ lt. absurd (omega (arith, lt));
-    there = λ lt. absurd (omega (arith, lt));
+    fields = λ lt. absurd (omega (arith, lt));
+    values = λ lt. absurd (omega (arith, lt));
   }
 
   pub passed_sig : (sig : SigParams) → ReadsParams params sig → Passed params input 5
@@ -244,29 +255,29 @@ module _ (params input : List ℕ) (short : length input ≤ MAX_INPUT_BYTES) (m
     message = λ _. (message, spelled);
     list = λ _. (list_of sig, reads.reads);
     sig = λ _. (sig, reads);
-    plain = λ lt. absurd (omega (arith, lt));
-    there = λ lt. absurd (omega (arith, lt));
+    fields = λ lt. absurd (omega (arith, lt));
+    values = λ lt. absurd (omega (arith, lt));
   }
 
-  pub passed_plain : (sig : SigParams) → ReadsParams params sig → list_all is_plain sig.ids ≡ true → Passed params input 6
-  passed_plain sig reads plain = record {
+  pub passed_fields : (sig : SigParams) → ReadsParams params sig → are_fields sig.ids ≡ true → Passed params input 6
+  passed_fields sig reads fields = record {
     short = λ _. short;
     message = λ _. (message, spelled);
     list = λ _. (list_of sig, reads.reads);
     sig = λ _. (sig, reads);
-    plain = λ _. (sig, reads, plain);
-    there = λ lt. absurd (omega (arith, lt));
+    fields = λ _. (sig, reads, fields);
+    values = λ lt. absurd (omega (arith, lt));
   }
 
-  pub passed_there : (sig : SigParams) → ReadsParams params sig → list_all is_plain sig.ids ≡ true
-      → first_absent message.head.lines sig.ids ≡ None → Passed params input 7
-  passed_there sig reads plain there = record {
+  pub passed_values : (sig : SigParams) → ReadsParams params sig → are_fields sig.ids ≡ true → (values : List (List ℕ))
+      → HaveValues (context_for message) sig.ids values → Passed params input 7
+  passed_values sig reads fields values have = record {
     short = λ _. short;
     message = λ _. (message, spelled);
     list = λ _. (list_of sig, reads.reads);
     sig = λ _. (sig, reads);
-    plain = λ _. (sig, reads, plain);
-    there = λ _. (message, spelled, sig, reads, there);
+    fields = λ _. (sig, reads, fields);
+    values = λ _. (message, spelled, sig, reads, values, have);
   }
 
   -- a refusal of PARAMS is the outcome
@@ -276,7 +287,7 @@ module _ (params input : List ℕ) (short : length input ≤ MAX_INPUT_BYTES) (m
   params_refused (Command (Ids f)) a =
       first_outcome params input (Refused (Command (Ids f))) (lit≤ tt) (passed_list a.list a.reads) a
   params_refused (Command NotBuilt) a = absurd a
-  params_refused (Command (Absent i)) a = absurd a
+  params_refused (Command (Lacks l i)) a = absurd a
   params_refused (Input refusal) a = absurd a
   params_refused Arguments a = absurd a
 
@@ -286,22 +297,47 @@ module _ (params input : List ℕ) (short : length input ≤ MAX_INPUT_BYTES) (m
   params_stop ReadFault a = absurd a
   params_stop (IsRefused refusal) a = params_refused refusal a
 
-  pub other_covered : (sig : SigParams) → ReadsParams params sig → list_all is_plain sig.ids ≡ false
+  pub other_covered : (sig : SigParams) → ReadsParams params sig → are_fields sig.ids ≡ false
       → ReportsBase params input (Refused (Command NotBuilt))
   other_covered sig reads other =
-      first_outcome params input (Refused (Command NotBuilt)) (lit≤ tt) (passed_sig sig reads) (record { sig = sig; reads = reads; other = other })
+      first_outcome params input (Refused (Command NotBuilt)) (lit≤ tt) (passed_sig sig reads) (sig, reads, other)
 
-  pub field_absent : (sig : SigParams) → ReadsParams params sig → list_all is_plain sig.ids ≡ true → (absent : ComponentId)
-      → first_absent message.head.lines sig.ids ≡ Some absent → ReportsBase params input (Refused (Command (Absent (id_text absent))))
-  field_absent sig reads plain absent first =
-      first_outcome params input (Refused (Command (Absent (id_text absent)))) (lit≤ tt) (passed_plain sig reads plain)
-      (record { message = message; spelled = spelled; sig = sig; reads = reads; absent = absent; first = first; id_is = refl })
+  value_lacking : (sig : SigParams) → ReadsParams params sig → are_fields sig.ids ≡ true → (index : ℕ) (lack : Lack) (id : ComponentId)
+      → IsFirstLack (context_for message) sig.ids index lack → slice_get sig.ids index ≡ Some id
+      → ReportsBase params input (Refused (Command (Lacks lack (id_text id))))
+  value_lacking sig reads fields index lack id first there =
+      first_outcome params input (Refused (Command (Lacks lack (id_text id)))) (lit≤ tt) (passed_fields sig reads fields)
+      (record {
+        message = message;
+        spelled = spelled;
+        sig = sig;
+        reads = reads;
+        index = index;
+        first = first;
+        id_is = some_and (λ (lacking : ComponentId). id_text id ≡ id_text lacking) (slice_get sig.ids index) id there refl;
+      })
 
-  pub base_done : (sig : SigParams) → ReadsParams params sig → list_all is_plain sig.ids ≡ true → first_absent message.head.lines sig.ids ≡ None
-      → ReportsBase params input (Done (base_of message.head.lines sig))
-  base_done sig reads plain there =
-      first_outcome params input (Done (base_of message.head.lines sig)) (lit≤ tt) (passed_there sig reads plain there)
-      (record { message = message; spelled = spelled; sig = sig; reads = reads; base_is = refl })
+  -- what is answered for the message and the signature parameters is the outcome
+  pub base_outcome : (sig : SigParams) → ReadsParams params sig → are_fields sig.ids ≡ true → (result : Result (List ℕ) Stop)
+      → ExplainsBase message sig result → IfOutcome result (ReportsBase params input)
+  base_outcome sig reads fields (Ok text) x =
+      first_outcome params input (Done text) (lit≤ tt) (passed_values sig reads fields x.0 x.1)
+      (record { message = message; spelled = spelled; sig = sig; reads = reads; values = x.0; have = x.1; base_is = x.2 })
+  base_outcome sig reads fields (Err stop) x = elim x [
+    | inl memory ↦ rw memory tt
+    | inr lacking ↦
+        let id = some_and_parts (λ (id : ComponentId). stop ≡ stop_for_lack lacking.1 (id_text id)) (slice_get sig.ids lacking.0) lacking.3 in
+        rw id.2 (value_lacking sig reads fields lacking.0 lacking.1 id.0 lacking.2 id.1)
+  ]
+
+-- nothing is read for it
+pub base_reads_nothing : (message : Message) (sig : SigParams) (result : Result (List ℕ) Stop) → ExplainsBase message sig result → ReadsNothing result
+base_reads_nothing message sig (Ok text) x = tt
+base_reads_nothing message sig (Err stop) x = elim x [
+  | inl memory ↦ rw memory tt
+  | inr lacking ↦
+      let id = some_and_parts (λ (id : ComponentId). stop ≡ stop_for_lack lacking.1 (id_text id)) (slice_get sig.ids lacking.0) lacking.3 in rw id.2 tt
+]
 
 -- an input that is too long, and one that is no message
 pub input_too_long : (params input : List ℕ) → MAX_INPUT_BYTES < length input → ReportsBase params input (Refused (Input TooLong))

@@ -1,9 +1,6 @@
 pub mod ArgumentLists
 pub mod BaseOutcomes
-pub mod FirstFound
-pub mod Joins
+pub mod Lacking
 pub mod LowerLaws
-pub mod Plain
 pub mod Reports
 pub mod Stops
-pub mod LineCounts

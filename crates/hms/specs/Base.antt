@@ -1,26 +1,29 @@
 -- What `base` comes to, for PARAMS and an input.
-use Rattle.std.specs.Prelude.{◌≡◌, ◌<◌, ℕ, List, length, Some, IsFalse}
-use Rattle.std.specs.List.{list_all}
+use Rattle.std.specs.Prelude.{◌≡◌, ◌<◌, ℕ, List, length, None, IsFalse, IsSomeAnd, slice_get}
 use Rattle.byte_grammar.specs.Causes.{IsFirst}
 use Rattle.byte_grammar.specs.FaultOffset.{IsFaultOffset}
 use Rattle.sfv_text.specs.declared.value.InnerList.{InnerList}
 use Rattle.sfv_read.specs.Reads.{ReadsInner}
 use Rattle.sfv_read.specs.Fault.{BeginsItemKind}
 use Rattle.component_ids.specs.declared.fault.IdFault.{IdFault}
-use Rattle.component_ids.specs.declared.id.ComponentId.{ComponentId}
 use Rattle.component_ids.specs.declared.params.SigParams.{SigParams}
 use Rattle.component_ids.specs.Causes.{IsIdFault}
 use Rattle.component_ids.specs.Identifiers.{id_text}
 use Rattle.msg_body.specs.Messages.{Message, Spells}
-use Rattle.hms.specs.Covered.{ReadsParams, first_absent, is_plain}
+use Rattle.component_ids.specs.Types.{standard_types}
+use Rattle.component_ids.specs.declared.scheme.Scheme.TheVariants.{Https}
+use Rattle.component_values.specs.declared.lack.Lack.{Lack}
+use Rattle.component_values.specs.Context.{MessageContext}
+use Rattle.component_values.specs.Values.{HaveValues, IsFirstLack, are_fields}
+use Rattle.sig_base.specs.SignatureBase.{signature_base}
+use Rattle.hms.specs.Covered.{ReadsParams}
 use Rattle.hms.specs.Messages.{IsMessageFault}
-use Rattle.hms.specs.SignatureBase.{base_of}
 use Rattle.hms.specs.declared.refusal.TheConstants.{MAX_INPUT_BYTES}
 use Rattle.hms.specs.declared.refusal.Refusal.TheVariants.{Arguments, Input, Command}
 use Rattle.hms.specs.declared.refusal.InputRefusal.{InputRefusal}
 use Rattle.hms.specs.declared.refusal.InputRefusal.TheVariants.{TooLong, Message as NoMessage}
 use Rattle.hms.specs.declared.refusal.CommandRefusal.{CommandRefusal}
-use Rattle.hms.specs.declared.refusal.CommandRefusal.TheVariants.{Syntax, ItemKind, Ids, NotYet as NotBuilt, Absent}
+use Rattle.hms.specs.declared.refusal.CommandRefusal.TheVariants.{Syntax, ItemKind, Ids, NotYet as NotBuilt, Lacks}
 use Rattle.hms.specs.declared.outcome.Outcome.{Outcome}
 use Rattle.hms.specs.declared.outcome.Outcome.TheVariants.{Done, NotOk, Refused}
 
@@ -30,29 +33,40 @@ pub record HasIdFault (params : List ℕ) (fault : IdFault) : Type 0 where
   pub reads : ReadsInner params list
   pub is : IsIdFault list fault
 
--- some covered component isn't the plain name of a field
-pub record CoversOther (params : List ℕ) : Type 0 where
-  pub sig : SigParams
-  pub reads : ReadsParams params sig
-  pub other : IsFalse (list_all is_plain sig.ids)
+-- some covered component is no field
+abbrev pub CoversOther : List ℕ → Type 0
+CoversOther params = (sig : SigParams) × ReadsParams params sig × IsFalse (are_fields sig.ids)
 
--- the first covered field without a field line has this identifier
-pub record LacksField (params input id : List ℕ) : Type 0 where
+-- what the values of components are drawn from: the message, with no related request, the scheme
+-- `https`, and the fields that the standards define as structured
+abbrev pub context_for : Message → MessageContext
+context_for message = record {
+  message = message;
+  related = None;
+  scheme = Https;
+  types = standard_types;
+}
+
+-- the first covered component without a value lacks it so, and has this identifier
+pub record LacksValue (params input : List ℕ) (lack : Lack) (id : List ℕ) : Type 0 where
   pub message : Message
   pub spelled : Spells message input
   pub sig : SigParams
   pub reads : ReadsParams params sig
-  pub absent : ComponentId
-  pub first : first_absent message.head.lines sig.ids ≡ Some absent
-  pub id_is : id ≡ id_text absent
+  pub index : ℕ
+  pub first : IsFirstLack (context_for message) sig.ids index lack
+  pub id_is : IsSomeAnd (slice_get sig.ids index) (λ lacking. id ≡ id_text lacking)
 
--- the text is the signature base of the message over the signature parameters that PARAMS spell
+-- the text is the signature base over the signature parameters that PARAMS spell and the values
+-- that the covered components have
 pub record HasBase (params input text : List ℕ) : Type 0 where
   pub message : Message
   pub spelled : Spells message input
   pub sig : SigParams
   pub reads : ReadsParams params sig
-  pub base_is : text ≡ base_of message.head.lines sig
+  pub values : List (List ℕ)
+  pub have : HaveValues (context_for message) sig.ids values
+  pub base_is : text ≡ signature_base sig values
 
 -- the cause of each refusal of the input
 abbrev pub IsInputCause : List ℕ → InputRefusal → Type 0
@@ -67,7 +81,7 @@ IsCommandCause params input (ItemKind offset) =
     IsFaultOffset ReadsInner params offset × BeginsItemKind ReadsInner params offset
 IsCommandCause params input (Ids fault) = HasIdFault params fault
 IsCommandCause params input NotBuilt = CoversOther params
-IsCommandCause params input (Absent id) = LacksField params input id
+IsCommandCause params input (Lacks lack id) = LacksValue params input lack id
 
 -- what each outcome says by itself of PARAMS and the input
 abbrev pub Holds : List ℕ → List ℕ → Outcome → Type 0
@@ -82,7 +96,7 @@ command_order (Syntax offset) = 3
 command_order (ItemKind offset) = 3
 command_order (Ids fault) = 4
 command_order NotBuilt = 5
-command_order (Absent id) = 6
+command_order (Lacks lack id) = 6
 
 -- the order in which outcomes are judged
 abbrev pub outcome_order : Outcome → ℕ

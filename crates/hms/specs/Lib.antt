@@ -6,5 +6,4 @@ pub mod Messages
 pub mod Outcome
 pub mod Refusal
 pub mod Report
-pub mod SignatureBase
 pub mod tools

@@ -5,6 +5,7 @@ use Rattle.std.specs.Str.{byte}
 use Rattle.component_ids.specs.declared.fault.IdFault.{IdFault}
 use Rattle.component_ids.specs.declared.fault.IdFault.TheVariants.{Memory, TooMany, BadComponent, Repeated, BadParameter}
 use Rattle.component_ids.specs.Reasons.{word_of}
+use Rattle.component_values.specs.Words.{lack_word}
 use Rattle.hms_io.specs.declared.status.Status.{Status}
 use Rattle.hms_io.specs.declared.status.Status.TheVariants.{BadArguments, BadInput, LimitPassed}
 use Rattle.hms.specs.declared.refusal.TheConstants.{MAX_INPUT_BYTES}
@@ -20,7 +21,7 @@ use Rattle.msg_body.specs.declared.error.MessageError.TheVariants as message
 use Rattle.msg_body.specs.declared.error.MessageFault.{MessageFault}
 use Rattle.msg_body.specs.declared.error.MessageFault.TheVariants.{Refused, Truncated, Trailing}
 use Rattle.hms.specs.declared.refusal.CommandRefusal.{CommandRefusal}
-use Rattle.hms.specs.declared.refusal.CommandRefusal.TheVariants.{Syntax, ItemKind, Ids, NotYet as NotBuilt, Absent}
+use Rattle.hms.specs.declared.refusal.CommandRefusal.TheVariants.{Syntax, ItemKind, Ids, NotYet as NotBuilt, Lacks}
 
 -- how a section of field lines is called
 abbrev pub side_text : Side → List ℕ
@@ -62,7 +63,7 @@ command_text (Syntax offset) = codes "params-syntax " ++ decimal offset
 command_text (ItemKind offset) = codes "params-kind " ++ decimal offset
 command_text (Ids fault) = ids_text fault
 command_text NotBuilt = codes "not-yet"
-command_text (Absent id) = codes "absent " ++ id
+command_text (Lacks lack id) = lack_word lack ++ byte " " ∷ id
 
 -- what is refused, and why
 abbrev pub refusal_text : Refusal → List ℕ

@@ -1,3 +1,2 @@
-pub mod Feed
-pub mod Plain
 pub mod Stops
+pub mod Prepared

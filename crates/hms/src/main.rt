@@ -10,14 +10,12 @@
 mod base;
 mod command;
 mod covered;
-mod feed;
 mod laws;
 mod message;
 mod outcome;
 mod refusal;
 mod run;
 mod stop;
-mod values;
 
 use command::after_name;
 use hms_io::{DirShelf, Status, StdSink, StdSource};

@@ -4,9 +4,11 @@ ghost use Rattle.std.specs.Prelude.{◌≡◌, ◌++◌, ◌∷◌, OnOk, IfOk};
 ghost use Rattle.std.specs.Fmt.{decimal};
 ghost use Rattle.std.specs.Str.{byte};
 ghost use Rattle.component_ids.specs.Reasons.{word_of};
+ghost use Rattle.component_values.specs.Words.{lack_word};
 ghost use Rattle.hms.specs.Refusal.{side_text, message_text, fault_text, message_status, fault_status, input_text, ids_text, command_text, refusal_text, refusal_line, refusal_status};
 
 use component_ids::{BadReason, IdFault};
+use component_values::Lack;
 use hms_io::Status;
 use msg_body::{MessageError, MessageFault};
 use msg_head::{MAX_HEAD_BYTES, MAX_HEAD_LINES, Side};
@@ -47,10 +49,11 @@ pub enum CommandRefusal {
     ItemKind(usize),
     /// PARAMS are no signature parameters (RFC 9421 section 2.3). The fault is never out of memory.
     Ids(IdFault),
-    /// A covered component is known but not built yet.
+    /// A covered component is a derived one, which isn't built yet.
     NotYet,
-    /// A covered field has no field line. The text is that of its identifier, quotes included.
-    Absent(Text),
+    /// A covered component lacks a value so, the first that does. The text is that of its
+    /// identifier, quotes and parameters included.
+    Lacks(Lack, Text),
 }
 
 impl Refusal {
@@ -200,6 +203,13 @@ fn append_ids(alloc: Global, fault: &IdFault, line: &mut Text) -> Result<(), Mem
     }
 }
 
+fn append_lack(lack: Lack, id: &Text, line: &mut Text) -> Result<(), Memory>
+    ensures { OnOk result (line.new ≡ line.old ++ (lack_word lack ++ byte " " ∷ id.now)) }
+{
+    line.append(lack.word().as_bytes())?;
+    append_words(b" ", id.bytes(), line)
+}
+
 fn append_command(alloc: Global, refusal: &CommandRefusal, line: &mut Text) -> Result<(), Memory>
     ensures { OnOk result (line.new ≡ line.old ++ command_text refusal.now) }
 {
@@ -208,7 +218,7 @@ fn append_command(alloc: Global, refusal: &CommandRefusal, line: &mut Text) -> R
         CommandRefusal::ItemKind(offset) => append_number(alloc, b"params-kind ", *offset, line),
         CommandRefusal::Ids(fault) => append_ids(alloc, fault, line),
         CommandRefusal::NotYet => line.append(b"not-yet"),
-        CommandRefusal::Absent(id) => append_words(b"absent ", id.bytes(), line),
+        CommandRefusal::Lacks(lack, id) => append_lack(*lack, id, line),
     }
 }
 

@@ -1,0 +1,43 @@
+-- What is answered for a message and signature parameters. No public clause cites this module.
+use Rattle.std.specs.Prelude.{◌≡◌, ◌<◌, ◌⊎◌, ⊤, ℕ, List, length, slice_get, IsSomeAnd, Result, Ok, Err}
+use Rattle.component_ids.specs.Identifiers.{id_text}
+use Rattle.component_ids.specs.declared.id.ComponentId.{ComponentId}
+use Rattle.component_ids.specs.declared.params.SigParams.{SigParams}
+use Rattle.component_values.specs.declared.lack.Lack.{Lack}
+use Rattle.component_values.specs.declared.lack.ValueFault.{ValueFault}
+use Rattle.component_values.specs.declared.lack.ValueFault.TheVariants as fault
+use Rattle.component_values.specs.Values.{HaveValues, IsFirstLack}
+use Rattle.msg_body.specs.Messages.{Message}
+use Rattle.sig_base.specs.SignatureBase.{signature_base}
+use Rattle.hms.specs.Base.{context_for}
+use Rattle.hms.specs.declared.refusal.Refusal.TheVariants.{Command}
+use Rattle.hms.specs.declared.refusal.CommandRefusal.TheVariants.{Lacks}
+use Rattle.hms.specs.declared.stop.Stop.{Stop}
+use Rattle.hms.specs.declared.stop.Stop.TheVariants.{Memory, Refused}
+
+-- the refusal for a component that lacks a value so, and has this identifier
+abbrev pub stop_for_lack : Lack → List ℕ → Stop
+stop_for_lack lack id = Refused (Command (Lacks lack id))
+
+-- the index of a lack is one of so many
+abbrev pub LiesIn : ℕ → ValueFault → Type 0
+LiesIn count fault.Memory = ⊤
+LiesIn count (fault.Lacks index lack) = index < count
+
+-- the stop says the fault of these components, or that memory ran out
+abbrev pub SaysFault : List ComponentId → ValueFault → Stop → Type 0
+SaysFault ids fault.Memory stop = stop ≡ Memory
+SaysFault ids (fault.Lacks index lack) stop = (stop ≡ Memory)
+    ⊎ IsSomeAnd (slice_get ids index) (λ id. stop ≡ stop_for_lack lack (id_text id))
+
+-- the stop says which component is the first that lacks a value, or that memory ran out
+abbrev pub SaysFirstLack : Message → SigParams → Stop → Type 0
+SaysFirstLack message sig stop = (stop ≡ Memory) ⊎ ((index : ℕ) × (lack : Lack)
+    × IsFirstLack (context_for message) sig.ids index lack
+    × IsSomeAnd (slice_get sig.ids index) (λ id. stop ≡ stop_for_lack lack (id_text id)))
+
+-- the base over the values of the components, or the first that lacks one
+abbrev pub ExplainsBase : Message → SigParams → Result (List ℕ) Stop → Type 0
+ExplainsBase message sig (Ok text) = (values : List (List ℕ))
+    × HaveValues (context_for message) sig.ids values × (text ≡ signature_base sig values)
+ExplainsBase message sig (Err stop) = SaysFirstLack message sig stop
