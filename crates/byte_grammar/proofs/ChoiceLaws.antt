@@ -6,7 +6,7 @@ use Rattle.byte_grammar.specs.Language.{starts_in, Begins, IsRun}
 use Rattle.byte_grammar.specs.tools.Languages.{Among, Optional}
 use Rattle.byte_grammar.specs.Walk.{◌>>=◌}
 use Rattle.byte_classes.specs.Classes.{is_one_of}
-use Rattle.byte_grammar.specs.tools.Walks.{left, Next, kind_read, kind_in, pick_read, optional_if, optional_read, choose_read}
+use Rattle.byte_grammar.specs.tools.Walks.{left, Next, kind_read, first_kind, pick_read, optional_if, optional_read, choose_read}
 use Rattle.byte_grammar.proofs.Laws.{Meets, left_less, bind_ok, bind_err, and_is, not_err, as_prefix, ok_is, meets_same}
 
 -- ---- by the first byte
@@ -33,8 +33,8 @@ module _ {I V : Type 0} {L : I → List ℕ → V → Type 0} {F : V → ℕ →
   pub meets_pick : (some : (x : List ℕ) × (v : V) × Among L x v) → Meets (Among L) F (pick_read pick q)
   unfolding pick_read
   meets_pick some = record {
-    ok = λ bytes v rest e. pick_ok (kind_in pick bytes) bytes v rest e;
-    err = λ bytes n e. pick_err some (kind_in pick bytes) bytes n e;
+    ok = λ bytes v rest e. pick_ok (first_kind pick bytes) bytes v rest e;
+    err = λ bytes n e. pick_err some (first_kind pick bytes) bytes n e;
     only = only;
     far = far;
   }
@@ -44,7 +44,7 @@ module _ {I V : Type 0} {L : I → List ℕ → V → Type 0} {F : V → ℕ →
       only (c ∷ x) r v h after = ap (λ (o : Option I). kind_read q o (c ∷ x ++ r)) (heads h.0 (c ∷ x) v h.1) ∙ (m h.0).only (c ∷ x) r v h.1 after
 
       far : (x more r : List ℕ) (v : V) → Among L (x ++ more) v → left (pick_read pick q (x ++ r)) ≤ length r
-      far [] more r v h = pick_less (kind_in pick r) r
+      far [] more r v h = pick_less (first_kind pick r) r
       far (c ∷ x) more r v h = subst (λ (o : Option I). left (kind_read q o (c ∷ x ++ r)) ≤ length r) (sym (heads h.0 (c ∷ x ++ more) v h.1)) ((m h.0).far (c ∷ x) more r v h.1)
 
 -- ---- a text or none

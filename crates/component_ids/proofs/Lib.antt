@@ -3,3 +3,4 @@ pub mod RepeatedLaws
 pub mod FaultLaws
 pub mod AnswerLaws
 pub mod Judged
+pub mod KindLaws

@@ -4,6 +4,7 @@ pub mod Identifiers
 pub mod SignatureParams
 pub mod Causes
 pub mod Laws
+pub mod Types
 pub mod tools
 pub use Rattle.sfv_text.specs.Range
 pub use Rattle.sfv_text.specs.Strict

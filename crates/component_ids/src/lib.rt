@@ -1,11 +1,13 @@
 //! Component identifiers and signature parameters of HTTP Message Signatures (RFC 9421 sections 2
-//! to 2.4).
+//! to 2.4), and which fields are structured.
 //!
 //! ```text
 //! let list = read_inner(alloc, br#"("@method" "date");created=1"#)?;
 //! let params = read_params(alloc, &list)?;
 //! params.ids.len()                     // 2
 //! print_params(alloc, &params)?.bytes() // ("@method" "date");created=1
+//! let types = Types::standard(alloc)?;
+//! types.kind_of(b"signature")          // Some(FieldKind::Dictionary)
 //! ```
 #![tactic(auto)]
 
@@ -16,7 +18,9 @@ mod params;
 mod print;
 mod read_ids;
 mod same;
+mod scheme;
 mod table;
+mod types;
 
 pub use fault::{BadReason, IdFault};
 pub use id::{ComponentId, Ids};
@@ -24,7 +28,9 @@ pub use laws::a_list_has_one_answer;
 pub use params::{MAX_COMPONENTS, SigParams, read_params};
 pub use print::{print_id, print_params};
 pub use same::same_id;
-pub use table::is_field_name;
+pub use scheme::Scheme;
+pub use table::{has_param, is_field_name};
+pub use types::{FieldKind, Types};
 
 #[cfg(test)]
 mod tests;

@@ -126,7 +126,8 @@ fn has_ill_typed(params: &Params) -> bool
     params.iter().any(|param| !has_value_type(param))
 }
 
-fn has_param(params: &Params, key: &[u8]) -> bool
+/// Whether a parameter of the key is there.
+pub fn has_param(params: &Params, key: &[u8]) -> bool
     ensures { result ≡ has_param params.now key.now }
 {
     params.find(key).is_some()

@@ -1,5 +1,6 @@
 use super::*;
 use BadReason::*;
+use FieldKind::{Dictionary, Item, List};
 use sfv_read::read_inner;
 use sfv_text::{BareItem, Memory, Params, Text};
 use std::alloc::Global;
@@ -276,6 +277,61 @@ fn an_identifier_prints_with_its_parameters(rt: HostRuntime) -> Result<(), Fail>
     let value = BareItem::Str(Text::from_bytes(alloc, b"b")?);
     id.params.put(Text::from_bytes(alloc, b"key")?, value)?;
     assert_eq!(rt; print_id(alloc, &id)?.bytes(), br#""a";key="b""#.as_slice());
+    Ok(())
+}
+
+// A name, and its kind where it is structured.
+#[derive(Clone, Copy)]
+struct KindCase<'a> {
+    name: &'a [u8],
+    kind: Option<FieldKind>,
+}
+
+fn check_kinds(rt: &impl Abort, types: &Types, cases: &[KindCase<'_>]) {
+    for case in cases {
+        assert_eq!(rt; types.kind_of(case.name), case.kind, "{:?}", case.name);
+    }
+}
+
+fn with_kind(name: &[u8], kind: FieldKind) -> KindCase<'_> {
+    KindCase {
+        name,
+        kind: Some(kind),
+    }
+}
+
+fn without_kind(name: &[u8]) -> KindCase<'_> {
+    KindCase { name, kind: None }
+}
+
+// The fields of RFC 9421 sections 4.1, 4.2 and 5.1 and of RFC 9530 section 2, then others.
+#[test]
+fn a_field_has_the_kind_that_was_added_last(rt: HostRuntime) -> Result<(), Fail> {
+    let mut types = Types::standard(rt.alloc())?;
+    let standard = [
+        with_kind(b"signature", Dictionary),
+        with_kind(b"signature-input", Dictionary),
+        with_kind(b"accept-signature", Dictionary),
+        with_kind(b"content-digest", Dictionary),
+        without_kind(b"date"),
+        without_kind(b"Signature"),
+        without_kind(b""),
+    ];
+    check_kinds(&rt, &types, &standard);
+    types.add(b"priority", Dictionary)?;
+    types.add(b"age", Item)?;
+    types.add(b"signature", List)?;
+    let added = [
+        with_kind(b"priority", Dictionary),
+        with_kind(b"age", Item),
+        with_kind(b"signature", List),
+        with_kind(b"signature-input", Dictionary),
+        with_kind(b"accept-signature", Dictionary),
+        with_kind(b"content-digest", Dictionary),
+        without_kind(b"date"),
+        without_kind(b"Age"),
+    ];
+    check_kinds(&rt, &types, &added);
     Ok(())
 }
 

@@ -1,3 +1,4 @@
 mod Bytes
+mod LineCounts
 mod TextLaws
 mod Unfolded

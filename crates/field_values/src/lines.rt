@@ -1,10 +1,10 @@
 //! The field lines of a name.
 
-ghost use Rattle.std.specs.Prelude.{◌≡◌, ◌<◌, [], ◌∷◌, length, filter, slice_index_or, IfSome, IfNone};
+ghost use Rattle.std.specs.Prelude.{◌≡◌, ◌<◌, [], ◌∷◌, length, filter, nat_lt, slice_index_or, IfSome, IfNone};
 ghost use Rattle.msg_head.specs.Views.{field_line_of};
 ghost use Rattle.msg_body.specs.Names.{has_name};
 ghost use Rattle.msg_body.specs.Views.{message_of, lines_on};
-ghost use Rattle.field_values.specs.Values.{values};
+ghost use Rattle.field_values.specs.Values.{values, is_there};
 ghost use Rattle.field_values.specs.tools.Walks.{no_line};
 
 use msg_body::{MessageView, SideLines, is_named};
@@ -36,7 +36,8 @@ fn has_name_at(view: &MessageView<'_>, side: Side, index: usize, name: &[u8]) ->
 
 /// How many field lines of the side have the name, which is in lower case.
 pub fn count_lines(view: &MessageView<'_>, side: Side, name: &[u8]) -> usize
-    ensures { result ≡ length (values (lines_on side (message_of view.now)) name.now) }
+    ensures count { result ≡ length (values (lines_on side (message_of view.now)) name.now) }
+    ensures there { is_there (lines_on side (message_of view.now)) name.now ≡ nat_lt 0 result }
 {
     let mut count = 0;
     for index in 0..view.line_count(side) {

@@ -10,7 +10,7 @@ use crate::name::is_named;
 use msg_head::{HeadView, Start};
 
 /// Whether the start line is a request line.
-pub(crate) fn is_request(start: Start<'_>) -> bool
+pub fn is_request(start: Start<'_>) -> bool
     ensures { result ≡ is_request (start_line_of start.entry) }
 {
     match start {

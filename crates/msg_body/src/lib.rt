@@ -25,6 +25,7 @@ mod view;
 
 pub use error::{MessageError, MessageFault};
 pub use framing::{Expect, Framing};
+pub use kind::is_request;
 pub use laws::{message_laws, messages_have_one_answer};
 pub use limits::MAX_MESSAGE_BYTES;
 pub use name::is_named;

@@ -24,7 +24,7 @@ use Rattle.byte_grammar.proofs.Whole.{Nothing, meets_padded}
 use Rattle.sfv_read.proofs.Numbers.{ends, End}
 use Rattle.sfv_text.specs.declared.value.Item.{Item}
 use Rattle.sfv_text.specs.declared.pair.Pair.{Pair}
-use Rattle.sfv_read.specs.tools.ItemWalk.{pair_of, item_with, key_read}
+use Rattle.sfv_read.specs.tools.ItemWalk.{pair_with, item_with, key_read}
 use Rattle.sfv_read.proofs.BareItems.{meets_bare, boolean_some, bare_next, bare_starts, kind_blank, word_starts}
 
 -- ---- parameters
@@ -81,12 +81,12 @@ meets_param =
     (meets_then (meets_byte is_semicolon 59 refl (λ _ _. true))
     (λ _. meets_then (meets_all is_space)
     (λ _. meets_then meets_key
-    (λ key. meets_map {G = λ _ c. is_one_of after_param c} meets_value (λ (v : BareItem). pair_of key v) (λ v c h. h))
-    (λ x u h. ([], pair_of u (Boolean true), (Boolean true, inr (refl, refl), refl)))
+    (λ key. meets_map {G = λ _ c. is_one_of after_param c} meets_value (λ (v : BareItem). pair_with key v) (λ v c h. h))
+    (λ x u h. ([], pair_with u (Boolean true), (Boolean true, inr (refl, refl), refl)))
     (λ u y v r h after. value_next (λ c. not (is_key_rest c)) refl (λ c e. of_each (λ c. not (is_key_rest c)) after_param refl c e) y h.0 r h.1 after))
-    (λ x u h. (97 ∷ [], pair_of (97 ∷ []) (Boolean true), key_alone))
+    (λ x u h. (97 ∷ [], pair_with (97 ∷ []) (Boolean true), key_alone))
     (λ u y v r h after. key_start y v r h))
-    (λ x u h. (97 ∷ [], pair_of (97 ∷ []) (Boolean true), record { first = []; second = 97 ∷ []; value = []; joined = refl; spells = record { same = refl; passes = refl }; more = key_alone }))
+    (λ x u h. (97 ∷ [], pair_with (97 ∷ []) (Boolean true), record { first = []; second = 97 ∷ []; value = []; joined = refl; spells = record { same = refl; passes = refl }; more = key_alone }))
     (λ u y v r h after. any_next (y ++ r)))
     (λ x v t. to x t.first t.second t.value t.joined t.spells t.more.first t.more.second t.more.value t.more.joined t.more.spells t.more.more.first t.more.more.second t.more.more.value t.more.more.joined t.more.more.spells v t.more.more.more)
     (λ x v h. record {
@@ -107,9 +107,9 @@ meets_param =
     (λ v c h. h)
   where
     After : List ℕ → (Pair BareItem) → Type 0
-    After x v = Then (IsWord is_key_first is_key_rest) (λ key. Mapped (λ (v : BareItem). pair_of key v) IsValue) x v
+    After x v = Then (IsWord is_key_first is_key_rest) (λ key. Mapped (λ (v : BareItem). pair_with key v) IsValue) x v
 
-    key_alone : After (97 ∷ []) (pair_of (97 ∷ []) (Boolean true))
+    key_alone : After (97 ∷ []) (pair_with (97 ∷ []) (Boolean true))
     key_alone = record { first = 97 ∷ []; second = []; value = 97 ∷ []; joined = refl; spells = (refl, refl, refl); more = (Boolean true, inr (refl, refl), refl) }
 
     key_start : (y : List ℕ) (v : Pair BareItem) (r : List ℕ) → After y v → Next (λ c. not (is_space c)) (y ++ r)
@@ -118,9 +118,9 @@ meets_param =
         (starts_next is_key_first (λ c. not (is_space c)) (apart is_key_first 32 refl) t.first (t.second ++ r) (word_starts is_key_first is_key_rest t.first t.value t.spells)))
 
     to : (x a b : List ℕ) (c : ℕ) → x ≡ a ++ b → IsByte is_semicolon a c → (d e s : List ℕ) → b ≡ d ++ e → IsAll is_space d s → (f g k : List ℕ) → e ≡ f ++ g → IsKey f k
-        → (p : Pair BareItem) → Mapped (λ (v : BareItem). pair_of k v) IsValue g p → IsParameter x p
+        → (p : Pair BareItem) → Mapped (λ (v : BareItem). pair_with k v) IsValue g p → IsParameter x p
     to x a b c ab semi d e s de blank f g k fg key p v =
-        let pair : pair_of k v.0 ≡ p = v.2 in
+        let pair : pair_with k v.0 ≡ p = v.2 in
         record {
           spaces = d;
           key = f;

@@ -24,7 +24,7 @@ use Rattle.sfv_text.specs.declared.value.InnerList.{InnerList}
 use Rattle.sfv_text.specs.declared.value.Member.{Member}
 use Rattle.sfv_text.specs.declared.value.Member.TheVariants.{Item as ItemMember, InnerList as InnerMember}
 use Rattle.sfv_text.specs.declared.pair.Pair.{Pair}
-use Rattle.sfv_read.specs.tools.ItemWalk.{pair_of}
+use Rattle.sfv_read.specs.tools.ItemWalk.{pair_with}
 use Rattle.sfv_read.specs.tools.InnerWalk.{inner_of}
 use Rattle.sfv_read.specs.Reads.{ReadsList, ReadsDict}
 use Rattle.sfv_read.proofs.BareItems.{word_starts, none_some}
@@ -170,11 +170,11 @@ meets_dict_member : Meets IsDictMember After dict_member_read
 unfolding dict_member_read After
 meets_dict_member =
     meets_same
-    (meets_then meets_key (λ k. meets_map {G = λ _ c. is_one_of after_params c} meets_dict_value (λ (v : Member). pair_of k v) (λ v c h. h))
-    (λ x u h. ([], pair_of u (ItemMember (true_item [])), (ItemMember (true_item []), true_value, refl)))
+    (meets_then meets_key (λ k. meets_map {G = λ _ c. is_one_of after_params c} meets_dict_value (λ (v : Member). pair_with k v) (λ v c h. h))
+    (λ x u h. ([], pair_with u (ItemMember (true_item [])), (ItemMember (true_item []), true_value, refl)))
     (λ u y v r h after. value_next y h.0 r h.1 after))
     (λ x p t.
-    let pair : pair_of t.value t.more.0 ≡ p = t.more.2 in
+    let pair : pair_with t.value t.more.0 ≡ p = t.more.2 in
     record {
       key = t.first;
       rest = t.second;
@@ -200,7 +200,7 @@ key_start (c ∷ x) h = key_ows c h
 dict_member_starts : (x : List ℕ) (p : Pair Member) → IsDictMember x p → Starts (λ c. not (is_blank c)) x
 dict_member_starts x p h = key_start x (subst (λ (y : List ℕ). Starts is_key_first y) (sym h.joined) (starts_append is_key_first h.key h.rest (word_starts is_key_first is_key_rest h.key p.key h.is_key)))
 
-some_dict_member : IsDictMember (97 ∷ []) (pair_of (97 ∷ []) (ItemMember (true_item [])))
+some_dict_member : IsDictMember (97 ∷ []) (pair_with (97 ∷ []) (ItemMember (true_item [])))
 some_dict_member = record { key = 97 ∷ []; rest = []; joined = refl; is_key = (refl, refl, refl); value = inr ([], refl, refl) }
 
 -- a Dictionary's members, put one after the other
@@ -208,7 +208,7 @@ pub meets_dict : Meets ReadsDict Nothing (λ bytes. dict_read bytes)
 unfolding After
 meets_dict =
     meets_same
-    (meets_map {G = Nothing} (meets_separated meets_dict_member dict_member_starts (λ v. refl) (λ v c h. after_ows c h) (97 ∷ []) (pair_of (97 ∷ []) (ItemMember (true_item []))) some_dict_member) (λ (ps : List (Pair Member)). distinct_pairs ps) (λ v c h. h))
+    (meets_map {G = Nothing} (meets_separated meets_dict_member dict_member_starts (λ v. refl) (λ v c h. after_ows c h) (97 ∷ []) (pair_with (97 ∷ []) (ItemMember (true_item []))) some_dict_member) (λ (ps : List (Pair Member)). distinct_pairs ps) (λ v c h. h))
     (λ x v h. (h.0, h.1, sym h.2)) (λ x v h. (h.0, h.1, sym h.2)) (λ v c h. h)
 
 -- how the loops over members go on
@@ -222,8 +222,8 @@ members_shorter bytes v rest e = separated_shorter meets_member member_starts (�
 
 pub dict_members_step : (bytes : List ℕ) → turns_read (next_member_read dict_member_read) bytes ≡ (next_member_read dict_member_read bytes >>= λ a. with_turns a.0 a.1 (turns_read (next_member_read dict_member_read) a.1))
 unfolding After
-dict_members_step bytes = separated_step meets_dict_member dict_member_starts (λ v. refl) (λ v c h. after_ows c h) (97 ∷ []) (pair_of (97 ∷ []) (ItemMember (true_item []))) some_dict_member bytes
+dict_members_step bytes = separated_step meets_dict_member dict_member_starts (λ v. refl) (λ v c h. after_ows c h) (97 ∷ []) (pair_with (97 ∷ []) (ItemMember (true_item []))) some_dict_member bytes
 
 pub dict_members_shorter : (bytes : List ℕ) (v : Pair Member) (rest : List ℕ) → next_member_read dict_member_read bytes ≡ Ok (Some v, rest) → length rest < length bytes
 unfolding After
-dict_members_shorter bytes v rest e = separated_shorter meets_dict_member dict_member_starts (λ v. refl) (λ v c h. after_ows c h) (97 ∷ []) (pair_of (97 ∷ []) (ItemMember (true_item []))) some_dict_member bytes v rest e
+dict_members_shorter bytes v rest e = separated_shorter meets_dict_member dict_member_starts (λ v. refl) (λ v c h. after_ows c h) (97 ∷ []) (pair_with (97 ∷ []) (ItemMember (true_item []))) some_dict_member bytes v rest e

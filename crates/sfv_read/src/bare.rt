@@ -2,7 +2,7 @@
 
 ghost use Rattle.std.specs.Prelude.{◌≡◌, ◌≤◌, length, IfSome};
 ghost use Rattle.byte_grammar.specs.Gives.{Gives};
-ghost use Rattle.byte_grammar.specs.tools.Walks.{kind_in};
+ghost use Rattle.byte_grammar.specs.tools.Walks.{first_kind};
 ghost use Rattle.sfv_read.specs.tools.Gives.{GivesUnlessMemory, UnlessStopped};
 ghost use Rattle.sfv_read.specs.tools.BareWalk.{kind_of_bare_item, bare_item_read, boolean_read};
 
@@ -63,16 +63,16 @@ fn read_boolean(bytes: &[u8]) -> Result<(BareItem, &[u8]), Left>
 }
 
 fn first_kind(bytes: &[u8]) -> Option<BareKind>
-    ensures kind { result ≡ kind_in kind_of_bare_item bytes.now }
+    ensures kind { result ≡ first_kind kind_of_bare_item bytes.now }
     ensures some { IfSome result (λ _. 1 ≤ length bytes.now) }
 {
     match bytes.split_first() {
         None => None,
-        Some((first, _)) => kind_of(*first),
+        Some((first, _)) => kind_of_bare_item(*first),
     }
 }
 
-fn kind_of(byte: u8) -> Option<BareKind>
+fn kind_of_bare_item(byte: u8) -> Option<BareKind>
     ensures { result ≡ kind_of_bare_item byte }
 {
     if Class::Digit.allows(byte) {

@@ -2,7 +2,7 @@
 
 ghost use Rattle.std.specs.Prelude.{◌≡◌};
 ghost use Rattle.byte_grammar.specs.Gives.{Gives};
-ghost use Rattle.byte_grammar.specs.tools.Walks.{kind_in};
+ghost use Rattle.byte_grammar.specs.tools.Walks.{first_kind};
 ghost use Rattle.sfv_read.specs.tools.Gives.{GivesUnlessMemory};
 ghost use Rattle.sfv_read.specs.tools.BareWalk.{char_kind, char_read, chars_read, string_read};
 
@@ -75,15 +75,15 @@ fn read_char(bytes: &[u8]) -> Result<(Option<u8>, &[u8]), Left>
 }
 
 fn first_kind(bytes: &[u8]) -> Option<CharKind>
-    ensures { result ≡ kind_in char_kind bytes.now }
+    ensures { result ≡ first_kind char_kind bytes.now }
 {
     match bytes.split_first() {
         None => None,
-        Some((first, _)) => kind_of(*first),
+        Some((first, _)) => char_kind(*first),
     }
 }
 
-fn kind_of(byte: u8) -> Option<CharKind>
+fn char_kind(byte: u8) -> Option<CharKind>
     ensures { result ≡ char_kind byte }
 {
     if byte == b'"' {

@@ -21,13 +21,13 @@ kind_read read None bytes = Err (length bytes)
 kind_read read (Some i) bytes = read i bytes
 
 -- the kind that the first byte picks
-abbrev pub kind_in : {I : Type 0} → (ℕ → Option I) → List ℕ → Option I
-kind_in pick [] = None
-kind_in pick (c ∷ rest) = pick c
+abbrev pub first_kind : {I : Type 0} → (ℕ → Option I) → List ℕ → Option I
+first_kind pick [] = None
+first_kind pick (c ∷ rest) = pick c
 
 -- by the first byte
 unfoldable pub pick_read : {I V : Type 0} → (ℕ → Option I) → (I → Reader V) → Reader V
-pick_read pick read bytes = kind_read read (kind_in pick bytes) bytes
+pick_read pick read bytes = kind_read read (first_kind pick bytes) bytes
 
 -- one reader where a byte of the class comes, and another where another byte comes
 unfoldable pub choose_read : {V : Type 0} → (ℕ → Bool) → Reader V → Reader V → Reader V

@@ -12,8 +12,8 @@ use Rattle.sfv_read.specs.Class.{is_semicolon, is_equals}
 use Rattle.sfv_read.specs.Item.{distinct_pairs}
 use Rattle.sfv_read.specs.tools.BareWalk.{bare_item_read}
 
-abbrev pub pair_of : {V : Type 0} → List ℕ → V → Pair V
-pair_of key value = record { key = key; value = value }
+abbrev pub pair_with : {V : Type 0} → List ℕ → V → Pair V
+pair_with key value = record { key = key; value = value }
 
 abbrev pub item_with : BareItem → List (Pair BareItem) → Item
 item_with bare params = record { bare = bare; params = params }
@@ -37,7 +37,7 @@ parameter_read bytes = do
   b ← all_read is_space s.1
   k ← key_read b.1
   v ← value_read k.1
-  Ok (pair_of k.0 v.0, v.1)
+  Ok (pair_with k.0 v.0, v.1)
 
 -- a parameter where a semicolon comes
 unfoldable pub next_parameter_read : Reader (Option (Pair BareItem))

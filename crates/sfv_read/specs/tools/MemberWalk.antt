@@ -9,7 +9,7 @@ use Rattle.byte_classes.specs.Classes.{is_space, is_blank}
 use Rattle.sfv_read.specs.Class.{is_open, is_comma, is_equals}
 use Rattle.sfv_read.specs.Item.{put_pair}
 use Rattle.sfv_read.specs.Member.{true_item}
-use Rattle.sfv_read.specs.tools.ItemWalk.{pair_of, key_read, item_read, parameters_read}
+use Rattle.sfv_read.specs.tools.ItemWalk.{pair_with, key_read, item_read, parameters_read}
 use Rattle.sfv_read.specs.tools.InnerWalk.{inner_list_read}
 
 -- ---- members separated by commas, of any kind
@@ -65,7 +65,7 @@ unfoldable pub dict_member_read : Reader (Pair Member)
 dict_member_read bytes = do
   k ← key_read bytes
   v ← dict_value_read k.1
-  Ok (pair_of k.0 v.0, v.1)
+  Ok (pair_with k.0 v.0, v.1)
 
 -- ---- Lists and Dictionaries
 

@@ -1,0 +1,77 @@
+//! Which fields are structured, and how.
+
+ghost use Rattle.std.specs.Prelude.{◌≡◌, IfOk, OnOk, OnErr};
+ghost use Rattle.std.specs.FinMap as map;
+ghost use Rattle.component_ids.specs.Types.{kind_in, standard_types};
+
+use sfv_text::Memory;
+use std::alloc::Global;
+use std::collections::BTreeMap;
+use std::marker::Model;
+
+/// The kind of structured field that a field name is defined as (RFC 9651 section 3).
+#[derive(Clone, Copy, Debug, PartialEq, Eq)]
+pub enum FieldKind {
+    /// An Item (section 3.3).
+    Item,
+    /// A List (section 3.1).
+    List,
+    /// A Dictionary (section 3.2).
+    Dictionary,
+}
+
+/// Which fields are structured, and how, by their names in lower case. No message tells it: an
+/// application has to know it (RFC 9421 section 2.1.1).
+#[derive(Debug, Drop)]
+pub struct Types {
+    kinds: BTreeMap<Vec<u8>, FieldKind>,
+    alloc: Global,
+}
+
+impl Model for Types {
+    ghost use Rattle.std.specs.FinMap as map;
+    ghost use Rattle.component_ids.specs.Types.{KindMap};
+    ghost use Rattle.component_ids.specs.tools.Kinds.{kinds_code, by_name};
+
+    ghost Value = { KindMap };
+
+    ghost coded = { kinds_code };
+
+    ghost view = { λ t. map.from_entries (by_name t.kinds.entries) };
+}
+
+impl Types {
+    /// Those of `signature-input`, `signature` and `accept-signature` (RFC 9421 sections 4.1, 4.2
+    /// and 5.1) and of `content-digest` (RFC 9530 section 2): each is a Dictionary.
+    pub fn standard(alloc: Global) -> Result<Types, Memory>
+        ensures { IfOk result (λ types. types ≡ standard_types) }
+    {
+        let mut types = Types {
+            kinds: BTreeMap::new(alloc),
+            alloc,
+        };
+        types.add(b"content-digest", FieldKind::Dictionary)?;
+        types.add(b"accept-signature", FieldKind::Dictionary)?;
+        types.add(b"signature", FieldKind::Dictionary)?;
+        types.add(b"signature-input", FieldKind::Dictionary)?;
+        Ok(types)
+    }
+
+    /// Gives the name, which is to be in lower case, this kind, in place of an earlier one.
+    pub fn add(&mut self, name: &[u8], kind: FieldKind) -> Result<(), Memory>
+        ensures ok { OnOk result (self.new ≡ map.insert self.old name.now kind) }
+        ensures err { OnErr result (self.new ≡ self.old) }
+    {
+        let mut key = Vec::new(self.alloc);
+        key.extend_from_slice(name)?;
+        self.kinds.insert(key, kind)?;
+        Ok(())
+    }
+
+    /// The kind of the field of that name, in lower case, where it is structured.
+    pub fn kind_of(&self, name: &[u8]) -> Option<FieldKind>
+        ensures { result ≡ kind_in self.now name.now }
+    {
+        self.kinds.get(name).copied()
+    }
+}

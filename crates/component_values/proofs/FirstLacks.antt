@@ -1,0 +1,116 @@
+-- The first component that lacks a value.
+use Rattle.std.proofs.Common.{◌≡◌, ◌⊎◌, ◌<◌, ℕ, zero, suc, List, [], ◌∷◌, ◌++◌, length, map, take, get_or, ◌+◌, Option, Some, None, Result, Ok, Err, IsSomeAnd, refl, sym, ap, ◌∙◌, inl, inr, arith}
+use Rattle.std.specs.List.{slice_get}
+use Rattle.std.proofs.lemmas.Bool.{cases_order}
+use Rattle.std.proofs.lemmas.Grind.{take_at_read}
+use Rattle.std.proofs.lemmas.List.{map-append, length-map, length-take}
+use Rattle.std.proofs.lemmas.Option.{slice_get-get_or}
+use Rattle.byte_grammar.specs.Causes.{AnswersWhere}
+use Rattle.byte_grammar.proofs.Indices.{some_and, some_and_parts, slice_get_take}
+use Rattle.component_ids.specs.declared.id.ComponentId.{ComponentId}
+use Rattle.component_values.specs.declared.lack.Lack.{Lack}
+use Rattle.component_ids.specs.declared.params.SigParams.{SigParams}
+use Rattle.component_values.specs.declared.lack.NoValue.{NoValue}
+use Rattle.component_values.specs.declared.lack.NoValue.TheVariants.{Memory, Lacks as NoValueLacks}
+use Rattle.component_values.specs.declared.lack.ValueFault.{ValueFault}
+use Rattle.component_values.specs.declared.lack.ValueFault.TheVariants as fault
+use Rattle.component_values.specs.declared.lines.Value.{Value}
+use Rattle.component_values.specs.declared.prepared.Prepared.{Prepared}
+use Rattle.component_values.specs.Context.{MessageContext}
+use Rattle.component_values.specs.Values.{ComesTo, Has, Lacks, HaveValues, IsFirstLack}
+use Rattle.component_values.specs.tools.Rows.{KeepsRow, lack_fault_at, kept_text}
+use Rattle.component_values.specs.tools.Answered.{ExplainsPrepared, IsFaultOf}
+use Rattle.component_values.proofs.RowLaws.{lacks_in_one_way, lacks_no_value}
+
+pub have_length : (context : MessageContext) (ids : List ComponentId) (values : List (List ℕ)) → HaveValues context ids values → length values ≡ length ids
+have_length context [] [] have = refl
+have_length context (id ∷ ids) (value ∷ values) have = ap suc (have_length context ids values have.1)
+have_length context [] (value ∷ values) have = absurd have
+have_length context (id ∷ ids) [] have = absurd have
+
+pub have_more : (context : MessageContext) (ids : List ComponentId) (values : List (List ℕ)) (id : ComponentId) (value : List ℕ) → HaveValues context ids values → Has context id value
+    → HaveValues context (ids ++ id ∷ []) (values ++ value ∷ [])
+have_more context [] [] id value have one = (one, tt)
+have_more context (first ∷ ids) (v ∷ values) id value have one = (have.0, have_more context ids values id value have.1 one)
+have_more context [] (v ∷ values) id value have one = absurd have
+have_more context (first ∷ ids) [] id value have one = absurd have
+
+-- each of them has a value
+pub have_at : (context : MessageContext) (ids : List ComponentId) (values : List (List ℕ)) (i : ℕ) (id : ComponentId) → HaveValues context ids values → slice_get ids i ≡ Some id
+    → (value : List ℕ) × Has context id value
+have_at context [] [] i id have there = absurd cc
+have_at context (first ∷ ids) (v ∷ values) zero id have there = let same : first ≡ id = cc in (v, rw (sym same) have.0)
+have_at context (first ∷ ids) (v ∷ values) (suc i) id have there = have_at context ids values i id have.1 there
+have_at context [] (v ∷ values) i id have there = absurd have
+have_at context (first ∷ ids) [] i id have there = absurd have
+
+-- where all have values, none is the first that lacks one
+pub none_lacks : (context : MessageContext) (ids : List ComponentId) (values : List (List ℕ)) (index : ℕ) (lack : Lack) → HaveValues context ids values
+    → ¬ IsFirstLack context ids index lack
+none_lacks context ids values index lack have first =
+    let there = some_and_parts (λ id. Lacks context id lack) (slice_get ids index) first.there in
+    let has = have_at context ids values index there.0 have there.1 in
+    lacks_no_value context there.0 has.0 lack has.1 there.2
+
+earlier : (context : MessageContext) (ids : List ComponentId) (i j : ℕ) (lack other : Lack) → i < j → IsFirstLack context ids i lack
+    → ¬ IsFirstLack context ids j other
+earlier context ids i j lack other less first second =
+    let there = some_and_parts (λ id. Lacks context id lack) (slice_get ids i) first.there in
+    let has = have_at context (take j ids) second.values i there.0 second.before (slice_get_take ids j i less ∙ there.1) in
+    lacks_no_value context there.0 has.0 lack has.1 there.2
+
+pub first_lack_is_one : (context : MessageContext) (ids : List ComponentId) (i j : ℕ) (lack other : Lack)
+    → IsFirstLack context ids i lack → IsFirstLack context ids j other → (i ≡ j) × (lack ≡ other)
+first_lack_is_one context ids i j lack other first second = elim (cases_order i j) [
+  | inl same ↦
+      let a = some_and_parts (λ id. Lacks context id lack) (slice_get ids i) first.there in
+      let b = some_and_parts (λ id. Lacks context id other) (slice_get ids j) second.there in
+      let alike : a.0 ≡ b.0 = let e : Some a.0 ≡ Some b.0 = sym a.1 ∙ ap (slice_get ids) same ∙ b.1 in cc in
+      (same, lacks_in_one_way context b.0 lack other (rw (sym alike) a.2) b.2)
+  | inr apart ↦ elim apart [
+    | inl less ↦ absurd (earlier context ids i j lack other less first second)
+    | inr more ↦ absurd (earlier context ids j i other lack more second first)
+  ]
+]
+
+-- ---- what is kept
+
+pub values_more : (context : MessageContext) (ids : List ComponentId) (n : ℕ) (id : ComponentId) (values : List Value) (value : Value) → n < length ids → id ≡ get_or ids n id
+    → HaveValues context (take n ids) (map kept_text values) → Has context id (kept_text value) → HaveValues context (take (n + 1) ids) (map kept_text (values ++ value ∷ []))
+values_more context ids n id values value lt is have one =
+    let more : take (n + 1) ids ≡ take n ids ++ id ∷ [] = (take_at_read ids n id lt).1 ∙ ap (λ (d : ComponentId). take n ids ++ d ∷ []) (sym is) in
+    rw (more, map-append kept_text values (value ∷ [])) (have_more context (take n ids) (map kept_text values) id (kept_text value) have one)
+
+pub first_lack_at : (context : MessageContext) (ids : List ComponentId) (n count : ℕ) (id : ComponentId) (lack : Lack) (values : List Value) → n < length ids → id ≡ get_or ids n id
+    → count ≡ length values → HaveValues context (take n ids) (map kept_text values) → Lacks context id lack → IsFirstLack context ids count lack
+first_lack_at context ids n count id lack values lt is counted have lacks =
+    let same : count ≡ n =
+    counted ∙ sym (length-map values kept_text) ∙ have_length context (take n ids) (map kept_text values) have ∙ omega (arith, length-take {A = ComponentId}) in
+    rw same (record {
+      values = map kept_text values;
+      before = have;
+      there = some_and (λ id. Lacks context id lack) (slice_get ids n) id (slice_get-get_or ids n id lt ∙ ap Some (sym is)) lacks;
+    })
+
+pub first_fault_at : (context : MessageContext) (ids : List ComponentId) (n count : ℕ) (id : ComponentId) (why : NoValue) (values : List Value) → n < length ids → id ≡ get_or ids n id
+    → count ≡ length values → HaveValues context (take n ids) (map kept_text values) → KeepsRow (ComesTo context id) (Err why) → IsFaultOf context ids (lack_fault_at count why)
+first_fault_at context ids n count id Memory values lt is counted have row = tt
+first_fault_at context ids n count id (NoValueLacks lack) values lt is counted have row = first_lack_at context ids n count id lack values lt is counted have row
+
+pub kept_count : (context : MessageContext) (ids : List ComponentId) (values : List Value) → HaveValues context ids (map kept_text values) → length values ≡ length ids
+kept_count context ids values have = sym (length-map values kept_text) ∙ have_length context ids (map kept_text values) have
+
+-- the first lack is answered, and no other
+pub lacks_are : (context : MessageContext) (params : SigParams) (result : Result Prepared ValueFault) → ExplainsPrepared context params result → (index : ℕ) (lack : Lack)
+    → AnswersWhere fault.Memory result (fault.Lacks index lack) (IsFirstLack context params.ids index lack)
+lacks_are context params (Ok prepared) x index lack = record {
+  only = λ e. absurd cc;
+  there = λ first. absurd (none_lacks context params.ids prepared.values index lack x.1 first);
+}
+lacks_are context params (Err fault.Memory) x index lack = record { only = λ e. absurd cc; there = λ first. inr refl }
+lacks_are context params (Err (fault.Lacks at other)) x index lack = record {
+  only = λ e. let i : at ≡ index = cc in let l : other ≡ lack = cc in rw (sym i, sym l) x;
+  there = λ first.
+      let same = first_lack_is_one context params.ids at index other lack x first in
+      inl (rw (same.0, same.1) refl);
+}

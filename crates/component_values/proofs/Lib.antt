@@ -1,0 +1,7 @@
+mod Below
+mod FirstLacks
+mod ListLaws
+mod RowLaws
+mod CleanLaws
+mod Sequences
+mod Unread

@@ -1,0 +1,170 @@
+-- Each row has one answer.
+use Rattle.std.proofs.Common.{◌≡◌, ◌⊎◌, ℕ, Bool, true, false, List, Option, Some, None, Result, Ok, Err, inl, inr, refl, sym, ap, ◌∙◌, subst}
+use Rattle.std.specs.Prelude.{IsSomeAnd, codes}
+use Rattle.sfv_text.specs.Keys.{value_of}
+use Rattle.sfv_text.specs.Strict.{item_text, list_text, dict_text, member_text}
+use Rattle.sfv_text.specs.declared.pair.Pair.{Pair}
+use Rattle.sfv_text.specs.declared.value.BareItem.{BareItem}
+use Rattle.sfv_text.specs.declared.value.Member.{Member}
+use Rattle.byte_grammar.proofs.Whole.{one_value}
+use Rattle.sfv_read.specs.Laws.{HasOneValue, IsDecided}
+use Rattle.sfv_read.specs.Reads.{ReadsItem, ReadsList, ReadsDict}
+use Rattle.sfv_read.proofs.Readings.{item_judges, list_judges, dict_judges}
+use Rattle.sfv_read.proofs.TextLaws.{decided}
+use Rattle.msg_head.specs.Lines.{FieldLine}
+use Rattle.msg_body.specs.Messages.{Message}
+use Rattle.msg_body.specs.Views.{lines_on}
+use Rattle.field_values.specs.Values.{values, combined_value, is_there}
+use Rattle.component_ids.specs.Table.{is_field_name, has_param}
+use Rattle.component_ids.specs.Types.{KindMap, kind_in}
+use Rattle.component_ids.specs.declared.types.FieldKind.{FieldKind}
+use Rattle.component_ids.specs.declared.types.FieldKind.TheVariants as kind
+use Rattle.component_ids.specs.declared.id.ComponentId.{ComponentId}
+use Rattle.component_values.specs.declared.lack.Lack.{Lack}
+use Rattle.component_values.specs.declared.lack.Lack.TheVariants.{Absent, Ambiguous, Underivable, Unreadable, NotAscii}
+use Rattle.component_values.specs.Context.{MessageContext}
+use Rattle.component_values.specs.Laws.{HasOrLacks, HasOneValueOnly, LacksInOneWay, LacksNoValue}
+use Rattle.component_values.specs.Values.{StrictRow, KindRow, MemberRow, KeyRow, plain_value, byte_sequences, member_key, FormRow, LineRow, side_of, message_for, NameRow, MessageRow, ComesTo}
+
+abbrev pub Answer : Type 0
+Answer = Result (List ℕ) Lack
+
+-- the row has an answer, and no other
+pub record HasSoleAnswer (Row : Answer → Type 0) : Type 0 where
+  pub answer : Answer
+  pub is : Row answer
+  pub only : (other : Answer) → Row other → other ≡ answer
+
+same : {Row : Answer → Type 0} → HasSoleAnswer Row → (one other : Answer) → Row one → Row other → one ≡ other
+same row one other is also = row.only one is ∙ sym (row.only other also)
+
+the_answer : (answer : Answer) → HasSoleAnswer (λ other. other ≡ answer)
+the_answer answer = record { answer = answer; is = refl; only = λ other is. is }
+
+-- ---- structured values
+
+strict_one : {V : Type 0} (Reads : List ℕ → V → Type 0) (text_of : V → List ℕ) → IsDecided Reads → HasOneValue Reads → (text : List ℕ) → HasSoleAnswer (StrictRow Reads text_of text)
+strict_one {V} Reads text_of decides one text = elim (decides text) [
+  | inl read ↦ record { answer = Ok (text_of read.0); is = (read.0, read.1, refl); only = is_read read.0 read.1 }
+  | inr none ↦ record { answer = Err Unreadable; is = (refl, none); only = is_unread none }
+]
+  where
+    is_read : (v : V) → Reads text v → (other : Answer) → StrictRow Reads text_of text other → other ≡ Ok (text_of v)
+    is_read v reads (Ok value) row = ap Ok (row.2 ∙ ap text_of (one text row.0 v row.1 reads))
+    is_read v reads (Err lack) row = absurd (row.1 v reads)
+
+    is_unread : ((v : V) → Reads text v → ⊥) → (other : Answer) → StrictRow Reads text_of text other → other ≡ Err Unreadable
+    is_unread none (Ok value) row = absurd (none row.0 row.1)
+    is_unread none (Err lack) row = ap Err row.0
+
+kind_one : (known : Option FieldKind) (text : List ℕ) → HasSoleAnswer (KindRow known text)
+kind_one (Some kind.Item) text = strict_one ReadsItem item_text (decided item_judges) (one_value item_judges) text
+kind_one (Some kind.List) text = strict_one ReadsList list_text (decided list_judges) (one_value list_judges) text
+kind_one (Some kind.Dictionary) text = strict_one ReadsDict dict_text (decided dict_judges) (one_value dict_judges) text
+kind_one None text = the_answer (Err Unreadable)
+
+-- ---- members
+
+abbrev member_answer : Option Member → Answer
+member_answer None = Err Absent
+member_answer (Some member) = Ok (member_text member)
+
+member_some : (key text : List ℕ) (dict : List (Pair Member)) → ReadsDict text dict → (found : Option Member) → value_of dict key ≡ found → MemberRow key text (member_answer found)
+member_some key text dict reads None is = (dict, reads, is)
+member_some key text dict reads (Some member) is = (dict, reads, rw is refl)
+
+at_member : (value : List ℕ) (found : Option Member) → IsSomeAnd found (λ member. value ≡ member_text member) → Ok value ≡ member_answer found
+at_member value None is = absurd is
+at_member value (Some member) is = ap Ok is
+
+one_dict : (text : List ℕ) (dict other : List (Pair Member)) → ReadsDict text dict → ReadsDict text other → dict ≡ other
+one_dict = one_value dict_judges
+
+member_read : (key text : List ℕ) (dict : List (Pair Member)) → ReadsDict text dict → (other : Answer) → MemberRow key text other → other ≡ member_answer (value_of dict key)
+member_read key text dict reads (Ok value) row =
+    at_member value (value_of row.0 key) row.2 ∙ ap (λ d. member_answer (value_of d key)) (one_dict text row.0 dict row.1 reads)
+member_read key text dict reads (Err Absent) row =
+    ap member_answer (sym row.2) ∙ ap (λ d. member_answer (value_of d key)) (one_dict text row.0 dict row.1 reads)
+member_read key text dict reads (Err Ambiguous) row = absurd (row.1 dict reads)
+member_read key text dict reads (Err Underivable) row = absurd (row.1 dict reads)
+member_read key text dict reads (Err Unreadable) row = absurd (row.1 dict reads)
+member_read key text dict reads (Err NotAscii) row = absurd (row.1 dict reads)
+
+member_unread : (key text : List ℕ) → ((dict : List (Pair Member)) → ReadsDict text dict → ⊥) → (other : Answer) → MemberRow key text other → other ≡ Err Unreadable
+member_unread key text none (Ok value) row = absurd (none row.0 row.1)
+member_unread key text none (Err Absent) row = absurd (none row.0 row.1)
+member_unread key text none (Err Ambiguous) row = ap Err row.0
+member_unread key text none (Err Underivable) row = ap Err row.0
+member_unread key text none (Err Unreadable) row = ap Err row.0
+member_unread key text none (Err NotAscii) row = ap Err row.0
+
+member_one : (key text : List ℕ) → HasSoleAnswer (MemberRow key text)
+member_one key text = elim (decided dict_judges text) [
+  | inl read ↦ record {
+    answer = member_answer (value_of read.0 key);
+    is = member_some key text read.0 read.1 (value_of read.0 key) refl;
+    only = member_read key text read.0 read.1;
+  }
+  | inr none ↦ record { answer = Err Unreadable; is = (refl, none); only = member_unread key text none }
+]
+
+key_one : (known : Option FieldKind) (key text : List ℕ) → HasSoleAnswer (KeyRow known key text)
+key_one (Some kind.Item) key text = the_answer (Err Unreadable)
+key_one (Some kind.List) key text = the_answer (Err Unreadable)
+key_one (Some kind.Dictionary) key text = member_one key text
+key_one None key text = member_one key text
+
+-- ---- fields
+
+form_one : (bs : Bool) (key : Option (List ℕ)) (sf : Bool) (known : Option FieldKind) (lines : List FieldLine) (name : List ℕ) → HasSoleAnswer (FormRow bs key sf known lines name)
+form_one true key sf known lines name = the_answer (Ok (byte_sequences (values lines name)))
+form_one false (Some key) sf known lines name = key_one known key (combined_value lines name)
+form_one false None true known lines name = kind_one known (combined_value lines name)
+form_one false None false known lines name = the_answer (plain_value (combined_value lines name))
+
+line_one : (there : Bool) (params : List (Pair BareItem)) (known : Option FieldKind) (lines : List FieldLine) (name : List ℕ) → HasSoleAnswer (LineRow there params known lines name)
+line_one false params known lines name = the_answer (Err Absent)
+line_one true params known lines name =
+    form_one (has_param params (codes "bs")) (member_key params) (has_param params (codes "sf")) known lines name
+
+-- ---- components
+
+name_one : (types : KindMap) (id : ComponentId) (message : Message) → HasSoleAnswer (NameRow true types id message)
+name_one types id message =
+    let lines = lines_on (side_of id.params) message in
+    line_one (is_there lines id.name) id.params (kind_in types id.name) lines id.name
+
+message_some : (message : Result Message Lack) (types : KindMap) (id : ComponentId) → is_field_name id.name ≡ true → (answer : Answer) × MessageRow message types id answer
+message_some (Err lack) types id named = (Err lack, refl)
+message_some (Ok message) types id named =
+    let row = name_one types id message in
+    (row.answer, subst (λ b. NameRow b types id message row.answer) (sym named) row.is)
+
+name_same : (named : Bool) (types : KindMap) (id : ComponentId) (message : Message) (one other : Answer) → NameRow named types id message one → NameRow named types id message other → one ≡ other
+name_same true types id message one other is also = same (name_one types id message) one other is also
+name_same false types id message one other is also = absurd is
+
+message_same : (message : Result Message Lack) (types : KindMap) (id : ComponentId) (one other : Answer) → MessageRow message types id one → MessageRow message types id other → one ≡ other
+message_same (Err lack) types id one other is also = is ∙ sym also
+message_same (Ok message) types id one other is also = name_same (is_field_name id.name) types id message one other is also
+
+one_answer : (context : MessageContext) (id : ComponentId) (one other : Answer) → ComesTo context id one → ComesTo context id other → one ≡ other
+one_answer context id one other is also = message_same (message_for context id.params) context.types id one other is also
+
+-- ---- the laws
+
+pub has_or_lacks : HasOrLacks
+has_or_lacks context id named = let some = message_some (message_for context id.params) context.types id named in by_answer some.0 some.1
+  where
+    by_answer : (answer : Answer) → ComesTo context id answer → ((value : List ℕ) × ComesTo context id (Ok value)) ⊎ ((lack : Lack) × ComesTo context id (Err lack))
+    by_answer (Ok value) is = inl (value, is)
+    by_answer (Err lack) is = inr (lack, is)
+
+pub has_one_value : HasOneValueOnly
+has_one_value context id value other is also = let e = one_answer context id (Ok value) (Ok other) is also in cc
+
+pub lacks_in_one_way : LacksInOneWay
+lacks_in_one_way context id lack other is also = let e = one_answer context id (Err lack) (Err other) is also in cc
+
+pub lacks_no_value : LacksNoValue
+lacks_no_value context id value lack is also = let e = one_answer context id (Ok value) (Err lack) is also in absurd cc

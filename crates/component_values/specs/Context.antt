@@ -1,0 +1,24 @@
+-- What the values of components are drawn from (RFC 9421 sections 1.1 and 2.4).
+use Rattle.std.specs.Prelude.{Option, option_map}
+use Rattle.msg_body.specs.Messages.{Message}
+use Rattle.msg_body.specs.Views.{message_of}
+use Rattle.component_ids.specs.Types.{KindMap}
+use Rattle.component_ids.specs.declared.scheme.Scheme.{Scheme}
+use Rattle.component_values.specs.declared.context.Context.{Context}
+
+-- the message that is signed, the request that it answers, the scheme that is configured, and the
+-- kinds of structured fields
+pub record MessageContext : Type 0 where
+  pub message : Message
+  pub related : Option Message
+  pub scheme : Scheme
+  pub types : KindMap
+
+-- what the borrowed parts stand for
+abbrev pub context_of : Context → MessageContext
+context_of context = record {
+  message = message_of context.message.now;
+  related = option_map (λ request. message_of request.now) context.related;
+  scheme = context.scheme;
+  types = context.types.now;
+}

@@ -1,0 +1,57 @@
+-- Laws of components and their values.
+use Rattle.std.specs.Prelude.{◌≡◌, ◌⊎◌, ℕ, Bool, ◌&&◌, not, IsTrue, IfSome, List, codes}
+use Rattle.std.specs.Char.{is_ascii}
+use Rattle.std.specs.List.{list_all}
+use Rattle.byte_classes.specs.Classes.{is_one_of}
+use Rattle.sfv_text.specs.Classes.{is_byte}
+use Rattle.msg_body.specs.Messages.{Message, Spells}
+use Rattle.component_ids.specs.Table.{is_field_name}
+use Rattle.component_ids.specs.declared.id.ComponentId.{ComponentId}
+use Rattle.component_values.specs.declared.lack.Lack.{Lack}
+use Rattle.component_values.specs.Context.{MessageContext}
+use Rattle.component_values.specs.Values.{Has, Lacks}
+
+-- a field component has a value, or lacks one
+abbrev pub HasOrLacks : Type 0
+HasOrLacks =
+    (context : MessageContext) (id : ComponentId) → IsTrue (is_field_name id.name)
+    → ((value : List ℕ) × Has context id value) ⊎ ((lack : Lack) × Lacks context id lack)
+
+-- it has one value
+abbrev pub HasOneValueOnly : Type 0
+HasOneValueOnly =
+    (context : MessageContext) (id : ComponentId) (value other : List ℕ)
+    → Has context id value → Has context id other → value ≡ other
+
+-- it lacks in one way
+abbrev pub LacksInOneWay : Type 0
+LacksInOneWay =
+    (context : MessageContext) (id : ComponentId) (lack other : Lack)
+    → Lacks context id lack → Lacks context id other → lack ≡ other
+
+-- where it has a value it doesn't lack one
+abbrev pub LacksNoValue : Type 0
+LacksNoValue =
+    (context : MessageContext) (id : ComponentId) (value : List ℕ) (lack : Lack)
+    → Has context id value → ¬ Lacks context id lack
+
+-- ASCII without NUL, CR and LF
+abbrev pub is_value_byte : ℕ → Bool
+is_value_byte c = is_ascii c && not (is_one_of (codes "\0\r\n") c)
+
+-- some bytes spell the message
+pub record IsSpelled (message : Message) : Type 0 where
+  pub text : List ℕ
+  pub are_bytes : IsTrue (list_all is_byte text)
+  pub spells : Spells message text
+
+-- what the values are drawn from are messages, which bytes spell
+pub record HasMessages (context : MessageContext) : Type 0 where
+  pub message : IsSpelled context.message
+  pub related : IfSome context.related IsSpelled
+
+-- no line of a signature base is broken by a value
+abbrev pub HasCleanValues : Type 0
+HasCleanValues =
+    (context : MessageContext) (id : ComponentId) (value : List ℕ) → HasMessages context
+    → Has context id value → IsTrue (list_all is_value_byte value)

@@ -1,0 +1,6 @@
+pub mod Context
+pub mod Values
+pub mod Words
+pub mod Laws
+pub mod Views
+pub mod tools

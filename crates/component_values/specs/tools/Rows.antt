@@ -1,0 +1,48 @@
+-- What the parts of the code answer. No public clause cites this module.
+use Rattle.std.specs.Prelude.{◌≡◌, ⊤, ℕ, List, Result, Ok, Err}
+use Rattle.msg_head.specs.Lines.{FieldLine}
+use Rattle.msg_body.specs.Views.{message_of, lines_on}
+use Rattle.field_values.specs.Values.{combined_value}
+use Rattle.component_values.specs.declared.lack.Lack.{Lack}
+use Rattle.sfv_read.specs.declared.error.SfError.{SfError}
+use Rattle.sfv_read.specs.declared.error.SfError.TheVariants as sf
+use Rattle.component_values.specs.declared.lack.Lack.TheVariants.{Unreadable}
+use Rattle.component_values.specs.declared.lack.NoValue.{NoValue}
+use Rattle.component_values.specs.declared.lack.NoValue.TheVariants.{Memory, Lacks}
+use Rattle.component_values.specs.declared.lack.ValueFault.{ValueFault}
+use Rattle.component_values.specs.declared.lack.ValueFault.TheVariants as fault
+use Rattle.component_values.specs.declared.lines.NamedLines.{NamedLines}
+use Rattle.component_values.specs.declared.lines.Value.{Value}
+use Rattle.component_values.specs.declared.lines.Value.TheVariants as kept
+
+-- why a text that isn't read gives no value
+abbrev pub no_value_of : SfError → NoValue
+no_value_of sf.Memory = Memory
+no_value_of (sf.Syntax offset) = Lacks Unreadable
+no_value_of (sf.ItemKind offset) = Lacks Unreadable
+
+-- the answer is what the row says, unless memory ran out
+abbrev pub AnswersRow : (Result (List ℕ) Lack → Type 0) → Result (List ℕ) NoValue → Type 0
+AnswersRow Row (Ok value) = Row (Ok value)
+AnswersRow Row (Err (Lacks lack)) = Row (Err lack)
+AnswersRow Row (Err Memory) = ⊤
+
+-- the lines among which those of the field are
+abbrev pub field_lines : NamedLines → List FieldLine
+field_lines field = lines_on field.side (message_of field.message.now)
+
+-- the text that a kept value stands for
+abbrev pub kept_text : Value → List ℕ
+kept_text (kept.Lines field) = combined_value (field_lines field) field.name.now
+kept_text (kept.Text text) = text
+
+-- the same of an answer that keeps the value
+abbrev pub KeepsRow : (Result (List ℕ) Lack → Type 0) → Result Value NoValue → Type 0
+KeepsRow Row (Ok value) = Row (Ok (kept_text value))
+KeepsRow Row (Err (Lacks lack)) = Row (Err lack)
+KeepsRow Row (Err Memory) = ⊤
+
+-- the fault of the component at the index
+abbrev pub lack_fault_at : ℕ → NoValue → ValueFault
+lack_fault_at index Memory = fault.Memory
+lack_fault_at index (Lacks lack) = fault.Lacks index lack

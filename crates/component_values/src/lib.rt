@@ -1,0 +1,29 @@
+//! The values of covered components, and how a component lacks one (RFC 9421 sections 2 to 2.4).
+//!
+//! The components of signature parameters are prepared once; then their values can be fed as often
+//! as is wanted, without memory.
+//!
+//! ```text
+//! let context = Context { message: &message, related: None, scheme: Scheme::Https, types: &types };
+//! let prepared = prepare(alloc, &context, &params)?; // Err(Lacks(0, Lack::Absent)), say
+//! prepared.feed(0, &mut hasher);                     // the first component's value
+//! ```
+#![tactic(auto)]
+
+mod context;
+mod covered;
+mod field;
+mod lack;
+mod laws;
+mod lines;
+mod prepared;
+mod strict;
+
+pub use context::Context;
+pub use covered::prepare;
+pub use lack::{Lack, ValueFault};
+pub use laws::components_have_one_answer;
+pub use prepared::Prepared;
+
+#[cfg(test)]
+mod tests;

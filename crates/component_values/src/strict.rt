@@ -1,0 +1,111 @@
+//! The strict texts of structured values.
+
+ghost use Rattle.std.specs.Prelude.{◌≡◌, ◌++◌, Option, Some, None, IsTrue, IfOk, OnOk};
+ghost use Rattle.sfv_text.specs.Range.{is_member_in_range};
+ghost use Rattle.sfv_text.specs.Strict.{item_text, list_text, dict_text, member_text, bytes_text};
+ghost use Rattle.sfv_read.specs.Reads.{ReadsItem, ReadsList, ReadsDict};
+ghost use Rattle.component_values.specs.Values.{StrictRow, KindRow, MemberRow, KeyRow};
+ghost use Rattle.component_values.specs.tools.Rows.{AnswersRow};
+
+use crate::lack::{Lack, NoValue};
+use component_ids::FieldKind;
+use sfv_read::{read_dict, read_item, read_list};
+use sfv_text::{
+    BareItem, Item, Member, Memory, Params, Text, print_dict, print_inner, print_item, print_list,
+};
+use std::alloc::Global;
+
+/// Adds the bytes as a Byte Sequence (RFC 9651 section 4.1.8).
+pub(crate) fn append_byte_sequence(
+    alloc: Global,
+    bytes: &[u8],
+    text: &mut Text,
+) -> Result<(), Memory>
+    ensures { OnOk result (text.new ≡ text.old ++ bytes_text bytes.now) }
+{
+    let item = Item {
+        bare: BareItem::Bytes(Text::from_bytes(alloc, bytes)?),
+        params: Params::new(alloc),
+    };
+    let printed = print_item(alloc, &item)?;
+    text.append(printed.bytes())
+}
+
+#[tactic(auto, using(crate::proofs::Unread::unread))]
+fn strict_item(alloc: Global, text: &[u8]) -> Result<Text, NoValue>
+    ensures { AnswersRow (StrictRow ReadsItem item_text text.now) result }
+{
+    let item = read_item(alloc, text)?;
+    Ok(print_item(alloc, &item)?)
+}
+
+#[tactic(auto, using(crate::proofs::Unread::unread))]
+fn strict_list(alloc: Global, text: &[u8]) -> Result<Text, NoValue>
+    ensures { AnswersRow (StrictRow ReadsList list_text text.now) result }
+{
+    let list = read_list(alloc, text)?;
+    Ok(print_list(alloc, &list)?)
+}
+
+#[tactic(auto, using(crate::proofs::Unread::unread))]
+fn strict_dict(alloc: Global, text: &[u8]) -> Result<Text, NoValue>
+    ensures { AnswersRow (StrictRow ReadsDict dict_text text.now) result }
+{
+    let dict = read_dict(alloc, text)?;
+    Ok(print_dict(alloc, &dict)?)
+}
+
+/// The strict text of what the text reads as, by the kind of its field.
+pub(crate) fn strict_value(
+    alloc: Global,
+    kind: Option<FieldKind>,
+    text: &[u8],
+) -> Result<Text, NoValue>
+    ensures { AnswersRow (KindRow kind text.now) result }
+{
+    match kind {
+        Some(FieldKind::Item) => strict_item(alloc, text),
+        Some(FieldKind::List) => strict_list(alloc, text),
+        Some(FieldKind::Dictionary) => strict_dict(alloc, text),
+        None => Err(NoValue::Lacks(Lack::Unreadable)),
+    }
+}
+
+fn print_member(alloc: Global, member: &Member) -> Result<Text, Memory>
+    requires { IsTrue (is_member_in_range member.now) }
+    ensures { IfOk result (λ text. text ≡ member_text member.now) }
+{
+    match member {
+        Member::Item(item) => print_item(alloc, item),
+        Member::InnerList(list) => print_inner(alloc, list),
+    }
+}
+
+/// The strict text of the member of the key.
+#[tactic(auto, using(crate::proofs::Unread::no_member, crate::proofs::Unread::member_in_range))]
+fn strict_member(alloc: Global, key: &[u8], text: &[u8]) -> Result<Text, NoValue>
+    ensures { AnswersRow (MemberRow key.now text.now) result }
+{
+    let dict = read_dict(alloc, text)?;
+    match dict.find(key) {
+        Some(member) => Ok(print_member(alloc, member)?),
+        None => Err(NoValue::Lacks(Lack::Absent)),
+    }
+}
+
+/// The strict text of the member of the key, by the kind of the text's field.
+pub(crate) fn member_value(
+    alloc: Global,
+    kind: Option<FieldKind>,
+    key: &[u8],
+    text: &[u8],
+) -> Result<Text, NoValue>
+    ensures { AnswersRow (KeyRow kind key.now text.now) result }
+{
+    match kind {
+        Some(FieldKind::Item) => Err(NoValue::Lacks(Lack::Unreadable)),
+        Some(FieldKind::List) => Err(NoValue::Lacks(Lack::Unreadable)),
+        Some(FieldKind::Dictionary) => strict_member(alloc, key, text),
+        None => strict_member(alloc, key, text),
+    }
+}

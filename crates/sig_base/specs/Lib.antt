@@ -1,0 +1,2 @@
+pub mod SignatureBase
+pub mod tools
