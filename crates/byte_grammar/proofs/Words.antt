@@ -18,3 +18,7 @@ unfolding word_read all_read
 word_cut first others bytes c n rest e is =
     let prefix : 1 + n ≡ suc n = omega arith in
     rw (e, prefix, byte_stands first bytes c rest e, is) refl
+
+pub word_err : (first others : ℕ → Bool) (bytes : List ℕ) (n : ℕ) → byte_read first bytes ≡ Err n → word_read first others bytes ≡ Err n
+unfolding word_read
+word_err first others bytes n e = rw e refl

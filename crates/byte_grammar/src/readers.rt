@@ -103,7 +103,7 @@ pub fn starts_with<C: ByteClass>(class: C, bytes: &[u8]) -> bool
 }
 
 /// Reads a byte of the first class, and as many bytes of the second as there are after it.
-#[tactic(auto, unfolding(crate::specs::Walk::word_read))]
+#[tactic(auto, using(crate::proofs::Words::word_cut, crate::proofs::Words::word_err))]
 pub fn read_word<C: ByteClass, D: ByteClass>(
     first: C,
     others: D,

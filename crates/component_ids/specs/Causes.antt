@@ -1,5 +1,6 @@
 -- When an Inner List is no signature parameters, and for what fault (RFC 9421 sections 2 and 2.3).
-use Rattle.std.specs.Prelude.{◌≡◌, ◌<◌, ℕ, not, Some, IsSomeAnd, IsTrue, Any, List, length, map, take, slice_get}
+use Rattle.std.specs.Prelude.{◌≡◌, ◌<◌, ℕ, not, Some, IsSomeAnd, IsTrue, Any, List, ◌++◌, length, map, take, slice_get, codes}
+use Rattle.std.specs.Fmt.{decimal}
 use Rattle.std.specs.List.{find, list_all}
 use Rattle.byte_grammar.specs.Causes.{IsFirst}
 use Rattle.sfv_text.specs.declared.pair.Pair.{Pair}
@@ -12,7 +13,7 @@ use Rattle.component_ids.specs.declared.fault.IdFault.TheVariants.{Memory, TooMa
 use Rattle.component_ids.specs.declared.id.ComponentId.{ComponentId}
 use Rattle.component_ids.specs.declared.params.TheConstants.{MAX_COMPONENTS}
 use Rattle.component_ids.specs.Identifiers.{id_of, is_identifier, IsSameId, AreDistinct}
-use Rattle.component_ids.specs.Reasons.{reason_of}
+use Rattle.component_ids.specs.Reasons.{reason_of, word_of}
 use Rattle.component_ids.specs.SignatureParams.{is_typed}
 
 -- the first item that is no identifier stands at the index, and this is the least reason
@@ -49,3 +50,13 @@ id_order Memory = 4
 -- the fault's cause is the first that holds
 abbrev pub IsIdFault : InnerList → IdFault → Type 0
 IsIdFault list fault = IsFirst id_order (IsCause list) fault
+
+-- what a fault says
+abbrev pub id_fault_text : IdFault → List ℕ
+id_fault_text Memory = codes "out of memory"
+id_fault_text TooMany = codes "more than " ++ (decimal MAX_COMPONENTS ++ codes " components")
+id_fault_text (BadComponent index reason) =
+    codes "the item at index " ++ (decimal index ++ (codes " is no component: " ++ word_of reason))
+id_fault_text (Repeated index) =
+    codes "the component at index " ++ (decimal index ++ codes " is repeated")
+id_fault_text (BadParameter key) = codes "a parameter has a value of a wrong type"

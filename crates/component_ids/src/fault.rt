@@ -42,6 +42,11 @@ impl BadReason {
 }
 
 impl fmt::Display for BadReason {
+    ghost use Rattle.std.specs.Prelude.{Some};
+    ghost use Rattle.component_ids.specs.Reasons.{word_of};
+
+    ghost output = { λ reason. Some (word_of reason) };
+
     fn fmt<W: fmt::Write>(&self, f: &mut fmt::Formatter<W>) -> fmt::Result {
         f.write_str(self.word())
     }
@@ -66,6 +71,11 @@ pub enum IdFault {
 }
 
 impl fmt::Display for IdFault {
+    ghost use Rattle.std.specs.Prelude.{Some};
+    ghost use Rattle.component_ids.specs.Causes.{id_fault_text};
+
+    ghost output = { λ fault. Some (id_fault_text fault) };
+
     fn fmt<W: fmt::Write>(&self, f: &mut fmt::Formatter<W>) -> fmt::Result {
         match self {
             IdFault::Memory => f.write_str("out of memory"),

@@ -14,7 +14,7 @@ use byte_grammar::{Left, read_byte, read_run, starts_with};
 use sfv_text::BareItem;
 
 /// Reads an optional minus and 1 to 15 digits, or 1 to 12 digits, a point and 1 to 3 digits.
-#[tactic(auto, unfolding(crate::specs::tools::BareWalk::number_read))]
+#[tactic(auto, unfolding(crate::specs::tools::BareWalk::number_read), using(crate::proofs::Digits::pow_room))]
 pub fn read_number(bytes: &[u8]) -> Result<(BareItem, &[u8]), Left>
     ensures { Gives (λ x. (x.0, x.1.now)) result (number_read bytes.now) }
 {

@@ -101,6 +101,7 @@ pub fn read_separated<S: Separated>(alloc: Global, bytes: &[u8]) -> Result<(S, &
 }
 
 /// Reads members separated by commas, and blanks after the last.
+#[tactic(auto, using(crate::proofs::SeparatedTexts::members_first))]
 fn read_members<S: Separated>(alloc: Global, bytes: &[u8]) -> Result<(S, &[u8]), PartError>
     ensures { GivesUnlessMemory (λ x. (x.0, x.1.now)) result
         (with_state S.with_part S.nothing (members_read S.reading bytes.now)) }

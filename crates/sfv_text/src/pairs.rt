@@ -108,7 +108,7 @@ impl<V: Drop> Pairs<V> {
 
     /// Replaces the value of the key where it stands, or adds the pair at the end. Out of memory,
     /// the key and the value are dropped.
-    #[tactic(auto, using(crate::proofs::PutLaws::none_has, crate::proofs::PutLaws::put_new))]
+    #[tactic(auto, using(crate::proofs::PutLaws::none_has, crate::proofs::PutLaws::put_new, crate::proofs::PutLaws::put_found, crate::proofs::PutLaws::put_found_distinct, crate::proofs::PutLaws::put_new_distinct))]
     pub fn put(&mut self, key: Text, value: V) -> Result<(), Memory>
         ensures ok { OnOk result (self.new ≡ put self.old key value) }
         ensures err { OnErr result (self.new ≡ self.old) }

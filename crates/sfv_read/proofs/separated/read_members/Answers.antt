@@ -3,7 +3,7 @@ use Rattle.std.proofs.lemmas.Result.{err_from_is_err_and}
 use Rattle.byte_grammar.specs.tools.Walks.{turns_read, with_state}
 use Rattle.byte_grammar.proofs.Loops.{state_last, state_err, state_more, some_next}
 use Rattle.sfv_read.specs.tools.MemberWalk.{next_member_read}
-use Rattle.sfv_read.proofs.SeparatedTexts.{members_err, members_first}
+use Rattle.sfv_read.proofs.SeparatedTexts.{members_err}
 use Rattle.sfv_read.proofs.Stopping.{stops_more}
 use Rattle.sfv_read.proofs.separated.read_members.Goals as goal
 
@@ -16,12 +16,6 @@ pub returns-in_err-first : goal.returns-in_err-first
 returns-in_err-first g c =
     let p = err_from_is_err_and c.from_residual.result c.from_residual.ensures.1 in
     rw (p.1, p.2) (stops_more _ _ _ (members_err g.S.Separated.with_part g.S.Separated.nothing g.S.Separated.reading c.args.bytes.now) c.in_err-first.ensures)
-
-pub members-init : goal.members-init
-members-init g c =
-    ap (λ s. with_state g.S.Separated.with_part s (turns_read (next_member_read g.S.Separated.reading) c.in_ok-first.after.now))
-    (c.in_ok-add.ensures ∙ ap (λ s. g.S.Separated.with_part s c.in_ok-first.first) c.empty-members.ensures.nothing)
-    ∙ members_first g.S.Separated.with_part g.S.Separated.nothing g.S.Separated.reading c.args.bytes.now c.in_ok-first.first c.in_ok-first.after.now c.in_ok-first.ensures
 
 pub returns-in-None : goal.returns-in-None
 returns-in-None g c = state_last g.S.Separated.with_part (next_member_read g.S.Separated.reading) c.empty-members.ensures.loops c.members.members c.members.rest.now _ c.members.invariant _ (some_next _ _ _ _ c.in_ok-next.ensures c.in-None.is)
