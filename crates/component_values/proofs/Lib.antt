@@ -1,6 +1,5 @@
 mod Below
 mod FirstLacks
-mod ListLaws
 mod RowLaws
 mod CleanLaws
 mod Sequences
