@@ -9,3 +9,4 @@ pub mod Words
 pub mod Indices
 pub mod CauseLaws
 pub mod OffsetLaws
+pub mod ListLaws

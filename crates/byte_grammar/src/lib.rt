@@ -36,6 +36,13 @@
 //! - `OffsetLaws`: of one language and text two fault offsets are one (`one_offset`); a prefix of
 //!   what begins a text begins it too (`begins_shorter`).
 //! - `CauseLaws`: of causes that are judged in an order at most one is the first (`first_is_one`).
+//! - `ListLaws`: a test that each element passes, of lists that are joined, or parts of one
+//!   (`all_joined`, `all_parts`, `all_reverse`, `all_filter`), of another test (`all_implied`,
+//!   `all_both`), of the lists of each element (`all_flat`, `all_separated`), and of the parts
+//!   between ends (`all_split`).
+//! - `Indices`: what holds at an index (`all_at`, `slice_get_take`), the first element that fails
+//!   (`find_failed`, `find_none`, `none_fails`), and the facts of a value that is there
+//!   (`some_and`, `some_and_at`, `some_and_parts`).
 #![tactic(auto)]
 
 mod readers;

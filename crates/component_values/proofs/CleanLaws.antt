@@ -40,7 +40,7 @@ use Rattle.component_values.specs.declared.lack.Lack.TheVariants.{Absent, Underi
 use Rattle.component_values.specs.Context.{MessageContext}
 use Rattle.component_values.specs.Laws.{is_value_byte, IsSpelled, HasMessages, HasCleanValues}
 use Rattle.component_values.specs.Values.{StrictRow, KindRow, MemberRow, KeyRow, plain_value, byte_sequences, member_key, FormRow, LineRow, side_of, related_message, message_for, NameRow, MessageRow}
-use Rattle.component_values.proofs.ListLaws.{all_joined, all_parts, all_reverse, all_filter, all_more, all_both, all_flat, all_separated, all_split}
+use Rattle.byte_grammar.proofs.ListLaws.{all_joined, all_parts, all_reverse, all_filter, all_implied, all_both, all_flat, all_separated, all_split}
 
 abbrev IsClean : List ℕ → Type 0
 IsClean text = list_all is_value_byte text ≡ true
@@ -51,7 +51,7 @@ printable : (c : ℕ) → is_string_byte c ≡ true → is_value_byte c ≡ true
 printable c is = grind (arith, nat_tests)
 
 printed : (text : List ℕ) → list_all is_string_byte text ≡ true → IsClean text
-printed text is = all_more is_string_byte is_value_byte printable text is
+printed text is = all_implied is_string_byte is_value_byte printable text is
 
 strict_clean : {V : Type 0} (Reads : List ℕ → V → Type 0) (test : V → Bool) (text_of : V → List ℕ) → ReadsOnly Reads test → ((v : V) → test v ≡ true → list_all is_string_byte (text_of v) ≡ true)
     → (text value : List ℕ) → StrictRow Reads text_of text (Ok value) → IsClean value
@@ -105,7 +105,7 @@ no_end : (c : ℕ) → is_raw_byte c ≡ true → is_end c ≡ false → is_text
 no_end c is goes = grind (arith, nat_tests)
 
 line_without_nul : (text : List ℕ) → list_all is_line_byte text ≡ true → list_all (λ c. not (0 == c)) text ≡ true
-line_without_nul text is = all_more is_line_byte (λ c. not (0 == c)) no_nul text is
+line_without_nul text is = all_implied is_line_byte (λ c. not (0 == c)) no_nul text is
 
 fold_without_nul : (fold : List ℕ) → is_fold fold ≡ true → list_all (λ c. not (0 == c)) (fold_text fold) ≡ true
 fold_without_nul fold is = line_without_nul fold (and_parts _ (list_all is_line_byte fold) is).1
@@ -132,14 +132,14 @@ trimmed text all =
 line_value : (line : FieldLine) → has_raw_bytes line ≡ true → list_all is_text_byte (value line.raw) ≡ true
 line_value line all =
     let parts = slice_split is_end line.raw in
-    let texts = list_all-map (list_all is_text_byte) without_blanks parts ∙ all_more (list_all is_text_byte) (λ part. list_all is_text_byte (without_blanks part)) trimmed parts
+    let texts = list_all-map (list_all is_text_byte) without_blanks parts ∙ all_implied (list_all is_text_byte) (λ part. list_all is_text_byte (without_blanks part)) trimmed parts
     (all_split is_text_byte is_end is_raw_byte no_end line.raw all) in
     all_separated is_text_byte (λ text. text) (codes " ") (list_all is_text_byte) refl (λ text is. is) (texts_of line.raw) (all_filter (list_all is_text_byte) has_bytes (map without_blanks parts) texts)
 
 values_texts : (lines : List FieldLine) (name : List ℕ) → list_all has_raw_bytes lines ≡ true → list_all (list_all is_text_byte) (values lines name) ≡ true
 values_texts lines name all =
     let named = filter (has_name name) lines in
-    list_all-map (list_all is_text_byte) (λ line. value line.raw) named ∙ all_more has_raw_bytes (λ line. list_all is_text_byte (value line.raw)) line_value named (all_filter has_raw_bytes (has_name name) lines all)
+    list_all-map (list_all is_text_byte) (λ line. value line.raw) named ∙ all_implied has_raw_bytes (λ line. list_all is_text_byte (value line.raw)) line_value named (all_filter has_raw_bytes (has_name name) lines all)
 
 combined : (lines : List FieldLine) (name : List ℕ) → list_all has_raw_bytes lines ≡ true → list_all is_text_byte (combined_value lines name) ≡ true
 combined lines name all = all_separated is_text_byte (λ text. text) (codes ", ") (list_all is_text_byte) refl (λ text is. is) (values lines name) (values_texts lines name all)
@@ -147,7 +147,7 @@ combined lines name all = all_separated is_text_byte (λ text. text) (codes ", "
 -- ---- fields
 
 byte_sequence : (text : List ℕ) → list_all is_text_byte text ≡ true → list_all is_string_byte (bytes_text text) ≡ true
-byte_sequence text all = bare_is (Bytes text) (all_more is_text_byte is_byte (λ c is. (and_parts (is_byte c) (is_line_byte c) is).0) text all)
+byte_sequence text all = bare_is (Bytes text) (all_implied is_text_byte is_byte (λ c is. (and_parts (is_byte c) (is_line_byte c) is).0) text all)
 
 sequences_clean : (texts : List (List ℕ)) → list_all (list_all is_text_byte) texts ≡ true → IsClean (byte_sequences texts)
 sequences_clean texts all = printed (byte_sequences texts) (all_separated is_string_byte bytes_text (codes ", ") (list_all is_text_byte) refl byte_sequence texts all)
@@ -158,7 +158,7 @@ value_byte c is = grind (arith, nat_tests)
 plain_clean : (text value : List ℕ) → list_all is_text_byte text ≡ true → Ok value ≡ plain_value text → IsClean value
 plain_clean text value all row = elim (cases_Bool (list_all is_ascii text)) [
   | inl ascii ↦ let is : Ok value ≡ Ok text = rw ascii at row in let same : value ≡ text = cc in rw same
-      (all_more (λ c. is_ascii c && is_text_byte c) is_value_byte value_byte text (all_both is_ascii is_text_byte text ascii all))
+      (all_implied (λ c. is_ascii c && is_text_byte c) is_value_byte value_byte text (all_both is_ascii is_text_byte text ascii all))
   | inr other ↦ let is : Ok value ≡ Err NotAscii = rw other at row in absurd cc
 ]
 

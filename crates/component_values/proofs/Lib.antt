@@ -1,6 +1,5 @@
 mod Below
 pub mod FirstLacks
-mod ListLaws
 pub mod RowLaws
 mod CleanLaws
 mod Sequences

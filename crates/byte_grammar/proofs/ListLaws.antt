@@ -28,11 +28,11 @@ module _ {X : Type 0} (p : X → Bool) where
         | inr gone ↦ rw gone (all_filter keep xs both.1)
       ]
 
-  pub all_more : (q : X → Bool) → ((x : X) → p x ≡ true → q x ≡ true) → (xs : List X) → list_all p xs ≡ true → list_all q xs ≡ true
-  all_more q more [] all = refl
-  all_more q more (x ∷ xs) all =
+  pub all_implied : (q : X → Bool) → ((x : X) → p x ≡ true → q x ≡ true) → (xs : List X) → list_all p xs ≡ true → list_all q xs ≡ true
+  all_implied q more [] all = refl
+  all_implied q more (x ∷ xs) all =
       let both = and_parts (p x) (list_all p xs) all in
-      and_from (q x) (list_all q xs) (more x both.0) (all_more q more xs both.1)
+      and_from (q x) (list_all q xs) (more x both.0) (all_implied q more xs both.1)
 
   pub all_both : (q : X → Bool) (xs : List X) → list_all p xs ≡ true → list_all q xs ≡ true → list_all (λ x. p x && q x) xs ≡ true
   all_both q [] a b = refl
