@@ -6,6 +6,7 @@ use Rattle.std.proofs.Math.Seq.{get_or-append_seam, take-append_seam}
 use Rattle.std.proofs.lemmas.Bool.{and_parts, cases_order, eq-eqb, eqb-true, false≢true}
 use Rattle.std.proofs.lemmas.List.{append_cancel_left}
 use Rattle.std.proofs.lemmas.List.Folds.{list_all_at}
+use Rattle.byte_grammar.specs.Language.{starts_in}
 use Rattle.memchr.specs.Find.{IsFirstByte, is_byte}
 use Rattle.msg_head.specs.tools.Prefixes.{StandsBefore}
 
@@ -60,6 +61,18 @@ first_end test end prefix more bytes (Some k) out s h =
 -- so the bytes before that offset are the prefix
 pub prefix_at : (test : ℕ → Bool) (end : ℕ) (prefix more bytes : List ℕ) (k : ℕ) → StandsBefore test (end ∷ []) prefix more bytes → k ≡ length prefix → take k bytes ≡ prefix
 prefix_at test end prefix more bytes k s same = ap (λ n. take n bytes) same ∙ ap (λ (t : List ℕ). take (length prefix) t) s.joined ∙ take-append_seam prefix (end ∷ more)
+
+-- where a byte of the class doesn't stand first in the rest, the rest begins at the end
+pub at_end_of_prefix : (test : ℕ → Bool) (end : ℕ) (one other rest more : List ℕ) → test end ≡ false → list_all test one ≡ true → list_all test other ≡ true → starts_in test rest ≡ false → one ++ rest ≡ other ++ end ∷ more → rest ≡ end ∷ more
+at_end_of_prefix test end [] [] rest more out f o none e = e
+at_end_of_prefix test end [] (y ∷ ys) [] more out f o none e = absurd cc
+at_end_of_prefix test end [] (y ∷ ys) (c ∷ cs) more out f o none e =
+    let first : c ≡ y = cc in absurd (outside test y c (and_parts _ _ o).0 none (sym first))
+at_end_of_prefix test end (x ∷ xs) [] rest more out f o none e =
+    let first : x ≡ end = cc in absurd (outside test x end (and_parts _ _ f).0 out first)
+at_end_of_prefix test end (x ∷ xs) (y ∷ ys) rest more out f o none e =
+    let left : xs ++ rest ≡ ys ++ end ∷ more = cc in
+    at_end_of_prefix test end xs ys rest more out (and_parts _ _ f).1 (and_parts _ _ o).1 none left
 
 -- what is so of no answer, and of an answer, by cases
 pub given_none : {X : Type 0} {P : Type 0} (found : Option X) → P → IfNone found P

@@ -12,8 +12,9 @@ ghost use Rattle.msg_head.specs.tools.Sections.{IsRestOf, AreSpansOf, IsLinesFau
 
 use crate::error::{HeadError, Side};
 use crate::limits::MAX_HEAD_LINES;
+use crate::raw::NameByte;
 use crate::slices::{begins_with_crlf, prefix_before, rest_after, rest_from};
-use byte_classes::{Class, is_blank};
+use byte_classes::is_blank;
 use memchr::memchr;
 use std::alloc::Global;
 
@@ -85,7 +86,7 @@ fn read_line(bytes: &[u8]) -> Option<(LineView<'_>, &[u8])>
         → MatchOption result (MakesNoLine cut)
         (λ parts. ReadsLine cut more (field_line_of parts.0) parts.1.now) }
 {
-    let (name, after_name) = prefix_before(Class::Tchar, b':', bytes)?;
+    let (name, after_name) = prefix_before(NameByte, b':', bytes)?;
     if name.is_empty() {
         return None;
     }
