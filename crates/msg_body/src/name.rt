@@ -1,6 +1,6 @@
 //! Names of fields.
 
-ghost use Rattle.std.specs.Prelude.{◌≡◌, ℕ, List};
+ghost use Rattle.std.specs.Prelude.{◌≡◌};
 ghost use Rattle.std.specs.Str.{bytes_eq, str_to_ascii_lowercase};
 ghost use Rattle.msg_head.specs.Views.{field_line_of};
 ghost use Rattle.msg_body.specs.Names.{has_name};

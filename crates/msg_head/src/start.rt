@@ -1,6 +1,6 @@
 //! Start lines.
 
-ghost use Rattle.std.specs.Prelude.{◌≡◌, ◌++◌, IfSome, IfNone, IsTrue, List, ℕ, option_map, Option};
+ghost use Rattle.std.specs.Prelude.{◌≡◌, IfSome, IfNone, option_map};
 ghost use Rattle.msg_head.specs.Starts.{is_version, is_code};
 ghost use Rattle.msg_head.specs.Views.{start_line_of};
 ghost use Rattle.msg_head.specs.tools.Prefixes.{BeginsWithStart, BeginsWithNoStart, BeginsWithRequest, BeginsWithNoRequest, BeginsWithStatus, BeginsWithNoStatus, IsCodeAndReason, NoCodeAndReason};

@@ -1,5 +1,5 @@
 use Rattle.std.proofs.Common.{sym, ◌∙◌}
-use Rattle.msg_head.proofs.Prefixes.{at_end_of_prefix, given_none}
+use Rattle.msg_head.proofs.Prefixes.{at_end_of_prefix}
 use Rattle.msg_head.proofs.slices.prefix_before.Goals as goal
 
 pub returns-else-first-end-clause-none : goal.returns-else-first-end-clause-none
