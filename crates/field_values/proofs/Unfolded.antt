@@ -1,6 +1,6 @@
 -- The value of a raw value, by its pieces.
-use Rattle.std.proofs.Common.{◌≡◌, ◌⊎◌, ℕ, Bool, true, false, ◌==◌, not, List, [], ◌∷◌, ◌++◌, refl, sym, subst, ◌∙◌, ap, inl, inr, append_assoc, if◌then◌else◌, ◌↔◌}
-use Rattle.std.specs.Prelude.{map, filter, reverse, codes, IsTrue}
+use Rattle.std.proofs.Common.{◌≡◌, ℕ, true, false, ◌==◌, not, List, [], ◌∷◌, ◌++◌, refl, sym, subst, ◌∙◌, ap, inl, inr, if◌then◌else◌, ◌↔◌}
+use Rattle.std.specs.Prelude.{map, filter, reverse, codes}
 use Rattle.std.specs.List.{list_all, flat_map, join_by}
 use Rattle.std.proofs.lemmas.Bool.{cases_Bool, false≢true, and_parts, and_from, or_cases, eqb-true}
 use Rattle.std.proofs.lemmas.List.{append-nil, reverse-append, reverse-reverse}
