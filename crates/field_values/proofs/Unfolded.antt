@@ -1,6 +1,6 @@
 -- The value of a raw value, by its pieces.
-use Rattle.std.proofs.Common.{◌≡◌, ◌⊎◌, ℕ, Bool, true, false, ◌==◌, not, List, [], ◌∷◌, ◌++◌, refl, sym, ◌∙◌, ap, inl, inr, append_assoc, if◌then◌else◌, ◌↔◌}
-use Rattle.std.specs.Prelude.{map, filter, reverse, codes, IsTrue}
+use Rattle.std.proofs.Common.{◌≡◌, ℕ, true, false, ◌==◌, not, List, [], ◌∷◌, ◌++◌, refl, sym, subst, ◌∙◌, ap, inl, inr, if◌then◌else◌, ◌↔◌}
+use Rattle.std.specs.Prelude.{map, filter, reverse, codes}
 use Rattle.std.specs.List.{list_all, flat_map, join_by}
 use Rattle.std.proofs.lemmas.Bool.{cases_Bool, false≢true, and_parts, and_from, or_cases, eqb-true}
 use Rattle.std.proofs.lemmas.List.{append-nil, reverse-append, reverse-reverse}
@@ -8,8 +8,8 @@ use Rattle.std.proofs.lemmas.List.Folds.{list_all-append}
 use Rattle.byte_classes.specs.Classes.{is_blank}
 use Rattle.byte_grammar.specs.Language.{starts_in}
 use Rattle.msg_head.specs.RawValues.{RawPieces, is_line_byte, is_fold, are_pieces, fold_text, pieces_text}
-use Rattle.field_values.specs.Values.{is_end, without_first_blanks, without_blanks, has_bytes, texts_of, value}
-use Rattle.field_values.specs.Laws.{IsTrimmed, AreTrimmed, IsUnfolded, ValueIsUnfolded}
+use Rattle.field_values.specs.Values.{IsTrimmed, AreTrimmed, IsValue, is_end, without_first_blanks, without_blanks, has_bytes, texts_of, value}
+use Rattle.field_values.specs.Laws.{OneValue}
 use Rattle.field_values.proofs.TextLaws.{kept, after_line, Stops, line_then, texts_after, texts_end}
 
 -- ---- blanks at the ends
@@ -127,8 +127,8 @@ texts_are pieces texts are is =
     let both = and_parts (list_all is_line_byte pieces.first) (list_all is_fold pieces.folds) are in
     texts_of_pieces pieces.first pieces.folds texts both.0 both.1 is
 
-pub value_is_unfolded : ValueIsUnfolded
-value_is_unfolded pieces are unfolded = (
+value_of_pieces : (pieces : RawPieces) → are_pieces pieces ≡ true → (text : List ℕ) → (IsValue (pieces_text pieces) text) ↔ (text ≡ value (pieces_text pieces))
+value_of_pieces pieces are text = (
   λ is. is.value_is ∙ ap (join_by (λ text. text) (codes " ")) (sym (texts_are is.pieces is.texts is.are is.texts_are)) ∙ ap value (sym is.joined),
   λ same. record {
     pieces = pieces;
@@ -138,4 +138,10 @@ value_is_unfolded pieces are unfolded = (
     texts_are = are_texts (pieces.first ∷ pieces.folds);
     value_is = same ∙ ap (join_by (λ text. text) (codes " ")) (texts_are pieces (map without_blanks (pieces.first ∷ pieces.folds)) are (are_texts (pieces.first ∷ pieces.folds)));
   },
+)
+
+pub one_value : OneValue
+one_value raw text is = (
+  λ v. (value_of_pieces is.0 is.1 text).0 (subst (λ (x : List ℕ). IsValue x text) is.2 v) ∙ ap value (sym is.2),
+  λ same. subst (λ (x : List ℕ). IsValue x text) (sym is.2) ((value_of_pieces is.0 is.1 text).1 (same ∙ ap value is.2)),
 )

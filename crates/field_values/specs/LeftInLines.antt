@@ -1,5 +1,5 @@
 -- What an iterator over the pieces of a line's value has left.
-use Rattle.std.specs.Prelude.{ℕ, ◌+◌, ◌*◌, Bool, List, ◌++◌, if◌then◌else◌, length, codes}
+use Rattle.std.specs.Prelude.{ℕ, ◌+◌, ◌*◌, List, ◌++◌, if◌then◌else◌, length, codes}
 use Rattle.std.specs.List.{flat_map, join_by}
 use Rattle.field_values.specs.declared.pieces.Pieces.{Pieces}
 use Rattle.field_values.specs.Values.{texts_of}

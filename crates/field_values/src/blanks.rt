@@ -1,7 +1,6 @@
 //! Blanks and line ends around the texts of a raw value.
 
-ghost use Rattle.std.specs.Prelude.{◌≡◌, ◌<◌, ◌≤◌, [], ◌∷◌, ◌++◌, length, reverse, not, IsTrue, IfSome, IfNone};
-ghost use Rattle.std.specs.List.{list_all};
+ghost use Rattle.std.specs.Prelude.{◌≡◌, ◌<◌, ◌≤◌, [], ◌∷◌, length, reverse, IsTrue, IfSome, IfNone};
 ghost use Rattle.byte_grammar.specs.Language.{starts_in};
 ghost use Rattle.field_values.specs.Values.{is_end, without_first_blanks, texts_of};
 ghost use Rattle.field_values.specs.tools.Walks.{is_solid, IsLineBefore};

@@ -1,10 +1,9 @@
 //! Laws of values.
 
-ghost use Rattle.field_values.specs.Laws.{ValueIsUnfolded};
+ghost use Rattle.field_values.specs.Laws.{OneValue};
 
-/// The law of values: where a raw value is pieces that folds join, the texts of the pieces without
-/// the blanks at their ends, those that are not empty, joined by one space, are the line's value,
-/// and no other text is.
+/// The law of values: a line's raw value has one value, which is the texts of its pieces without the
+/// blanks at their ends, those that are not empty, joined by one space.
 pub fn value_laws()
-    ensures unfolded { ValueIsUnfolded }
+    ensures value { OneValue }
 {}

@@ -1,7 +1,7 @@
 -- Out of memory aside, the answer to bytes is one.
-use Rattle.std.proofs.Common.{◌≡◌, ◌⊎◌, ℕ, Bool, true, false, List, refl, sym, ap, subst, ◌∙◌, inl, inr, IsTrue, IsFalse}
+use Rattle.std.proofs.Common.{◌≡◌, ◌⊎◌, ℕ, true, false, List, refl, sym, ap, subst, ◌∙◌, inl, inr}
 use Rattle.std.proofs.lemmas.Bool.{false≢true}
-use Rattle.msg_head.specs.Heads.{Head, SpellsHead, IsUnfinished}
+use Rattle.msg_head.specs.Heads.{Head, IsUnfinished}
 use Rattle.msg_head.specs.Causes.{IsHeadError}
 use Rattle.msg_head.specs.declared.error.HeadError.{HeadError}
 use Rattle.msg_head.specs.declared.error.HeadError.TheVariants as head

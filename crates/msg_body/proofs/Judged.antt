@@ -1,6 +1,6 @@
 -- What is answered to bytes, from what the reader of heads answers.
-use Rattle.std.proofs.Common.{◌≡◌, ◌≢◌, ◌⊎◌, ℕ, Bool, true, false, IsTrue, IsFalse, List, [], ◌++◌, refl, sym, ◌∙◌, ap, inl, inr, Ok, Err, append-nil}
-use Rattle.std.specs.Prelude.{Result, take}
+use Rattle.std.proofs.Common.{◌≡◌, ◌≢◌, ◌⊎◌, ℕ, Bool, true, false, IsTrue, IsFalse, List, refl, sym, ◌∙◌, ap, inl, inr, Ok, Err, append-nil}
+use Rattle.std.specs.Prelude.{Result}
 use Rattle.std.specs.Result.{IsErrAnd}
 use Rattle.msg_head.specs.declared.head.HeadRead.{HeadRead}
 use Rattle.msg_head.specs.declared.head.HeadRead.TheVariants as read
@@ -15,11 +15,10 @@ use Rattle.msg_body.specs.declared.framing.Framing.{Framing}
 use Rattle.msg_body.specs.declared.framing.Framing.TheVariants as framing
 use Rattle.msg_body.specs.declared.framing.Expect.{Expect}
 use Rattle.msg_body.specs.declared.read.MessageRead.{MessageRead}
-use Rattle.msg_body.specs.declared.read.MessageRead.TheVariants.{Whole, Partial}
+use Rattle.msg_body.specs.declared.read.MessageRead.TheVariants.{Partial}
 use Rattle.msg_body.specs.declared.error.MessageError.{MessageError}
 use Rattle.msg_body.specs.declared.error.MessageError.TheVariants.{Memory, TooLong, NakedEnd, BadStart, TooManyLines, BadLine, NotYet}
 use Rattle.msg_body.specs.Messages.{Message, SpellsMessage, IsFramedBy, is_expected, has_no_content}
-use Rattle.msg_body.specs.Views.{MessageParts}
 use Rattle.msg_body.specs.Errors.{error_of}
 use Rattle.msg_body.specs.Causes.{HasHead, IsOfOtherKind, IsUnread, IsMessageError}
 

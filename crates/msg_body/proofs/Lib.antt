@@ -1,3 +1,4 @@
+mod Lowered
 pub mod AnswerLaws
 mod Drops
 mod Judged

@@ -1,5 +1,5 @@
 -- The laws of messages, by those of heads.
-use Rattle.std.proofs.Common.{◌≡◌, ◌≢◌, ℕ, ◌<◌, List, [], ◌++◌, length, refl, sym, ◌∙◌, ap, append-nil}
+use Rattle.std.proofs.Common.{◌≡◌, ℕ, List, sym, ◌∙◌, ap, append-nil}
 use Rattle.std.specs.Prelude.{take}
 use Rattle.msg_head.specs.Heads.{head_text}
 use Rattle.msg_head.specs.Laws.{OneHeadOfText, NoHeadInPrefix}

@@ -1,5 +1,5 @@
 -- What the view of a message stands for.
-use Rattle.std.specs.Prelude.{ℕ, ◌≤◌, IsTrue, List, []}
+use Rattle.std.specs.Prelude.{ℕ, IsTrue, List, []}
 use Rattle.msg_head.specs.declared.error.Side.{Side}
 use Rattle.msg_head.specs.declared.error.Side.TheVariants.{Header, Trailer}
 use Rattle.msg_head.specs.Lines.{FieldLine}

@@ -31,7 +31,7 @@ pub enum MessageError {
 pub enum MessageFault {
     /// It begins with no message. The error is never out of memory.
     Refused(MessageError),
-    /// It is the prefix of a message, and has this many bytes.
+    /// No end of a head is in it, and there is room for more bytes. It has this many.
     Truncated(usize),
     /// It begins with a message, and further bytes come after it, from this offset on.
     Trailing(usize),

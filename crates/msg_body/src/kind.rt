@@ -2,12 +2,12 @@
 
 ghost use Rattle.std.specs.Prelude.{◌≡◌};
 ghost use Rattle.std.specs.List.{list_any};
-ghost use Rattle.msg_head.specs.Views.{start_line_of, head_of, lines_of};
+ghost use Rattle.msg_head.specs.Views.{start_line_of, head_of, lines_of, field_line_of};
 ghost use Rattle.msg_body.specs.Messages.{is_request, is_expected, is_framing_line, has_no_content};
 
 use crate::framing::Expect;
 use crate::name::is_named;
-use msg_head::{HeadView, Start};
+use msg_head::{HeadView, LineView, Start};
 
 /// Whether the start line is a request line.
 pub fn is_request(start: Start<'_>) -> bool
@@ -30,16 +30,18 @@ pub(crate) fn is_expected(expect: Expect, start: Start<'_>) -> bool
     }
 }
 
+// Whether the line says how content ends.
+fn is_framing_line(line: LineView<'_>) -> bool
+    ensures { result ≡ is_framing_line (field_line_of line.entry) }
+{
+    is_named(line, b"content-length") || is_named(line, b"transfer-encoding")
+}
+
 // Whether some field line says how content ends.
 fn has_framing_line(head: &HeadView<'_>) -> bool
     ensures { result ≡ list_any is_framing_line (lines_of head.now) }
 {
-    for line in head.lines() {
-        if is_named(line, b"content-length") || is_named(line, b"transfer-encoding") {
-            return true;
-        }
-    }
-    false
+    head.lines().any(is_framing_line)
 }
 
 /// Whether the head is that of a request without content.

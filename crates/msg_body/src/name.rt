@@ -1,6 +1,6 @@
 //! Names of fields.
 
-ghost use Rattle.std.specs.Prelude.{◌≡◌, ℕ, List};
+ghost use Rattle.std.specs.Prelude.{◌≡◌};
 ghost use Rattle.std.specs.Str.{bytes_eq, str_to_ascii_lowercase};
 ghost use Rattle.msg_head.specs.Views.{field_line_of};
 ghost use Rattle.msg_body.specs.Names.{has_name};
@@ -11,21 +11,11 @@ use msg_head::LineView;
 fn is_lowered(text: &[u8], name: &[u8]) -> bool
     ensures { result ≡ bytes_eq (str_to_ascii_lowercase text.now) name.now }
 {
-    let mut text_left = text;
-    let mut name_left = name;
-    'bytes: loop {
-        let Some((written, text_rest)) = text_left.split_first() else {
-            return name_left.is_empty();
-        };
-        let Some((lower, name_rest)) = name_left.split_first() else {
-            return false;
-        };
-        if written.to_ascii_lowercase() != *lower {
-            return false;
-        }
-        text_left = text_rest;
-        name_left = name_rest;
-    }
+    text.len() == name.len()
+        && text
+            .iter()
+            .zip(name)
+            .all(|(written, lower)| written.to_ascii_lowercase() == *lower)
 }
 
 /// Whether the line's name in lower case is the name. So a name with a letter in upper case is no

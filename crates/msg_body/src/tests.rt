@@ -88,14 +88,56 @@ fn other_messages_are_refused(rt: HostRuntime) {
 }
 
 #[test]
-fn message_without_its_end_is_partial(rt: HostRuntime) {
-    let answer = read_message(
-        rt.alloc(),
-        b"HTTP/1.1 204\r\nContent-Length: 0\r\n",
-        Expect::Request,
-        true,
-    );
-    assert!(rt; matches!(&answer, Ok(MessageRead::Partial)));
+fn hostile_heads_are_refused(rt: HostRuntime) -> Result<(), Fail> {
+    let mut many = Vec::new(rt.alloc());
+    many.extend_from_slice(b"GET / HTTP/1.1\r\n")?;
+    for _ in 0..257 {
+        many.extend_from_slice(b"a:\r\n")?;
+    }
+    many.extend_from_slice(b"\r\n")?;
+    let cases = [
+        (
+            b"GET  / HTTP/1.1\r\n\r\n".as_slice(),
+            MessageError::BadStart,
+        ),
+        (
+            b"GET / HTTP/1.1\r\nA : b\r\n\r\n",
+            MessageError::BadLine(Side::Header, 0),
+        ),
+        (b"GET / HTTP/1.1\nA: b\r\n\r\n", MessageError::NakedEnd(14)),
+        (&many, MessageError::TooManyLines(Side::Header)),
+    ];
+    for (bytes, error) in cases {
+        let answer = read_message(rt.alloc(), bytes, Expect::Any, false);
+        assert!(rt; matches!(&answer, Err(given) if *given == error));
+    }
+    Ok(())
+}
+
+// The head of a request like that of RFC 9421 appendix B.2.
+const POST: &[u8] = b"POST /foo?param=Value&Pet=dog HTTP/1.1\r\nHost: example.com\r\n\
+    Date: Tue, 20 Apr 2021 02:07:55 GMT\r\nContent-Type: application/json\r\n\
+    Content-Length: 18\r\n\r\n";
+
+// A request with a folded line, of RFC 9421 section 2.1.
+const FOLDED: &[u8] = b"GET /path HTTP/1.1\r\nHost: www.example.com\r\n\
+    Date: Tue, 20 Apr 2021 02:07:56 GMT\r\n\
+    X-Obs-Fold-Header: Obsolete\r\n    line folding.\r\n\r\n";
+
+#[test]
+fn each_proper_prefix_of_a_head_is_partial(rt: HostRuntime) -> Result<(), Fail> {
+    for head in [POST, FOLDED] {
+        for count in 0..head.len() {
+            let answer = read_message(rt.alloc(), &head[..count], Expect::Response, true);
+            assert!(rt; matches!(&answer, Ok(MessageRead::Partial)));
+        }
+    }
+    let MessageRead::Whole(_, used) = read_message(rt.alloc(), FOLDED, Expect::Request, false)?
+    else {
+        return Err("no message".into());
+    };
+    assert_eq!(rt; used, 130);
+    Ok(())
 }
 
 #[test]

@@ -1,8 +1,8 @@
 //! The view of a message.
 
 ghost use Rattle.std.specs.Prelude.{◌≡◌, ◌<◌, length, slice_get, Some};
-ghost use Rattle.msg_head.specs.Views.{View, field_line_of, start_line_of};
-ghost use Rattle.msg_body.specs.Views.{MessageParts, message_of, lines_on};
+ghost use Rattle.msg_head.specs.Views.{field_line_of, start_line_of};
+ghost use Rattle.msg_body.specs.Views.{message_of, lines_on};
 
 use crate::framing::Framing;
 use crate::side_lines::SideLines;

@@ -1,5 +1,5 @@
 -- The causes of bytes: at most one is the first that holds, and none holds where a head is spelled.
-use Rattle.std.proofs.Common.{◌≡◌, ◌≢◌, ℕ, zero, suc, ◌+◌, ◌-◌, ◌<◌, ◌≤◌, Option, Some, None, List, [], ◌∷◌, ◌++◌, length, take, refl, subst, ap, ◌∙◌, arith, inl, inr, append_assoc, length-append, codes}
+use Rattle.std.proofs.Common.{◌≡◌, ◌≢◌, ℕ, zero, suc, ◌+◌, ◌-◌, ◌<◌, ◌≤◌, Option, Some, None, List, [], ◌∷◌, ◌++◌, length, take, refl, sym, subst, ap, ◌∙◌, arith, inl, inr, append_assoc, length-append, codes}
 use Rattle.std.specs.Prelude.{IsSomeAnd}
 use Rattle.std.specs.List.{All, slice_get}
 use Rattle.std.proofs.Math.Seq.{take-append-add}
@@ -18,7 +18,7 @@ use Rattle.msg_head.specs.Heads.{Head, SpellsHead}
 use Rattle.msg_head.specs.Causes.{IsTooLong, HasNakedEnd, IsFirstBadLine, IsHeadCause, head_order, IsHeadError}
 use Rattle.msg_head.specs.tools.Texts.{IsClean}
 use Rattle.msg_head.specs.tools.Sections.{IsLinesFault}
-use Rattle.msg_head.specs.tools.Judged.{IsCutFault, IsSectionFault}
+use Rattle.msg_head.specs.tools.Judged.{IsCutFault, IsSectionFault, IsFirstFault}
 use Rattle.msg_head.proofs.Naked.{none_in_clean}
 use Rattle.msg_head.proofs.LineLaws.{one_cut}
 use Rattle.msg_head.proofs.Spans.{MakesSome}
@@ -192,6 +192,13 @@ section_fault bytes section (BadLine Trailer at) s f own = absurd (trailer f.3.l
 section_fault bytes section (TooLong side) s f own = absurd f.3.lines_are
 section_fault bytes section (NakedEnd at) s f own = absurd f.3.lines_are
 section_fault bytes section Memory s f own = absurd (own refl)
+
+-- the fault of a section, where its first naked end comes before one that it has while clean
+pub first_fault : (bytes section : List ℕ) (fault first : HeadError) → IsSection bytes section → length section ≤ MAX_HEAD_BYTES → (IsClean section → IsSectionFault section fault) → IsFirstFault section fault first → first ≢ Memory → IsHeadError bytes first
+first_fault bytes section fault first is short cause (inl clean) own =
+    subst (IsHeadError bytes) (sym clean.1) (section_fault bytes section fault (record { is = is; clean = clean.0; short = short }) (cause clean.0) (λ memory. own (clean.1 ∙ memory)))
+first_fault bytes section fault first is short cause (inr naked) own =
+    subst (IsHeadError bytes) (sym naked.2) (first_naked bytes section naked.0 is short naked.1)
 
 pub late_fault : (start : List ℕ) (lines : List RawPieces) (fault : HeadError) → ¬ MakesNoStart start → IsLinesFault Header lines fault → IsCutFault start lines fault
 late_fault start lines (TooLong side) good is = absurd is

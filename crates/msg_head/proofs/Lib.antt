@@ -13,6 +13,7 @@ pub mod Ends
 pub mod HeadParts
 pub mod OneHeads
 pub mod Sectioning
+pub mod CleanTexts
 pub mod Grouping
 pub mod FaultLaws
 pub mod Wholes

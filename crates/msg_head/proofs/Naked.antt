@@ -1,15 +1,15 @@
 -- Texts without naked ends.
-use Rattle.std.proofs.Common.{◌≡◌, ◌≢◌, ℕ, zero, suc, ◌+◌, ◌-◌, ◌<◌, Bool, true, false, ◌&&◌, ◌||◌, ◌==◌, not, ◌⊎◌, inl, inr, List, [], ◌∷◌, ◌++◌, length, drop, get_or, refl, sym, ap, ◌∙◌, arith, append_assoc, length-append, if◌then◌else◌}
+use Rattle.std.proofs.Common.{◌≡◌, ◌≢◌, ℕ, zero, suc, ◌+◌, ◌-◌, ◌<◌, Bool, true, false, ◌&&◌, ◌||◌, ◌==◌, not, ◌⊎◌, inl, inr, Some, List, [], ◌∷◌, ◌++◌, length, drop, get_or, refl, sym, ap, ◌∙◌, arith, append_assoc, length-append, if◌then◌else◌}
 use Rattle.std.specs.List.{list_all, flat_map}
 use Rattle.std.proofs.Math.Seq.{drop-append_seam}
 use Rattle.std.proofs.lemmas.Bool.{and_parts, and_from, cases_Bool, or_cases, eqb-true, false≢true}
 use Rattle.std.proofs.lemmas.List.{append-nil}
 use Rattle.std.proofs.lemmas.List.Folds.{list_all-append}
 use Rattle.std.proofs.lemmas.Grind.{flat_map-append}
-use Rattle.memchr.specs.Find.{is_byte3}
+use Rattle.memchr.specs.Find.{IsFirstByte, is_byte3}
 use Rattle.msg_head.specs.RawValues.{is_line_byte}
 use Rattle.msg_head.specs.Cuts.{IsNaked, IsNakedEnd, IsFirstNakedEnd}
-use Rattle.msg_head.specs.tools.Texts.{EndsWithLf, IsClean, ended}
+use Rattle.msg_head.specs.tools.Texts.{EndsWithLf, IsClean, IsCleanUpTo, ended}
 use Rattle.msg_head.proofs.Prefixes.{outside}
 use Rattle.msg_head.proofs.LineBytes.{line_byte_of}
 
@@ -34,7 +34,7 @@ paired_clean (c ∷ cs) rest each =
     rw (no_cr c both.0) (rw both.0 (paired_clean cs rest both.1))
 
 -- the pieces, each ended, and more
-opened_pieces_of : (p : List ℕ) (ps : List (List ℕ)) (rest : List ℕ) → flat_map ended (p ∷ ps) ++ rest ≡ p ++ 13 ∷ 10 ∷ (flat_map ended ps ++ rest)
+pub opened_pieces_of : (p : List ℕ) (ps : List (List ℕ)) (rest : List ℕ) → flat_map ended (p ∷ ps) ++ rest ≡ p ++ 13 ∷ 10 ∷ (flat_map ended ps ++ rest)
 opened_pieces_of p ps rest =
     append_assoc (ended p) (flat_map ended ps) rest ∙ append_assoc p (13 ∷ 10 ∷ []) (flat_map ended ps ++ rest)
 
@@ -155,12 +155,7 @@ split_at (x ∷ xs) (suc n) low none is =
 
 -- ---- the walk over the pieces
 
-pub record Scanned (text left : List ℕ) : Type 0 where
-  pub pieces : List (List ℕ)
-  pub each : list_all (list_all is_line_byte) pieces ≡ true
-  pub joined : text ≡ flat_map ended pieces ++ left
-
-pub scan_more : (text left after : List ℕ) (n : ℕ) → Scanned text left → (s : SplitAt left n) → drop n left ≡ 13 ∷ 10 ∷ after → Scanned text after
+scan_more : (text left after : List ℕ) (n : ℕ) → IsCleanUpTo text left → (s : SplitAt left n) → drop n left ≡ 13 ∷ 10 ∷ after → IsCleanUpTo text after
 scan_more text left after n w s there =
     let ends : s.c ∷ s.after ≡ 13 ∷ 10 ∷ after =
     sym (drop-append_seam s.piece (s.c ∷ s.after)) ∙ ap (λ k. drop k (s.piece ++ s.c ∷ s.after)) s.count ∙ ap (λ (x : List ℕ). drop n x) (sym s.joined) ∙ there in
@@ -176,6 +171,11 @@ scan_more text left after n w s there =
           ∙ ap (λ (x : List ℕ). x ++ after) (sym (flat_map-append ended w.pieces (s.piece ∷ [])));
     }
 
+-- the same of the first such byte that is found
+pub clean_after : (text left after : List ℕ) (n : ℕ) → IsCleanUpTo text left → IsFirstByte is_end left (Some n) → drop n left ≡ 13 ∷ 10 ∷ after → IsCleanUpTo text after
+clean_after text left after n w first there =
+    scan_more text left after n w (split_at left n first.0.high (λ k low. first.0.before k (omega arith) low) first.1) there
+
 is_naked : (before : List ℕ) (c : ℕ) (after : List ℕ) → is_end c ≡ true → is_paired false before ≡ true → ((rest : List ℕ) → c ∷ after ≢ 13 ∷ 10 ∷ rest) → IsNaked before c after
 is_naked before c after end paired none = elim (or_cases ((c == 0) || (c == 13)) (c == 10) end) [
   | inl other ↦ elim (or_cases (c == 0) (c == 13) other) [
@@ -185,7 +185,7 @@ is_naked before c after end paired none = elim (or_cases ((c == 0) || (c == 13))
   | inr lf ↦ inr (inr (eqb-true c 10 lf, λ less e. ends_cr false less (ap (is_paired false) (sym e) ∙ paired)))
 ]
 
-pub naked_here : (text left : List ℕ) (n : ℕ) → Scanned text left → (s : SplitAt left n) → ((rest : List ℕ) → drop n left ≢ 13 ∷ 10 ∷ rest) → IsFirstNakedEnd text (length text - length left + n)
+pub naked_here : (text left : List ℕ) (n : ℕ) → IsCleanUpTo text left → (s : SplitAt left n) → ((rest : List ℕ) → drop n left ≢ 13 ∷ 10 ∷ rest) → IsFirstNakedEnd text (length text - length left + n)
 naked_here text left n w s none =
     let made = flat_map ended w.pieces in
     let before = made ++ s.piece in
@@ -215,6 +215,6 @@ last_plain (z ∷ zs) y ys [] plain e = omega (arith, ap (length {A = ℕ}) e, l
 last_plain (z ∷ zs) y ys (b ∷ bs) plain e =
     let rest : zs ++ y ∷ ys ≡ bs ++ 10 ∷ [] = cc in last_plain zs y ys bs plain rest
 
-pub all_scanned : (text left : List ℕ) → EndsWithLf text → Scanned text left → list_all is_line_byte left ≡ true → IsClean text
+pub all_scanned : (text left : List ℕ) → EndsWithLf text → IsCleanUpTo text left → list_all is_line_byte left ≡ true → IsClean text
 all_scanned text [] ends w plain = record { pieces = w.pieces; each = w.each; joined = w.joined ∙ append-nil (flat_map ended w.pieces) }
 all_scanned text (y ∷ ys) ends w plain = absurd (last_plain (flat_map ended w.pieces) y ys ends.0 plain (sym w.joined ∙ ends.1))

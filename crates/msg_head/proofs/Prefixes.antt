@@ -1,12 +1,13 @@
--- A byte outside a class separates a text after a prefix of the class in one way, and the first offset of that byte is the prefix's length.
-use Rattle.std.proofs.Common.{◌≡◌, ℕ, ◌<◌, Bool, true, false, List, [], ◌∷◌, ◌++◌, length, take, get_or, Option, Some, None, IfSome, IfNone, MatchOption, refl, sym, ap, ◌∙◌, inl, inr, arith, length-append}
+-- A byte outside a class separates a text after a prefix of the class in one way, and the first offset that a search for such bytes finds is the prefix's length.
+use Rattle.std.proofs.Common.{◌≡◌, ℕ, ◌<◌, Bool, true, false, List, [], ◌∷◌, ◌++◌, length, get_or, Option, Some, None, IfSome, IfNone, MatchOption, refl, sym, ap, ◌∙◌, inl, inr, arith, length-append}
 use Rattle.std.specs.List.{list_all}
 use Rattle.std.proofs.Math.ListN.{get_or-append}
-use Rattle.std.proofs.Math.Seq.{get_or-append_seam, take-append_seam}
-use Rattle.std.proofs.lemmas.Bool.{and_parts, cases_order, eq-eqb, eqb-true, false≢true}
+use Rattle.std.proofs.Math.Seq.{get_or-append_seam}
+use Rattle.std.proofs.lemmas.Bool.{and_parts, cases_Bool, cases_order, false≢true}
 use Rattle.std.proofs.lemmas.List.{append_cancel_left}
 use Rattle.std.proofs.lemmas.List.Folds.{list_all_at}
-use Rattle.memchr.specs.Find.{IsFirstByte, is_byte}
+use Rattle.byte_grammar.specs.Language.{starts_in}
+use Rattle.memchr.specs.Find.{IsFirstByte}
 use Rattle.msg_head.specs.tools.Prefixes.{StandsBefore}
 
 -- a byte of the class is no byte outside it
@@ -38,28 +39,39 @@ at_seam prefix end more bytes joined = ap (λ (s : List ℕ). get_or s (length p
 below_seam : (prefix : List ℕ) (end : ℕ) (more bytes : List ℕ) → bytes ≡ prefix ++ end ∷ more → length prefix < length bytes
 below_seam prefix end more bytes joined = omega (arith, ap (length {A = ℕ}) joined, length-append prefix (end ∷ more))
 
--- a byte outside the class doesn't stand in the prefix
-not_before : (test : ℕ → Bool) (end : ℕ) (prefix more bytes : List ℕ) (k : ℕ) → test end ≡ false → StandsBefore test (end ∷ []) prefix more bytes → get_or bytes k 0 ≡ end → k < length prefix → ⊥
-not_before test end prefix more bytes k out s here low =
-    let inside : get_or prefix k 0 ≡ end = sym (get_or-append prefix (end ∷ more) 0 k low) ∙ sym (ap (λ (t : List ℕ). get_or t k 0) s.joined) ∙ here in
-    false≢true (sym (list_all_at test prefix k 0 low (ap test inside ∙ out)) ∙ s.each)
+-- a byte that the search finds doesn't stand in the prefix
+not_before : (test search : ℕ → Bool) (end : ℕ) (prefix more bytes : List ℕ) (k : ℕ) → ((c : ℕ) → test c ≡ true → search c ≡ true → ⊥) → StandsBefore test (end ∷ []) prefix more bytes → search (get_or bytes k 0) ≡ true → k < length prefix → ⊥
+not_before test search end prefix more bytes k apart s here low =
+    let inside : search (get_or prefix k 0) ≡ true = ap search (sym (get_or-append prefix (end ∷ more) 0 k low) ∙ sym (ap (λ (t : List ℕ). get_or t k 0) s.joined)) ∙ here in
+    elim (cases_Bool (test (get_or prefix k 0))) [
+      | inl is ↦ apart (get_or prefix k 0) is inside
+      | inr not ↦ false≢true (sym (list_all_at test prefix k 0 low not) ∙ s.each)
+    ]
 
--- the first offset of the byte is the prefix's length
-pub first_end : (test : ℕ → Bool) (end : ℕ) (prefix more bytes : List ℕ) (found : Option ℕ) → test end ≡ false → StandsBefore test (end ∷ []) prefix more bytes → IsFirstByte (is_byte end) bytes found → found ≡ Some (length prefix)
-first_end test end prefix more bytes None out s h =
-    absurd (h (length prefix) (omega arith) (below_seam prefix end more bytes s.joined) (eq-eqb _ _ (at_seam prefix end more bytes s.joined)))
-first_end test end prefix more bytes (Some k) out s h =
+-- the first offset that the search finds is the prefix's length
+pub first_end : (test search : ℕ → Bool) (end : ℕ) (prefix more bytes : List ℕ) (found : Option ℕ) → search end ≡ true → ((c : ℕ) → test c ≡ true → search c ≡ true → ⊥) → StandsBefore test (end ∷ []) prefix more bytes → IsFirstByte search bytes found → found ≡ Some (length prefix)
+first_end test search end prefix more bytes None is apart s h =
+    absurd (h (length prefix) (omega arith) (below_seam prefix end more bytes s.joined) (ap search (at_seam prefix end more bytes s.joined) ∙ is))
+first_end test search end prefix more bytes (Some k) is apart s h =
     elim (cases_order k (length prefix)) [
       | inl same ↦ ap Some same
-      | inr apart ↦ elim apart [
-        | inl low ↦ absurd (not_before test end prefix more bytes k out s (eqb-true _ _ h.1) low)
-        | inr high ↦ absurd (h.0.before (length prefix) (omega arith) high (eq-eqb _ _ (at_seam prefix end more bytes s.joined)))
+      | inr apart_from ↦ elim apart_from [
+        | inl low ↦ absurd (not_before test search end prefix more bytes k apart s h.1 low)
+        | inr high ↦ absurd (h.0.before (length prefix) (omega arith) high (ap search (at_seam prefix end more bytes s.joined) ∙ is))
       ]
     ]
 
--- so the bytes before that offset are the prefix
-pub prefix_at : (test : ℕ → Bool) (end : ℕ) (prefix more bytes : List ℕ) (k : ℕ) → StandsBefore test (end ∷ []) prefix more bytes → k ≡ length prefix → take k bytes ≡ prefix
-prefix_at test end prefix more bytes k s same = ap (λ n. take n bytes) same ∙ ap (λ (t : List ℕ). take (length prefix) t) s.joined ∙ take-append_seam prefix (end ∷ more)
+-- where a byte of the class doesn't stand first in the rest, the rest begins at the end
+pub at_end_of_prefix : (test : ℕ → Bool) (end : ℕ) (one other rest more : List ℕ) → test end ≡ false → list_all test one ≡ true → list_all test other ≡ true → starts_in test rest ≡ false → one ++ rest ≡ other ++ end ∷ more → rest ≡ end ∷ more
+at_end_of_prefix test end [] [] rest more out f o none e = e
+at_end_of_prefix test end [] (y ∷ ys) [] more out f o none e = absurd cc
+at_end_of_prefix test end [] (y ∷ ys) (c ∷ cs) more out f o none e =
+    let first : c ≡ y = cc in absurd (outside test y c (and_parts _ _ o).0 none (sym first))
+at_end_of_prefix test end (x ∷ xs) [] rest more out f o none e =
+    let first : x ≡ end = cc in absurd (outside test x end (and_parts _ _ f).0 out first)
+at_end_of_prefix test end (x ∷ xs) (y ∷ ys) rest more out f o none e =
+    let left : xs ++ rest ≡ ys ++ end ∷ more = cc in
+    at_end_of_prefix test end xs ys rest more out (and_parts _ _ f).1 (and_parts _ _ o).1 none left
 
 -- what is so of no answer, and of an answer, by cases
 pub given_none : {X : Type 0} {P : Type 0} (found : Option X) → P → IfNone found P

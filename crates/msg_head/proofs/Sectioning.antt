@@ -112,7 +112,7 @@ pub record EndsLine (text : List ℕ) : Type 0 where
   pub before : List ℕ
   pub is : text ≡ before ++ 13 ∷ 10 ∷ []
 
-ended_ends : (p : List ℕ) (ps : List (List ℕ)) → EndsLine (flat_map ended (p ∷ ps))
+pub ended_ends : (p : List ℕ) (ps : List (List ℕ)) → EndsLine (flat_map ended (p ∷ ps))
 ended_ends p [] = record { before = p; is = append-nil (ended p) }
 ended_ends p (q ∷ qs) =
     let others = ended_ends q qs in

@@ -16,7 +16,7 @@ use Rattle.msg_head.specs.RawValues.{RawPieces, pieces_text}
 use Rattle.msg_head.specs.Lines.{FieldLine, IsLine, line_text}
 use Rattle.msg_head.specs.Cuts.{AreLinesOf, MakesLine, MakesNoLine}
 use Rattle.msg_head.specs.Views.{line_at, lies_in, FollowEachOther}
-use Rattle.msg_head.specs.tools.Texts.{BeginsWithCrlf, BeginsWithCut}
+use Rattle.msg_head.specs.tools.Texts.{BeginsWithCrlf, BeginsWithCut, IsCleanUpTo}
 use Rattle.msg_head.specs.tools.Prefixes.{ReadsLine}
 use Rattle.msg_head.specs.tools.Sections.{IsRestOf, AreSpansOf, IsLinesFault, IsFaultFrom, span_at}
 use Rattle.msg_head.proofs.LineParts.{opened_line}
@@ -113,6 +113,7 @@ pub record Walked (bytes rest : List ℕ) (lines : List RawPieces) (spans : List
 pub record Reading (bytes rest : List ℕ) (spans : List LineSpan) (left : List ℕ) : Type 0 where
   pub within : length left ≤ length bytes
   pub few : length spans ≤ MAX_HEAD_LINES
+  pub clean : IsCleanUpTo rest left
   pub still : (lines : List RawPieces) → AreLinesOf rest lines → Walked bytes rest lines spans left
 
 pub begins : (bytes rest : List ℕ) (lines : List RawPieces) → IsRestOf bytes rest → AreLinesOf rest lines → Walked bytes rest lines [] rest

@@ -1,29 +1,39 @@
 -- Texts that are split at the first CRLF that no blank follows.
-use Rattle.std.proofs.Common.{◌≡◌, ℕ, ◌+◌, ◌-◌, ◌≤◌, true, false, List, [], ◌∷◌, ◌++◌, length, take, drop, Option, Some, refl, sym, ap, ◌∙◌, arith, length-append, codes}
+use Rattle.std.proofs.Common.{◌≡◌, ◌==◌, ◌||◌, inl, inr, ℕ, ◌+◌, ◌-◌, ◌≤◌, true, false, List, [], ◌∷◌, ◌++◌, length, take, drop, Option, Some, refl, sym, ap, ◌∙◌, arith, length-append, codes}
 use Rattle.std.specs.List.{list_all}
 use Rattle.std.proofs.Math.Seq.{take-append_seam, drop-append_seam}
-use Rattle.std.proofs.lemmas.Bool.{and_parts, and_from, false≢true}
+use Rattle.std.proofs.lemmas.Bool.{and_parts, and_from, or_cases, eqb-true, false≢true}
 use Rattle.std.proofs.lemmas.List.{append_cancel_left}
 use Rattle.byte_classes.specs.Classes.{is_blank}
 use Rattle.byte_grammar.specs.Language.{starts_in}
-use Rattle.memchr.specs.Find.{IsFirstByte, is_byte}
+use Rattle.memchr.specs.Find.{IsFirstByte, is_byte3}
 use Rattle.msg_head.specs.RawValues.{RawPieces, is_fold, is_line_byte, pieces_text}
 use Rattle.msg_head.specs.tools.Prefixes.{StandsBefore}
-use Rattle.msg_head.specs.tools.Texts.{BeginsWithPieces}
-use Rattle.msg_head.proofs.Prefixes.{first_end}
+use Rattle.msg_head.specs.tools.Texts.{BeginsWithPieces, IsCleanUpTo}
+use Rattle.msg_head.proofs.Prefixes.{first_end, outside}
 use Rattle.msg_head.proofs.PieceLaws.{after_first, opened_pieces, fold_starts}
 
 -- where the text begins with pieces, what is left of it still does, with the same after them
 pub record GoesOn (text left : List ℕ) : Type 0 where
   pub within : length left ≤ length text
+  pub clean : IsCleanUpTo text left
   pub still : (pieces : RawPieces) (more : List ℕ) → BeginsWithPieces pieces more text → (others : RawPieces) × BeginsWithPieces others more left
 
 first_stands : (pieces : RawPieces) (more left : List ℕ) → BeginsWithPieces pieces more left → StandsBefore is_line_byte (13 ∷ []) pieces.first (10 ∷ after_first pieces.folds more) left
 first_stands pieces more left b = record { each = (and_parts _ _ b.are).0; joined = b.joined ∙ opened_pieces pieces more }
 
--- the search for CR finds the end of the first piece
-pub cr_found : (pieces : RawPieces) (more left : List ℕ) (found : Option ℕ) → BeginsWithPieces pieces more left → IsFirstByte (is_byte 13) left found → found ≡ Some (length pieces.first)
-cr_found pieces more left found b h = first_end is_line_byte 13 pieces.first (10 ∷ after_first pieces.folds more) left found refl (first_stands pieces more left b) h
+apart_from_ends : (c : ℕ) → is_line_byte c ≡ true → is_byte3 0 13 10 c ≡ true → ⊥
+apart_from_ends c is end = elim (or_cases ((c == 0) || (c == 13)) (c == 10) end) [
+  | inl other ↦ elim (or_cases (c == 0) (c == 13) other) [
+    | inl e ↦ outside is_line_byte c 0 is refl (eqb-true c 0 e)
+    | inr e ↦ outside is_line_byte c 13 is refl (eqb-true c 13 e)
+  ]
+  | inr e ↦ outside is_line_byte c 10 is refl (eqb-true c 10 e)
+]
+
+-- the search for the first NUL, CR or LF finds the end of the first piece
+pub cr_found : (pieces : RawPieces) (more left : List ℕ) (found : Option ℕ) → BeginsWithPieces pieces more left → IsFirstByte (is_byte3 0 13 10) left found → found ≡ Some (length pieces.first)
+cr_found pieces more left found b h = first_end is_line_byte (is_byte3 0 13 10) 13 pieces.first (10 ∷ after_first pieces.folds more) left found refl apart_from_ends (first_stands pieces more left b) h
 
 -- what stands there
 pub at_cr : (pieces : RawPieces) (more left : List ℕ) (n : ℕ) → BeginsWithPieces pieces more left → n ≡ length pieces.first → drop n left ≡ 13 ∷ 10 ∷ after_first pieces.folds more

@@ -1,12 +1,14 @@
 //! Reads a head.
 
-ghost use Rattle.std.specs.Prelude.{◌≡◌, ◌≢◌, ℕ, ◌≤◌, ◌↔◌, length, IfOk, IfErr, Ok, Err};
+ghost use Rattle.std.specs.Prelude.{◌≡◌, ◌≢◌, ℕ, ◌≤◌, ◌↔◌, length, IfOk, IfErr, Ok};
+ghost use Rattle.msg_head.specs.Cuts.{IsSection};
 ghost use Rattle.msg_head.specs.Heads.{Head, SpellsHead, IsUnfinished};
 ghost use Rattle.byte_grammar.specs.Causes.{AnswersWhere};
 ghost use Rattle.msg_head.specs.Causes.{IsHeadError};
 ghost use Rattle.msg_head.specs.Views.{IsViewOf};
 ghost use Rattle.msg_head.specs.Outcome.{IfWholeHead, IsHeadUnlessMemory};
-ghost use Rattle.msg_head.specs.tools.Judged.{IsCleanSection, IsSectionView, IsSectionFault, ExplainsHead};
+ghost use Rattle.msg_head.specs.tools.Texts.{EndsWithLf, IsClean};
+ghost use Rattle.msg_head.specs.tools.Judged.{IsSectionView, IsSectionFault, IsFirstFault, ExplainsHead};
 
 use crate::error::{HeadError, Side};
 use crate::limits::MAX_HEAD_BYTES;
@@ -26,17 +28,29 @@ pub enum HeadRead<'m> {
     Partial,
 }
 
-// The head that the section spells.
+// The head that the section spells, or its fault where it has no naked end.
 fn read_section<'m>(alloc: Global, section: &'m [u8]) -> Result<HeadView<'m>, HeadError>
-    requires { IsCleanSection section.now }
+    requires is { IsSection section.now section.now }
+    requires short { length section.now ≤ MAX_HEAD_BYTES }
     ensures ok { IfOk result (λ view. IsSectionView view section.now) }
-    ensures err { IfErr result (λ fault. IsSectionFault section.now fault) }
+    ensures err { IsClean section.now → IfErr result (λ fault. IsSectionFault section.now fault) }
 {
     let Some((start, rest)) = read_start(section) else {
         return Err(HeadError::BadStart);
     };
     let spans = read_lines(alloc, Side::Header, section, rest)?;
     Ok(HeadView::new(section, start, spans))
+}
+
+// The naked end of a refused section, which is judged first, or the fault where there is none.
+fn first_fault(section: &[u8], fault: HeadError) -> HeadError
+    requires { EndsWithLf section.now }
+    ensures { IsFirstFault section.now fault result }
+{
+    match first_naked_end(section) {
+        Some(offset) => HeadError::NakedEnd(offset),
+        None => fault,
+    }
 }
 
 // The answer to bytes, by its cause.
@@ -50,11 +64,10 @@ fn judge<'m>(alloc: Global, bytes: &'m [u8]) -> Result<HeadRead<'m>, HeadError>
         }
         return Err(HeadError::TooLong(Side::Header));
     };
-    if let Some(offset) = first_naked_end(section) {
-        return Err(HeadError::NakedEnd(offset));
+    match read_section(alloc, section) {
+        Ok(view) => Ok(HeadRead::Whole(view, section.len())),
+        Err(fault) => Err(first_fault(section, fault)),
     }
-    let view = read_section(alloc, section)?;
-    Ok(HeadRead::Whole(view, section.len()))
 }
 
 /// Reads the head that the bytes begin with (RFC 9112 section 2.1).

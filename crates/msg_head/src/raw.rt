@@ -1,6 +1,6 @@
 //! The bytes of lines.
 
-use byte_classes::ByteClass;
+use byte_classes::{ByteClass, is_tchar};
 
 /// The class of the bytes that a line may have between its ends.
 #[derive(Clone, Copy, Debug, PartialEq, Eq)]
@@ -13,5 +13,20 @@ impl ByteClass for LineByte {
 
     fn allows(self, byte: u8) -> bool {
         !b"\0\r\n".contains(&byte)
+    }
+}
+
+/// The class of the tchars (RFC 9110 section 5.6.2). Most of a name's bytes are letters and hyphens,
+/// for which the test is short.
+#[derive(Clone, Copy, Debug, PartialEq, Eq)]
+pub(crate) struct NameByte;
+
+impl ByteClass for NameByte {
+    ghost use Rattle.byte_classes.specs.Classes.{is_tchar};
+
+    ghost members = { λ _ c. is_tchar c };
+
+    fn allows(self, byte: u8) -> bool {
+        byte.is_ascii_alphabetic() || byte == b'-' || is_tchar(byte)
     }
 }

@@ -7,7 +7,7 @@ ghost use Rattle.msg_head.specs.tools.Texts.{BeginsWithCrlf};
 ghost use Rattle.msg_head.specs.tools.Prefixes.{StandsBefore, NoneStandsBefore};
 
 use byte_classes::ByteClass;
-use memchr::memchr;
+use byte_grammar::read_all;
 
 /// The first bytes, so many, or all where there are fewer.
 pub(crate) fn prefix_of(bytes: &[u8], count: usize) -> &[u8]
@@ -54,8 +54,8 @@ pub(crate) fn allows_all<C: ByteClass>(class: C, bytes: &[u8]) -> bool
     bytes.iter().all(|byte| class.allows(*byte))
 }
 
-/// The bytes of the class before the first such end, where nothing else comes before it, and what
-/// comes after it.
+/// The bytes of the class that stand first, where such an end comes after them, and what comes after
+/// it.
 pub(crate) fn prefix_before<'m, C: ByteClass>(
     class: C,
     end: u8,
@@ -66,9 +66,10 @@ pub(crate) fn prefix_before<'m, C: ByteClass>(
         (λ parts. StandsBefore (C.members class) (end ∷ []) parts.0.now parts.1.now bytes.now) }
     ensures none { IfNone result (NoneStandsBefore (C.members class) (end ∷ []) bytes.now) }
 {
-    let n = memchr(end, bytes)?;
-    if allows_all(class, &bytes[..n]) {
-        Some((&bytes[..n], &bytes[n + 1..]))
+    let (prefix, others) = read_all(class, bytes);
+    let (first, rest) = others.split_first()?;
+    if *first == end {
+        Some((prefix, rest))
     } else {
         None
     }

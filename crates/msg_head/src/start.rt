@@ -1,11 +1,11 @@
 //! Start lines.
 
-ghost use Rattle.std.specs.Prelude.{◌≡◌, ◌++◌, IfSome, IfNone, IsTrue, List, ℕ, option_map, Option};
+ghost use Rattle.std.specs.Prelude.{◌≡◌, IfSome, IfNone, option_map};
 ghost use Rattle.msg_head.specs.Starts.{is_version, is_code};
 ghost use Rattle.msg_head.specs.Views.{start_line_of};
 ghost use Rattle.msg_head.specs.tools.Prefixes.{BeginsWithStart, BeginsWithNoStart, BeginsWithRequest, BeginsWithNoRequest, BeginsWithStatus, BeginsWithNoStatus, IsCodeAndReason, NoCodeAndReason};
 
-use crate::raw::LineByte;
+use crate::raw::{LineByte, NameByte};
 use crate::slices::{allows_all, prefix_before, prefix_before_crlf};
 use byte_classes::Class;
 
@@ -45,7 +45,7 @@ fn read_request(bytes: &[u8]) -> Option<(Start<'_>, &[u8])>
         (λ parts. BeginsWithRequest (start_line_of parts.0) parts.1.now bytes.now) }
     ensures none { IfNone result (BeginsWithNoRequest bytes.now) }
 {
-    let (method, after_method) = prefix_before(Class::Tchar, b' ', bytes)?;
+    let (method, after_method) = prefix_before(NameByte, b' ', bytes)?;
     if method.is_empty() {
         return None;
     }

@@ -120,7 +120,7 @@ fn heads_use_their_own_bytes_alone(rt: HostRuntime) -> Result<(), Fail> {
 }
 
 #[test]
-fn each_fault_is_named(rt: HostRuntime) {
+fn each_bad_start_is_named(rt: HostRuntime) {
     let starts = [
         b"\r\n\r\n".as_slice(),
         b"\r\nGET / HTTP/1.1\r\n\r\n",
@@ -147,45 +147,36 @@ fn each_fault_is_named(rt: HostRuntime) {
     for start in starts {
         assert_eq!(rt; used(rt.alloc(), start), Err(HeadError::BadStart));
     }
-    let others = [
-        (
-            b"GET / HTTP/1.1\nA: b\r\n\r\n".as_slice(),
-            HeadError::NakedEnd(14),
-        ),
-        (b"GET / HTTP/1.2\r\nA: b\n\r\n\r\n", HeadError::NakedEnd(20)),
-        (
-            b"GET / HTTP/1.1\r\nA: b\rc\r\n\r\n",
-            HeadError::NakedEnd(20),
-        ),
-        (b"GET / HTTP/1.1\r\nA: b\0\r\n\r\n", HeadError::NakedEnd(20)),
-        (b"GET / HTTP/1.1\r\nA: b\r\r\n\r\n", HeadError::NakedEnd(20)),
-        (b"\n\r\n\r\n", HeadError::NakedEnd(0)),
-        (
-            b"GET / HTTP/1.1\r\nA\r\n\r\n",
-            HeadError::BadLine(Side::Header, 0),
-        ),
-        (
-            b"GET / HTTP/1.1\r\n: b\r\n\r\n",
-            HeadError::BadLine(Side::Header, 0),
-        ),
-        (
-            b"GET / HTTP/1.1\r\nA : b\r\n\r\n",
-            HeadError::BadLine(Side::Header, 0),
-        ),
-        (
-            b"GET / HTTP/1.1\r\n A: b\r\n\r\n",
-            HeadError::BadLine(Side::Header, 0),
-        ),
-        (
-            b"GET / HTTP/1.1\r\nA:\r\n b\r\nC\r\n D: e\r\n\r\n",
-            HeadError::BadLine(Side::Header, 1),
-        ),
-        (
-            b"GET / HTTP/1.1\r\nA:\r\nA\xff: b\r\n\r\n\0",
-            HeadError::BadLine(Side::Header, 1),
-        ),
+}
+
+#[test]
+fn first_naked_end_is_named_before_other_faults(rt: HostRuntime) {
+    let heads = [
+        (b"GET / HTTP/1.1\nA: b\r\n\r\n".as_slice(), 14),
+        (b"GET / HTTP/1.2\r\nA: b\n\r\n\r\n", 20),
+        (b"GET / HTTP/1.1\r\nA\r\nB: c\r\n d\re\r\n\r\n", 27),
+        (b"GET / HTTP/1.1\r\nA: b\rc\r\n\r\n", 20),
+        (b"GET / HTTP/1.1\r\nA: b\0\r\n\r\n", 20),
+        (b"GET / HTTP/1.1\r\nA: b\r\r\n\r\n", 20),
+        (b"\n\r\n\r\n", 0),
     ];
-    for (bytes, error) in others {
+    for (bytes, offset) in heads {
+        assert_eq!(rt; used(rt.alloc(), bytes), Err(HeadError::NakedEnd(offset)));
+    }
+}
+
+#[test]
+fn first_bad_line_is_named(rt: HostRuntime) {
+    let heads = [
+        (b"GET / HTTP/1.1\r\nA\r\n\r\n".as_slice(), 0),
+        (b"GET / HTTP/1.1\r\n: b\r\n\r\n", 0),
+        (b"GET / HTTP/1.1\r\nA : b\r\n\r\n", 0),
+        (b"GET / HTTP/1.1\r\n A: b\r\n\r\n", 0),
+        (b"GET / HTTP/1.1\r\nA:\r\n b\r\nC\r\n D: e\r\n\r\n", 1),
+        (b"GET / HTTP/1.1\r\nA:\r\nA\xff: b\r\n\r\n\0", 1),
+    ];
+    for (bytes, index) in heads {
+        let error = HeadError::BadLine(Side::Header, index);
         assert_eq!(rt; used(rt.alloc(), bytes), Err(error));
     }
 }

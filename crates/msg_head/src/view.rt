@@ -1,6 +1,6 @@
 //! The view of a head.
 
-ghost use Rattle.std.specs.Prelude.{◌≡◌, ◌<◌, List, length, slice_get, Some, IsTrue};
+ghost use Rattle.std.specs.Prelude.{◌≡◌, ◌<◌, length, slice_get, Some, IsTrue};
 ghost use Rattle.std.specs.List.{list_all};
 ghost use Rattle.msg_head.specs.Views.{View, lies_in, lines_of, field_line_of, start_line_of};
 

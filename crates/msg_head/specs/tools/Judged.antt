@@ -1,13 +1,13 @@
 -- What is answered to bytes, by its cause. No public clause cites this module.
-use Rattle.std.specs.Prelude.{◌≡◌, ◌≢◌, ℕ, ◌≤◌, List, length, Result, Ok, Err}
+use Rattle.std.specs.Prelude.{◌≡◌, ◌≢◌, ◌⊎◌, ℕ, ◌≤◌, List, length, Result, Ok, Err}
 use Rattle.msg_head.specs.declared.limits.TheConstants.{MAX_HEAD_BYTES}
 use Rattle.msg_head.specs.declared.head.HeadRead.{HeadRead}
 use Rattle.msg_head.specs.declared.head.HeadRead.TheVariants.{Whole, Partial}
 use Rattle.msg_head.specs.declared.error.Side.TheVariants.{Header}
 use Rattle.msg_head.specs.declared.error.HeadError.{HeadError}
-use Rattle.msg_head.specs.declared.error.HeadError.TheVariants.{Memory, BadStart}
+use Rattle.msg_head.specs.declared.error.HeadError.TheVariants.{Memory, NakedEnd, BadStart}
 use Rattle.msg_head.specs.RawValues.{RawPieces}
-use Rattle.msg_head.specs.Cuts.{IsSection, IsCut, MakesNoStart}
+use Rattle.msg_head.specs.Cuts.{IsSection, IsFirstNakedEnd, IsCut, MakesNoStart}
 use Rattle.msg_head.specs.Heads.{IsHeadText, IsUnfinished}
 use Rattle.msg_head.specs.Views.{View, IsViewOf, Fills, head_of}
 use Rattle.msg_head.specs.Causes.{IsHeadError}
@@ -19,6 +19,12 @@ pub record IsCleanSection (section : List ℕ) : Type 0 where
   pub is : IsSection section section
   pub clean : IsClean section
   pub short : length section ≤ MAX_HEAD_BYTES
+
+-- the section's first naked end, or the fault where there is none
+abbrev pub IsFirstFault : List ℕ → HeadError → HeadError → Type 0
+IsFirstFault section fault first =
+    (IsClean section × (first ≡ fault))
+    ⊎ ((offset : ℕ) × IsFirstNakedEnd section offset × (first ≡ NakedEnd offset))
 
 -- the view is that of the head which the section spells
 pub record IsSectionView (view : View) (section : List ℕ) : Type 0 where

@@ -16,6 +16,16 @@ BeginsWithCrlf bytes = (rest : List ℕ) × (bytes ≡ codes "\r\n" ++ rest)
 abbrev pub ended : List ℕ → List ℕ
 ended piece = piece ++ codes "\r\n"
 
+-- the text is pieces without NUL, CR or LF, each of them ended, and what is left
+pub record IsCleanUpTo (text left : List ℕ) : Type 0 where
+  pub pieces : List (List ℕ)
+  pub each : IsTrue (list_all (list_all is_line_byte) pieces)
+  pub joined : text ≡ flat_map ended pieces ++ left
+
+-- so it is up to a CRLF
+abbrev pub IsCleanUpToCrlf : List ℕ → Type 0
+IsCleanUpToCrlf text = (left : List ℕ) × IsCleanUpTo text left × BeginsWithCrlf left
+
 -- pieces without NUL, CR or LF, each of them ended
 pub record IsClean (text : List ℕ) : Type 0 where
   pub pieces : List (List ℕ)

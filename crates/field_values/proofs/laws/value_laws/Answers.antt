@@ -1,5 +1,5 @@
-use Rattle.field_values.proofs.Unfolded.{value_is_unfolded}
+use Rattle.field_values.proofs.Unfolded.{one_value}
 use Rattle.field_values.proofs.laws.value_laws.Goals as goal
 
 pub returns : goal.returns
-returns c = record { unfolded = value_is_unfolded }
+returns c = record { value = one_value }

@@ -2,6 +2,7 @@ use Rattle.std.proofs.Common.{◌≡◌, ℕ, ◌<◌, List, length, sym, subst,
 use Rattle.std.proofs.lemmas.Bool.{eqb-true, eqb-false}
 use Rattle.msg_head.specs.Cuts.{MakesLine}
 use Rattle.msg_head.proofs.LineParts.{no_name, empty_name, no_raw, parts_of}
+use Rattle.msg_head.proofs.CleanTexts.{clean_line}
 use Rattle.msg_head.proofs.line.read_line.Goals as goal
 
 pub returns-in_err-name-clause-there : goal.returns-in_err-name-clause-there
@@ -26,3 +27,7 @@ returns-clause-there c cut more b =
       makes = subst (λ (raw : List ℕ). MakesLine cut (record { name = c.in_ok-name.name.now; raw = raw })) (sym there.0) parts.makes;
       rest_is = there.1;
     }
+
+pub returns-clause-clean : goal.returns-clause-clean
+returns-clause-clean c =
+    clean_line c.args.bytes.now c.in_ok-name.name.now c.in_ok-name.after_name.now c.in_ok-raw.rest.now c.in_ok-name.ensures.some (omega (arith, c.in_ok-raw.ensures.sized)) c.in_ok-raw.ensures.clean

@@ -4,7 +4,12 @@ use Rattle.msg_head.specs.tools.Sections.{IsFaultFrom, span_at}
 use Rattle.msg_head.specs.Views.{field_line_of}
 use Rattle.msg_head.proofs.Walks.{next_of}
 use Rattle.msg_head.proofs.Spans.{walk_more, all_walked, fault_is}
+use Rattle.msg_head.proofs.CleanTexts.{clean_both}
 use Rattle.msg_head.proofs.line.read_lines.Goals as goal
+
+pub returns-then-begins_with_crlf-clause-clean : goal.returns-then-begins_with_crlf-clause-clean
+returns-then-begins_with_crlf-clause-clean c =
+    (c.lines.left.now, c.lines.invariant.clean, c.if-begins_with_crlf.ensures.yes refl)
 
 pub returns-then-begins_with_crlf-clause-ok : goal.returns-then-begins_with_crlf-clause-ok
 returns-then-begins_with_crlf-clause-ok c lines a =
@@ -24,6 +29,7 @@ lines-preserved c =
     rw c.in_ok-push.ensures.items (rw c.span_at.ensures (record {
       within = omega (arith, c.in-Some.ensures.sized, c.lines.invariant.within);
       few = omega (arith, few, length-append c.lines.spans.items (span_at (length c.args.bytes.now - length c.lines.left.now) (field_line_of c.in-Some.line) ∷ []));
+      clean = clean_both c.args.rest.now c.lines.left.now c.in-Some.after.now c.lines.invariant.clean c.in-Some.ensures.clean;
       still = λ lines a.
           let w = c.lines.invariant.still lines a in
           let next = next_of c.lines.left.now w.others w.left_are (c.if-begins_with_crlf.ensures.not refl) in
