@@ -113,6 +113,76 @@ fn bases_of_fields(rt: HostRuntime) -> Result<(), Fail> {
     assert_cases(&rt, rt.alloc(), &cases)
 }
 
+const COMPONENTS: &[u8] = b"GET / HTTP/1.1\r\n\
+Example-Dict: a=1, d\r\n\
+X-B: value, with, lots\r\n\
+X-B: of, commas\r\n\
+X-E:\r\n\
+X-E:\r\n\
+X: \xC3\xA9\r\n\
+Accept-Signature:  a=(),   b=1.50\r\n\r\n";
+
+#[test]
+fn bases_of_fields_with_parameters(rt: HostRuntime) -> Result<(), Fail> {
+    let alloc = rt.alloc();
+    let values = [
+        (r#""example-dict";key="d""#, b"?1".as_slice()),
+        (r#""example-dict";key="a""#, b"1"),
+        (
+            r#""x-b";bs"#,
+            b":dmFsdWUsIHdpdGgsIGxvdHM=:, :b2YsIGNvbW1hcw==:",
+        ),
+        (r#""x-b""#, b"value, with, lots, of, commas"),
+        (r#""x-e""#, b", "),
+        (r#""x";bs"#, b":w6k=:"),
+        (r#""accept-signature";sf"#, b"a=(), b=1.5"),
+        (r#""accept-signature";sf;key="a""#, b"()"),
+    ];
+    for (id, value) in &values {
+        let params = format!(in alloc; "({id})")?;
+        let mut base = Vec::from_slice(alloc, id.as_bytes())?;
+        base.extend_from_slice(b": ")?;
+        base.extend_from_slice(*value)?;
+        base.extend_from_slice(b"\n\"@signature-params\": ")?;
+        base.extend_from_slice(params.as_bytes())?;
+        let case = Case {
+            params: params.as_str(),
+            input: COMPONENTS,
+            status: Status::Done,
+            output: base.as_slice(),
+        };
+        assert_case(&rt, alloc, 4096, &case)?;
+    }
+    Ok(())
+}
+
+#[test]
+fn components_that_lack_a_value(rt: HostRuntime) -> Result<(), Fail> {
+    let lacks = [
+        (
+            r#"("example-dict";key="e")"#,
+            br#"absent "example-dict";key="e""#.as_slice(),
+        ),
+        (r#"("example-dict" "x";tr)"#, br#"absent "x";tr"#),
+        (r#"("x-e" "x" "y")"#, br#"not-ascii "x""#),
+        (r#"("x-b";sf)"#, br#"unreadable "x-b";sf"#),
+        (r#"("x-e";key="a")"#, br#"unreadable "x-e";key="a""#),
+    ];
+    for (params, cause) in &lacks {
+        let mut line = Vec::from_slice(rt.alloc(), b"refused command ")?;
+        line.extend_from_slice(*cause)?;
+        line.push(b'\n')?;
+        let case = Case {
+            params: *params,
+            input: COMPONENTS,
+            status: Status::BadInput,
+            output: line.as_slice(),
+        };
+        assert_case(&rt, rt.alloc(), 4096, &case)?;
+    }
+    Ok(())
+}
+
 #[test]
 fn last_line_is_the_strict_text(rt: HostRuntime) -> Result<(), Fail> {
     let alloc = rt.alloc();
@@ -179,7 +249,12 @@ fn covered_components_are_refused_by_their_cause(rt: HostRuntime) -> Result<(), 
         (r#"("a";sf;tr "a";tr;sf)"#, b"component-repeated 1"),
         (r#"("a");expires=1.5;created="1""#, b"parameter-bad expires"),
         (r#"("@method")"#, b"not-yet"),
-        (r#"("x" "date";sf)"#, b"not-yet"),
+        (r#"("x" "@method")"#, b"not-yet"),
+        (r#"("x" "date";sf)"#, br#"absent "x""#),
+        (r#"("date";sf "x")"#, br#"unreadable "date";sf"#),
+        (r#"("date";key="k")"#, br#"unreadable "date";key="k""#),
+        (r#"("date";req)"#, br#"underivable "date";req"#),
+        (r#"("date" "date";tr)"#, br#"absent "date";tr"#),
     ];
     for (params, cause) in &causes {
         assert_refused(&rt, rt.alloc(), *params, *cause)?;

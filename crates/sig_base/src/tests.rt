@@ -51,6 +51,7 @@ const CASES: [Case<'static>; 4] = [
 ];
 
 // What was fed.
+#[derive(Drop)]
 struct Fed {
     text: Text,
     failed: bool,
