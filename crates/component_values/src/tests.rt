@@ -1,11 +1,11 @@
-ghost use Rattle.std.specs.Prelude.{IfOk, IsTrue};
+ghost use Rattle.std.specs.Prelude.{◌≡◌, IfOk, IsTrue};
 ghost use Rattle.component_ids.specs.SignatureParams.{are_sig_params_in_range};
 ghost use Rattle.component_values.specs.Values.{are_fields};
 
 use super::*;
 use FieldKind::{Dictionary, Item, List};
 use Lack::{Absent, NotAscii, Underivable, Unreadable};
-use component_ids::{FieldKind, Scheme, SigParams, Types, is_field_name, read_params};
+use component_ids::{ComponentId, FieldKind, Scheme, SigParams, Types, is_field_name, read_params};
 use msg_body::{Expect, MessageRead, MessageView, read_message};
 use sfv_read::read_inner;
 use sfv_text::{Absorb, Text};
@@ -53,22 +53,32 @@ impl Absorb for Fed {
     }
 }
 
+fn are_all_fields(ids: &[ComponentId]) -> bool
+    ensures { result ≡ are_fields ids.now }
+{
+    ids.iter().all(|id| is_field_name(id.name.bytes()))
+}
+
+fn sig_params_of(alloc: Global, text: &[u8]) -> Result<SigParams, Fail>
+    ensures { IfOk result (λ params. IsTrue (are_sig_params_in_range params)) }
+{
+    let list = read_inner(alloc, text)?;
+    match read_params(alloc, &list) {
+        Ok(params) => Ok(params),
+        Err(_) => Err(Fail::from("no signature parameters")),
+    }
+}
+
 // Signature parameters that cover fields alone.
 fn params_of(alloc: Global, text: &[u8]) -> Result<SigParams, Fail>
     ensures in_range { IfOk result (λ params. IsTrue (are_sig_params_in_range params)) }
     ensures fields { IfOk result (λ params. IsTrue (are_fields params.ids)) }
 {
-    let list = read_inner(alloc, text)?;
-    match read_params(alloc, &list) {
-        Ok(params) => {
-            if params.ids.iter().all(|id| is_field_name(id.name.bytes())) {
-                Ok(params)
-            } else {
-                Err(Fail::from("a derived component"))
-            }
-        }
-        Err(_) => Err(Fail::from("no signature parameters")),
+    let params = sig_params_of(alloc, text)?;
+    if !are_all_fields(params.ids.as_slice()) {
+        return Err(Fail::from("a derived component"));
     }
+    Ok(params)
 }
 
 // The whole request that the bytes begin with.
@@ -107,14 +117,18 @@ fn fed_value(alloc: Global, prepared: &Prepared<'_, '_>, index: usize) -> Result
     Ok(fed.text)
 }
 
-fn check_case(
+// What the one component comes to.
+fn check_value<'a, 'm>(
     rt: &impl Abort,
     alloc: Global,
-    context: &Context<'_, '_>,
+    context: &Context<'a, 'm>,
+    params: &'a SigParams,
     case: Case<'_>,
-) -> Result<(), Fail> {
-    let params = params_of(alloc, case.list)?;
-    match prepare(alloc, context, &params) {
+) -> Result<(), Fail>
+    requires in_range { IsTrue (are_sig_params_in_range params.now) }
+    requires fields { IsTrue (are_fields params.now.ids) }
+{
+    match prepare(alloc, context, params) {
         Ok(prepared) => {
             let text = fed_value(alloc, &prepared, 0)?;
             assert_eq!(rt; Ok(text.bytes()), case.value, "{:?}", case.list);
@@ -138,7 +152,8 @@ fn check_cases(
     let view = request_of(alloc, message)?;
     let context = context_of(&view, types);
     for case in cases {
-        check_case(rt, alloc, &context, *case)?;
+        let params = params_of(alloc, case.list)?;
+        check_value(rt, alloc, &context, &params, *case)?;
     }
     Ok(())
 }
