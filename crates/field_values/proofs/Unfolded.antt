@@ -9,7 +9,7 @@ use Rattle.byte_classes.specs.Classes.{is_blank}
 use Rattle.byte_grammar.specs.Language.{starts_in}
 use Rattle.msg_head.specs.RawValues.{RawPieces, is_line_byte, is_fold, are_pieces, fold_text, pieces_text}
 use Rattle.field_values.specs.Values.{IsTrimmed, AreTrimmed, IsValue, is_end, without_first_blanks, without_blanks, has_bytes, texts_of, value}
-use Rattle.field_values.specs.Laws.{OneValue}
+use Rattle.field_values.specs.Laws.{RawHasOneValue}
 use Rattle.field_values.proofs.TextLaws.{kept, after_line, Stops, line_then, texts_after, texts_end}
 
 -- ---- blanks at the ends
@@ -140,8 +140,8 @@ value_of_pieces pieces are text = (
   },
 )
 
-pub one_value : OneValue
-one_value raw text is = (
+pub raw_has_one_value : RawHasOneValue
+raw_has_one_value raw text is = (
   λ v. (value_of_pieces is.0 is.1 text).0 (subst (λ (x : List ℕ). IsValue x text) is.2 v) ∙ ap value (sym is.2),
   λ same. subst (λ (x : List ℕ). IsValue x text) (sym is.2) ((value_of_pieces is.0 is.1 text).1 (same ∙ ap value is.2)),
 )

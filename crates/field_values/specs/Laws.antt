@@ -4,5 +4,5 @@ use Rattle.msg_head.specs.RawValues.{IsRaw}
 use Rattle.field_values.specs.Values.{IsValue, value}
 
 -- A line's raw value has one value, the one that is computed.
-abbrev pub OneValue : Type 0
-OneValue = (raw text : List ℕ) → IsRaw raw → (IsValue raw text) ↔ (text ≡ value raw)
+abbrev pub RawHasOneValue : Type 0
+RawHasOneValue = (raw text : List ℕ) → IsRaw raw → (IsValue raw text) ↔ (text ≡ value raw)

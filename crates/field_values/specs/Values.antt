@@ -41,7 +41,7 @@ pub record IsValue (raw text : List ℕ) : Type 0 where
   pub texts_are : AreTrimmed (pieces.first ∷ pieces.folds) texts
   pub value_is : text ≡ join_by (λ t. t) (codes " ") (filter has_bytes texts)
 
--- ---- the function that computes it, as the law OneValue says
+-- ---- the function that computes it, as the law RawHasOneValue says
 
 -- CR or LF; in a raw value they stand as the CRLF of a fold alone
 abbrev pub is_end : ℕ → Bool

@@ -1,5 +1,5 @@
-use Rattle.field_values.proofs.Unfolded.{one_value}
+use Rattle.field_values.proofs.Unfolded.{raw_has_one_value}
 use Rattle.field_values.proofs.laws.value_laws.Goals as goal
 
 pub returns : goal.returns
-returns c = record { value = one_value }
+returns c = record { value = raw_has_one_value }
