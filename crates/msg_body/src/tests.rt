@@ -1,5 +1,6 @@
 use super::*;
 use msg_head::{Side, Start};
+use std::alloc::Global;
 use std::test::Fail;
 
 // A message's text, the kind that is expected, and the error that comes.
@@ -87,6 +88,17 @@ fn other_messages_are_refused(rt: HostRuntime) {
     }
 }
 
+// Why the bytes begin with no message; None where they do, or their end may still come.
+fn refusal_of(alloc: Global, bytes: &[u8]) -> Option<MessageError> {
+    if bytes.len() > MAX_MESSAGE_BYTES {
+        return None;
+    }
+    match read_message(alloc, bytes, Expect::Any, false) {
+        Ok(_) => None,
+        Err(error) => Some(error),
+    }
+}
+
 #[test]
 fn hostile_heads_are_refused(rt: HostRuntime) -> Result<(), Fail> {
     let mut many = Vec::new(rt.alloc());
@@ -108,8 +120,7 @@ fn hostile_heads_are_refused(rt: HostRuntime) -> Result<(), Fail> {
         (&many, MessageError::TooManyLines(Side::Header)),
     ];
     for (bytes, error) in cases {
-        let answer = read_message(rt.alloc(), bytes, Expect::Any, false);
-        assert!(rt; matches!(&answer, Err(given) if *given == error));
+        assert_eq!(rt; refusal_of(rt.alloc(), bytes), Some(error));
     }
     Ok(())
 }
