@@ -62,62 +62,64 @@ fn only_id(rt: &impl Abort, alloc: Global, text: &[u8]) -> Result<ComponentId, F
     }
 }
 
+// Lists whose first bad component is refused for the least reason.
+const BAD_COMPONENTS: [Case<'static>; 6] = [
+    Case {
+        answer: Answer::Bad(1, NotAString),
+        lists: &[
+            br#"("a" a 1)"#,
+            br#"("a" 1;x)"#,
+            br#"("a" :YQ==:)"#,
+            br#"("a" ?1)"#,
+        ],
+    },
+    Case {
+        answer: Answer::Bad(0, Name),
+        lists: &[
+            br#"("")"#,
+            br#"("A";x)"#,
+            br#"("a(")"#,
+            br#"("@")"#,
+            br#"("@signature-params")"#,
+            br#"("@Path")"#,
+        ],
+    },
+    Case {
+        answer: Answer::Bad(0, ParameterUnknown),
+        lists: &[
+            br#"("a";x)"#,
+            br#"("a";sf=1;x)"#,
+            br#"("a";name="a")"#,
+            br#"("@path";sf)"#,
+            br#"("@query-param";key="a")"#,
+            br#"("@status";req)"#,
+        ],
+    },
+    Case {
+        answer: Answer::Bad(0, ParameterType),
+        lists: &[
+            br#"("a";sf=?0)"#,
+            br#"("a";tr=1)"#,
+            br#"("a";key)"#,
+            br#"("a";key=a)"#,
+            br#"("a";bs;sf="a")"#,
+            br#"("@path";req="")"#,
+            br#"("@query-param";name)"#,
+        ],
+    },
+    Case {
+        answer: Answer::Bad(0, ParametersClash),
+        lists: &[br#"("a";bs;sf)"#, br#"("a";key="b";bs)"#],
+    },
+    Case {
+        answer: Answer::Bad(0, NameMissing),
+        lists: &[br#"("@query-param")"#, br#"("@query-param";req)"#],
+    },
+];
+
 #[test]
 fn the_first_bad_component_is_refused_for_the_least_reason(rt: HostRuntime) -> Result<(), Fail> {
-    let cases = [
-        Case {
-            answer: Answer::Bad(1, NotAString),
-            lists: &[
-                br#"("a" a 1)"#,
-                br#"("a" 1;x)"#,
-                br#"("a" :YQ==:)"#,
-                br#"("a" ?1)"#,
-            ],
-        },
-        Case {
-            answer: Answer::Bad(0, Name),
-            lists: &[
-                br#"("")"#,
-                br#"("A";x)"#,
-                br#"("a(")"#,
-                br#"("@")"#,
-                br#"("@signature-params")"#,
-                br#"("@Path")"#,
-            ],
-        },
-        Case {
-            answer: Answer::Bad(0, ParameterUnknown),
-            lists: &[
-                br#"("a";x)"#,
-                br#"("a";sf=1;x)"#,
-                br#"("a";name="a")"#,
-                br#"("@path";sf)"#,
-                br#"("@query-param";key="a")"#,
-                br#"("@status";req)"#,
-            ],
-        },
-        Case {
-            answer: Answer::Bad(0, ParameterType),
-            lists: &[
-                br#"("a";sf=?0)"#,
-                br#"("a";tr=1)"#,
-                br#"("a";key)"#,
-                br#"("a";key=a)"#,
-                br#"("a";bs;sf="a")"#,
-                br#"("@path";req="")"#,
-                br#"("@query-param";name)"#,
-            ],
-        },
-        Case {
-            answer: Answer::Bad(0, ParametersClash),
-            lists: &[br#"("a";bs;sf)"#, br#"("a";key="b";bs)"#],
-        },
-        Case {
-            answer: Answer::Bad(0, NameMissing),
-            lists: &[br#"("@query-param")"#, br#"("@query-param";req)"#],
-        },
-    ];
-    check_cases(&rt, rt.alloc(), &cases)
+    check_cases(&rt, rt.alloc(), &BAD_COMPONENTS)
 }
 
 // Each name of RFC 9421 sections 2.1 and 2.2 with the parameters that go with it.

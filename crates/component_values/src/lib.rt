@@ -4,7 +4,7 @@
 //! as is wanted, without memory.
 //!
 //! ```text
-//! let context = Context { message: &message, related: None, scheme: Scheme::Https, types: &types };
+//! let context = Context::of_message(&message, Scheme::Https, &types);
 //! let prepared = prepare(alloc, &context, &params)?; // Err(Lacks(0, Lack::Absent)), say
 //! prepared.feed(0, &mut hasher);                     // the first component's value
 //! ```

@@ -35,18 +35,20 @@ const CASES: [Case<'static>; 4] = [
         base: b"\"host\": www.example.com\n\"@signature-params\": (\"host\")",
     },
     Case {
-        params: b"( \"cache-control\"  \"x-obs-fold-header\" \"x-empty\");created=1618884475;keyid=\"k\"",
+        params: br#"( "cache-control"  "x-obs-fold-header" "x-empty");created=1;keyid="k""#,
         base: b"\"cache-control\": max-age=60, must-revalidate\n\
 \"x-obs-fold-header\": Obsolete line folding.\n\
 \"x-empty\": \n\
-\"@signature-params\": (\"cache-control\" \"x-obs-fold-header\" \"x-empty\");created=1618884475;keyid=\"k\"",
+\"@signature-params\": (\"cache-control\" \"x-obs-fold-header\" \"x-empty\");\
+created=1;keyid=\"k\"",
     },
     Case {
         params: br#"("example-dict";key="b" "example-dict" "x-ows-header";bs);alg="hmac-sha256""#,
         base: b"\"example-dict\";key=\"b\": 2;x=1;y=2\n\
 \"example-dict\": a=1,    b=2;x=1;y=2,   c=(a   b   c)\n\
 \"x-ows-header\";bs: :TGVhZGluZyBhbmQgdHJhaWxpbmcgd2hpdGVzcGFjZS4=:\n\
-\"@signature-params\": (\"example-dict\";key=\"b\" \"example-dict\" \"x-ows-header\";bs);alg=\"hmac-sha256\"",
+\"@signature-params\": (\"example-dict\";key=\"b\" \"example-dict\" \"x-ows-header\";bs);\
+alg=\"hmac-sha256\"",
     },
 ];
 

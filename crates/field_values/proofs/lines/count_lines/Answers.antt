@@ -6,4 +6,4 @@ use Rattle.field_values.proofs.lines.count_lines.Goals as goal
 pub returns-clause-there : goal.returns-clause-there
 returns-clause-there c =
     there_counted (lines_on c.args.side (message_of c.args.view.now)) c.args.name.now c.loop-index.count c.loop-index.index
-        c.loop-index.invariant.0 (omega (arith, c.line_count-index-end.ensures, c.loop-index-test.false))
+    c.loop-index.invariant.0 (omega (arith, c.line_count-index-end.ensures, c.loop-index-test.false))
