@@ -1,7 +1,6 @@
 -- Of the outcomes of `base` one is the first that holds.
 use Rattle.std.proofs.Common.{◌≡◌, ◌+◌, ◌<◌, ◌≤◌, ◌⊎◌, inl, inr, lit<, lit≤, ℕ, true, false, Option, Some, None, Result, Ok, Err, List, [], length, replicate, IfSome, refl, sym, ap, subst, ◌∙◌, arith}
 use Rattle.std.specs.List.{slice_get}
-use Rattle.std.specs.Option.{IsSomeAnd}
 use Rattle.byte_grammar.proofs.Indices.{some_and, some_and_parts}
 use Rattle.std.proofs.lemmas.Bool.{false≢true}
 use Rattle.byte_grammar.specs.tools.Determined.{AreDetermined}
@@ -21,7 +20,6 @@ use Rattle.msg_body.specs.Messages.{Message, Spells}
 use Rattle.msg_body.specs.declared.error.MessageFault.{MessageFault}
 use Rattle.hms.specs.Base.{HasIdFault, LacksValue, HasBase, context_for, Holds, IsCommandCause, command_order, outcome_order, ReportsBase}
 use Rattle.hms.specs.Covered.{ReadsParams}
-use Rattle.hms.specs.Messages.{IsMessageFault}
 use Rattle.component_values.specs.declared.lack.Lack.{Lack}
 use Rattle.component_values.specs.Values.{HaveValues, IsFirstLack, are_fields}
 use Rattle.component_values.proofs.FirstLacks.{have_one_list, first_lack_is_one, none_lacks}

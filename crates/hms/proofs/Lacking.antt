@@ -1,10 +1,9 @@
 -- A component that lacks a value, as what ends the making of a base.
-use Rattle.std.proofs.Common.{◌≡◌, ◌<◌, ℕ, List, length, Result, Err, refl, subst, inl, inr}
+use Rattle.std.proofs.Common.{ℕ, length, Err, refl}
 use Rattle.std.specs.List.{slice_get}
 use Rattle.std.proofs.lemmas.Option.{slice_get_within}
 use Rattle.byte_grammar.specs.Causes.{AnswersWhere}
 use Rattle.byte_grammar.proofs.Indices.{some_and_parts}
-use Rattle.msg_body.specs.Messages.{Message}
 use Rattle.component_ids.specs.declared.id.ComponentId.{ComponentId}
 use Rattle.component_ids.specs.declared.params.SigParams.{SigParams}
 use Rattle.component_values.specs.declared.lack.Lack.{Lack}
@@ -13,9 +12,7 @@ use Rattle.component_values.specs.declared.lack.ValueFault.TheVariants.{Memory, 
 use Rattle.component_values.specs.declared.prepared.Prepared.{Prepared}
 use Rattle.component_values.specs.Values.{IsFirstLack, Lacks as LacksSo}
 use Rattle.component_values.specs.Context.{MessageContext}
-use Rattle.hms.specs.Base.{context_for}
-use Rattle.hms.specs.declared.stop.Stop.{Stop}
-use Rattle.hms.specs.tools.Prepared.{LiesIn, SaysFault, SaysFirstLack}
+use Rattle.hms.specs.tools.Prepared.{LiesIn}
 
 -- what is known of a fault, by the contract of what prepares
 abbrev pub IsAnswered : MessageContext → SigParams → ValueFault → Type 0
@@ -28,10 +25,3 @@ lies_in context sig (Lacks index lack) answered =
     let first = (answered index lack).only refl in
     let there = some_and_parts (λ (id : ComponentId). LacksSo context id lack) (slice_get sig.ids index) first.there in
     slice_get_within sig.ids index there.0 there.1
-
-pub says_first_lack : (message : Message) (context : MessageContext) (sig : SigParams) (fault : ValueFault) (stop : Stop) → context ≡ context_for message
-    → IsAnswered context sig fault → SaysFault sig.ids fault stop → SaysFirstLack message sig stop
-says_first_lack message context sig Memory stop is answered says = inl says
-says_first_lack message context sig (Lacks index lack) stop is answered (inl memory) = inl memory
-says_first_lack message context sig (Lacks index lack) stop is answered (inr id) =
-    inr (index, lack, subst (λ (c : MessageContext). IsFirstLack c sig.ids index lack) is ((answered index lack).only refl), id)

@@ -1,7 +1,5 @@
-use Rattle.std.proofs.Common.{◌≡◌, length, subst, sym, ap, ◌∙◌}
-use Rattle.msg_body.specs.Views.{message_of}
 use Rattle.component_values.specs.Context.{context_of}
-use Rattle.hms.proofs.Lacking.{lies_in, says_first_lack}
+use Rattle.hms.proofs.Lacking.{lies_in}
 use Rattle.hms.proofs.base.base_of.Goals as goal
 
 pub stop_for_fault-requires-clause-there : goal.stop_for_fault-requires-clause-there
