@@ -2,8 +2,8 @@
 
 ghost use Rattle.field_values.specs.Laws.{RawHasOneValue};
 
-/// The law of values: a line's raw value has one value, which is the texts of its pieces without the
-/// blanks at their ends, those that are not empty, joined by one space.
+/// The law of values: a line's raw value has one value, which is the texts of its pieces without
+/// the blanks at their ends, those that are not empty, joined by one space.
 pub fn value_laws()
     ensures value { RawHasOneValue }
 {}

@@ -16,8 +16,8 @@ impl ByteClass for LineByte {
     }
 }
 
-/// The class of the tchars (RFC 9110 section 5.6.2). Most of a name's bytes are letters and hyphens,
-/// for which the test is short.
+/// The class of the tchars (RFC 9110 section 5.6.2). Most of a name's bytes are letters and
+/// hyphens, for which the test is short.
 #[derive(Clone, Copy, Debug, PartialEq, Eq)]
 pub(crate) struct NameByte;
 

@@ -54,8 +54,8 @@ pub(crate) fn allows_all<C: ByteClass>(class: C, bytes: &[u8]) -> bool
     bytes.iter().all(|byte| class.allows(*byte))
 }
 
-/// The bytes of the class that stand first, where such an end comes after them, and what comes after
-/// it.
+/// The bytes of the class that stand first, where such an end comes after them, and what comes
+/// after it.
 pub(crate) fn prefix_before<'m, C: ByteClass>(
     class: C,
     end: u8,
