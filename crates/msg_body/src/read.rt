@@ -36,7 +36,8 @@ pub fn read_message<'m>(
     _to_head: bool,
 ) -> Result<MessageRead<'m>, MessageError>
     requires { length bytes.now ≤ MAX_MESSAGE_BYTES }
-    ensures whole { IfWholeMessage result (λ view used. IsMessageViewOf expect bytes.now view used) }
+    ensures whole { IfWholeMessage result
+        (λ view used. IsMessageViewOf expect bytes.now view used) }
     ensures found { (message : Message) (used : ℕ) → SpellsMessage message used bytes.now
         → IsTrue (is_expected expect message.head.start)
         → IsMessageUnlessMemory result message used }
