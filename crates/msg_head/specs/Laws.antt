@@ -14,8 +14,8 @@ OneHead =
 -- A text is that of at most one head.
 abbrev pub OneHeadOfText : Type 0
 OneHeadOfText =
-    (bytes : List ℕ) (one other : Head)
-    → IsHeadText one bytes → IsHeadText other bytes → one ≡ other
+    (bytes : List ℕ) (one other : Head) →
+    IsHeadText one bytes → IsHeadText other bytes → one ≡ other
 
 -- No head's text is a proper prefix of another head's text.
 abbrev pub NoHeadInPrefix : Type 0
