@@ -1,5 +1,5 @@
 -- Texts whose bytes are all below a limit.
-use Rattle.std.proofs.Common.{◌≡◌, ℕ, suc, nat_lt, ◌<◌, Bool, true, List, [], ◌∷◌, ◌++◌, slice_index, refl}
+use Rattle.std.proofs.Common.{◌≡◌, ℕ, suc, nat_lt, ◌<◌, true, List, [], ◌∷◌, ◌++◌, slice_index, refl}
 use Rattle.std.specs.Char.{is_ascii}
 use Rattle.std.specs.List.{list_all}
 use Rattle.std.specs.Str.{IsAscii}

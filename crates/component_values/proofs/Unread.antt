@@ -1,7 +1,6 @@
 -- Texts that aren't read, and members of Dictionaries.
-use Rattle.std.proofs.Common.{◌≡◌, ℕ, Bool, true, IsTrue, List, [], ◌∷◌, Option, Some, None, Result, Ok, Err, refl, sym, inl, inr}
-use Rattle.std.specs.List.{list_all, find}
-use Rattle.std.specs.Option.{option_map}
+use Rattle.std.proofs.Common.{◌≡◌, ℕ, true, List, [], ◌∷◌, Some, Result, Err, refl, sym, inl, inr}
+use Rattle.std.specs.List.{list_all}
 use Rattle.std.proofs.lemmas.Bool.{cases_Bool, and_parts}
 use Rattle.sfv_text.specs.Keys.{has_key, have_distinct_keys, value_of}
 use Rattle.sfv_text.specs.Range.{is_key, is_member_in_range, is_dict_member_in_range, is_dict_in_range}

@@ -1,6 +1,6 @@
 -- The value of a component, or how it lacks one: a table of rows, of which the first that applies
 -- says what the component comes to (RFC 9421 sections 2.1 and 2.4).
-use Rattle.std.specs.Prelude.{◌≡◌, ⊤, ℕ, Bool, true, false, Option, Some, None, is_some, option_and_then, ok_or, List, [], ◌∷◌, length, take, slice_get, IsSomeAnd, Result, Ok, Err, codes, if◌then◌else◌}
+use Rattle.std.specs.Prelude.{◌≡◌, ⊤, ℕ, Bool, true, false, Option, Some, None, option_and_then, ok_or, List, [], ◌∷◌, take, slice_get, IsSomeAnd, Result, Ok, Err, codes, if◌then◌else◌}
 use Rattle.std.specs.Char.{is_ascii}
 use Rattle.std.specs.List.{join_by, list_all}
 use Rattle.sfv_text.specs.Keys.{value_of}

@@ -1,5 +1,5 @@
 -- What the parts of the code answer. No public clause cites this module.
-use Rattle.std.specs.Prelude.{◌≡◌, ⊤, ℕ, List, Result, Ok, Err}
+use Rattle.std.specs.Prelude.{⊤, ℕ, List, Result, Ok, Err}
 use Rattle.msg_head.specs.Lines.{FieldLine}
 use Rattle.msg_body.specs.Views.{message_of, lines_on}
 use Rattle.field_values.specs.Values.{combined_value}

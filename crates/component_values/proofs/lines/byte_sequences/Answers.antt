@@ -1,4 +1,4 @@
-use Rattle.std.proofs.Common.{◌≡◌, List, [], ◌∷◌, ◌++◌, sym, ap, ◌∙◌, append_assoc, refl}
+use Rattle.std.proofs.Common.{[], ◌∷◌, ◌++◌, sym, ap, ◌∙◌, append_assoc}
 use Rattle.msg_head.specs.Views.{field_line_of}
 use Rattle.field_values.specs.Values.{values}
 use Rattle.component_values.specs.Values.{byte_sequences}

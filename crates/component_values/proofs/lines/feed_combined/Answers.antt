@@ -1,4 +1,4 @@
-use Rattle.std.proofs.Common.{◌≡◌, ℕ, List, ◌++◌, sym, ap, subst, ◌∙◌, append_assoc}
+use Rattle.std.proofs.Common.{ℕ, List, ◌++◌, sym, ap, subst, ◌∙◌, append_assoc}
 use Rattle.field_values.specs.LeftInFields.{combined_left}
 use Rattle.component_values.proofs.lines.feed_combined.Goals as goal
 
