@@ -8,7 +8,7 @@ use Rattle.std.proofs.lemmas.List.Folds.{list_all-append}
 use Rattle.byte_classes.specs.Classes.{is_blank}
 use Rattle.byte_grammar.specs.Language.{starts_in}
 use Rattle.msg_head.specs.RawValues.{RawPieces, is_line_byte, is_fold, are_pieces, fold_text, pieces_text}
-use Rattle.field_values.specs.Values.{IsTrimmed, AreTrimmed, IsValue, is_end, without_first_blanks, without_blanks, has_bytes, texts_of, value}
+use Rattle.field_values.specs.Values.{IsTrimmed, AreTrimmed, IsLineValue, is_end, without_first_blanks, without_blanks, has_bytes, texts_of, value}
 use Rattle.field_values.specs.Laws.{RawHasOneValue}
 use Rattle.field_values.proofs.TextLaws.{kept, after_line, Stops, line_then, texts_after, texts_end}
 
@@ -127,7 +127,7 @@ texts_are pieces texts are is =
     let both = and_parts (list_all is_line_byte pieces.first) (list_all is_fold pieces.folds) are in
     texts_of_pieces pieces.first pieces.folds texts both.0 both.1 is
 
-value_of_pieces : (pieces : RawPieces) → are_pieces pieces ≡ true → (text : List ℕ) → (IsValue (pieces_text pieces) text) ↔ (text ≡ value (pieces_text pieces))
+value_of_pieces : (pieces : RawPieces) → are_pieces pieces ≡ true → (text : List ℕ) → (IsLineValue (pieces_text pieces) text) ↔ (text ≡ value (pieces_text pieces))
 value_of_pieces pieces are text = (
   λ is. is.value_is ∙ ap (join_by (λ text. text) (codes " ")) (sym (texts_are is.pieces is.texts is.are is.texts_are)) ∙ ap value (sym is.joined),
   λ same. record {
@@ -142,6 +142,6 @@ value_of_pieces pieces are text = (
 
 pub raw_has_one_value : RawHasOneValue
 raw_has_one_value raw text is = (
-  λ v. (value_of_pieces is.0 is.1 text).0 (subst (λ (x : List ℕ). IsValue x text) is.2 v) ∙ ap value (sym is.2),
-  λ same. subst (λ (x : List ℕ). IsValue x text) (sym is.2) ((value_of_pieces is.0 is.1 text).1 (same ∙ ap value is.2)),
+  λ v. (value_of_pieces is.0 is.1 text).0 (subst (λ (x : List ℕ). IsLineValue x text) is.2 v) ∙ ap value (sym is.2),
+  λ same. subst (λ (x : List ℕ). IsLineValue x text) (sym is.2) ((value_of_pieces is.0 is.1 text).1 (same ∙ ap value is.2)),
 )

@@ -33,7 +33,7 @@ has_bytes text = nat_lt 0 (length text)
 -- The raw value is pieces joined by CRLF, and the value is their texts, those that are not empty,
 -- joined by SP. So the blanks at both ends of the raw value go, and each fold becomes one SP, with
 -- the blanks around it and the folds that only blanks part from it.
-pub record IsValue (raw text : List ℕ) : Type 0 where
+pub record IsLineValue (raw text : List ℕ) : Type 0 where
   pub pieces : RawPieces
   pub are : IsTrue (are_pieces pieces)
   pub joined : raw ≡ pieces_text pieces

@@ -2,7 +2,7 @@
 
 ghost use Rattle.std.specs.Prelude.{◌≡◌};
 ghost use Rattle.msg_head.specs.RawValues.{IsRaw};
-ghost use Rattle.field_values.specs.Values.{IsValue, value};
+ghost use Rattle.field_values.specs.Values.{IsLineValue, value};
 ghost use Rattle.field_values.specs.LeftInLines.{value_left};
 
 use crate::pieces::Pieces;
@@ -11,7 +11,7 @@ use msg_head::LineView;
 /// The pieces of the line's value, borrowed from its message.
 pub fn line_pieces<'m>(line: LineView<'m>) -> Pieces<'m>
     ensures value { value_left result ≡ value line.entry.raw.now }
-    ensures folds { IsRaw line.entry.raw.now → IsValue line.entry.raw.now (value_left result) }
+    ensures folds { IsRaw line.entry.raw.now → IsLineValue line.entry.raw.now (value_left result) }
 {
     Pieces {
         left: line.raw,
