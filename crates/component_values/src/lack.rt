@@ -42,6 +42,11 @@ impl Lack {
 }
 
 impl fmt::Display for Lack {
+    ghost use Rattle.std.specs.Prelude.{Some};
+    ghost use Rattle.component_values.specs.Words.{lack_word};
+
+    ghost output = { λ lack. Some (lack_word lack) };
+
     fn fmt<W: fmt::Write>(&self, f: &mut fmt::Formatter<W>) -> fmt::Result {
         f.write_str(self.word())
     }
@@ -59,6 +64,11 @@ pub enum ValueFault {
 }
 
 impl fmt::Display for ValueFault {
+    ghost use Rattle.std.specs.Prelude.{Some};
+    ghost use Rattle.component_values.specs.Words.{value_fault_text};
+
+    ghost output = { λ fault. Some (value_fault_text fault) };
+
     fn fmt<W: fmt::Write>(&self, f: &mut fmt::Formatter<W>) -> fmt::Result {
         match self {
             ValueFault::Memory => f.write_str("out of memory"),
