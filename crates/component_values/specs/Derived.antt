@@ -1,0 +1,167 @@
+-- The value of a derived component, or how it lacks one: the rows of the names that begin with `@`
+-- (RFC 9421 section 2.2).
+use Rattle.std.specs.Prelude.{◌≡◌, ◌⊎◌, ℕ, Bool, true, false, Option, Some, None, unwrap_or, option_map, option_and_then, ok_or, List, [], ◌∷◌, ◌++◌, Result, Ok, Err, codes, if◌then◌else◌}
+use Rattle.std.specs.Str.{byte, bytes_eq, str_to_ascii_lowercase}
+use Rattle.sfv_text.specs.Keys.{value_of}
+use Rattle.sfv_text.specs.declared.pair.Pair.{Pair}
+use Rattle.sfv_text.specs.declared.value.BareItem.{BareItem}
+use Rattle.sfv_text.specs.declared.value.BareItem.TheVariants.{Str}
+use Rattle.msg_head.specs.Lines.{FieldLine}
+use Rattle.msg_head.specs.Starts.{StartLine, RequestLine, StatusLine, request, status}
+use Rattle.field_values.specs.Values.{values}
+use Rattle.component_ids.specs.declared.scheme.Scheme.{Scheme}
+use Rattle.component_ids.specs.declared.scheme.Scheme.TheVariants.{Http, Https}
+use Rattle.targets.specs.Targets.{TargetParts, SpellsTarget, has_path, path_of, query_of, query_text}
+use Rattle.targets.specs.Authorities.{IsAuthorityValue}
+use Rattle.targets.specs.Query.{matches}
+use Rattle.component_values.specs.declared.derived.DerivedName.{DerivedName}
+use Rattle.component_values.specs.declared.derived.DerivedName.TheVariants as name
+use Rattle.component_values.specs.declared.lack.Lack.{Lack}
+use Rattle.component_values.specs.declared.lack.Lack.TheVariants.{Absent, Ambiguous, Underivable}
+
+-- ---- names
+
+-- the name of a derived component (sections 2.2.1 to 2.2.9)
+abbrev pub derived_of : List ℕ → Option DerivedName
+derived_of text =
+    if bytes_eq text (codes "@method") then Some name.Method
+    else if bytes_eq text (codes "@target-uri") then Some name.TargetUri
+    else if bytes_eq text (codes "@authority") then Some name.Authority
+    else if bytes_eq text (codes "@scheme") then Some name.Scheme
+    else if bytes_eq text (codes "@request-target") then Some name.RequestTarget
+    else if bytes_eq text (codes "@path") then Some name.Path
+    else if bytes_eq text (codes "@query") then Some name.Query
+    else if bytes_eq text (codes "@query-param") then Some name.QueryParam
+    else if bytes_eq text (codes "@status") then Some name.Status
+    else None
+
+-- ---- parts of a request
+
+-- the one value of a list: none is absent, and several are ambiguous
+abbrev pub sole_value : List (List ℕ) → Result (List ℕ) Lack
+sole_value [] = Err Absent
+sole_value (value ∷ []) = Ok value
+sole_value (value ∷ other ∷ others) = Err Ambiguous
+
+abbrev pub scheme_text : Scheme → List ℕ
+scheme_text Http = codes "http"
+scheme_text Https = codes "https"
+
+-- a request's line and field lines, and the scheme that is configured
+pub record RequestParts : Type 0 where
+  pub line : RequestLine
+  pub lines : List FieldLine
+  pub scheme : Scheme
+
+-- the target's scheme in lower case, or the configured one where the target has none
+-- (section 2.2.4)
+abbrev pub scheme_of : RequestParts → TargetParts → List ℕ
+scheme_of parts target =
+    unwrap_or (option_map str_to_ascii_lowercase target.scheme) (scheme_text parts.scheme)
+
+-- the target's authority, or the value of the one `Host` line where the target has none
+-- (section 2.2.3)
+abbrev pub named_authority : RequestParts → Option (List ℕ) → Result (List ℕ) Lack
+named_authority parts (Some text) = Ok text
+named_authority parts None = sole_value (values parts.lines (codes "host"))
+
+-- the value of the authority that is so named; a text that is none is underivable
+abbrev pub AuthorityRow : List ℕ → Result (List ℕ) Lack → Result (List ℕ) Lack → Type 0
+AuthorityRow scheme (Err lack) result = result ≡ Err lack
+AuthorityRow scheme (Ok text) (Ok value) = IsAuthorityValue scheme text value
+AuthorityRow scheme (Ok text) (Err lack) =
+    (lack ≡ Underivable) × ((value : List ℕ) → ¬ IsAuthorityValue scheme text value)
+
+-- `@authority` (section 2.2.3)
+abbrev pub TargetAuthorityRow : RequestParts → TargetParts → Result (List ℕ) Lack → Type 0
+TargetAuthorityRow parts target result =
+    AuthorityRow (scheme_of parts target) (named_authority parts target.authority) result
+
+-- `@path` (section 2.2.6)
+abbrev pub path_value : TargetParts → Result (List ℕ) Lack
+path_value target = ok_or (path_of target) Underivable
+
+-- `@query`: `?` and the query, `?` alone where there is none (section 2.2.7)
+abbrev pub query_value : TargetParts → Result (List ℕ) Lack
+query_value target =
+    ok_or (option_map (λ query. byte "?" ∷ unwrap_or query []) (query_of target)) Underivable
+
+-- the scheme, `://`, the authority, the path, and `?` with the query where there is a `?`
+abbrev pub uri_text : RequestParts → TargetParts → List ℕ → List ℕ
+uri_text parts target authority =
+    scheme_of parts target ++ (codes "://" ++ (authority
+    ++ (unwrap_or (path_of target) [] ++ query_text target.query)))
+
+-- the value where there is one, changed so
+abbrev pub with_value : (List ℕ → List ℕ) → Result (List ℕ) Lack → Result (List ℕ) Lack
+with_value change (Ok value) = Ok (change value)
+with_value change (Err lack) = Err lack
+
+-- `@target-uri`, which lacks as `@authority` does (section 2.2.2)
+abbrev pub TargetUriRow : Bool → RequestParts → TargetParts → Result (List ℕ) Lack → Type 0
+TargetUriRow false parts target result = result ≡ Err Underivable
+TargetUriRow true parts target result = (authority : Result (List ℕ) Lack)
+    × TargetAuthorityRow parts target authority
+    × (result ≡ with_value (uri_text parts target) authority)
+
+-- the characters of the String that the parameter `name` is
+abbrev pub param_name : List (Pair BareItem) → List ℕ
+param_name params = unwrap_or (option_and_then string_in (value_of params (codes "name"))) []
+
+-- `@query-param`: the one value under the name (section 2.2.8)
+abbrev pub param_value : Bool → List (Pair BareItem) → TargetParts → Result (List ℕ) Lack
+param_value false params target = Err Underivable
+param_value true params target =
+    sole_value (matches (unwrap_or target.query []) (param_name params))
+
+-- ---- rows
+
+-- what is drawn from the parts of a target
+abbrev pub TargetRow : DerivedName → List (Pair BareItem) → RequestParts → TargetParts
+    → Result (List ℕ) Lack → Type 0
+TargetRow name.Scheme params parts target result = result ≡ Ok (scheme_of parts target)
+TargetRow name.Authority params parts target result = TargetAuthorityRow parts target result
+TargetRow name.Path params parts target result = result ≡ path_value target
+TargetRow name.Query params parts target result = result ≡ query_value target
+TargetRow name.TargetUri params parts target result =
+    TargetUriRow (has_path target.form) parts target result
+TargetRow name.QueryParam params parts target result =
+    result ≡ param_value (has_path target.form) params target
+TargetRow other params parts target result = ⊥
+
+-- a target in no form has no parts to draw from
+abbrev pub FormedRow : DerivedName → List (Pair BareItem) → RequestParts
+    → Result (List ℕ) Lack → Type 0
+FormedRow derived params parts result =
+    ((target : TargetParts) × SpellsTarget parts.line.method parts.line.target target
+    × TargetRow derived params parts target result)
+    ⊎ (((target : TargetParts) → ¬ SpellsTarget parts.line.method parts.line.target target)
+    × (result ≡ Err Underivable))
+
+-- a derived component of a request: the method and the target as they are sent, and what is drawn
+-- from the target; it has no status (sections 2.2.1, 2.2.5 and 2.2.9)
+abbrev pub RequestRow : DerivedName → List (Pair BareItem) → RequestParts
+    → Result (List ℕ) Lack → Type 0
+RequestRow name.Method params parts result = result ≡ Ok parts.line.method
+RequestRow name.RequestTarget params parts result = result ≡ Ok parts.line.target
+RequestRow name.Status params parts result = result ≡ Err Underivable
+RequestRow derived params parts result = FormedRow derived params parts result
+
+-- a derived component of a response: the status alone (section 2.2.9)
+abbrev pub response_value : DerivedName → StatusLine → Result (List ℕ) Lack
+response_value name.Status line = Ok line.code
+response_value derived line = Err Underivable
+
+-- by the kind of the message
+abbrev pub StartRow : DerivedName → List (Pair BareItem) → Scheme → List FieldLine → StartLine
+    → Result (List ℕ) Lack → Type 0
+StartRow derived params scheme lines (request line) result =
+    RequestRow derived params (record { line = line; lines = lines; scheme = scheme }) result
+StartRow derived params scheme lines (status line) result = result ≡ response_value derived line
+
+-- by the name; no component has another one
+abbrev pub DerivedRow : Option DerivedName → List (Pair BareItem) → Scheme → List FieldLine
+    → StartLine → Result (List ℕ) Lack → Type 0
+DerivedRow (Some derived) params scheme lines start result =
+    StartRow derived params scheme lines start result
+DerivedRow None params scheme lines start result = ⊥
