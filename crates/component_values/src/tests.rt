@@ -1,11 +1,11 @@
-ghost use Rattle.std.specs.Prelude.{◌≡◌, IfOk, IsTrue};
+ghost use Rattle.std.specs.Prelude.{IfOk, IsTrue};
 ghost use Rattle.component_ids.specs.SignatureParams.{are_sig_params_in_range};
 ghost use Rattle.component_values.specs.Values.{are_fields};
 
 use super::*;
 use FieldKind::{Dictionary, Item, List};
 use Lack::{Absent, NotAscii, Underivable, Unreadable};
-use component_ids::{ComponentId, FieldKind, Scheme, SigParams, Types, is_field_name, read_params};
+use component_ids::{FieldKind, Scheme, SigParams, Types, read_params};
 use msg_body::{Expect, MessageRead, MessageView, read_message};
 use sfv_read::read_inner;
 use sfv_text::{Absorb, Text};
@@ -53,12 +53,6 @@ impl Absorb for Fed {
     }
 }
 
-fn are_all_fields(ids: &[ComponentId]) -> bool
-    ensures { result ≡ are_fields ids.now }
-{
-    ids.iter().all(|id| is_field_name(id.name.bytes()))
-}
-
 fn sig_params_of(alloc: Global, text: &[u8]) -> Result<SigParams, Fail>
     ensures { IfOk result (λ params. IsTrue (are_sig_params_in_range params)) }
 {
@@ -75,7 +69,7 @@ fn params_of(alloc: Global, text: &[u8]) -> Result<SigParams, Fail>
     ensures fields { IfOk result (λ params. IsTrue (are_fields params.ids)) }
 {
     let params = sig_params_of(alloc, text)?;
-    if !are_all_fields(params.ids.as_slice()) {
+    if !are_fields(params.ids.as_slice()) {
         return Err(Fail::from("a derived component"));
     }
     Ok(params)

@@ -1,11 +1,16 @@
+ghost use Rattle.std.specs.Prelude.{IfOk, IsTrue};
+ghost use Rattle.component_ids.specs.SignatureParams.{are_sig_params_in_range};
+ghost use Rattle.component_values.specs.Values.{are_fields};
+
 use super::*;
 use crate::buffer::{ByteBuffer, ByteCount};
 use component_ids::{Scheme, SigParams, Types, read_params};
-use component_values::{Context, Prepared, prepare};
-use msg_body::{Expect, MessageRead, MessageView, read_message};
+use component_values::{Context, are_fields, prepare};
+use msg_body::{Expect, MessageRead, read_message};
 use sfv_read::read_inner;
 use sfv_text::{Absorb, Memory, Text};
 use std::alloc::Global;
+use std::process::Abort;
 use std::test::Fail;
 
 const MESSAGE: &[u8] = b"GET /foo HTTP/1.1\r\n\
@@ -71,12 +76,52 @@ impl Absorb for Fed {
     }
 }
 
-fn params_of(alloc: Global, text: &[u8]) -> Result<SigParams, Fail> {
+fn sig_params_of(alloc: Global, text: &[u8]) -> Result<SigParams, Fail>
+    ensures { IfOk result (λ params. IsTrue (are_sig_params_in_range params)) }
+{
     let list = read_inner(alloc, text)?;
     match read_params(alloc, &list) {
         Ok(params) => Ok(params),
         Err(_) => Err(Fail::from("no signature parameters")),
     }
+}
+
+// Signature parameters that cover fields alone.
+fn params_of(alloc: Global, text: &[u8]) -> Result<SigParams, Fail>
+    ensures in_range { IfOk result (λ params. IsTrue (are_sig_params_in_range params)) }
+    ensures fields { IfOk result (λ params. IsTrue (are_fields params.ids)) }
+{
+    let params = sig_params_of(alloc, text)?;
+    if !are_fields(params.ids.as_slice()) {
+        return Err(Fail::from("a derived component"));
+    }
+    Ok(params)
+}
+
+// The base, and that feeding gives the same.
+fn check_base<'a, 'm>(
+    rt: &impl Abort,
+    alloc: Global,
+    context: &Context<'a, 'm>,
+    params: &'a SigParams,
+    base: &[u8],
+) -> Result<(), Fail>
+    requires in_range { IsTrue (are_sig_params_in_range params.now) }
+    requires fields { IsTrue (are_fields params.now.ids) }
+{
+    let Ok(prepared) = prepare(alloc, context, params) else {
+        return Err(Fail::from("a component lacks a value"));
+    };
+    let text = base_bytes(alloc, &prepared)?;
+    assert_eq!(rt; text.bytes(), base);
+    let mut fed = Fed {
+        text: Text::new(alloc),
+        failed: false,
+    };
+    feed_base(&prepared, &mut fed);
+    assert!(rt; !fed.failed);
+    assert_eq!(rt; fed.text.bytes(), base);
+    Ok(())
 }
 
 #[test]
@@ -89,18 +134,7 @@ fn bases_have_a_line_for_each_component_and_the_last(rt: HostRuntime) -> Result<
     let context = Context::of_message(&message, Scheme::Https, &types);
     for case in CASES {
         let params = params_of(alloc, case.params)?;
-        let Ok(prepared) = prepare(alloc, &context, &params) else {
-            return Err(Fail::from("a component lacks a value"));
-        };
-        let base = base_bytes(alloc, &prepared)?;
-        assert_eq!(rt; base.bytes(), case.base);
-        let mut fed = Fed {
-            text: Text::new(alloc),
-            failed: false,
-        };
-        feed_base(&prepared, &mut fed);
-        assert!(rt; !fed.failed);
-        assert_eq!(rt; fed.text.bytes(), case.base);
+        check_base(&rt, alloc, &context, &params, case.base)?;
     }
     Ok(())
 }
