@@ -1,0 +1,4 @@
+mod Given
+mod Runs
+mod TargetParts
+mod AuthorityParts
