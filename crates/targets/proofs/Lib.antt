@@ -2,3 +2,4 @@ mod Given
 mod Runs
 mod TargetParts
 mod AuthorityParts
+mod Visible

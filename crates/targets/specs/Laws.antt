@@ -1,5 +1,7 @@
 -- Laws of targets and authorities.
-use Rattle.std.specs.Prelude.{◌≡◌, ℕ, List, Option}
+use Rattle.std.specs.Prelude.{◌≡◌, ℕ, IsTrue, List, Option, IfSome}
+use Rattle.std.specs.List.{list_all}
+use Rattle.byte_classes.specs.Classes.{is_visible}
 use Rattle.targets.specs.Targets.{TargetParts, SpellsTarget}
 use Rattle.targets.specs.Authorities.{IsAuthority, IsAuthorityValue}
 
@@ -20,3 +22,24 @@ abbrev pub OneAuthorityValue : Type 0
 OneAuthorityValue =
     (scheme text one other : List ℕ) →
     IsAuthorityValue scheme text one → IsAuthorityValue scheme text other → one ≡ other
+
+-- ---- no value breaks a line
+
+-- the parts have visible bytes alone
+pub record AreVisible (parts : TargetParts) : Type 0 where
+  pub scheme : IfSome parts.scheme (λ text. IsTrue (list_all is_visible text))
+  pub authority : IfSome parts.authority (λ text. IsTrue (list_all is_visible text))
+  pub path : IsTrue (list_all is_visible parts.path)
+  pub query : IfSome parts.query (λ text. IsTrue (list_all is_visible text))
+
+-- So do those of a target that has visible bytes alone.
+abbrev pub HasVisibleParts : Type 0
+HasVisibleParts =
+    (method target : List ℕ) (parts : TargetParts) →
+    SpellsTarget method target parts → IsTrue (list_all is_visible target) → AreVisible parts
+
+-- The value of an authority has visible bytes alone.
+abbrev pub HasVisibleValue : Type 0
+HasVisibleValue =
+    (scheme text value : List ℕ) →
+    IsAuthorityValue scheme text value → IsTrue (list_all is_visible value)

@@ -19,7 +19,7 @@ mod target;
 mod uri_byte;
 
 pub use authority::{Authority, authority_of};
-pub use laws::target_laws;
+pub use laws::{target_laws, values_are_visible};
 pub use target::{Form, Target, cut_target, path_of, query_of};
 
 #[cfg(test)]
