@@ -1,5 +1,5 @@
 -- The host and the port of an authority are determined by its text.
-use Rattle.std.proofs.Common.{◌≡◌, ◌≢◌, ◌⊎◌, inl, inr, ℕ, ◌+◌, Bool, true, false, List, [], ◌∷◌, ◌++◌, length, take, drop, Option, refl, sym, ap, subst, ◌∙◌, append_assoc, length-append, arith, codes}
+use Rattle.std.proofs.Common.{◌≡◌, ◌≢◌, inl, inr, ℕ, ◌+◌, true, false, List, [], ◌∷◌, ◌++◌, length, take, drop, Option, refl, sym, ap, ◌∙◌, append_assoc, length-append, arith, codes}
 use Rattle.std.specs.List.{list_all}
 use Rattle.std.proofs.Math.Seq.{take-append_seam}
 use Rattle.std.proofs.lemmas.Bool.{and_parts, false≢true}
@@ -7,7 +7,7 @@ use Rattle.std.proofs.lemmas.List.{take-append-drop}
 use Rattle.byte_classes.specs.Classes.{is_digit}
 use Rattle.byte_grammar.specs.Language.{starts_in}
 use Rattle.targets.specs.UriBytes.{is_host_byte, is_literal_byte}
-use Rattle.targets.specs.Authorities.{IsLiteral, IsAuthority, IsAuthorityFor, IsAuthorityValue, AuthorityParts, authority_text, kept_port, is_reg_name, port_text}
+use Rattle.targets.specs.Authorities.{IsAuthority, authority_text, kept_port, is_reg_name, port_text}
 use Rattle.targets.specs.Laws.{OneAuthority, OneAuthorityValue}
 use Rattle.targets.specs.tools.Parts.{IsMarked, BeginsWithHost, BeginsWithRegName, BeginsWithLiteral}
 use Rattle.targets.proofs.Runs.{one_run, marked_ends, one_marked, not_empty}

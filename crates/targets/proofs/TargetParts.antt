@@ -1,11 +1,10 @@
 -- The parts of a target are determined by the method and the target.
-use Rattle.std.proofs.Common.{◌≡◌, ◌≢◌, ◌⊎◌, inl, inr, ℕ, Bool, true, false, ◌&&◌, ◌||◌, ◌==◌, not, List, [], ◌∷◌, ◌++◌, Option, Some, None, refl, sym, ap, subst, ◌∙◌, append_assoc, codes}
+use Rattle.std.proofs.Common.{◌≡◌, ◌≢◌, inl, inr, ℕ, true, false, ◌==◌, List, [], ◌∷◌, ◌++◌, Option, Some, refl, sym, ap, subst, ◌∙◌, codes}
 use Rattle.std.specs.List.{list_all}
 use Rattle.std.proofs.lemmas.Bool.{and_parts, cases_Bool, eqb-true, false≢true}
 use Rattle.std.proofs.lemmas.List.{append_cancel_left}
-use Rattle.byte_classes.specs.Classes.{is_alpha, is_one_of}
+use Rattle.byte_classes.specs.Classes.{is_alpha}
 use Rattle.byte_grammar.specs.Language.{starts_in, IsWord}
-use Rattle.targets.specs.declared.target.Form.{Form}
 use Rattle.targets.specs.UriBytes.{is_scheme_byte, is_authority_byte, is_path_byte, is_query_byte}
 use Rattle.targets.specs.Targets.{TargetParts, is_scheme, is_path, is_absolute_path, query_text, IsOriginForm, IsAbsoluteForm, IsAuthorityForm, IsAsteriskForm, IsOtherForm, SpellsTarget}
 use Rattle.targets.specs.Laws.{OneTarget}

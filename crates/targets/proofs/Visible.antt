@@ -1,18 +1,18 @@
 -- Parts of visible targets, and values of authorities, are visible.
-use Rattle.std.proofs.Common.{◌≡◌, ◌⊎◌, inl, inr, ℕ, Bool, true, false, ◌&&◌, ◌||◌, ◌==◌, List, [], ◌∷◌, ◌++◌, length, Option, Some, None, IfSome, refl, sym, ap, subst, ◌∙◌, arith, codes}
+use Rattle.std.proofs.Common.{◌≡◌, inl, inr, ℕ, Bool, true, ◌||◌, ◌==◌, List, ◌++◌, length, Option, Some, None, IfSome, refl, sym, ap, subst, ◌∙◌, arith, codes}
 use Rattle.std.specs.Char.{is_ascii_alphanumeric, to_ascii_lowercase}
 use Rattle.std.specs.List.{list_all}
 use Rattle.std.specs.Str.{str_to_ascii_lowercase}
 use Rattle.std.proofs.lemmas.Bool.{and_parts, cases_Bool, or_cases, eqb-true}
 use Rattle.std.proofs.lemmas.Bool.Decides.{nat_tests}
 use Rattle.std.proofs.lemmas.List.Folds.{list_all-map}
-use Rattle.byte_classes.specs.Classes.{is_visible, is_digit, is_one_of}
+use Rattle.byte_classes.specs.Classes.{is_visible, is_digit}
 use Rattle.byte_grammar.proofs.ChoiceLaws.{of_each}
 use Rattle.byte_grammar.proofs.ListLaws.{all_joined, all_parts, all_implied}
 use Rattle.targets.specs.UriBytes.{is_host_byte, is_literal_byte, is_unreserved_or_delim}
 use Rattle.targets.specs.Marks.{marked_text}
-use Rattle.targets.specs.Targets.{TargetParts, query_text, IsOriginForm, IsAbsoluteForm, IsOtherForm, SpellsTarget}
-use Rattle.targets.specs.Authorities.{IsHost, IsLiteral, is_reg_name, is_default_port, kept_port, port_text, IsAuthorityValue}
+use Rattle.targets.specs.Targets.{TargetParts, query_text, IsOriginForm, IsAbsoluteForm}
+use Rattle.targets.specs.Authorities.{IsHost, is_default_port, kept_port, port_text}
 use Rattle.targets.specs.Laws.{AreVisible, HasVisibleParts, HasVisibleValue}
 
 abbrev IsVisible : List ℕ → Type 0

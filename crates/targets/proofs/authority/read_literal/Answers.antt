@@ -1,6 +1,5 @@
-use Rattle.std.proofs.Common.{◌≡◌, ◌+◌, ◌==◌, true, false, length, take, drop, sym, ap, subst, ◌∙◌}
+use Rattle.std.proofs.Common.{◌≡◌, ◌==◌, length, sym, ap, ◌∙◌}
 use Rattle.std.proofs.lemmas.Bool.{eqb-true, false≢true}
-use Rattle.targets.specs.tools.Parts.{BeginsWithLiteral}
 use Rattle.targets.proofs.Given.{given_none}
 use Rattle.targets.proofs.AuthorityParts.{empty_literal, not_closed, literal_is}
 use Rattle.targets.proofs.authority.read_literal.Goals as goal

@@ -1,5 +1,3 @@
-use Rattle.std.proofs.Common.{refl, sym, ◌∙◌}
-use Rattle.std.proofs.lemmas.Bool.{false≢true}
 use Rattle.targets.proofs.Given.{none_more}
 use Rattle.targets.proofs.TargetParts.{no_other_target}
 use Rattle.targets.proofs.target.cut_target.Goals as goal
