@@ -1,0 +1,5 @@
+mod Given
+mod Runs
+mod TargetParts
+mod AuthorityParts
+mod Visible

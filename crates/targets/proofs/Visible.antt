@@ -1,0 +1,93 @@
+-- Parts of visible targets, and values of authorities, are visible.
+use Rattle.std.proofs.Common.{◌≡◌, inl, inr, ℕ, Bool, true, ◌||◌, ◌==◌, List, ◌++◌, length, Option, Some, None, IfSome, refl, sym, ap, subst, ◌∙◌, arith, codes}
+use Rattle.std.specs.Char.{is_ascii_alphanumeric, to_ascii_lowercase}
+use Rattle.std.specs.List.{list_all}
+use Rattle.std.specs.Str.{str_to_ascii_lowercase}
+use Rattle.std.proofs.lemmas.Bool.{and_parts, cases_Bool, or_cases, eqb-true}
+use Rattle.std.proofs.lemmas.Bool.Decides.{nat_tests}
+use Rattle.std.proofs.lemmas.List.Folds.{list_all-map}
+use Rattle.byte_classes.specs.Classes.{is_visible, is_digit}
+use Rattle.byte_grammar.proofs.ChoiceLaws.{of_each}
+use Rattle.byte_grammar.proofs.ListLaws.{all_joined, all_parts, all_implied}
+use Rattle.targets.specs.UriBytes.{is_host_byte, is_literal_byte, is_unreserved_or_delim}
+use Rattle.targets.specs.Marks.{marked_text}
+use Rattle.targets.specs.Targets.{TargetParts, query_text, IsOriginForm, IsAbsoluteForm}
+use Rattle.targets.specs.Authorities.{IsHost, is_default_port, kept_port, port_text}
+use Rattle.targets.specs.Laws.{AreVisible, HasVisibleParts, HasVisibleValue}
+
+abbrev IsVisible : List ℕ → Type 0
+IsVisible text = list_all is_visible text ≡ true
+
+-- ---- parts
+
+after_mark : (mark : ℕ) (part : Option (List ℕ)) → IsVisible (marked_text mark part) → IfSome part (λ text. IsVisible text)
+after_mark mark None is = tt
+after_mark mark (Some text) is = (and_parts _ _ is).1
+
+origin_parts : (target : List ℕ) (parts : TargetParts) → IsOriginForm target parts → IsVisible target → AreVisible parts
+origin_parts target parts o is =
+    let both = all_parts is_visible parts.path (query_text parts.query) (sym (ap (list_all is_visible) o.joined) ∙ is) in
+    record { scheme = rw o.no_scheme tt; authority = rw o.no_authority tt; path = both.0; query = after_mark 63 parts.query both.1 }
+
+absolute_parts : (target : List ℕ) (parts : TargetParts) → IsAbsoluteForm target parts → IsVisible target → AreVisible parts
+absolute_parts target parts f is =
+    let first = all_parts is_visible f.scheme (codes "://" ++ (f.authority ++ (parts.path ++ query_text parts.query))) (sym (ap (list_all is_visible) f.joined) ∙ is) in
+    let second = all_parts is_visible (codes "://") (f.authority ++ (parts.path ++ query_text parts.query)) first.1 in
+    let third = all_parts is_visible f.authority (parts.path ++ query_text parts.query) second.1 in
+    let last = all_parts is_visible parts.path (query_text parts.query) third.1 in
+    record { scheme = rw (f.scheme_is, first.0) refl; authority = rw (f.authority_is, third.0) refl; path = last.0; query = after_mark 63 parts.query last.1 }
+
+pub has_visible_parts : HasVisibleParts
+has_visible_parts method target parts (inl a) is = subst AreVisible (sym a.1.parts_are) (record { scheme = tt; authority = is; path = refl; query = tt })
+has_visible_parts method target parts (inr (isnt, inl o)) is = origin_parts target parts o is
+has_visible_parts method target parts (inr (isnt, inr (inl f))) is = absolute_parts target parts f is
+has_visible_parts method target parts (inr (isnt, inr (inr a))) is = subst AreVisible (sym a.parts_are) (record { scheme = tt; authority = tt; path = refl; query = tt })
+
+-- ---- values
+
+-- the byte in lower case is visible
+abbrev is_lowered_visible : ℕ → Bool
+is_lowered_visible c = is_visible (to_ascii_lowercase c)
+
+alphanumeric : (c : ℕ) → is_ascii_alphanumeric c ≡ true → is_lowered_visible c ≡ true
+alphanumeric c is = grind (arith, nat_tests)
+
+unreserved : (c : ℕ) → is_unreserved_or_delim c ≡ true → is_lowered_visible c ≡ true
+unreserved c is = elim (or_cases _ _ is) [
+  | inl letter ↦ alphanumeric c letter
+  | inr other ↦ of_each is_lowered_visible (codes "-._~!$&'()*+,;=") refl c other
+]
+
+host_byte : (c : ℕ) → is_host_byte c ≡ true → is_lowered_visible c ≡ true
+host_byte c is = elim (or_cases _ _ is) [
+  | inl some ↦ unreserved c some
+  | inr percent ↦ let same : c ≡ 37 = eqb-true c 37 percent in rw same refl
+]
+
+literal_byte : (c : ℕ) → is_literal_byte c ≡ true → is_lowered_visible c ≡ true
+literal_byte c is = elim (or_cases _ _ is) [
+  | inl some ↦ unreserved c some
+  | inr colon ↦ let same : c ≡ 58 = eqb-true c 58 colon in rw same refl
+]
+
+digit_byte : (c : ℕ) → is_digit c ≡ true → is_visible c ≡ true
+digit_byte c is = grind (arith, nat_tests)
+
+host_visible : (host : List ℕ) → IsHost host → list_all is_lowered_visible host ≡ true
+host_visible host (inr name) = all_implied is_host_byte is_lowered_visible host_byte host (and_parts _ _ name).1
+host_visible host (inl literal) =
+    let inner = all_implied is_literal_byte is_lowered_visible literal_byte literal.inner literal.each in
+    ap (list_all is_lowered_visible) literal.joined ∙ all_joined is_lowered_visible literal.inner (codes "]") inner refl
+
+port_visible : (scheme : List ℕ) (port : Option (List ℕ)) → IfSome port (λ digits. list_all is_digit digits ≡ true) → IsVisible (port_text (kept_port scheme port))
+port_visible scheme None is = refl
+port_visible scheme (Some port) is = elim (cases_Bool ((length port == 0) || is_default_port scheme port)) [
+  | inl dropped ↦ rw dropped refl
+  | inr kept ↦ rw kept (all_implied is_digit is_visible digit_byte port is)
+]
+
+pub has_visible_value : HasVisibleValue
+has_visible_value scheme text value (parts, (port, is, kept), same) =
+    let host : IsVisible (str_to_ascii_lowercase parts.host) = list_all-map is_visible to_ascii_lowercase parts.host ∙ host_visible parts.host is.is_host in
+    let last : IsVisible (port_text parts.port) = ap (λ p. list_all is_visible (port_text p)) kept ∙ port_visible scheme port is.is_port in
+    ap (list_all is_visible) same ∙ all_joined is_visible (str_to_ascii_lowercase parts.host) (port_text parts.port) host last

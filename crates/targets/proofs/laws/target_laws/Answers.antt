@@ -1,0 +1,12 @@
+use Rattle.targets.proofs.TargetParts.{one_target}
+use Rattle.targets.proofs.AuthorityParts.{one_authority, one_authority_value}
+use Rattle.targets.proofs.laws.target_laws.Goals as goal
+
+pub returns-clause-target : goal.returns-clause-target
+returns-clause-target c = one_target
+
+pub returns-clause-authority : goal.returns-clause-authority
+returns-clause-authority c = one_authority
+
+pub returns-clause-value : goal.returns-clause-value
+returns-clause-value c = one_authority_value

@@ -1,0 +1,45 @@
+-- Laws of targets and authorities.
+use Rattle.std.specs.Prelude.{◌≡◌, ℕ, IsTrue, List, Option, IfSome}
+use Rattle.std.specs.List.{list_all}
+use Rattle.byte_classes.specs.Classes.{is_visible}
+use Rattle.targets.specs.Targets.{TargetParts, SpellsTarget}
+use Rattle.targets.specs.Authorities.{IsAuthority, IsAuthorityValue}
+
+-- A method and a target spell at most one target's parts.
+abbrev pub OneTarget : Type 0
+OneTarget =
+    (method target : List ℕ) (one other : TargetParts) →
+    SpellsTarget method target one → SpellsTarget method target other → one ≡ other
+
+-- A text is an authority of at most one host and port.
+abbrev pub OneAuthority : Type 0
+OneAuthority =
+    (text host other : List ℕ) (port last : Option (List ℕ)) →
+    IsAuthority text host port → IsAuthority text other last → (host ≡ other) × (port ≡ last)
+
+-- Under a scheme it has at most one value.
+abbrev pub OneAuthorityValue : Type 0
+OneAuthorityValue =
+    (scheme text one other : List ℕ) →
+    IsAuthorityValue scheme text one → IsAuthorityValue scheme text other → one ≡ other
+
+-- ---- no value breaks a line
+
+-- the parts have visible bytes alone
+pub record AreVisible (parts : TargetParts) : Type 0 where
+  pub scheme : IfSome parts.scheme (λ text. IsTrue (list_all is_visible text))
+  pub authority : IfSome parts.authority (λ text. IsTrue (list_all is_visible text))
+  pub path : IsTrue (list_all is_visible parts.path)
+  pub query : IfSome parts.query (λ text. IsTrue (list_all is_visible text))
+
+-- So do those of a target that has visible bytes alone.
+abbrev pub HasVisibleParts : Type 0
+HasVisibleParts =
+    (method target : List ℕ) (parts : TargetParts) →
+    SpellsTarget method target parts → IsTrue (list_all is_visible target) → AreVisible parts
+
+-- The value of an authority has visible bytes alone.
+abbrev pub HasVisibleValue : Type 0
+HasVisibleValue =
+    (scheme text value : List ℕ) →
+    IsAuthorityValue scheme text value → IsTrue (list_all is_visible value)
