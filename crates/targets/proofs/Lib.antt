@@ -1,0 +1,2 @@
+mod EncodingLaws
+mod ValueLaws

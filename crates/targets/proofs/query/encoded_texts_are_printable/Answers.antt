@@ -1,0 +1,5 @@
+use Rattle.targets.proofs.EncodingLaws.{printable}
+use Rattle.targets.proofs.query.encoded_texts_are_printable.Goals as goal
+
+pub returns : goal.returns
+returns c text = printable text
