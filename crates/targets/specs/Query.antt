@@ -48,6 +48,13 @@ IsFound values None = values ≡ []
 IsFound values (One text) = values ≡ text ∷ []
 IsFound values Many = 2 ≤ length values
 
+-- ---- laws
+
 -- an encoded text has printable bytes of ASCII alone
 abbrev pub HasPrintableEncodings : Type 0
 HasPrintableEncodings = (text : List ℕ) → IsTrue (list_all is_string_byte (encoded text))
+
+-- so has each value that a query has under a name
+abbrev pub HasPrintableMatches : Type 0
+HasPrintableMatches =
+    (query name : List ℕ) → IsTrue (list_all (list_all is_string_byte) (matches query name))

@@ -2,7 +2,8 @@
 
 ghost use Rattle.std.specs.Prelude.{◌≡◌, ℕ, List, [], ◌∷◌, ◌++◌, IfOk};
 ghost use Rattle.std.specs.Str.{bytes_eq};
-ghost use Rattle.targets.specs.Query.{decoded, encoded, matches, IsFound, HasPrintableEncodings};
+ghost use Rattle.targets.specs.Query.{decoded, encoded, matches, IsFound};
+ghost use Rattle.targets.specs.Query.{HasPrintableEncodings, HasPrintableMatches};
 
 use form_urlencoded::{decode, raw_pairs};
 use percent_encoding::{AsciiSet, NON_ALPHANUMERIC, ascii_set, percent_encode};
@@ -12,8 +13,13 @@ use std::alloc::Global;
 /// The bytes of ASCII that are written as percent triplets: all but letters, digits, `*`, `-`, `.`
 /// and `_`. This is the application/x-www-form-urlencoded percent-encode set (WHATWG URL section
 /// 1.3).
-const FORM_SET: AsciiSet =
-    ascii_set!(NON_ALPHANUMERIC.remove(b'*').remove(b'-').remove(b'.').remove(b'_'));
+const FORM_SET: AsciiSet = ascii_set!(
+    NON_ALPHANUMERIC
+        .remove(b'*')
+        .remove(b'-')
+        .remove(b'.')
+        .remove(b'_')
+);
 
 /// What a query has under a name.
 #[derive(Debug, Drop)]
@@ -74,7 +80,9 @@ pub fn query_param(alloc: Global, query: &[u8], name: &[u8]) -> Result<ParamFoun
     Ok(found)
 }
 
-/// The law of percent-encoded texts: each is printable ASCII, so that no value breaks a line.
+/// The law of percent-encoded texts: they are printable ASCII, so that no value of a query breaks
+/// a line.
 pub fn encoded_texts_are_printable()
-    ensures { HasPrintableEncodings }
+    ensures text { HasPrintableEncodings }
+    ensures values { HasPrintableMatches }
 {}
