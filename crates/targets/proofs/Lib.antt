@@ -3,3 +3,5 @@ mod Runs
 mod TargetParts
 mod AuthorityParts
 mod Visible
+mod EncodingLaws
+mod ValueLaws

@@ -1,26 +1,33 @@
-//! Request targets (RFC 9112 section 3.2), and authorities (RFC 3986 section 3.2).
+//! Request targets (RFC 9112 section 3.2), authorities (RFC 3986 section 3.2) and the parameters of
+//! queries: what derived components are drawn from (RFC 9421 section 2.2).
 //!
-//! A target is cut into the parts of its form, which borrow its bytes. Nothing here takes memory.
+//! A target is cut into the parts of its form, which borrow its bytes. Of the calls here only
+//! `query_param` takes memory.
 //!
 //! ```text
-//! let target = cut_target(b"GET", b"http://EXAMPLE.com:80?a=1")?; // form is Form::Absolute
+//! let target = cut_target(b"GET", b"http://EXAMPLE.com:80?a=1+2")?; // form is Form::Absolute
 //! path_of(&target)  // Some(b"/")
-//! query_of(&target) // Some(Some(b"a=1"))
+//! query_of(&target) // Some(Some(b"a=1+2"))
 //! let authority = authority_of(target.authority?, target.scheme?)?;
 //! authority.port    // None, since 80 is the default port of http
-//! authority.feed(&mut hasher); // feeds example.com
+//! authority.feed(&mut hasher);       // feeds example.com
+//! query_param(alloc, b"a=1+2", b"a") // Ok(ParamFound::One(..)), of `1%202`
 //! ```
 #![tactic(auto)]
 
 mod authority;
 mod laws;
 mod parts;
+mod query;
 mod target;
 mod uri_byte;
 
 pub use authority::{Authority, authority_of};
 pub use laws::{target_laws, values_are_visible};
+pub use query::{ParamFound, encoded_texts_are_printable, query_param};
 pub use target::{Form, Target, cut_target, path_of, query_of};
 
+#[cfg(test)]
+mod query_tests;
 #[cfg(test)]
 mod tests;
