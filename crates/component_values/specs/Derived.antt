@@ -7,7 +7,7 @@ use Rattle.sfv_text.specs.declared.pair.Pair.{Pair}
 use Rattle.sfv_text.specs.declared.value.BareItem.{BareItem}
 use Rattle.sfv_text.specs.declared.value.BareItem.TheVariants.{Str}
 use Rattle.msg_head.specs.Lines.{FieldLine}
-use Rattle.msg_head.specs.Starts.{StartLine, RequestLine, StatusLine, request, status}
+use Rattle.msg_head.specs.Starts.{StartLine, request, status}
 use Rattle.field_values.specs.Values.{values}
 use Rattle.component_ids.specs.declared.scheme.Scheme.{Scheme}
 use Rattle.component_ids.specs.declared.scheme.Scheme.TheVariants.{Http, Https}
@@ -15,25 +15,32 @@ use Rattle.targets.specs.Targets.{TargetParts, SpellsTarget, has_path, path_of, 
 use Rattle.targets.specs.Authorities.{IsAuthorityValue}
 use Rattle.targets.specs.Query.{matches}
 use Rattle.component_values.specs.declared.derived.DerivedName.{DerivedName}
-use Rattle.component_values.specs.declared.derived.DerivedName.TheVariants as name
+use Rattle.component_values.specs.declared.derived.DerivedName.TheVariants.{Method, RequestTarget, Status, OfTarget}
+use Rattle.component_values.specs.declared.derived.TargetName.{TargetName}
+use Rattle.component_values.specs.declared.derived.TargetName.TheVariants as name
 use Rattle.component_values.specs.declared.lack.Lack.{Lack}
 use Rattle.component_values.specs.declared.lack.Lack.TheVariants.{Absent, Ambiguous, Underivable}
 
 -- ---- names
 
--- the name of a derived component (sections 2.2.1 to 2.2.9)
-abbrev pub derived_of : List ℕ → Option DerivedName
-derived_of text =
-    if bytes_eq text (codes "@method") then Some name.Method
-    else if bytes_eq text (codes "@target-uri") then Some name.TargetUri
+-- the name of a component that is drawn from the parts of a target
+abbrev pub target_name_of : List ℕ → Option TargetName
+target_name_of text =
+    if bytes_eq text (codes "@target-uri") then Some name.TargetUri
     else if bytes_eq text (codes "@authority") then Some name.Authority
     else if bytes_eq text (codes "@scheme") then Some name.Scheme
-    else if bytes_eq text (codes "@request-target") then Some name.RequestTarget
     else if bytes_eq text (codes "@path") then Some name.Path
     else if bytes_eq text (codes "@query") then Some name.Query
     else if bytes_eq text (codes "@query-param") then Some name.QueryParam
-    else if bytes_eq text (codes "@status") then Some name.Status
     else None
+
+-- the name of a derived component (sections 2.2.1 to 2.2.9)
+abbrev pub derived_of : List ℕ → Option DerivedName
+derived_of text =
+    if bytes_eq text (codes "@method") then Some Method
+    else if bytes_eq text (codes "@request-target") then Some RequestTarget
+    else if bytes_eq text (codes "@status") then Some Status
+    else option_map OfTarget (target_name_of text)
 
 -- ---- parts of a request
 
@@ -47,9 +54,10 @@ abbrev pub scheme_text : Scheme → List ℕ
 scheme_text Http = codes "http"
 scheme_text Https = codes "https"
 
--- a request's line and field lines, and the scheme that is configured
+-- a request's method, target and field lines, and the scheme that is configured
 pub record RequestParts : Type 0 where
-  pub line : RequestLine
+  pub method : List ℕ
+  pub target : List ℕ
   pub lines : List FieldLine
   pub scheme : Scheme
 
@@ -104,6 +112,11 @@ TargetUriRow true parts target result = (authority : Result (List ℕ) Lack)
     × TargetAuthorityRow parts target authority
     × (result ≡ with_value (uri_text parts target) authority)
 
+-- the characters of a String
+abbrev pub string_in : BareItem → Option (List ℕ)
+string_in (Str text) = Some text
+string_in bare = None
+
 -- the characters of the String that the parameter `name` is
 abbrev pub param_name : List (Pair BareItem) → List ℕ
 param_name params = unwrap_or (option_and_then string_in (value_of params (codes "name"))) []
@@ -117,7 +130,7 @@ param_value true params target =
 -- ---- rows
 
 -- what is drawn from the parts of a target
-abbrev pub TargetRow : DerivedName → List (Pair BareItem) → RequestParts → TargetParts
+abbrev pub TargetRow : TargetName → List (Pair BareItem) → RequestParts → TargetParts
     → Result (List ℕ) Lack → Type 0
 TargetRow name.Scheme params parts target result = result ≡ Ok (scheme_of parts target)
 TargetRow name.Authority params parts target result = TargetAuthorityRow parts target result
@@ -127,41 +140,45 @@ TargetRow name.TargetUri params parts target result =
     TargetUriRow (has_path target.form) parts target result
 TargetRow name.QueryParam params parts target result =
     result ≡ param_value (has_path target.form) params target
-TargetRow other params parts target result = ⊥
 
 -- a target in no form has no parts to draw from
-abbrev pub FormedRow : DerivedName → List (Pair BareItem) → RequestParts
+abbrev pub FormedRow : TargetName → List (Pair BareItem) → RequestParts
     → Result (List ℕ) Lack → Type 0
-FormedRow derived params parts result =
-    ((target : TargetParts) × SpellsTarget parts.line.method parts.line.target target
-    × TargetRow derived params parts target result)
-    ⊎ (((target : TargetParts) → ¬ SpellsTarget parts.line.method parts.line.target target)
+FormedRow of_target params parts result =
+    ((target : TargetParts) × SpellsTarget parts.method parts.target target
+    × TargetRow of_target params parts target result)
+    ⊎ (((target : TargetParts) → ¬ SpellsTarget parts.method parts.target target)
     × (result ≡ Err Underivable))
 
 -- a derived component of a request: the method and the target as they are sent, and what is drawn
 -- from the target; it has no status (sections 2.2.1, 2.2.5 and 2.2.9)
 abbrev pub RequestRow : DerivedName → List (Pair BareItem) → RequestParts
     → Result (List ℕ) Lack → Type 0
-RequestRow name.Method params parts result = result ≡ Ok parts.line.method
-RequestRow name.RequestTarget params parts result = result ≡ Ok parts.line.target
-RequestRow name.Status params parts result = result ≡ Err Underivable
-RequestRow derived params parts result = FormedRow derived params parts result
+RequestRow Method params parts result = result ≡ Ok parts.method
+RequestRow RequestTarget params parts result = result ≡ Ok parts.target
+RequestRow Status params parts result = result ≡ Err Underivable
+RequestRow (OfTarget of_target) params parts result = FormedRow of_target params parts result
 
 -- a derived component of a response: the status alone (section 2.2.9)
-abbrev pub response_value : DerivedName → StatusLine → Result (List ℕ) Lack
-response_value name.Status line = Ok line.code
-response_value derived line = Err Underivable
+abbrev pub response_value : DerivedName → List ℕ → Result (List ℕ) Lack
+response_value Status code = Ok code
+response_value derived code = Err Underivable
 
 -- by the kind of the message
 abbrev pub StartRow : DerivedName → List (Pair BareItem) → Scheme → List FieldLine → StartLine
     → Result (List ℕ) Lack → Type 0
-StartRow derived params scheme lines (request line) result =
-    RequestRow derived params (record { line = line; lines = lines; scheme = scheme }) result
-StartRow derived params scheme lines (status line) result = result ≡ response_value derived line
+StartRow derived params scheme lines (request line) result = RequestRow derived params (record {
+  method = line.method;
+  target = line.target;
+  lines = lines;
+  scheme = scheme;
+}) result
+StartRow derived params scheme lines (status line) result =
+    result ≡ response_value derived line.code
 
--- by the name; no component has another one
+-- by the name; no message has a component of another one
 abbrev pub DerivedRow : Option DerivedName → List (Pair BareItem) → Scheme → List FieldLine
     → StartLine → Result (List ℕ) Lack → Type 0
 DerivedRow (Some derived) params scheme lines start result =
     StartRow derived params scheme lines start result
-DerivedRow None params scheme lines start result = ⊥
+DerivedRow None params scheme lines start result = result ≡ Err Underivable

@@ -5,16 +5,15 @@ use Rattle.std.specs.List.{list_all}
 use Rattle.byte_classes.specs.Classes.{is_one_of}
 use Rattle.sfv_text.specs.Classes.{is_byte}
 use Rattle.msg_body.specs.Messages.{Message, Spells}
-use Rattle.component_ids.specs.Table.{is_field_name}
 use Rattle.component_ids.specs.declared.id.ComponentId.{ComponentId}
 use Rattle.component_values.specs.declared.lack.Lack.{Lack}
 use Rattle.component_values.specs.Context.{MessageContext}
-use Rattle.component_values.specs.Values.{Has, Lacks, HaveValues, IsFirstLack, are_fields}
+use Rattle.component_values.specs.Values.{Has, Lacks, HaveValues, IsFirstLack}
 
--- a field component has a value, or lacks one
+-- a component has a value, or lacks one
 abbrev pub HasOrLacks : Type 0
 HasOrLacks =
-    (context : MessageContext) (id : ComponentId) → IsTrue (is_field_name id.name)
+    (context : MessageContext) (id : ComponentId)
     → ((value : List ℕ) × Has context id value) ⊎ ((lack : Lack) × Lacks context id lack)
 
 -- it has one value
@@ -58,10 +57,10 @@ HasCleanValues =
 
 -- ---- the components of a signature
 
--- fields have values, or a first of them lacks one
+-- components have values, or a first of them lacks one
 abbrev pub HaveOrLack : Type 0
 HaveOrLack =
-    (context : MessageContext) (ids : List ComponentId) → IsTrue (are_fields ids)
+    (context : MessageContext) (ids : List ComponentId)
     → ((values : List (List ℕ)) × HaveValues context ids values)
     ⊎ ((index : ℕ) × (lack : Lack) × IsFirstLack context ids index lack)
 

@@ -7,7 +7,6 @@ use Rattle.sfv_text.specs.Keys.{value_of}
 use Rattle.sfv_text.specs.Strict.{item_text, list_text, dict_text, member_text, bytes_text}
 use Rattle.sfv_text.specs.declared.pair.Pair.{Pair}
 use Rattle.sfv_text.specs.declared.value.BareItem.{BareItem}
-use Rattle.sfv_text.specs.declared.value.BareItem.TheVariants.{Str}
 use Rattle.sfv_text.specs.declared.value.Member.{Member}
 use Rattle.sfv_read.specs.Reads.{ReadsItem, ReadsList, ReadsDict}
 use Rattle.msg_head.specs.declared.error.Side.{Side}
@@ -17,13 +16,14 @@ use Rattle.msg_body.specs.Messages.{Message, is_request}
 use Rattle.msg_body.specs.Views.{lines_on}
 use Rattle.field_values.specs.Values.{values, combined_value, is_there}
 use Rattle.component_ids.specs.Table.{is_field_name, has_param}
-use Rattle.component_ids.specs.Types.{KindMap, kind_in}
+use Rattle.component_ids.specs.Types.{kind_in}
 use Rattle.component_ids.specs.declared.types.FieldKind.{FieldKind}
 use Rattle.component_ids.specs.declared.types.FieldKind.TheVariants as kind
 use Rattle.component_ids.specs.declared.id.ComponentId.{ComponentId}
 use Rattle.component_values.specs.declared.lack.Lack.{Lack}
 use Rattle.component_values.specs.declared.lack.Lack.TheVariants.{Absent, Underivable, Unreadable, NotAscii}
 use Rattle.component_values.specs.Context.{MessageContext}
+use Rattle.component_values.specs.Derived.{DerivedRow, derived_of, string_in}
 
 -- ---- structured values
 
@@ -67,11 +67,6 @@ plain_value text = if list_all is_ascii text then Ok text else Err NotAscii
 -- `bs`: the value of each line by itself as a Byte Sequence (section 2.1.3)
 abbrev pub byte_sequences : List (List ℕ) → List ℕ
 byte_sequences texts = join_by bytes_text (codes ", ") texts
-
--- the characters of a String
-abbrev pub string_in : BareItem → Option (List ℕ)
-string_in (Str text) = Some text
-string_in bare = None
 
 -- the key that the parameter `key` names
 abbrev pub member_key : List (Pair BareItem) → Option (List ℕ)
@@ -118,20 +113,24 @@ abbrev pub message_for : MessageContext → List (Pair BareItem) → Result Mess
 message_for context params =
     if has_param params (codes "req") then related_message context else Ok context.message
 
--- by the name: a field, and no other yet
-abbrev pub NameRow : Bool → KindMap → ComponentId → Message → Result (List ℕ) Lack → Type 0
-NameRow true types id message result =
-    FieldRow id.params (kind_in types id.name) (lines_on (side_of id.params) message) id.name result
-NameRow false types id message result = ⊥
+-- by the name: a field, or a derived component
+abbrev pub NameRow : Bool → MessageContext → ComponentId → Message → Result (List ℕ) Lack → Type 0
+NameRow true context id message result =
+    FieldRow id.params (kind_in context.types id.name) (lines_on (side_of id.params) message)
+    id.name result
+NameRow false context id message result =
+    DerivedRow (derived_of id.name) id.params context.scheme (lines_on Header message)
+    message.head.start result
 
-abbrev pub MessageRow : Result Message Lack → KindMap → ComponentId → Result (List ℕ) Lack → Type 0
-MessageRow (Err lack) types id result = result ≡ Err lack
-MessageRow (Ok message) types id result =
-    NameRow (is_field_name id.name) types id message result
+abbrev pub MessageRow : Result Message Lack → MessageContext → ComponentId
+    → Result (List ℕ) Lack → Type 0
+MessageRow (Err lack) context id result = result ≡ Err lack
+MessageRow (Ok message) context id result =
+    NameRow (is_field_name id.name) context id message result
 
 -- the component comes to a value, or to a lack
 abbrev pub ComesTo : MessageContext → ComponentId → Result (List ℕ) Lack → Type 0
-ComesTo context id result = MessageRow (message_for context id.params) context.types id result
+ComesTo context id result = MessageRow (message_for context id.params) context id result
 
 -- the component has the value
 abbrev pub Has : MessageContext → ComponentId → List ℕ → Type 0
@@ -157,7 +156,3 @@ pub record IsFirstLack (context : MessageContext) (ids : List ComponentId) (inde
   pub values : List (List ℕ)
   pub before : HaveValues context (take index ids) values
   pub there : IsSomeAnd (slice_get ids index) (λ id. Lacks context id lack)
-
--- no derived component is among them
-abbrev pub are_fields : List ComponentId → Bool
-are_fields ids = list_all (λ id. is_field_name id.name) ids

@@ -7,7 +7,7 @@ ghost use Rattle.component_ids.specs.Identifiers.{id_text, is_id_in_range};
 ghost use Rattle.component_ids.specs.SignatureParams.{are_sig_params_in_range};
 ghost use Rattle.component_values.specs.declared.lack.Lack.{Lack};
 ghost use Rattle.component_values.specs.Context.{context_of};
-ghost use Rattle.component_values.specs.Values.{HaveValues, IsFirstLack, are_fields};
+ghost use Rattle.component_values.specs.Values.{HaveValues, IsFirstLack};
 ghost use Rattle.component_values.specs.tools.Rows.{kept_text};
 ghost use Rattle.component_values.specs.tools.Answered.{ExplainsPrepared, IsFaultOf};
 
@@ -16,16 +16,9 @@ use crate::field::component_value;
 use crate::lack::ValueFault;
 use crate::lines::Value;
 use crate::prepared::Prepared;
-use component_ids::{ComponentId, SigParams, is_field_name, print_id, print_params};
+use component_ids::{ComponentId, SigParams, print_id, print_params};
 use sfv_text::{Memory, Sequence, Text};
 use std::alloc::Global;
-
-/// Whether each component is a field, and none a derived one (RFC 9421 section 2.1).
-pub fn are_fields(ids: &[ComponentId]) -> bool
-    ensures { result ≡ are_fields ids.now }
-{
-    ids.iter().all(|id| is_field_name(id.name.bytes()))
-}
 
 /// The value of each component, or the first that lacks one.
 fn values_of<'a, 'm>(
@@ -33,7 +26,6 @@ fn values_of<'a, 'm>(
     context: &Context<'a, 'm>,
     ids: &'a [ComponentId],
 ) -> Result<Sequence<Value<'a, 'm>>, ValueFault>
-    requires { IsTrue (are_fields ids.now) }
     ensures ok { IfOk result (λ values.
         HaveValues (context_of context.now) ids.now (map kept_text values)) }
     ensures fault { IfErr result (λ fault.
@@ -69,7 +61,6 @@ fn prepare_components<'a, 'm>(
     params: &'a SigParams,
 ) -> Result<Prepared<'a, 'm>, ValueFault>
     requires in_range { IsTrue (are_sig_params_in_range params.now) }
-    requires fields { IsTrue (are_fields params.now.ids) }
     ensures { ExplainsPrepared (context_of context.now) params.now result }
 {
     let values = values_of(alloc, context, params.ids.as_slice())?;
@@ -83,8 +74,7 @@ fn prepare_components<'a, 'm>(
     })
 }
 
-/// Prepares the components that the signature parameters cover (RFC 9421 section 2.5), each of them
-/// a field: derived components aren't there yet.
+/// Prepares the components that the signature parameters cover (RFC 9421 section 2.5).
 #[tactic(auto, using(crate::proofs::FirstLacks::lacks_are))]
 pub fn prepare<'a, 'm>(
     alloc: Global,
@@ -92,7 +82,6 @@ pub fn prepare<'a, 'm>(
     params: &'a SigParams,
 ) -> Result<Prepared<'a, 'm>, ValueFault>
     requires in_range { IsTrue (are_sig_params_in_range params.now) }
-    requires fields { IsTrue (are_fields params.now.ids) }
     ensures params { IfOk result (λ prepared. prepared.params ≡ params.now) }
     ensures values { IfOk result (λ prepared.
         HaveValues (context_of context.now) params.now.ids prepared.values) }

@@ -1,19 +1,20 @@
 //! The value of a component, or how it lacks one.
 
-ghost use Rattle.std.specs.Prelude.{◌≡◌, Option, option_map, Ok, Err, MatchResult, IsTrue, codes};
+ghost use Rattle.std.specs.Prelude.{◌≡◌, Option, option_map, Ok, Err, MatchResult, codes};
 ghost use Rattle.msg_body.specs.Messages.{is_request};
 ghost use Rattle.msg_body.specs.Views.{message_of};
-ghost use Rattle.component_ids.specs.Table.{is_field_name, has_param};
+ghost use Rattle.component_ids.specs.Table.{has_param};
 ghost use Rattle.component_ids.specs.Types.{kind_in};
 ghost use Rattle.component_values.specs.Context.{context_of};
 ghost use Rattle.component_values.specs.Values.{FormRow, FieldRow, ComesTo, side_of, member_key, message_for, related_message};
 ghost use Rattle.component_values.specs.tools.Rows.{KeepsRow, field_lines};
 
 use crate::context::Context;
+use crate::derived::derived_value;
 use crate::lack::{Lack, NoValue};
 use crate::lines::{NamedLines, Value, byte_sequences, combined_text, is_ascii, is_there};
 use crate::strict::{member_value, strict_value};
-use component_ids::{ComponentId, FieldKind, has_param};
+use component_ids::{ComponentId, FieldKind, has_param, is_field_name};
 use msg_body::{MessageView, is_request};
 use msg_head::Side;
 use sfv_text::{BareItem, Params};
@@ -115,16 +116,19 @@ fn message_for<'a, 'm>(
     }
 }
 
-/// The value of a field component.
+/// The value of a component.
 pub(crate) fn component_value<'a, 'm>(
     alloc: Global,
     context: &Context<'a, 'm>,
     id: &'a ComponentId,
 ) -> Result<Value<'a, 'm>, NoValue>
-    requires { IsTrue (is_field_name id.now.name) }
     ensures { KeepsRow (ComesTo (context_of context.now) id.now) result }
 {
     let message = message_for(context, &id.params)?;
+    if !is_field_name(id.name.bytes()) {
+        let text = derived_value(alloc, message, context.scheme, id)?;
+        return Ok(Value::Text(text));
+    }
     let field = NamedLines {
         message,
         side: side_of(&id.params),

@@ -12,6 +12,7 @@
 
 mod context;
 mod covered;
+mod derived;
 mod field;
 mod lack;
 mod laws;
@@ -20,7 +21,8 @@ mod prepared;
 mod strict;
 
 pub use context::Context;
-pub use covered::{are_fields, prepare};
+pub use covered::prepare;
+pub use derived::{DerivedName, TargetName};
 pub use lack::{Lack, ValueFault};
 pub use laws::{components_have_one_answer, signatures_have_one_answer};
 pub use prepared::Prepared;
