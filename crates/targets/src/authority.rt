@@ -62,21 +62,21 @@ fn read_host(bytes: &[u8]) -> Option<(&[u8], &[u8])>
     read_reg_name(bytes)
 }
 
-// Whether the scheme has the name, in whatever case it is written (RFC 3986 section 3.1).
-fn is_named(scheme: &[u8], name: &[u8]) -> bool
-    ensures { result ≡ str_eq_ignore_ascii_case scheme.now name.now }
+// Whether the schemes are one, in whatever case they are written (RFC 3986 section 3.1).
+fn is_same_scheme(scheme: &[u8], other: &[u8]) -> bool
+    ensures { result ≡ str_eq_ignore_ascii_case scheme.now other.now }
 {
-    scheme.eq_ignore_ascii_case(name)
+    scheme.eq_ignore_ascii_case(other)
 }
 
 // Whether the port is the default one of the scheme, in whatever case that is written.
 fn is_default_port(scheme: &[u8], port: &[u8]) -> bool
     ensures { result ≡ is_default_port scheme.now port.now }
 {
-    if is_named(scheme, b"http") {
+    if is_same_scheme(scheme, b"http") {
         return port == b"80".as_slice();
     }
-    if is_named(scheme, b"https") {
+    if is_same_scheme(scheme, b"https") {
         return port == b"443".as_slice();
     }
     false
