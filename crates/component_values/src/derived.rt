@@ -206,11 +206,11 @@ fn path_value(alloc: Global, target: &Target<'_>) -> Result<Text, NoValue>
     }
 }
 
-/// `?` and the query, or nothing.
-fn append_query(query: Option<&[u8]>, text: &mut Text) -> Result<(), Memory>
-    ensures { OnOk result (text.new ≡ text.old ++ query_text (option_map (λ q. q.now) query)) }
+/// Adds `?` and the target's query, or nothing.
+fn append_query(target: &Target<'_>, text: &mut Text) -> Result<(), Memory>
+    ensures { OnOk result (text.new ≡ text.old ++ query_text (parts_of target.now).query) }
 {
-    if let Some(query) = query {
+    if let Some(query) = target.query {
         text.append(b"?")?;
         text.append(query)?;
     }
@@ -247,7 +247,7 @@ fn uri_text(
     text.append(b"://")?;
     text.append(authority)?;
     text.append(path)?;
-    append_query(target.query, &mut text)?;
+    append_query(target, &mut text)?;
     Ok(text)
 }
 
