@@ -2,6 +2,7 @@ mod Given
 mod Runs
 mod TargetParts
 mod AuthorityParts
+mod Decided
 mod Visible
 mod EncodingLaws
 mod ValueLaws

@@ -1,5 +1,5 @@
 -- Laws of targets and authorities.
-use Rattle.std.specs.Prelude.{◌≡◌, ℕ, IsTrue, List, Option, IfSome}
+use Rattle.std.specs.Prelude.{◌≡◌, ◌⊎◌, ℕ, IsTrue, List, Option, IfSome}
 use Rattle.std.specs.List.{list_all}
 use Rattle.byte_classes.specs.Classes.{is_visible}
 use Rattle.targets.specs.Targets.{TargetParts, SpellsTarget}
@@ -22,6 +22,20 @@ abbrev pub OneAuthorityValue : Type 0
 OneAuthorityValue =
     (scheme text one other : List ℕ) →
     IsAuthorityValue scheme text one → IsAuthorityValue scheme text other → one ≡ other
+
+-- ---- each text is of the form or isn't
+
+-- A method and a target spell some target's parts, or none.
+abbrev pub TargetIsDecided : Type 0
+TargetIsDecided =
+    (method target : List ℕ) → ((parts : TargetParts) × SpellsTarget method target parts)
+    ⊎ ((parts : TargetParts) → ¬ SpellsTarget method target parts)
+
+-- Under a scheme a text has some value as an authority, or none.
+abbrev pub AuthorityIsDecided : Type 0
+AuthorityIsDecided =
+    (scheme text : List ℕ) → ((value : List ℕ) × IsAuthorityValue scheme text value)
+    ⊎ ((value : List ℕ) → ¬ IsAuthorityValue scheme text value)
 
 -- ---- no value breaks a line
 

@@ -23,7 +23,7 @@ mod target;
 mod uri_byte;
 
 pub use authority::{Authority, authority_of};
-pub use laws::{target_laws, values_are_visible};
+pub use laws::{target_laws, targets_are_decided, values_are_visible};
 pub use query::{ParamFound, encoded_texts_are_printable, query_param};
 pub use target::{Form, Target, cut_target, path_of, query_of};
 
