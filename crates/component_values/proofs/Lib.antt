@@ -1,4 +1,5 @@
 mod Below
+mod Drawn
 pub mod FirstLacks
 pub mod RowLaws
 mod CleanLaws

@@ -21,7 +21,7 @@ use Rattle.msg_body.specs.declared.error.MessageFault.{MessageFault}
 use Rattle.hms.specs.Base.{HasIdFault, LacksValue, HasBase, context_for, Holds, IsCommandCause, command_order, outcome_order, ReportsBase}
 use Rattle.hms.specs.Covered.{ReadsParams}
 use Rattle.component_values.specs.declared.lack.Lack.{Lack}
-use Rattle.component_values.specs.Values.{HaveValues, IsFirstLack, are_fields}
+use Rattle.component_values.specs.Values.{HaveValues, IsFirstLack}
 use Rattle.component_values.proofs.FirstLacks.{have_one_list, first_lack_is_one, none_lacks}
 use Rattle.sig_base.specs.SignatureBase.{signature_base}
 use Rattle.hms.specs.declared.refusal.TheConstants.{MAX_INPUT_BYTES}
@@ -29,7 +29,7 @@ use Rattle.hms.specs.declared.refusal.Refusal.{Refusal}
 use Rattle.hms.specs.declared.refusal.Refusal.TheVariants.{Arguments, Input, Command}
 use Rattle.hms.specs.declared.refusal.InputRefusal.TheVariants.{TooLong, Message as NoMessage}
 use Rattle.hms.specs.declared.refusal.CommandRefusal.{CommandRefusal}
-use Rattle.hms.specs.declared.refusal.CommandRefusal.TheVariants.{Syntax, ItemKind, Ids, NotYet as NotBuilt, Lacks}
+use Rattle.hms.specs.declared.refusal.CommandRefusal.TheVariants.{Syntax, ItemKind, Ids, Lacks}
 use Rattle.hms.specs.declared.outcome.Outcome.{Outcome}
 use Rattle.hms.specs.declared.outcome.Outcome.TheVariants.{Done, NotOk, Refused}
 use Rattle.hms.specs.declared.stop.Stop.{Stop}
@@ -93,38 +93,28 @@ one_command : (params input : List ℕ) (c d : CommandRefusal) → command_order
 one_command params input (Syntax i) (Syntax j) same a b = ap Syntax (one_offset ReadsInner params i j a.0 b.0)
 one_command params input (Syntax i) (ItemKind j) same a b = absurd (one_kind params i j a b)
 one_command params input (Syntax i) (Ids j) same a b = absurd (omega (arith, same))
-one_command params input (Syntax i) NotBuilt same a b = absurd (omega (arith, same))
 one_command params input (Syntax i) (Lacks l j) same a b = absurd (omega (arith, same))
 one_command params input (ItemKind i) (Syntax j) same a b = absurd (one_kind params j i b a)
 one_command params input (ItemKind i) (ItemKind j) same a b = ap ItemKind (one_offset ReadsInner params i j a.0 b.0)
 one_command params input (ItemKind i) (Ids j) same a b = absurd (omega (arith, same))
-one_command params input (ItemKind i) NotBuilt same a b = absurd (omega (arith, same))
 one_command params input (ItemKind i) (Lacks l j) same a b = absurd (omega (arith, same))
 one_command params input (Ids i) (Syntax j) same a b = absurd (omega (arith, same))
 one_command params input (Ids i) (ItemKind j) same a b = absurd (omega (arith, same))
 one_command params input (Ids i) (Ids j) same a b = ap Ids (one_id_fault params i j a b)
-one_command params input (Ids i) NotBuilt same a b = absurd (omega (arith, same))
 one_command params input (Ids i) (Lacks l j) same a b = absurd (omega (arith, same))
-one_command params input NotBuilt (Syntax j) same a b = absurd (omega (arith, same))
-one_command params input NotBuilt (ItemKind j) same a b = absurd (omega (arith, same))
-one_command params input NotBuilt (Ids j) same a b = absurd (omega (arith, same))
-one_command params input NotBuilt NotBuilt same a b = refl
-one_command params input NotBuilt (Lacks l j) same a b = absurd (omega (arith, same))
 one_command params input (Lacks k i) (Syntax j) same a b = absurd (omega (arith, same))
 one_command params input (Lacks k i) (ItemKind j) same a b = absurd (omega (arith, same))
 one_command params input (Lacks k i) (Ids j) same a b = absurd (omega (arith, same))
-one_command params input (Lacks k i) NotBuilt same a b = absurd (omega (arith, same))
 one_command params input (Lacks k i) (Lacks l j) same a b = let lacks = one_lack params input k l i j a b in λ t. Lacks (lacks.0 t) (lacks.1 t)
 
 -- commands are judged after the input and before the base
-among_commands : (c : CommandRefusal) → (3 ≤ command_order c) × (command_order c < 7)
+among_commands : (c : CommandRefusal) → (3 ≤ command_order c) × (command_order c < 6)
 among_commands (Syntax i) = (lit≤ tt, lit< tt)
 among_commands (ItemKind i) = (lit≤ tt, lit< tt)
 among_commands (Ids f) = (lit≤ tt, lit< tt)
-among_commands NotBuilt = (lit≤ tt, lit< tt)
 among_commands (Lacks l i) = (lit≤ tt, lit< tt)
 
-no_command_at : (c : CommandRefusal) (n : ℕ) → (n < 3) ⊎ (7 ≤ n) → command_order c ≡ n → ⊥
+no_command_at : (c : CommandRefusal) (n : ℕ) → (n < 3) ⊎ (6 ≤ n) → command_order c ≡ n → ⊥
 no_command_at c n (inl low) same = let among = among_commands c in absurd (omega (arith, among.0, low, same))
 no_command_at c n (inr high) same = let among = among_commands c in absurd (omega (arith, among.1, high, same))
 
@@ -147,12 +137,12 @@ determined params input (Refused (Command c)) (Refused Arguments) same a b = abs
 determined params input (Refused (Command c)) (Refused (Input TooLong)) same a b = absurd (no_command_at c 1 (inl (lit< tt)) same)
 determined params input (Refused (Command c)) (Refused (Input (NoMessage f))) same a b = absurd (no_command_at c 2 (inl (lit< tt)) same)
 determined params input (Refused (Command c)) (Refused (Command d)) same a b = ap (λ (c : CommandRefusal). Refused (Command c)) (one_command params input c d same a b)
-determined params input (Refused (Command c)) (Done other) same a b = absurd (no_command_at c 7 (inr (lit≤ tt)) same)
+determined params input (Refused (Command c)) (Done other) same a b = absurd (no_command_at c 6 (inr (lit≤ tt)) same)
 determined params input (Refused (Command c)) (NotOk other) same a b = absurd b
 determined params input (Done text) (Refused Arguments) same a b = absurd b
 determined params input (Done text) (Refused (Input TooLong)) same a b = absurd (omega (arith, same))
 determined params input (Done text) (Refused (Input (NoMessage f))) same a b = absurd (omega (arith, same))
-determined params input (Done text) (Refused (Command d)) same a b = absurd (no_command_at d 7 (inr (lit≤ tt)) (sym same))
+determined params input (Done text) (Refused (Command d)) same a b = absurd (no_command_at d 6 (inr (lit≤ tt)) (sym same))
 determined params input (Done text) (Done other) same a b = ap Done (one_base params input text other a b)
 determined params input (Done text) (NotOk other) same a b = absurd b
 determined params input (NotOk text) other same a b = absurd a
@@ -165,11 +155,10 @@ pub record Passed (params input : List ℕ) (n : ℕ) : Type 0 where
   pub message : 2 < n → (message : Message) × Spells message input
   pub list : 3 < n → (list : InnerList) × ReadsInner params list
   pub sig : 4 < n → (sig : SigParams) × ReadsParams params sig
-  pub fields : 5 < n → (sig : SigParams) × ReadsParams params sig × (are_fields sig.ids ≡ true)
-  pub values : 6 < n → (message : Message) × Spells message input × (sig : SigParams) × ReadsParams params sig
+  pub values : 5 < n → (message : Message) × Spells message input × (sig : SigParams) × ReadsParams params sig
       × (values : List (List ℕ)) × HaveValues (context_for message) sig.ids values
 
-pub none_before : (params input : List ℕ) (n : ℕ) → n ≤ 7 → Passed params input n
+pub none_before : (params input : List ℕ) (n : ℕ) → n ≤ 6 → Passed params input n
     → (other : Outcome) → outcome_order other < n → Holds params input other → ⊥
 none_before params input n most p (Refused Arguments) lt h = h
 none_before params input n most p (Refused (Input TooLong)) lt h = let short = p.short lt in absurd (omega (arith, short, h))
@@ -179,10 +168,6 @@ none_before params input n most p (Refused (Command (ItemKind i))) lt h = let l 
 none_before params input n most p (Refused (Command (Ids f))) lt h =
     let s = p.sig lt in
     no_fault s.0 h.list f s.1.is (one_list params (list_of s.0) h.list s.1.reads h.reads) h.is
-none_before params input n most p (Refused (Command NotBuilt)) lt h =
-    let s = p.fields lt in
-    let sigs : s.0 ≡ h.0 = one_sig params s.0 h.0 s.1 h.1 in
-    false≢true (sym h.2 ∙ (ap (λ (sig : SigParams). are_fields sig.ids) (sym sigs) ∙ s.2))
 none_before params input n most p (Refused (Command (Lacks lack id))) lt h =
     let v = p.values lt in
     let messages : h.message ≡ v.0 = one_text input h.message v.0 h.spelled v.1 in
@@ -194,7 +179,7 @@ none_before params input n most p (Done text) lt h = absurd (omega (arith, most,
 none_before params input n most p (NotOk text) lt h = absurd (omega (arith, most, lt))
 
 -- the outcome that holds is the first, where what comes before it was passed
-pub first_outcome : (params input : List ℕ) (outcome : Outcome) → outcome_order outcome ≤ 7
+pub first_outcome : (params input : List ℕ) (outcome : Outcome) → outcome_order outcome ≤ 6
     → Passed params input (outcome_order outcome) → Holds params input outcome → ReportsBase params input outcome
 first_outcome params input outcome most passed holds = record {
   holds = holds;
@@ -212,7 +197,6 @@ passed_arguments params input = record {
   message = λ lt. absurd (omega (arith, lt));
   list = λ lt. absurd (omega (arith, lt));
   sig = λ lt. absurd (omega (arith, lt));
-  fields = λ lt. absurd (omega (arith, lt));
   values = λ lt. absurd (omega (arith, lt));
 }
 
@@ -222,7 +206,6 @@ passed_length params input short = record {
   message = λ lt. absurd (omega (arith, lt));
   list = λ lt. absurd (omega (arith, lt));
   sig = λ lt. absurd (omega (arith, lt));
-  fields = λ lt. absurd (omega (arith, lt));
   values = λ lt. absurd (omega (arith, lt));
 }
 
@@ -233,7 +216,6 @@ module _ (params input : List ℕ) (short : length input ≤ MAX_INPUT_BYTES) (m
     message = λ _. (message, spelled);
     list = λ lt. absurd (omega (arith, lt));
     sig = λ lt. absurd (omega (arith, lt));
-    fields = λ lt. absurd (omega (arith, lt));
     values = λ lt. absurd (omega (arith, lt));
   }
 
@@ -243,7 +225,6 @@ module _ (params input : List ℕ) (short : length input ≤ MAX_INPUT_BYTES) (m
     message = λ _. (message, spelled);
     list = λ _. (list, reads);
     sig = λ lt. absurd (omega (arith, lt));
-    fields = λ lt. absurd (omega (arith, lt));
     values = λ lt. absurd (omega (arith, lt));
   }
 
@@ -253,28 +234,16 @@ module _ (params input : List ℕ) (short : length input ≤ MAX_INPUT_BYTES) (m
     message = λ _. (message, spelled);
     list = λ _. (list_of sig, reads.reads);
     sig = λ _. (sig, reads);
-    fields = λ lt. absurd (omega (arith, lt));
     values = λ lt. absurd (omega (arith, lt));
   }
 
-  pub passed_fields : (sig : SigParams) → ReadsParams params sig → are_fields sig.ids ≡ true → Passed params input 6
-  passed_fields sig reads fields = record {
+  pub passed_values : (sig : SigParams) → ReadsParams params sig → (values : List (List ℕ))
+      → HaveValues (context_for message) sig.ids values → Passed params input 6
+  passed_values sig reads values have = record {
     short = λ _. short;
     message = λ _. (message, spelled);
     list = λ _. (list_of sig, reads.reads);
     sig = λ _. (sig, reads);
-    fields = λ _. (sig, reads, fields);
-    values = λ lt. absurd (omega (arith, lt));
-  }
-
-  pub passed_values : (sig : SigParams) → ReadsParams params sig → are_fields sig.ids ≡ true → (values : List (List ℕ))
-      → HaveValues (context_for message) sig.ids values → Passed params input 7
-  passed_values sig reads fields values have = record {
-    short = λ _. short;
-    message = λ _. (message, spelled);
-    list = λ _. (list_of sig, reads.reads);
-    sig = λ _. (sig, reads);
-    fields = λ _. (sig, reads, fields);
     values = λ _. (message, spelled, sig, reads, values, have);
   }
 
@@ -284,7 +253,6 @@ module _ (params input : List ℕ) (short : length input ≤ MAX_INPUT_BYTES) (m
   params_refused (Command (ItemKind i)) a = first_outcome params input (Refused (Command (ItemKind i))) (lit≤ tt) passed_message a
   params_refused (Command (Ids f)) a =
       first_outcome params input (Refused (Command (Ids f))) (lit≤ tt) (passed_list a.list a.reads) a
-  params_refused (Command NotBuilt) a = absurd a
   params_refused (Command (Lacks l i)) a = absurd a
   params_refused (Input refusal) a = absurd a
   params_refused Arguments a = absurd a
@@ -295,16 +263,11 @@ module _ (params input : List ℕ) (short : length input ≤ MAX_INPUT_BYTES) (m
   params_stop ReadFault a = absurd a
   params_stop (IsRefused refusal) a = params_refused refusal a
 
-  pub other_covered : (sig : SigParams) → ReadsParams params sig → are_fields sig.ids ≡ false
-      → ReportsBase params input (Refused (Command NotBuilt))
-  other_covered sig reads other =
-      first_outcome params input (Refused (Command NotBuilt)) (lit≤ tt) (passed_sig sig reads) (sig, reads, other)
-
-  value_lacking : (sig : SigParams) → ReadsParams params sig → are_fields sig.ids ≡ true → (index : ℕ) (lack : Lack) (id : ComponentId)
+  value_lacking : (sig : SigParams) → ReadsParams params sig → (index : ℕ) (lack : Lack) (id : ComponentId)
       → IsFirstLack (context_for message) sig.ids index lack → slice_get sig.ids index ≡ Some id
       → ReportsBase params input (Refused (Command (Lacks lack (id_text id))))
-  value_lacking sig reads fields index lack id first there =
-      first_outcome params input (Refused (Command (Lacks lack (id_text id)))) (lit≤ tt) (passed_fields sig reads fields)
+  value_lacking sig reads index lack id first there =
+      first_outcome params input (Refused (Command (Lacks lack (id_text id)))) (lit≤ tt) (passed_sig sig reads)
       (record {
         message = message;
         spelled = spelled;
@@ -316,16 +279,16 @@ module _ (params input : List ℕ) (short : length input ≤ MAX_INPUT_BYTES) (m
       })
 
   -- what is answered for the message and the signature parameters is the outcome
-  pub base_outcome : (sig : SigParams) → ReadsParams params sig → are_fields sig.ids ≡ true → (result : Result (List ℕ) Stop)
+  pub base_outcome : (sig : SigParams) → ReadsParams params sig → (result : Result (List ℕ) Stop)
       → ExplainsBase message sig result → IfOutcome result (ReportsBase params input)
-  base_outcome sig reads fields (Ok text) x =
-      first_outcome params input (Done text) (lit≤ tt) (passed_values sig reads fields x.0 x.1)
+  base_outcome sig reads (Ok text) x =
+      first_outcome params input (Done text) (lit≤ tt) (passed_values sig reads x.0 x.1)
       (record { message = message; spelled = spelled; sig = sig; reads = reads; values = x.0; have = x.1; base_is = x.2 })
-  base_outcome sig reads fields (Err stop) x = elim x [
+  base_outcome sig reads (Err stop) x = elim x [
     | inl memory ↦ rw memory tt
     | inr lacking ↦
         let id = some_and_parts (λ (id : ComponentId). stop ≡ stop_for_lack lacking.1 (id_text id)) (slice_get sig.ids lacking.0) lacking.3 in
-        rw id.2 (value_lacking sig reads fields lacking.0 lacking.1 id.0 lacking.2 id.1)
+        rw id.2 (value_lacking sig reads lacking.0 lacking.1 id.0 lacking.2 id.1)
   ]
 
 -- nothing is read for it

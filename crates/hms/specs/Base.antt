@@ -1,5 +1,5 @@
 -- What `base` comes to, for PARAMS and an input.
-use Rattle.std.specs.Prelude.{◌≡◌, ◌<◌, ℕ, List, length, None, IsFalse, IsSomeAnd, slice_get}
+use Rattle.std.specs.Prelude.{◌≡◌, ◌<◌, ℕ, List, length, None, IsSomeAnd, slice_get}
 use Rattle.byte_grammar.specs.Causes.{IsFirst}
 use Rattle.byte_grammar.specs.FaultOffset.{IsFaultOffset}
 use Rattle.sfv_text.specs.declared.value.InnerList.{InnerList}
@@ -14,7 +14,7 @@ use Rattle.component_ids.specs.Types.{standard_types}
 use Rattle.component_ids.specs.declared.scheme.Scheme.TheVariants.{Https}
 use Rattle.component_values.specs.declared.lack.Lack.{Lack}
 use Rattle.component_values.specs.Context.{MessageContext}
-use Rattle.component_values.specs.Values.{HaveValues, IsFirstLack, are_fields}
+use Rattle.component_values.specs.Values.{HaveValues, IsFirstLack}
 use Rattle.sig_base.specs.SignatureBase.{signature_base}
 use Rattle.hms.specs.Covered.{ReadsParams}
 use Rattle.hms.specs.Messages.{IsMessageFault}
@@ -23,7 +23,7 @@ use Rattle.hms.specs.declared.refusal.Refusal.TheVariants.{Arguments, Input, Com
 use Rattle.hms.specs.declared.refusal.InputRefusal.{InputRefusal}
 use Rattle.hms.specs.declared.refusal.InputRefusal.TheVariants.{TooLong, Message as NoMessage}
 use Rattle.hms.specs.declared.refusal.CommandRefusal.{CommandRefusal}
-use Rattle.hms.specs.declared.refusal.CommandRefusal.TheVariants.{Syntax, ItemKind, Ids, NotYet as NotBuilt, Lacks}
+use Rattle.hms.specs.declared.refusal.CommandRefusal.TheVariants.{Syntax, ItemKind, Ids, Lacks}
 use Rattle.hms.specs.declared.outcome.Outcome.{Outcome}
 use Rattle.hms.specs.declared.outcome.Outcome.TheVariants.{Done, NotOk, Refused}
 
@@ -32,10 +32,6 @@ pub record HasIdFault (params : List ℕ) (fault : IdFault) : Type 0 where
   pub list : InnerList
   pub reads : ReadsInner params list
   pub is : IsIdFault list fault
-
--- some covered component is no field
-abbrev pub CoversOther : List ℕ → Type 0
-CoversOther params = (sig : SigParams) × ReadsParams params sig × IsFalse (are_fields sig.ids)
 
 -- what the values of components are drawn from: the message, with no related request, the scheme
 -- `https`, and the fields that the standards define as structured
@@ -80,7 +76,6 @@ IsCommandCause params input (Syntax offset) =
 IsCommandCause params input (ItemKind offset) =
     IsFaultOffset ReadsInner params offset × BeginsItemKind ReadsInner params offset
 IsCommandCause params input (Ids fault) = HasIdFault params fault
-IsCommandCause params input NotBuilt = CoversOther params
 IsCommandCause params input (Lacks lack id) = LacksValue params input lack id
 
 -- what each outcome says by itself of PARAMS and the input
@@ -95,8 +90,7 @@ abbrev pub command_order : CommandRefusal → ℕ
 command_order (Syntax offset) = 3
 command_order (ItemKind offset) = 3
 command_order (Ids fault) = 4
-command_order NotBuilt = 5
-command_order (Lacks lack id) = 6
+command_order (Lacks lack id) = 5
 
 -- the order in which outcomes are judged
 abbrev pub outcome_order : Outcome → ℕ
@@ -104,8 +98,8 @@ outcome_order (Refused Arguments) = 0
 outcome_order (Refused (Input TooLong)) = 1
 outcome_order (Refused (Input (NoMessage fault))) = 2
 outcome_order (Refused (Command refusal)) = command_order refusal
-outcome_order (Done text) = 7
-outcome_order (NotOk text) = 8
+outcome_order (Done text) = 6
+outcome_order (NotOk text) = 7
 
 -- the outcome is the first that holds
 abbrev pub ReportsBase : List ℕ → List ℕ → Outcome → Type 0

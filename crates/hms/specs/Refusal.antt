@@ -21,7 +21,7 @@ use Rattle.msg_body.specs.declared.error.MessageError.TheVariants as message
 use Rattle.msg_body.specs.declared.error.MessageFault.{MessageFault}
 use Rattle.msg_body.specs.declared.error.MessageFault.TheVariants.{Refused, Truncated, Trailing}
 use Rattle.hms.specs.declared.refusal.CommandRefusal.{CommandRefusal}
-use Rattle.hms.specs.declared.refusal.CommandRefusal.TheVariants.{Syntax, ItemKind, Ids, NotYet as NotBuilt, Lacks}
+use Rattle.hms.specs.declared.refusal.CommandRefusal.TheVariants.{Syntax, ItemKind, Ids, Lacks}
 
 -- how a section of field lines is called
 abbrev pub side_text : Side → List ℕ
@@ -62,7 +62,6 @@ abbrev pub command_text : CommandRefusal → List ℕ
 command_text (Syntax offset) = codes "params-syntax " ++ decimal offset
 command_text (ItemKind offset) = codes "params-kind " ++ decimal offset
 command_text (Ids fault) = ids_text fault
-command_text NotBuilt = codes "not-yet"
 command_text (Lacks lack id) = lack_word lack ++ byte " " ∷ id
 
 -- what is refused, and why

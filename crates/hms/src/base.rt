@@ -4,7 +4,6 @@ ghost use Rattle.std.specs.Prelude.{◌≡◌, ◌≤◌, length, IsTrue, IfOk};
 ghost use Rattle.std.specs.List.{list_all};
 ghost use Rattle.component_ids.specs.Identifiers.{is_id_in_range};
 ghost use Rattle.component_ids.specs.SignatureParams.{are_sig_params_in_range};
-ghost use Rattle.component_values.specs.Values.{are_fields};
 ghost use Rattle.msg_body.specs.Views.{message_of};
 ghost use Rattle.hms.specs.Base.{ReportsBase};
 ghost use Rattle.hms.specs.Report.{HasInput};
@@ -16,7 +15,7 @@ use crate::message::read_input;
 use crate::refusal::{CommandRefusal, MAX_INPUT_BYTES, Refusal};
 use crate::stop::Stop;
 use component_ids::{ComponentId, Scheme, SigParams, Types, print_id};
-use component_values::{Context, ValueFault, are_fields, prepare};
+use component_values::{Context, ValueFault, prepare};
 use hms_io::{Source, fill};
 use msg_body::MessageView;
 use sfv_text::Text;
@@ -38,14 +37,13 @@ fn stop_for_fault(alloc: Global, ids: &[ComponentId], fault: ValueFault) -> Stop
     }
 }
 
-/// The signature base of the message over fields.
+/// The signature base of the message over these components.
 fn base_of<'a>(
     alloc: Global,
     message: &'a MessageView<'_>,
     sig: &'a SigParams,
 ) -> Result<Text, Stop>
-    requires in_range { IsTrue (are_sig_params_in_range sig.now) }
-    requires fields { IsTrue (are_fields sig.now.ids) }
+    requires { IsTrue (are_sig_params_in_range sig.now) }
     ensures { ExplainsBase (message_of message.now) sig.now result }
 {
     let types = Types::standard(alloc)?;
@@ -64,9 +62,6 @@ fn base_of_input(alloc: Global, params: &[u8], input: &[u8]) -> Result<Text, Sto
 {
     let message = read_input(alloc, input)?;
     let sig = read_signature_params(alloc, params)?;
-    if !are_fields(sig.ids.as_slice()) {
-        return Err(Stop::Refused(Refusal::Command(CommandRefusal::NotYet)));
-    }
     base_of(alloc, &message, &sig)
 }
 

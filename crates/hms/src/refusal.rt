@@ -49,8 +49,6 @@ pub enum CommandRefusal {
     ItemKind(usize),
     /// PARAMS are no signature parameters (RFC 9421 section 2.3). The fault is never out of memory.
     Ids(IdFault),
-    /// A covered component is a derived one, which isn't built yet.
-    NotYet,
     /// A covered component lacks a value so, the first that does. The text is that of its
     /// identifier, quotes and parameters included.
     Lacks(Lack, Text),
@@ -217,7 +215,6 @@ fn append_command(alloc: Global, refusal: &CommandRefusal, line: &mut Text) -> R
         CommandRefusal::Syntax(offset) => append_number(alloc, b"params-syntax ", *offset, line),
         CommandRefusal::ItemKind(offset) => append_number(alloc, b"params-kind ", *offset, line),
         CommandRefusal::Ids(fault) => append_ids(alloc, fault, line),
-        CommandRefusal::NotYet => line.append(b"not-yet"),
         CommandRefusal::Lacks(lack, id) => append_lack(*lack, id, line),
     }
 }

@@ -19,7 +19,7 @@ use Rattle.msg_body.specs.declared.error.MessageError.TheVariants as message
 use Rattle.msg_body.specs.declared.error.MessageFault.{MessageFault}
 use Rattle.msg_body.specs.declared.error.MessageFault.TheVariants as fault
 use Rattle.hms.specs.Messages.{IsMessageFault}
-use Rattle.hms.specs.declared.refusal.CommandRefusal.TheVariants.{Syntax, ItemKind, Ids, NotYet, Lacks}
+use Rattle.hms.specs.declared.refusal.CommandRefusal.TheVariants.{Syntax, ItemKind, Ids, Lacks}
 use Rattle.hms.specs.declared.outcome.Outcome.{Outcome}
 use Rattle.hms.specs.declared.outcome.Outcome.TheVariants.{Done, Refused as IsRefused}
 use Rattle.hms.specs.declared.stop.Stop.{Stop}
@@ -74,7 +74,6 @@ IsParamsCause params (Command (Syntax offset)) =
 IsParamsCause params (Command (ItemKind offset)) =
     IsFaultOffset ReadsInner params offset × BeginsItemKind ReadsInner params offset
 IsParamsCause params (Command (Ids fault)) = HasIdFault params fault
-IsParamsCause params (Command NotYet) = ⊥
 IsParamsCause params (Command (Lacks lack id)) = ⊥
 IsParamsCause params (Input refusal) = ⊥
 IsParamsCause params Arguments = ⊥
