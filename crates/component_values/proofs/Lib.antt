@@ -2,5 +2,7 @@ mod Below
 pub mod FirstLacks
 pub mod RowLaws
 mod CleanLaws
+mod DerivedRows
+mod DerivedValues
 mod Sequences
 mod Unread
