@@ -31,15 +31,17 @@ use Rattle.msg_body.specs.Names.{has_name}
 use Rattle.msg_body.specs.Views.{lines_on}
 use Rattle.field_values.specs.Values.{is_end, without_first_blanks, without_blanks, has_bytes, texts_of, value, values, combined_value, is_there}
 use Rattle.component_ids.specs.Table.{is_field_name, has_param}
-use Rattle.component_ids.specs.Types.{KindMap, kind_in}
+use Rattle.component_ids.specs.Types.{kind_in}
 use Rattle.component_ids.specs.declared.types.FieldKind.{FieldKind}
 use Rattle.component_ids.specs.declared.types.FieldKind.TheVariants as kind
 use Rattle.component_ids.specs.declared.id.ComponentId.{ComponentId}
 use Rattle.component_values.specs.declared.lack.Lack.{Lack}
 use Rattle.component_values.specs.declared.lack.Lack.TheVariants.{Absent, Underivable, NotAscii}
 use Rattle.component_values.specs.Context.{MessageContext}
+use Rattle.component_values.specs.Derived.{derived_of}
 use Rattle.component_values.specs.Laws.{is_value_byte, IsSpelled, HasMessages, HasCleanValues}
 use Rattle.component_values.specs.Values.{StrictRow, KindRow, MemberRow, KeyRow, plain_value, byte_sequences, member_key, FormRow, LineRow, side_of, related_message, message_for, NameRow, MessageRow}
+use Rattle.component_values.proofs.DerivedValues.{derived_printable}
 use Rattle.byte_grammar.proofs.ListLaws.{all_joined, all_parts, all_reverse, all_filter, all_implied, all_both, all_flat, all_separated, all_split}
 
 abbrev IsClean : List ℕ → Type 0
@@ -197,15 +199,16 @@ side_raw : (side : Side) (message : Message) → IsSpelled message → list_all 
 side_raw Header message is = message_raw message is
 side_raw Trailer message is = refl
 
-name_clean : (named : Bool) (types : KindMap) (id : ComponentId) (message : Message) (value : List ℕ) → IsSpelled message → NameRow named types id message (Ok value) → IsClean value
-name_clean true types id message value is row =
+name_clean : (named : Bool) (context : MessageContext) (id : ComponentId) (message : Message) (value : List ℕ) → IsSpelled message → NameRow named context id message (Ok value) → IsClean value
+name_clean true context id message value is row =
     let lines = lines_on (side_of id.params) message in
-    line_clean (is_there lines id.name) id.params (kind_in types id.name) lines id.name value (side_raw (side_of id.params) message is) row
-name_clean false types id message value is row = absurd row
+    line_clean (is_there lines id.name) id.params (kind_in context.types id.name) lines id.name value (side_raw (side_of id.params) message is) row
+name_clean false context id message value is row =
+    printed value (derived_printable (derived_of id.name) id.params context.scheme (lines_on Header message) message.head.start is.spells.is.head.start value row)
 
-message_clean : (message : Result Message Lack) (types : KindMap) (id : ComponentId) (value : List ℕ) → IfOk message IsSpelled → MessageRow message types id (Ok value) → IsClean value
-message_clean (Err lack) types id value is row = absurd cc
-message_clean (Ok message) types id value is row = name_clean (is_field_name id.name) types id message value is row
+message_clean : (message : Result Message Lack) (context : MessageContext) (id : ComponentId) (value : List ℕ) → IfOk message IsSpelled → MessageRow message context id (Ok value) → IsClean value
+message_clean (Err lack) context id value is row = absurd cc
+message_clean (Ok message) context id value is row = name_clean (is_field_name id.name) context id message value is row
 
 -- ---- the message that a component is drawn from
 
@@ -226,4 +229,4 @@ drawn_from context id has =
     either_is (has_param id.params (codes "req")) (related_message context) context.message (related_is (is_request context.message.head.start) context.related has.related) has.message
 
 pub has_clean_values : HasCleanValues
-has_clean_values context id value has row = message_clean (message_for context id.params) context.types id value (drawn_from context id has) row
+has_clean_values context id value has row = message_clean (message_for context id.params) context id value (drawn_from context id has) row

@@ -1,13 +1,12 @@
 -- The first component that lacks a value.
 use Rattle.std.proofs.Common.{◌≡◌, ◌⊎◌, ◌<◌, ℕ, zero, suc, List, [], ◌∷◌, ◌++◌, length, map, take, get_or, ◌+◌, Some, Result, Ok, Err, refl, sym, ap, ◌∙◌, inl, inr, arith}
 use Rattle.std.specs.List.{slice_get}
-use Rattle.std.proofs.lemmas.Bool.{cases_order, and_parts}
+use Rattle.std.proofs.lemmas.Bool.{cases_order}
 use Rattle.std.proofs.lemmas.Grind.{take_at_read}
 use Rattle.std.proofs.lemmas.List.{map-append, length-map, length-take}
 use Rattle.std.proofs.lemmas.Option.{slice_get-get_or}
 use Rattle.byte_grammar.specs.Causes.{AnswersWhere}
 use Rattle.byte_grammar.proofs.Indices.{some_and, some_and_parts, slice_get_take}
-use Rattle.component_ids.specs.Table.{is_field_name}
 use Rattle.component_ids.specs.declared.id.ComponentId.{ComponentId}
 use Rattle.component_values.specs.declared.lack.Lack.{Lack}
 use Rattle.component_ids.specs.declared.params.SigParams.{SigParams}
@@ -18,7 +17,7 @@ use Rattle.component_values.specs.declared.lack.ValueFault.TheVariants as fault
 use Rattle.component_values.specs.declared.lines.Value.{Value}
 use Rattle.component_values.specs.declared.prepared.Prepared.{Prepared}
 use Rattle.component_values.specs.Context.{MessageContext}
-use Rattle.component_values.specs.Values.{ComesTo, Has, Lacks, HaveValues, IsFirstLack, are_fields}
+use Rattle.component_values.specs.Values.{ComesTo, Has, Lacks, HaveValues, IsFirstLack}
 use Rattle.component_values.specs.Laws.{HaveOrLack, HaveOneList}
 use Rattle.component_values.specs.tools.Rows.{KeepsRow, lack_fault_at, kept_text}
 use Rattle.component_values.specs.tools.Answered.{ExplainsPrepared, IsFaultOf}
@@ -88,10 +87,8 @@ have_one_list context (id ∷ ids) [] others a b = absurd a
 have_one_list context (id ∷ ids) (v ∷ values) [] a b = absurd b
 
 pub have_or_lack : HaveOrLack
-have_or_lack context [] named = inl ([], tt)
-have_or_lack context (id ∷ ids) named =
-    let fields = and_parts (is_field_name id.name) (are_fields ids) named in
-    by_first (has_or_lacks context id fields.0) (have_or_lack context ids fields.1)
+have_or_lack context [] = inl ([], tt)
+have_or_lack context (id ∷ ids) = by_first (has_or_lacks context id) (have_or_lack context ids)
   where
     by_first : ((value : List ℕ) × Has context id value) ⊎ ((lack : Lack) × Lacks context id lack)
         → ((values : List (List ℕ)) × HaveValues context ids values) ⊎ ((index : ℕ) × (lack : Lack) × IsFirstLack context ids index lack)

@@ -3,5 +3,7 @@ mod Drawn
 pub mod FirstLacks
 pub mod RowLaws
 mod CleanLaws
+mod DerivedRows
+mod DerivedValues
 mod Sequences
 mod Unread

@@ -1,5 +1,5 @@
 -- Each row has one answer.
-use Rattle.std.proofs.Common.{◌≡◌, ◌⊎◌, ℕ, Bool, true, false, List, Option, Some, None, Result, Ok, Err, inl, inr, refl, sym, ap, ◌∙◌, subst}
+use Rattle.std.proofs.Common.{◌≡◌, ◌⊎◌, ℕ, Bool, true, false, List, Option, Some, None, Result, Ok, Err, inl, inr, refl, sym, ap, ◌∙◌}
 use Rattle.std.specs.Prelude.{IsSomeAnd, codes}
 use Rattle.sfv_text.specs.Keys.{value_of}
 use Rattle.sfv_text.specs.Strict.{item_text, list_text, dict_text, member_text}
@@ -11,35 +11,23 @@ use Rattle.sfv_read.specs.Laws.{HasOneValue, IsDecided}
 use Rattle.sfv_read.specs.Reads.{ReadsItem, ReadsList, ReadsDict}
 use Rattle.sfv_read.proofs.Readings.{item_judges, list_judges, dict_judges}
 use Rattle.sfv_read.proofs.TextLaws.{decided}
+use Rattle.msg_head.specs.declared.error.Side.TheVariants.{Header}
 use Rattle.msg_head.specs.Lines.{FieldLine}
 use Rattle.msg_body.specs.Messages.{Message}
 use Rattle.msg_body.specs.Views.{lines_on}
 use Rattle.field_values.specs.Values.{values, combined_value, is_there}
 use Rattle.component_ids.specs.Table.{is_field_name, has_param}
-use Rattle.component_ids.specs.Types.{KindMap, kind_in}
+use Rattle.component_ids.specs.Types.{kind_in}
 use Rattle.component_ids.specs.declared.types.FieldKind.{FieldKind}
 use Rattle.component_ids.specs.declared.types.FieldKind.TheVariants as kind
 use Rattle.component_ids.specs.declared.id.ComponentId.{ComponentId}
 use Rattle.component_values.specs.declared.lack.Lack.{Lack}
 use Rattle.component_values.specs.declared.lack.Lack.TheVariants.{Absent, Ambiguous, Underivable, Unreadable, NotAscii}
 use Rattle.component_values.specs.Context.{MessageContext}
+use Rattle.component_values.specs.Derived.{derived_of}
 use Rattle.component_values.specs.Laws.{HasOrLacks, HasOneValueOnly, LacksInOneWay, LacksNoValue}
 use Rattle.component_values.specs.Values.{StrictRow, KindRow, MemberRow, KeyRow, plain_value, byte_sequences, member_key, FormRow, LineRow, side_of, message_for, NameRow, MessageRow, ComesTo}
-
-abbrev pub Answer : Type 0
-Answer = Result (List ℕ) Lack
-
--- the row has an answer, and no other
-pub record HasSoleAnswer (Row : Answer → Type 0) : Type 0 where
-  pub answer : Answer
-  pub is : Row answer
-  pub only : (other : Answer) → Row other → other ≡ answer
-
-same : {Row : Answer → Type 0} → HasSoleAnswer Row → (one other : Answer) → Row one → Row other → one ≡ other
-same row one other is also = row.only one is ∙ sym (row.only other also)
-
-the_answer : (answer : Answer) → HasSoleAnswer (λ other. other ≡ answer)
-the_answer answer = record { answer = answer; is = refl; only = λ other is. is }
+use Rattle.component_values.proofs.DerivedRows.{Answer, HasSoleAnswer, same, the_answer, derived_one}
 
 -- ---- structured values
 
@@ -129,32 +117,26 @@ line_one true params known lines name =
 
 -- ---- components
 
-name_one : (types : KindMap) (id : ComponentId) (message : Message) → HasSoleAnswer (NameRow true types id message)
-name_one types id message =
+name_one : (named : Bool) (context : MessageContext) (id : ComponentId) (message : Message) → HasSoleAnswer (NameRow named context id message)
+name_one true context id message =
     let lines = lines_on (side_of id.params) message in
-    line_one (is_there lines id.name) id.params (kind_in types id.name) lines id.name
+    line_one (is_there lines id.name) id.params (kind_in context.types id.name) lines id.name
+name_one false context id message = derived_one (derived_of id.name) id.params context.scheme (lines_on Header message) message.head.start
 
-message_some : (message : Result Message Lack) (types : KindMap) (id : ComponentId) → is_field_name id.name ≡ true → (answer : Answer) × MessageRow message types id answer
-message_some (Err lack) types id named = (Err lack, refl)
-message_some (Ok message) types id named =
-    let row = name_one types id message in
-    (row.answer, subst (λ b. NameRow b types id message row.answer) (sym named) row.is)
+message_one : (message : Result Message Lack) (context : MessageContext) (id : ComponentId) → HasSoleAnswer (MessageRow message context id)
+message_one (Err lack) context id = the_answer (Err lack)
+message_one (Ok message) context id = name_one (is_field_name id.name) context id message
 
-name_same : (named : Bool) (types : KindMap) (id : ComponentId) (message : Message) (one other : Answer) → NameRow named types id message one → NameRow named types id message other → one ≡ other
-name_same true types id message one other is also = same (name_one types id message) one other is also
-name_same false types id message one other is also = absurd is
-
-message_same : (message : Result Message Lack) (types : KindMap) (id : ComponentId) (one other : Answer) → MessageRow message types id one → MessageRow message types id other → one ≡ other
-message_same (Err lack) types id one other is also = is ∙ sym also
-message_same (Ok message) types id one other is also = name_same (is_field_name id.name) types id message one other is also
+sole_answer : (context : MessageContext) (id : ComponentId) → HasSoleAnswer (ComesTo context id)
+sole_answer context id = message_one (message_for context id.params) context id
 
 one_answer : (context : MessageContext) (id : ComponentId) (one other : Answer) → ComesTo context id one → ComesTo context id other → one ≡ other
-one_answer context id one other is also = message_same (message_for context id.params) context.types id one other is also
+one_answer context id one other is also = same (sole_answer context id) one other is also
 
 -- ---- the laws
 
 pub has_or_lacks : HasOrLacks
-has_or_lacks context id named = let some = message_some (message_for context id.params) context.types id named in by_answer some.0 some.1
+has_or_lacks context id = let row = sole_answer context id in by_answer row.answer row.is
   where
     by_answer : (answer : Answer) → ComesTo context id answer → ((value : List ℕ) × ComesTo context id (Ok value)) ⊎ ((lack : Lack) × ComesTo context id (Err lack))
     by_answer (Ok value) is = inl (value, is)

@@ -2,8 +2,8 @@
 
 ghost use Rattle.component_values.specs.Laws.{HasOrLacks, HasOneValueOnly, LacksInOneWay, LacksNoValue, HasCleanValues, HaveOrLack, HaveOneList, HaveOneFirstLack, HaveNoLack};
 
-/// A field component has one value, or lacks one in one way, and not both. A value is ASCII, and
-/// has no NUL, CR or LF.
+/// A component has one value, or lacks one in one way, and not both. A value that is drawn from
+/// messages that bytes spell is ASCII, and has no NUL, CR or LF.
 pub fn components_have_one_answer()
     ensures some { HasOrLacks }
     ensures value { HasOneValueOnly }

@@ -1,8 +1,8 @@
 mod Given
 mod Runs
-mod TargetParts
-mod AuthorityParts
-mod Decided
-mod Visible
+pub mod TargetParts
+pub mod AuthorityParts
+pub mod Decided
+pub mod Visible
 mod EncodingLaws
-mod ValueLaws
+pub mod ValueLaws
