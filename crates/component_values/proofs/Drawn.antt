@@ -16,7 +16,7 @@ pub authority_found : (parts : RequestParts) (target : TargetParts) (named schem
     → scheme ≡ scheme_of parts target → IsAuthorityFor scheme named authority → text ≡ authority_text authority → TargetAuthorityRow parts target (Ok text)
 authority_found parts target named scheme text authority names is found printed =
     subst (λ (answer : Result (List ℕ) Lack). AuthorityRow (scheme_of parts target) answer (Ok text)) names
-      (subst (λ (s : List ℕ). IsAuthorityValue s named text) is (authority, found, printed))
+    (subst (λ (s : List ℕ). IsAuthorityValue s named text) is (authority, found, printed))
 
 -- a target with a path is of a form that has one
 pub path_there : (target : TargetParts) (path : List ℕ) → Some path ≡ path_of target → has_path target.form ≡ true

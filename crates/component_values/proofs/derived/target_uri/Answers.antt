@@ -8,5 +8,5 @@ pub returns-in_err-authority : goal.returns-in_err-authority
 returns-in_err-authority c =
     let p = err_from_is_err_and c.from_residual.result c.from_residual.ensures.1 in
     rw (p.1, p.2)
-      (uri_lacks (request_parts c.args.request) (parts_of c.args.target.now) c.in_err-authority.field-0.0
-        (path_there (parts_of c.args.target.now) c.in-Some.path.now c.in-Some.ensures) c.in_err-authority.ensures)
+    (uri_lacks (request_parts c.args.request) (parts_of c.args.target.now) c.in_err-authority.field-0.0
+    (path_there (parts_of c.args.target.now) c.in-Some.path.now c.in-Some.ensures) c.in_err-authority.ensures)
