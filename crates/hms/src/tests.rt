@@ -122,9 +122,33 @@ X-E:\r\n\
 X: \xC3\xA9\r\n\
 Accept-Signature:  a=(),   b=1.50\r\n\r\n";
 
+// Each component has the value.
+fn assert_values(
+    rt: &impl Abort,
+    alloc: Global,
+    input: &[u8],
+    values: &[(&str, &[u8])],
+) -> Result<(), Fail> {
+    for (id, value) in values {
+        let params = format!(in alloc; "({id})")?;
+        let mut base = Vec::from_slice(alloc, id.as_bytes())?;
+        base.extend_from_slice(b": ")?;
+        base.extend_from_slice(*value)?;
+        base.extend_from_slice(b"\n\"@signature-params\": ")?;
+        base.extend_from_slice(params.as_bytes())?;
+        let case = Case {
+            params: params.as_str(),
+            input,
+            status: Status::Done,
+            output: base.as_slice(),
+        };
+        assert_case(rt, alloc, 4096, &case)?;
+    }
+    Ok(())
+}
+
 #[test]
 fn bases_of_fields_with_parameters(rt: HostRuntime) -> Result<(), Fail> {
-    let alloc = rt.alloc();
     let values = [
         (r#""example-dict";key="d""#, b"?1".as_slice()),
         (r#""example-dict";key="a""#, b"1"),
@@ -138,22 +162,48 @@ fn bases_of_fields_with_parameters(rt: HostRuntime) -> Result<(), Fail> {
         (r#""accept-signature";sf"#, b"a=(), b=1.5"),
         (r#""accept-signature";sf;key="a""#, b"()"),
     ];
-    for (id, value) in &values {
-        let params = format!(in alloc; "({id})")?;
-        let mut base = Vec::from_slice(alloc, id.as_bytes())?;
-        base.extend_from_slice(b": ")?;
-        base.extend_from_slice(*value)?;
-        base.extend_from_slice(b"\n\"@signature-params\": ")?;
-        base.extend_from_slice(params.as_bytes())?;
-        let case = Case {
-            params: params.as_str(),
-            input: COMPONENTS,
-            status: Status::Done,
-            output: base.as_slice(),
-        };
-        assert_case(&rt, alloc, 4096, &case)?;
-    }
-    Ok(())
+    assert_values(&rt, rt.alloc(), COMPONENTS, &values)
+}
+
+const ABSOLUTE: &[u8] = b"GET http://EXAMPLE.com:80?x=1+2&y= HTTP/1.1\r\nHost: other\r\n\r\n";
+
+#[test]
+fn components_of_a_target_in_absolute_form(rt: HostRuntime) -> Result<(), Fail> {
+    let values = [
+        (r#""@method""#, b"GET".as_slice()),
+        (r#""@authority""#, b"example.com"),
+        (r#""@scheme""#, b"http"),
+        (r#""@path""#, b"/"),
+        (r#""@query""#, b"?x=1+2&y="),
+        (r#""@target-uri""#, b"http://example.com/?x=1+2&y="),
+        (r#""@request-target""#, b"http://EXAMPLE.com:80?x=1+2&y="),
+        (r#""@query-param";name="x""#, b"1%202"),
+    ];
+    assert_values(&rt, rt.alloc(), ABSOLUTE, &values)
+}
+
+const ORIGIN: &[u8] = b"POST /path?a=b%20c HTTP/1.1\r\nHost: Example.com:443\r\n\r\n";
+
+#[test]
+fn components_of_a_target_in_origin_form(rt: HostRuntime) -> Result<(), Fail> {
+    let values = [
+        (r#""@authority""#, b"example.com".as_slice()),
+        (r#""@scheme""#, b"https"),
+        (r#""@target-uri""#, b"https://example.com/path?a=b%20c"),
+        (r#""@query-param";name="a""#, b"b%20c"),
+    ];
+    assert_values(&rt, rt.alloc(), ORIGIN, &values)
+}
+
+#[test]
+fn an_ambiguous_authority_is_refused(rt: HostRuntime) -> Result<(), Fail> {
+    let case = Case {
+        params: r#"("@method" "@authority")"#,
+        input: b"GET / HTTP/1.1\r\nHost: a\r\nHost: b\r\n\r\n",
+        status: Status::BadInput,
+        output: b"refused command ambiguous \"@authority\"\n",
+    };
+    assert_case(&rt, rt.alloc(), 4096, &case)
 }
 
 #[test]
@@ -248,8 +298,13 @@ fn covered_components_are_refused_by_their_cause(rt: HostRuntime) -> Result<(), 
         (r#"("@query-param")"#, b"component-bad 0 name-missing"),
         (r#"("a";sf;tr "a";tr;sf)"#, b"component-repeated 1"),
         (r#"("a");expires=1.5;created="1""#, b"parameter-bad expires"),
-        (r#"("@method")"#, b"not-yet"),
-        (r#"("x" "@method")"#, b"not-yet"),
+        (r#"("@status")"#, br#"underivable "@status""#),
+        (r#"("@path";req)"#, br#"underivable "@path";req"#),
+        (r#"("@method" "@authority" "x")"#, br#"absent "@authority""#),
+        (
+            r#"("@query-param";name="a")"#,
+            br#"absent "@query-param";name="a""#,
+        ),
         (r#"("x" "date";sf)"#, br#"absent "x""#),
         (r#"("date";sf "x")"#, br#"unreadable "date";sf"#),
         (r#"("date";key="k")"#, br#"unreadable "date";key="k""#),
