@@ -28,4 +28,6 @@ pub use laws::{components_have_one_answer, signatures_have_one_answer};
 pub use prepared::Prepared;
 
 #[cfg(test)]
+mod derived_tests;
+#[cfg(test)]
 mod tests;

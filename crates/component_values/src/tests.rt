@@ -1,6 +1,5 @@
 ghost use Rattle.std.specs.Prelude.{IfOk, IsTrue};
 ghost use Rattle.component_ids.specs.SignatureParams.{are_sig_params_in_range};
-ghost use Rattle.component_values.specs.Values.{are_fields};
 
 use super::*;
 use FieldKind::{Dictionary, Item, List};
@@ -15,19 +14,19 @@ use std::test::Fail;
 
 // The Inner List of one component, and its value or how it lacks one.
 #[derive(Clone, Copy)]
-struct Case<'a> {
-    list: &'a [u8],
-    value: Result<&'a [u8], Lack>,
+pub(crate) struct Case<'a> {
+    pub list: &'a [u8],
+    pub value: Result<&'a [u8], Lack>,
 }
 
-fn has<'a>(list: &'a [u8], value: &'a [u8]) -> Case<'a> {
+pub(crate) fn has<'a>(list: &'a [u8], value: &'a [u8]) -> Case<'a> {
     Case {
         list,
         value: Ok(value),
     }
 }
 
-fn lacks(list: &[u8], lack: Lack) -> Case<'_> {
+pub(crate) fn lacks(list: &[u8], lack: Lack) -> Case<'_> {
     Case {
         list,
         value: Err(lack),
@@ -53,7 +52,7 @@ impl Absorb for Fed {
     }
 }
 
-fn sig_params_of(alloc: Global, text: &[u8]) -> Result<SigParams, Fail>
+pub(crate) fn params_of(alloc: Global, text: &[u8]) -> Result<SigParams, Fail>
     ensures { IfOk result (λ params. IsTrue (are_sig_params_in_range params)) }
 {
     let list = read_inner(alloc, text)?;
@@ -63,20 +62,8 @@ fn sig_params_of(alloc: Global, text: &[u8]) -> Result<SigParams, Fail>
     }
 }
 
-// Signature parameters that cover fields alone.
-fn params_of(alloc: Global, text: &[u8]) -> Result<SigParams, Fail>
-    ensures in_range { IfOk result (λ params. IsTrue (are_sig_params_in_range params)) }
-    ensures fields { IfOk result (λ params. IsTrue (are_fields params.ids)) }
-{
-    let params = sig_params_of(alloc, text)?;
-    if !are_fields(params.ids.as_slice()) {
-        return Err(Fail::from("a derived component"));
-    }
-    Ok(params)
-}
-
 // The whole request that the bytes begin with.
-fn request_of(alloc: Global, bytes: &[u8]) -> Result<MessageView<'_>, Fail> {
+pub(crate) fn request_of(alloc: Global, bytes: &[u8]) -> Result<MessageView<'_>, Fail> {
     if bytes.len() > 1_000 {
         return Err(Fail::from("a long message"));
     }
@@ -119,8 +106,7 @@ fn check_value<'a, 'm>(
     params: &'a SigParams,
     case: Case<'_>,
 ) -> Result<(), Fail>
-    requires in_range { IsTrue (are_sig_params_in_range params.now) }
-    requires fields { IsTrue (are_fields params.now.ids) }
+    requires { IsTrue (are_sig_params_in_range params.now) }
 {
     match prepare(alloc, context, params) {
         Ok(prepared) => {
@@ -136,6 +122,19 @@ fn check_value<'a, 'm>(
     Ok(())
 }
 
+pub(crate) fn check_context<'a, 'm>(
+    rt: &impl Abort,
+    alloc: Global,
+    context: &Context<'a, 'm>,
+    cases: &[Case<'_>],
+) -> Result<(), Fail> {
+    for case in cases {
+        let params = params_of(alloc, case.list)?;
+        check_value(rt, alloc, context, &params, *case)?;
+    }
+    Ok(())
+}
+
 fn check_cases(
     rt: &impl Abort,
     alloc: Global,
@@ -144,12 +143,7 @@ fn check_cases(
     cases: &[Case<'_>],
 ) -> Result<(), Fail> {
     let view = request_of(alloc, message)?;
-    let context = context_of(&view, types);
-    for case in cases {
-        let params = params_of(alloc, case.list)?;
-        check_value(rt, alloc, &context, &params, *case)?;
-    }
-    Ok(())
+    check_context(rt, alloc, &context_of(&view, types), cases)
 }
 
 // The message of RFC 9421 section 2.1, with its field that is empty.

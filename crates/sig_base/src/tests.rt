@@ -1,11 +1,10 @@
 ghost use Rattle.std.specs.Prelude.{IfOk, IsTrue};
 ghost use Rattle.component_ids.specs.SignatureParams.{are_sig_params_in_range};
-ghost use Rattle.component_values.specs.Values.{are_fields};
 
 use super::*;
 use crate::buffer::{ByteBuffer, ByteCount};
 use component_ids::{Scheme, SigParams, Types, read_params};
-use component_values::{Context, are_fields, prepare};
+use component_values::{Context, prepare};
 use msg_body::{Expect, MessageRead, read_message};
 use sfv_read::read_inner;
 use sfv_text::{Absorb, Memory, Text};
@@ -30,7 +29,7 @@ struct Case<'a> {
     base: &'a [u8],
 }
 
-const CASES: [Case<'static>; 4] = [
+const CASES: [Case<'static>; 5] = [
     Case {
         params: b"()",
         base: br#""@signature-params": ()"#,
@@ -46,6 +45,14 @@ const CASES: [Case<'static>; 4] = [
 \"x-empty\": \n\
 \"@signature-params\": (\"cache-control\" \"x-obs-fold-header\" \"x-empty\");\
 created=1;keyid=\"k\"",
+    },
+    Case {
+        params: br#"("@method" "@target-uri" "@authority" "host");created=1"#,
+        base: b"\"@method\": GET\n\
+\"@target-uri\": https://www.example.com/foo\n\
+\"@authority\": www.example.com\n\
+\"host\": www.example.com\n\
+\"@signature-params\": (\"@method\" \"@target-uri\" \"@authority\" \"host\");created=1",
     },
     Case {
         params: br#"("example-dict";key="b" "example-dict" "x-ows-header";bs);alg="hmac-sha256""#,
@@ -76,7 +83,7 @@ impl Absorb for Fed {
     }
 }
 
-fn sig_params_of(alloc: Global, text: &[u8]) -> Result<SigParams, Fail>
+fn params_of(alloc: Global, text: &[u8]) -> Result<SigParams, Fail>
     ensures { IfOk result (λ params. IsTrue (are_sig_params_in_range params)) }
 {
     let list = read_inner(alloc, text)?;
@@ -84,18 +91,6 @@ fn sig_params_of(alloc: Global, text: &[u8]) -> Result<SigParams, Fail>
         Ok(params) => Ok(params),
         Err(_) => Err(Fail::from("no signature parameters")),
     }
-}
-
-// Signature parameters that cover fields alone.
-fn params_of(alloc: Global, text: &[u8]) -> Result<SigParams, Fail>
-    ensures in_range { IfOk result (λ params. IsTrue (are_sig_params_in_range params)) }
-    ensures fields { IfOk result (λ params. IsTrue (are_fields params.ids)) }
-{
-    let params = sig_params_of(alloc, text)?;
-    if !are_fields(params.ids.as_slice()) {
-        return Err(Fail::from("a derived component"));
-    }
-    Ok(params)
 }
 
 // The base, and that feeding gives the same.
@@ -106,8 +101,7 @@ fn check_base<'a, 'm>(
     params: &'a SigParams,
     base: &[u8],
 ) -> Result<(), Fail>
-    requires in_range { IsTrue (are_sig_params_in_range params.now) }
-    requires fields { IsTrue (are_fields params.now.ids) }
+    requires { IsTrue (are_sig_params_in_range params.now) }
 {
     let Ok(prepared) = prepare(alloc, context, params) else {
         return Err(Fail::from("a component lacks a value"));
