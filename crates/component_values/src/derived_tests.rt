@@ -1,5 +1,5 @@
 use super::*;
-use crate::tests::{Case, check_context, has, lacks, request_of};
+use crate::tests::{Case, check_message, has, lacks};
 use Lack::{Absent, Ambiguous, Underivable};
 use Scheme::{Http, Https};
 use component_ids::{Scheme, Types};
@@ -16,9 +16,7 @@ fn check_request(
     cases: &[Case<'_>],
 ) -> Result<(), Fail> {
     let types = Types::standard(alloc)?;
-    let view = request_of(alloc, message)?;
-    let context = Context::of_message(&view, scheme, &types);
-    check_context(rt, alloc, &context, cases)
+    check_message(rt, alloc, scheme, &types, message, cases)
 }
 
 // The request of RFC 9421 sections 2.2.1 to 2.2.7.

@@ -52,7 +52,7 @@ impl Absorb for Fed {
     }
 }
 
-pub(crate) fn params_of(alloc: Global, text: &[u8]) -> Result<SigParams, Fail>
+fn params_of(alloc: Global, text: &[u8]) -> Result<SigParams, Fail>
     ensures { IfOk result (λ params. IsTrue (are_sig_params_in_range params)) }
 {
     let list = read_inner(alloc, text)?;
@@ -63,23 +63,13 @@ pub(crate) fn params_of(alloc: Global, text: &[u8]) -> Result<SigParams, Fail>
 }
 
 // The whole request that the bytes begin with.
-pub(crate) fn request_of(alloc: Global, bytes: &[u8]) -> Result<MessageView<'_>, Fail> {
+fn request_of(alloc: Global, bytes: &[u8]) -> Result<MessageView<'_>, Fail> {
     if bytes.len() > 1_000 {
         return Err(Fail::from("a long message"));
     }
     match read_message(alloc, bytes, Expect::Request, false)? {
         MessageRead::Whole(view, _) => Ok(view),
         MessageRead::Partial => Err(Fail::from("no message")),
-    }
-}
-
-// The request alone.
-fn context_of<'a, 'm>(message: &'a MessageView<'m>, types: &'a Types) -> Context<'a, 'm> {
-    Context {
-        message,
-        related: None,
-        scheme: Scheme::Https,
-        types,
     }
 }
 
@@ -122,15 +112,19 @@ fn check_value<'a, 'm>(
     Ok(())
 }
 
-pub(crate) fn check_context<'a, 'm>(
+pub(crate) fn check_message(
     rt: &impl Abort,
     alloc: Global,
-    context: &Context<'a, 'm>,
+    scheme: Scheme,
+    types: &Types,
+    message: &[u8],
     cases: &[Case<'_>],
 ) -> Result<(), Fail> {
+    let view = request_of(alloc, message)?;
+    let context = Context::of_message(&view, scheme, types);
     for case in cases {
         let params = params_of(alloc, case.list)?;
-        check_value(rt, alloc, context, &params, *case)?;
+        check_value(rt, alloc, &context, &params, *case)?;
     }
     Ok(())
 }
@@ -142,8 +136,7 @@ fn check_cases(
     types: &Types,
     cases: &[Case<'_>],
 ) -> Result<(), Fail> {
-    let view = request_of(alloc, message)?;
-    check_context(rt, alloc, &context_of(&view, types), cases)
+    check_message(rt, alloc, Scheme::Https, types, message, cases)
 }
 
 // The message of RFC 9421 section 2.1, with its field that is empty.
@@ -314,7 +307,7 @@ fn the_first_lack_is_answered(rt: HostRuntime) -> Result<(), Fail> {
     let alloc = rt.alloc();
     let types = Types::standard(alloc)?;
     let view = request_of(alloc, PLAIN)?;
-    let context = context_of(&view, &types);
+    let context = Context::of_message(&view, Scheme::Https, &types);
     let cases = [
         FirstLack {
             list: br#"("host" "x-a" "date";sf "x-b")"#,
@@ -344,7 +337,7 @@ fn each_component_has_its_texts(rt: HostRuntime) -> Result<(), Fail> {
     let alloc = rt.alloc();
     let types = Types::standard(alloc)?;
     let view = request_of(alloc, PLAIN)?;
-    let context = context_of(&view, &types);
+    let context = Context::of_message(&view, Scheme::Https, &types);
     let params = params_of(
         alloc,
         br#"( "host"   "cache-control";bs  );created=1618884473;keyid="k""#,
@@ -373,7 +366,7 @@ fn no_component_has_no_value(rt: HostRuntime) -> Result<(), Fail> {
     let alloc = rt.alloc();
     let types = Types::standard(alloc)?;
     let view = request_of(alloc, PLAIN)?;
-    let context = context_of(&view, &types);
+    let context = Context::of_message(&view, Scheme::Https, &types);
     let params = params_of(alloc, b"();tag=\"t\"")?;
     let prepared = prepare(alloc, &context, &params)?;
     assert_eq!(rt; prepared.len(), 0);
