@@ -35,10 +35,10 @@ use Rattle.component_ids.specs.Types.{kind_in}
 use Rattle.component_ids.specs.declared.types.FieldKind.{FieldKind}
 use Rattle.component_ids.specs.declared.types.FieldKind.TheVariants as kind
 use Rattle.component_ids.specs.declared.id.ComponentId.{ComponentId}
-use Rattle.component_values.specs.declared.lack.Lack.{Lack}
-use Rattle.component_values.specs.declared.lack.Lack.TheVariants.{Absent, Underivable, NotAscii}
+use Rattle.derived_values.specs.declared.lack.Lack.{Lack}
+use Rattle.derived_values.specs.declared.lack.Lack.TheVariants.{Absent, Underivable, NotAscii}
 use Rattle.component_values.specs.Context.{MessageContext}
-use Rattle.component_values.specs.Derived.{derived_of}
+use Rattle.derived_values.specs.Derived.{derived_of}
 use Rattle.component_values.specs.Laws.{is_value_byte, IsSpelled, HasMessages, HasCleanValues}
 use Rattle.component_values.specs.Values.{StrictRow, KindRow, MemberRow, KeyRow, plain_value, byte_sequences, member_key, FormRow, LineRow, side_of, related_message, message_for, NameRow, MessageRow}
 use Rattle.component_values.proofs.DerivedValues.{derived_printable}

@@ -10,13 +10,13 @@ use Rattle.targets.specs.Authorities.{IsAuthorityValue}
 use Rattle.targets.proofs.Decided.{target_is_decided, authority_is_decided}
 use Rattle.targets.proofs.TargetParts.{one_target}
 use Rattle.targets.proofs.AuthorityParts.{one_authority_value}
-use Rattle.component_values.specs.declared.derived.DerivedName.{DerivedName}
-use Rattle.component_values.specs.declared.derived.DerivedName.TheVariants.{Method, RequestTarget, Status, OfTarget}
-use Rattle.component_values.specs.declared.derived.TargetName.{TargetName}
-use Rattle.component_values.specs.declared.derived.TargetName.TheVariants as name
-use Rattle.component_values.specs.declared.lack.Lack.{Lack}
-use Rattle.component_values.specs.declared.lack.Lack.TheVariants.{Underivable}
-use Rattle.component_values.specs.Derived.{RequestParts, scheme_of, named_authority, AuthorityRow, TargetAuthorityRow, path_value, query_value, uri_text, with_value, TargetUriRow, param_value, TargetRow, FormedRow, RequestRow, response_value, StartRow, DerivedRow}
+use Rattle.derived_values.specs.declared.derived.DerivedName.{DerivedName}
+use Rattle.derived_values.specs.declared.derived.DerivedName.TheVariants.{Method, RequestTarget, Status, OfTarget}
+use Rattle.derived_values.specs.declared.derived.TargetName.{TargetName}
+use Rattle.derived_values.specs.declared.derived.TargetName.TheVariants as name
+use Rattle.derived_values.specs.declared.lack.Lack.{Lack}
+use Rattle.derived_values.specs.declared.lack.Lack.TheVariants.{Underivable}
+use Rattle.derived_values.specs.Derived.{RequestParts, scheme_of, named_authority, AuthorityRow, TargetAuthorityRow, path_value, query_value, uri_text, with_value, TargetUriRow, param_value, TargetRow, FormedRow, RequestRow, response_value, StartRow, DerivedRow}
 
 abbrev pub Answer : Type 0
 Answer = Result (List ℕ) Lack

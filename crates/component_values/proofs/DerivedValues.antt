@@ -22,13 +22,13 @@ use Rattle.targets.specs.Query.{matches}
 use Rattle.targets.specs.Laws.{AreVisible}
 use Rattle.targets.proofs.Visible.{has_visible_parts, has_visible_value}
 use Rattle.targets.proofs.ValueLaws.{matches_printable}
-use Rattle.component_values.specs.declared.derived.DerivedName.{DerivedName}
-use Rattle.component_values.specs.declared.derived.DerivedName.TheVariants.{Method, RequestTarget, Status, OfTarget}
-use Rattle.component_values.specs.declared.derived.TargetName.{TargetName}
-use Rattle.component_values.specs.declared.derived.TargetName.TheVariants as name
-use Rattle.component_values.specs.declared.lack.Lack.{Lack}
-use Rattle.component_values.specs.declared.lack.Lack.TheVariants.{Underivable}
-use Rattle.component_values.specs.Derived.{RequestParts, sole_value, scheme_text, scheme_of, named_authority, AuthorityRow, TargetAuthorityRow, uri_text, with_value, TargetUriRow, param_name, param_value, TargetRow, FormedRow, RequestRow, response_value, StartRow, DerivedRow}
+use Rattle.derived_values.specs.declared.derived.DerivedName.{DerivedName}
+use Rattle.derived_values.specs.declared.derived.DerivedName.TheVariants.{Method, RequestTarget, Status, OfTarget}
+use Rattle.derived_values.specs.declared.derived.TargetName.{TargetName}
+use Rattle.derived_values.specs.declared.derived.TargetName.TheVariants as name
+use Rattle.derived_values.specs.declared.lack.Lack.{Lack}
+use Rattle.derived_values.specs.declared.lack.Lack.TheVariants.{Underivable}
+use Rattle.derived_values.specs.Derived.{RequestParts, sole_value, scheme_text, scheme_of, named_authority, AuthorityRow, TargetAuthorityRow, uri_text, with_value, TargetUriRow, param_name, param_value, TargetRow, FormedRow, RequestRow, response_value, StartRow, DerivedRow}
 use Rattle.component_values.proofs.DerivedRows.{Answer}
 
 abbrev IsPrintable : List ℕ → Type 0

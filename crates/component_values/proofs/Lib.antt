@@ -1,5 +1,4 @@
 mod Below
-mod Drawn
 pub mod FirstLacks
 pub mod RowLaws
 mod CleanLaws

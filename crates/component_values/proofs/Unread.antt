@@ -11,7 +11,7 @@ use Rattle.sfv_read.specs.declared.error.SfError.{SfError}
 use Rattle.sfv_read.specs.declared.error.SfError.TheVariants.{Memory, Syntax, ItemKind}
 use Rattle.sfv_read.specs.Reads.{ReadsDict}
 use Rattle.component_values.specs.Values.{StrictRow, MemberRow}
-use Rattle.component_values.specs.tools.Rows.{AnswersRow, no_value_of}
+use Rattle.derived_values.specs.Answers.{AnswersRow, no_value_of}
 
 abbrev pub failed : {V : Type 0} → SfError → Result V SfError
 failed error = Err error

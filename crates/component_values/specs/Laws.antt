@@ -6,7 +6,7 @@ use Rattle.byte_classes.specs.Classes.{is_one_of}
 use Rattle.sfv_text.specs.Classes.{is_byte}
 use Rattle.msg_body.specs.Messages.{Message, Spells}
 use Rattle.component_ids.specs.declared.id.ComponentId.{ComponentId}
-use Rattle.component_values.specs.declared.lack.Lack.{Lack}
+use Rattle.derived_values.specs.declared.lack.Lack.{Lack}
 use Rattle.component_values.specs.Context.{MessageContext}
 use Rattle.component_values.specs.Values.{Has, Lacks, HaveValues, IsFirstLack}
 

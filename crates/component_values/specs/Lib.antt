@@ -1,5 +1,4 @@
 pub mod Context
-pub mod Derived
 pub mod Values
 pub mod Words
 pub mod Laws

@@ -20,10 +20,10 @@ use Rattle.component_ids.specs.Types.{kind_in}
 use Rattle.component_ids.specs.declared.types.FieldKind.{FieldKind}
 use Rattle.component_ids.specs.declared.types.FieldKind.TheVariants as kind
 use Rattle.component_ids.specs.declared.id.ComponentId.{ComponentId}
-use Rattle.component_values.specs.declared.lack.Lack.{Lack}
-use Rattle.component_values.specs.declared.lack.Lack.TheVariants.{Absent, Underivable, Unreadable, NotAscii}
+use Rattle.derived_values.specs.declared.lack.Lack.{Lack}
+use Rattle.derived_values.specs.declared.lack.Lack.TheVariants.{Absent, Underivable, Unreadable, NotAscii}
 use Rattle.component_values.specs.Context.{MessageContext}
-use Rattle.component_values.specs.Derived.{DerivedRow, derived_of, string_in}
+use Rattle.derived_values.specs.Derived.{DerivedRow, derived_of, string_in}
 
 -- ---- structured values
 

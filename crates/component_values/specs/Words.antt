@@ -1,17 +1,9 @@
--- The words of lacks in output, and what faults say.
+-- What faults say.
 use Rattle.std.specs.Prelude.{ℕ, List, ◌++◌, codes}
 use Rattle.std.specs.Fmt.{decimal}
-use Rattle.component_values.specs.declared.lack.Lack.{Lack}
-use Rattle.component_values.specs.declared.lack.Lack.TheVariants.{Absent, Ambiguous, Underivable, Unreadable, NotAscii}
-use Rattle.component_values.specs.declared.lack.ValueFault.{ValueFault}
-use Rattle.component_values.specs.declared.lack.ValueFault.TheVariants.{Memory, Lacks}
-
-abbrev pub lack_word : Lack → List ℕ
-lack_word Absent = codes "absent"
-lack_word Ambiguous = codes "ambiguous"
-lack_word Underivable = codes "underivable"
-lack_word Unreadable = codes "unreadable"
-lack_word NotAscii = codes "not-ascii"
+use Rattle.derived_values.specs.Words.{lack_word}
+use Rattle.component_values.specs.declared.fault.ValueFault.{ValueFault}
+use Rattle.component_values.specs.declared.fault.ValueFault.TheVariants.{Memory, Lacks}
 
 -- what a fault says
 abbrev pub value_fault_text : ValueFault → List ℕ

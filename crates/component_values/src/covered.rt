@@ -5,15 +5,15 @@ ghost use Rattle.std.specs.List.{list_all};
 ghost use Rattle.byte_grammar.specs.Causes.{AnswersWhere};
 ghost use Rattle.component_ids.specs.Identifiers.{id_text, is_id_in_range};
 ghost use Rattle.component_ids.specs.SignatureParams.{are_sig_params_in_range};
-ghost use Rattle.component_values.specs.declared.lack.Lack.{Lack};
+ghost use Rattle.derived_values.specs.declared.lack.Lack.{Lack};
 ghost use Rattle.component_values.specs.Context.{context_of};
 ghost use Rattle.component_values.specs.Values.{HaveValues, IsFirstLack};
 ghost use Rattle.component_values.specs.tools.Rows.{kept_text};
 ghost use Rattle.component_values.specs.tools.Answered.{ExplainsPrepared, IsFaultOf};
 
 use crate::context::Context;
+use crate::fault::{ValueFault, fault_at};
 use crate::field::component_value;
-use crate::lack::ValueFault;
 use crate::lines::Value;
 use crate::prepared::Prepared;
 use component_ids::{ComponentId, SigParams, print_id, print_params};
@@ -35,7 +35,7 @@ fn values_of<'a, 'm>(
     for id in ids {
         match component_value(alloc, context, id) {
             Ok(value) => values.push(value)?,
-            Err(why) => return Err(why.at(values.len())),
+            Err(why) => return Err(fault_at(values.len(), why)),
         }
     }
     Ok(values)

@@ -10,11 +10,10 @@ ghost use Rattle.component_values.specs.Values.{FormRow, FieldRow, ComesTo, side
 ghost use Rattle.component_values.specs.tools.Rows.{KeepsRow, field_lines};
 
 use crate::context::Context;
-use crate::derived::derived_value;
-use crate::lack::{Lack, NoValue};
-use crate::lines::{NamedLines, Value, byte_sequences, combined_text, is_ascii, is_there};
+use crate::lines::{NamedLines, Value, byte_sequences, is_ascii, is_there};
 use crate::strict::{member_value, strict_value};
 use component_ids::{ComponentId, FieldKind, has_param, is_field_name};
+use derived_values::{Lack, NoValue, combined_text, derived_value};
 use msg_body::{MessageView, is_request};
 use msg_head::Side;
 use sfv_text::{BareItem, Params};
@@ -45,11 +44,11 @@ fn value_in_form<'a, 'm>(
         return Ok(Value::Text(byte_sequences(alloc, field)?));
     }
     if let Some(key) = member_key(params) {
-        let text = combined_text(alloc, field)?;
+        let text = combined_text(alloc, field.message, field.side, field.name)?;
         return Ok(Value::Text(member_value(alloc, kind, key, text.bytes())?));
     }
     if has_param(params, b"sf") {
-        let text = combined_text(alloc, field)?;
+        let text = combined_text(alloc, field.message, field.side, field.name)?;
         return Ok(Value::Text(strict_value(alloc, kind, text.bytes())?));
     }
     if !is_ascii(field) {

@@ -12,9 +12,8 @@
 
 mod context;
 mod covered;
-mod derived;
+mod fault;
 mod field;
-mod lack;
 mod laws;
 mod lines;
 mod prepared;
@@ -22,8 +21,8 @@ mod strict;
 
 pub use context::Context;
 pub use covered::prepare;
-pub use derived::{DerivedName, TargetName};
-pub use lack::{Lack, ValueFault};
+pub use derived_values::Lack;
+pub use fault::ValueFault;
 pub use laws::{components_have_one_answer, signatures_have_one_answer};
 pub use prepared::Prepared;
 

@@ -73,18 +73,6 @@ pub(crate) fn feed_value<A: Absorb>(value: &Value<'_, '_>, into: &mut A)
     }
 }
 
-/// The combined value.
-pub(crate) fn combined_text(alloc: Global, field: NamedLines<'_, '_>) -> Result<Text, Memory>
-    ensures { IfOk result (λ text. text
-        ≡ combined_value (field_lines field.entry) field.entry.name.now) }
-{
-    let mut text = Text::new(alloc);
-    for piece in combined_pieces(field.message, field.side, field.name) {
-        text.append(piece)?;
-    }
-    Ok(text)
-}
-
 /// The value of one line.
 fn line_text(alloc: Global, line: LineView<'_>) -> Result<Text, Memory>
     ensures { IfOk result (λ text. text ≡ value line.entry.raw.now) }

@@ -5,10 +5,10 @@ ghost use Rattle.sfv_text.specs.Range.{is_member_in_range};
 ghost use Rattle.sfv_text.specs.Strict.{item_text, list_text, dict_text, member_text, bytes_text};
 ghost use Rattle.sfv_read.specs.Reads.{ReadsItem, ReadsList, ReadsDict};
 ghost use Rattle.component_values.specs.Values.{StrictRow, KindRow, MemberRow, KeyRow};
-ghost use Rattle.component_values.specs.tools.Rows.{AnswersRow};
+ghost use Rattle.derived_values.specs.Answers.{AnswersRow};
 
-use crate::lack::{Lack, NoValue};
 use component_ids::FieldKind;
+use derived_values::{Lack, NoValue};
 use sfv_read::{read_dict, read_item, read_list};
 use sfv_text::{
     BareItem, Item, Member, Memory, Params, Text, print_dict, print_inner, print_item, print_list,

@@ -20,7 +20,7 @@ use Rattle.msg_body.specs.Messages.{Message, Spells}
 use Rattle.msg_body.specs.declared.error.MessageFault.{MessageFault}
 use Rattle.hms.specs.Base.{HasIdFault, LacksValue, HasBase, context_for, Holds, IsCommandCause, command_order, outcome_order, ReportsBase}
 use Rattle.hms.specs.Covered.{ReadsParams}
-use Rattle.component_values.specs.declared.lack.Lack.{Lack}
+use Rattle.derived_values.specs.declared.lack.Lack.{Lack}
 use Rattle.component_values.specs.Values.{HaveValues, IsFirstLack}
 use Rattle.component_values.proofs.FirstLacks.{have_one_list, first_lack_is_one, none_lacks}
 use Rattle.sig_base.specs.SignatureBase.{signature_base}

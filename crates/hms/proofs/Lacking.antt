@@ -6,9 +6,9 @@ use Rattle.byte_grammar.specs.Causes.{AnswersWhere}
 use Rattle.byte_grammar.proofs.Indices.{some_and_parts}
 use Rattle.component_ids.specs.declared.id.ComponentId.{ComponentId}
 use Rattle.component_ids.specs.declared.params.SigParams.{SigParams}
-use Rattle.component_values.specs.declared.lack.Lack.{Lack}
-use Rattle.component_values.specs.declared.lack.ValueFault.{ValueFault}
-use Rattle.component_values.specs.declared.lack.ValueFault.TheVariants.{Memory, Lacks}
+use Rattle.derived_values.specs.declared.lack.Lack.{Lack}
+use Rattle.component_values.specs.declared.fault.ValueFault.{ValueFault}
+use Rattle.component_values.specs.declared.fault.ValueFault.TheVariants.{Memory, Lacks}
 use Rattle.component_values.specs.declared.prepared.Prepared.{Prepared}
 use Rattle.component_values.specs.Values.{IsFirstLack, Lacks as LacksSo}
 use Rattle.component_values.specs.Context.{MessageContext}

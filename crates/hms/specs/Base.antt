@@ -12,7 +12,7 @@ use Rattle.component_ids.specs.Identifiers.{id_text}
 use Rattle.msg_body.specs.Messages.{Message, Spells}
 use Rattle.component_ids.specs.Types.{standard_types}
 use Rattle.component_ids.specs.declared.scheme.Scheme.TheVariants.{Https}
-use Rattle.component_values.specs.declared.lack.Lack.{Lack}
+use Rattle.derived_values.specs.declared.lack.Lack.{Lack}
 use Rattle.component_values.specs.Context.{MessageContext}
 use Rattle.component_values.specs.Values.{HaveValues, IsFirstLack}
 use Rattle.sig_base.specs.SignatureBase.{signature_base}

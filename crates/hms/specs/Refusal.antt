@@ -5,7 +5,7 @@ use Rattle.std.specs.Str.{byte}
 use Rattle.component_ids.specs.declared.fault.IdFault.{IdFault}
 use Rattle.component_ids.specs.declared.fault.IdFault.TheVariants.{Memory, TooMany, BadComponent, Repeated, BadParameter}
 use Rattle.component_ids.specs.Reasons.{word_of}
-use Rattle.component_values.specs.Words.{lack_word}
+use Rattle.derived_values.specs.Words.{lack_word}
 use Rattle.hms_io.specs.declared.status.Status.{Status}
 use Rattle.hms_io.specs.declared.status.Status.TheVariants.{BadArguments, BadInput, LimitPassed}
 use Rattle.hms.specs.declared.refusal.TheConstants.{MAX_INPUT_BYTES}

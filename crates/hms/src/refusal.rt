@@ -4,7 +4,7 @@ ghost use Rattle.std.specs.Prelude.{◌≡◌, ◌++◌, ◌∷◌, OnOk, IfOk};
 ghost use Rattle.std.specs.Fmt.{decimal};
 ghost use Rattle.std.specs.Str.{byte};
 ghost use Rattle.component_ids.specs.Reasons.{word_of};
-ghost use Rattle.component_values.specs.Words.{lack_word};
+ghost use Rattle.derived_values.specs.Words.{lack_word};
 ghost use Rattle.hms.specs.Refusal.{side_text, message_text, fault_text, message_status, fault_status, input_text, ids_text, command_text, refusal_text, refusal_line, refusal_status};
 
 use component_ids::{BadReason, IdFault};

@@ -2,8 +2,8 @@
 use Rattle.std.specs.Prelude.{◌≡◌, ⊤, List, Result, Ok, Err}
 use Rattle.component_ids.specs.declared.id.ComponentId.{ComponentId}
 use Rattle.component_ids.specs.declared.params.SigParams.{SigParams}
-use Rattle.component_values.specs.declared.lack.ValueFault.{ValueFault}
-use Rattle.component_values.specs.declared.lack.ValueFault.TheVariants.{Memory, Lacks}
+use Rattle.component_values.specs.declared.fault.ValueFault.{ValueFault}
+use Rattle.component_values.specs.declared.fault.ValueFault.TheVariants.{Memory, Lacks}
 use Rattle.component_values.specs.declared.prepared.Prepared.{Prepared}
 use Rattle.component_values.specs.Context.{MessageContext}
 use Rattle.component_values.specs.Values.{HaveValues, IsFirstLack}

@@ -3,29 +3,14 @@ use Rattle.std.specs.Prelude.{⊤, ℕ, List, Result, Ok, Err}
 use Rattle.msg_head.specs.Lines.{FieldLine}
 use Rattle.msg_body.specs.Views.{message_of, lines_on}
 use Rattle.field_values.specs.Values.{combined_value}
-use Rattle.component_values.specs.declared.lack.Lack.{Lack}
-use Rattle.sfv_read.specs.declared.error.SfError.{SfError}
-use Rattle.sfv_read.specs.declared.error.SfError.TheVariants as sf
-use Rattle.component_values.specs.declared.lack.Lack.TheVariants.{Unreadable}
-use Rattle.component_values.specs.declared.lack.NoValue.{NoValue}
-use Rattle.component_values.specs.declared.lack.NoValue.TheVariants.{Memory, Lacks}
-use Rattle.component_values.specs.declared.lack.ValueFault.{ValueFault}
-use Rattle.component_values.specs.declared.lack.ValueFault.TheVariants as fault
+use Rattle.derived_values.specs.declared.lack.Lack.{Lack}
+use Rattle.derived_values.specs.declared.lack.NoValue.{NoValue}
+use Rattle.derived_values.specs.declared.lack.NoValue.TheVariants.{Memory, Lacks}
+use Rattle.component_values.specs.declared.fault.ValueFault.{ValueFault}
+use Rattle.component_values.specs.declared.fault.ValueFault.TheVariants as fault
 use Rattle.component_values.specs.declared.lines.NamedLines.{NamedLines}
 use Rattle.component_values.specs.declared.lines.Value.{Value}
 use Rattle.component_values.specs.declared.lines.Value.TheVariants as kept
-
--- why a text that isn't read gives no value
-abbrev pub no_value_of : SfError → NoValue
-no_value_of sf.Memory = Memory
-no_value_of (sf.Syntax offset) = Lacks Unreadable
-no_value_of (sf.ItemKind offset) = Lacks Unreadable
-
--- the answer is what the row says, unless memory ran out
-abbrev pub AnswersRow : (Result (List ℕ) Lack → Type 0) → Result (List ℕ) NoValue → Type 0
-AnswersRow Row (Ok value) = Row (Ok value)
-AnswersRow Row (Err (Lacks lack)) = Row (Err lack)
-AnswersRow Row (Err Memory) = ⊤
 
 -- the lines among which those of the field are
 abbrev pub field_lines : NamedLines → List FieldLine

@@ -3,9 +3,9 @@ use Rattle.std.specs.Prelude.{◌≡◌, ◌<◌, ◌⊎◌, ⊤, ℕ, List, sli
 use Rattle.component_ids.specs.Identifiers.{id_text}
 use Rattle.component_ids.specs.declared.id.ComponentId.{ComponentId}
 use Rattle.component_ids.specs.declared.params.SigParams.{SigParams}
-use Rattle.component_values.specs.declared.lack.Lack.{Lack}
-use Rattle.component_values.specs.declared.lack.ValueFault.{ValueFault}
-use Rattle.component_values.specs.declared.lack.ValueFault.TheVariants as fault
+use Rattle.derived_values.specs.declared.lack.Lack.{Lack}
+use Rattle.component_values.specs.declared.fault.ValueFault.{ValueFault}
+use Rattle.component_values.specs.declared.fault.ValueFault.TheVariants as fault
 use Rattle.component_values.specs.Values.{HaveValues, IsFirstLack}
 use Rattle.msg_body.specs.Messages.{Message}
 use Rattle.sig_base.specs.SignatureBase.{signature_base}

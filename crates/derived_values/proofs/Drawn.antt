@@ -3,11 +3,11 @@ use Rattle.std.proofs.Common.{◌≡◌, ℕ, Bool, true, false, List, Option, S
 use Rattle.std.proofs.lemmas.Bool.{cases_Bool}
 use Rattle.targets.specs.Targets.{TargetParts, has_path, path_of}
 use Rattle.targets.specs.Authorities.{AuthorityParts, IsAuthorityFor, IsAuthorityValue, authority_text}
-use Rattle.component_values.specs.declared.lack.Lack.{Lack}
-use Rattle.component_values.specs.declared.lack.NoValue.{NoValue}
-use Rattle.component_values.specs.declared.lack.NoValue.TheVariants.{Memory, Lacks}
-use Rattle.component_values.specs.Derived.{RequestParts, scheme_of, named_authority, AuthorityRow, TargetAuthorityRow, TargetUriRow}
-use Rattle.component_values.specs.tools.Rows.{AnswersRow}
+use Rattle.derived_values.specs.declared.lack.Lack.{Lack}
+use Rattle.derived_values.specs.declared.lack.NoValue.{NoValue}
+use Rattle.derived_values.specs.declared.lack.NoValue.TheVariants.{Memory, Lacks}
+use Rattle.derived_values.specs.Derived.{RequestParts, scheme_of, named_authority, AuthorityRow, TargetAuthorityRow, TargetUriRow}
+use Rattle.derived_values.specs.Answers.{AnswersRow}
 
 abbrev named_as : List ℕ → Result (List ℕ) Lack
 named_as text = Ok text

@@ -1,7 +1,7 @@
 use Rattle.targets.specs.Views.{parts_of, authority_parts}
-use Rattle.component_values.specs.tools.Requests.{request_parts}
-use Rattle.component_values.proofs.Drawn.{authority_found}
-use Rattle.component_values.proofs.derived.authority_value.Goals as goal
+use Rattle.derived_values.specs.tools.Requests.{request_parts}
+use Rattle.derived_values.proofs.Drawn.{authority_found}
+use Rattle.derived_values.proofs.derived.authority_value.Goals as goal
 
 pub returns-in-Some : goal.returns-in-Some
 returns-in-Some c =

@@ -8,12 +8,12 @@ ghost use Rattle.field_values.specs.Values.{values};
 ghost use Rattle.targets.specs.Targets.{has_path, path_of, query_of, query_text};
 ghost use Rattle.targets.specs.Authorities.{authority_text};
 ghost use Rattle.targets.specs.Views.{parts_of, authority_parts};
-ghost use Rattle.component_values.specs.Derived.{derived_of, target_name_of, scheme_text, scheme_of, sole_value, named_authority, TargetAuthorityRow, TargetUriRow, TargetRow, FormedRow, RequestRow, StartRow, DerivedRow, path_value, query_value, param_value, param_name, response_value, uri_text};
-ghost use Rattle.component_values.specs.tools.Rows.{AnswersRow};
-ghost use Rattle.component_values.specs.tools.Requests.{request_parts};
+ghost use Rattle.derived_values.specs.Derived.{derived_of, target_name_of, scheme_text, scheme_of, sole_value, named_authority, TargetAuthorityRow, TargetUriRow, TargetRow, FormedRow, RequestRow, StartRow, DerivedRow, path_value, query_value, param_value, param_name, response_value, uri_text};
+ghost use Rattle.derived_values.specs.Answers.{AnswersRow};
+ghost use Rattle.derived_values.specs.tools.Requests.{request_parts};
 
+use crate::combined::combined_text;
 use crate::lack::{Lack, NoValue};
-use crate::lines::{NamedLines, combined_text};
 use component_ids::{ComponentId, Scheme};
 use field_values::count_lines;
 use msg_body::MessageView;
@@ -140,14 +140,7 @@ fn host_value(alloc: Global, message: &MessageView<'_>) -> Result<Text, NoValue>
 {
     match count_lines(message, Side::Header, b"host") {
         0 => Err(NoValue::Lacks(Lack::Absent)),
-        1 => Ok(combined_text(
-            alloc,
-            NamedLines {
-                message,
-                side: Side::Header,
-                name: b"host",
-            },
-        )?),
+        1 => Ok(combined_text(alloc, message, Side::Header, b"host")?),
         _ => Err(NoValue::Lacks(Lack::Ambiguous)),
     }
 }
@@ -352,8 +345,9 @@ fn response_value(alloc: Global, derived: DerivedName, code: &[u8]) -> Result<Te
     }
 }
 
-/// The value of a derived component.
-pub(crate) fn derived_value(
+/// The value of a derived component of the message, or how the message lacks it (RFC 9421 section
+/// 2.2). A name that no derived component has is underivable.
+pub fn derived_value(
     alloc: Global,
     message: &MessageView<'_>,
     scheme: Scheme,

@@ -1,7 +1,7 @@
 //! How a component lacks a value.
 
 ghost use Rattle.std.specs.Prelude.{◌≡◌};
-ghost use Rattle.component_values.specs.Words.{lack_word};
+ghost use Rattle.derived_values.specs.Words.{lack_word};
 
 use sfv_read::SfError;
 use sfv_text::Memory;
@@ -43,7 +43,7 @@ impl Lack {
 
 impl fmt::Display for Lack {
     ghost use Rattle.std.specs.Prelude.{Some};
-    ghost use Rattle.component_values.specs.Words.{lack_word};
+    ghost use Rattle.derived_values.specs.Words.{lack_word};
 
     ghost output = { λ lack. Some (lack_word lack) };
 
@@ -54,69 +54,18 @@ impl fmt::Display for Lack {
 
 impl Error for Lack {}
 
-/// Why components aren't prepared.
-#[derive(Clone, Copy, Debug, PartialEq, Eq)]
-pub enum ValueFault {
-    /// Out of memory. It says nothing of the components.
-    Memory,
-    /// The component at the index, counted from 0, lacks a value so; those before it have theirs.
-    Lacks(usize, Lack),
-}
-
-impl fmt::Display for ValueFault {
-    ghost use Rattle.std.specs.Prelude.{Some};
-    ghost use Rattle.component_values.specs.Words.{value_fault_text};
-
-    ghost output = { λ fault. Some (value_fault_text fault) };
-
-    fn fmt<W: fmt::Write>(&self, f: &mut fmt::Formatter<W>) -> fmt::Result {
-        match self {
-            ValueFault::Memory => f.write_str("out of memory"),
-            ValueFault::Lacks(index, lack) => write!(f, "the component at index {index} is {lack}"),
-        }
-    }
-}
-
-impl Error for ValueFault {}
-
-impl From<Memory> for ValueFault {
-    ghost use Rattle.std.specs.Prelude.{◌≡◌};
-    ghost use Rattle.component_values.specs.declared.lack.ValueFault.TheVariants.{Memory as OutOfMemory};
-
-    ghost from_gives = { λ _ fault. fault ≡ OutOfMemory };
-
-    fn from(_memory: Memory) -> ValueFault {
-        ValueFault::Memory
-    }
-}
-
 /// Why a component has no value here.
 #[derive(Clone, Copy)]
-pub(crate) enum NoValue {
+pub enum NoValue {
     /// Out of memory.
     Memory,
     /// It lacks one.
     Lacks(Lack),
 }
 
-impl NoValue {
-    ghost use Rattle.std.specs.Prelude.{◌≡◌};
-    ghost use Rattle.component_values.specs.tools.Rows.{lack_fault_at};
-
-    /// The fault of the component at the index.
-    pub(crate) fn at(self, index: usize) -> ValueFault
-        ensures { result ≡ lack_fault_at index self }
-    {
-        match self {
-            NoValue::Memory => ValueFault::Memory,
-            NoValue::Lacks(lack) => ValueFault::Lacks(index, lack),
-        }
-    }
-}
-
 impl From<Memory> for NoValue {
     ghost use Rattle.std.specs.Prelude.{◌≡◌};
-    ghost use Rattle.component_values.specs.declared.lack.NoValue.TheVariants.{Memory as OutOfMemory};
+    ghost use Rattle.derived_values.specs.declared.lack.NoValue.TheVariants.{Memory as OutOfMemory};
 
     ghost from_gives = { λ _ why. why ≡ OutOfMemory };
 
@@ -128,7 +77,7 @@ impl From<Memory> for NoValue {
 /// A text that isn't read.
 impl From<SfError> for NoValue {
     ghost use Rattle.std.specs.Prelude.{◌≡◌};
-    ghost use Rattle.component_values.specs.tools.Rows.{no_value_of};
+    ghost use Rattle.derived_values.specs.Answers.{no_value_of};
 
     ghost from_gives = { λ error why. why ≡ no_value_of error };
 
@@ -143,7 +92,7 @@ impl From<SfError> for NoValue {
 
 impl From<Lack> for NoValue {
     ghost use Rattle.std.specs.Prelude.{◌≡◌};
-    ghost use Rattle.component_values.specs.declared.lack.NoValue.TheVariants.{Lacks};
+    ghost use Rattle.derived_values.specs.declared.lack.NoValue.TheVariants.{Lacks};
 
     ghost from_gives = { λ lack why. why ≡ Lacks lack };
 

@@ -14,12 +14,12 @@ use Rattle.component_ids.specs.declared.scheme.Scheme.TheVariants.{Http, Https}
 use Rattle.targets.specs.Targets.{TargetParts, SpellsTarget, has_path, path_of, query_of, query_text}
 use Rattle.targets.specs.Authorities.{IsAuthorityValue}
 use Rattle.targets.specs.Query.{matches}
-use Rattle.component_values.specs.declared.derived.DerivedName.{DerivedName}
-use Rattle.component_values.specs.declared.derived.DerivedName.TheVariants.{Method, RequestTarget, Status, OfTarget}
-use Rattle.component_values.specs.declared.derived.TargetName.{TargetName}
-use Rattle.component_values.specs.declared.derived.TargetName.TheVariants as name
-use Rattle.component_values.specs.declared.lack.Lack.{Lack}
-use Rattle.component_values.specs.declared.lack.Lack.TheVariants.{Absent, Ambiguous, Underivable}
+use Rattle.derived_values.specs.declared.derived.DerivedName.{DerivedName}
+use Rattle.derived_values.specs.declared.derived.DerivedName.TheVariants.{Method, RequestTarget, Status, OfTarget}
+use Rattle.derived_values.specs.declared.derived.TargetName.{TargetName}
+use Rattle.derived_values.specs.declared.derived.TargetName.TheVariants as name
+use Rattle.derived_values.specs.declared.lack.Lack.{Lack}
+use Rattle.derived_values.specs.declared.lack.Lack.TheVariants.{Absent, Ambiguous, Underivable}
 
 -- ---- names
 

@@ -1,8 +1,8 @@
 use Rattle.std.proofs.lemmas.Result.{err_from_is_err_and}
 use Rattle.targets.specs.Views.{parts_of}
-use Rattle.component_values.specs.tools.Requests.{request_parts}
-use Rattle.component_values.proofs.Drawn.{path_there, uri_lacks}
-use Rattle.component_values.proofs.derived.target_uri.Goals as goal
+use Rattle.derived_values.specs.tools.Requests.{request_parts}
+use Rattle.derived_values.proofs.Drawn.{path_there, uri_lacks}
+use Rattle.derived_values.proofs.derived.target_uri.Goals as goal
 
 pub returns-in_err-authority : goal.returns-in_err-authority
 returns-in_err-authority c =
