@@ -3,7 +3,7 @@
 //! ```text
 //! // over `GET http://EXAMPLE.com:80?a=1 HTTP/1.1`
 //! derived_value(alloc, &message, Scheme::Https, &authority)? // example.com
-//! derived_value(alloc, &message, Scheme::Https, &status)     // Err(NoValue::Lacks(Lack::Underivable))
+//! derived_value(alloc, &message, Scheme::Https, &status)     // Err(NoValue::Lacks(..))
 //! ```
 #![tactic(auto)]
 
