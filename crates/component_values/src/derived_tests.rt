@@ -19,7 +19,7 @@ fn check_request(
     check_message(rt, alloc, scheme, &types, message, cases)
 }
 
-// The request of RFC 9421 sections 2.2.1 to 2.2.7.
+// The request of RFC 9421 sections 2.2.1 to 2.2.5.
 const POST: &[u8] = b"POST /path?param=value HTTP/1.1\r\n\
     Host: www.example.com\r\n\r\n";
 
@@ -52,7 +52,7 @@ fn derived_components_of_origin_form(rt: HostRuntime) -> Result<(), Fail> {
     check_request(&rt, alloc, Http, POST, &plain)
 }
 
-// The first two are requests of RFC 9421 sections 2.2.5 and 2.2.7.
+// The first two are requests of RFC 9421 section 2.2.7.
 #[test]
 fn a_query_has_its_question_mark(rt: HostRuntime) -> Result<(), Fail> {
     let alloc = rt.alloc();
@@ -158,7 +158,7 @@ fn asterisk_and_authority_form_have_no_path(rt: HostRuntime) -> Result<(), Fail>
     check_request(&rt, alloc, Https, message, &[kept])
 }
 
-// The lines of `Host`, the scheme, and what the authority comes to.
+// A request, the scheme that is configured, and what `@authority` comes to.
 #[derive(Clone, Copy)]
 struct HostCase<'a> {
     message: &'a [u8],

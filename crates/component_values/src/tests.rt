@@ -73,6 +73,20 @@ fn request_of(alloc: Global, bytes: &[u8]) -> Result<MessageView<'_>, Fail> {
     }
 }
 
+// The message alone.
+fn context_of<'a, 'm>(
+    message: &'a MessageView<'m>,
+    scheme: Scheme,
+    types: &'a Types,
+) -> Context<'a, 'm> {
+    Context {
+        message,
+        related: None,
+        scheme,
+        types,
+    }
+}
+
 fn fed_value(alloc: Global, prepared: &Prepared<'_, '_>, index: usize) -> Result<Text, Fail> {
     let mut fed = Fed {
         text: Text::new(alloc),
@@ -121,7 +135,7 @@ pub(crate) fn check_message(
     cases: &[Case<'_>],
 ) -> Result<(), Fail> {
     let view = request_of(alloc, message)?;
-    let context = Context::of_message(&view, scheme, types);
+    let context = context_of(&view, scheme, types);
     for case in cases {
         let params = params_of(alloc, case.list)?;
         check_value(rt, alloc, &context, &params, *case)?;
@@ -307,7 +321,7 @@ fn the_first_lack_is_answered(rt: HostRuntime) -> Result<(), Fail> {
     let alloc = rt.alloc();
     let types = Types::standard(alloc)?;
     let view = request_of(alloc, PLAIN)?;
-    let context = Context::of_message(&view, Scheme::Https, &types);
+    let context = context_of(&view, Scheme::Https, &types);
     let cases = [
         FirstLack {
             list: br#"("host" "x-a" "date";sf "x-b")"#,
@@ -337,7 +351,7 @@ fn each_component_has_its_texts(rt: HostRuntime) -> Result<(), Fail> {
     let alloc = rt.alloc();
     let types = Types::standard(alloc)?;
     let view = request_of(alloc, PLAIN)?;
-    let context = Context::of_message(&view, Scheme::Https, &types);
+    let context = context_of(&view, Scheme::Https, &types);
     let params = params_of(
         alloc,
         br#"( "host"   "cache-control";bs  );created=1618884473;keyid="k""#,
@@ -366,7 +380,7 @@ fn no_component_has_no_value(rt: HostRuntime) -> Result<(), Fail> {
     let alloc = rt.alloc();
     let types = Types::standard(alloc)?;
     let view = request_of(alloc, PLAIN)?;
-    let context = Context::of_message(&view, Scheme::Https, &types);
+    let context = context_of(&view, Scheme::Https, &types);
     let params = params_of(alloc, b"();tag=\"t\"")?;
     let prepared = prepare(alloc, &context, &params)?;
     assert_eq!(rt; prepared.len(), 0);
