@@ -19,14 +19,14 @@ pub(crate) struct Case<'a> {
     pub value: Result<&'a [u8], Lack>,
 }
 
-pub(crate) fn has<'a>(list: &'a [u8], value: &'a [u8]) -> Case<'a> {
+fn has<'a>(list: &'a [u8], value: &'a [u8]) -> Case<'a> {
     Case {
         list,
         value: Ok(value),
     }
 }
 
-pub(crate) fn lacks(list: &[u8], lack: Lack) -> Case<'_> {
+fn lacks(list: &[u8], lack: Lack) -> Case<'_> {
     Case {
         list,
         value: Err(lack),
