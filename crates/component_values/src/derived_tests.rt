@@ -18,6 +18,22 @@ struct RequestCase<'a> {
     answers: &'a [Answer<'a>],
 }
 
+fn check_request(
+    rt: &impl Abort,
+    alloc: Global,
+    types: &Types,
+    request: RequestCase<'_>,
+) -> Result<(), Fail> {
+    for (list, value) in request.answers {
+        let case = Case {
+            list: *list,
+            value: *value,
+        };
+        check_message(rt, alloc, request.scheme, types, request.message, &[case])?;
+    }
+    Ok(())
+}
+
 fn check_requests(
     rt: &impl Abort,
     alloc: Global,
@@ -25,13 +41,7 @@ fn check_requests(
 ) -> Result<(), Fail> {
     let types = Types::standard(alloc)?;
     for request in requests {
-        for (list, value) in request.answers {
-            let case = Case {
-                list: *list,
-                value: *value,
-            };
-            check_message(rt, alloc, request.scheme, &types, request.message, &[case])?;
-        }
+        check_request(rt, alloc, &types, *request)?;
     }
     Ok(())
 }

@@ -346,6 +346,22 @@ fn the_first_lack_is_answered(rt: HostRuntime) -> Result<(), Fail> {
     Ok(())
 }
 
+fn check_text(rt: &impl Abort, text: &[u8], want: &[u8]) -> Result<(), Fail> {
+    assert_eq!(rt; text, want);
+    Ok(())
+}
+
+fn check_fed(
+    rt: &impl Abort,
+    alloc: Global,
+    prepared: &Prepared<'_, '_>,
+    index: usize,
+    want: &[u8],
+) -> Result<(), Fail> {
+    let text = fed_value(alloc, prepared, index)?;
+    check_text(rt, text.bytes(), want)
+}
+
 #[test]
 fn each_component_has_its_texts(rt: HostRuntime) -> Result<(), Fail> {
     let alloc = rt.alloc();
@@ -359,20 +375,21 @@ fn each_component_has_its_texts(rt: HostRuntime) -> Result<(), Fail> {
     let prepared = prepare(alloc, &context, &params)?;
     assert_eq!(rt; prepared.len(), 2);
     assert!(rt; !prepared.is_empty());
-    assert_eq!(rt; prepared.id_text(0), br#""host""#.as_slice());
-    assert_eq!(rt; prepared.id_text(1), br#""cache-control";bs"#.as_slice());
-    assert_eq!(rt;
+    check_text(&rt, prepared.id_text(0), br#""host""#)?;
+    check_text(&rt, prepared.id_text(1), br#""cache-control";bs"#)?;
+    check_text(
+        &rt,
         prepared.params_text(),
-        br#"("host" "cache-control";bs);created=1618884473;keyid="k""#.as_slice()
-    );
-    let second = fed_value(alloc, &prepared, 1)?;
-    assert_eq!(rt;
-        second.bytes(),
-        b":bWF4LWFnZT02MA==:, :bXVzdC1yZXZhbGlkYXRl:".as_slice()
-    );
-    let first = fed_value(alloc, &prepared, 0)?;
-    assert_eq!(rt; first.bytes(), b"www.example.com".as_slice());
-    Ok(())
+        br#"("host" "cache-control";bs);created=1618884473;keyid="k""#,
+    )?;
+    check_fed(
+        &rt,
+        alloc,
+        &prepared,
+        1,
+        b":bWF4LWFnZT02MA==:, :bXVzdC1yZXZhbGlkYXRl:",
+    )?;
+    check_fed(&rt, alloc, &prepared, 0, b"www.example.com")
 }
 
 #[test]
