@@ -19,14 +19,14 @@ pub(crate) struct Case<'a> {
     pub value: Result<&'a [u8], Lack>,
 }
 
-pub(crate) fn has<'a>(list: &'a [u8], value: &'a [u8]) -> Case<'a> {
+fn has<'a>(list: &'a [u8], value: &'a [u8]) -> Case<'a> {
     Case {
         list,
         value: Ok(value),
     }
 }
 
-pub(crate) fn lacks(list: &[u8], lack: Lack) -> Case<'_> {
+fn lacks(list: &[u8], lack: Lack) -> Case<'_> {
     Case {
         list,
         value: Err(lack),
@@ -70,6 +70,20 @@ fn request_of(alloc: Global, bytes: &[u8]) -> Result<MessageView<'_>, Fail> {
     match read_message(alloc, bytes, Expect::Request, false)? {
         MessageRead::Whole(view, _) => Ok(view),
         MessageRead::Partial => Err(Fail::from("no message")),
+    }
+}
+
+// The message alone.
+fn context_of<'a, 'm>(
+    message: &'a MessageView<'m>,
+    scheme: Scheme,
+    types: &'a Types,
+) -> Context<'a, 'm> {
+    Context {
+        message,
+        related: None,
+        scheme,
+        types,
     }
 }
 
@@ -121,7 +135,7 @@ pub(crate) fn check_message(
     cases: &[Case<'_>],
 ) -> Result<(), Fail> {
     let view = request_of(alloc, message)?;
-    let context = Context::of_message(&view, scheme, types);
+    let context = context_of(&view, scheme, types);
     for case in cases {
         let params = params_of(alloc, case.list)?;
         check_value(rt, alloc, &context, &params, *case)?;
@@ -307,7 +321,7 @@ fn the_first_lack_is_answered(rt: HostRuntime) -> Result<(), Fail> {
     let alloc = rt.alloc();
     let types = Types::standard(alloc)?;
     let view = request_of(alloc, PLAIN)?;
-    let context = Context::of_message(&view, Scheme::Https, &types);
+    let context = context_of(&view, Scheme::Https, &types);
     let cases = [
         FirstLack {
             list: br#"("host" "x-a" "date";sf "x-b")"#,
@@ -332,12 +346,28 @@ fn the_first_lack_is_answered(rt: HostRuntime) -> Result<(), Fail> {
     Ok(())
 }
 
+fn check_text(rt: &impl Abort, text: &[u8], want: &[u8]) -> Result<(), Fail> {
+    assert_eq!(rt; text, want);
+    Ok(())
+}
+
+fn check_fed(
+    rt: &impl Abort,
+    alloc: Global,
+    prepared: &Prepared<'_, '_>,
+    index: usize,
+    want: &[u8],
+) -> Result<(), Fail> {
+    let text = fed_value(alloc, prepared, index)?;
+    check_text(rt, text.bytes(), want)
+}
+
 #[test]
 fn each_component_has_its_texts(rt: HostRuntime) -> Result<(), Fail> {
     let alloc = rt.alloc();
     let types = Types::standard(alloc)?;
     let view = request_of(alloc, PLAIN)?;
-    let context = Context::of_message(&view, Scheme::Https, &types);
+    let context = context_of(&view, Scheme::Https, &types);
     let params = params_of(
         alloc,
         br#"( "host"   "cache-control";bs  );created=1618884473;keyid="k""#,
@@ -345,20 +375,21 @@ fn each_component_has_its_texts(rt: HostRuntime) -> Result<(), Fail> {
     let prepared = prepare(alloc, &context, &params)?;
     assert_eq!(rt; prepared.len(), 2);
     assert!(rt; !prepared.is_empty());
-    assert_eq!(rt; prepared.id_text(0), br#""host""#.as_slice());
-    assert_eq!(rt; prepared.id_text(1), br#""cache-control";bs"#.as_slice());
-    assert_eq!(rt;
+    check_text(&rt, prepared.id_text(0), br#""host""#)?;
+    check_text(&rt, prepared.id_text(1), br#""cache-control";bs"#)?;
+    check_text(
+        &rt,
         prepared.params_text(),
-        br#"("host" "cache-control";bs);created=1618884473;keyid="k""#.as_slice()
-    );
-    let second = fed_value(alloc, &prepared, 1)?;
-    assert_eq!(rt;
-        second.bytes(),
-        b":bWF4LWFnZT02MA==:, :bXVzdC1yZXZhbGlkYXRl:".as_slice()
-    );
-    let first = fed_value(alloc, &prepared, 0)?;
-    assert_eq!(rt; first.bytes(), b"www.example.com".as_slice());
-    Ok(())
+        br#"("host" "cache-control";bs);created=1618884473;keyid="k""#,
+    )?;
+    check_fed(
+        &rt,
+        alloc,
+        &prepared,
+        1,
+        b":bWF4LWFnZT02MA==:, :bXVzdC1yZXZhbGlkYXRl:",
+    )?;
+    check_fed(&rt, alloc, &prepared, 0, b"www.example.com")
 }
 
 #[test]
@@ -366,7 +397,7 @@ fn no_component_has_no_value(rt: HostRuntime) -> Result<(), Fail> {
     let alloc = rt.alloc();
     let types = Types::standard(alloc)?;
     let view = request_of(alloc, PLAIN)?;
-    let context = Context::of_message(&view, Scheme::Https, &types);
+    let context = context_of(&view, Scheme::Https, &types);
     let params = params_of(alloc, b"();tag=\"t\"")?;
     let prepared = prepare(alloc, &context, &params)?;
     assert_eq!(rt; prepared.len(), 0);
