@@ -346,52 +346,6 @@ fn the_first_lack_is_answered(rt: HostRuntime) -> Result<(), Fail> {
     Ok(())
 }
 
-fn check_text(rt: &impl Abort, text: &[u8], want: &[u8]) -> Result<(), Fail> {
-    assert_eq!(rt; text, want);
-    Ok(())
-}
-
-fn check_fed(
-    rt: &impl Abort,
-    alloc: Global,
-    prepared: &Prepared<'_, '_>,
-    index: usize,
-    want: &[u8],
-) -> Result<(), Fail> {
-    let text = fed_value(alloc, prepared, index)?;
-    check_text(rt, text.bytes(), want)
-}
-
-#[test]
-fn each_component_has_its_texts(rt: HostRuntime) -> Result<(), Fail> {
-    let alloc = rt.alloc();
-    let types = Types::standard(alloc)?;
-    let view = request_of(alloc, PLAIN)?;
-    let context = context_of(&view, Scheme::Https, &types);
-    let params = params_of(
-        alloc,
-        br#"( "host"   "cache-control";bs  );created=1618884473;keyid="k""#,
-    )?;
-    let prepared = prepare(alloc, &context, &params)?;
-    assert_eq!(rt; prepared.len(), 2);
-    assert!(rt; !prepared.is_empty());
-    check_text(&rt, prepared.id_text(0), br#""host""#)?;
-    check_text(&rt, prepared.id_text(1), br#""cache-control";bs"#)?;
-    check_text(
-        &rt,
-        prepared.params_text(),
-        br#"("host" "cache-control";bs);created=1618884473;keyid="k""#,
-    )?;
-    check_fed(
-        &rt,
-        alloc,
-        &prepared,
-        1,
-        b":bWF4LWFnZT02MA==:, :bXVzdC1yZXZhbGlkYXRl:",
-    )?;
-    check_fed(&rt, alloc, &prepared, 0, b"www.example.com")
-}
-
 #[test]
 fn no_component_has_no_value(rt: HostRuntime) -> Result<(), Fail> {
     let alloc = rt.alloc();
