@@ -1,4 +1,5 @@
 -- Each row of a derived component has one answer.
+use Rattle.std.specs.Result.{result_map_both}
 use Rattle.std.proofs.Common.{◌≡◌, ℕ, Bool, true, false, List, Option, Some, None, Result, Ok, Err, inl, inr, refl, sym, ap, ◌∙◌, subst}
 use Rattle.sfv_text.specs.declared.pair.Pair.{Pair}
 use Rattle.sfv_text.specs.declared.value.BareItem.{BareItem}
@@ -16,7 +17,7 @@ use Rattle.derived_values.specs.declared.derived.TargetName.{TargetName}
 use Rattle.derived_values.specs.declared.derived.TargetName.TheVariants as name
 use Rattle.derived_values.specs.declared.lack.Lack.{Lack}
 use Rattle.derived_values.specs.declared.lack.Lack.TheVariants.{Underivable}
-use Rattle.derived_values.specs.Derived.{RequestParts, scheme_of, named_authority, AuthorityRow, TargetAuthorityRow, path_value, query_value, uri_text, with_value, TargetUriRow, param_value, TargetRow, FormedRow, RequestRow, response_value, StartRow, DerivedRow}
+use Rattle.derived_values.specs.Derived.{RequestParts, scheme_of, named_authority, AuthorityRow, TargetAuthorityRow, path_value, query_value, uri_text, TargetUriRow, param_value, TargetRow, FormedRow, RequestRow, response_value, StartRow, DerivedRow}
 
 abbrev pub Answer : Type 0
 Answer = Result (List ℕ) Lack
@@ -57,7 +58,7 @@ uri_one : (path : Bool) (parts : RequestParts) (target : TargetParts) → HasSol
 uri_one false parts target = the_answer (Err Underivable)
 uri_one true parts target =
     let authority = target_authority_one parts target in
-    let answer_of = with_value (uri_text parts target) in
+    let answer_of = result_map_both (uri_text parts target) (λ lack. lack) in
     record {
       answer = answer_of authority.answer;
       is = (authority.answer, authority.is, refl);

@@ -3,6 +3,7 @@ use Rattle.std.proofs.Common.{◌≡◌, ℕ, Bool, true, false, List, [], ◌�
 use Rattle.std.specs.Prelude.{option_map, unwrap_or, ok_or, IfSome, codes}
 use Rattle.std.specs.Char.{to_ascii_lowercase, is_ascii_alphanumeric}
 use Rattle.std.specs.List.{list_all}
+use Rattle.std.specs.Result.{result_map_both}
 use Rattle.std.specs.Str.{byte, str_to_ascii_lowercase}
 use Rattle.std.proofs.lemmas.Bool.{cases_Bool, and_parts, or_cases}
 use Rattle.std.proofs.lemmas.Bool.Decides.{nat_tests}
@@ -28,7 +29,7 @@ use Rattle.derived_values.specs.declared.derived.TargetName.{TargetName}
 use Rattle.derived_values.specs.declared.derived.TargetName.TheVariants as name
 use Rattle.derived_values.specs.declared.lack.Lack.{Lack}
 use Rattle.derived_values.specs.declared.lack.Lack.TheVariants.{Underivable}
-use Rattle.derived_values.specs.Derived.{RequestParts, sole_value, scheme_text, scheme_of, named_authority, AuthorityRow, TargetAuthorityRow, uri_text, with_value, TargetUriRow, param_name, param_value, TargetRow, FormedRow, RequestRow, response_value, StartRow, DerivedRow}
+use Rattle.derived_values.specs.Derived.{RequestParts, sole_value, scheme_text, scheme_of, named_authority, AuthorityRow, TargetAuthorityRow, uri_text, TargetUriRow, param_name, param_value, TargetRow, FormedRow, RequestRow, response_value, StartRow, DerivedRow}
 use Rattle.component_values.proofs.DerivedRows.{Answer}
 
 abbrev IsPrintable : List ℕ → Type 0
@@ -129,7 +130,7 @@ uri_printable parts target are authority is =
     (all_joined is_string_byte (codes "://") (authority ++ (path ++ query)) refl rest)
 
 uri_value : (parts : RequestParts) (target : TargetParts) → AreVisible target → (authority : Answer) (value : List ℕ) → TargetAuthorityRow parts target authority
-    → Ok value ≡ with_value (uri_text parts target) authority → IsPrintable value
+    → Ok value ≡ result_map_both (uri_text parts target) (λ lack. lack) authority → IsPrintable value
 uri_value parts target are (Err lack) value row is = absurd cc
 uri_value parts target are (Ok authority) value row is =
     let named = authority_printable (scheme_of parts target) (named_authority parts target.authority) authority row in

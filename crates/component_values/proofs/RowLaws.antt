@@ -6,11 +6,9 @@ use Rattle.sfv_text.specs.Strict.{item_text, list_text, dict_text, member_text}
 use Rattle.sfv_text.specs.declared.pair.Pair.{Pair}
 use Rattle.sfv_text.specs.declared.value.BareItem.{BareItem}
 use Rattle.sfv_text.specs.declared.value.Member.{Member}
-use Rattle.byte_grammar.proofs.Whole.{one_value}
 use Rattle.sfv_read.specs.Laws.{HasOneValue, IsDecided}
 use Rattle.sfv_read.specs.Reads.{ReadsItem, ReadsList, ReadsDict}
-use Rattle.sfv_read.proofs.Readings.{item_judges, list_judges, dict_judges}
-use Rattle.sfv_read.proofs.TextLaws.{decided}
+use Rattle.sfv_read.proofs.Readings.{item_has_one_value, list_has_one_value, dict_has_one_value, item_is_decided, list_is_decided, dict_is_decided}
 use Rattle.msg_head.specs.declared.error.Side.TheVariants.{Header}
 use Rattle.msg_head.specs.Lines.{FieldLine}
 use Rattle.msg_body.specs.Messages.{Message}
@@ -46,9 +44,9 @@ strict_one {V} Reads text_of decides one text = elim (decides text) [
     is_unread none (Err lack) row = ap Err row.0
 
 kind_one : (known : Option FieldKind) (text : List ℕ) → HasSoleAnswer (KindRow known text)
-kind_one (Some kind.Item) text = strict_one ReadsItem item_text (decided item_judges) (one_value item_judges) text
-kind_one (Some kind.List) text = strict_one ReadsList list_text (decided list_judges) (one_value list_judges) text
-kind_one (Some kind.Dictionary) text = strict_one ReadsDict dict_text (decided dict_judges) (one_value dict_judges) text
+kind_one (Some kind.Item) text = strict_one ReadsItem item_text item_is_decided item_has_one_value text
+kind_one (Some kind.List) text = strict_one ReadsList list_text list_is_decided list_has_one_value text
+kind_one (Some kind.Dictionary) text = strict_one ReadsDict dict_text dict_is_decided dict_has_one_value text
 kind_one None text = the_answer (Err Unreadable)
 
 -- ---- members
@@ -66,7 +64,7 @@ at_member value None is = absurd is
 at_member value (Some member) is = ap Ok is
 
 one_dict : (text : List ℕ) (dict other : List (Pair Member)) → ReadsDict text dict → ReadsDict text other → dict ≡ other
-one_dict = one_value dict_judges
+one_dict = dict_has_one_value
 
 member_read : (key text : List ℕ) (dict : List (Pair Member)) → ReadsDict text dict → (other : Answer) → MemberRow key text other → other ≡ member_answer (value_of dict key)
 member_read key text dict reads (Ok value) row =
@@ -87,7 +85,7 @@ member_unread key text none (Err Unreadable) row = ap Err row.0
 member_unread key text none (Err NotAscii) row = ap Err row.0
 
 member_one : (key text : List ℕ) → HasSoleAnswer (MemberRow key text)
-member_one key text = elim (decided dict_judges text) [
+member_one key text = elim (dict_is_decided text) [
   | inl read ↦ record {
     answer = member_answer (value_of read.0 key);
     is = member_some key text read.0 read.1 (value_of read.0 key) refl;

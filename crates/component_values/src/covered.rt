@@ -12,7 +12,7 @@ ghost use Rattle.component_values.specs.tools.Rows.{kept_text};
 ghost use Rattle.component_values.specs.tools.Answered.{ExplainsPrepared, IsFaultOf};
 
 use crate::context::Context;
-use crate::fault::{ValueFault, fault_at};
+use crate::fault::{ValueFault, lack_fault};
 use crate::field::component_value;
 use crate::lines::Value;
 use crate::prepared::Prepared;
@@ -35,7 +35,7 @@ fn values_of<'a, 'm>(
     for id in ids {
         match component_value(alloc, context, id) {
             Ok(value) => values.push(value)?,
-            Err(why) => return Err(fault_at(values.len(), why)),
+            Err(why) => return Err(lack_fault(values.len(), why)),
         }
     }
     Ok(values)

@@ -45,7 +45,7 @@ impl From<Memory> for ValueFault {
 }
 
 /// The fault of the component at the index.
-pub(crate) fn fault_at(index: usize, why: NoValue) -> ValueFault
+pub(crate) fn lack_fault(index: usize, why: NoValue) -> ValueFault
     ensures { result ≡ lack_fault_at index why }
 {
     match why {

@@ -1,6 +1,7 @@
 -- The value of a derived component, or how it lacks one: the rows of the names that begin with `@`
 -- (RFC 9421 section 2.2).
 use Rattle.std.specs.Prelude.{◌≡◌, ◌⊎◌, ℕ, Bool, true, false, Option, Some, None, unwrap_or, option_map, option_and_then, ok_or, List, [], ◌∷◌, ◌++◌, Result, Ok, Err, codes, if◌then◌else◌}
+use Rattle.std.specs.Result.{result_map_both}
 use Rattle.std.specs.Str.{byte, bytes_eq, str_to_ascii_lowercase}
 use Rattle.sfv_text.specs.Keys.{value_of}
 use Rattle.sfv_text.specs.declared.pair.Pair.{Pair}
@@ -100,17 +101,12 @@ uri_text parts target authority =
     scheme_of parts target ++ (codes "://" ++ (authority
     ++ (unwrap_or (path_of target) [] ++ query_text target.query)))
 
--- the value where there is one, changed so
-abbrev pub with_value : (List ℕ → List ℕ) → Result (List ℕ) Lack → Result (List ℕ) Lack
-with_value change (Ok value) = Ok (change value)
-with_value change (Err lack) = Err lack
-
 -- `@target-uri`, which lacks as `@authority` does (section 2.2.2)
 abbrev pub TargetUriRow : Bool → RequestParts → TargetParts → Result (List ℕ) Lack → Type 0
 TargetUriRow false parts target result = result ≡ Err Underivable
 TargetUriRow true parts target result = (authority : Result (List ℕ) Lack)
     × TargetAuthorityRow parts target authority
-    × (result ≡ with_value (uri_text parts target) authority)
+    × (result ≡ result_map_both (uri_text parts target) (λ lack. lack) authority)
 
 -- the characters of a String
 abbrev pub string_in : BareItem → Option (List ℕ)

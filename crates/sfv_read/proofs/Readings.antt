@@ -8,7 +8,7 @@ use Rattle.byte_grammar.proofs.Laws.{ok_is}
 use Rattle.byte_grammar.proofs.Whole.{Judges, judges, one_value}
 use Rattle.sfv_read.specs.declared.error.SfError.{SfError}
 use Rattle.sfv_read.specs.declared.error.SfError.TheVariants.{Memory, Syntax, ItemKind}
-use Rattle.sfv_read.specs.Laws.{HasOneValue}
+use Rattle.sfv_read.specs.Laws.{HasOneValue, IsDecided}
 use Rattle.sfv_read.specs.Fault.{IsRead, IsSfError, BeginsItemKind}
 use Rattle.sfv_read.specs.tools.Answers.{StopsAt, MarksItemKind, Answers}
 use Rattle.sfv_read.specs.Reads.{ReadsItem, ReadsInner, ReadsList, ReadsDict}
@@ -18,6 +18,7 @@ use Rattle.sfv_read.specs.tools.MemberWalk.{list_read, dict_read}
 use Rattle.sfv_read.proofs.Items.{meets_whole_item}
 use Rattle.sfv_read.proofs.InnerLists.{meets_whole_inner}
 use Rattle.sfv_read.proofs.Members.{meets_list, meets_dict}
+use Rattle.sfv_read.proofs.TextLaws.{decided}
 
 -- what the readings of a text promise of its answer
 pub record Promises {V : Type 0} (L : List ℕ → V → Type 0) (text : List ℕ) (result : Result V SfError) : Type 0 where
@@ -57,11 +58,34 @@ item_judges = judges meets_whole_item
 pub inner_judges : Judges ReadsInner (whole_read (λ text. padded_read is_space inner_list_read text))
 inner_judges = judges meets_whole_inner
 
-pub inner_has_one_value : HasOneValue ReadsInner
-inner_has_one_value = one_value inner_judges
-
 pub list_judges : Judges ReadsList (whole_read (λ text. list_read text))
 list_judges = judges meets_list
 
 pub dict_judges : Judges ReadsDict (whole_read (λ text. dict_read text))
 dict_judges = judges meets_dict
+
+-- a text has at most one value of a kind
+pub item_has_one_value : HasOneValue ReadsItem
+item_has_one_value = one_value item_judges
+
+pub inner_has_one_value : HasOneValue ReadsInner
+inner_has_one_value = one_value inner_judges
+
+pub list_has_one_value : HasOneValue ReadsList
+list_has_one_value = one_value list_judges
+
+pub dict_has_one_value : HasOneValue ReadsDict
+dict_has_one_value = one_value dict_judges
+
+-- a text is read as a value of a kind, or as none
+pub item_is_decided : IsDecided ReadsItem
+item_is_decided = decided item_judges
+
+pub inner_is_decided : IsDecided ReadsInner
+inner_is_decided = decided inner_judges
+
+pub list_is_decided : IsDecided ReadsList
+list_is_decided = decided list_judges
+
+pub dict_is_decided : IsDecided ReadsDict
+dict_is_decided = decided dict_judges

@@ -44,7 +44,7 @@ fn encode_again(alloc: Global, raw: &[u8]) -> Result<Text, Memory>
 }
 
 /// Whether the name of a pair, as it stands in the query, is this one, which is percent-encoded.
-fn is_named(alloc: Global, raw: &[u8], name: &[u8]) -> Result<bool, Memory>
+fn has_param_name(alloc: Global, raw: &[u8], name: &[u8]) -> Result<bool, Memory>
     ensures { IfOk result (λ test. test ≡ bytes_eq (encoded (decoded raw.now)) name.now) }
 {
     let encoded = encode_again(alloc, raw)?;
@@ -52,7 +52,7 @@ fn is_named(alloc: Global, raw: &[u8], name: &[u8]) -> Result<bool, Memory>
 }
 
 /// What is found with one more value, as it stands in the query.
-fn with_value(alloc: Global, found: ParamFound, raw: &[u8]) -> Result<ParamFound, Memory>
+fn found_with(alloc: Global, found: ParamFound, raw: &[u8]) -> Result<ParamFound, Memory>
     ensures { (values : List (List ℕ)) → IsFound values found
         → IfOk result (IsFound (values ++ encoded (decoded raw.now) ∷ [])) }
 {
@@ -73,8 +73,8 @@ pub fn query_param(alloc: Global, query: &[u8], name: &[u8]) -> Result<ParamFoun
 {
     let mut found = ParamFound::None;
     for (raw_name, raw_value) in raw_pairs(query) {
-        if is_named(alloc, raw_name, name)? {
-            found = with_value(alloc, found, raw_value)?;
+        if has_param_name(alloc, raw_name, name)? {
+            found = found_with(alloc, found, raw_value)?;
         }
     }
     Ok(found)

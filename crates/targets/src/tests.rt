@@ -81,6 +81,7 @@ fn targets_are_cut_into_the_parts_of_their_form(rt: HostRuntime) -> Result<(), F
         origin(b"/where?q=now", b"/where", Some(b"q=now")),
         origin(b"/a?b?c", b"/a", Some(b"b?c")),
         origin(b"/http://a", b"/http://a", None),
+        origin(b"/%41?%41", b"/%41", Some(b"%41")),
         absolute(b"http://EXAMPLE.com", b"http", b"EXAMPLE.com", b"", None),
         absolute(b"HTTP://a/", b"HTTP", b"a", b"/", None),
         absolute(b"http://a?b", b"http", b"a", b"", Some(b"b")),
@@ -146,12 +147,13 @@ type Parts<'a> = (
 
 #[test]
 fn origin_and_absolute_form_have_a_path_and_a_query(rt: HostRuntime) -> Result<(), Fail> {
-    let cases: [Parts<'_>; 7] = [
+    let cases: [Parts<'_>; 8] = [
         (b"GET", b"/path", Some(b"/path"), Some(None)),
         (b"GET", b"/path?", Some(b"/path"), Some(Some(b""))),
         (b"GET", b"http://a?b", Some(b"/"), Some(Some(b"b"))),
         (b"GET", b"http://a", Some(b"/"), Some(None)),
         (b"GET", b"http://a/%7E?b", Some(b"/%7E"), Some(Some(b"b"))),
+        (b"GET", b"/%41", Some(b"/%41"), Some(None)),
         (b"OPTIONS", b"*", None, None),
         (b"CONNECT", b"a:80", None, None),
     ];
@@ -204,6 +206,7 @@ fn authorities_have_their_value(rt: HostRuntime) -> Result<(), Fail> {
         (b"[FE80::1]", b"http", b"[fe80::1]"),
         (b"[::1]:443", b"https", b"[::1]"),
         (b"127.0.0.1", b"http", b"127.0.0.1"),
+        (b"%41.example:80", b"http", b"%41.example"),
         (b"%C3%A9-._~!$&'()*+,;=", b"http", b"%c3%a9-._~!$&'()*+,;="),
     ];
     for (text, scheme, value) in cases {

@@ -10,6 +10,6 @@ loop-id-preserved c =
 
 pub returns-in-Err-clause-fault : goal.returns-in-Err-clause-fault
 returns-in-Err-clause-fault c =
-    rw c.fault_at.ensures
+    rw c.lack_fault.ensures
     (first_fault_at (context_of c.args.context.now) c.args.ids.now c.loop-id.id-index c.len.result c.id-item.result c.in-Err.why c.loop-id.values
     c.loop-id-test.true c.id-item.is c.len.ensures c.loop-id.invariant c.in-Err.ensures)

@@ -1,11 +1,10 @@
-use Rattle.byte_grammar.proofs.Whole.{one_value}
-use Rattle.sfv_read.proofs.Readings.{item_judges, inner_has_one_value, list_judges, dict_judges}
+use Rattle.sfv_read.proofs.Readings.{item_has_one_value, inner_has_one_value, list_has_one_value, dict_has_one_value}
 use Rattle.sfv_read.proofs.laws.a_text_has_one_value.Goals as goal
 
 pub returns : goal.returns
 returns c = record {
-  item = one_value item_judges;
+  item = item_has_one_value;
   inner = inner_has_one_value;
-  list = one_value list_judges;
-  dict = one_value dict_judges;
+  list = list_has_one_value;
+  dict = dict_has_one_value;
 }
