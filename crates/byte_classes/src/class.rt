@@ -58,31 +58,22 @@ impl ByteClass for Class {
     }
 }
 
+// Each tchar stands at its own place, and a comma, which is none, at every other place.
+static TCHARS: [u8; 256] = *b"\
+    ,,,,,,,,,,,,,,,,,,,,,,,,,,,,,,,,\
+    ,!,#$%&',,*+,-.,0123456789,,,,,,\
+    ,ABCDEFGHIJKLMNOPQRSTUVWXYZ,,,^_\
+    `abcdefghijklmnopqrstuvwxyz,|,~,\
+    ,,,,,,,,,,,,,,,,,,,,,,,,,,,,,,,,\
+    ,,,,,,,,,,,,,,,,,,,,,,,,,,,,,,,,\
+    ,,,,,,,,,,,,,,,,,,,,,,,,,,,,,,,,\
+    ,,,,,,,,,,,,,,,,,,,,,,,,,,,,,,,,";
+
 /// Whether the byte is a tchar (RFC 9110 section 5.6.2).
 pub fn is_tchar(byte: u8) -> bool
     ensures { result ≡ is_tchar byte }
 {
-    matches!(
-        byte,
-        b'a'..=b'z'
-            | b'A'..=b'Z'
-            | b'0'..=b'9'
-            | b'!'
-            | b'#'
-            | b'$'
-            | b'%'
-            | b'&'
-            | b'\''
-            | b'*'
-            | b'+'
-            | b'-'
-            | b'.'
-            | b'^'
-            | b'_'
-            | b'`'
-            | b'|'
-            | b'~'
-    )
+    TCHARS[byte as usize] != b','
 }
 
 /// Whether the byte is SP or HTAB (RFC 9110 section 5.6.3).

@@ -16,8 +16,7 @@ impl ByteClass for LineByte {
     }
 }
 
-/// The class of the tchars (RFC 9110 section 5.6.2). Most of a name's bytes are letters and
-/// hyphens, for which the test is short.
+/// The class of the bytes of a name, the tchars (RFC 9110 section 5.6.2).
 #[derive(Clone, Copy, Debug, PartialEq, Eq)]
 pub(crate) struct NameByte;
 
@@ -27,6 +26,6 @@ impl ByteClass for NameByte {
     ghost members = { λ _ c. is_tchar c };
 
     fn allows(self, byte: u8) -> bool {
-        byte.is_ascii_alphabetic() || byte == b'-' || is_tchar(byte)
+        is_tchar(byte)
     }
 }
