@@ -1,0 +1,57 @@
+-- The digits of a moment as a numeral of std.
+use Rattle.std.proofs.Common.{◌≡◌, ◌+◌, ◌-◌, ◌<◌, ◌≤◌, ◌^◌, ℕ, Bool, true, ◌&&◌, refl, List, [], ◌∷◌, length, get_or, arith, sym, subst}
+use Rattle.std.specs.Prelude.{IsTrue, nat_lt, nat_le}
+use Rattle.std.specs.Char.{digit_value}
+use Rattle.std.specs.List.{list_all}
+use Rattle.std.specs.Str.Parse.{AllDigits, IsNumeral, digits_value, without_leading_plus}
+use Rattle.std.proofs.lemmas.Bool.{and_parts, lt-ltb}
+use Rattle.std.proofs.lemmas.Bool.Decides.{nat_tests}
+use Rattle.std.proofs.lemmas.Int.Digits.{digits_value-lt}
+use Rattle.std.proofs.lemmas.Str.{digit_value_digit}
+use Rattle.std.proofs.lemmas.Str.Parse.{IsNumeralModel, without_leading_plus_none, digits_value_short}
+use Rattle.byte_classes.specs.Classes.{is_digit}
+use Rattle.command_line.specs.Options.{is_moment}
+use Rattle.command_line.specs.declared.options.TheConstants.{MAX_MOMENT_DIGITS}
+
+digit_below : (c : ℕ) → is_digit c ≡ true → digit_value c < 10
+digit_below c is =
+    let low : 48 ≤ c = grind (arith, nat_tests) in
+    let high : c < 58 = grind (arith, nat_tests) in
+    omega (arith, low, high, digit_value_digit c (low, omega (arith, high)))
+
+all_digits : (word : List ℕ) → list_all is_digit word ≡ true → AllDigits 10 word
+all_digits [] all = tt
+all_digits (c ∷ cs) all = let parts = and_parts (is_digit c) (list_all is_digit cs) all in (digit_below c parts.0, all_digits cs parts.1)
+
+no_plus : (word : List ℕ) → list_all is_digit word ≡ true → without_leading_plus word ≡ word
+no_plus word all = without_leading_plus_none word (first word all)
+  where
+    first : (word : List ℕ) → list_all is_digit word ≡ true → get_or word 0 0 ≡ 43 → ⊥
+    first [] all e = absurd (omega (arith, e))
+    first (c ∷ cs) all e = let is = (and_parts (is_digit c) (list_all is_digit cs) all).0 in let low : 48 ≤ c = grind (arith, nat_tests) in absurd (omega (arith, low, e))
+
+plain_digits : IsNumeralModel (AllDigits 10) (digits_value 10)
+plain_digits = record { to = λ ds all. all; from = λ ds all. all; same = λ ds all. refl }
+
+short_value : (word : List ℕ) → AllDigits 10 word → length word ≤ 15 → digits_value 10 word < 10 ^ 15
+short_value word all short = digits_value_short plain_digits word 15 all short
+
+-- a moment is a numeral below 2^64
+pub is_numeral : (word : List ℕ) → is_moment word ≡ true → IsNumeral 10 word × (digits_value 10 word < 2 ^ 64)
+is_numeral word is =
+    let parts = and_parts (nat_lt 0 (length word)) (nat_le (length word) 15 && list_all is_digit word) is in
+    let rest = and_parts (nat_le (length word) 15) (list_all is_digit word) parts.1 in
+    let some : 0 < length word = grind (arith, nat_tests) in
+    let short : length word ≤ 15 = grind (arith, nat_tests) in
+    let value = short_value word (all_digits word rest.1) short in
+    ((some, all_digits word rest.1), omega (arith, value))
+
+pub no_plus_first : (word : List ℕ) → is_moment word ≡ true → without_leading_plus word ≡ word
+no_plus_first word is =
+    let parts = and_parts (nat_lt 0 (length word)) (nat_le (length word) 15 && list_all is_digit word) is in
+    no_plus word (and_parts (nat_le (length word) 15) (list_all is_digit word) parts.1).1
+
+-- so it is read as its value
+pub not_refused : (word : List ℕ) → is_moment word ≡ true
+    → (IsNumeral 10 (without_leading_plus word) × (digits_value 10 (without_leading_plus word) < 2 ^ 64) → ⊥) → ⊥
+not_refused word is none = none (rw (no_plus_first word is) (is_numeral word is))

@@ -1,0 +1,17 @@
+//! The command line of the program `hms`.
+//!
+//! ```text
+//! read_words(after_name(&arguments)) // Some(Command::Verify { .. }), without memory
+//! ```
+#![tactic(auto)]
+
+mod command;
+mod laws;
+mod options;
+
+pub use command::{Command, after_name, read_words};
+pub use laws::arguments_have_one_command;
+pub use options::MAX_MOMENT_DIGITS;
+
+#[cfg(test)]
+mod tests;
