@@ -23,6 +23,7 @@ mod source;
 mod status;
 mod std_sink;
 mod std_source;
+mod whole_file;
 
 pub use dir_shelf::DirShelf;
 pub use faults::Failed;
@@ -36,6 +37,7 @@ pub use source::Source;
 pub use status::Status;
 pub use std_sink::StdSink;
 pub use std_source::StdSource;
+pub use whole_file::{FileError, take_file};
 
 #[cfg(test)]
 mod tests;

@@ -13,7 +13,8 @@ use std::alloc::Global;
 use std::error::Error;
 use std::fmt;
 
-/// The most that may be asked of [`fill`] as its limit, in bytes.
+/// The most that may be asked of [`fill`] and of [`take_file`](crate::take_file) as their limit, in
+/// bytes.
 pub const MAX_LIMIT: usize = 67_108_864;
 
 // How many bytes are asked of a source at once.

@@ -1,6 +1,9 @@
+ghost use Rattle.std.specs.Prelude.{◌≤◌};
+
 use super::*;
 use crate::dir_shelf::give_file;
 use sfv_text::Text;
+use std::alloc::Global;
 use std::io::{ErrorKind, Read, Write};
 use std::process::Abort;
 use std::test::Fail;
@@ -24,43 +27,18 @@ fn assert_error(rt: &impl Abort, filled: Result<Text, FillError>, wanted: FillEr
     }
 }
 
-#[derive(Clone, Copy)]
-struct StatusCase {
-    status: Status,
-    code: u8,
-    text: &'static str,
-}
-
 #[test]
 fn statuses_and_errors_have_numbers_and_texts(rt: HostRuntime) -> Result<(), Fail> {
-    let cases = [
-        StatusCase {
-            status: Status::Done,
-            code: 0,
-            text: "done",
-        },
-        StatusCase {
-            status: Status::BadArguments,
-            code: 2,
-            text: "bad arguments",
-        },
-        StatusCase {
-            status: Status::FileMissing,
-            code: 9,
-            text: "a file is missing",
-        },
-    ];
-    for case in &cases {
-        assert_eq!(rt; case.status.code(), case.code);
-        assert_eq!(rt;
-            format!(in rt.alloc(); "{}", case.status)?.as_str(),
-            case.text
-        );
-    }
-    let failed = format!(in rt.alloc(); "{} / {}", Failed, FillError::Failed)?;
+    let statuses = [Status::Done, Status::BadArguments, Status::FileMissing];
+    assert_eq!(rt; statuses.map(|status| status.code()), [0, 2, 9]);
+    let [done, arguments, missing] = statuses;
+    let texts = format!(in rt.alloc(); "{done} / {arguments} / {missing}")?;
+    assert_eq!(rt; texts.as_str(), "done / bad arguments / a file is missing");
+    let (failed, filled, taken) = (Failed, FillError::Failed, FileError::Failed);
+    let errors = format!(in rt.alloc(); "{failed} / {filled} / {taken}")?;
     assert_eq!(rt;
-        failed.as_str(),
-        "a read, a write or a fetch failed / a read failed"
+        errors.as_str(),
+        "a read, a write or a fetch failed / a read failed / a fetch failed"
     );
     Ok(())
 }
@@ -165,6 +143,41 @@ fn a_shelf_in_memory_keeps_the_last_file_of_a_name(rt: HostRuntime) -> Result<()
     assert_eq!(rt; shelf.fetch("b", &mut piece), Ok(Some(0)));
     assert_eq!(rt; shelf.fetch("c", &mut piece), Ok(None));
     assert_eq!(rt; shelf.fetch("", &mut piece), Ok(None));
+    Ok(())
+}
+
+// Asserts that this is the file that is taken, or why none is.
+fn assert_taken<F: Shelf>(
+    rt: &impl Abort,
+    alloc: Global,
+    shelf: &mut F,
+    name: &str,
+    limit: usize,
+    wanted: Result<&[u8], FileError>,
+)
+    requires { limit ≤ MAX_LIMIT }
+{
+    match take_file(alloc, shelf, name, limit) {
+        Ok(text) => assert_eq!(rt; Ok(text.bytes()), wanted),
+        Err(error) => assert_eq!(rt; Err(error), wanted),
+    }
+}
+
+#[test]
+fn a_file_is_taken_whole_or_not_at_all(rt: HostRuntime) -> Result<(), Fail> {
+    let alloc = rt.alloc();
+    let mut shelf = MemShelf::new(alloc, &[0, 4, 8])?;
+    shelf.put("a", TEXT)?;
+    shelf.put("empty", b"")?;
+    assert_taken(&rt, alloc, &mut shelf, "a", 15, Err(FileError::Failed));
+    assert_taken(&rt, alloc, &mut shelf, "a", 15, Ok(TEXT));
+    assert_taken(&rt, alloc, &mut shelf, "a", MAX_LIMIT, Ok(TEXT));
+    assert_taken(&rt, alloc, &mut shelf, "empty", 0, Ok(b""));
+    assert_taken(&rt, alloc, &mut shelf, "b", 15, Err(FileError::Failed));
+    assert_taken(&rt, alloc, &mut shelf, "b", 15, Err(FileError::Missing));
+    assert_taken(&rt, alloc, &mut shelf, "a", 14, Err(FileError::TooLong));
+    assert_taken(&rt, alloc, &mut shelf, "a", 0, Err(FileError::TooLong));
+    assert_taken(&rt, alloc, &mut shelf, "a", 14, Err(FileError::Failed));
     Ok(())
 }
 
@@ -373,57 +386,25 @@ fn a_file_is_read_by_short_reads_and_an_interrupted_one_fails(rt: HostRuntime) {
     }
 }
 
-#[derive(Clone, Copy)]
-struct FetchCase {
-    name: &'static str,
-    wanted: Result<Option<usize>, Failed>,
-}
-
 #[test]
 fn a_shelf_over_real_files_finds_and_misses_them(rt: HostRuntime) -> Result<(), Fail> {
     fs::create_dir(&rt, "shelf")?;
     fs::write(&rt, "shelf/a", TEXT)?;
     fs::write(&rt, "shelf/b ", b"b")?;
-    let cases = [
-        FetchCase {
-            name: "shelf/a",
-            wanted: Ok(Some(15)),
-        },
-        FetchCase {
-            name: "shelf/b ",
-            wanted: Ok(Some(1)),
-        },
-        FetchCase {
-            name: "shelf/b",
-            wanted: Ok(None),
-        },
-        FetchCase {
-            name: " shelf/a",
-            wanted: Ok(None),
-        },
-        // A folder is there and is no file, and so is a path through a file.
-        FetchCase {
-            name: "shelf",
-            wanted: Err(Failed),
-        },
-        FetchCase {
-            name: "shelf/a/b",
-            wanted: Err(Failed),
-        },
-        // No file has such a name.
-        FetchCase {
-            name: "shelf/\0",
-            wanted: Err(Failed),
-        },
-    ];
     let mut shelf = DirShelf::new(&rt);
-    for case in &cases {
-        let mut piece = [0u8; 20];
-        assert_eq!(rt; shelf.fetch(case.name, &mut piece), case.wanted);
+    let mut piece = [0u8; 20];
+    assert_eq!(rt; shelf.fetch("shelf/a", &mut piece), Ok(Some(15)));
+    assert_eq!(rt; shelf.fetch("shelf/b ", &mut piece), Ok(Some(1)));
+    assert_eq!(rt; shelf.fetch("shelf/b", &mut piece), Ok(None));
+    assert_eq!(rt; shelf.fetch(" shelf/a", &mut piece), Ok(None));
+    // A folder is there and is no file, and so is a path through a file. No file has the last name.
+    for name in ["shelf", "shelf/a/b", "shelf/\0"] {
+        assert_eq!(rt; shelf.fetch(name, &mut piece), Err(Failed));
     }
     let mut piece = [0u8; 3];
     assert_eq!(rt; shelf.fetch("shelf/a", &mut piece), Ok(Some(3)));
     assert_eq!(rt; piece, *b"GET");
+    assert_taken(&rt, rt.alloc(), &mut shelf, "shelf/a", 15, Ok(TEXT));
     fs::remove_file(&rt, "shelf/a")?;
     fs::remove_file(&rt, "shelf/b ")?;
     fs::remove_dir(&rt, "shelf")?;

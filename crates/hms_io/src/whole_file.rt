@@ -1,0 +1,93 @@
+//! Whole files of a shelf.
+
+ghost use Rattle.std.specs.Prelude.{◌≡◌, ◌≤◌, length, vec_len, IfOk, IsErrOf, MatchResult};
+ghost use Rattle.hms_io.specs.Files.{HasFile, HasFileCause, HasLongerFile, HasNoFile, KeepsFiles};
+
+use crate::faults::Failed;
+use crate::read_write::MAX_LIMIT;
+use crate::shelf::Shelf;
+use sfv_text::{Memory, Text};
+use std::alloc::Global;
+use std::error::Error;
+use std::fmt;
+
+/// Why a file isn't taken.
+#[derive(Clone, Copy, Debug, PartialEq, Eq)]
+pub enum FileError {
+    /// Out of memory, for the file or for `limit + 1` bytes.
+    Memory,
+    /// The fetch failed.
+    Failed,
+    /// The file has more bytes than the limit allows.
+    TooLong,
+    /// The shelf has no file of that name.
+    Missing,
+}
+
+impl fmt::Display for FileError {
+    fn fmt<W: fmt::Write>(&self, f: &mut fmt::Formatter<W>) -> fmt::Result {
+        f.write_str(match self {
+            FileError::Memory => "out of memory",
+            FileError::Failed => "a fetch failed",
+            FileError::TooLong => "the file is longer than the limit",
+            FileError::Missing => "the file is missing",
+        })
+    }
+}
+
+impl Error for FileError {}
+
+impl From<Memory> for FileError {
+    ghost use Rattle.std.specs.Prelude.{◌≡◌};
+    ghost use Rattle.hms_io.specs.declared.whole_file.FileError.TheVariants.{Memory as OutOfMemory};
+
+    ghost from_gives = { λ _ e. e ≡ OutOfMemory };
+
+    fn from(_memory: Memory) -> FileError {
+        FileError::Memory
+    }
+}
+
+impl From<Failed> for FileError {
+    ghost use Rattle.std.specs.Prelude.{◌≡◌};
+    ghost use Rattle.hms_io.specs.declared.whole_file.FileError.TheVariants.{Failed as FetchFailed};
+
+    ghost from_gives = { λ _ e. e ≡ FetchFailed };
+
+    fn from(_failed: Failed) -> FileError {
+        FileError::Failed
+    }
+}
+
+// So many zero bytes.
+fn zeros(alloc: Global, count: usize) -> Result<Vec<u8>, Memory>
+    ensures { IfOk result (λ bytes. vec_len bytes ≡ count) }
+{
+    Ok(vec![in alloc; 0; count]?)
+}
+
+/// Takes the named file whole, by one fetch that asks for `limit + 1` bytes.
+pub fn take_file<F: Shelf>(
+    alloc: Global,
+    shelf: &mut F,
+    name: &str,
+    limit: usize,
+) -> Result<Text, FileError>
+    requires { limit ≤ MAX_LIMIT }
+    ensures whole { IfOk result (HasFile (F.files shelf.old) name.now) }
+    ensures within { IfOk result (λ text. length text ≤ limit) }
+    ensures too_long { IsErrOf result FileError.TooLong →
+        HasLongerFile (F.files shelf.old) name.now limit }
+    ensures missing { IsErrOf result FileError.Missing → HasNoFile (F.files shelf.old) name.now }
+    ensures same_files { KeepsFiles (F.files shelf.old) (F.files shelf.new) }
+    ensures later { F.faults shelf.old ≤ F.faults shelf.new }
+    ensures cause { MatchResult result (λ _. F.faults shelf.new ≡ F.faults shelf.old)
+        (HasFileCause (F.faults shelf.old) (F.faults shelf.new)) }
+{
+    let mut piece = zeros(alloc, limit + 1)?;
+    match shelf.fetch(name, piece.as_mut_slice())? {
+        None => Err(FileError::Missing),
+        Some(count) if count > limit => Err(FileError::TooLong),
+        Some(count) => Ok(Text::from_bytes(alloc, &piece[..count])?),
+    }
+}
