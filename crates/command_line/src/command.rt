@@ -1,7 +1,7 @@
 //! The arguments of the program.
 
 ghost use Rattle.std.specs.Prelude.{◌≡◌, drop, map, IfSome, IfNone, string_bytes};
-ghost use Rattle.command_line.specs.Command.{IsCommand, NoCommand, line_of};
+ghost use Rattle.command_line.specs.Command.{IsCommand, NoCommand, line_of, IsTimely};
 ghost use Rattle.command_line.specs.tools.After.{IsAfterBase, NoneAfterBase, IsAfterVerify, NoneAfterVerify};
 
 use crate::options::{CommandName, are_options, moment_of, word_of};
@@ -28,6 +28,21 @@ pub enum Command<'a> {
     },
 }
 
+impl<'a> Command<'a> {
+    ghost use Rattle.std.specs.Prelude.{◌≡◌, option_map};
+    ghost use Rattle.command_line.specs.Command.{line_of, conf_of};
+
+    /// The file of the configuration, where one is named.
+    pub fn conf(self) -> Option<&'a str>
+        ensures { option_map (λ word. word.now) result ≡ conf_of (line_of self.entry) }
+    {
+        match self {
+            Command::Base { conf, .. } => conf,
+            Command::Verify { conf, .. } => Some(conf),
+        }
+    }
+}
+
 /// The arguments after the program's name.
 pub fn after_name(arguments: &[String]) -> &[String]
     ensures { result.now ≡ drop 1 arguments.now }
@@ -42,6 +57,7 @@ pub fn after_name(arguments: &[String]) -> &[String]
 fn read_base<'a>(words: &'a [String]) -> Option<Command<'a>>
     ensures some { IfSome result (λ command. IsAfterBase (map string_bytes words.now) (line_of command)) }
     ensures none { IfNone result (NoneAfterBase (map string_bytes words.now)) }
+    ensures timely { IfSome result (λ command. IsTimely (line_of command)) }
 {
     let (params, words) = words.split_first()?;
     if !are_options(CommandName::Base, words) {
@@ -57,6 +73,7 @@ fn read_base<'a>(words: &'a [String]) -> Option<Command<'a>>
 fn read_verify<'a>(words: &'a [String]) -> Option<Command<'a>>
     ensures some { IfSome result (λ command. IsAfterVerify (map string_bytes words.now) (line_of command)) }
     ensures none { IfNone result (NoneAfterVerify (map string_bytes words.now)) }
+    ensures timely { IfSome result (λ command. IsTimely (line_of command)) }
 {
     if !are_options(CommandName::Verify, words) {
         return None;
@@ -74,6 +91,7 @@ fn read_verify<'a>(words: &'a [String]) -> Option<Command<'a>>
 pub fn read_words(words: &[String]) -> Option<Command<'_>>
     ensures some { IfSome result (λ command. IsCommand (map string_bytes words.now) (line_of command)) }
     ensures none { IfNone result (NoCommand (map string_bytes words.now)) }
+    ensures timely { IfSome result (λ command. IsTimely (line_of command)) }
 {
     let (name, others) = words.split_first()?;
     match name.as_str() {
