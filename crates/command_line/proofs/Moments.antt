@@ -56,10 +56,9 @@ pub not_refused : (word : List ℕ) → is_moment word ≡ true
     → (IsNumeral 10 (without_leading_plus word) × (digits_value 10 (without_leading_plus word) < 2 ^ 64) → ⊥) → ⊥
 not_refused word is none = none (rw (no_plus_first word is) (is_numeral word is))
 
-pub most : (word : List ℕ) → is_moment word ≡ true → digits_value 10 word ≤ 999999999999999
-most word is =
+pub is_below : (word : List ℕ) → is_moment word ≡ true → digits_value 10 word < 10 ^ 15
+is_below word is =
     let parts = and_parts (nat_lt 0 (length word)) (nat_le (length word) 15 && list_all is_digit word) is in
     let rest = and_parts (nat_le (length word) 15) (list_all is_digit word) parts.1 in
     let short : length word ≤ 15 = grind (arith, nat_tests) in
-    let value = short_value word (all_digits word rest.1) short in
-    omega (arith, value)
+    short_value word (all_digits word rest.1) short

@@ -1,10 +1,10 @@
 -- The arguments of the program, and the commands that they spell.
-use Rattle.std.specs.Prelude.{◌≡◌, ◌≤◌, ⊤, ℕ, Option, Some, option_map, List, ◌∷◌, codes, IsSomeAnd}
+use Rattle.std.specs.Prelude.{◌≡◌, ◌<◌, ◌^◌, ⊤, ℕ, Option, Some, option_map, List, ◌∷◌, codes, IsSomeAnd}
 use Rattle.std.specs.Str.Parse.{digits_value}
 use Rattle.sfv_text.specs.Keys.{value_of}
 use Rattle.sfv_text.specs.declared.pair.Pair.{Pair}
 use Rattle.command_line.specs.Options.{AreOptions}
-use Rattle.command_line.specs.declared.options.TheConstants.{MAX_MOMENT}
+use Rattle.command_line.specs.declared.options.TheConstants.{MAX_MOMENT_DIGITS}
 use Rattle.command_line.specs.declared.options.CommandName.TheVariants as name
 use Rattle.command_line.specs.declared.command.Command.{Command}
 use Rattle.command_line.specs.declared.command.Command.TheVariants as command
@@ -59,4 +59,4 @@ line_of (command.Verify conf now label) =
 -- the moment is one of at most 15 digits
 abbrev pub IsTimely : CommandLine → Type 0
 IsTimely (Base params conf) = ⊤
-IsTimely (Verify conf now label) = now ≤ MAX_MOMENT
+IsTimely (Verify conf now label) = now < 10 ^ MAX_MOMENT_DIGITS

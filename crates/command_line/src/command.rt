@@ -55,7 +55,8 @@ pub fn after_name(arguments: &[String]) -> &[String]
 
 /// The words after `base`.
 fn read_base<'a>(words: &'a [String]) -> Option<Command<'a>>
-    ensures some { IfSome result (λ command. IsAfterBase (map string_bytes words.now) (line_of command)) }
+    ensures some { IfSome result
+        (λ command. IsAfterBase (map string_bytes words.now) (line_of command)) }
     ensures none { IfNone result (NoneAfterBase (map string_bytes words.now)) }
     ensures timely { IfSome result (λ command. IsTimely (line_of command)) }
 {
@@ -71,7 +72,8 @@ fn read_base<'a>(words: &'a [String]) -> Option<Command<'a>>
 
 /// The words after `verify`.
 fn read_verify<'a>(words: &'a [String]) -> Option<Command<'a>>
-    ensures some { IfSome result (λ command. IsAfterVerify (map string_bytes words.now) (line_of command)) }
+    ensures some { IfSome result
+        (λ command. IsAfterVerify (map string_bytes words.now) (line_of command)) }
     ensures none { IfNone result (NoneAfterVerify (map string_bytes words.now)) }
     ensures timely { IfSome result (λ command. IsTimely (line_of command)) }
 {
@@ -89,7 +91,8 @@ fn read_verify<'a>(words: &'a [String]) -> Option<Command<'a>>
 
 /// Reads the arguments after the program's name. It takes no memory.
 pub fn read_words(words: &[String]) -> Option<Command<'_>>
-    ensures some { IfSome result (λ command. IsCommand (map string_bytes words.now) (line_of command)) }
+    ensures some { IfSome result
+        (λ command. IsCommand (map string_bytes words.now) (line_of command)) }
     ensures none { IfNone result (NoCommand (map string_bytes words.now)) }
     ensures timely { IfSome result (λ command. IsTimely (line_of command)) }
 {

@@ -11,7 +11,7 @@ mod options;
 
 pub use command::{Command, after_name, read_words};
 pub use laws::arguments_have_one_command;
-pub use options::{MAX_MOMENT, MAX_MOMENT_DIGITS};
+pub use options::MAX_MOMENT_DIGITS;
 
 #[cfg(test)]
 mod tests;

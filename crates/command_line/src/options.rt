@@ -1,6 +1,6 @@
 //! The options of the commands.
 
-ghost use Rattle.std.specs.Prelude.{◌≡◌, ◌<◌, ◌≤◌, ◌↔◌, ◌||◌, ◌∷◌, ℕ, List, length, false, option_map, map, IfSome, IfNone, IsTrue, IsFalse, string_bytes};
+ghost use Rattle.std.specs.Prelude.{◌≡◌, ◌<◌, ◌^◌, ◌↔◌, ◌||◌, ◌∷◌, ℕ, List, length, false, option_map, map, IfSome, IfNone, IsTrue, IsFalse, string_bytes};
 ghost use Rattle.std.specs.Str.{bytes_eq};
 ghost use Rattle.std.specs.Str.Parse.{digits_value};
 ghost use Rattle.std.specs.List.{list_all};
@@ -13,9 +13,6 @@ ghost use Rattle.command_line.specs.tools.Met.{is_met, IsNewOption, HasOptions};
 
 /// The most digits of a moment.
 pub const MAX_MOMENT_DIGITS: usize = 15;
-
-/// The greatest moment.
-pub const MAX_MOMENT: u64 = 999_999_999_999_999;
 
 /// The commands, by their names.
 #[derive(Clone, Copy, Debug, PartialEq, Eq)]
@@ -65,7 +62,7 @@ fn is_moment(word: &[u8]) -> bool
 pub fn moment_of(word: &str) -> u64
     requires { IsTrue (is_moment word.now) }
     ensures value { result ≡ digits_value 10 word.now }
-    ensures most { result ≤ MAX_MOMENT }
+    ensures timely { result < 10 ^ MAX_MOMENT_DIGITS }
 {
     match word.parse::<u64>() {
         Ok(moment) => moment,

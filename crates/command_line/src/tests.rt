@@ -35,7 +35,8 @@ fn words_spell_base(rt: HostRuntime) -> Result<(), Fail> {
     let alloc = rt.alloc();
     assert_command(&rt, alloc, &["base", "()"], base("()", None))?;
     assert_command(&rt, alloc, &["base", "", "--conf", "c"], base("", Some("c")))?;
-    assert_command(&rt, alloc, &["base", "--conf", "--conf", "--now"], base("--conf", Some("--now")))?;
+    let named = base("--conf", Some("--now"));
+    assert_command(&rt, alloc, &["base", "--conf", "--conf", "--now"], named)?;
     for words in [
         ["base", "()", "--now", "1"].as_slice(),
         &["base", "()", "--label", "a"],

@@ -1,6 +1,11 @@
-pub mod ArgumentLists
-pub mod BaseOutcomes
+pub mod ConfFiles
+pub mod Decided
 pub mod Lacking
+pub mod Layers
+pub mod LowerConf
 pub mod LowerLaws
+pub mod OneReport
 pub mod Reports
-pub mod Stops
+pub mod Sources
+pub mod Stopping
+pub mod VerdictLines

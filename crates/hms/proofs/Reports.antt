@@ -1,75 +1,156 @@
--- The arguments and the input have one outcome, which the status and the sink show.
-use Rattle.std.proofs.Common.{◌≡◌, ℕ, Option, Some, None, List, [], ◌∷◌, refl, sym, subst, ◌∙◌, inl, inr}
+-- The outcome of arguments, files and an input.
+use Rattle.std.proofs.Common.{◌≡◌, ◌⊎◌, inl, inr, ℕ, Bool, true, false, List, [], length, take, Option, Some, None, Result, Ok, Err, refl, sym, ap, subst, ◌∙◌}
+use Rattle.std.specs.Prelude.{⊤, IfSome, IfNone, option_map}
 use Rattle.std.specs.Io.KnownBytes.{Appends}
-use Rattle.hms.specs.Base.{ReportsBase}
-use Rattle.hms.specs.Command.{NoCommand}
-use Rattle.hms.specs.Laws.{HasOneReport}
+use Rattle.hms_io.specs.Files.{FileMap}
+use Rattle.hms_io.specs.declared.status.Status.{Status}
+use Rattle.hms_io.specs.declared.status.Status.TheVariants.{Done as Success, NotOk as Failure, BadArguments, BadInput, ReadFault, WriteFault, OutOfMemory, BadConf, LimitPassed, FileMissing}
+use Rattle.command_line.specs.Command.{CommandLine, IsCommand, NoCommand, conf_of}
+use Rattle.conf.specs.Meaning.{Configuration}
 use Rattle.msg_body.specs.declared.error.MessageError.{MessageError}
 use Rattle.msg_body.specs.declared.error.MessageError.TheVariants as error
 use Rattle.msg_body.specs.declared.error.MessageFault.{MessageFault}
 use Rattle.msg_body.specs.declared.error.MessageFault.TheVariants as fault
-use Rattle.hms.specs.Refusal.{message_status, fault_status}
-use Rattle.hms_io.specs.declared.status.Status.{Status}
+use Rattle.hms.specs.Configured.{IsConfigured, IsConfRefused}
+use Rattle.hms.specs.Refusal.{conf_status, message_status, fault_status, refusal_status}
 use Rattle.hms.specs.Outcome.{status_of, output_of}
-use Rattle.hms.specs.Report.{Reports, HasInput, Ends}
-use Rattle.hms.specs.declared.refusal.Refusal.TheVariants.{Arguments, Input, Command}
+use Rattle.hms.specs.Report.{ReportsInput, ReportsFiles, Reports, HasFiles, HasInput, Leaves, HasReport, AppendsPrefix, Ends}
+use Rattle.hms.specs.declared.refusal.Refusal.{Refusal}
+use Rattle.hms.specs.declared.refusal.Refusal.TheVariants.{Arguments, Conf, Input, Command}
+use Rattle.hms.specs.declared.refusal.ConfRefusal.{ConfRefusal}
+use Rattle.hms.specs.declared.refusal.ConfRefusal.TheVariants.{Missing, TooLong as LongConf, Fault}
 use Rattle.hms.specs.declared.refusal.InputRefusal.TheVariants.{TooLong, Message as NoMessage}
 use Rattle.hms.specs.declared.outcome.Outcome.{Outcome}
 use Rattle.hms.specs.declared.outcome.Outcome.TheVariants.{Done, NotOk, Refused}
-use Rattle.hms.proofs.BaseOutcomes.{one_outcome}
+use Rattle.hms.specs.declared.stop.Stop.{Stop}
+use Rattle.hms.specs.declared.stop.Stop.TheVariants.{Memory, ReadFault as ReadFailed, Refused as IsRefused}
+use Rattle.hms.specs.tools.Stops.{IfStopped, IfOutcome, IsRefusalFor}
+use Rattle.hms.proofs.ConfFiles.{some_files, with_fact}
+use Rattle.hms.proofs.Layers.{went_on}
 
-second_is : (a b c d : List ℕ) → a ∷ b ∷ [] ≡ c ∷ d ∷ [] → b ≡ d
-second_is a b c d e = cc
+-- ---- the layers over the input
 
-pub one_report_law : HasOneReport
-one_report_law arguments input one other (inl a) (inl b) = a.1 ∙ sym b.1
-one_report_law arguments input one other (inl a) (inr b) = absurd (a.0 b.params b.command)
-one_report_law arguments input one other (inr a) (inl b) = absurd (b.0 a.params a.command)
-one_report_law arguments input one other (inr a) (inr b) =
-    let same : a.params ≡ b.params = second_is _ a.params _ b.params (sym a.command ∙ b.command) in
-    one_outcome b.params input one other (subst (λ (params : List ℕ). ReportsBase params input one) same a.reports) b.reports
+-- some input, which is the known bytes where they are known
+some_input : (before : Option (List ℕ)) → (input : List ℕ) × IfSome before (λ bytes. bytes ≡ input)
+some_input None = ([], tt)
+some_input (Some bytes) = (bytes, refl)
 
--- where the arguments are no command, every input has one outcome
-pub no_command : (arguments : List (List ℕ)) (before : Option (List ℕ)) → NoCommand arguments
-    → HasInput (Reports arguments) before before (Refused Arguments)
-no_command arguments None none = record { input = []; known = tt; reports = inl (none, refl); leaves = refl }
-no_command arguments (Some all) none = record { input = all; known = refl; reports = inl (none, refl); leaves = refl }
+pub no_command : (arguments : List (List ℕ)) (shelf : Option FileMap) (before : Option (List ℕ)) → NoCommand arguments
+    → HasReport arguments shelf before before (Refused Arguments)
+no_command arguments shelf before none =
+    let input = some_input before in
+    with_fact shelf (λ _. Unit {0}) (λ files. HasInput (Reports arguments files) before before (Refused Arguments))
+    (λ files _. record { input = input.0; known = input.1; reports = inr (tt, none, refl); leaves = refl })
+    (some_files shelf)
 
-whole_message : (arguments : List (List ℕ)) (before left taken now : Option (List ℕ)) (error : MessageError)
-    → HasInput (Reports arguments) before left (Refused (Input (NoMessage (fault.Refused error))))
-    → Appends taken now (output_of (Refused (Input (NoMessage (fault.Refused error)))))
-    → Ends arguments before left taken now (message_status error)
-whole_message arguments before left taken now error.Memory has all = (Refused (Input (NoMessage (fault.Refused error.Memory))), has, refl, all)
-whole_message arguments before left taken now (error.TooLong side) has all = (Refused (Input (NoMessage (fault.Refused (error.TooLong side)))), has, refl, all)
-whole_message arguments before left taken now (error.NakedEnd offset) has all = (Refused (Input (NoMessage (fault.Refused (error.NakedEnd offset)))), has, refl, all)
-whole_message arguments before left taken now error.BadStart has all = (Refused (Input (NoMessage (fault.Refused error.BadStart))), has, refl, all)
-whole_message arguments before left taken now (error.TooManyLines side) has all = (Refused (Input (NoMessage (fault.Refused (error.TooManyLines side)))), has, refl, all)
-whole_message arguments before left taken now (error.BadLine side index) has all = (Refused (Input (NoMessage (fault.Refused (error.BadLine side index)))), has, refl, all)
-whole_message arguments before left taken now error.NotYet has all = (Refused (Input (NoMessage (fault.Refused error.NotYet))), has, refl, all)
+module _ (arguments : List (List ℕ)) (command : CommandLine) (is : IsCommand arguments command) (shelf : Option FileMap) (before now : Option (List ℕ)) where
+  conf_refused : (refusal : Refusal) → now ≡ before → HasFiles shelf (λ files. IsRefusalFor (IsConfRefused files (conf_of command)) Conf refusal)
+      → HasReport arguments shelf before now (Refused refusal)
+  conf_refused refusal same has =
+      let input = some_input before in
+      with_fact shelf (λ files. IsRefusalFor (IsConfRefused files (conf_of command)) Conf refusal) (λ files. HasInput (Reports arguments files) before now (Refused refusal))
+      (λ files cause. record {
+        input = input.0;
+        known = input.1;
+        reports = inl (command, is, inr (cause.0, cause.1, ap (λ (r : Refusal). Refused r) cause.2));
+        leaves = subst (λ (r : Refusal). Leaves before now (Refused r)) (sym cause.2) same;
+      }) has
 
-whole_fault : (arguments : List (List ℕ)) (before left taken now : Option (List ℕ)) (f : MessageFault)
-    → HasInput (Reports arguments) before left (Refused (Input (NoMessage f)))
-    → Appends taken now (output_of (Refused (Input (NoMessage f))))
-    → Ends arguments before left taken now (fault_status f)
-whole_fault arguments before left taken now (fault.Refused error) has all = whole_message arguments before left taken now error has all
-whole_fault arguments before left taken now (fault.Truncated count) has all = (Refused (Input (NoMessage (fault.Truncated count))), has, refl, all)
-whole_fault arguments before left taken now (fault.Trailing offset) has all = (Refused (Input (NoMessage (fault.Trailing offset))), has, refl, all)
+  -- a stop while the configuration is read
+  pub conf_stopped : (name : Option (List ℕ)) (stop : Stop) → name ≡ conf_of command → now ≡ before
+      → IfStopped stop (λ refusal. HasFiles shelf (λ files. IsRefusalFor (IsConfRefused files name) Conf refusal))
+      → IfOutcome (Err stop) (HasReport arguments shelf before now)
+  conf_stopped name Memory named same has = tt
+  conf_stopped name ReadFailed named same has = tt
+  conf_stopped name (IsRefused refusal) named same has =
+      conf_refused refusal same (subst (λ (n : Option (List ℕ)). HasFiles shelf (λ files. IsRefusalFor (IsConfRefused files n) Conf refusal)) named has)
+
+  -- what comes after it
+  pub conf_read : (name : Option (List ℕ)) (conf : Configuration) (result : Result Outcome Stop) → name ≡ conf_of command
+      → HasFiles shelf (λ files. IsConfigured files name conf) → IfOutcome result (HasInput (ReportsInput command conf) before now)
+      → IfOutcome result (HasReport arguments shelf before now)
+  conf_read name conf result named has =
+      went_on (λ outcome reported. with_fact shelf (λ files. IsConfigured files name conf) (λ files. HasInput (Reports arguments files) before now outcome)
+      (λ files configured. record {
+        input = reported.input;
+        known = reported.known;
+        reports = inl (command, is, inl (conf, subst (λ (n : Option (List ℕ)). IsConfigured files n conf) named configured, reported.reports));
+        leaves = reported.leaves;
+      }) has) result
+
+-- where no file is named, nothing is asked of the shelf
+pub none_named : {X : Type 0} (f : X → List ℕ) (name : Option X) (P : Type 0) → option_map f name ≡ None → IfNone name P → P
+none_named f None P same is = is
+none_named f (Some x) P same is = absurd cc
+
+-- ---- what is written
+
+-- a status of a run that wrote all of its output
+is_whole : Status → Bool
+is_whole ReadFault = false
+is_whole WriteFault = false
+is_whole OutOfMemory = false
+is_whole status = true
+
+whole_ends : (arguments : List (List ℕ)) (shelf : Option FileMap) (before left taken now : Option (List ℕ)) (outcome : Outcome) (status : Status) → is_whole status ≡ true
+    → HasReport arguments shelf before left outcome → status_of outcome ≡ status → Appends taken now (output_of outcome)
+    → Ends arguments shelf before left taken now status
+unfolding is_whole
+whole_ends arguments shelf before left taken now outcome Success is has same all = (outcome, has, same, all)
+whole_ends arguments shelf before left taken now outcome Failure is has same all = (outcome, has, same, all)
+whole_ends arguments shelf before left taken now outcome BadArguments is has same all = (outcome, has, same, all)
+whole_ends arguments shelf before left taken now outcome BadInput is has same all = (outcome, has, same, all)
+whole_ends arguments shelf before left taken now outcome ReadFault is has same all = absurd cc
+whole_ends arguments shelf before left taken now outcome WriteFault is has same all = absurd cc
+whole_ends arguments shelf before left taken now outcome OutOfMemory is has same all = absurd cc
+whole_ends arguments shelf before left taken now outcome BadConf is has same all = (outcome, has, same, all)
+whole_ends arguments shelf before left taken now outcome LimitPassed is has same all = (outcome, has, same, all)
+whole_ends arguments shelf before left taken now outcome FileMissing is has same all = (outcome, has, same, all)
+
+whole_message : (e : MessageError) → is_whole (message_status e) ≡ true
+unfolding is_whole
+whole_message error.Memory = refl
+whole_message (error.TooLong side) = refl
+whole_message (error.NakedEnd offset) = refl
+whole_message error.BadStart = refl
+whole_message (error.TooManyLines side) = refl
+whole_message (error.BadLine side index) = refl
+whole_message error.NotYet = refl
+
+whole_fault : (f : MessageFault) → is_whole (fault_status f) ≡ true
+unfolding is_whole
+whole_fault (fault.Refused e) = whole_message e
+whole_fault (fault.Truncated count) = refl
+whole_fault (fault.Trailing offset) = refl
+
+whole_conf : (refusal : ConfRefusal) → is_whole (conf_status refusal) ≡ true
+unfolding is_whole
+whole_conf Missing = refl
+whole_conf LongConf = refl
+whole_conf (Fault f) = refl
+
+-- the status of an outcome is one
+whole_status : (outcome : Outcome) → is_whole (status_of outcome) ≡ true
+unfolding is_whole
+whole_status (Done text) = refl
+whole_status (NotOk text) = refl
+whole_status (Refused Arguments) = refl
+whole_status (Refused (Conf refusal)) = whole_conf refusal
+whole_status (Refused (Input TooLong)) = refl
+whole_status (Refused (Input (NoMessage f))) = whole_fault f
+whole_status (Refused (Command refusal)) = refl
 
 -- an outcome that was written whole ends the run with its status
-pub whole_outcome : (arguments : List (List ℕ)) (before left taken now : Option (List ℕ)) (outcome : Outcome)
-    → HasInput (Reports arguments) before left outcome → Appends taken now (output_of outcome)
-    → Ends arguments before left taken now (status_of outcome)
-whole_outcome arguments before left taken now (Done text) has all = (Done text, has, refl, all)
-whole_outcome arguments before left taken now (NotOk text) has all = (NotOk text, has, refl, all)
-whole_outcome arguments before left taken now (Refused Arguments) has all = (Refused Arguments, has, refl, all)
-whole_outcome arguments before left taken now (Refused (Input TooLong)) has all = (Refused (Input TooLong), has, refl, all)
-whole_outcome arguments before left taken now (Refused (Input (NoMessage f))) has all = whole_fault arguments before left taken now f has all
-whole_outcome arguments before left taken now (Refused (Command refusal)) has all = (Refused (Command refusal), has, refl, all)
+pub written_outcome : (arguments : List (List ℕ)) (shelf : Option FileMap) (before left taken now : Option (List ℕ)) (outcome : Outcome) (status : Status) (output : List ℕ)
+    → HasReport arguments shelf before left outcome → status ≡ status_of outcome → output ≡ output_of outcome → Appends taken now output
+    → Ends arguments shelf before left taken now status
+written_outcome arguments shelf before left taken now outcome status output has s o all =
+    whole_ends arguments shelf before left taken now outcome status (subst (λ (st : Status). is_whole st ≡ true) (sym s) (whole_status outcome)) has (sym s)
+    (subst (λ (text : List ℕ). Appends taken now text) o all)
 
--- the same, of an equal status and an equal output
-pub written_outcome : (arguments : List (List ℕ)) (before left taken now : Option (List ℕ)) (outcome : Outcome) (status : Status) (output : List ℕ)
-    → HasInput (Reports arguments) before left outcome → status ≡ status_of outcome → output ≡ output_of outcome → Appends taken now output
-    → Ends arguments before left taken now status
-written_outcome arguments before left taken now outcome status output has s o all =
-    subst (λ (st : Status). Ends arguments before left taken now st) (sym s)
-    (whole_outcome arguments before left taken now outcome has (subst (λ (text : List ℕ). Appends taken now text) o all))
+-- an outcome of which only a prefix was written
+pub failed_outcome : (arguments : List (List ℕ)) (shelf : Option FileMap) (before left taken now : Option (List ℕ)) (outcome : Outcome) (output : List ℕ)
+    → HasReport arguments shelf before left outcome → output ≡ output_of outcome → AppendsPrefix taken now output
+    → Ends arguments shelf before left taken now WriteFault
+failed_outcome arguments shelf before left taken now outcome output has o prefix =
+    (outcome, has, subst (λ (text : List ℕ). AppendsPrefix taken now text) o prefix)

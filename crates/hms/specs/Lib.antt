@@ -1,9 +1,11 @@
 pub mod Base
-pub mod Command
+pub mod Configured
 pub mod Covered
 pub mod Laws
+pub mod Layers
 pub mod Messages
 pub mod Outcome
 pub mod Refusal
 pub mod Report
+pub mod Verify
 pub mod tools

@@ -1,11 +1,14 @@
 -- Inputs that are one whole message, and why others aren't (RFC 9112 sections 2.1 and 6.3).
-use Rattle.std.specs.Prelude.{◌≡◌, ◌<◌, ℕ, List, length}
+use Rattle.std.specs.Prelude.{◌≡◌, ◌<◌, ◌≤◌, ℕ, List, length}
 use Rattle.msg_head.specs.Heads.{IsUnfinished}
 use Rattle.msg_body.specs.Causes.{IsMessageError}
-use Rattle.msg_body.specs.Messages.{Message, SpellsMessage}
+use Rattle.msg_body.specs.Messages.{Message, Spells, SpellsMessage}
 use Rattle.msg_body.specs.declared.error.MessageFault.{MessageFault}
 use Rattle.msg_body.specs.declared.error.MessageFault.TheVariants.{Refused, Truncated, Trailing}
 use Rattle.msg_body.specs.declared.framing.Expect.TheVariants.{Any}
+use Rattle.hms.specs.declared.refusal.TheConstants.{MAX_INPUT_BYTES}
+use Rattle.hms.specs.declared.refusal.InputRefusal.{InputRefusal}
+use Rattle.hms.specs.declared.refusal.InputRefusal.TheVariants.{TooLong, Message as NoMessage}
 
 -- a message of so many bytes, and further bytes
 pub record GoesOn (input : List ℕ) (offset : ℕ) : Type 0 where
@@ -18,3 +21,13 @@ abbrev pub IsMessageFault : List ℕ → MessageFault → Type 0
 IsMessageFault input (Refused error) = IsMessageError Any input error
 IsMessageFault input (Truncated count) = (count ≡ length input) × IsUnfinished input
 IsMessageFault input (Trailing offset) = GoesOn input offset
+
+-- the input is within the limit, and it is this message
+abbrev pub IsMessage : List ℕ → Message → Type 0
+IsMessage input message = (length input ≤ MAX_INPUT_BYTES) × Spells message input
+
+-- why an input is refused
+abbrev pub IsInputRefused : List ℕ → InputRefusal → Type 0
+IsInputRefused input TooLong = MAX_INPUT_BYTES < length input
+IsInputRefused input (NoMessage fault) =
+    (length input ≤ MAX_INPUT_BYTES) × IsMessageFault input fault

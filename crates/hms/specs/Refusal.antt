@@ -1,5 +1,5 @@
 -- The line that a refusal writes, and the status that it gives.
-use Rattle.std.specs.Prelude.{ℕ, List, [], ◌∷◌, ◌++◌, codes}
+use Rattle.std.specs.Prelude.{ℕ, Option, Some, None, List, [], ◌∷◌, ◌++◌, codes}
 use Rattle.std.specs.Fmt.{decimal}
 use Rattle.std.specs.Str.{byte}
 use Rattle.component_ids.specs.declared.fault.IdFault.{IdFault}
@@ -7,10 +7,13 @@ use Rattle.component_ids.specs.declared.fault.IdFault.TheVariants.{Memory, TooMa
 use Rattle.component_ids.specs.Reasons.{word_of}
 use Rattle.derived_values.specs.Words.{lack_word}
 use Rattle.hms_io.specs.declared.status.Status.{Status}
-use Rattle.hms_io.specs.declared.status.Status.TheVariants.{BadArguments, BadInput, LimitPassed}
-use Rattle.hms.specs.declared.refusal.TheConstants.{MAX_INPUT_BYTES}
+use Rattle.hms_io.specs.declared.status.Status.TheVariants.{BadArguments, BadInput, BadConf, LimitPassed, FileMissing}
+use Rattle.conf.specs.Refusals.{number_of, path_of}
+use Rattle.hms.specs.declared.refusal.TheConstants.{MAX_CONF_BYTES, MAX_INPUT_BYTES}
 use Rattle.hms.specs.declared.refusal.Refusal.{Refusal}
-use Rattle.hms.specs.declared.refusal.Refusal.TheVariants.{Arguments, Input, Command}
+use Rattle.hms.specs.declared.refusal.Refusal.TheVariants.{Arguments, Conf, Input, Command}
+use Rattle.hms.specs.declared.refusal.ConfRefusal.{ConfRefusal}
+use Rattle.hms.specs.declared.refusal.ConfRefusal.TheVariants as conf
 use Rattle.hms.specs.declared.refusal.InputRefusal.{InputRefusal}
 use Rattle.hms.specs.declared.refusal.InputRefusal.TheVariants.{TooLong, Message}
 use Rattle.msg_head.specs.declared.error.Side.{Side}
@@ -22,6 +25,16 @@ use Rattle.msg_body.specs.declared.error.MessageFault.{MessageFault}
 use Rattle.msg_body.specs.declared.error.MessageFault.TheVariants.{Refused, Truncated, Trailing}
 use Rattle.hms.specs.declared.refusal.CommandRefusal.{CommandRefusal}
 use Rattle.hms.specs.declared.refusal.CommandRefusal.TheVariants.{Syntax, ItemKind, Ids, Lacks}
+
+-- a path, after a space, where there is one
+abbrev pub path_text : Option (List ℕ) → List ℕ
+path_text None = []
+path_text (Some path) = byte " " ∷ path
+
+abbrev pub conf_text : ConfRefusal → List ℕ
+conf_text conf.Missing = codes "missing"
+conf_text conf.TooLong = codes "bytes " ++ decimal MAX_CONF_BYTES
+conf_text (conf.Fault fault) = decimal (number_of fault) ++ path_text (path_of fault)
 
 -- how a section of field lines is called
 abbrev pub side_text : Side → List ℕ
@@ -67,6 +80,7 @@ command_text (Lacks lack id) = lack_word lack ++ byte " " ∷ id
 -- what is refused, and why
 abbrev pub refusal_text : Refusal → List ℕ
 refusal_text Arguments = codes "words"
+refusal_text (Conf refusal) = codes "conf " ++ conf_text refusal
 refusal_text (Input refusal) = codes "input " ++ input_text refusal
 refusal_text (Command refusal) = codes "command " ++ command_text refusal
 
@@ -84,8 +98,14 @@ abbrev pub fault_status : MessageFault → Status
 fault_status (Refused error) = message_status error
 fault_status fault = BadInput
 
+abbrev pub conf_status : ConfRefusal → Status
+conf_status conf.Missing = FileMissing
+conf_status conf.TooLong = LimitPassed
+conf_status (conf.Fault fault) = BadConf
+
 abbrev pub refusal_status : Refusal → Status
 refusal_status Arguments = BadArguments
+refusal_status (Conf refusal) = conf_status refusal
 refusal_status (Input TooLong) = LimitPassed
 refusal_status (Input (Message fault)) = fault_status fault
 refusal_status (Command refusal) = BadInput

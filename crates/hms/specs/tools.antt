@@ -1,2 +1,3 @@
-pub mod Stops
 pub mod Prepared
+pub mod Stops
+pub mod Verdicts

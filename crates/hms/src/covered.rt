@@ -3,7 +3,9 @@
 ghost use Rattle.std.specs.Prelude.{IsTrue, IfOk, IfErr};
 ghost use Rattle.component_ids.specs.SignatureParams.{are_sig_params_in_range};
 ghost use Rattle.hms.specs.Covered.{ReadsParams};
-ghost use Rattle.hms.specs.tools.Stops.{IfRefused, IsParamsCause};
+ghost use Rattle.hms.specs.Base.{AreParamsRefused};
+ghost use Rattle.hms.specs.declared.refusal.Refusal.TheVariants.{Command};
+ghost use Rattle.hms.specs.tools.Stops.{IfRefused, IsRefusalFor};
 
 use crate::stop::Stop;
 use component_ids::{SigParams, read_params};
@@ -14,7 +16,8 @@ use std::alloc::Global;
 pub fn read_signature_params(alloc: Global, params: &[u8]) -> Result<SigParams, Stop>
     ensures ok { IfOk result (λ sig. ReadsParams params.now sig) }
     ensures in_range { IfOk result (λ sig. IsTrue (are_sig_params_in_range sig)) }
-    ensures refused { IfErr result (λ stop. IfRefused stop (IsParamsCause params.now)) }
+    ensures refused { IfErr result (λ stop.
+        IfRefused stop (IsRefusalFor (AreParamsRefused params.now) Command)) }
 {
     let list = read_inner(alloc, params)?;
     Ok(read_params(alloc, &list)?)

@@ -1,6 +1,8 @@
-//! `hms`: signature bases of recorded HTTP/1.1 messages (RFC 9421).
+//! `hms`: signature bases of recorded HTTP/1.1 messages, and what their signatures are worth (RFC
+//! 9421).
 //!
-//! The program does what [`run::run`] does with its arguments, standard input and standard output:
+//! The program does what [`run::run`] does with its arguments, the files that they name, standard
+//! input and standard output:
 //!
 //! ```text
 //! run(alloc, arguments, &mut shelf, &mut source, &mut out) // the status to exit with
@@ -8,16 +10,18 @@
 #![tactic(auto)]
 
 mod base;
-mod command;
+mod configured;
 mod covered;
 mod laws;
+mod line;
 mod message;
 mod outcome;
 mod refusal;
 mod run;
 mod stop;
+mod verify;
 
-use command::after_name;
+use command_line::after_name;
 use hms_io::{DirShelf, Status, StdSink, StdSource};
 use std::env;
 use std::io::ErrorKind;

@@ -1,14 +1,15 @@
 //! Refusals: why a run is refused, the status that this gives, and the one line that says so.
 
-ghost use Rattle.std.specs.Prelude.{◌≡◌, ◌++◌, ◌∷◌, OnOk, IfOk};
+ghost use Rattle.std.specs.Prelude.{◌≡◌, ◌++◌, ◌∷◌, option_copied, OnOk, IfOk};
 ghost use Rattle.std.specs.Fmt.{decimal};
 ghost use Rattle.std.specs.Str.{byte};
-ghost use Rattle.component_ids.specs.Reasons.{word_of};
 ghost use Rattle.derived_values.specs.Words.{lack_word};
-ghost use Rattle.hms.specs.Refusal.{side_text, message_text, fault_text, message_status, fault_status, input_text, ids_text, command_text, refusal_text, refusal_line, refusal_status};
+ghost use Rattle.hms.specs.Refusal.{path_text, conf_text, conf_status, side_text, message_text, fault_text, message_status, fault_status, input_text, ids_text, command_text, refusal_text, refusal_line, refusal_status};
 
-use component_ids::{BadReason, IdFault};
+use crate::line::{append_component, append_number, append_words};
+use component_ids::IdFault;
 use component_values::Lack;
+use conf::ConfFault;
 use hms_io::Status;
 use msg_body::{MessageError, MessageFault};
 use msg_head::{MAX_HEAD_BYTES, MAX_HEAD_LINES, Side};
@@ -18,15 +19,31 @@ use std::alloc::Global;
 /// The most bytes of an input.
 pub const MAX_INPUT_BYTES: usize = 16_777_216;
 
+/// The most bytes of a configuration.
+pub const MAX_CONF_BYTES: usize = 65_536;
+
 /// Why a run is refused.
 #[derive(Debug, Drop)]
 pub enum Refusal {
     /// The arguments are no command.
     Arguments,
+    /// The file of the configuration isn't accepted.
+    Conf(ConfRefusal),
     /// The input isn't read.
     Input(InputRefusal),
     /// The command can't be done over the input.
     Command(CommandRefusal),
+}
+
+/// Why a configuration is refused.
+#[derive(Debug, Drop)]
+pub enum ConfRefusal {
+    /// There is no file of that name.
+    Missing,
+    /// It has more than [`MAX_CONF_BYTES`] bytes.
+    TooLong,
+    /// Its text is no configuration. The fault is never out of memory.
+    Fault(ConfFault),
 }
 
 /// Why an input is refused.
@@ -61,6 +78,7 @@ impl Refusal {
     {
         match self {
             Refusal::Arguments => Status::BadArguments,
+            Refusal::Conf(refusal) => conf_status(refusal),
             Refusal::Input(InputRefusal::TooLong) => Status::LimitPassed,
             Refusal::Input(InputRefusal::Message(fault)) => fault_status(*fault),
             Refusal::Command(_) => Status::BadInput,
@@ -75,6 +93,16 @@ impl Refusal {
         append_refusal(alloc, self, &mut line)?;
         line.append(b"\n")?;
         Ok(line)
+    }
+}
+
+fn conf_status(refusal: &ConfRefusal) -> Status
+    ensures { result ≡ conf_status refusal.now }
+{
+    match refusal {
+        ConfRefusal::Missing => Status::FileMissing,
+        ConfRefusal::TooLong => Status::LimitPassed,
+        ConfRefusal::Fault(_) => Status::BadConf,
     }
 }
 
@@ -98,34 +126,6 @@ fn fault_status(fault: MessageFault) -> Status
 }
 
 // Each function below adds its part at the end of the line.
-
-fn append_words(first: &[u8], second: &[u8], line: &mut Text) -> Result<(), Memory>
-    ensures { OnOk result (line.new ≡ line.old ++ (first.now ++ second.now)) }
-{
-    line.append(first)?;
-    line.append(second)
-}
-
-fn append_number(alloc: Global, word: &[u8], number: usize, line: &mut Text) -> Result<(), Memory>
-    ensures { OnOk result (line.new ≡ line.old ++ (word.now ++ decimal number)) }
-{
-    let digits = format!(in alloc; "{number}")?;
-    append_words(word, digits.as_bytes(), line)
-}
-
-fn append_component(
-    alloc: Global,
-    word: &[u8],
-    index: usize,
-    reason: BadReason,
-    line: &mut Text,
-) -> Result<(), Memory>
-    ensures { OnOk result
-        (line.new ≡ line.old ++ (word.now ++ (decimal index ++ byte " " ∷ word_of reason))) }
-{
-    append_number(alloc, word, index, line)?;
-    append_words(b" ", reason.word().as_bytes(), line)
-}
 
 fn append_side(side: Side, line: &mut Text) -> Result<(), Memory>
     ensures { OnOk result (line.new ≡ line.old ++ side_text side) }
@@ -178,6 +178,28 @@ fn append_fault(alloc: Global, fault: MessageFault, line: &mut Text) -> Result<(
     }
 }
 
+fn append_path(path: Option<&[u8]>, line: &mut Text) -> Result<(), Memory>
+    ensures { OnOk result (line.new ≡ line.old ++ path_text (option_copied path.entry)) }
+{
+    match path {
+        None => Ok(()),
+        Some(path) => append_words(b" ", path, line),
+    }
+}
+
+fn append_conf(alloc: Global, refusal: &ConfRefusal, line: &mut Text) -> Result<(), Memory>
+    ensures { OnOk result (line.new ≡ line.old ++ conf_text refusal.now) }
+{
+    match refusal {
+        ConfRefusal::Missing => line.append(b"missing"),
+        ConfRefusal::TooLong => append_number(alloc, b"bytes ", MAX_CONF_BYTES, line),
+        ConfRefusal::Fault(fault) => {
+            append_number(alloc, b"", fault.number() as usize, line)?;
+            append_path(fault.path(), line)
+        }
+    }
+}
+
 fn append_input(alloc: Global, refusal: InputRefusal, line: &mut Text) -> Result<(), Memory>
     ensures { OnOk result (line.new ≡ line.old ++ input_text refusal) }
 {
@@ -224,6 +246,10 @@ fn append_refusal(alloc: Global, refusal: &Refusal, line: &mut Text) -> Result<(
 {
     match refusal {
         Refusal::Arguments => line.append(b"words"),
+        Refusal::Conf(cause) => {
+            line.append(b"conf ")?;
+            append_conf(alloc, cause, line)
+        }
         Refusal::Input(cause) => {
             line.append(b"input ")?;
             append_input(alloc, *cause, line)

@@ -1,40 +1,107 @@
 //! The top call: all that the program does.
 
-ghost use Rattle.std.specs.Prelude.{◌≡◌, ◌⊎◌, Err, map, string_bytes};
-ghost use Rattle.hms.specs.Command.{NoCommand};
-ghost use Rattle.hms.specs.Report.{Reports, HasInput, Ends, CountsFaults};
+ghost use Rattle.std.specs.Prelude.{◌≡◌, ◌⊎◌, ◌≤◌, Err, length, map, string_bytes};
+ghost use Rattle.msg_body.specs.Views.{message_of};
+ghost use Rattle.hms_io.specs.Files.{KeepsFiles};
+ghost use Rattle.command_line.specs.Command.{NoCommand, IsTimely, line_of};
+ghost use Rattle.conf.specs.ConfMeaning.{meaning};
+ghost use Rattle.hms.specs.Report.{ReportsCommand, ReportsInput, HasReport, HasInput, Ends, CountsFaults, CountsReads, NamesNoFile};
 ghost use Rattle.hms.specs.declared.refusal.Refusal.TheVariants.{Arguments};
 ghost use Rattle.hms.specs.declared.stop.Stop.TheVariants.{Refused};
-ghost use Rattle.hms.specs.tools.Stops.{IfOutcome, HasStopCause};
+ghost use Rattle.hms.specs.tools.Stops.{IfOutcome, ReadsNothing, CountsStop, CountsOne};
 
 use crate::base::write_base;
-use crate::command::{Command, read_words};
+use crate::configured::read_configuration;
+use crate::message::read_input;
 use crate::outcome::Outcome;
-use crate::refusal::Refusal;
+use crate::refusal::{MAX_INPUT_BYTES, Refusal};
 use crate::stop::Stop;
-use hms_io::{Failed, Shelf, Sink, Source, Status, put_all};
-use sfv_text::Text;
+use crate::verify::verify;
+use command_line::{Command, read_words};
+use conf::Conf;
+use hms_io::{Failed, Shelf, Sink, Source, Status, fill, put_all};
+use msg_body::MessageView;
 use std::alloc::Global;
 
-/// Does what the arguments ask for.
-fn run_command<S: Source>(alloc: Global, arguments: &[String], source: &mut S) -> Result<Text, Stop>
-    ensures report { IfOutcome result (HasInput (Reports (map string_bytes arguments.now))
-        (S.left source.old) (S.left source.new)) }
-    ensures cause { HasStopCause (S.faults source.old) (S.faults source.new) result }
-    ensures refused { NoCommand (map string_bytes arguments.now)
-        → result ≡ Err (Refused Arguments) }
-    ensures unread { NoCommand (map string_bytes arguments.now) → source.new ≡ source.old }
+/// Does the command over the message.
+fn over_message(
+    alloc: Global,
+    command: Command<'_>,
+    conf: &Conf,
+    message: &MessageView<'_>,
+) -> Result<Outcome, Stop>
+    requires { IsTimely (line_of command) }
+    ensures report { IfOutcome result
+        (ReportsCommand (line_of command.entry) (meaning conf.now) (message_of message.now)) }
+    ensures reads_nothing { ReadsNothing result }
 {
-    match read_words(arguments) {
-        None => Err(Stop::Refused(Refusal::Arguments)),
-        Some(Command::Base { params }) => write_base(alloc, params, source),
+    match command {
+        Command::Base { params, .. } => write_base(alloc, conf, params.as_bytes(), message),
+        Command::Verify { now, label, .. } => Ok(verify(alloc, conf, now, label, message)?),
     }
 }
 
-/// Does what the arguments ask for, over the bytes of the source, and writes the outcome to the
-/// sink: the text that was asked for, or one line that begins `refused ` and ends with LF. The
-/// shelf isn't asked.
-#[tactic(auto, using(crate::proofs::Reports::whole_outcome))]
+/// Does the command over the input, which is to be one whole message.
+fn over_input(
+    alloc: Global,
+    command: Command<'_>,
+    conf: &Conf,
+    input: &[u8],
+) -> Result<Outcome, Stop>
+    requires timely { IsTimely (line_of command) }
+    requires short { length input.now ≤ MAX_INPUT_BYTES }
+    ensures report { IfOutcome result
+        (ReportsInput (line_of command.entry) (meaning conf.now) input.now) }
+    ensures reads_nothing { ReadsNothing result }
+{
+    let message = read_input(alloc, input)?;
+    over_message(alloc, command, conf, &message)
+}
+
+/// Does the command over what the source gives: reads it to its end, or one byte past the limit.
+fn over_source<S: Source>(
+    alloc: Global,
+    command: Command<'_>,
+    conf: &Conf,
+    source: &mut S,
+) -> Result<Outcome, Stop>
+    requires { IsTimely (line_of command) }
+    ensures report { IfOutcome result
+        (HasInput (ReportsInput (line_of command.entry) (meaning conf.now))
+        (S.left source.old) (S.left source.new)) }
+    ensures cause { CountsStop (S.faults source.old) (S.faults source.new) result }
+{
+    let input = fill(alloc, source, MAX_INPUT_BYTES)?;
+    over_input(alloc, command, conf, input.bytes())
+}
+
+/// Does what the arguments ask for.
+fn run_command<F: Shelf, S: Source>(
+    alloc: Global,
+    arguments: &[String],
+    shelf: &mut F,
+    source: &mut S,
+) -> Result<Outcome, Stop>
+    ensures report { IfOutcome result (HasReport (map string_bytes arguments.now)
+        (F.files shelf.old) (S.left source.old) (S.left source.new)) }
+    ensures cause { CountsOne (F.faults shelf.old) (F.faults shelf.new)
+        (S.faults source.old) (S.faults source.new) result }
+    ensures files { KeepsFiles (F.files shelf.old) (F.files shelf.new) }
+    ensures refused { NoCommand (map string_bytes arguments.now)
+        → result ≡ Err (Refused Arguments) }
+    ensures unread { NoCommand (map string_bytes arguments.now) → source.new ≡ source.old }
+    ensures unasked { NamesNoFile (map string_bytes arguments.now) → shelf.new ≡ shelf.old }
+{
+    let Some(command) = read_words(arguments) else {
+        return Err(Stop::Refused(Refusal::Arguments));
+    };
+    let conf = read_configuration(alloc, command.conf(), shelf)?;
+    over_source(alloc, command, &conf, source)
+}
+
+/// Does what the arguments ask for, over the files of the shelf and the bytes of the source, and
+/// writes the outcome to the sink: the text that was asked for, or one line that begins `refused `
+/// and ends with LF.
 pub fn run<F: Shelf, S: Source, K: Sink>(
     alloc: Global,
     arguments: &[String],
@@ -42,25 +109,26 @@ pub fn run<F: Shelf, S: Source, K: Sink>(
     source: &mut S,
     out: &mut K,
 ) -> Status
-    // What the sink took is the report of the arguments and the input, by the status.
-    ensures ends { Ends (map string_bytes arguments.now) (S.left source.old) (S.left source.new)
-        (K.taken out.old) (K.taken out.new) result }
+    // What the sink took is the report of the arguments, the files and the input, by the status.
+    ensures ends { Ends (map string_bytes arguments.now) (F.files shelf.old)
+        (S.left source.old) (S.left source.new) (K.taken out.old) (K.taken out.new) result }
 
-    // Where the arguments are no command, nothing is read.
+    // Where the arguments are no command, nothing is read, and where they name no file, none is
+    // asked for. The files stay as they are.
     ensures refused { NoCommand (map string_bytes arguments.now) → (result ≡ Status.BadArguments)
         ⊎ ((result ≡ Status.WriteFault) ⊎ (result ≡ Status.OutOfMemory)) }
     ensures unread { NoCommand (map string_bytes arguments.now) → source.new ≡ source.old }
-    ensures unasked { shelf.new ≡ shelf.old }
+    ensures unasked { NamesNoFile (map string_bytes arguments.now) → shelf.new ≡ shelf.old }
+    ensures files { KeepsFiles (F.files shelf.old) (F.files shelf.new) }
 
     // The counts of faults say when a read or a write failed.
-    ensures reads { CountsFaults Status.ReadFault result
+    ensures reads { CountsReads result (F.faults shelf.old) (F.faults shelf.new)
         (S.faults source.old) (S.faults source.new) }
     ensures writes { CountsFaults Status.WriteFault result
         (K.faults out.old) (K.faults out.new) }
 {
-    let _ = shelf;
-    let outcome = match run_command(alloc, arguments, source) {
-        Ok(text) => Outcome::Done(text),
+    let outcome = match run_command(alloc, arguments, shelf, source) {
+        Ok(outcome) => outcome,
         Err(Stop::Refused(refusal)) => Outcome::Refused(refusal),
         Err(Stop::ReadFault) => return Status::ReadFault,
         Err(Stop::Memory) => return Status::OutOfMemory,

@@ -2,9 +2,10 @@
 
 ghost use Rattle.std.specs.Prelude.{◌≡◌};
 
-use crate::refusal::{CommandRefusal, InputRefusal, Refusal};
+use crate::refusal::{CommandRefusal, ConfRefusal, InputRefusal, Refusal};
 use component_ids::IdFault;
-use hms_io::FillError;
+use conf::ConfFault;
+use hms_io::{FileError, FillError};
 use msg_body::{MessageError, MessageFault};
 use sfv_read::SfError;
 use sfv_text::Memory;
@@ -14,9 +15,9 @@ use sfv_text::Memory;
 pub enum Stop {
     /// No memory was found.
     Memory,
-    /// A read of the input failed.
+    /// A read of a file or of the input failed.
     ReadFault,
-    /// The arguments, the input or the command is refused.
+    /// The arguments, the configuration, the input or the command is refused.
     Refused(Refusal),
 }
 
@@ -102,6 +103,38 @@ impl From<FillError> for Stop {
             FillError::Memory => Stop::Memory,
             FillError::Failed => Stop::ReadFault,
             FillError::TooLong => Stop::Refused(Refusal::Input(InputRefusal::TooLong)),
+        }
+    }
+}
+
+/// What keeps the file of the configuration from being taken.
+impl From<FileError> for Stop {
+    ghost use Rattle.std.specs.Prelude.{◌≡◌};
+    ghost use Rattle.hms.specs.tools.Stops.{stop_of_file};
+
+    ghost from_gives = { λ error stop. stop ≡ stop_of_file error };
+
+    fn from(error: FileError) -> Stop {
+        match error {
+            FileError::Memory => Stop::Memory,
+            FileError::Failed => Stop::ReadFault,
+            FileError::TooLong => Stop::Refused(Refusal::Conf(ConfRefusal::TooLong)),
+            FileError::Missing => Stop::Refused(Refusal::Conf(ConfRefusal::Missing)),
+        }
+    }
+}
+
+/// A fault of the configuration.
+impl From<ConfFault> for Stop {
+    ghost use Rattle.std.specs.Prelude.{◌≡◌};
+    ghost use Rattle.hms.specs.tools.Stops.{stop_of_conf};
+
+    ghost from_gives = { λ fault stop. stop ≡ stop_of_conf fault };
+
+    fn from(fault: ConfFault) -> Stop {
+        match fault {
+            ConfFault::Memory => Stop::Memory,
+            _ => Stop::Refused(Refusal::Conf(ConfRefusal::Fault(fault))),
         }
     }
 }

@@ -27,7 +27,8 @@ abbrev pub HasOptions : CommandName → List (List ℕ) → Type 0
 HasOptions command words = (options : List (Pair (List ℕ))) × AreOptions command words options
 
 -- the options up to the words that are left, which are the options that were met
-pub record AreMetBefore (command : CommandName) (met : Met) (words left : List (List ℕ)) : Type 0 where
+pub record AreMetBefore (command : CommandName) (met : Met) (words left : List (List ℕ))
+    : Type 0 where
   pub done : List (Pair (List ℕ))
   pub joined : words ≡ words_of done ++ left
   pub are : AreOptions command (words_of done) done

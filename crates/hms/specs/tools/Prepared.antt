@@ -29,15 +29,3 @@ abbrev pub SaysFault : List ComponentId → ValueFault → Stop → Type 0
 SaysFault ids fault.Memory stop = stop ≡ Memory
 SaysFault ids (fault.Lacks index lack) stop = (stop ≡ Memory)
     ⊎ IsSomeAnd (slice_get ids index) (λ id. stop ≡ stop_for_lack lack (id_text id))
-
--- the stop says which component is the first that lacks a value, or that memory ran out
-abbrev pub SaysFirstLack : Message → SigParams → Stop → Type 0
-SaysFirstLack message sig stop = (stop ≡ Memory) ⊎ ((index : ℕ) × (lack : Lack)
-    × IsFirstLack (context_for message) sig.ids index lack
-    × IsSomeAnd (slice_get sig.ids index) (λ id. stop ≡ stop_for_lack lack (id_text id)))
-
--- the base over the values of the components, or the first that lacks one
-abbrev pub ExplainsBase : Message → SigParams → Result (List ℕ) Stop → Type 0
-ExplainsBase message sig (Ok text) = (values : List (List ℕ))
-    × HaveValues (context_for message) sig.ids values × (text ≡ signature_base sig values)
-ExplainsBase message sig (Err stop) = SaysFirstLack message sig stop

@@ -1,8 +1,5 @@
 -- What ends a run before it is done. No public clause cites this module.
-use Rattle.std.specs.Prelude.{◌≡◌, ◌≤◌, ℕ, List, Result, Ok, Err}
-use Rattle.byte_grammar.specs.FaultOffset.{IsFaultOffset}
-use Rattle.sfv_read.specs.Reads.{ReadsInner}
-use Rattle.sfv_read.specs.Fault.{BeginsItemKind}
+use Rattle.std.specs.Prelude.{◌≡◌, ℕ, Result, Ok, Err}
 use Rattle.sfv_read.specs.declared.error.SfError.{SfError}
 use Rattle.sfv_read.specs.declared.error.SfError.TheVariants.{Memory as NoErrorMemory, Syntax as BadSyntax, ItemKind as OtherKind}
 use Rattle.component_ids.specs.declared.fault.IdFault.{IdFault}
@@ -10,18 +7,22 @@ use Rattle.component_ids.specs.declared.fault.IdFault.TheVariants.{Memory as NoF
 use Rattle.hms_io.specs.Cause.{Rose}
 use Rattle.hms_io.specs.declared.read_write.FillError.{FillError}
 use Rattle.hms_io.specs.declared.read_write.FillError.TheVariants.{Memory as NoFillMemory, Failed, TooLong as Longer}
-use Rattle.hms.specs.Base.{HasIdFault}
-use Rattle.hms.specs.declared.refusal.Refusal.{Refusal}
-use Rattle.hms.specs.declared.refusal.Refusal.TheVariants.{Arguments, Input, Command}
-use Rattle.hms.specs.declared.refusal.InputRefusal.TheVariants.{TooLong, Message as NoMessage}
+use Rattle.hms_io.specs.declared.whole_file.FileError.{FileError}
+use Rattle.hms_io.specs.declared.whole_file.FileError.TheVariants.{Memory as NoFileMemory, Failed as FetchFailed, TooLong as LongerFile, Missing as NoFile}
 use Rattle.msg_body.specs.declared.error.MessageError.{MessageError}
 use Rattle.msg_body.specs.declared.error.MessageError.TheVariants as message
 use Rattle.msg_body.specs.declared.error.MessageFault.{MessageFault}
 use Rattle.msg_body.specs.declared.error.MessageFault.TheVariants as fault
-use Rattle.hms.specs.Messages.{IsMessageFault}
+use Rattle.conf.specs.declared.fault.ConfFault.{ConfFault}
+use Rattle.conf.specs.declared.fault.ConfFault.TheVariants as conf
+use Rattle.hms.specs.declared.refusal.Refusal.{Refusal}
+use Rattle.hms.specs.declared.refusal.Refusal.TheVariants.{Conf, Input, Command}
+use Rattle.hms.specs.declared.refusal.ConfRefusal.TheVariants.{Missing as ConfMissing, TooLong as ConfTooLong, Fault as ConfFaulty}
+use Rattle.hms.specs.declared.refusal.InputRefusal.TheVariants.{TooLong, Message as NoMessage}
 use Rattle.hms.specs.declared.refusal.CommandRefusal.TheVariants.{Syntax, ItemKind, Ids, Lacks}
+use Rattle.hms.specs.Report.{OneRose}
 use Rattle.hms.specs.declared.outcome.Outcome.{Outcome}
-use Rattle.hms.specs.declared.outcome.Outcome.TheVariants.{Done, Refused as IsRefused}
+use Rattle.hms.specs.declared.outcome.Outcome.TheVariants.{Refused as IsRefused}
 use Rattle.hms.specs.declared.stop.Stop.{Stop}
 use Rattle.hms.specs.declared.stop.Stop.TheVariants.{Memory, ReadFault, Refused}
 
@@ -49,50 +50,57 @@ abbrev pub stop_of_message : MessageError → Stop
 stop_of_message message.Memory = Memory
 stop_of_message error = stop_for (fault.Refused error)
 
--- where nothing is read, a run is stopped by a refusal of which this holds, or out of memory
+abbrev pub stop_of_file : FileError → Stop
+stop_of_file NoFileMemory = Memory
+stop_of_file FetchFailed = ReadFault
+stop_of_file LongerFile = Refused (Conf ConfTooLong)
+stop_of_file NoFile = Refused (Conf ConfMissing)
+
+abbrev pub stop_of_conf : ConfFault → Stop
+stop_of_conf conf.Memory = Memory
+stop_of_conf fault = Refused (Conf (ConfFaulty fault))
+
+-- a run is stopped by a refusal of which this holds, or for another reason
+abbrev pub IfStopped : Stop → (Refusal → Type 0) → Type 0
+IfStopped Memory P = Unit {0}
+IfStopped ReadFault P = Unit {0}
+IfStopped (Refused refusal) P = P refusal
+
+-- where nothing is read, a run is stopped by such a refusal, or out of memory
 abbrev pub IfRefused : Stop → (Refusal → Type 0) → Type 0
 IfRefused Memory P = Unit {0}
 IfRefused ReadFault P = ⊥
 IfRefused (Refused refusal) P = P refusal
 
+-- the refusal is that of a cause
+abbrev pub IsRefusalFor : {C : Type 0} → (C → Type 0) → (C → Refusal) → Refusal → Type 0
+IsRefusalFor {C} Causes refusal_of refusal =
+    (cause : C) × Causes cause × (refusal ≡ refusal_of cause)
+
 -- where a run comes to an outcome, this holds of it
-abbrev pub IfOutcome : Result (List ℕ) Stop → (Outcome → Type 0) → Type 0
-IfOutcome (Ok text) P = P (Done text)
+abbrev pub IfOutcome : Result Outcome Stop → (Outcome → Type 0) → Type 0
+IfOutcome (Ok outcome) P = P outcome
 IfOutcome (Err Memory) P = Unit {0}
 IfOutcome (Err ReadFault) P = Unit {0}
 IfOutcome (Err (Refused refusal)) P = P (IsRefused refusal)
 
--- the refusal of an input that isn't one whole message, for this fault
-abbrev pub IsInputRefusal : List ℕ → Refusal → Type 0
-IsInputRefusal input (Input (NoMessage fault)) = IsMessageFault input fault
-IsInputRefusal input refusal = ⊥
-
--- the refusals of PARAMS by themselves
-abbrev pub IsParamsCause : List ℕ → Refusal → Type 0
-IsParamsCause params (Command (Syntax offset)) =
-    IsFaultOffset ReadsInner params offset × ¬ BeginsItemKind ReadsInner params offset
-IsParamsCause params (Command (ItemKind offset)) =
-    IsFaultOffset ReadsInner params offset × BeginsItemKind ReadsInner params offset
-IsParamsCause params (Command (Ids fault)) = HasIdFault params fault
-IsParamsCause params (Command (Lacks lack id)) = ⊥
-IsParamsCause params (Input refusal) = ⊥
-IsParamsCause params Arguments = ⊥
-
 -- nothing was read
-abbrev pub ReadsNothing : Result (List ℕ) Stop → Type 0
-ReadsNothing (Ok text) = Unit {0}
+abbrev pub ReadsNothing : Result Outcome Stop → Type 0
+ReadsNothing (Ok outcome) = Unit {0}
 ReadsNothing (Err Memory) = Unit {0}
 ReadsNothing (Err ReadFault) = ⊥
 ReadsNothing (Err (Refused refusal)) = Unit {0}
 
 -- only a failed read raises the count of faults
-abbrev pub CountsRead : ℕ → ℕ → Result (List ℕ) Stop → Type 0
-CountsRead before now (Ok text) = now ≡ before
-CountsRead before now (Err Memory) = now ≡ before
-CountsRead before now (Err ReadFault) = Rose before now
-CountsRead before now (Err (Refused refusal)) = now ≡ before
+abbrev pub CountsStop : {T : Type 0} → ℕ → ℕ → Result T Stop → Type 0
+CountsStop before now (Ok value) = now ≡ before
+CountsStop before now (Err Memory) = now ≡ before
+CountsStop before now (Err ReadFault) = Rose before now
+CountsStop before now (Err (Refused refusal)) = now ≡ before
 
--- and it never falls
-pub record HasStopCause (before now : ℕ) (result : Result (List ℕ) Stop) : Type 0 where
-  pub later : before ≤ now
-  pub counts : CountsRead before now result
+-- and just one of the two counts, where there are two
+abbrev pub CountsOne : ℕ → ℕ → ℕ → ℕ → Result Outcome Stop → Type 0
+CountsOne shelf shelf_now source source_now (Err ReadFault) =
+    OneRose shelf shelf_now source source_now
+CountsOne shelf shelf_now source source_now result =
+    (shelf_now ≡ shelf) × (source_now ≡ source)

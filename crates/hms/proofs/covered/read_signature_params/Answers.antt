@@ -1,5 +1,5 @@
 use Rattle.std.proofs.lemmas.Result.{err_from_is_err_and}
-use Rattle.hms.proofs.Stops.{fault_stop}
+use Rattle.hms.proofs.Stopping.{fault_stop}
 use Rattle.hms.proofs.covered.read_signature_params.Goals as goal
 
 pub returns-in_err-read_params-clause-refused : goal.returns-in_err-read_params-clause-refused

@@ -1,4 +1,4 @@
-use Rattle.hms.proofs.Reports.{one_report_law}
+use Rattle.hms.proofs.OneReport.{one_report_law}
 use Rattle.hms.proofs.laws.one_report.Goals as goal
 
 pub returns : goal.returns

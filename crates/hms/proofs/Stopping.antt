@@ -1,0 +1,54 @@
+-- Errors of the layers below, as what stops a run.
+use Rattle.std.proofs.Common.{◌≡◌, ◌≤◌, ℕ, List, length, Result, Ok, Err, refl, inl, inr}
+use Rattle.byte_grammar.specs.Causes.{AnswersWhere}
+use Rattle.sfv_text.specs.declared.value.InnerList.{InnerList}
+use Rattle.sfv_read.specs.Reads.{ReadsInner}
+use Rattle.component_ids.specs.Causes.{IsIdFault}
+use Rattle.component_ids.specs.declared.fault.IdFault.{IdFault}
+use Rattle.component_ids.specs.declared.fault.IdFault.TheVariants.{Memory, TooMany, BadComponent, Repeated, BadParameter}
+use Rattle.component_ids.specs.declared.params.SigParams.{SigParams}
+use Rattle.msg_body.specs.Causes.{IsMessageError}
+use Rattle.msg_body.specs.declared.framing.Expect.TheVariants.{Any}
+use Rattle.msg_body.specs.declared.error.MessageError.{MessageError}
+use Rattle.msg_body.specs.declared.error.MessageError.TheVariants as message
+use Rattle.msg_body.specs.declared.error.MessageFault.TheVariants as fault
+use Rattle.hms.specs.Base.{AreParamsRefused}
+use Rattle.hms.specs.Messages.{IsInputRefused}
+use Rattle.hms.specs.declared.refusal.TheConstants.{MAX_INPUT_BYTES}
+use Rattle.hms.specs.declared.refusal.Refusal.TheVariants.{Input, Command}
+use Rattle.hms.specs.declared.refusal.InputRefusal.TheVariants.{Message as NoMessage}
+use Rattle.hms.specs.declared.refusal.CommandRefusal.TheVariants.{Ids}
+use Rattle.hms.specs.tools.Stops.{IfRefused, IsRefusalFor, stop_of_fault, stop_of_message}
+
+abbrev answered : IdFault → Result SigParams IdFault
+answered fault = Err fault
+
+pub fault_stop : (params : List ℕ) (list : InnerList) (f : IdFault) → ReadsInner params list
+    → ((g : IdFault) → ¬ (g ≡ Memory) → AnswersWhere Memory (answered f) g (IsIdFault list g))
+    → IfRefused (stop_of_fault f) (IsRefusalFor (AreParamsRefused params) Command)
+fault_stop params list Memory reads faults = tt
+fault_stop params list TooMany reads faults =
+    (Ids TooMany, record { list = list; reads = reads; is = (faults TooMany (λ e. absurd (cc e))).only refl }, refl)
+fault_stop params list (BadComponent i r) reads faults =
+    (Ids (BadComponent i r), record { list = list; reads = reads; is = (faults (BadComponent i r) (λ e. absurd (cc e))).only refl }, refl)
+fault_stop params list (Repeated i) reads faults =
+    (Ids (Repeated i), record { list = list; reads = reads; is = (faults (Repeated i) (λ e. absurd (cc e))).only refl }, refl)
+fault_stop params list (BadParameter key) reads faults =
+    (Ids (BadParameter key), record { list = list; reads = reads; is = (faults (BadParameter key) (λ e. absurd (cc e))).only refl }, refl)
+
+pub error_stop : {T : Type 0} (input : List ℕ) (error : MessageError) → length input ≤ MAX_INPUT_BYTES
+    → ((other : MessageError) → ¬ (other ≡ message.Memory) → AnswersWhere {T = T} message.Memory (Err error) other (IsMessageError Any input other))
+    → IfRefused (stop_of_message error) (IsRefusalFor (IsInputRefused input) Input)
+error_stop input message.Memory short faults = tt
+error_stop input (message.TooLong side) short faults =
+    (NoMessage (fault.Refused (message.TooLong side)), (short, (faults (message.TooLong side) (λ e. absurd (cc e))).only refl), refl)
+error_stop input (message.NakedEnd offset) short faults =
+    (NoMessage (fault.Refused (message.NakedEnd offset)), (short, (faults (message.NakedEnd offset) (λ e. absurd (cc e))).only refl), refl)
+error_stop input message.BadStart short faults =
+    (NoMessage (fault.Refused message.BadStart), (short, (faults message.BadStart (λ e. absurd (cc e))).only refl), refl)
+error_stop input (message.TooManyLines side) short faults =
+    (NoMessage (fault.Refused (message.TooManyLines side)), (short, (faults (message.TooManyLines side) (λ e. absurd (cc e))).only refl), refl)
+error_stop input (message.BadLine side index) short faults =
+    (NoMessage (fault.Refused (message.BadLine side index)), (short, (faults (message.BadLine side index) (λ e. absurd (cc e))).only refl), refl)
+error_stop input message.NotYet short faults =
+    (NoMessage (fault.Refused message.NotYet), (short, (faults message.NotYet (λ e. absurd (cc e))).only refl), refl)

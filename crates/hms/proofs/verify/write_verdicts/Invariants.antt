@@ -1,0 +1,11 @@
+use Rattle.std.proofs.Common.{take}
+use Rattle.msg_body.specs.Views.{message_of}
+use Rattle.conf.specs.ConfMeaning.{meaning}
+use Rattle.component_values.specs.Context.{context_of}
+use Rattle.hms.specs.Base.{context_for}
+use Rattle.hms.specs.tools.Verdicts.{AreLinesSoFar}
+use Rattle.hms.proofs.verify.write_verdicts.Given as goal
+
+abbrev pub invariant-loop-label : goal.invariant-loop-label
+invariant-loop-label l =
+    AreLinesSoFar (meaning l.conf) (message_of l.message) (take l.label-index l.labels) l.lines l.all_accepted

@@ -1,0 +1,157 @@
+//! The command `verify`: the verdicts on a message's labels (RFC 9421 section 3.2).
+
+ghost use Rattle.std.specs.Prelude.{◌≡◌, ◌≤◌, [], ◌∷◌, ◌++◌, option_map, OnOk, IfOk, IsTrue};
+ghost use Rattle.msg_body.specs.Views.{message_of};
+ghost use Rattle.conf.specs.ConfMeaning.{meaning};
+ghost use Rattle.verdicts.specs.Verdicts.{is_place_in_range, is_verdict_in_range, verification_of};
+ghost use Rattle.hms.specs.Verify.{AreAsked, ReportsVerdicts, place_text, verdict_text, verdict_line};
+ghost use Rattle.hms.specs.tools.Verdicts.{WritesVerdict, ReportsLabels};
+
+use crate::line::{append_component, append_number, append_words};
+use crate::outcome::Outcome;
+use component_ids::print_id;
+use component_values::Context;
+use conf::Conf;
+use msg_body::MessageView;
+use sfv_text::{Memory, Text};
+use std::alloc::Global;
+use verdicts::{Labels, MAX_MOMENT, Place, Verdict, labels_of, verdict};
+
+/// Adds where a rule fails, after a space.
+fn append_place(alloc: Global, place: &Place, line: &mut Text) -> Result<(), Memory>
+    requires { IsTrue (is_place_in_range place.now) }
+    ensures { OnOk result (line.new ≡ line.old ++ place_text place.now) }
+{
+    match place {
+        Place::None => Ok(()),
+        Place::Index(index) => append_number(alloc, b" ", *index, line),
+        Place::Component(index, reason) => append_component(alloc, b" ", *index, *reason, line),
+        Place::Name(text) => append_words(b" ", text.bytes(), line),
+        Place::Identifier(id) => {
+            let text = print_id(alloc, id)?;
+            append_words(b" ", text.bytes(), line)
+        }
+    }
+}
+
+/// Adds a verdict.
+fn append_verdict(alloc: Global, verdict: &Verdict, line: &mut Text) -> Result<(), Memory>
+    requires { IsTrue (is_verdict_in_range verdict.now) }
+    ensures { OnOk result (line.new ≡ line.old ++ verdict_text verdict.now) }
+{
+    match verdict {
+        Verdict::Ok { .. } => line.append(b"ok"),
+        Verdict::Rule { number, place } => {
+            append_number(alloc, b"rule ", number.number() as usize, line)?;
+            append_words(b" ", number.word().as_bytes(), line)?;
+            append_place(alloc, place, line)
+        }
+    }
+}
+
+/// Adds the line of a label and its verdict.
+fn append_line(
+    alloc: Global,
+    label: &[u8],
+    verdict: &Verdict,
+    lines: &mut Text,
+) -> Result<(), Memory>
+    requires { IsTrue (is_verdict_in_range verdict.now) }
+    ensures { OnOk result (lines.new ≡ lines.old ++ verdict_line (label.now, verdict.now)) }
+{
+    append_words(label, b" ", lines)?;
+    append_verdict(alloc, verdict, lines)?;
+    lines.append(b"\n")
+}
+
+/// Judges the label and adds its line. It answers whether the label is accepted.
+fn write_verdict(
+    alloc: Global,
+    context: &Context<'_, '_>,
+    label: &[u8],
+    conf: &Conf,
+    now: u64,
+    lines: &mut Text,
+) -> Result<bool, Memory>
+    requires { now ≤ MAX_MOMENT }
+    ensures { IfOk result (WritesVerdict (verification_of context.now label.now (meaning conf.now))
+        label.now lines.old lines.new) }
+{
+    let verdict = verdict(alloc, context, label, conf, now)?;
+    append_line(alloc, label, &verdict, lines)?;
+    Ok(match verdict {
+        Verdict::Ok { .. } => true,
+        Verdict::Rule { .. } => false,
+    })
+}
+
+/// The lines of the labels, in order.
+fn write_verdicts(
+    alloc: Global,
+    conf: &Conf,
+    now: u64,
+    message: &MessageView<'_>,
+    labels: &[Text],
+) -> Result<Outcome, Memory>
+    requires { now ≤ MAX_MOMENT }
+    ensures { IfOk result
+        (ReportsLabels (meaning conf.now) (message_of message.now) labels.now) }
+{
+    let context = Context::of_message(message, conf.scheme(), conf.types());
+    let mut lines = Text::new(alloc);
+    let mut all_accepted = true;
+    for label in labels {
+        let is_accepted =
+            write_verdict(alloc, &context, label.bytes(), conf, now, &mut lines)?;
+        all_accepted &= is_accepted;
+    }
+    Ok(if all_accepted {
+        Outcome::Done(lines)
+    } else {
+        Outcome::NotOk(lines)
+    })
+}
+
+/// A list of one label.
+fn one_label(alloc: Global, label: &[u8]) -> Result<Labels, Memory>
+    ensures { IfOk result (λ labels. labels ≡ label.now ∷ []) }
+{
+    let mut labels = Labels::new(alloc);
+    labels.push(Text::from_bytes(alloc, label)?)?;
+    Ok(labels)
+}
+
+/// The labels that are asked for.
+fn asked_labels(
+    alloc: Global,
+    label: Option<&str>,
+    message: &MessageView<'_>,
+) -> Result<Labels, Memory>
+    ensures { IfOk result
+        (AreAsked (option_map (λ word. word.now) label.entry) (message_of message.now)) }
+{
+    if let Some(label) = label {
+        return one_label(alloc, label.as_bytes());
+    }
+    let labels = labels_of(alloc, message)?;
+    if labels.is_empty() {
+        return one_label(alloc, b"-");
+    }
+    Ok(labels)
+}
+
+/// The verdicts on the labels of the message that are asked for.
+pub fn verify(
+    alloc: Global,
+    conf: &Conf,
+    now: u64,
+    label: Option<&str>,
+    message: &MessageView<'_>,
+) -> Result<Outcome, Memory>
+    requires { now ≤ MAX_MOMENT }
+    ensures { IfOk result (ReportsVerdicts (option_map (λ word. word.now) label.entry)
+        (meaning conf.now) (message_of message.now)) }
+{
+    let labels = asked_labels(alloc, label, message)?;
+    write_verdicts(alloc, conf, now, message, labels.as_slice())
+}
