@@ -1,0 +1,22 @@
+//! HMAC with SHA-256 (RFC 2104), over a text that comes in pieces.
+//!
+//! ```text
+//! let mut hmac = Hmac::new(b"Jefe");
+//! hmac.update(b"what do ya want ");
+//! hmac.update(b"for nothing?");
+//! same_tag(&hmac.finish(), tag)
+//! ```
+//!
+//! Nothing here takes memory or refuses anything. How long a call takes may tell of the key and of
+//! the tags.
+#![tactic(auto)]
+
+mod key;
+mod mac;
+mod tag;
+
+pub use mac::Hmac;
+pub use tag::same_tag;
+
+#[cfg(test)]
+mod tests;
