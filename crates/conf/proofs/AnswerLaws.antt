@@ -1,0 +1,293 @@
+-- Each text is a configuration, or has a fault.
+use Rattle.std.proofs.Common.{◌≡◌, ◌⊎◌, ◌+◌, ℕ, Bool, true, false, List, [], ◌∷◌, Option, Some, None, option_map, IsTrue, codes, refl, sym, ap, ◌∙◌, inl, inr, nat_cmp}
+use Rattle.std.specs.Prelude.{is_some, option_and_then, unwrap_or}
+use Rattle.std.specs.FinMap as map
+use Rattle.std.specs.List.{find, list_all}
+use Rattle.std.specs.Str.{is_utf8}
+use Rattle.std.specs.Cmp.Lexicographic.{slice_cmp}
+use Rattle.std.proofs.lemmas.Bool.{cases_Bool, false≢true}
+use Rattle.std.proofs.lemmas.Str.{IsUtf8-from_is_utf8, is_utf8-from_IsUtf8}
+use Rattle.sfv_text.specs.declared.pair.Pair.{Pair}
+use Rattle.sfv_text.specs.declared.value.BareItem.{BareItem}
+use Rattle.sfv_text.specs.declared.value.InnerList.{InnerList}
+use Rattle.sfv_read.specs.Reads.{ReadsInner}
+use Rattle.sfv_read.proofs.Readings.{inner_has_one_value, inner_is_decided}
+use Rattle.component_ids.specs.SignatureParams.{IsParamsOf, IsSigParams, list_of}
+use Rattle.component_ids.specs.Types.{kind_in, standard_types}
+use Rattle.component_ids.specs.declared.id.ComponentId.{ComponentId}
+use Rattle.component_ids.specs.declared.params.SigParams.{SigParams}
+use Rattle.component_ids.proofs.FaultLaws as list_faults
+use Rattle.component_ids.proofs.Judged as list_answers
+use Rattle.toml.specs.Data.{Data, Members, string, table, as_bool, as_str, get_member}
+use Rattle.toml.specs.Parse.{parse_document}
+use Rattle.conf.specs.declared.fault.ConfFault.{ConfFault}
+use Rattle.conf.specs.declared.fault.ConfFault.TheVariants as fault
+use Rattle.conf.specs.declared.sign_conf.SignConf.{SignConf}
+use Rattle.conf.specs.declared.table.Place.TheVariants.{Sign}
+use Rattle.conf.specs.declared.table.Rule.TheVariants as rule
+use Rattle.conf.specs.Keys.{KeyMap}
+use Rattle.conf.specs.Meaning.{AreComponents, AreKeys, AreTypes, Configuration, Configures, HasKey, HasSign, IsConfiguration, IsDocument, IsSignConf, digest_of, scheme_of, seconds_of}
+use Rattle.conf.specs.Paths.{HoldsAtPath, HoldsOfNone, IsLeast}
+use Rattle.conf.specs.Refusals.{HasBadKeyText, IsBadKeyText, IsBadList, IsConfFault}
+use Rattle.conf.specs.Rows.{fails, is_ill_typed, is_out_of_range}
+use Rattle.conf.specs.Table.{Row, rows, places, place_path, entries_of, has_place, has_unknown, is_missing, members_in}
+use Rattle.conf.specs.Values.{IsCovered, has_type, is_type, params_of}
+use Rattle.conf.specs.tools.Added.{key_in, kind_told, spells_key}
+use Rattle.conf.specs.tools.Judged.{IsCauseNumbered, IsClearBelow, IsFirstIn, IsJudged}
+use Rattle.conf.proofs.AddedLaws.{AllRead, all_of, entry_passes, get_all, or_else}
+use Rattle.conf.proofs.JudgedLaws.{first_is, clear_first, clear_more, below_typed, below_allowed, below_keys, below_missing, keys_clear}
+use Rattle.conf.proofs.KeyTextLaws.{are_texts, key_of_text, keys_of_document, not_spelled, spelled}
+use Rattle.conf.proofs.LeastLaws.{ascends, found_least, found_none}
+use Rattle.conf.proofs.ReadLaws.{first_of, not_toml}
+use Rattle.conf.proofs.RowFacts.{sign_value, keys_typed, sign_typed, request_typed, response_typed, keyid_typed, label_typed, types_typed, types_allowed, keyid_there, label_there, keys_least, texts_fine, lists_fine_by, request_least, response_least_by}
+use Rattle.conf.proofs.RowLaws.{rows_ascend, places_ascend}
+use Rattle.conf.proofs.SignReadLaws.{table_or_none, text_of}
+use Rattle.conf.proofs.TypeLaws.{are_types, kind_at, kind_read, types_of_document}
+
+abbrev Answer : List ℕ → Type 0
+Answer text = ((conf : Configuration) × Configures text conf) ⊎ ((fault : ConfFault) × IsConfFault text fault)
+
+-- none of them passes, or one has the least path
+first_or_none : {X : Type 0} (path_of : X → List ℕ) (test : X → Bool) (xs : List X) → ascends path_of xs ≡ true
+    → HoldsOfNone (λ x. IsTrue (test x)) xs ⊎ ((path : List ℕ) × IsLeast (HoldsAtPath path_of (λ x. IsTrue (test x)) xs) path)
+first_or_none path_of test xs up = elim (option_map path_of (find test xs)) as (λ o. option_map path_of (find test xs) ≡ o
+    → HoldsOfNone (λ x. IsTrue (test x)) xs ⊎ ((path : List ℕ) × IsLeast (HoldsAtPath path_of (λ x. IsTrue (test x)) xs) path)) [
+      | None ↦ λ e. inl (found_none path_of test xs (sym e))
+      | Some path ↦ λ e. inr (path, found_least path_of test xs path up (sym e))
+    ] refl
+
+-- a fault of the document is an answer of the text
+refused : (text : List ℕ) (document : Members) (f : ConfFault) → IsDocument text document → ¬ (f ≡ fault.Memory) → IsFirstIn document f → Answer text
+refused text document f is known first = elim (first_of text document f is first) [
+  | inl memory ↦ absurd (known memory)
+  | inr h ↦ inr (f, h)
+]
+
+-- ---- the texts of keys
+
+spells_found : Option Data → Bool
+spells_found None = true
+spells_found (Some value) = spells_key value
+
+bad_found : (found : Option Data) → spells_found found ≡ false → IsBadKeyText found
+unfolding spells_found
+bad_found None fail = absurd (false≢true (sym fail))
+bad_found (Some value) fail = not_spelled value fail
+
+one_fails : {X : Type 0} (test : X → Bool) (xs : List X) → list_all test xs ≡ false → (x : X) × (test x ≡ false)
+one_fails test [] fail = absurd (false≢true (sym fail))
+one_fails test (x ∷ xs) fail = elim (cases_Bool (test x)) [
+  | inl passed ↦ one_fails test xs (rw passed at fail)
+  | inr failed ↦ (x, failed)
+]
+
+found_spells : (pairs : Members) (keyid : List ℕ) (value : Data) → list_all (λ (e : List ℕ × Data). spells_found (get_member e.0 pairs)) (entries_of pairs) ≡ true
+    → get_member keyid pairs ≡ Some value → spells_key value ≡ true
+unfolding spells_found
+found_spells pairs keyid value all is =
+    let there : spells_found (get_member keyid pairs) ≡ true = entry_passes (λ (e : List ℕ × Data). spells_found (get_member e.0 pairs)) pairs keyid value all is in
+    rw is at there
+
+bad_or_keys : (pairs : Members) → ((keyid : List ℕ) × IsBadKeyText (get_member keyid pairs))
+    ⊎ ((keyid : List ℕ) (value : Data) → get_member keyid pairs ≡ Some value → spells_key value ≡ true)
+bad_or_keys pairs = elim (cases_Bool (list_all (λ (e : List ℕ × Data). spells_found (get_member e.0 pairs)) (entries_of pairs))) [
+  | inl all ↦ inr (λ keyid value is. found_spells pairs keyid value all is)
+  | inr fail ↦
+      let e = one_fails (λ (e : List ℕ × Data). spells_found (get_member e.0 pairs)) (entries_of pairs) fail in
+      inl (e.0.0, bad_found (get_member e.0.0 pairs) e.1)
+]
+
+all_keys : (document : Members) → IsJudged document → ((keyid : List ℕ) (value : Data) → get_member keyid (keys_of_document document) ≡ Some value → spells_key value ≡ true)
+    → AreKeys (keys_of_document document) (all_of key_in map.empty (keys_of_document document))
+all_keys document judged spell = λ keyid.
+    let pairs = keys_of_document document in
+    let texts = are_texts (get_member (codes "keys") document) (keys_typed document judged) in
+    let read : AllRead key_in (get_member keyid pairs) = λ value is. reads value (entry_passes (λ e. is_some (as_str e.1)) pairs keyid value texts is) (spell keyid value is) in
+    let at : map.get (all_of key_in map.empty pairs) keyid ≡ or_else (option_and_then key_in (get_member keyid pairs)) None =
+    get_all key_in map.empty pairs keyid read ∙ ap (λ (o : Option (List ℕ)). or_else (option_and_then key_in (get_member keyid pairs)) o) (map.get-empty (slice_cmp nat_cmp) keyid) in
+    rw at (has (get_member keyid pairs) (λ value is. entry_passes (λ e. is_some (as_str e.1)) pairs keyid value texts is) (spell keyid))
+  where
+    reads : (value : Data) → is_some (as_str value) ≡ true → spells_key value ≡ true → is_some (key_in value) ≡ true
+    reads (string text) is spells = spells
+    reads value is spells = absurd (false≢true is)
+
+    has : (found : Option Data) → ((value : Data) → found ≡ Some value → is_some (as_str value) ≡ true) → ((value : Data) → found ≡ Some value → spells_key value ≡ true)
+        → HasKey found (or_else (option_and_then key_in found) None)
+    has None texts spell = refl
+    has (Some value) texts spell = key_of_text value (texts value refl) (spell value refl)
+
+bad_keys : (value : Option Data) → (keyid : List ℕ) × IsBadKeyText (get_member keyid (members_in value)) → HasBadKeyText rule.Keys value
+bad_keys (Some (table pairs)) bad = bad
+bad_keys value bad = absurd bad.1
+
+-- ---- covered lists
+
+covered_by : (text : List ℕ) (list : InnerList) (ids : List ComponentId) (params : List (Pair BareItem)) → ReadsInner text list
+    → IsParamsOf list (record { ids = ids; params = params }) → ((ids : List ComponentId) × IsCovered text ids) ⊎ ((ids : List ComponentId) → ¬ IsCovered text ids)
+covered_by text list ids [] reads is = inl (ids, record { reads = rw is.1 reads; components = is.0 })
+covered_by text list ids (p ∷ params) reads is = inr (λ others covered.
+    let same : list_of (params_of others) ≡ list = inner_has_one_value text _ _ covered.reads reads in
+    let none : [] ≡ p ∷ params = ap (λ (l : InnerList). l.params) (same ∙ sym is.1) in
+    absurd cc)
+
+covered_or_not : (text : List ℕ) → ((ids : List ComponentId) × IsCovered text ids) ⊎ ((ids : List ComponentId) → ¬ IsCovered text ids)
+covered_or_not text = elim (inner_is_decided text) [
+  | inr none ↦ inr (λ ids covered. none (list_of (params_of ids)) covered.reads)
+  | inl list ↦ elim (list_answers.has_answer list.0) [
+    | inl params ↦ covered_by text list.0 params.0.ids params.0.params list.1 params.1
+    | inr fault ↦ inr (λ ids covered. list_faults.not_both list.0 (params_of ids) fault.0 (covered.components, inner_has_one_value text _ _ covered.reads list.1) fault.1)
+  ]
+]
+
+list_or_bad : (value : Option Data) → (IsTrue (fails (has_type rule.Components) value) → ⊥) → ((ids : List ComponentId) × AreComponents value ids) ⊎ IsBadList rule.Components value
+list_or_bad None typed = inl ([], refl)
+list_or_bad (Some (string text)) typed = elim (covered_or_not text) [
+  | inl covered ↦ inl covered
+  | inr none ↦ inr none
+]
+list_or_bad (Some value) typed = absurd (typed refl)
+
+not_bad : (value : Option Data) (ids : List ComponentId) → AreComponents value ids → IsBadList rule.Components value → ⊥
+not_bad (Some (string text)) ids are bad = bad ids are
+not_bad value ids are bad = bad
+
+-- ---- the table `sign`
+
+label_text : (value : Option Data) → is_some value ≡ true → (IsTrue (fails (has_type rule.Label) value) → ⊥) → (text : List ℕ) × (value ≡ Some (string text))
+label_text None there typed = absurd (false≢true there)
+label_text (Some (string text)) there typed = (text, refl)
+label_text (Some value) there typed = absurd (typed refl)
+
+keyid_text : (value : Option Data) → is_some value ≡ true → (IsTrue (fails (has_type rule.Keyid) value) → ⊥) → (text : List ℕ) × (value ≡ Some (string text))
+keyid_text None there typed = absurd (false≢true there)
+keyid_text (Some (string text)) there typed = (text, refl)
+keyid_text (Some value) there typed = absurd (typed refl)
+
+has_table : (value : Option Data) (pairs : Members) (sign : SignConf) → value ≡ Some (table pairs) → IsSignConf pairs sign → HasSign value (Some sign)
+has_table value pairs sign is says = rw is says
+
+has_sign : (document : Members) → IsJudged document → HoldsOfNone (λ row. IsTrue (is_missing document row)) rows
+    → (request response : List ComponentId) → AreComponents (sign_value document (codes "components-request")) request → AreComponents (sign_value document (codes "components-response")) response
+    → (sign : Option SignConf) × HasSign (get_member (codes "sign") document) sign
+has_sign document judged complete request response first second = elim (table_or_none (get_member (codes "sign") document) (sign_typed document judged)) [
+  | inl none ↦ (None, rw none refl)
+  | inr is ↦
+      let has : has_place document Sign ≡ true = rw is.1 refl in
+      let label = label_text (sign_value document (codes "label")) (label_there document complete has) (label_typed document judged) in
+      let keyid = keyid_text (sign_value document (codes "keyid")) (keyid_there document complete has) (keyid_typed document judged) in
+      let sign : SignConf = record {
+        label = label.0;
+        keyid = keyid.0;
+        components_request = request;
+        components_response = response;
+        expires_after = seconds_of (get_member (codes "expires-after") is.0);
+        alg = unwrap_or (option_and_then as_bool (get_member (codes "alg") is.0)) false;
+        tag = option_and_then as_str (get_member (codes "tag") is.0);
+        digest = digest_of (get_member (codes "digest") is.0);
+      } in
+      let says : IsSignConf is.0 sign = record {
+        label = ap (λ (v : Option Data). get_member (codes "label") (members_in v)) (sym is.1) ∙ label.1;
+        keyid = ap (λ (v : Option Data). get_member (codes "keyid") (members_in v)) (sym is.1) ∙ keyid.1;
+        components_request = rw is.1 at first;
+        components_response = rw is.1 at second;
+        expires_after = refl;
+        alg = refl;
+        tag = refl;
+        digest = refl;
+      } in
+      (Some sign, has_table (get_member (codes "sign") document) is.0 sign is.1 says)
+]
+
+-- ---- the types
+
+all_types : (document : Members) → IsJudged document → AreTypes (types_of_document document) (all_of kind_told standard_types (types_of_document document))
+all_types document judged = λ name.
+    let pairs = types_of_document document in
+    let texts = are_texts (get_member (codes "types") document) (types_typed document judged) in
+    let types = are_types document (get_member (codes "types") document) (types_allowed document judged) in
+    let read : AllRead kind_told (get_member name pairs) = λ value is.
+    kind_read name value (entry_passes (λ e. is_some (as_str e.1)) pairs name value texts is) (entry_passes (λ e. is_type e.0 e.1) pairs name value types is) in
+    get_all kind_told standard_types pairs name read
+    ∙ kind_at pairs name (kind_in standard_types name) (get_member name pairs) refl types
+
+-- ---- the answer
+
+complete_answer : (text : List ℕ) (document : Members) → IsDocument text document → IsJudged document
+    → ((keyid : List ℕ) (value : Data) → get_member keyid (keys_of_document document) ≡ Some value → spells_key value ≡ true) → IsClearBelow 7 document
+    → (request response : List ComponentId) → AreComponents (sign_value document (codes "components-request")) request → AreComponents (sign_value document (codes "components-response")) response → Answer text
+complete_answer text document is judged spell below request response first second =
+    let lists = lists_fine_by document (not_bad (sign_value document (codes "components-request")) request first) (not_bad (sign_value document (codes "components-response")) response second) in
+    elim (first_or_none (λ (row : Row). row.path) (is_missing document) rows rows_ascend) [
+      | inr at ↦ refused text document (fault.Missing at.0) is (λ e. absurd cc) (first_is 9 document (fault.Missing at.0) (below_missing document below lists) (refl, at.1))
+      | inl complete ↦
+          let sign = has_sign document judged complete request response first second in
+          inl (
+            record {
+              scheme = scheme_of (get_member (codes "scheme") document);
+              keys = all_of key_in map.empty (keys_of_document document);
+              types = all_of kind_told standard_types (types_of_document document);
+              sign = sign.0;
+            },
+            (
+              document,
+              is,
+              record {
+                known = judged.known;
+                typed = judged.typed;
+                allowed = judged.allowed;
+                complete = complete;
+                scheme = refl;
+                keys = all_keys document judged spell;
+                types = all_types document judged;
+                sign = sign.1;
+              },
+            ),
+          )
+    ]
+
+lists_answer : (text : List ℕ) (document : Members) → IsDocument text document → IsJudged document
+    → ((keyid : List ℕ) (value : Data) → get_member keyid (keys_of_document document) ≡ Some value → spells_key value ≡ true) → IsClearBelow 7 document → Answer text
+lists_answer text document is judged spell below = elim (list_or_bad (sign_value document (codes "components-request")) (request_typed document judged)) [
+  | inr bad ↦ refused text document (fault.BadComponents (codes "sign.components-request")) is (λ e. absurd cc) (first_is 7 document (fault.BadComponents (codes "sign.components-request")) below (refl, request_least document bad))
+  | inl request ↦ elim (list_or_bad (sign_value document (codes "components-response")) (response_typed document judged)) [
+    | inr bad ↦ refused text document (fault.BadComponents (codes "sign.components-response")) is (λ e. absurd cc)
+        (first_is 7 document (fault.BadComponents (codes "sign.components-response")) below (refl, response_least_by document (not_bad (sign_value document (codes "components-request")) request.0 request.1) bad))
+    | inl response ↦ complete_answer text document is judged spell below request.0 response.0 request.1 response.1
+  ]
+]
+
+none_bad : (value : Option Data) → ((keyid : List ℕ) (found : Data) → get_member keyid (members_in value) ≡ Some found → spells_key found ≡ true) → HasBadKeyText rule.Keys value → ⊥
+none_bad (Some (table pairs)) spell (keyid, bad) = at (get_member keyid pairs) (spell keyid) bad where
+  at : (found : Option Data) → ((value : Data) → found ≡ Some value → spells_key value ≡ true) → IsBadKeyText found → ⊥
+  at None spell bad = bad
+  at (Some value) spell bad = spelled value (spell value refl) bad
+none_bad value spell bad = bad
+
+keys_answer : (text : List ℕ) (document : Members) → IsDocument text document → IsJudged document → Answer text
+keys_answer text document is judged = elim (bad_or_keys (keys_of_document document)) [
+  | inl bad ↦ refused text document (fault.BadKeyText (codes "keys")) is (λ e. absurd cc)
+      (first_is 6 document (fault.BadKeyText (codes "keys")) (below_keys document judged) (refl, keys_least document (bad_keys (get_member (codes "keys") document) bad)))
+  | inr spell ↦ lists_answer text document is judged spell
+      (clear_more 6 document (below_keys document judged) (keys_clear document (texts_fine document (none_bad (get_member (codes "keys") document) spell))))
+]
+
+document_answer : (text : List ℕ) (document : Members) → IsDocument text document → Answer text
+document_answer text document is = elim (first_or_none place_path (has_unknown document) places places_ascend) [
+  | inr at ↦ refused text document (fault.UnknownKey at.0) is (λ e. absurd cc) (first_is 3 document (fault.UnknownKey at.0) (clear_first document) (refl, at.1))
+  | inl known ↦ elim (first_or_none (λ (row : Row). row.path) (is_ill_typed document) rows rows_ascend) [
+    | inr at ↦ refused text document (fault.WrongType at.0) is (λ e. absurd cc) (first_is 4 document (fault.WrongType at.0) (below_typed document known) (refl, at.1))
+    | inl typed ↦ elim (first_or_none (λ (row : Row). row.path) (is_out_of_range document) rows rows_ascend) [
+      | inr at ↦ refused text document (fault.OutOfRange at.0) is (λ e. absurd cc) (first_is 5 document (fault.OutOfRange at.0) (below_allowed document known typed) (refl, at.1))
+      | inl allowed ↦ keys_answer text document is (record { known = known; typed = typed; allowed = allowed })
+    ]
+  ]
+]
+
+pub has_answer : (text : List ℕ) → Answer text
+has_answer text = elim (cases_Bool (is_utf8 text)) [
+  | inr isnt ↦ inr (fault.NotToml, not_toml text (λ document is. false≢true (sym isnt ∙ is_utf8-from_IsUtf8 text is.0)))
+  | inl utf8 ↦ elim (parse_document text) as (λ o. parse_document text ≡ o → Answer text) [
+    | None ↦ λ e. inr (fault.NotToml, not_toml text (λ document is. let none = rw e at is.1 in absurd cc))
+    | Some document ↦ λ e. document_answer text document (IsUtf8-from_is_utf8 text utf8, e)
+  ] refl
+]

@@ -1,0 +1,100 @@
+-- A text is one configuration.
+use Rattle.std.proofs.Common.{◌≡◌, ℕ, Option, Some, None, List, [], codes, refl, sym, ap, ◌∙◌}
+use Rattle.std.specs.Prelude.{IsSomeAnd}
+use Rattle.std.specs.FinMap as map
+use Rattle.std.proofs.lemmas.Cmp.{nat_list_cmp_total}
+use Rattle.sfv_read.proofs.Readings.{inner_has_one_value}
+use Rattle.component_ids.specs.Types.{KindMap, kind_in}
+use Rattle.component_ids.specs.SignatureParams.{IsParamsOf, list_of}
+use Rattle.component_ids.specs.declared.id.ComponentId.{ComponentId}
+use Rattle.component_ids.specs.declared.params.SigParams.{SigParams}
+use Rattle.component_ids.proofs.FaultLaws.{one_value}
+use Rattle.toml.specs.Data.{Data, Members, string, table, get_member}
+use Rattle.conf.specs.declared.sign_conf.SignConf.{SignConf}
+use Rattle.conf.specs.Keys.{KeyMap}
+use Rattle.conf.specs.Meaning.{AreComponents, AreKeys, AreTypes, Configuration, Configures, HasKey, HasSign, IsConfiguration, IsSignConf}
+use Rattle.conf.specs.Table.{members_in}
+use Rattle.conf.specs.Values.{IsCovered, IsKeyText, params_of}
+use Rattle.conf.proofs.CauseLaws.{one_document}
+use Rattle.conf.proofs.KeyLaws.{key_is}
+
+-- ---- keys
+
+one_key : (text key other : List ℕ) → IsKeyText text key → IsKeyText text other → key ≡ other
+one_key text key other first second = inside key other (key_is text key first ∙ sym (key_is text other second)) where
+  inside : (a b : List ℕ) → Some a ≡ Some b → a ≡ b
+  inside a b same = cc
+
+has_one_key : (value : Option Data) (key other : Option (List ℕ)) → HasKey value key → HasKey value other → key ≡ other
+has_one_key None key other first second = first ∙ sym second
+has_one_key (Some (string text)) (Some key) (Some other) first second = ap (λ (k : List ℕ). Some k) (one_key text key other first second)
+has_one_key (Some (string text)) None other first second = absurd first
+has_one_key (Some (string text)) (Some key) None first second = absurd second
+has_one_key (Some value) key other first second = absurd first
+
+keys_are : (pairs : Members) (keys other : KeyMap) → AreKeys pairs keys → AreKeys pairs other → keys ≡ other
+keys_are pairs keys other first second =
+    map.same_map nat_list_cmp_total (map.slice_cmp-IsAntisymmetric map.nat_cmp-IsAntisymmetric) keys other (λ keyid.
+    has_one_key (get_member keyid pairs) (map.get keys keyid) (map.get other keyid) (first keyid) (second keyid))
+
+types_are : (pairs : Members) (types other : KindMap) → AreTypes pairs types → AreTypes pairs other → types ≡ other
+types_are pairs types other first second =
+    map.same_map nat_list_cmp_total (map.slice_cmp-IsAntisymmetric map.nat_cmp-IsAntisymmetric) types other (λ name. first name ∙ sym (second name))
+
+-- ---- the table `sign`
+
+one_list : (text : List ℕ) (ids other : List ComponentId) → IsCovered text ids → IsCovered text other → ids ≡ other
+one_list text ids other first second =
+    let same = inner_has_one_value text (list_of (params_of ids)) (list_of (params_of other)) first.reads second.reads in
+    let is : params_of ids ≡ params_of other = one_value (list_of (params_of other)) (params_of ids) (params_of other) (first.components, same) (second.components, refl) in
+    ap (λ (params : SigParams). params.ids) is
+
+components_are : (value : Option Data) (ids other : List ComponentId) → AreComponents value ids → AreComponents value other → ids ≡ other
+components_are None ids other first second = first ∙ sym second
+components_are (Some (string text)) ids other first second = one_list text ids other first second
+components_are (Some value) ids other first second = absurd first
+
+string_is : (a b : List ℕ) → Some (string a) ≡ Some (string b) → a ≡ b
+string_is a b same = cc
+
+one_sign : (pairs : Members) (sign other : SignConf) → IsSignConf pairs sign → IsSignConf pairs other → sign ≡ other
+one_sign pairs sign other a b =
+    let label : sign.label ≡ other.label = string_is sign.label other.label (sym a.label ∙ b.label) in
+    let keyid : sign.keyid ≡ other.keyid = string_is sign.keyid other.keyid (sym a.keyid ∙ b.keyid) in
+    let request : sign.components_request ≡ other.components_request = components_are _ sign.components_request other.components_request a.components_request b.components_request in
+    let response : sign.components_response ≡ other.components_response = components_are _ sign.components_response other.components_response a.components_response b.components_response in
+    let expires : sign.expires_after ≡ other.expires_after = a.expires_after ∙ sym b.expires_after in
+    let alg : sign.alg ≡ other.alg = a.alg ∙ sym b.alg in
+    let tag : sign.tag ≡ other.tag = a.tag ∙ sym b.tag in
+    let digest : sign.digest ≡ other.digest = a.digest ∙ sym b.digest in
+    λ i. record {
+      label = label i;
+      keyid = keyid i;
+      components_request = request i;
+      components_response = response i;
+      expires_after = expires i;
+      alg = alg i;
+      tag = tag i;
+      digest = digest i;
+    }
+
+signs_are : (value : Option Data) (sign other : Option SignConf) → HasSign value sign → HasSign value other → sign ≡ other
+signs_are None sign other first second = first ∙ sym second
+signs_are (Some (table pairs)) (Some sign) (Some other) first second = ap (λ (s : SignConf). Some s) (one_sign pairs sign other first second)
+signs_are (Some (table pairs)) None other first second = absurd first
+signs_are (Some (table pairs)) (Some sign) None first second = absurd second
+signs_are (Some value) sign other first second = absurd first
+
+-- ---- the configuration
+
+one_configuration : (document : Members) (conf other : Configuration) → IsConfiguration document conf → IsConfiguration document other → conf ≡ other
+one_configuration document conf other a b =
+    let scheme : conf.scheme ≡ other.scheme = a.scheme ∙ sym b.scheme in
+    let keys : conf.keys ≡ other.keys = keys_are (members_in (get_member (codes "keys") document)) conf.keys other.keys a.keys b.keys in
+    let types : conf.types ≡ other.types = types_are (members_in (get_member (codes "types") document)) conf.types other.types a.types b.types in
+    let sign : conf.sign ≡ other.sign = signs_are (get_member (codes "sign") document) conf.sign other.sign a.sign b.sign in
+    λ i. record { scheme = scheme i; keys = keys i; types = types i; sign = sign i }
+
+pub one_meaning : (text : List ℕ) (conf other : Configuration) → Configures text conf → Configures text other → conf ≡ other
+one_meaning text conf other (document, is, says) (also, is_also, says_also) =
+    one_configuration document conf other says (rw (one_document text document also is is_also) says_also)

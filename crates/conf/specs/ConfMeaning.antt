@@ -1,0 +1,7 @@
+-- The configuration that a value of the code is.
+use Rattle.conf.specs.declared.conf.Conf.{Conf}
+use Rattle.conf.specs.Meaning.{Configuration}
+
+abbrev pub meaning : Conf → Configuration
+meaning conf =
+    record { scheme = conf.scheme; keys = conf.keys; types = conf.types; sign = conf.sign }

@@ -1,0 +1,30 @@
+-- Laws of texts that are read as configurations.
+use Rattle.std.specs.Prelude.{◌≡◌, ◌⊎◌, ℕ, List}
+use Rattle.conf.specs.declared.fault.ConfFault.{ConfFault}
+use Rattle.conf.specs.Meaning.{Configuration, Configures}
+use Rattle.conf.specs.Refusals.{IsConfFault}
+
+-- a text is a configuration, or has a fault
+abbrev pub HasAnswer : Type 0
+HasAnswer =
+    (text : List ℕ)
+    → ((conf : Configuration) × Configures text conf)
+    ⊎ ((fault : ConfFault) × IsConfFault text fault)
+
+-- it is one configuration
+abbrev pub HasOneMeaning : Type 0
+HasOneMeaning =
+    (text : List ℕ) (conf other : Configuration)
+    → Configures text conf → Configures text other → conf ≡ other
+
+-- it has one fault
+abbrev pub HasOneFault : Type 0
+HasOneFault =
+    (text : List ℕ) (fault other : ConfFault)
+    → IsConfFault text fault → IsConfFault text other → fault ≡ other
+
+-- it isn't both
+abbrev pub HasNotBoth : Type 0
+HasNotBoth =
+    (text : List ℕ) (conf : Configuration) (fault : ConfFault)
+    → Configures text conf → ¬ IsConfFault text fault

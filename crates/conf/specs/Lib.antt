@@ -1,0 +1,13 @@
+pub mod Table
+pub mod Values
+pub mod Rows
+pub mod Keys
+pub mod Paths
+pub mod Meaning
+pub mod Refusals
+pub mod Valid
+pub mod ConfMeaning
+pub mod Laws
+pub mod tools
+pub use Rattle.toml.specs.Parse
+pub use Rattle.toml.specs.Data

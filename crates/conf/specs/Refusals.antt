@@ -1,0 +1,90 @@
+-- When a text is no configuration, and for what fault.
+use Rattle.std.specs.Prelude.{◌≡◌, ℕ, Option, Some, None, IsTrue, List, codes}
+use Rattle.byte_grammar.specs.Causes.{IsFirst}
+use Rattle.component_ids.specs.declared.id.ComponentId.{ComponentId}
+use Rattle.toml.specs.Data.{Data, Members, string, table, get_member}
+use Rattle.conf.specs.declared.fault.ConfFault.{ConfFault}
+use Rattle.conf.specs.declared.fault.ConfFault.TheVariants.{Memory, NotToml, UnknownKey, WrongType, OutOfRange, BadKeyText, BadComponents, Missing}
+use Rattle.conf.specs.declared.table.Rule.{Rule}
+use Rattle.conf.specs.declared.table.Rule.TheVariants.{Keys, Components}
+use Rattle.conf.specs.Table.{Row, rows, places, place_path, value_of, has_unknown, is_missing}
+use Rattle.conf.specs.Values.{IsKeyText, IsCovered}
+use Rattle.conf.specs.Paths.{HoldsAtPath, IsLeast}
+use Rattle.conf.specs.Rows.{is_ill_typed, is_out_of_range}
+use Rattle.conf.specs.Meaning.{IsDocument}
+
+-- the path is the least of a key of which the fact holds
+abbrev pub IsLeastRow : (Row → Type 0) → List ℕ → Type 0
+IsLeastRow P path = IsLeast (HoldsAtPath (λ row. row.path) P rows) path
+
+-- a text that is no key's
+abbrev pub IsBadKeyText : Option Data → Type 0
+IsBadKeyText (Some (string text)) = (key : List ℕ) → ¬ IsKeyText text key
+IsBadKeyText value = ⊥
+
+-- some keyid has a text that is no key's
+abbrev pub HasBadKeyText : Rule → Option Data → Type 0
+HasBadKeyText Keys (Some (table pairs)) =
+    (keyid : List ℕ) × IsBadKeyText (get_member keyid pairs)
+HasBadKeyText rule value = ⊥
+
+-- a covered list that is none
+abbrev pub IsBadList : Rule → Option Data → Type 0
+IsBadList Components (Some (string text)) = (ids : List ComponentId) → ¬ IsCovered text ids
+IsBadList rule value = ⊥
+
+-- the fact for which the fault is answered, of a document
+abbrev pub IsCauseIn : Members → ConfFault → Type 0
+IsCauseIn document (UnknownKey path) =
+    IsLeast (HoldsAtPath place_path (λ place. IsTrue (has_unknown document place)) places) path
+IsCauseIn document (WrongType path) = IsLeastRow (λ row. IsTrue (is_ill_typed document row)) path
+IsCauseIn document (OutOfRange path) =
+    IsLeastRow (λ row. IsTrue (is_out_of_range document row)) path
+IsCauseIn document (BadKeyText path) =
+    IsLeastRow (λ row. HasBadKeyText row.rule (value_of document row)) path
+IsCauseIn document (BadComponents path) =
+    IsLeastRow (λ row. IsBadList row.rule (value_of document row)) path
+IsCauseIn document (Missing path) = IsLeastRow (λ row. IsTrue (is_missing document row)) path
+IsCauseIn document fault = ⊥
+
+-- of a text: it is no document, or the fact holds of its document; being out of memory is none
+abbrev pub IsCause : List ℕ → ConfFault → Type 0
+IsCause text NotToml = (document : Members) → ¬ IsDocument text document
+IsCause text fault = (document : Members) × IsDocument text document × IsCauseIn document fault
+
+-- the numbers of the faults, in whose order they are judged
+abbrev pub fault_number : ConfFault → ℕ
+fault_number Memory = 1
+fault_number NotToml = 2
+fault_number (UnknownKey path) = 3
+fault_number (WrongType path) = 4
+fault_number (OutOfRange path) = 5
+fault_number (BadKeyText path) = 6
+fault_number (BadComponents path) = 7
+fault_number (Missing path) = 9
+
+-- the fault's cause is the first that holds
+abbrev pub IsConfFault : List ℕ → ConfFault → Type 0
+IsConfFault text fault = IsFirst fault_number (IsCause text) fault
+
+-- where a fault is
+abbrev pub fault_path : ConfFault → Option (List ℕ)
+fault_path Memory = None
+fault_path NotToml = None
+fault_path (UnknownKey path) = Some path
+fault_path (WrongType path) = Some path
+fault_path (OutOfRange path) = Some path
+fault_path (BadKeyText path) = Some path
+fault_path (BadComponents path) = Some path
+fault_path (Missing path) = Some path
+
+-- what a fault says
+abbrev pub conf_fault_text : ConfFault → List ℕ
+conf_fault_text Memory = codes "out of memory"
+conf_fault_text NotToml = codes "the configuration is no TOML document"
+conf_fault_text (UnknownKey path) = codes "the configuration has an unknown key"
+conf_fault_text (WrongType path) = codes "a value of the configuration has a wrong type"
+conf_fault_text (OutOfRange path) = codes "a value of the configuration isn't allowed"
+conf_fault_text (BadKeyText path) = codes "a key isn't in base64, or too short or too long"
+conf_fault_text (BadComponents path) = codes "a text is no list of covered components"
+conf_fault_text (Missing path) = codes "the configuration lacks a key"

@@ -1,0 +1,169 @@
+//! The faults of a document's keys and values, in the order in which they are judged.
+
+ghost use Rattle.std.specs.Prelude.{◌≡◌, not, IfErr, IsTrue, MatchOption, OnOk, map, option_copied};
+ghost use Rattle.std.specs.List.{list_any};
+ghost use Rattle.toml.specs.View.{table_view, view};
+ghost use Rattle.conf.specs.Paths.{HoldsAtPath, HoldsOfNone, IsLeast};
+ghost use Rattle.conf.specs.Refusals.{IsLeastRow};
+ghost use Rattle.conf.specs.Table.{entries_of, has_place, has_unknown, is_known, is_missing, place_path, places, rows};
+ghost use Rattle.conf.specs.Rows.{is_ill_typed, is_out_of_range};
+ghost use Rattle.conf.specs.tools.Judged.{fault_of, first_path, first_place, is_refused, refusal_number, IsJudged, IsFirstIn, IsCauseNumbered};
+ghost use Rattle.conf.specs.tools.TableRows.{row_of};
+
+use crate::allowed::{has_type, is_allowed};
+use crate::document::{table_at, table_in, value_at};
+use crate::fault::ConfFault;
+use crate::table::{PLACES, Place, ROWS, Row, is_known};
+use sfv_text::Text;
+use std::alloc::Global;
+use toml::Table;
+
+// ---- keys that are unknown
+
+fn has_unknown_in(table: &Table, place: Place) -> bool
+    ensures { result
+        ≡ list_any (λ entry. not (is_known place entry.0)) (entries_of (table_view table.now)) }
+{
+    for (name, _) in table.iter() {
+        if !is_known(place, name.as_str()) {
+            return true;
+        }
+    }
+    false
+}
+
+fn has_unknown(document: &Table, place: Place) -> bool
+    ensures { result ≡ has_unknown (table_view document.now) place }
+{
+    match table_at(document, place) {
+        None => false,
+        Some(table) => has_unknown_in(table, place),
+    }
+}
+
+/// The path of the first of the places that has an unknown key.
+fn first_unknown(document: &Table, places: &[Place]) -> Option<&'static str>
+    ensures { option_copied result
+        ≡ first_place (has_unknown (table_view document.now)) places.now }
+{
+    for place in places {
+        if has_unknown(document, *place) {
+            return Some(place.path());
+        }
+    }
+    None
+}
+
+fn judge_keys(alloc: Global, document: &Table) -> Result<(), ConfFault>
+    ensures ok { OnOk result
+        (HoldsOfNone (λ place. IsTrue (has_unknown (table_view document.now) place)) places) }
+    ensures err { IfErr result (IsCauseNumbered 3 (table_view document.now)) }
+{
+    match first_unknown(document, &PLACES) {
+        None => Ok(()),
+        Some(path) => Err(ConfFault::UnknownKey(Text::from_bytes(alloc, path.as_bytes())?)),
+    }
+}
+
+// ---- values that are refused, and keys that are missing
+
+/// What is judged of each key.
+#[derive(Clone, Copy)]
+pub(crate) enum Refusal {
+    WrongType,
+    OutOfRange,
+    Missing,
+}
+
+impl Refusal {
+    fn fault(self, path: Text) -> ConfFault
+        ensures { result ≡ fault_of self path }
+    {
+        match self {
+            Refusal::WrongType => ConfFault::WrongType(path),
+            Refusal::OutOfRange => ConfFault::OutOfRange(path),
+            Refusal::Missing => ConfFault::Missing(path),
+        }
+    }
+}
+
+fn is_ill_typed(document: &Table, row: &Row) -> bool
+    ensures { result ≡ is_ill_typed (table_view document.now) (row_of row.now) }
+{
+    match value_at(document, row.place, row.key) {
+        None => false,
+        Some(value) => !has_type(row.rule, value),
+    }
+}
+
+fn is_out_of_range(document: &Table, row: &Row) -> bool
+    ensures { result ≡ is_out_of_range (table_view document.now) (row_of row.now) }
+{
+    match value_at(document, row.place, row.key) {
+        None => false,
+        Some(value) => !is_allowed(document, row.rule, value),
+    }
+}
+
+fn has_place(document: &Table, place: Place) -> bool
+    ensures { result ≡ has_place (table_view document.now) place }
+{
+    match place {
+        Place::Top => true,
+        Place::Sign => table_in(document, "sign").is_some(),
+    }
+}
+
+fn is_missing(document: &Table, row: &Row) -> bool
+    ensures { result ≡ is_missing (table_view document.now) (row_of row.now) }
+{
+    row.required
+        && has_place(document, row.place)
+        && value_at(document, row.place, row.key).is_none()
+}
+
+fn is_refused(refusal: Refusal, document: &Table, row: &Row) -> bool
+    ensures { result ≡ is_refused refusal (table_view document.now) (row_of row.now) }
+{
+    match refusal {
+        Refusal::WrongType => is_ill_typed(document, row),
+        Refusal::OutOfRange => is_out_of_range(document, row),
+        Refusal::Missing => is_missing(document, row),
+    }
+}
+
+/// The path of the first of the rows that is refused.
+fn first_refused(refusal: Refusal, document: &Table, rows: &[Row]) -> Option<&'static str>
+    ensures { option_copied result
+        ≡ first_path (is_refused refusal (table_view document.now)) (map row_of rows.now) }
+{
+    for row in rows {
+        if is_refused(refusal, document, row) {
+            return Some(row.path);
+        }
+    }
+    None
+}
+
+/// Judges each key for the same fault.
+pub(crate) fn judge_rows(alloc: Global, refusal: Refusal, document: &Table) -> Result<(), ConfFault>
+    ensures ok { OnOk result
+        (HoldsOfNone (λ row. IsTrue (is_refused refusal (table_view document.now) row)) rows) }
+    ensures err { IfErr result
+        (IsCauseNumbered (refusal_number refusal) (table_view document.now)) }
+{
+    match first_refused(refusal, document, &ROWS) {
+        None => Ok(()),
+        Some(path) => Err(refusal.fault(Text::from_bytes(alloc, path.as_bytes())?)),
+    }
+}
+
+/// Judges the keys that are there, and their values.
+pub(crate) fn judge_document(alloc: Global, document: &Table) -> Result<(), ConfFault>
+    ensures ok { OnOk result (IsJudged (table_view document.now)) }
+    ensures err { IfErr result (IsFirstIn (table_view document.now)) }
+{
+    judge_keys(alloc, document)?;
+    judge_rows(alloc, Refusal::WrongType, document)?;
+    judge_rows(alloc, Refusal::OutOfRange, document)
+}

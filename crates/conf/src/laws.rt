@@ -1,0 +1,12 @@
+//! The law of texts that are read as configurations. The function does nothing; its contract is the
+//! law.
+
+ghost use Rattle.conf.specs.Laws.{HasAnswer, HasOneMeaning, HasOneFault, HasNotBoth};
+
+/// A text is one configuration, or has one fault, and not both.
+pub fn a_text_has_one_answer()
+    ensures answer { HasAnswer }
+    ensures meaning { HasOneMeaning }
+    ensures fault { HasOneFault }
+    ensures either { HasNotBoth }
+{}

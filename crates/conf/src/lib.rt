@@ -1,0 +1,38 @@
+//! Configurations of HTTP Message Signatures (RFC 9421): what no message tells, and has to be known
+//! to verify a signature or to make one. A configuration is a TOML document.
+//!
+//! ```text
+//! let conf = read_conf(alloc, b"[keys]\n\"k\" = \"AAAA\"")?;
+//! conf.key(b"k")           // Some(b"\0\0\0")
+//! conf.scheme()            // Scheme::Https
+//! read_conf(alloc, b"a=1") // Err(ConfFault::UnknownKey), whose path is `top`
+//! ```
+#![tactic(auto)]
+
+mod allowed;
+mod calls;
+mod conf;
+mod document;
+mod fault;
+mod judge;
+mod key_texts;
+mod keys;
+mod kinds;
+mod laws;
+mod limits;
+mod read;
+mod sign;
+mod sign_conf;
+mod table;
+mod values;
+
+pub use allowed::is_keyid;
+pub use conf::Conf;
+pub use fault::ConfFault;
+pub use laws::a_text_has_one_answer;
+pub use limits::{MAX_EXPIRES_AFTER, MAX_KEY_BYTES, MAX_KEYID_BYTES};
+pub use read::{empty_conf, read_conf};
+pub use sign_conf::{SignConf, SignDigest};
+
+#[cfg(test)]
+mod tests;

@@ -1,0 +1,70 @@
+//! Reads a configuration.
+
+ghost use Rattle.std.specs.Prelude.{◌≡◌, [], IfOk, IfErr, MatchResult};
+ghost use Rattle.byte_grammar.specs.Causes.{AnswersWhere};
+ghost use Rattle.conf.specs.declared.fault.ConfFault.{ConfFault};
+ghost use Rattle.conf.specs.Meaning.{Configuration, Configures, IsConfiguration};
+ghost use Rattle.conf.specs.Refusals.{IsConfFault};
+ghost use Rattle.toml.specs.View.{table_view};
+ghost use Rattle.conf.specs.tools.Judged.{IsFirstIn};
+ghost use Rattle.conf.specs.ConfMeaning.{meaning};
+
+use crate::conf::Conf;
+use crate::document::read_document;
+use crate::fault::ConfFault;
+use crate::judge::judge_document;
+use crate::key_texts::read_keys;
+use crate::keys::Keys;
+use crate::kinds::read_types;
+use crate::sign::read_sign;
+use crate::values::scheme_in;
+use component_ids::{Scheme, Types};
+use sfv_text::Memory;
+use std::alloc::Global;
+use toml::Table;
+
+/// The configuration that the document is.
+fn conf_of(alloc: Global, document: &Table) -> Result<Conf, ConfFault>
+    ensures ok { IfOk result (λ conf. IsConfiguration (table_view document.now) (meaning conf)) }
+    ensures err { IfErr result (IsFirstIn (table_view document.now)) }
+{
+    judge_document(alloc, document)?;
+    let keys = read_keys(alloc, document)?;
+    let sign = read_sign(alloc, document)?;
+    let types = read_types(alloc, document)?;
+    Ok(Conf {
+        scheme: scheme_in(document),
+        keys,
+        types,
+        sign,
+    })
+}
+
+/// Reads the text of a configuration.
+///
+/// Of several faults the one with the least number is answered, and of those of that number the one
+/// with the least path in the order of bytes.
+pub fn read_conf(alloc: Global, text: &[u8]) -> Result<Conf, ConfFault>
+    ensures ok { IfOk result (λ conf. Configures text.now (meaning conf)) }
+    ensures only { (conf : Configuration) → Configures text.now conf
+        → MatchResult result (λ given. meaning given ≡ conf) (λ fault. fault ≡ ConfFault.Memory) }
+
+    // The first fault whose cause holds is answered, and no other.
+    ensures fault { (fault : ConfFault) → ¬ (fault ≡ ConfFault.Memory)
+        → AnswersWhere ConfFault.Memory result fault (IsConfFault text.now fault) }
+{
+    let document = read_document(alloc, text)?;
+    conf_of(alloc, &document)
+}
+
+/// The configuration of the empty text.
+pub fn empty_conf(alloc: Global) -> Result<Conf, Memory>
+    ensures { IfOk result (λ conf. Configures [] (meaning conf)) }
+{
+    Ok(Conf {
+        scheme: Scheme::Https,
+        keys: Keys::new(alloc),
+        types: Types::standard(alloc)?,
+        sign: None,
+    })
+}

@@ -1,0 +1,420 @@
+use super::*;
+use component_ids::{FieldKind, Ids, Scheme};
+use sfv_text::Text;
+use std::alloc::Global;
+use std::process::Abort;
+use std::test::Fail;
+
+// The key of RFC 9421 appendix B.1.5, and its text.
+const SHARED_TEXT: &str =
+    "uzvJfB4u3N0Jy4T7NZ75MDVcr8zSTInedJtkgcu46YW4XByzNJjxBdtjUkdJPBtbmHhIDi6pcl8jsasjlTMtDQ==";
+
+const SHARED_BEGIN: [u8; 4] = [0xBB, 0x3B, 0xC9, 0x7C];
+
+// The number and the path of the fault for which the text is refused; 0 where it isn't.
+fn check_refused(rt: &impl Abort, alloc: Global, text: &[u8], number: u8, path: &[u8]) {
+    match read_conf(alloc, text) {
+        Ok(_) => assert_eq!(rt; 0, number, "{text:?}"),
+        Err(fault) => {
+            assert_eq!(rt; fault.number(), number, "{text:?}");
+            assert_eq!(rt; fault.path().unwrap_or(b""), path, "{text:?}");
+        }
+    }
+}
+
+// Texts that are refused alike.
+#[derive(Clone, Copy)]
+struct Case<'a> {
+    number: u8,
+    path: &'a [u8],
+    texts: &'a [&'a [u8]],
+}
+
+fn check_cases(rt: &impl Abort, alloc: Global, cases: &[Case<'_>]) {
+    for case in cases {
+        for text in case.texts {
+            check_refused(rt, alloc, *text, case.number, case.path);
+        }
+    }
+}
+
+fn read(alloc: Global, text: &[u8]) -> Result<Conf, Fail> {
+    match read_conf(alloc, text) {
+        Ok(conf) => Ok(conf),
+        Err(_) => Err(Fail::from("no configuration")),
+    }
+}
+
+fn sign_of(conf: &Conf) -> Result<&SignConf, Fail> {
+    match conf.sign() {
+        Some(sign) => Ok(sign),
+        None => Err(Fail::from("no table sign")),
+    }
+}
+
+fn check_names(rt: &impl Abort, ids: &Ids, names: &[&[u8]]) {
+    assert_eq!(rt; ids.len(), names.len());
+    for (id, name) in ids.iter().zip(names.iter()) {
+        assert_eq!(rt; id.name.bytes(), *name);
+    }
+}
+
+fn shared_conf(alloc: Global) -> Result<Text, Fail> {
+    let mut text = Text::from_bytes(alloc, b"[keys]\n\"test-shared-secret\" = \"")?;
+    text.append(SHARED_TEXT.as_bytes())?;
+    text.append(
+        b"\"\n[types]\nexample-dict = \"dictionary\"\nx-list = \"list\"\nx-item = \"item\"\n",
+    )?;
+    text.append(b"[sign]\nlabel = \"sig-b25\"\nkeyid = \"test-shared-secret\"\n")?;
+    text.append(b"components-request = '(\"date\" \"@authority\" \"content-type\")'\n")?;
+    Ok(text)
+}
+
+#[test]
+fn a_configuration_says_its_keys_and_types(rt: HostRuntime) -> Result<(), Fail> {
+    let alloc = rt.alloc();
+    let text = shared_conf(alloc)?;
+    let conf = read(alloc, text.bytes())?;
+    assert_eq!(rt; conf.scheme(), Scheme::Https);
+    let key = conf.key(b"test-shared-secret").unwrap_or(b"");
+    assert_eq!(rt; key.len(), 64);
+    assert!(rt; key.starts_with(&SHARED_BEGIN));
+    assert!(rt; conf.key(b"test-shared-secre").is_none());
+    let types = conf.types();
+    assert_eq!(rt; types.kind_of(b"example-dict"), Some(FieldKind::Dictionary));
+    assert_eq!(rt; types.kind_of(b"x-list"), Some(FieldKind::List));
+    assert_eq!(rt; types.kind_of(b"x-item"), Some(FieldKind::Item));
+    assert_eq!(rt; types.kind_of(b"signature"), Some(FieldKind::Dictionary));
+    assert_eq!(rt; types.kind_of(b"date"), None);
+    Ok(())
+}
+
+#[test]
+fn a_configuration_says_how_messages_are_signed(rt: HostRuntime) -> Result<(), Fail> {
+    let alloc = rt.alloc();
+    let text = shared_conf(alloc)?;
+    let conf = read(alloc, text.bytes())?;
+    let sign = sign_of(&conf)?;
+    assert_eq!(rt; sign.label.bytes(), b"sig-b25".as_slice());
+    assert_eq!(rt; sign.keyid.bytes(), b"test-shared-secret".as_slice());
+    check_names(
+        &rt,
+        &sign.components_request,
+        &[b"date", b"@authority", b"content-type"],
+    );
+    check_names(&rt, &sign.components_response, &[]);
+    assert_eq!(rt; sign.expires_after, None);
+    assert!(rt; !sign.alg);
+    assert!(rt; sign.tag.is_none());
+    assert_eq!(rt; sign.digest, SignDigest::No);
+    Ok(())
+}
+
+#[test]
+fn each_key_is_read(rt: HostRuntime) -> Result<(), Fail> {
+    let alloc = rt.alloc();
+    let conf = read(
+        alloc,
+        b"version = 1
+scheme = \"http\"
+keys = { k = \"AAAA\" }
+[sign]
+label = \"a\"
+keyid = \"k\"
+components-request = ' ( ) '
+components-response = '(\"@status\")'
+expires-after = 86400
+alg = true
+tag = \"\"
+digest = \"sha-512\"",
+    )?;
+    assert_eq!(rt; conf.scheme(), Scheme::Http);
+    assert_eq!(rt; conf.key(b"k"), Some([0u8, 0, 0].as_slice()));
+    let sign = sign_of(&conf)?;
+    check_names(&rt, &sign.components_request, &[]);
+    check_names(&rt, &sign.components_response, &[b"@status"]);
+    assert_eq!(rt; sign.expires_after, Some(86_400));
+    assert!(rt; sign.alg);
+    assert!(rt; sign.tag.as_ref().is_some_and(|tag| tag.bytes().is_empty()));
+    assert_eq!(rt; sign.digest, SignDigest::Sha512);
+    Ok(())
+}
+
+// A refusal of each number with each path.
+const REFUSALS: [Case<'static>; 22] = [
+    Case {
+        number: 2,
+        path: b"",
+        texts: &[
+            b"a",
+            b"keys = 1\nkeys = 1",
+            b"\xFF",
+            b"version = 9223372036854775808",
+        ],
+    },
+    Case {
+        number: 3,
+        path: b"top",
+        texts: &[b"a = 1", b"policy = 1", b"[gateway]", b"Keys = 1"],
+    },
+    Case {
+        number: 3,
+        path: b"sign",
+        texts: &[b"sign.a = 1", b"[sign]\nalg.b = 1\nlabels = 1"],
+    },
+    Case {
+        number: 4,
+        path: b"keys",
+        texts: &[
+            b"keys = 1",
+            b"[keys]\na = 1",
+            b"[keys]\na = \"AAAA\"\nb = []",
+        ],
+    },
+    Case {
+        number: 4,
+        path: b"scheme",
+        texts: &[b"scheme = 1"],
+    },
+    Case {
+        number: 4,
+        path: b"sign",
+        texts: &[b"sign = 1", b"[[sign]]"],
+    },
+    Case {
+        number: 4,
+        path: b"sign.alg",
+        texts: &[b"sign.alg = 1"],
+    },
+    Case {
+        number: 4,
+        path: b"sign.components-request",
+        texts: &[b"sign.components-request = []"],
+    },
+    Case {
+        number: 4,
+        path: b"sign.expires-after",
+        texts: &[b"sign.expires-after = 1.0"],
+    },
+    Case {
+        number: 4,
+        path: b"types",
+        texts: &[b"types = \"list\"", b"[types]\na = 1"],
+    },
+    Case {
+        number: 4,
+        path: b"version",
+        texts: &[b"version = 1.0", b"version = \"1\""],
+    },
+    Case {
+        number: 5,
+        path: b"keys",
+        texts: &[
+            b"[keys]\n\"\" = \"AAAA\"",
+            b"[keys]\n\"\\u007F\" = \"AAAA\"",
+            b"[keys]\n\"\xC3\xA9\" = \"AAAA\"",
+        ],
+    },
+    Case {
+        number: 5,
+        path: b"scheme",
+        texts: &[b"scheme = \"ftp\"", b"scheme = \"\"", b"scheme = \"HTTP\""],
+    },
+    Case {
+        number: 5,
+        path: b"sign.digest",
+        texts: &[b"sign.digest = \"sha\""],
+    },
+    Case {
+        number: 5,
+        path: b"sign.expires-after",
+        texts: &[
+            b"sign.expires-after = 0",
+            b"sign.expires-after = -1",
+            b"sign.expires-after = 86401",
+        ],
+    },
+    Case {
+        number: 5,
+        path: b"sign.keyid",
+        texts: &[
+            b"sign.keyid = \"a\"",
+            b"keys.b = \"AAAA\"\nsign.keyid = \"a\"",
+        ],
+    },
+    Case {
+        number: 5,
+        path: b"sign.label",
+        texts: &[
+            b"sign.label = \"\"",
+            b"sign.label = \"A\"",
+            b"sign.label = \"1a\"",
+        ],
+    },
+    Case {
+        number: 5,
+        path: b"types",
+        texts: &[
+            b"types.A = \"list\"",
+            b"types.\"\" = \"list\"",
+            b"types.a = \"List\"",
+            b"types.signature = \"list\"",
+            b"types.\"content-digest\" = \"item\"",
+        ],
+    },
+    Case {
+        number: 5,
+        path: b"version",
+        texts: &[b"version = 0", b"version = 2", b"version = -1"],
+    },
+    Case {
+        number: 6,
+        path: b"keys",
+        texts: &[
+            b"keys.a = \"\"",
+            b"keys.a = \"AA\"",
+            b"keys.a = \"AA=\"",
+            b"keys.a = \"AB==\"",
+            b"keys.a = \"AAAA \"",
+        ],
+    },
+    Case {
+        number: 7,
+        path: b"sign.components-request",
+        texts: &[
+            b"sign.components-request = \"();a\"",
+            b"sign.components-request = \"\"",
+            b"sign.components-request = '(\"A\")'",
+        ],
+    },
+    Case {
+        number: 9,
+        path: b"sign.keyid",
+        texts: &[b"[sign]", b"sign.label = \"a\""],
+    },
+];
+
+#[test]
+fn each_fault_has_its_number_and_path(rt: HostRuntime) -> Result<(), Fail> {
+    check_cases(&rt, rt.alloc(), &REFUSALS);
+    Ok(())
+}
+
+// Two faults at once, of which the lesser is answered: by the number, and then by the path.
+const TWO_FAULTS: [Case<'static>; 9] = [
+    Case {
+        number: 3,
+        path: b"sign",
+        texts: &[b"a = 1\nsign.a = 1"],
+    },
+    Case {
+        number: 3,
+        path: b"top",
+        texts: &[b"keys = 1\nzz = 1"],
+    },
+    Case {
+        number: 4,
+        path: b"keys",
+        texts: &[b"version = \"\"\nscheme = 1\nkeys = 1"],
+    },
+    Case {
+        number: 4,
+        path: b"version",
+        texts: &[b"version = 1.0\nscheme = \"\""],
+    },
+    Case {
+        number: 5,
+        path: b"scheme",
+        texts: &[b"version = 2\nscheme = \"\""],
+    },
+    Case {
+        number: 5,
+        path: b"version",
+        texts: &[b"version = 2\nkeys.a = \"\""],
+    },
+    Case {
+        number: 6,
+        path: b"keys",
+        texts: &[b"keys.a = \"\"\n[sign]\ncomponents-request = \"\""],
+    },
+    Case {
+        number: 7,
+        path: b"sign.components-response",
+        texts: &[b"sign.components-response = \"\""],
+    },
+    Case {
+        number: 9,
+        path: b"sign.label",
+        texts: &[b"keys.a = \"AAAA\"\nsign.keyid = \"a\""],
+    },
+];
+
+#[test]
+fn of_two_faults_the_lesser_is_answered(rt: HostRuntime) -> Result<(), Fail> {
+    check_cases(&rt, rt.alloc(), &TWO_FAULTS);
+    Ok(())
+}
+
+// A configuration with one key, the text of which is so many letters `A` and an end.
+fn key_conf(alloc: Global, groups: usize, end: &str) -> Result<Text, Fail> {
+    let mut text = Text::from_bytes(alloc, b"keys.a = \"")?;
+    for _ in 0..groups {
+        text.append(b"AAAA")?;
+    }
+    text.append(end.as_bytes())?;
+    text.append(b"\"")?;
+    Ok(text)
+}
+
+#[test]
+fn a_key_has_at_most_1024_bytes(rt: HostRuntime) -> Result<(), Fail> {
+    let alloc = rt.alloc();
+    let longest = key_conf(alloc, 341, "AA==")?;
+    let conf = read(alloc, longest.bytes())?;
+    assert_eq!(rt; conf.key(b"a").unwrap_or(b"").len(), MAX_KEY_BYTES);
+    let longer = key_conf(alloc, 341, "AAA=")?;
+    check_refused(&rt, alloc, longer.bytes(), 6, b"keys");
+    Ok(())
+}
+
+// A configuration whose only keyid is so many letters `a`.
+fn keyid_conf(alloc: Global, length: usize) -> Result<Text, Fail> {
+    let mut text = Text::from_bytes(alloc, b"keys.")?;
+    for _ in 0..length {
+        text.append(b"a")?;
+    }
+    text.append(b" = \"AA==\"")?;
+    Ok(text)
+}
+
+#[test]
+fn a_keyid_has_at_most_64_bytes(rt: HostRuntime) -> Result<(), Fail> {
+    let alloc = rt.alloc();
+    let longest = keyid_conf(alloc, MAX_KEYID_BYTES)?;
+    check_refused(&rt, alloc, longest.bytes(), 0, b"");
+    let longer = keyid_conf(alloc, MAX_KEYID_BYTES + 1)?;
+    check_refused(&rt, alloc, longer.bytes(), 5, b"keys");
+    Ok(())
+}
+
+#[test]
+fn a_key_is_added_to_the_others(rt: HostRuntime) -> Result<(), Fail> {
+    let alloc = rt.alloc();
+    let mut conf = empty_conf(alloc)?;
+    assert_eq!(rt; conf.scheme(), Scheme::Https);
+    assert!(rt; conf.sign().is_none());
+    assert!(rt; conf.key(b"a").is_none());
+    conf.add_key(b"a", b"1")?;
+    conf.add_key(b"b", b"2")?;
+    assert_eq!(rt; conf.key(b"a"), Some(b"1".as_slice()));
+    assert_eq!(rt; conf.key(b"b"), Some(b"2".as_slice()));
+    Ok(())
+}
+
+#[test]
+fn a_fault_says_what_it_is(rt: HostRuntime) -> Result<(), Fail> {
+    let alloc = rt.alloc();
+    let text = format!(in alloc; "{}", ConfFault::NotToml)?;
+    assert_eq!(rt; text.as_str(), "the configuration is no TOML document");
+    Ok(())
+}
