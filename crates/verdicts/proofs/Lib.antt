@@ -1,0 +1,5 @@
+pub mod RuleOrder
+pub mod InRange
+pub mod Reading
+pub mod Judging
+mod Places

@@ -1,0 +1,91 @@
+-- The component at which a rule fails is in range.
+use Rattle.std.proofs.Common.{◌≡◌, ℕ, Bool, true, IsTrue, IsFalse, ◌∷◌, Some, List, map, refl, sym, ap, ◌∙◌}
+use Rattle.std.specs.List.{list_all, slice_get}
+use Rattle.std.specs.Option.{IsSomeAnd}
+use Rattle.std.proofs.lemmas.Bool.{and_parts}
+use Rattle.std.proofs.lemmas.List.Folds.{list_all-map}
+use Rattle.byte_grammar.proofs.Indices.{some_and_parts, all_at}
+use Rattle.sfv_text.specs.Range.{is_item_in_range, are_params_in_range}
+use Rattle.sfv_text.specs.Strict.{string_text}
+use Rattle.sfv_read.proofs.InRange.{dict_read_in_range}
+use Rattle.msg_head.specs.declared.error.Side.TheVariants.{Header}
+use Rattle.msg_body.specs.Messages.{Message}
+use Rattle.msg_body.specs.Views.{lines_on}
+use Rattle.field_values.specs.Values.{combined_value}
+use Rattle.component_ids.specs.Identifiers.{item_of, is_id_in_range}
+use Rattle.component_ids.specs.SignatureParams.{list_of}
+use Rattle.component_ids.specs.Table.{is_listed}
+use Rattle.component_ids.specs.declared.id.ComponentId.{ComponentId}
+use Rattle.component_ids.specs.declared.params.SigParams.{SigParams}
+use Rattle.derived_values.specs.declared.lack.Lack.{Lack}
+use Rattle.derived_values.specs.declared.lack.Lack.TheVariants as lack
+use Rattle.verdicts.specs.declared.outcome.Verdict.{Verdict}
+use Rattle.verdicts.specs.declared.outcome.Verdict.TheVariants.{Ok as Accepted, Rule as Refused}
+use Rattle.verdicts.specs.declared.place.Place.{Place}
+use Rattle.verdicts.specs.declared.place.Place.TheVariants.{Name, Identifier}
+use Rattle.verdicts.specs.declared.rule.Rule.{Rule}
+use Rattle.verdicts.specs.declared.rule.Rule.TheVariants.{InputAbsent, InputMalformed, SignatureAbsent, SignatureMalformed, LabelNotInInput, LabelNotInSignature, InputNotList, SignatureNotBytes, ComponentsMany, ComponentBad, ComponentRepeated, ParameterBad, AlgRefused, AlgUnknown, KeyidAbsent, KeyUnknown, Absent, Ambiguous, Underivable, Unreadable, NotAscii, MacMismatch}
+use Rattle.verdicts.specs.Signatures.{input_name, HasSignature}
+use Rattle.verdicts.specs.Rules.{Verification, supported_algorithm, refused_algorithms, alg_of, OfSignature, FailsByLack, FailsToRead, Fails}
+use Rattle.verdicts.specs.Verdicts.{IsVerdict, is_place_in_range, is_verdict_in_range}
+use Rattle.verdicts.proofs.InRange.{inner_in_range}
+
+-- each component that a signature covers is in range
+ids_in_range : (message : Message) (label : List ℕ) (params : SigParams) (tag : List ℕ) → HasSignature message label params tag → list_all is_id_in_range params.ids ≡ true
+ids_in_range message label params tag has =
+    let dict = has.input.dict in
+    let fits = dict_read_in_range (combined_value (lines_on Header message) input_name) dict has.input.has.reads in
+    let inner = inner_in_range dict label (list_of params) fits has.input.member_is in
+    sym (list_all-map is_item_in_range item_of params.ids) ∙ (and_parts (list_all is_item_in_range (map item_of params.ids)) (are_params_in_range params.params) inner).0
+
+reading_place : (message : Message) (label : List ℕ) (rule : Rule) (place : Place) → FailsToRead message label rule place → is_place_in_range place ≡ true
+reading_place message label InputAbsent place fails = rw fails.0 refl
+reading_place message label InputMalformed place fails = rw fails.0 refl
+reading_place message label SignatureAbsent place fails = rw fails.0 refl
+reading_place message label SignatureMalformed place fails = rw fails.0 refl
+reading_place message label LabelNotInInput place fails = rw fails.0 refl
+reading_place message label LabelNotInSignature place fails = rw fails.0 refl
+reading_place message label InputNotList place fails = rw fails.0 refl
+reading_place message label SignatureNotBytes place fails = rw fails.0 refl
+reading_place message label ComponentsMany place fails = rw fails.0 refl
+reading_place message label ComponentBad place fails = rw fails.2 refl
+reading_place message label ComponentRepeated place fails = rw fails.1 refl
+reading_place message label ParameterBad place fails = rw fails.1 refl
+reading_place message label rule place fails = absurd fails
+
+name_place : (P : List ℕ → Type 0) (text_at : List ℕ → List ℕ) (params : SigParams) (place : Place) → IsSomeAnd (alg_of params) (λ alg. P alg × (place ≡ Name (text_at alg)))
+    → is_place_in_range place ≡ true
+name_place P text_at params place fact = let at = some_and_parts (λ alg. P alg × (place ≡ Name (text_at alg))) (alg_of params) fact in rw at.2.1 refl
+
+lack_place : (v : Verification) (how : Lack) (place : Place) → FailsByLack v how place → is_place_in_range place ≡ true
+lack_place v how place fails =
+    let at = some_and_parts (λ (id : ComponentId). place ≡ Identifier id) (slice_get fails.0.ids fails.3.0) fails.3.2 in
+    rw at.2 (all_at is_id_in_range fails.0.ids fails.3.0 at.0 (ids_in_range v.context.message v.label fails.0 fails.1 fails.2) at.1)
+
+place_in_range : (v : Verification) (rule : Rule) (place : Place) → Fails v rule place → is_place_in_range place ≡ true
+place_in_range v InputAbsent place fails = reading_place v.context.message v.label InputAbsent place fails
+place_in_range v InputMalformed place fails = reading_place v.context.message v.label InputMalformed place fails
+place_in_range v SignatureAbsent place fails = reading_place v.context.message v.label SignatureAbsent place fails
+place_in_range v SignatureMalformed place fails = reading_place v.context.message v.label SignatureMalformed place fails
+place_in_range v LabelNotInInput place fails = reading_place v.context.message v.label LabelNotInInput place fails
+place_in_range v LabelNotInSignature place fails = reading_place v.context.message v.label LabelNotInSignature place fails
+place_in_range v InputNotList place fails = reading_place v.context.message v.label InputNotList place fails
+place_in_range v SignatureNotBytes place fails = reading_place v.context.message v.label SignatureNotBytes place fails
+place_in_range v ComponentsMany place fails = reading_place v.context.message v.label ComponentsMany place fails
+place_in_range v ComponentBad place fails = reading_place v.context.message v.label ComponentBad place fails
+place_in_range v ComponentRepeated place fails = reading_place v.context.message v.label ComponentRepeated place fails
+place_in_range v ParameterBad place fails = reading_place v.context.message v.label ParameterBad place fails
+place_in_range v AlgRefused place fails = name_place (λ alg. IsTrue (is_listed refused_algorithms alg)) (λ alg. alg) fails.0 place fails.3
+place_in_range v AlgUnknown place fails = name_place (λ alg. IsFalse (is_listed (supported_algorithm ∷ refused_algorithms) alg)) string_text fails.0 place fails.3
+place_in_range v KeyidAbsent place fails = rw fails.0 refl
+place_in_range v KeyUnknown place fails = rw fails.0 refl
+place_in_range v Absent place fails = lack_place v lack.Absent place fails
+place_in_range v Ambiguous place fails = lack_place v lack.Ambiguous place fails
+place_in_range v Underivable place fails = lack_place v lack.Underivable place fails
+place_in_range v Unreadable place fails = lack_place v lack.Unreadable place fails
+place_in_range v NotAscii place fails = lack_place v lack.NotAscii place fails
+place_in_range v MacMismatch place fails = rw fails.0 refl
+
+pub verdict_in_range : (v : Verification) (verdict : Verdict) → IsVerdict v verdict → is_verdict_in_range verdict ≡ true
+verdict_in_range v (Accepted keyid) is = refl
+verdict_in_range v (Refused rule place) is = place_in_range v rule place is.holds

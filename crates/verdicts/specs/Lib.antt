@@ -1,0 +1,6 @@
+pub mod Signatures
+pub mod Rules
+pub mod Verdicts
+pub mod Words
+pub mod Laws
+pub mod tools

@@ -1,0 +1,53 @@
+-- The verdict on a label (RFC 9421 section 3.2).
+use Rattle.std.specs.Prelude.{◌≡◌, ℕ, Bool, true, Some, IfSome, List}
+use Rattle.component_ids.specs.Identifiers.{is_id_in_range}
+use Rattle.component_ids.specs.declared.params.SigParams.{SigParams}
+use Rattle.component_values.specs.Context.{context_of}
+use Rattle.component_values.specs.Values.{HaveValues}
+use Rattle.component_values.specs.declared.context.Context.{Context}
+use Rattle.sig_base.specs.SignatureBase.{signature_base}
+use Rattle.hmac_sha256.specs.Hmac.{hmac}
+use Rattle.conf.specs.Meaning.{Configuration}
+use Rattle.verdicts.specs.declared.outcome.Verdict.{Verdict}
+use Rattle.verdicts.specs.declared.outcome.Verdict.TheVariants.{Ok as Accepted, Rule as Refused}
+use Rattle.verdicts.specs.declared.place.Place.{Place}
+use Rattle.verdicts.specs.declared.place.Place.TheVariants.{Identifier}
+use Rattle.verdicts.specs.Signatures.{HasSignature}
+use Rattle.verdicts.specs.Rules.{Verification, key_in, supported_algorithm, alg_of, keyid_of, Fails, IsFirstFailure}
+
+-- what a label is judged by, where the context is borrowed
+abbrev pub verification_of : Context → List ℕ → Configuration → Verification
+verification_of context label conf = record {
+  context = context_of context;
+  label = label;
+  conf = conf;
+}
+
+-- The label is accepted: the message has its signature, made by the supported algorithm with the
+-- key that `keyid` names, each covered component has its value, and the tag is the HMAC of the
+-- signature base.
+pub record Accepts (v : Verification) (keyid : List ℕ) : Type 0 where
+  pub params : SigParams
+  pub tag : List ℕ
+  pub signature : HasSignature v.context.message v.label params tag
+  pub alg : IfSome (alg_of params) (λ alg. alg ≡ supported_algorithm)
+  pub keyid_is : keyid_of params ≡ Some keyid
+  pub key : List ℕ
+  pub key_is : key_in v.conf keyid ≡ Some key
+  pub values : List (List ℕ)
+  pub have : HaveValues v.context params.ids values
+  pub mac : tag ≡ hmac key (signature_base params values)
+
+-- accepted, with its `keyid`, or the first rule that fails, with its place
+abbrev pub IsVerdict : Verification → Verdict → Type 0
+IsVerdict v (Accepted keyid) = Accepts v keyid
+IsVerdict v (Refused rule place) = IsFirstFailure (Fails v) rule place
+
+-- a component at which a rule fails can stand in a structured field
+abbrev pub is_place_in_range : Place → Bool
+is_place_in_range (Identifier id) = is_id_in_range id
+is_place_in_range place = true
+
+abbrev pub is_verdict_in_range : Verdict → Bool
+is_verdict_in_range (Accepted keyid) = true
+is_verdict_in_range (Refused rule place) = is_place_in_range place

@@ -1,0 +1,64 @@
+-- The numbers and the words of the rules, and what faults say.
+use Rattle.std.specs.Prelude.{ℕ, List, ◌++◌, ◌∷◌, codes}
+use Rattle.std.specs.Fmt.{decimal}
+use Rattle.std.specs.Str.{byte}
+use Rattle.verdicts.specs.declared.rule.Rule.{Rule}
+use Rattle.verdicts.specs.declared.rule.Rule.TheVariants.{InputAbsent, InputMalformed, SignatureAbsent, SignatureMalformed, LabelNotInInput, LabelNotInSignature, InputNotList, SignatureNotBytes, ComponentsMany, ComponentBad, ComponentRepeated, ParameterBad, AlgRefused, AlgUnknown, KeyidAbsent, KeyUnknown, Absent, Ambiguous, Underivable, Unreadable, NotAscii, MacMismatch}
+use Rattle.verdicts.specs.declared.label.LabelFault.{LabelFault}
+use Rattle.verdicts.specs.declared.label.LabelFault.TheVariants as fault
+
+-- by which the rules are ordered
+abbrev pub rule_number : Rule → ℕ
+rule_number InputAbsent = 1
+rule_number InputMalformed = 2
+rule_number SignatureAbsent = 3
+rule_number SignatureMalformed = 4
+rule_number LabelNotInInput = 5
+rule_number LabelNotInSignature = 6
+rule_number InputNotList = 7
+rule_number SignatureNotBytes = 8
+rule_number ComponentsMany = 9
+rule_number ComponentBad = 10
+rule_number ComponentRepeated = 11
+rule_number ParameterBad = 12
+rule_number AlgRefused = 13
+rule_number AlgUnknown = 14
+rule_number KeyidAbsent = 15
+rule_number KeyUnknown = 16
+rule_number Absent = 27
+rule_number Ambiguous = 28
+rule_number Underivable = 29
+rule_number Unreadable = 30
+rule_number NotAscii = 31
+rule_number MacMismatch = 32
+
+-- by which output names them
+abbrev pub rule_word : Rule → List ℕ
+rule_word InputAbsent = codes "input-absent"
+rule_word InputMalformed = codes "input-malformed"
+rule_word SignatureAbsent = codes "signature-absent"
+rule_word SignatureMalformed = codes "signature-malformed"
+rule_word LabelNotInInput = codes "label-not-in-input"
+rule_word LabelNotInSignature = codes "label-not-in-signature"
+rule_word InputNotList = codes "input-not-list"
+rule_word SignatureNotBytes = codes "signature-not-bytes"
+rule_word ComponentsMany = codes "components-many"
+rule_word ComponentBad = codes "component-bad"
+rule_word ComponentRepeated = codes "component-repeated"
+rule_word ParameterBad = codes "parameter-bad"
+rule_word AlgRefused = codes "alg-refused"
+rule_word AlgUnknown = codes "alg-unknown"
+rule_word KeyidAbsent = codes "keyid-absent"
+rule_word KeyUnknown = codes "key-unknown"
+rule_word Absent = codes "absent"
+rule_word Ambiguous = codes "ambiguous"
+rule_word Underivable = codes "underivable"
+rule_word Unreadable = codes "unreadable"
+rule_word NotAscii = codes "not-ascii"
+rule_word MacMismatch = codes "mac-mismatch"
+
+-- what a fault says
+abbrev pub label_fault_text : LabelFault → List ℕ
+label_fault_text fault.Memory = codes "out of memory"
+label_fault_text (fault.Rule rule place) =
+    codes "rule " ++ (decimal (rule_number rule) ++ byte " " ∷ rule_word rule)

@@ -1,0 +1,91 @@
+-- What the parts of a verdict answer. No public clause cites this module.
+use Rattle.std.specs.Prelude.{◌≡◌, ◌⊎◌, ◌<◌, ⊤, ℕ, IsTrue, IsFalse, Option, None, IfSome, IsSomeAnd, List, ◌∷◌, slice_get, Result}
+use Rattle.sfv_text.specs.Strict.{string_text}
+use Rattle.component_ids.specs.Table.{is_listed}
+use Rattle.component_ids.specs.declared.id.ComponentId.{ComponentId}
+use Rattle.component_ids.specs.declared.params.SigParams.{SigParams}
+use Rattle.derived_values.specs.declared.lack.Lack.{Lack}
+use Rattle.derived_values.specs.declared.lack.Lack.TheVariants as lack
+use Rattle.component_values.specs.Context.{MessageContext}
+use Rattle.component_values.specs.Values.{HaveValues, IsFirstLack}
+use Rattle.component_values.specs.declared.fault.ValueFault.{ValueFault}
+use Rattle.component_values.specs.declared.fault.ValueFault.TheVariants as value
+use Rattle.sig_base.specs.SignatureBase.{signature_base}
+use Rattle.hmac_sha256.specs.Hmac.{hmac}
+use Rattle.verdicts.specs.declared.label.LabelFault.{LabelFault}
+use Rattle.verdicts.specs.declared.label.LabelFault.TheVariants.{Memory, Rule as Refused}
+use Rattle.verdicts.specs.declared.place.Place.{Place}
+use Rattle.verdicts.specs.declared.place.Place.TheVariants.{None as Nowhere, Name, Identifier}
+use Rattle.verdicts.specs.declared.rule.Rule.{Rule}
+use Rattle.verdicts.specs.declared.rule.Rule.TheVariants.{AlgRefused, AlgUnknown, KeyidAbsent, KeyUnknown, Absent, Ambiguous, Underivable, Unreadable, NotAscii, MacMismatch}
+use Rattle.verdicts.specs.Rules.{Verification, supported_algorithm, refused_algorithms, alg_of, keyid_of, Fails, IsFirstFailure}
+use Rattle.verdicts.specs.Verdicts.{Accepts}
+use Rattle.verdicts.specs.tools.Answered.{Explains}
+
+-- rule 13 or 14 fails
+abbrev pub FailsByAlgorithm : SigParams → Rule → Place → Type 0
+FailsByAlgorithm params AlgRefused place =
+    IsSomeAnd (alg_of params) (λ alg.
+    IsTrue (is_listed refused_algorithms alg) × (place ≡ Name alg))
+FailsByAlgorithm params AlgUnknown place =
+    IsSomeAnd (alg_of params) (λ alg.
+    IsFalse (is_listed (supported_algorithm ∷ refused_algorithms) alg)
+    × (place ≡ Name (string_text alg)))
+FailsByAlgorithm params rule place = ⊥
+
+abbrev pub ExplainsAlgorithm : SigParams → Result Unit LabelFault → Type 0
+ExplainsAlgorithm params result =
+    Explains (λ _. IfSome (alg_of params) (λ alg. alg ≡ supported_algorithm))
+    (FailsByAlgorithm params) result
+
+-- rule 15 fails
+abbrev pub FailsByKeyid : SigParams → Rule → Place → Type 0
+FailsByKeyid params rule place =
+    (rule ≡ KeyidAbsent) × (place ≡ Nowhere) × (keyid_of params ≡ None)
+
+-- rule 16 fails
+abbrev pub FailsByKey : Option (List ℕ) → Rule → Place → Type 0
+FailsByKey key rule place = (rule ≡ KeyUnknown) × (place ≡ Nowhere) × (key ≡ None)
+
+-- the rule of a component that lacks a value so
+abbrev pub rule_of_lack : Lack → Rule
+rule_of_lack lack.Absent = Absent
+rule_of_lack lack.Ambiguous = Ambiguous
+rule_of_lack lack.Underivable = Underivable
+rule_of_lack lack.Unreadable = Unreadable
+rule_of_lack lack.NotAscii = NotAscii
+
+-- the index of a lack is one of so many
+abbrev pub LiesIn : ℕ → ValueFault → Type 0
+LiesIn count value.Memory = ⊤
+LiesIn count (value.Lacks index lack) = index < count
+
+-- the rule and the place say so of the component at the index
+abbrev pub SaysLack : List ComponentId → ℕ → Lack → Rule → Place → Type 0
+SaysLack ids index lack rule place =
+    (rule ≡ rule_of_lack lack) × IsSomeAnd (slice_get ids index) (λ id. place ≡ Identifier id)
+
+-- the fault says so, or that memory ran out
+abbrev pub SaysFault : List ComponentId → ValueFault → LabelFault → Type 0
+SaysFault ids fault Memory = ⊤
+SaysFault ids value.Memory (Refused rule place) = ⊥
+SaysFault ids (value.Lacks index lack) (Refused rule place) = SaysLack ids index lack rule place
+
+-- a rule from 27 to 32 fails
+abbrev pub FailsByTag : MessageContext → SigParams → List ℕ → List ℕ → Rule → Place → Type 0
+FailsByTag context params tag key rule place =
+    ((index : ℕ) × (lack : Lack) × IsFirstLack context params.ids index lack
+    × SaysLack params.ids index lack rule place)
+    ⊎ ((rule ≡ MacMismatch) × (place ≡ Nowhere) × (values : List (List ℕ))
+    × HaveValues context params.ids values
+    × ¬ (tag ≡ hmac key (signature_base params values)))
+
+abbrev pub ExplainsTag : MessageContext → SigParams → List ℕ → List ℕ → Result Unit LabelFault
+    → Type 0
+ExplainsTag context params tag key result =
+    Explains (λ _. (values : List (List ℕ)) × HaveValues context params.ids values
+    × (tag ≡ hmac key (signature_base params values))) (FailsByTag context params tag key) result
+
+-- the `keyid` of an accepted label, or the first rule that fails
+abbrev pub ExplainsJudged : Verification → Result (List ℕ) LabelFault → Type 0
+ExplainsJudged v result = Explains (Accepts v) (IsFirstFailure (Fails v)) result

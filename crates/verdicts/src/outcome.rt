@@ -1,0 +1,14 @@
+//! The verdict on a label.
+
+use crate::place::Place;
+use crate::rule::Rule;
+use sfv_text::Text;
+
+/// The verdict on a label (RFC 9421 section 3.2).
+#[derive(Debug, Drop)]
+pub enum Verdict {
+    /// It is accepted, under the key of this `keyid`.
+    Ok { keyid: Text },
+    /// The rule of the least number that fails, and where.
+    Rule { number: Rule, place: Place },
+}

@@ -1,0 +1,133 @@
+//! The rules that a label is judged by.
+
+ghost use Rattle.std.specs.Prelude.{◌≡◌};
+ghost use Rattle.verdicts.specs.Words.{rule_number, rule_word};
+
+use component_values::Lack;
+use std::error::Error;
+use std::fmt;
+
+/// A rule that a label is judged by, named for how it fails. Of several that fail the one of the
+/// least number is told.
+#[derive(Clone, Copy, Debug, PartialEq, Eq)]
+pub enum Rule {
+    /// 1: no header line is named `Signature-Input` (RFC 9421 section 4.1).
+    InputAbsent,
+    /// 2: `Signature-Input` is no Dictionary.
+    InputMalformed,
+    /// 3: no header line is named `Signature` (RFC 9421 section 4.2).
+    SignatureAbsent,
+    /// 4: `Signature` is no Dictionary.
+    SignatureMalformed,
+    /// 5: `Signature-Input` has no member of the label.
+    LabelNotInInput,
+    /// 6: `Signature` has no member of the label.
+    LabelNotInSignature,
+    /// 7: the member of `Signature-Input` is no Inner List.
+    InputNotList,
+    /// 8: the member of `Signature` is no Byte Sequence.
+    SignatureNotBytes,
+    /// 9: it covers more than `MAX_COMPONENTS` components.
+    ComponentsMany,
+    /// 10: an item is no component identifier (RFC 9421 section 2).
+    ComponentBad,
+    /// 11: a component is covered twice (RFC 9421 section 2).
+    ComponentRepeated,
+    /// 12: a signature parameter has a value of a wrong type (RFC 9421 section 2.3).
+    ParameterBad,
+    /// 13: `alg` is a registered algorithm that isn't supported (RFC 9421 section 6.2.2).
+    AlgRefused,
+    /// 14: `alg` is no registered algorithm.
+    AlgUnknown,
+    /// 15: there is no `keyid`.
+    KeyidAbsent,
+    /// 16: the configuration has no key of that `keyid`.
+    KeyUnknown,
+    /// 27: the first component without a value is absent.
+    Absent,
+    /// 28: it is ambiguous.
+    Ambiguous,
+    /// 29: it can't be derived from this message.
+    Underivable,
+    /// 30: it isn't read as a structured field.
+    Unreadable,
+    /// 31: its value isn't ASCII.
+    NotAscii,
+    /// 32: the tag isn't the HMAC of the signature base (RFC 9421 section 3.3.3).
+    MacMismatch,
+}
+
+impl Rule {
+    /// Its number, by which rules are ordered.
+    pub fn number(self) -> u8
+        ensures { result ≡ rule_number self }
+    {
+        match self {
+            Rule::InputAbsent => 1,
+            Rule::InputMalformed => 2,
+            Rule::SignatureAbsent => 3,
+            Rule::SignatureMalformed => 4,
+            Rule::LabelNotInInput => 5,
+            Rule::LabelNotInSignature => 6,
+            Rule::InputNotList => 7,
+            Rule::SignatureNotBytes => 8,
+            Rule::ComponentsMany => 9,
+            Rule::ComponentBad => 10,
+            Rule::ComponentRepeated => 11,
+            Rule::ParameterBad => 12,
+            Rule::AlgRefused => 13,
+            Rule::AlgUnknown => 14,
+            Rule::KeyidAbsent => 15,
+            Rule::KeyUnknown => 16,
+            Rule::Absent => 27,
+            Rule::Ambiguous => 28,
+            Rule::Underivable => 29,
+            Rule::Unreadable => 30,
+            Rule::NotAscii => 31,
+            Rule::MacMismatch => 32,
+        }
+    }
+
+    /// The word that stands for it in output.
+    pub fn word(self) -> &'static str
+        ensures { result.now ≡ rule_word self }
+    {
+        match self {
+            Rule::InputAbsent => "input-absent",
+            Rule::InputMalformed => "input-malformed",
+            Rule::SignatureAbsent => "signature-absent",
+            Rule::SignatureMalformed => "signature-malformed",
+            Rule::LabelNotInInput => "label-not-in-input",
+            Rule::LabelNotInSignature => "label-not-in-signature",
+            Rule::InputNotList => "input-not-list",
+            Rule::SignatureNotBytes => "signature-not-bytes",
+            Rule::ComponentsMany => "components-many",
+            Rule::ComponentBad => "component-bad",
+            Rule::ComponentRepeated => "component-repeated",
+            Rule::ParameterBad => "parameter-bad",
+            Rule::AlgRefused => "alg-refused",
+            Rule::AlgUnknown => "alg-unknown",
+            Rule::KeyidAbsent => "keyid-absent",
+            Rule::KeyUnknown => "key-unknown",
+            Rule::Absent => "absent",
+            Rule::Ambiguous => "ambiguous",
+            Rule::Underivable => "underivable",
+            Rule::Unreadable => "unreadable",
+            Rule::NotAscii => "not-ascii",
+            Rule::MacMismatch => "mac-mismatch",
+        }
+    }
+}
+
+impl fmt::Display for Rule {
+    ghost use Rattle.std.specs.Prelude.{Some};
+    ghost use Rattle.verdicts.specs.Words.{rule_word};
+
+    ghost output = { λ rule. Some (rule_word rule) };
+
+    fn fmt<W: fmt::Write>(&self, f: &mut fmt::Formatter<W>) -> fmt::Result {
+        f.write_str(self.word())
+    }
+}
+
+impl Error for Rule {}

@@ -1,0 +1,406 @@
+use super::*;
+use crate::Place as Where;
+use component_ids::{BadReason, ComponentId};
+use component_values::Context;
+use conf::{Conf, read_conf};
+use msg_body::{Expect, MessageRead, MessageView, read_message};
+use sfv_text::Text;
+use std::alloc::Global;
+use std::process::Abort;
+use std::test::Fail;
+
+// Where a rule has to fail.
+#[derive(Clone, Copy)]
+enum At<'a> {
+    Nowhere,
+    Index(usize),
+    Item(usize, BadReason),
+    Name(&'a [u8]),
+    // A component by its name and how many parameters it has.
+    Id(&'a [u8], usize),
+}
+
+// The header lines after `Host`, the label that is asked, and the rule that fails.
+#[derive(Drop)]
+struct Case<'a> {
+    lines: &'a [u8],
+    label: &'a [u8],
+    rule: Rule,
+    at: At<'a>,
+}
+
+fn fails<'a>(lines: &'a [u8], rule: Rule, at: At<'a>) -> Case<'a> {
+    Case {
+        lines,
+        label: b"s",
+        rule,
+        at,
+    }
+}
+
+fn is_component(id: &ComponentId, name: &[u8], params: usize) -> bool {
+    id.name.bytes() == name && id.params.len() == params
+}
+
+fn is_at(place: &Where, at: At<'_>) -> bool {
+    match (place, at) {
+        (Where::None, At::Nowhere) => true,
+        (Where::Index(index), At::Index(at)) => *index == at,
+        (Where::Component(index, reason), At::Item(at, why)) => *index == at && *reason == why,
+        (Where::Name(name), At::Name(at)) => name.bytes() == at,
+        (Where::Identifier(id), At::Id(name, params)) => is_component(id, name, params),
+        _ => false,
+    }
+}
+
+// A request with these lines.
+fn text_of(alloc: Global, lines: &[u8]) -> Result<Text, Fail> {
+    let mut text = Text::from_bytes(alloc, b"GET /foo HTTP/1.1\r\nHost: example.com\r\n")?;
+    text.append(lines)?;
+    text.append(b"\r\n")?;
+    Ok(text)
+}
+
+fn view_of(alloc: Global, bytes: &[u8]) -> Result<MessageView<'_>, Fail> {
+    if bytes.len() > 1_000 {
+        return Err(Fail::from("a long message"));
+    }
+    match read_message(alloc, bytes, Expect::Request, false)? {
+        MessageRead::Whole(view, _) => Ok(view),
+        MessageRead::Partial => Err(Fail::from("no message")),
+    }
+}
+
+fn check_labels(
+    rt: &impl Abort,
+    alloc: Global,
+    lines: &[u8],
+    labels: &[&[u8]],
+) -> Result<(), Fail> {
+    let text = text_of(alloc, lines)?;
+    let view = view_of(alloc, text.bytes())?;
+    let found = labels_of(alloc, &view)?;
+    assert_eq!(rt; found.len(), labels.len(), "{lines:?}");
+    for (label, wanted) in found.iter().zip(labels) {
+        assert_eq!(rt; label.bytes(), *wanted, "{lines:?}");
+    }
+    Ok(())
+}
+
+#[test]
+fn labels_are_the_keys_in_order(rt: HostRuntime) -> Result<(), Fail> {
+    let alloc = rt.alloc();
+    check_labels(&rt, alloc, b"", &[])?;
+    check_labels(&rt, alloc, b"Signature: a=:AAAA:\r\n", &[])?;
+    check_labels(&rt, alloc, b"Signature-Input: a=(\r\n", &[])?;
+    check_labels(&rt, alloc, b"Signature-Input:\r\n", &[])?;
+    check_labels(
+        &rt,
+        alloc,
+        b"Signature-Input: b=(), a=1\r\nsignature-input: c;x, b=2\r\n",
+        &[b"b", b"a", b"c"],
+    )
+}
+
+fn check_reading(rt: &impl Abort, alloc: Global, case: &Case<'_>) -> Result<(), Fail> {
+    let text = text_of(alloc, case.lines)?;
+    let view = view_of(alloc, text.bytes())?;
+    match read_label(alloc, &view, case.label) {
+        Ok(_) => Err(Fail::from("read")),
+        Err(LabelFault::Memory) => Err(Fail::from("out of memory")),
+        Err(LabelFault::Rule(rule, place)) => {
+            let lines = case.lines;
+            assert_eq!(rt; rule, case.rule, "{lines:?}");
+            assert!(rt; is_at(&place, case.at), "{lines:?}");
+            Ok(())
+        }
+    }
+}
+
+fn check_readings(rt: &impl Abort, alloc: Global, cases: &[Case<'_>]) -> Result<(), Fail> {
+    for case in cases {
+        check_reading(rt, alloc, case)?;
+    }
+    Ok(())
+}
+
+#[test]
+fn fields_that_say_nothing_of_the_label(rt: HostRuntime) -> Result<(), Fail> {
+    let asked = Case {
+        lines: b"Signature-Input:\r\nSignature: s=:AAAA:\r\n",
+        label: b"-",
+        rule: Rule::LabelNotInInput,
+        at: At::Nowhere,
+    };
+    let cases = [
+        fails(b"", Rule::InputAbsent, At::Nowhere),
+        fails(b"Signature: s=:AAAA:\r\n", Rule::InputAbsent, At::Nowhere),
+        fails(
+            b"Signature-Input: s=(\r\n",
+            Rule::InputMalformed,
+            At::Nowhere,
+        ),
+        fails(
+            b"Signature-Input: s=@1\r\nSignature: s=:AAAA:\r\n",
+            Rule::InputMalformed,
+            At::Nowhere,
+        ),
+        fails(
+            b"Signature-Input: t=()\r\n",
+            Rule::SignatureAbsent,
+            At::Nowhere,
+        ),
+        fails(
+            b"Signature-Input: t=()\r\nSignature: s=:\r\n",
+            Rule::SignatureMalformed,
+            At::Nowhere,
+        ),
+        fails(
+            b"Signature-Input: t=()\r\nSignature: t=:AAAA:\r\n",
+            Rule::LabelNotInInput,
+            At::Nowhere,
+        ),
+        asked,
+        fails(
+            b"Signature-Input: s=1\r\nSignature: t=:AAAA:\r\n",
+            Rule::LabelNotInSignature,
+            At::Nowhere,
+        ),
+    ];
+    check_readings(&rt, rt.alloc(), &cases)
+}
+
+#[test]
+fn members_that_are_no_signature(rt: HostRuntime) -> Result<(), Fail> {
+    let cases = [
+        fails(
+            b"Signature-Input: s\r\nSignature: s=1\r\n",
+            Rule::InputNotList,
+            At::Nowhere,
+        ),
+        fails(
+            b"Signature-Input: s=(1)\r\nSignature: s=(:AAAA:)\r\n",
+            Rule::SignatureNotBytes,
+            At::Nowhere,
+        ),
+        fails(
+            b"Signature-Input: s=(\"a\" \"a\" 1)\r\nSignature: s=:AAAA:\r\n",
+            Rule::ComponentBad,
+            At::Item(2, BadReason::NotAString),
+        ),
+        fails(
+            b"Signature-Input: s=(\"@x\");alg=1\r\nSignature: s=:AAAA:\r\n",
+            Rule::ComponentBad,
+            At::Item(0, BadReason::Name),
+        ),
+        fails(
+            b"Signature-Input: s=(\"b\" \"a\" \"b\");alg=1\r\nSignature: s=:AAAA:\r\n",
+            Rule::ComponentRepeated,
+            At::Index(2),
+        ),
+        fails(
+            b"Signature-Input: s=();alg=\"x\";keyid=k;created=?1\r\nSignature: s=:AAAA:\r\n",
+            Rule::ParameterBad,
+            At::Name(b"keyid"),
+        ),
+    ];
+    check_readings(&rt, rt.alloc(), &cases)
+}
+
+// The lines of a signature that covers one component so many times.
+fn lines_covering(alloc: Global, count: usize) -> Result<Text, Fail> {
+    let mut lines = Text::from_bytes(alloc, b"Signature: s=:AAAA:\r\nSignature-Input: s=(")?;
+    for _ in 0..count {
+        lines.append(b"\"a\" ")?;
+    }
+    lines.append(b")\r\n")?;
+    Ok(lines)
+}
+
+#[test]
+fn more_components_than_the_limit_are_not_judged(rt: HostRuntime) -> Result<(), Fail> {
+    let alloc = rt.alloc();
+    let most = lines_covering(alloc, 64)?;
+    let more = lines_covering(alloc, 65)?;
+    let cases = [
+        fails(most.bytes(), Rule::ComponentRepeated, At::Index(1)),
+        fails(more.bytes(), Rule::ComponentsMany, At::Nowhere),
+    ];
+    check_readings(&rt, alloc, &cases)
+}
+
+#[test]
+fn a_signature_is_read(rt: HostRuntime) -> Result<(), Fail> {
+    let alloc = rt.alloc();
+    let text = text_of(
+        alloc,
+        b"Signature-Input: t=1\r\n\
+        Signature-Input: s=(\"host\" \"date\";bs);alg=\"x\";a=1\r\n\
+        Signature: s=:AAEC:;b=2, t\r\n",
+    )?;
+    let view = view_of(alloc, text.bytes())?;
+    let Ok(read) = read_label(alloc, &view, b"s") else {
+        return Err(Fail::from("not read"));
+    };
+    assert_eq!(&rt; read.tag.bytes(), b"\0\x01\x02".as_slice());
+    assert_eq!(&rt; read.params.ids.len(), 2);
+    assert_eq!(&rt; read.params.params.len(), 2);
+    Ok(())
+}
+
+// The key of RFC 9421 appendix B.1.5.
+const CONF: &[u8] = b"[keys]\n\
+    \"test-shared-secret\" = \
+    \"uzvJfB4u3N0Jy4T7NZ75MDVcr8zSTInedJtkgcu46YW4XByzNJjxBdtjUkdJPBtbmHhIDi6pcl8jsasjlTMtDQ==\"\n";
+
+fn verdict_of(alloc: Global, conf: &Conf, lines: &[u8], label: &[u8]) -> Result<Verdict, Fail> {
+    let text = text_of(alloc, lines)?;
+    let view = view_of(alloc, text.bytes())?;
+    let context = Context::of_message(&view, conf.scheme(), conf.types());
+    Ok(verdict(alloc, &context, label, conf, 1_618_884_473)?)
+}
+
+fn check_verdict(rt: &impl Abort, alloc: Global, conf: &Conf, case: &Case<'_>) -> Result<(), Fail> {
+    match verdict_of(alloc, conf, case.lines, case.label)? {
+        Verdict::Ok { keyid: _ } => Err(Fail::from("accepted")),
+        Verdict::Rule { number, place } => {
+            let lines = case.lines;
+            assert_eq!(rt; number, case.rule, "{lines:?}");
+            assert!(rt; is_at(&place, case.at), "{lines:?}");
+            Ok(())
+        }
+    }
+}
+
+fn check_verdicts(rt: &impl Abort, alloc: Global, cases: &[Case<'_>]) -> Result<(), Fail> {
+    let conf = read_conf(alloc, CONF)?;
+    for case in cases {
+        check_verdict(rt, alloc, &conf, case)?;
+    }
+    Ok(())
+}
+
+// The signature of RFC 9421 appendix B.2.5, and lines that it covers.
+const SIGNED: &[u8] = b"Date: Tue, 20 Apr 2021 02:07:55 GMT\r\n\
+    Content-Type: application/json\r\n\
+    Signature-Input: sig-b25=(\"date\" \"@authority\" \"content-type\");created=1618884473;\
+    keyid=\"test-shared-secret\"\r\n\
+    Signature: sig-b25=:pxcQw6G3AjtMBQjwo8XzkZf/bws5LelbaMk5rGIGtE8=:\r\n";
+
+// The same, with the first 31 bytes of the tag.
+const SHORT: &[u8] = b"Date: Tue, 20 Apr 2021 02:07:55 GMT\r\n\
+    Content-Type: application/json\r\n\
+    Signature-Input: sig-b25=(\"date\" \"@authority\" \"content-type\");created=1618884473;\
+    keyid=\"test-shared-secret\"\r\n\
+    Signature: sig-b25=:pxcQw6G3AjtMBQjwo8XzkZf/bws5LelbaMk5rGIGtA==:\r\n";
+
+#[test]
+fn the_signature_of_the_standard_is_accepted(rt: HostRuntime) -> Result<(), Fail> {
+    let alloc = rt.alloc();
+    let conf = read_conf(alloc, CONF)?;
+    match verdict_of(alloc, &conf, SIGNED, b"sig-b25")? {
+        Verdict::Ok { keyid } => {
+            assert_eq!(&rt; keyid.bytes(), b"test-shared-secret".as_slice());
+            Ok(())
+        }
+        Verdict::Rule {
+            number: _,
+            place: _,
+        } => Err(Fail::from("refused")),
+    }
+}
+
+#[test]
+fn tags_and_keys_that_are_wrong(rt: HostRuntime) -> Result<(), Fail> {
+    let short = Case {
+        lines: SHORT,
+        label: b"sig-b25",
+        rule: Rule::MacMismatch,
+        at: At::Nowhere,
+    };
+    let unread = Case {
+        lines: SHORT,
+        label: b"s",
+        rule: Rule::LabelNotInInput,
+        at: At::Nowhere,
+    };
+    let cases = [
+        short,
+        unread,
+        fails(
+            b"Signature-Input: s=();keyid=\"test-shared-secret\";alg=\"hmac-sha256\"\r\n\
+            Signature: s=::\r\n",
+            Rule::MacMismatch,
+            At::Nowhere,
+        ),
+        fails(
+            b"Signature-Input: s=();keyid=\"test-shared-secret\";alg=\"ed25519\"\r\n\
+            Signature: s=:AAAA:\r\n",
+            Rule::AlgRefused,
+            At::Name(b"ed25519"),
+        ),
+        fails(
+            b"Signature-Input: s=(\"@status\");alg=\"rsa-pss-sha512\"\r\nSignature: s=:AAAA:\r\n",
+            Rule::AlgRefused,
+            At::Name(b"rsa-pss-sha512"),
+        ),
+        fails(
+            b"Signature-Input: s=();alg=\"x\"\r\nSignature: s=:AAAA:\r\n",
+            Rule::AlgUnknown,
+            At::Name(br#""x""#),
+        ),
+        fails(
+            b"Signature-Input: s=();alg=\"ED25519\\\"\"\r\nSignature: s=:AAAA:\r\n",
+            Rule::AlgUnknown,
+            At::Name(br#""ED25519\"""#),
+        ),
+        fails(
+            b"Signature-Input: s=(\"@status\")\r\nSignature: s=:AAAA:\r\n",
+            Rule::KeyidAbsent,
+            At::Nowhere,
+        ),
+        fails(
+            b"Signature-Input: s=(\"@status\");keyid=\"other\"\r\nSignature: s=:AAAA:\r\n",
+            Rule::KeyUnknown,
+            At::Nowhere,
+        ),
+    ];
+    check_verdicts(&rt, rt.alloc(), &cases)
+}
+
+#[test]
+fn the_first_component_that_lacks_decides(rt: HostRuntime) -> Result<(), Fail> {
+    let cases = [
+        fails(
+            b"Signature-Input: s=(\"host\" \"x\";bs \"@status\");keyid=\"test-shared-secret\"\r\n\
+            Signature: s=:AAAA:\r\n",
+            Rule::Absent,
+            At::Id(b"x", 1),
+        ),
+        fails(
+            b"Host: b\r\nSignature-Input: s=(\"@authority\" \"x\");keyid=\"test-shared-secret\"\r\n\
+            Signature: s=:AAAA:\r\n",
+            Rule::Ambiguous,
+            At::Id(b"@authority", 0),
+        ),
+        fails(
+            b"Signature-Input: s=(\"@status\" \"x\");keyid=\"test-shared-secret\"\r\n\
+            Signature: s=:AAAA:\r\n",
+            Rule::Underivable,
+            At::Id(b"@status", 0),
+        ),
+        fails(
+            b"X: (\r\nSignature-Input: s=(\"x\";key=\"a\" \"y\");keyid=\"test-shared-secret\"\r\n\
+            Signature: s=:AAAA:\r\n",
+            Rule::Unreadable,
+            At::Id(b"x", 1),
+        ),
+        fails(
+            b"X: \xC3\xA9\r\nSignature-Input: s=(\"x\" \"y\");keyid=\"test-shared-secret\"\r\n\
+            Signature: s=:AAAA:\r\n",
+            Rule::NotAscii,
+            At::Id(b"x", 0),
+        ),
+    ];
+    check_verdicts(&rt, rt.alloc(), &cases)
+}
