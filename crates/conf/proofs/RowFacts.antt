@@ -1,7 +1,8 @@
 -- What holds at each row of the table.
-use Rattle.std.proofs.Common.{◌≡◌, ◌&&◌, ℕ, zero, suc, Bool, true, List, [], ◌∷◌, ◌++◌, take, drop, Option, Some, None, IsTrue, codes, refl, sym, ap, ◌∙◌, inl, inr}
+use Rattle.std.proofs.Common.{◌≡◌, ◌&&◌, ℕ, Bool, true, List, [], ◌∷◌, ◌++◌, take, drop, Option, Some, None, IsTrue, codes, refl, sym, ap, ◌∙◌, inl, inr}
 use Rattle.std.specs.Prelude.{is_none, is_some}
-use Rattle.std.specs.List.{slice_get}
+use Rattle.std.specs.List.{find}
+use Rattle.std.specs.Str.{bytes_eq}
 use Rattle.std.proofs.lemmas.Bool.{cases_Bool, false≢true}
 use Rattle.component_ids.specs.declared.id.ComponentId.{ComponentId}
 use Rattle.toml.specs.Data.{Data, Members, string, integer, float, boolean, datetime, array, table, as_str, as_table, get_member}
@@ -30,67 +31,73 @@ passes test value given never is = elim (cases_Bool (test given)) [
   | inr failed ↦ absurd (never (rw (is, failed) refl))
 ]
 
--- what holds of none doesn't hold of that at an index
-none_of_at : {X : Type 0} (P : X → Type 0) (xs : List X) (i : ℕ) (x : X) → slice_get xs i ≡ Some x → HoldsOfNone P xs → P x → ⊥
-none_of_at P [] i x at none here = absurd cc
-none_of_at P (y ∷ xs) zero x at none here = let same : y ≡ x = cc in none.0 (rw same here)
-none_of_at P (y ∷ xs) (suc i) x at none here = none_of_at P xs i x at none.1 here
+-- what holds of none doesn't hold of one that is found
+none_of_found : {X : Type 0} (P : X → Type 0) (test : X → Bool) (xs : List X) (x : X) → find test xs ≡ Some x → HoldsOfNone P xs → P x → ⊥
+none_of_found P test [] x found none here = absurd cc
+none_of_found P test (y ∷ xs) x found none here = elim (cases_Bool (test y)) [
+  | inl passed ↦ let same : y ≡ x = cc (rw passed at found) in none.0 (rw same here)
+  | inr failed ↦ none_of_found P test xs x (rw failed at found) none.1 here
+]
+
+-- nor of the row of a path
+none_of_path : (P : Row → Type 0) (path : List ℕ) (row : Row) → find (λ (r : Row). bytes_eq r.path path) rows ≡ Some row → HoldsOfNone P rows → P row → ⊥
+none_of_path P path row found none here = none_of_found P (λ (r : Row). bytes_eq r.path path) rows row found none here
 
 -- ---- types
 
 pub keys_typed : (document : Members) → IsJudged document → (IsTrue (fails (has_type rule.Keys) (get_member (codes "keys") document)) → ⊥)
 unfolding rows
-keys_typed document judged = none_of_at (λ (row : Row). IsTrue (is_ill_typed document row)) rows 0 _ refl judged.typed
+keys_typed document judged = none_of_path (λ (row : Row). IsTrue (is_ill_typed document row)) (codes "keys") _ refl judged.typed
 
 pub sign_typed : (document : Members) → IsJudged document → (IsTrue (fails (has_type rule.Table) (get_member (codes "sign") document)) → ⊥)
 unfolding rows
-sign_typed document judged = none_of_at (λ (row : Row). IsTrue (is_ill_typed document row)) rows 2 _ refl judged.typed
+sign_typed document judged = none_of_path (λ (row : Row). IsTrue (is_ill_typed document row)) (codes "sign") _ refl judged.typed
 
 pub request_typed : (document : Members) → IsJudged document → (IsTrue (fails (has_type rule.Components) (sign_value document (codes "components-request"))) → ⊥)
 unfolding rows
-request_typed document judged = none_of_at (λ (row : Row). IsTrue (is_ill_typed document row)) rows 4 _ refl judged.typed
+request_typed document judged = none_of_path (λ (row : Row). IsTrue (is_ill_typed document row)) (codes "sign.components-request") _ refl judged.typed
 
 pub response_typed : (document : Members) → IsJudged document → (IsTrue (fails (has_type rule.Components) (sign_value document (codes "components-response"))) → ⊥)
 unfolding rows
-response_typed document judged = none_of_at (λ (row : Row). IsTrue (is_ill_typed document row)) rows 5 _ refl judged.typed
+response_typed document judged = none_of_path (λ (row : Row). IsTrue (is_ill_typed document row)) (codes "sign.components-response") _ refl judged.typed
 
 pub keyid_typed : (document : Members) → IsJudged document → (IsTrue (fails (has_type rule.Keyid) (sign_value document (codes "keyid"))) → ⊥)
 unfolding rows
-keyid_typed document judged = none_of_at (λ (row : Row). IsTrue (is_ill_typed document row)) rows 8 _ refl judged.typed
+keyid_typed document judged = none_of_path (λ (row : Row). IsTrue (is_ill_typed document row)) (codes "sign.keyid") _ refl judged.typed
 
 pub label_typed : (document : Members) → IsJudged document → (IsTrue (fails (has_type rule.Label) (sign_value document (codes "label"))) → ⊥)
 unfolding rows
-label_typed document judged = none_of_at (λ (row : Row). IsTrue (is_ill_typed document row)) rows 9 _ refl judged.typed
+label_typed document judged = none_of_path (λ (row : Row). IsTrue (is_ill_typed document row)) (codes "sign.label") _ refl judged.typed
 
 pub types_typed : (document : Members) → IsJudged document → (IsTrue (fails (has_type rule.Types) (get_member (codes "types") document)) → ⊥)
 unfolding rows
-types_typed document judged = none_of_at (λ (row : Row). IsTrue (is_ill_typed document row)) rows 11 _ refl judged.typed
+types_typed document judged = none_of_path (λ (row : Row). IsTrue (is_ill_typed document row)) (codes "types") _ refl judged.typed
 
 -- ---- ranges
 
 pub keys_allowed : (document : Members) → IsJudged document → (IsTrue (fails (is_allowed document rule.Keys) (get_member (codes "keys") document)) → ⊥)
 unfolding rows
-keys_allowed document judged = none_of_at (λ (row : Row). IsTrue (is_out_of_range document row)) rows 0 _ refl judged.allowed
+keys_allowed document judged = none_of_path (λ (row : Row). IsTrue (is_out_of_range document row)) (codes "keys") _ refl judged.allowed
 
 pub seconds_allowed : (document : Members) → IsJudged document → (IsTrue (fails (is_allowed document rule.Seconds) (sign_value document (codes "expires-after"))) → ⊥)
 unfolding rows
-seconds_allowed document judged = none_of_at (λ (row : Row). IsTrue (is_out_of_range document row)) rows 7 _ refl judged.allowed
+seconds_allowed document judged = none_of_path (λ (row : Row). IsTrue (is_out_of_range document row)) (codes "sign.expires-after") _ refl judged.allowed
 
 pub keyid_allowed : (document : Members) → IsJudged document → (IsTrue (fails (is_allowed document rule.Keyid) (sign_value document (codes "keyid"))) → ⊥)
 unfolding rows
-keyid_allowed document judged = none_of_at (λ (row : Row). IsTrue (is_out_of_range document row)) rows 8 _ refl judged.allowed
+keyid_allowed document judged = none_of_path (λ (row : Row). IsTrue (is_out_of_range document row)) (codes "sign.keyid") _ refl judged.allowed
 
 pub label_allowed : (document : Members) → IsJudged document → (IsTrue (fails (is_allowed document rule.Label) (sign_value document (codes "label"))) → ⊥)
 unfolding rows
-label_allowed document judged = none_of_at (λ (row : Row). IsTrue (is_out_of_range document row)) rows 9 _ refl judged.allowed
+label_allowed document judged = none_of_path (λ (row : Row). IsTrue (is_out_of_range document row)) (codes "sign.label") _ refl judged.allowed
 
 pub tag_allowed : (document : Members) → IsJudged document → (IsTrue (fails (is_allowed document rule.Tag) (sign_value document (codes "tag"))) → ⊥)
 unfolding rows
-tag_allowed document judged = none_of_at (λ (row : Row). IsTrue (is_out_of_range document row)) rows 10 _ refl judged.allowed
+tag_allowed document judged = none_of_path (λ (row : Row). IsTrue (is_out_of_range document row)) (codes "sign.tag") _ refl judged.allowed
 
 pub types_allowed : (document : Members) → IsJudged document → (IsTrue (fails (is_allowed document rule.Types) (get_member (codes "types") document)) → ⊥)
 unfolding rows
-types_allowed document judged = none_of_at (λ (row : Row). IsTrue (is_out_of_range document row)) rows 11 _ refl judged.allowed
+types_allowed document judged = none_of_path (λ (row : Row). IsTrue (is_out_of_range document row)) (codes "types") _ refl judged.allowed
 
 -- ---- keys that are there
 
@@ -100,11 +107,11 @@ there has (Some value) known never = refl
 
 pub keyid_there : (document : Members) → HoldsOfNone (λ row. IsTrue (is_missing document row)) rows → has_place document Sign ≡ true → is_some (sign_value document (codes "keyid")) ≡ true
 unfolding rows
-keyid_there document complete has = there (has_place document Sign) (sign_value document (codes "keyid")) has (none_of_at (λ (row : Row). IsTrue (is_missing document row)) rows 8 _ refl complete)
+keyid_there document complete has = there (has_place document Sign) (sign_value document (codes "keyid")) has (none_of_path (λ (row : Row). IsTrue (is_missing document row)) (codes "sign.keyid") _ refl complete)
 
 pub label_there : (document : Members) → HoldsOfNone (λ row. IsTrue (is_missing document row)) rows → has_place document Sign ≡ true → is_some (sign_value document (codes "label")) ≡ true
 unfolding rows
-label_there document complete has = there (has_place document Sign) (sign_value document (codes "label")) has (none_of_at (λ (row : Row). IsTrue (is_missing document row)) rows 9 _ refl complete)
+label_there document complete has = there (has_place document Sign) (sign_value document (codes "label")) has (none_of_path (λ (row : Row). IsTrue (is_missing document row)) (codes "sign.label") _ refl complete)
 
 -- ---- key texts and lists
 

@@ -405,7 +405,10 @@ fn a_key_is_added_to_the_others(rt: HostRuntime) -> Result<(), Fail> {
     assert!(rt; conf.sign().is_none());
     assert!(rt; conf.key(b"a").is_none());
     conf.add_key(b"a", b"1")?;
-    conf.add_key(b"b", b"2")?;
+    match conf.key(b"b") {
+        Some(_) => return Err(Fail::from("a key that wasn't added")),
+        None => conf.add_key(b"b", b"2")?,
+    }
     assert_eq!(rt; conf.key(b"a"), Some(b"1".as_slice()));
     assert_eq!(rt; conf.key(b"b"), Some(b"2".as_slice()));
     Ok(())
