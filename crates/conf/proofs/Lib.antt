@@ -11,8 +11,8 @@ mod SignReadLaws
 mod KeyTextLaws
 mod TypeLaws
 mod ConfLaws
-mod CauseLaws
-mod MeaningLaws
+pub mod CauseLaws
+pub mod MeaningLaws
 mod ReadLaws
 mod EmptyLaws
 mod AnswerLaws

@@ -5,8 +5,8 @@ use Rattle.conf.specs.Meaning.{Configuration, Configures}
 use Rattle.conf.specs.Refusals.{IsConfFault}
 
 -- a text is a configuration, or has a fault
-abbrev pub HasAnswer : Type 0
-HasAnswer =
+abbrev pub HasConfAnswer : Type 0
+HasConfAnswer =
     (text : List ℕ)
     → ((conf : Configuration) × Configures text conf)
     ⊎ ((fault : ConfFault) × IsConfFault text fault)
@@ -18,13 +18,13 @@ HasOneMeaning =
     → Configures text conf → Configures text other → conf ≡ other
 
 -- it has one fault
-abbrev pub HasOneFault : Type 0
-HasOneFault =
+abbrev pub HasOneConfFault : Type 0
+HasOneConfFault =
     (text : List ℕ) (fault other : ConfFault)
     → IsConfFault text fault → IsConfFault text other → fault ≡ other
 
 -- it isn't both
-abbrev pub HasNotBoth : Type 0
-HasNotBoth =
+abbrev pub HasNoFaultWhereRead : Type 0
+HasNoFaultWhereRead =
     (text : List ℕ) (conf : Configuration) (fault : ConfFault)
     → Configures text conf → ¬ IsConfFault text fault

@@ -1,12 +1,12 @@
 //! The law of texts that are read as configurations. The function does nothing; its contract is the
 //! law.
 
-ghost use Rattle.conf.specs.Laws.{HasAnswer, HasOneMeaning, HasOneFault, HasNotBoth};
+ghost use Rattle.conf.specs.Laws.{HasConfAnswer, HasOneMeaning, HasOneConfFault, HasNoFaultWhereRead};
 
 /// A text is one configuration, or has one fault, and not both.
 pub fn a_text_has_one_answer()
-    ensures answer { HasAnswer }
+    ensures answer { HasConfAnswer }
     ensures meaning { HasOneMeaning }
-    ensures fault { HasOneFault }
-    ensures either { HasNotBoth }
+    ensures fault { HasOneConfFault }
+    ensures either { HasNoFaultWhereRead }
 {}

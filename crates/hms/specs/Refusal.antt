@@ -8,7 +8,7 @@ use Rattle.component_ids.specs.Reasons.{word_of}
 use Rattle.derived_values.specs.Words.{lack_word}
 use Rattle.hms_io.specs.declared.status.Status.{Status}
 use Rattle.hms_io.specs.declared.status.Status.TheVariants.{BadArguments, BadInput, BadConf, LimitPassed, FileMissing}
-use Rattle.conf.specs.Refusals.{number_of, path_of}
+use Rattle.conf.specs.Refusals.{fault_number, fault_path}
 use Rattle.hms.specs.declared.refusal.TheConstants.{MAX_CONF_BYTES, MAX_INPUT_BYTES}
 use Rattle.hms.specs.declared.refusal.Refusal.{Refusal}
 use Rattle.hms.specs.declared.refusal.Refusal.TheVariants.{Arguments, Conf, Input, Command}
@@ -34,7 +34,7 @@ path_text (Some path) = byte " " ∷ path
 abbrev pub conf_text : ConfRefusal → List ℕ
 conf_text conf.Missing = codes "missing"
 conf_text conf.TooLong = codes "bytes " ++ decimal MAX_CONF_BYTES
-conf_text (conf.Fault fault) = decimal (number_of fault) ++ path_text (path_of fault)
+conf_text (conf.Fault fault) = decimal (fault_number fault) ++ path_text (fault_path fault)
 
 -- how a section of field lines is called
 abbrev pub side_text : Side → List ℕ

@@ -41,8 +41,8 @@ IsUnreadByOneRule =
     → (rule ≡ other) × (place ≡ another)
 
 -- it isn't both
-abbrev pub HasNotBoth : Type 0
-HasNotBoth =
+abbrev pub HasNoFailureWhereRead : Type 0
+HasNoFailureWhereRead =
     (message : Message) (label : List ℕ) (params : SigParams) (tag : List ℕ) (rule : Rule)
     (place : Place) → HasSignature message label params tag → ¬ IsUnread message label rule place
 

@@ -1,6 +1,6 @@
 //! Laws of labels and their verdicts. Each function does nothing; its contract is the law.
 
-ghost use Rattle.verdicts.specs.Laws.{HasLabels, HasOneListOfLabels, HasSignatureOrNot, HasOneSignature, IsUnreadByOneRule, HasNotBoth, HasVerdict, HasOneVerdict, IsAcceptedWhereNoRuleFails};
+ghost use Rattle.verdicts.specs.Laws.{HasLabels, HasOneListOfLabels, HasSignatureOrNot, HasOneSignature, IsUnreadByOneRule, HasNoFailureWhereRead, HasVerdict, HasOneVerdict, IsAcceptedWhereNoRuleFails};
 
 /// A message has one list of labels.
 pub fn a_message_has_one_list_of_labels()
@@ -14,7 +14,7 @@ pub fn a_label_has_one_reading()
     ensures some { HasSignatureOrNot }
     ensures signature { HasOneSignature }
     ensures rule { IsUnreadByOneRule }
-    ensures either { HasNotBoth }
+    ensures either { HasNoFailureWhereRead }
 {}
 
 /// A label has one verdict, and it is accepted exactly where no rule fails.
