@@ -1,13 +1,13 @@
 -- Arguments spell one command.
-use Rattle.std.proofs.Common.{◌≡◌, ℕ, List, [], ◌∷◌, ◌++◌, Option, Some, None, refl, sym, ap, subst, ◌∙◌}
+use Rattle.std.proofs.Common.{◌≡◌, ℕ, List, [], ◌∷◌, ◌++◌, Option, Some, None, sym, ap, ◌∙◌}
 use Rattle.std.specs.Prelude.{IsSomeAnd, codes}
 use Rattle.std.specs.Str.Parse.{digits_value}
 use Rattle.std.proofs.lemmas.List.{append-nil}
 use Rattle.sfv_text.specs.Keys.{value_of}
 use Rattle.sfv_text.specs.declared.pair.Pair.{Pair}
-use Rattle.command_line.specs.Command.{CommandLine, Base, Verify, SpellsBase, SpellsVerify, IsCommand}
+use Rattle.command_line.specs.Command.{Base, Verify, SpellsBase, SpellsVerify}
 use Rattle.command_line.specs.Laws.{HasOneCommand}
-use Rattle.command_line.specs.Options.{words_of, AreOptions}
+use Rattle.command_line.specs.Options.{words_of}
 use Rattle.command_line.proofs.OptionLists.{begins}
 
 after_one : (a b : List ℕ) (x y : List (List ℕ)) → a ∷ x ≡ b ∷ y → x ≡ y

@@ -1,17 +1,15 @@
 -- The digits of a moment as a numeral of std.
-use Rattle.std.proofs.Common.{◌≡◌, ◌+◌, ◌-◌, ◌<◌, ◌≤◌, ◌^◌, ℕ, Bool, true, ◌&&◌, refl, List, [], ◌∷◌, length, get_or, arith, sym, subst}
-use Rattle.std.specs.Prelude.{IsTrue, nat_lt, nat_le}
+use Rattle.std.proofs.Common.{◌≡◌, ◌<◌, ◌≤◌, ◌^◌, ℕ, true, ◌&&◌, refl, List, [], ◌∷◌, length, get_or, arith}
+use Rattle.std.specs.Prelude.{nat_lt, nat_le}
 use Rattle.std.specs.Char.{digit_value}
 use Rattle.std.specs.List.{list_all}
 use Rattle.std.specs.Str.Parse.{AllDigits, IsNumeral, digits_value, without_leading_plus}
-use Rattle.std.proofs.lemmas.Bool.{and_parts, lt-ltb}
+use Rattle.std.proofs.lemmas.Bool.{and_parts}
 use Rattle.std.proofs.lemmas.Bool.Decides.{nat_tests}
-use Rattle.std.proofs.lemmas.Int.Digits.{digits_value-lt}
 use Rattle.std.proofs.lemmas.Str.{digit_value_digit}
 use Rattle.std.proofs.lemmas.Str.Parse.{IsNumeralModel, without_leading_plus_none, digits_value_short}
 use Rattle.byte_classes.specs.Classes.{is_digit}
 use Rattle.command_line.specs.Options.{is_moment}
-use Rattle.command_line.specs.declared.options.TheConstants.{MAX_MOMENT_DIGITS}
 
 digit_below : (c : ℕ) → is_digit c ≡ true → digit_value c < 10
 digit_below c is =

@@ -1,14 +1,14 @@
 -- Words as options.
-use Rattle.std.proofs.Common.{◌≡◌, ◌<◌, ℕ, Bool, true, false, ◌&&◌, ◌||◌, not, List, [], ◌∷◌, ◌++◌, length, Option, Some, None, refl, sym, ap, subst, ◌∙◌, inl, inr, arith, append_assoc}
-use Rattle.std.specs.Prelude.{IsTrue, IsFalse, option_map}
+use Rattle.std.proofs.Common.{◌≡◌, ◌<◌, ℕ, Bool, true, false, ◌||◌, List, [], ◌∷◌, ◌++◌, length, Option, Some, None, refl, sym, ap, subst, ◌∙◌, inl, inr, arith, append_assoc}
+use Rattle.std.specs.Prelude.{option_map}
 use Rattle.std.specs.Option.{option_or}
-use Rattle.std.specs.List.{flat_map, list_all, list_any, find}
+use Rattle.std.specs.List.{list_all, list_any, find}
 use Rattle.std.specs.Str.{bytes_eq}
 use Rattle.std.proofs.lemmas.Bool.{cases_Bool, and_parts, false≢true}
 use Rattle.std.proofs.lemmas.List.Folds.{list_all-append, list_any-append, find-append}
 use Rattle.std.proofs.lemmas.List.{append-nil}
 use Rattle.std.proofs.lemmas.Slice.Eq.{bytes_eq-Decides}
-use Rattle.sfv_text.specs.Keys.{has_key, have_distinct_keys, value_of, put}
+use Rattle.sfv_text.specs.Keys.{has_key, have_distinct_keys, value_of}
 use Rattle.sfv_text.specs.declared.pair.Pair.{Pair}
 use Rattle.sfv_text.proofs.PutLaws.{distinct_parts, put_distinct, put_new}
 use Rattle.command_line.specs.Options.{may_have, takes, words_of, AreOptions}
@@ -103,7 +103,7 @@ one_more_met command met more words after option word so_far new put_in =
     record {
       done = so_far.done ++ (pair ∷ []);
       joined = so_far.joined ∙ (sym (append_assoc (words_of so_far.done) (option ∷ word ∷ []) after)
-      ∙ ap (λ (words : List (List ℕ)). words ++ after) (sym (words_joined so_far.done (pair ∷ []))));
+          ∙ ap (λ (words : List (List ℕ)). words ++ after) (sym (words_joined so_far.done (pair ∷ []))));
       are = record {
         joined = refl;
         distinct = rw (put_new so_far.done option word is_new) (put_distinct so_far.done option word so_far.are.distinct);
@@ -111,7 +111,7 @@ one_more_met command met more words after option word so_far new put_in =
         had = snoc_test (λ p. may_have p.key p.value) so_far.done pair so_far.are.had new.had;
       };
       are_met = λ other. put_in other ∙ (rw (so_far.are_met other) (at_end (bytes_eq option other) (list_any (has_key other) so_far.done))
-      ∙ sym (list_any-append (has_key other) so_far.done (pair ∷ [])));
+          ∙ sym (list_any-append (has_key other) so_far.done (pair ∷ [])));
     }
 
 pub all_met : (command : CommandName) (met : Met) (words : List (List ℕ)) → AreMetBefore command met words [] → HasOptions command words
@@ -160,7 +160,7 @@ one_more_other option key word words after so_far apart =
     record {
       done = so_far.done ++ (pair ∷ []);
       joined = so_far.joined ∙ (sym (append_assoc (words_of so_far.done) (key ∷ word ∷ []) after)
-      ∙ ap (λ (words : List (List ℕ)). words ++ after) (sym (words_joined so_far.done (pair ∷ []))));
+          ∙ ap (λ (words : List (List ℕ)). words ++ after) (sym (words_joined so_far.done (pair ∷ []))));
       others = list_any-append (has_key option) so_far.done (pair ∷ []) ∙ rw (so_far.others, apart) refl;
     }
 

@@ -79,9 +79,7 @@ fn is_key_first(byte: u8) -> bool
 fn is_key_rest(byte: u8) -> bool
     ensures { result ≡ is_key_rest byte }
 {
-    byte.is_ascii_lowercase()
-        || byte.is_ascii_digit()
-        || matches!(byte, b'_' | b'-' | b'.' | b'*')
+    byte.is_ascii_lowercase() || byte.is_ascii_digit() || matches!(byte, b'_' | b'-' | b'.' | b'*')
 }
 
 fn are_key_rest(bytes: &[u8]) -> bool
@@ -96,9 +94,7 @@ fn is_key(word: &[u8]) -> bool
 {
     match word.split_first() {
         None => false,
-        Some((first, others)) => {
-            is_key_first(*first) && are_key_rest(others)
-        }
+        Some((first, others)) => { is_key_first(*first) && are_key_rest(others) }
     }
 }
 
@@ -152,7 +148,10 @@ impl Met {
         } else if option == "--now" {
             Met { now: true, ..self }
         } else {
-            Met { label: true, ..self }
+            Met {
+                label: true,
+                ..self
+            }
         }
     }
 }

@@ -34,7 +34,12 @@ fn verify<'a>(conf: &'a str, now: u64, label: Option<&'a str>) -> Option<Command
 fn words_spell_base(rt: HostRuntime) -> Result<(), Fail> {
     let alloc = rt.alloc();
     assert_command(&rt, alloc, &["base", "()"], base("()", None))?;
-    assert_command(&rt, alloc, &["base", "", "--conf", "c"], base("", Some("c")))?;
+    assert_command(
+        &rt,
+        alloc,
+        &["base", "", "--conf", "c"],
+        base("", Some("c")),
+    )?;
     let named = base("--conf", Some("--now"));
     assert_command(&rt, alloc, &["base", "--conf", "--conf", "--now"], named)?;
     for words in [
@@ -57,12 +62,30 @@ fn words_spell_base(rt: HostRuntime) -> Result<(), Fail> {
 fn words_spell_verify(rt: HostRuntime) -> Result<(), Fail> {
     let alloc = rt.alloc();
     let most = verify("c", 999_999_999_999_999, Some("*a-1"));
-    assert_command(&rt, alloc, &["verify", "--conf", "c", "--now", "0"], verify("c", 0, None))?;
-    assert_command(&rt, alloc, &["verify", "--now", "007", "--conf", "c"], verify("c", 7, None))?;
     assert_command(
         &rt,
         alloc,
-        &["verify", "--label", "*a-1", "--now", "999999999999999", "--conf", "c"],
+        &["verify", "--conf", "c", "--now", "0"],
+        verify("c", 0, None),
+    )?;
+    assert_command(
+        &rt,
+        alloc,
+        &["verify", "--now", "007", "--conf", "c"],
+        verify("c", 7, None),
+    )?;
+    assert_command(
+        &rt,
+        alloc,
+        &[
+            "verify",
+            "--label",
+            "*a-1",
+            "--now",
+            "999999999999999",
+            "--conf",
+            "c",
+        ],
         most,
     )?;
     for words in [

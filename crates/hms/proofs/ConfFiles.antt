@@ -1,6 +1,6 @@
 -- The file of a configuration, known or not.
-use Rattle.std.proofs.Common.{◌≡◌, ◌+◌, ◌<◌, ◌≤◌, ℕ, List, [], length, replicate, Option, Some, None, Result, Ok, Err, refl, sym, ap, subst, ◌∙◌, arith}
-use Rattle.std.specs.Prelude.{IsSomeAnd, IfSome, IsErrOf, MatchOption}
+use Rattle.std.proofs.Common.{◌≡◌, ◌+◌, ◌<◌, ◌≤◌, ℕ, List, [], length, replicate, Option, Some, None, Err, refl, subst, ◌∙◌, arith}
+use Rattle.std.specs.Prelude.{IsSomeAnd, MatchOption}
 use Rattle.std.specs.FinMap as map
 use Rattle.std.specs.Ordering.{nat_cmp}
 use Rattle.std.specs.Cmp.Lexicographic.{slice_cmp}
@@ -13,15 +13,12 @@ use Rattle.hms_io.specs.declared.whole_file.FileError.{FileError}
 use Rattle.hms_io.specs.declared.whole_file.FileError.TheVariants as file
 use Rattle.conf.specs.Meaning.{Configuration, Configures}
 use Rattle.conf.specs.Refusals.{IsConfFault}
-use Rattle.conf.specs.declared.conf.Conf.{Conf}
 use Rattle.conf.specs.declared.fault.ConfFault.{ConfFault}
 use Rattle.conf.specs.declared.fault.ConfFault.TheVariants as fault
 use Rattle.hms.specs.Configured.{IsConfigured, IsConfRefused}
 use Rattle.hms.specs.Report.{HasFiles}
 use Rattle.hms.specs.declared.refusal.TheConstants.{MAX_CONF_BYTES}
-use Rattle.hms.specs.declared.refusal.ConfRefusal.{ConfRefusal}
 use Rattle.hms.specs.declared.refusal.ConfRefusal.TheVariants.{Missing, TooLong, Fault}
-use Rattle.hms.specs.declared.refusal.Refusal.{Refusal}
 use Rattle.hms.specs.declared.refusal.Refusal.TheVariants.{Conf as OfConf}
 use Rattle.hms.specs.tools.Stops.{IfStopped, IsRefusalFor, stop_of_file, stop_of_conf}
 

@@ -1,6 +1,6 @@
 -- What is read at each layer is one value, or has one cause to be refused.
-use Rattle.std.proofs.Common.{◌≡◌, ◌<◌, ◌≤◌, ◌⊎◌, ℕ, Option, Some, List, length, refl, sym, ap, subst, ◌∙◌, arith}
-use Rattle.std.specs.Prelude.{⊤, IsSomeAnd}
+use Rattle.std.proofs.Common.{◌≡◌, ℕ, Some, List, refl, sym, ap, subst, ◌∙◌, arith}
+use Rattle.std.specs.Prelude.{⊤}
 use Rattle.std.specs.List.{slice_get}
 use Rattle.byte_grammar.specs.FaultOffset.{IsFaultOffset}
 use Rattle.byte_grammar.proofs.Indices.{some_and_parts}
@@ -15,18 +15,16 @@ use Rattle.component_ids.specs.SignatureParams.{list_of}
 use Rattle.component_ids.specs.declared.fault.IdFault.{IdFault}
 use Rattle.component_ids.specs.declared.id.ComponentId.{ComponentId}
 use Rattle.component_ids.specs.declared.params.SigParams.{SigParams}
-use Rattle.command_line.specs.Command.{CommandLine, IsCommand, NoCommand}
+use Rattle.command_line.specs.Command.{IsCommand, NoCommand}
 use Rattle.command_line.proofs.CommandLaws.{one_command}
-use Rattle.derived_values.specs.declared.lack.Lack.{Lack}
 use Rattle.component_values.specs.Context.{MessageContext}
-use Rattle.component_values.specs.Values.{HaveValues, IsFirstLack}
+use Rattle.component_values.specs.Values.{HaveValues}
 use Rattle.component_values.proofs.FirstLacks.{have_one_list, first_lack_is_one, none_lacks}
 use Rattle.msg_body.specs.Messages.{Message}
 use Rattle.msg_body.specs.declared.error.MessageFault.{MessageFault}
 use Rattle.hms.specs.Base.{HasIdFault, AreParamsRefused, IsValueLacking}
 use Rattle.hms.specs.Covered.{ReadsParams}
 use Rattle.hms.specs.Messages.{IsMessage, IsInputRefused}
-use Rattle.hms.specs.declared.refusal.TheConstants.{MAX_INPUT_BYTES}
 use Rattle.hms.specs.declared.refusal.InputRefusal.{InputRefusal}
 use Rattle.hms.specs.declared.refusal.InputRefusal.TheVariants.{TooLong, Message as NoMessage}
 use Rattle.hms.specs.declared.refusal.CommandRefusal.{CommandRefusal}

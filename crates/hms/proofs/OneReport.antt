@@ -2,9 +2,8 @@
 use Rattle.std.proofs.Common.{◌≡◌, ◌<◌, ◌≤◌, ℕ, List, [], ◌∷◌, length, Option, Some, None, refl, sym, ap, subst, ◌∙◌, arith}
 use Rattle.std.specs.Prelude.{IsSomeAnd}
 use Rattle.std.specs.FinMap as map
-use Rattle.byte_grammar.proofs.Indices.{some_and_parts}
 use Rattle.hms_io.specs.Files.{FileMap}
-use Rattle.command_line.specs.Command.{CommandLine, Base, Verify, IsCommand, NoCommand, conf_of}
+use Rattle.command_line.specs.Command.{CommandLine, Base, Verify, conf_of}
 use Rattle.msg_body.specs.Messages.{Message}
 use Rattle.conf.specs.Meaning.{Configuration, Configures}
 use Rattle.conf.specs.Refusals.{IsConfFault}
@@ -14,13 +13,11 @@ use Rattle.verdicts.specs.declared.outcome.Verdict.{Verdict}
 use Rattle.hms.specs.Base.{context_for, ReportsValues, ReportsBase}
 use Rattle.hms.specs.Configured.{IsConfigured, IsFileRefused, IsConfRefused}
 use Rattle.hms.specs.Laws.{HasOneReport}
-use Rattle.hms.specs.Messages.{IsMessage}
-use Rattle.hms.specs.Report.{ReportsCommand, ReportsInput, ReportsFiles, Reports}
+use Rattle.hms.specs.Report.{ReportsCommand, ReportsInput, ReportsFiles}
 use Rattle.hms.specs.Verify.{AreAsked, AreVerdicts, verification_for, ReportsVerdicts, or_no_label, verdicts_outcome}
 use Rattle.hms.specs.declared.refusal.TheConstants.{MAX_CONF_BYTES}
 use Rattle.hms.specs.declared.refusal.ConfRefusal.{ConfRefusal}
 use Rattle.hms.specs.declared.refusal.ConfRefusal.TheVariants.{Missing, TooLong, Fault}
-use Rattle.hms.specs.declared.outcome.Outcome.{Outcome}
 use Rattle.hms.proofs.Decided.{arguments_decided, input_decided, params_decided, values_decided}
 use Rattle.hms.proofs.Layers.{HasOne, IsDecisive, one_of_layers}
 use Rattle.hms.proofs.LowerConf.{one_meaning, one_conf_fault, not_both_conf, one_list_of_labels, one_verdict}
@@ -99,7 +96,7 @@ one_of_verdicts : (label : Option (List ℕ)) (conf : Configuration) (message : 
 one_of_verdicts label conf message one other a b =
     let labels : a.labels ≡ b.labels = labels_one label message a.labels b.labels a.asked b.asked in
     let verdicts : a.verdicts ≡ b.verdicts =
-        verdicts_one conf message b.labels a.verdicts b.verdicts (subst (λ (ls : List (List ℕ)). AreVerdicts conf message ls a.verdicts) labels a.are) b.are in
+    verdicts_one conf message b.labels a.verdicts b.verdicts (subst (λ (ls : List (List ℕ)). AreVerdicts conf message ls a.verdicts) labels a.are) b.are in
     a.outcome_is ∙ ((λ i. verdicts_outcome (labels i) (verdicts i)) ∙ sym b.outcome_is)
 
 -- ---- all

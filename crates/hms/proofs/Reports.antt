@@ -1,6 +1,6 @@
 -- The outcome of arguments, files and an input.
-use Rattle.std.proofs.Common.{◌≡◌, ◌⊎◌, inl, inr, ℕ, Bool, true, false, List, [], length, take, Option, Some, None, Result, Ok, Err, refl, sym, ap, subst, ◌∙◌}
-use Rattle.std.specs.Prelude.{⊤, IfSome, IfNone, option_map}
+use Rattle.std.proofs.Common.{◌≡◌, inl, inr, ℕ, Bool, true, false, List, [], Option, Some, None, Result, Err, refl, sym, ap, subst}
+use Rattle.std.specs.Prelude.{IfSome, IfNone, option_map}
 use Rattle.std.specs.Io.KnownBytes.{Appends}
 use Rattle.hms_io.specs.Files.{FileMap}
 use Rattle.hms_io.specs.declared.status.Status.{Status}
@@ -12,9 +12,9 @@ use Rattle.msg_body.specs.declared.error.MessageError.TheVariants as error
 use Rattle.msg_body.specs.declared.error.MessageFault.{MessageFault}
 use Rattle.msg_body.specs.declared.error.MessageFault.TheVariants as fault
 use Rattle.hms.specs.Configured.{IsConfigured, IsConfRefused}
-use Rattle.hms.specs.Refusal.{conf_status, message_status, fault_status, refusal_status}
+use Rattle.hms.specs.Refusal.{conf_status, message_status, fault_status}
 use Rattle.hms.specs.Outcome.{status_of, output_of}
-use Rattle.hms.specs.Report.{ReportsInput, ReportsFiles, Reports, HasFiles, HasInput, Leaves, HasReport, AppendsPrefix, Ends}
+use Rattle.hms.specs.Report.{ReportsInput, Reports, HasFiles, HasInput, Leaves, HasReport, AppendsPrefix, Ends}
 use Rattle.hms.specs.declared.refusal.Refusal.{Refusal}
 use Rattle.hms.specs.declared.refusal.Refusal.TheVariants.{Arguments, Conf, Input, Command}
 use Rattle.hms.specs.declared.refusal.ConfRefusal.{ConfRefusal}

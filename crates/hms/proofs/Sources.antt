@@ -1,10 +1,9 @@
 -- The input that a source gives.
-use Rattle.std.proofs.Common.{◌≡◌, ◌+◌, ◌<◌, ◌≤◌, ◌⊎◌, inl, inr, ℕ, Bool, true, false, List, [], length, replicate, Option, Some, None, Result, Ok, Err, refl, sym, ap, subst, ◌∙◌, arith, if◌then◌else◌}
+use Rattle.std.proofs.Common.{◌≡◌, ◌+◌, ◌<◌, ◌≤◌, inl, inr, ℕ, Bool, true, false, List, [], length, replicate, Option, Some, None, Result, Ok, Err, refl, sym, subst, arith}
 use Rattle.std.specs.Prelude.{IfSome}
 use Rattle.std.specs.List.{list_all}
-use Rattle.std.proofs.lemmas.Bool.{cases_Bool}
 use Rattle.std.proofs.lemmas.List.{length-replicate}
-use Rattle.hms_io.specs.Cause.{Rose, HasFillCause}
+use Rattle.hms_io.specs.Cause.{HasFillCause}
 use Rattle.hms_io.specs.Reading.{LosesPrefix, GivesAll}
 use Rattle.hms_io.specs.declared.read_write.FillError.{FillError}
 use Rattle.hms_io.specs.declared.read_write.FillError.TheVariants.{Memory as NoFillMemory, Failed, TooLong as Longer}
@@ -94,7 +93,7 @@ input_outcome command conf input read before now same short all result =
       known = known_input before now input all;
       reports = subst (λ (bytes : List ℕ). ReportsInput command conf bytes outcome) same reports;
       leaves = after_input command conf input before now short (nothing_left before now input all) outcome
-      (subst (λ (bytes : List ℕ). ReportsInput command conf bytes outcome) same reports);
+          (subst (λ (bytes : List ℕ). ReportsInput command conf bytes outcome) same reports);
     }) result
 
 pub reads_nothing_counts : (before now : ℕ) (result : Result Outcome Stop) → ReadsNothing result → now ≡ before → CountsStop before now result

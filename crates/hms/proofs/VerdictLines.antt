@@ -1,11 +1,10 @@
 -- The lines of verdicts, one by one.
-use Rattle.std.proofs.Common.{◌≡◌, ◌+◌, ◌<◌, ℕ, Bool, true, false, ◌&&◌, List, [], ◌∷◌, ◌++◌, length, get_or, take, refl, sym, ap, subst, ◌∙◌, arith, append_assoc}
-use Rattle.std.specs.List.{list_all, flat_map, zip}
+use Rattle.std.proofs.Common.{◌≡◌, ◌+◌, ◌<◌, ℕ, Bool, true, false, ◌&&◌, List, [], ◌∷◌, ◌++◌, length, get_or, take, refl, sym, ap, subst, ◌∙◌, append_assoc}
+use Rattle.std.specs.List.{list_all}
 use Rattle.std.proofs.lemmas.List.{take_more, append-nil}
 use Rattle.std.proofs.lemmas.List.Folds.{list_all-append}
 use Rattle.msg_body.specs.Messages.{Message}
 use Rattle.conf.specs.Meaning.{Configuration}
-use Rattle.verdicts.specs.Rules.{Verification}
 use Rattle.verdicts.specs.Verdicts.{IsVerdict}
 use Rattle.verdicts.specs.declared.outcome.Verdict.{Verdict}
 use Rattle.hms.specs.Verify.{AreVerdicts, verification_for, is_accepted, verdict_line, verdict_lines}
@@ -48,7 +47,7 @@ more_lines conf message labels n label lines now accepted one all lt is so_far m
       verdicts = so_far.verdicts ++ (more.verdict ∷ []);
       are = verdicts_more conf message (take n labels) so_far.verdicts label more.verdict so_far.are more.is;
       lines_are = more.added ∙ (ap (λ (text : List ℕ). text ++ verdict_line (label, more.verdict)) so_far.lines_are
-      ∙ sym (lines_more conf message (take n labels) so_far.verdicts label more.verdict so_far.are));
+          ∙ sym (lines_more conf message (take n labels) so_far.verdicts label more.verdict so_far.are));
       accepted_is = both ∙ ((λ i. so_far.accepted_is i && more.accepted_is i) ∙ (and_one (list_all is_accepted so_far.verdicts) (is_accepted more.verdict)
-      ∙ sym (list_all-append is_accepted so_far.verdicts (more.verdict ∷ []))));
+          ∙ sym (list_all-append is_accepted so_far.verdicts (more.verdict ∷ []))));
     })

@@ -101,8 +101,7 @@ fn write_verdicts(
     let mut lines = Text::new(alloc);
     let mut all_accepted = true;
     for label in labels {
-        let is_accepted =
-            write_verdict(alloc, &context, label.bytes(), conf, now, &mut lines)?;
+        let is_accepted = write_verdict(alloc, &context, label.bytes(), conf, now, &mut lines)?;
         all_accepted &= is_accepted;
     }
     Ok(if all_accepted {

@@ -1,15 +1,10 @@
 -- What is answered for a message and signature parameters. No public clause cites this module.
-use Rattle.std.specs.Prelude.{◌≡◌, ◌<◌, ◌⊎◌, ⊤, ℕ, List, slice_get, IsSomeAnd, Result, Ok, Err}
+use Rattle.std.specs.Prelude.{◌≡◌, ◌<◌, ◌⊎◌, ⊤, ℕ, List, slice_get, IsSomeAnd}
 use Rattle.component_ids.specs.Identifiers.{id_text}
 use Rattle.component_ids.specs.declared.id.ComponentId.{ComponentId}
-use Rattle.component_ids.specs.declared.params.SigParams.{SigParams}
 use Rattle.derived_values.specs.declared.lack.Lack.{Lack}
 use Rattle.component_values.specs.declared.fault.ValueFault.{ValueFault}
 use Rattle.component_values.specs.declared.fault.ValueFault.TheVariants as fault
-use Rattle.component_values.specs.Values.{HaveValues, IsFirstLack}
-use Rattle.msg_body.specs.Messages.{Message}
-use Rattle.sig_base.specs.SignatureBase.{signature_base}
-use Rattle.hms.specs.Base.{context_for}
 use Rattle.hms.specs.declared.refusal.Refusal.TheVariants.{Command}
 use Rattle.hms.specs.declared.refusal.CommandRefusal.TheVariants.{Lacks}
 use Rattle.hms.specs.declared.stop.Stop.{Stop}

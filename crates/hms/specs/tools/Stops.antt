@@ -19,7 +19,7 @@ use Rattle.hms.specs.declared.refusal.Refusal.{Refusal}
 use Rattle.hms.specs.declared.refusal.Refusal.TheVariants.{Conf, Input, Command}
 use Rattle.hms.specs.declared.refusal.ConfRefusal.TheVariants.{Missing as ConfMissing, TooLong as ConfTooLong, Fault as ConfFaulty}
 use Rattle.hms.specs.declared.refusal.InputRefusal.TheVariants.{TooLong, Message as NoMessage}
-use Rattle.hms.specs.declared.refusal.CommandRefusal.TheVariants.{Syntax, ItemKind, Ids, Lacks}
+use Rattle.hms.specs.declared.refusal.CommandRefusal.TheVariants.{Syntax, ItemKind, Ids}
 use Rattle.hms.specs.Report.{OneRose}
 use Rattle.hms.specs.declared.outcome.Outcome.{Outcome}
 use Rattle.hms.specs.declared.outcome.Outcome.TheVariants.{Refused as IsRefused}

@@ -1,9 +1,8 @@
-use Rattle.std.proofs.Common.{rules, ◌≡◌, map, string_bytes, subst, List, [], ℕ, length, sym, ap, ◌∙◌, ◌<◌, true, false, refl, arith}
-use Rattle.std.specs.Prelude.{IsTrue}
+use Rattle.std.proofs.Common.{◌≡◌, map, string_bytes, subst, List, ℕ, length, sym, ap, ◌∙◌, ◌<◌, refl}
 use Rattle.std.proofs.lemmas.Bool.{false≢true}
 use Rattle.std.proofs.lemmas.List.{length-map}
 use Rattle.command_line.specs.tools.Met.{AreMetBefore}
-use Rattle.command_line.proofs.OptionLists.{none_met, one_more_met, all_met, none_next, none_left_over}
+use Rattle.command_line.proofs.OptionLists.{one_more_met, none_next, none_left_over}
 use Rattle.command_line.proofs.options.are_options.Goals as goal
 
 pub returns-then-not-can_come-clause-not : goal.returns-then-not-can_come-clause-not
@@ -24,4 +23,4 @@ returns-clause-not c =
     let few : length (map string_bytes c.pairs.left.now) < 2 = rw (length-map c.pairs.left.now string_bytes) c.in_default.ensures.none in
     λ some. none_left_over c.args.command c.pairs.met (map string_bytes c.args.words.now) (map string_bytes c.pairs.left.now) c.pairs.invariant few
     (λ none. let count : length c.pairs.left.now ≡ 0 = sym (length-map c.pairs.left.now string_bytes) ∙ ap length none in
-      false≢true (sym (sym c.is_empty.ensures ∙ some) ∙ rw count refl))
+    false≢true (sym (sym c.is_empty.ensures ∙ some) ∙ rw count refl))

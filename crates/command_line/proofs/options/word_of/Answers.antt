@@ -1,4 +1,4 @@
-use Rattle.std.proofs.Common.{rules, map, string_bytes, subst, List, ℕ, length, ◌<◌, sym}
+use Rattle.std.proofs.Common.{map, string_bytes, subst, List, ℕ, length, ◌<◌, sym}
 use Rattle.std.proofs.lemmas.List.{length-map}
 use Rattle.command_line.specs.tools.Met.{AreOthersBefore}
 use Rattle.command_line.proofs.OptionLists.{found_word, one_more_other, no_word}

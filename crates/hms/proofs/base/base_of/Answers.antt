@@ -1,4 +1,4 @@
-use Rattle.std.proofs.Common.{◌≡◌, None, sym, subst, ◌∙◌, List}
+use Rattle.std.proofs.Common.{◌≡◌, None, subst, ◌∙◌, List}
 use Rattle.component_ids.specs.declared.id.ComponentId.{ComponentId}
 use Rattle.msg_body.specs.Views.{message_of}
 use Rattle.component_values.specs.Context.{context_of}
@@ -15,7 +15,7 @@ stop_for_fault-requires-clause-there c =
 pub returns-in-Err-clause-report : goal.returns-in-Err-clause-report
 returns-in-Err-clause-report c =
     let same : context_of c.of_message-context.result ≡ context_for (meaning c.args.conf.now) (message_of c.args.message.now) =
-        c.of_message-context.ensures
-        ∙ (λ i. record { message = message_of c.args.message.now; related = None; scheme = c.scheme.ensures i; types = c.types.ensures i }) in
+    c.of_message-context.ensures
+    ∙ (λ i. record { message = message_of c.args.message.now; related = None; scheme = c.scheme.ensures i; types = c.types.ensures i }) in
     lacking_outcome (meaning c.args.conf.now) (message_of c.args.message.now) (context_of c.of_message-context.result) c.args.sig.now c.in-Err.fault c.stop_for_fault.result
     same c.in-Err.ensures.lacks (subst (λ (ids : List ComponentId). SaysFault ids c.in-Err.fault c.stop_for_fault.result) c.as_slice.ensures c.stop_for_fault.ensures)

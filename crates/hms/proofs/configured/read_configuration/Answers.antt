@@ -1,4 +1,3 @@
-use Rattle.std.proofs.Common.{Some, None}
 use Rattle.hms.proofs.ConfFiles.{configured_without}
 use Rattle.hms.proofs.configured.read_configuration.Goals as goal
 

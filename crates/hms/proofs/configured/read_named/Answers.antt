@@ -1,7 +1,6 @@
 use Rattle.std.proofs.Common.{Result, Err, ap, ℕ, List}
 use Rattle.std.proofs.lemmas.Result.{err_from_is_err_and}
 use Rattle.hms_io.specs.declared.whole_file.FileError.{FileError}
-use Rattle.conf.specs.ConfMeaning.{meaning}
 use Rattle.hms.proofs.ConfFiles.{file_stop, conf_stop, configured_by}
 use Rattle.hms.proofs.configured.read_named.Goals as goal
 

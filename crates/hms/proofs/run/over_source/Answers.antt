@@ -1,4 +1,4 @@
-use Rattle.std.proofs.Common.{ℕ, List, Result, Err, ap, ◌∙◌}
+use Rattle.std.proofs.Common.{ℕ, List, Result, Err, ap}
 use Rattle.command_line.specs.Command.{line_of}
 use Rattle.conf.specs.ConfMeaning.{meaning}
 use Rattle.hms_io.specs.declared.read_write.FillError.{FillError}

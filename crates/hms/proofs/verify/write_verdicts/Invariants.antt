@@ -1,8 +1,6 @@
 use Rattle.std.proofs.Common.{take}
 use Rattle.msg_body.specs.Views.{message_of}
 use Rattle.conf.specs.ConfMeaning.{meaning}
-use Rattle.component_values.specs.Context.{context_of}
-use Rattle.hms.specs.Base.{context_for}
 use Rattle.hms.specs.tools.Verdicts.{AreLinesSoFar}
 use Rattle.hms.proofs.verify.write_verdicts.Given as goal
 
