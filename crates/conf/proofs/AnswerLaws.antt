@@ -1,5 +1,5 @@
 -- Each text is a configuration, or has a fault.
-use Rattle.std.proofs.Common.{◌≡◌, ◌⊎◌, ◌+◌, ℕ, Bool, true, false, List, [], ◌∷◌, Option, Some, None, option_map, IsTrue, codes, refl, sym, ap, ◌∙◌, inl, inr, nat_cmp}
+use Rattle.std.proofs.Common.{◌≡◌, ◌⊎◌, ℕ, Bool, true, false, List, [], ◌∷◌, Option, Some, None, option_map, IsTrue, codes, refl, sym, ap, ◌∙◌, inl, inr, nat_cmp}
 use Rattle.std.specs.Prelude.{is_some, option_and_then, unwrap_or}
 use Rattle.std.specs.FinMap as map
 use Rattle.std.specs.List.{find, list_all}
@@ -12,10 +12,9 @@ use Rattle.sfv_text.specs.declared.value.BareItem.{BareItem}
 use Rattle.sfv_text.specs.declared.value.InnerList.{InnerList}
 use Rattle.sfv_read.specs.Reads.{ReadsInner}
 use Rattle.sfv_read.proofs.Readings.{inner_has_one_value, inner_is_decided}
-use Rattle.component_ids.specs.SignatureParams.{IsParamsOf, IsSigParams, list_of}
+use Rattle.component_ids.specs.SignatureParams.{IsParamsOf, list_of}
 use Rattle.component_ids.specs.Types.{kind_in, standard_types}
 use Rattle.component_ids.specs.declared.id.ComponentId.{ComponentId}
-use Rattle.component_ids.specs.declared.params.SigParams.{SigParams}
 use Rattle.component_ids.proofs.FaultLaws as list_faults
 use Rattle.component_ids.proofs.Judged as list_answers
 use Rattle.toml.specs.Data.{Data, Members, string, table, as_bool, as_str, get_member}
@@ -25,15 +24,14 @@ use Rattle.conf.specs.declared.fault.ConfFault.TheVariants as fault
 use Rattle.conf.specs.declared.sign_conf.SignConf.{SignConf}
 use Rattle.conf.specs.declared.table.Place.TheVariants.{Sign}
 use Rattle.conf.specs.declared.table.Rule.TheVariants as rule
-use Rattle.conf.specs.Keys.{KeyMap}
-use Rattle.conf.specs.Meaning.{AreComponents, AreKeys, AreTypes, Configuration, Configures, HasKey, HasSign, IsConfiguration, IsDocument, IsSignConf, digest_of, scheme_of, seconds_of}
+use Rattle.conf.specs.Meaning.{AreComponents, AreKeys, AreTypes, Configuration, Configures, HasKey, HasSign, IsDocument, IsSignConf, digest_of, scheme_of, seconds_of}
 use Rattle.conf.specs.Paths.{HoldsAtPath, HoldsOfNone, IsLeast}
 use Rattle.conf.specs.Refusals.{HasBadKeyText, IsBadKeyText, IsBadList, IsConfFault}
 use Rattle.conf.specs.Rows.{fails, is_ill_typed, is_out_of_range}
 use Rattle.conf.specs.Table.{Row, rows, places, place_path, entries_of, has_place, has_unknown, is_missing, members_in}
 use Rattle.conf.specs.Values.{IsCovered, has_type, is_type, params_of}
 use Rattle.conf.specs.tools.Added.{key_in, kind_told, spells_key}
-use Rattle.conf.specs.tools.Judged.{IsCauseNumbered, IsClearBelow, IsFirstIn, IsJudged}
+use Rattle.conf.specs.tools.Judged.{IsClearBelow, IsFirstIn, IsJudged}
 use Rattle.conf.proofs.AddedLaws.{AllRead, all_of, entry_passes, get_all, or_else}
 use Rattle.conf.proofs.JudgedLaws.{first_is, clear_first, clear_more, below_typed, below_allowed, below_keys, below_missing, keys_clear}
 use Rattle.conf.proofs.KeyTextLaws.{are_texts, key_of_text, keys_of_document, not_spelled, spelled}
@@ -41,7 +39,7 @@ use Rattle.conf.proofs.LeastLaws.{ascends, found_least, found_none}
 use Rattle.conf.proofs.ReadLaws.{first_of, not_toml}
 use Rattle.conf.proofs.RowFacts.{sign_value, keys_typed, sign_typed, request_typed, response_typed, keyid_typed, label_typed, types_typed, types_allowed, keyid_there, label_there, keys_least, texts_fine, lists_fine_by, request_least, response_least_by}
 use Rattle.conf.proofs.RowLaws.{rows_ascend, places_ascend}
-use Rattle.conf.proofs.SignReadLaws.{table_or_none, text_of}
+use Rattle.conf.proofs.SignReadLaws.{table_or_none}
 use Rattle.conf.proofs.TypeLaws.{are_types, kind_at, kind_read, types_of_document}
 
 abbrev Answer : List ℕ → Type 0

@@ -1,8 +1,6 @@
 -- The faults of a text: at most one is the first, and none has a cause where the text is a configuration.
-use Rattle.std.proofs.Common.{◌≡◌, ◌⊎◌, ◌<◌, ℕ, Bool, Result, Ok, Err, IfOk, MatchResult, Option, Some, None, IsTrue, List, codes, refl, sym, ap, ◌∙◌, arith, inl, inr}
-use Rattle.std.specs.Prelude.{IsSomeAnd}
+use Rattle.std.proofs.Common.{◌≡◌, ℕ, Option, Some, None, List, codes, refl, sym, ap, ◌∙◌, arith}
 use Rattle.std.specs.FinMap as map
-use Rattle.byte_grammar.specs.Causes.{AnswersWhere, IsFirst}
 use Rattle.byte_grammar.specs.tools.Determined.{AreDetermined}
 use Rattle.byte_grammar.proofs.CauseLaws.{first_is_one}
 use Rattle.toml.specs.Data.{Data, Members, string, table, get_member}
@@ -11,15 +9,12 @@ use Rattle.conf.specs.declared.fault.ConfFault.{ConfFault}
 use Rattle.conf.specs.declared.fault.ConfFault.TheVariants.{Memory, NotToml, UnknownKey, WrongType, OutOfRange, BadKeyText, BadComponents, Missing}
 use Rattle.conf.specs.declared.sign_conf.SignConf.{SignConf}
 use Rattle.conf.specs.declared.table.Rule.TheVariants as rule
-use Rattle.conf.specs.Meaning.{AreComponents, AreKeys, Configuration, Configures, HasKey, HasSign, IsConfiguration, IsDocument}
-use Rattle.conf.specs.Refusals.{HasBadKeyText, IsBadKeyText, IsBadList, IsCause, IsCauseIn, IsConfFault, IsLeastRow, fault_number}
+use Rattle.conf.specs.Meaning.{AreComponents, Configuration, Configures, HasKey, HasSign, IsConfiguration, IsDocument}
+use Rattle.conf.specs.Refusals.{HasBadKeyText, IsBadKeyText, IsBadList, IsCause, IsCauseIn, IsConfFault, fault_number}
 use Rattle.conf.specs.Table.{members_in}
-use Rattle.conf.specs.Values.{IsKeyText}
-use Rattle.conf.specs.tools.Judged.{IsFirstIn, IsNotToml}
 use Rattle.conf.proofs.JudgedLaws.{known_clear, typed_clear, allowed_clear, keys_clear, lists_clear, complete_clear}
-use Rattle.conf.proofs.KeyTextLaws.{keys_of_document}
 use Rattle.conf.proofs.LeastLaws.{least_once}
-use Rattle.conf.proofs.RowFacts.{sign_value, texts_fine, lists_fine_by}
+use Rattle.conf.proofs.RowFacts.{texts_fine, lists_fine_by}
 
 -- ---- one document
 

@@ -1,21 +1,18 @@
 -- A document that was judged and read is a valid configuration.
-use Rattle.std.proofs.Common.{◌≡◌, ◌&&◌, ℕ, ℤ, pos, negsuc, nat_le, Bool, true, false, List, [], ◌∷◌, Option, Some, None, IsTrue, codes, refl, sym, ap, ◌∙◌, arith, inl, inr}
-use Rattle.std.specs.Prelude.{IsSomeAnd, is_some, option_and_then}
+use Rattle.std.proofs.Common.{◌≡◌, ℕ, pos, true, List, Option, Some, None, IsTrue, codes, refl, sym, ◌∙◌, arith}
+use Rattle.std.specs.Prelude.{option_and_then}
 use Rattle.std.specs.FinMap as map
 use Rattle.std.specs.List.{list_all}
-use Rattle.std.proofs.lemmas.Bool.{and_parts, cases_Bool, false≢true}
 use Rattle.std.proofs.lemmas.Bool.Decides.{nat_tests}
 use Rattle.sfv_text.specs.Range.{is_string_byte}
 use Rattle.component_ids.specs.Types.{KindMap}
 use Rattle.component_ids.specs.declared.scheme.Scheme.{Scheme}
 use Rattle.toml.specs.Data.{Data, Members, string, integer, table, as_str, get_member}
 use Rattle.conf.specs.declared.sign_conf.SignConf.{SignConf}
-use Rattle.conf.specs.declared.table.Place.TheVariants.{Sign}
 use Rattle.conf.specs.declared.table.Rule.TheVariants as rule
 use Rattle.conf.specs.Keys.{KeyMap}
 use Rattle.conf.specs.Meaning.{AreKeys, HasSign, IsSignConf, seconds_of}
 use Rattle.conf.specs.Rows.{fails}
-use Rattle.conf.specs.Table.{members_in}
 use Rattle.conf.specs.Valid.{AreValidSeconds, IsValid, IsValidSign}
 use Rattle.conf.specs.Values.{is_allowed}
 use Rattle.conf.specs.tools.Judged.{IsJudged}

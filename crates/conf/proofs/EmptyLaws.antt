@@ -1,15 +1,15 @@
 -- The configuration of the empty text.
-use Rattle.std.proofs.Common.{◌≡◌, ℕ, List, [], Some, None, IsTrue, refl, sym, ap, ◌∙◌}
+use Rattle.std.proofs.Common.{◌≡◌, ℕ, List, [], Some, None, IsTrue, refl, ap, ◌∙◌}
 use Rattle.std.specs.FinMap as map
 use Rattle.std.specs.Ordering.{nat_cmp}
 use Rattle.std.specs.Cmp.Lexicographic.{slice_cmp}
 use Rattle.std.proofs.lemmas.Bool.{false≢true}
 use Rattle.toml.proofs.OnLiterals.{toml_on_literals}
-use Rattle.toml.specs.Data.{Members, no_members}
+use Rattle.toml.specs.Data.{no_members}
 use Rattle.component_ids.specs.Types.{KindMap, kind_in, standard_types}
 use Rattle.component_ids.specs.declared.scheme.Scheme.TheVariants.{Https}
 use Rattle.conf.specs.Keys.{KeyMap}
-use Rattle.conf.specs.Meaning.{AreKeys, Configures, IsConfiguration, IsDocument}
+use Rattle.conf.specs.Meaning.{Configures, IsDocument}
 use Rattle.conf.specs.Paths.{HoldsOfNone}
 use Rattle.conf.specs.Rows.{is_ill_typed, is_out_of_range}
 use Rattle.conf.specs.Table.{rows, places, has_unknown, is_missing}

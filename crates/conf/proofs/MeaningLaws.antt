@@ -1,11 +1,10 @@
 -- A text is one configuration.
-use Rattle.std.proofs.Common.{◌≡◌, ℕ, Option, Some, None, List, [], codes, refl, sym, ap, ◌∙◌}
-use Rattle.std.specs.Prelude.{IsSomeAnd}
+use Rattle.std.proofs.Common.{◌≡◌, ℕ, Option, Some, None, List, codes, refl, sym, ap, ◌∙◌}
 use Rattle.std.specs.FinMap as map
 use Rattle.std.proofs.lemmas.Cmp.{nat_list_cmp_total}
 use Rattle.sfv_read.proofs.Readings.{inner_has_one_value}
-use Rattle.component_ids.specs.Types.{KindMap, kind_in}
-use Rattle.component_ids.specs.SignatureParams.{IsParamsOf, list_of}
+use Rattle.component_ids.specs.Types.{KindMap}
+use Rattle.component_ids.specs.SignatureParams.{list_of}
 use Rattle.component_ids.specs.declared.id.ComponentId.{ComponentId}
 use Rattle.component_ids.specs.declared.params.SigParams.{SigParams}
 use Rattle.component_ids.proofs.FaultLaws.{one_value}

@@ -1,5 +1,5 @@
 -- The clauses of the reader of configurations.
-use Rattle.std.proofs.Common.{◌≡◌, ◌⊎◌, ◌<◌, ℕ, Result, Ok, Err, IfOk, IfErr, MatchResult, List, refl, sym, ap, ◌∙◌, arith, inl, inr}
+use Rattle.std.proofs.Common.{◌≡◌, ◌⊎◌, ◌<◌, ℕ, Result, Ok, Err, IfOk, IfErr, MatchResult, List, refl, ap, arith, inl, inr}
 use Rattle.byte_grammar.specs.Causes.{AnswersWhere, IsFirst}
 use Rattle.toml.specs.Data.{Members}
 use Rattle.conf.specs.declared.conf.Conf.{Conf}

@@ -1,22 +1,21 @@
 -- What holds at each row of the table.
-use Rattle.std.proofs.Common.{◌≡◌, ◌&&◌, ℕ, Bool, true, List, [], ◌∷◌, ◌++◌, take, drop, Option, Some, None, IsTrue, codes, refl, sym, ap, ◌∙◌, inl, inr}
+use Rattle.std.proofs.Common.{◌≡◌, ◌&&◌, ℕ, Bool, true, List, [], ◌∷◌, take, drop, Option, Some, None, IsTrue, codes, refl, inl, inr}
 use Rattle.std.specs.Prelude.{is_none, is_some}
 use Rattle.std.specs.List.{find}
 use Rattle.std.specs.Str.{bytes_eq}
-use Rattle.std.proofs.lemmas.Bool.{cases_Bool, false≢true}
+use Rattle.std.proofs.lemmas.Bool.{cases_Bool}
 use Rattle.component_ids.specs.declared.id.ComponentId.{ComponentId}
-use Rattle.toml.specs.Data.{Data, Members, string, integer, float, boolean, datetime, array, table, as_str, as_table, get_member}
+use Rattle.toml.specs.Data.{Data, Members, get_member}
 use Rattle.conf.specs.declared.table.Place.TheVariants.{Sign}
-use Rattle.conf.specs.declared.table.Rule.{Rule}
 use Rattle.conf.specs.declared.table.Rule.TheVariants as rule
 use Rattle.conf.specs.Paths.{HoldsOfNone}
 use Rattle.conf.specs.Refusals.{HasBadKeyText, IsBadList, IsLeastRow}
 use Rattle.conf.specs.Rows.{fails, is_ill_typed, is_out_of_range}
-use Rattle.conf.specs.Table.{Row, rows, at_sign, at_top, value_of, members_at, members_in, has_place, is_missing}
+use Rattle.conf.specs.Table.{Row, rows, at_sign, at_top, value_of, members_at, has_place, is_missing}
 use Rattle.conf.specs.Values.{has_type, is_allowed}
 use Rattle.conf.specs.tools.Judged.{IsJudged}
 use Rattle.conf.specs.tools.SignReads.{IsToldList}
-use Rattle.conf.proofs.LeastLaws.{ascends, least_at}
+use Rattle.conf.proofs.LeastLaws.{least_at}
 use Rattle.conf.proofs.RowLaws.{rows_ascend}
 use Rattle.conf.proofs.SignLaws.{told_not_bad}
 

@@ -1,5 +1,5 @@
 -- Texts that are lists of covered components.
-use Rattle.std.proofs.Common.{◌≡◌, ◌&&◌, Bool, true, false, Option, Some, None, Err, List, [], map, MatchOption, IsTrue, ℕ, refl, sym, ap, ◌∙◌, arith}
+use Rattle.std.proofs.Common.{◌≡◌, true, false, Option, Some, None, Err, List, [], map, MatchOption, IsTrue, ℕ, refl, sym, ap, ◌∙◌, arith}
 use Rattle.std.specs.List.{list_all}
 use Rattle.std.proofs.lemmas.Bool.{and_parts, false≢true}
 use Rattle.std.proofs.lemmas.List.Folds.{list_all-map}
@@ -14,7 +14,7 @@ use Rattle.component_ids.specs.declared.fault.IdFault.{IdFault}
 use Rattle.component_ids.specs.declared.fault.IdFault.TheVariants as id_fault
 use Rattle.component_ids.specs.declared.id.ComponentId.{ComponentId}
 use Rattle.component_ids.specs.Identifiers.{item_of, is_id_in_range}
-use Rattle.component_ids.specs.SignatureParams.{IsSigParams, list_of}
+use Rattle.component_ids.specs.SignatureParams.{list_of}
 use Rattle.toml.specs.Data.{Data, string}
 use Rattle.conf.specs.declared.table.Rule.TheVariants.{Components}
 use Rattle.conf.specs.Refusals.{IsBadList}

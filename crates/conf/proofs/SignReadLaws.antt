@@ -1,5 +1,5 @@
 -- What the table `sign` says, once it is judged and read.
-use Rattle.std.proofs.Common.{◌≡◌, ◌⊎◌, ℕ, Bool, true, false, List, [], Option, Some, None, MatchOption, IsTrue, codes, refl, sym, ap, ◌∙◌, inl, inr}
+use Rattle.std.proofs.Common.{◌≡◌, ◌⊎◌, ℕ, true, List, Option, Some, None, MatchOption, IsTrue, codes, refl, ap, inl, inr}
 use Rattle.std.specs.Prelude.{option_and_then, is_some}
 use Rattle.std.proofs.lemmas.Bool.{false≢true}
 use Rattle.toml.specs.Data.{Data, Members, string, table, as_str, as_table, get_member}
@@ -9,7 +9,7 @@ use Rattle.conf.specs.declared.fault.ConfFault.TheVariants as fault
 use Rattle.conf.specs.declared.sign_conf.SignConf.{SignConf}
 use Rattle.conf.specs.declared.table.Place.TheVariants.{Sign}
 use Rattle.conf.specs.declared.table.Rule.TheVariants as rule
-use Rattle.conf.specs.Meaning.{AreComponents, HasSign, IsSignConf}
+use Rattle.conf.specs.Meaning.{AreComponents}
 use Rattle.conf.specs.Paths.{HoldsOfNone}
 use Rattle.conf.specs.Rows.{fails}
 use Rattle.conf.specs.Table.{rows, has_place, is_missing}

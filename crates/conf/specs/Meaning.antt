@@ -1,5 +1,5 @@
 -- What the text of a configuration says.
-use Rattle.std.specs.Prelude.{◌≡◌, ℕ, pos, Bool, true, false, Option, Some, None, IsSomeAnd, IsTrue, IsUtf8, option_and_then, unwrap_or, List, [], codes, if◌then◌else◌, ⊤}
+use Rattle.std.specs.Prelude.{◌≡◌, ℕ, pos, false, Option, Some, None, IsSomeAnd, IsTrue, IsUtf8, option_and_then, unwrap_or, List, [], codes, if◌then◌else◌}
 use Rattle.std.specs.FinMap as map
 use Rattle.std.specs.Str.{bytes_eq}
 use Rattle.toml.specs.Data.{Data, Members, string, integer, table, as_str, as_bool, get_member}

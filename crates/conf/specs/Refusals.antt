@@ -1,5 +1,5 @@
 -- When a text is no configuration, and for what fault.
-use Rattle.std.specs.Prelude.{◌≡◌, ℕ, Option, Some, None, IsTrue, List, codes}
+use Rattle.std.specs.Prelude.{ℕ, Option, Some, None, IsTrue, List, codes}
 use Rattle.byte_grammar.specs.Causes.{IsFirst}
 use Rattle.component_ids.specs.declared.id.ComponentId.{ComponentId}
 use Rattle.toml.specs.Data.{Data, Members, string, table, get_member}

@@ -1,5 +1,5 @@
 -- What holds of every configuration.
-use Rattle.std.specs.Prelude.{◌≡◌, ◌≤◌, ℕ, Option, Some, IsSome, IsTrue, List}
+use Rattle.std.specs.Prelude.{◌≡◌, ◌≤◌, ℕ, Some, IsSome, IsTrue, List}
 use Rattle.std.specs.FinMap as map
 use Rattle.std.specs.Option.{ForSome}
 use Rattle.std.specs.List.{list_all}

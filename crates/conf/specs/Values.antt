@@ -1,5 +1,5 @@
 -- The values that the keys of a configuration take.
-use Rattle.std.specs.Prelude.{◌≡◌, ◌≤◌, ℕ, ℤ, pos, negsuc, Bool, true, false, ◌&&◌, not, nat_le, Option, Some, None, is_some, List, [], ◌∷◌, length, codes, if◌then◌else◌}
+use Rattle.std.specs.Prelude.{◌≡◌, ◌≤◌, ℕ, ℤ, pos, negsuc, Bool, true, false, ◌&&◌, nat_le, Option, Some, None, is_some, List, [], ◌∷◌, length, codes, if◌then◌else◌}
 use Rattle.std.specs.List.{list_all}
 use Rattle.std.specs.Str.{bytes_eq}
 use Rattle.base64.specs.Engines.{standard}
@@ -15,8 +15,8 @@ use Rattle.component_ids.specs.SignatureParams.{IsSigParams, list_of}
 use Rattle.component_ids.specs.Table.{is_field_name, is_listed}
 use Rattle.conf.specs.declared.limits.TheConstants.{MAX_KEYID_BYTES, MAX_KEY_BYTES, MAX_EXPIRES_AFTER}
 use Rattle.conf.specs.declared.table.Rule.{Rule}
-use Rattle.conf.specs.declared.table.Rule.TheVariants.{Version, Scheme, Keys, Types, Table, Label, Keyid, Components, Seconds, Flag, Tag, Digest}
-use Rattle.conf.specs.Table.{Row, value_of, members_in, entries_of}
+use Rattle.conf.specs.declared.table.Rule.TheVariants.{Version, Scheme, Keys, Types, Table, Label, Keyid, Seconds, Flag, Tag, Digest}
+use Rattle.conf.specs.Table.{members_in, entries_of}
 
 -- ---- types
 

@@ -1,7 +1,5 @@
-use Rattle.std.proofs.Common.{◌≡◌, IfErr, Result, Ok, Err}
 use Rattle.std.proofs.lemmas.Result.{IfErr-weaker, err_from_is_err_and}
 use Rattle.toml.specs.View.{table_view}
-use Rattle.conf.specs.tools.Judged.{IsFirstIn, IsCauseNumbered}
 use Rattle.conf.proofs.JudgedLaws.{first_is, below_typed, below_allowed}
 use Rattle.conf.proofs.judge.judge_document.Goals as goal
 

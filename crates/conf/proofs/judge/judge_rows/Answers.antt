@@ -1,5 +1,4 @@
-use Rattle.std.proofs.Common.{◌≡◌, Some, List, ℕ, refl, ap, ◌∙◌, Option, option_map}
-use Rattle.std.specs.List.{find}
+use Rattle.std.proofs.Common.{◌≡◌, Some, List, ℕ, ap, ◌∙◌}
 use Rattle.toml.specs.View.{table_view}
 use Rattle.conf.specs.Table.{Row, rows}
 use Rattle.conf.specs.tools.Judged.{is_refused}

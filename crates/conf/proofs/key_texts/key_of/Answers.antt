@@ -1,5 +1,4 @@
 use Rattle.std.proofs.Common.{refl, sym}
-use Rattle.conf.specs.Values.{IsKeyText}
 use Rattle.conf.proofs.KeyLaws.{key_is, key_isnt, no_key, of_length}
 use Rattle.conf.proofs.key_texts.key_of.Goals as goal
 

@@ -1,4 +1,4 @@
-use Rattle.std.proofs.Common.{◌≡◌, Err}
+use Rattle.std.proofs.Common.{Err}
 use Rattle.std.proofs.lemmas.Result.{err_from_is_err_and}
 use Rattle.toml.specs.View.{table_view}
 use Rattle.conf.proofs.ReadLaws.{answers_fault, answers_ok, answers_only, explains_document, explains_not_toml}

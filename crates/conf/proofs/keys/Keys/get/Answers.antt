@@ -1,4 +1,4 @@
-use Rattle.std.proofs.Common.{◌≡◌, ℕ, Option, Some, List, option_map, Vec, Global, ap, ◌∙◌, rules}
+use Rattle.std.proofs.Common.{ℕ, Some, List, option_map, Vec, Global, ap, ◌∙◌}
 use Rattle.std.specs.FinMap as map
 use Rattle.conf.proofs.KeyEntryLaws.{looked_up}
 use Rattle.conf.proofs.keys.Keys.get.Goals as goal
