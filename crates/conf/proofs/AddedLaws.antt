@@ -13,7 +13,7 @@ use Rattle.std.proofs.lemmas.Cmp.{nat_list_cmp_total}
 use Rattle.toml.specs.Data.{Data, Members, no_members, member, get_member}
 use Rattle.toml.specs.View.{members_view}
 use Rattle.toml.specs.declared.value.Value.{Value}
-use Rattle.conf.specs.Table.{entries_of}
+use Rattle.conf_table.specs.Table.{entries_of}
 use Rattle.conf.specs.tools.Added.{Named, with_some, with_entry, all_added, HasDistinctNames}
 
 abbrev pub name_cmp : List ℕ → List ℕ → Ordering

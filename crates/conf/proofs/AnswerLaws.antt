@@ -22,14 +22,14 @@ use Rattle.toml.specs.Parse.{parse_document}
 use Rattle.conf.specs.declared.fault.ConfFault.{ConfFault}
 use Rattle.conf.specs.declared.fault.ConfFault.TheVariants as fault
 use Rattle.conf.specs.declared.sign_conf.SignConf.{SignConf}
-use Rattle.conf.specs.declared.table.Place.TheVariants.{Sign}
-use Rattle.conf.specs.declared.table.Rule.TheVariants as rule
+use Rattle.conf_table.specs.declared.table.Place.TheVariants.{Sign}
+use Rattle.conf_table.specs.declared.table.Rule.TheVariants as rule
 use Rattle.conf.specs.Meaning.{AreComponents, AreKeys, AreTypes, Configuration, Configures, HasKey, HasSign, IsDocument, IsSignConf, digest_of, scheme_of, seconds_of}
 use Rattle.conf.specs.Paths.{HoldsAtPath, HoldsOfNone, IsLeast}
 use Rattle.conf.specs.Refusals.{HasBadKeyText, IsBadKeyText, IsBadList, IsConfFault}
-use Rattle.conf.specs.Rows.{fails, is_ill_typed, is_out_of_range}
-use Rattle.conf.specs.Table.{Row, rows, places, place_path, entries_of, has_place, has_unknown, is_missing, members_in}
-use Rattle.conf.specs.Values.{IsCovered, has_type, is_type, params_of}
+use Rattle.conf_table.specs.Rows.{fails, is_ill_typed, is_out_of_range}
+use Rattle.conf_table.specs.Table.{Row, rows, places, place_path, entries_of, has_place, has_unknown, is_missing, members_in}
+use Rattle.conf_table.specs.Values.{IsCovered, has_type, is_type, params_of}
 use Rattle.conf.specs.tools.Added.{key_in, kind_told, spells_key}
 use Rattle.conf.specs.tools.Judged.{IsClearBelow, IsFirstIn, IsJudged}
 use Rattle.conf.proofs.AddedLaws.{AllRead, all_of, entry_passes, get_all, or_else}

@@ -8,10 +8,10 @@ use Rattle.component_ids.specs.declared.id.ComponentId.{ComponentId}
 use Rattle.conf.specs.declared.fault.ConfFault.{ConfFault}
 use Rattle.conf.specs.declared.fault.ConfFault.TheVariants.{Memory, NotToml, UnknownKey, WrongType, OutOfRange, BadKeyText, BadComponents, Missing}
 use Rattle.conf.specs.declared.sign_conf.SignConf.{SignConf}
-use Rattle.conf.specs.declared.table.Rule.TheVariants as rule
+use Rattle.conf_table.specs.declared.table.Rule.TheVariants as rule
 use Rattle.conf.specs.Meaning.{AreComponents, Configuration, Configures, HasKey, HasSign, IsConfiguration, IsDocument}
 use Rattle.conf.specs.Refusals.{HasBadKeyText, IsBadKeyText, IsBadList, IsCause, IsCauseIn, IsConfFault, fault_number}
-use Rattle.conf.specs.Table.{members_in}
+use Rattle.conf_table.specs.Table.{members_in}
 use Rattle.conf.proofs.JudgedLaws.{known_clear, typed_clear, allowed_clear, keys_clear, lists_clear, complete_clear}
 use Rattle.conf.proofs.LeastLaws.{least_once}
 use Rattle.conf.proofs.RowFacts.{texts_fine, lists_fine_by}

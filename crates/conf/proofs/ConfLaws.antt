@@ -9,12 +9,12 @@ use Rattle.component_ids.specs.Types.{KindMap}
 use Rattle.component_ids.specs.declared.scheme.Scheme.{Scheme}
 use Rattle.toml.specs.Data.{Data, Members, string, integer, table, as_str, get_member}
 use Rattle.conf.specs.declared.sign_conf.SignConf.{SignConf}
-use Rattle.conf.specs.declared.table.Rule.TheVariants as rule
+use Rattle.conf_table.specs.declared.table.Rule.TheVariants as rule
 use Rattle.conf.specs.Keys.{KeyMap}
 use Rattle.conf.specs.Meaning.{AreKeys, HasSign, IsSignConf, seconds_of}
-use Rattle.conf.specs.Rows.{fails}
+use Rattle.conf_table.specs.Rows.{fails}
 use Rattle.conf.specs.Valid.{AreValidSeconds, IsValid, IsValidSign}
-use Rattle.conf.specs.Values.{is_allowed}
+use Rattle.conf_table.specs.Values.{is_allowed}
 use Rattle.conf.specs.tools.Judged.{IsJudged}
 use Rattle.conf.specs.tools.SignReads.{IsSignOf}
 use Rattle.conf.proofs.KeyTextLaws.{keys_of_document, key_is_there, valid_keyids, valid_keys}

@@ -11,8 +11,8 @@ use Rattle.component_ids.specs.declared.scheme.Scheme.TheVariants.{Https}
 use Rattle.conf.specs.Keys.{KeyMap}
 use Rattle.conf.specs.Meaning.{Configures, IsDocument}
 use Rattle.conf.specs.Paths.{HoldsOfNone}
-use Rattle.conf.specs.Rows.{is_ill_typed, is_out_of_range}
-use Rattle.conf.specs.Table.{rows, places, has_unknown, is_missing}
+use Rattle.conf_table.specs.Rows.{is_ill_typed, is_out_of_range}
+use Rattle.conf_table.specs.Table.{rows, places, has_unknown, is_missing}
 use Rattle.conf.specs.Valid.{IsValid}
 
 empty_document : IsDocument [] no_members

@@ -11,13 +11,13 @@ use Rattle.std.proofs.lemmas.Bool.{cases_Bool, false≢true}
 use Rattle.toml.specs.Data.{Data, Members, no_members, member, string, table, as_str, get_member}
 use Rattle.conf.specs.declared.fault.ConfFault.{ConfFault}
 use Rattle.conf.specs.declared.fault.ConfFault.TheVariants as fault
-use Rattle.conf.specs.declared.table.Rule.TheVariants as rule
+use Rattle.conf_table.specs.declared.table.Rule.TheVariants as rule
 use Rattle.conf.specs.Keys.{KeyMap}
 use Rattle.conf.specs.Meaning.{AreKeys, HasKey}
 use Rattle.conf.specs.Refusals.{IsBadKeyText, HasBadKeyText}
-use Rattle.conf.specs.Rows.{fails}
-use Rattle.conf.specs.Table.{entries_of, members_in}
-use Rattle.conf.specs.Values.{IsHmacKey, has_type, is_allowed, is_keyid, are_strings}
+use Rattle.conf_table.specs.Rows.{fails}
+use Rattle.conf_table.specs.Table.{entries_of, members_in}
+use Rattle.conf_table.specs.Values.{IsHmacKey, has_type, is_allowed, is_keyid, are_strings}
 use Rattle.conf.specs.tools.Added.{all_added, key_in, spells_key, spell_keys, HasDistinctNames}
 use Rattle.conf.specs.tools.Judged.{IsClearBelow, IsFirstIn, IsJudged}
 use Rattle.conf.specs.tools.KeyFaults.{IsKeysFault}

@@ -12,8 +12,8 @@ use Rattle.toml.specs.Data.{Data, Members, string, table, get_member}
 use Rattle.conf.specs.declared.sign_conf.SignConf.{SignConf}
 use Rattle.conf.specs.Keys.{KeyMap}
 use Rattle.conf.specs.Meaning.{AreComponents, AreKeys, AreTypes, Configuration, Configures, HasKey, HasSign, IsConfiguration, IsSignConf}
-use Rattle.conf.specs.Table.{members_in}
-use Rattle.conf.specs.Values.{IsCovered, IsKeyText, params_of}
+use Rattle.conf_table.specs.Table.{members_in}
+use Rattle.conf_table.specs.Values.{IsCovered, IsKeyText, params_of}
 use Rattle.conf.proofs.CauseLaws.{one_document}
 use Rattle.conf.proofs.KeyLaws.{key_is}
 

@@ -6,13 +6,13 @@ use Rattle.std.specs.Str.{bytes_eq}
 use Rattle.std.proofs.lemmas.Bool.{cases_Bool}
 use Rattle.component_ids.specs.declared.id.ComponentId.{ComponentId}
 use Rattle.toml.specs.Data.{Data, Members, get_member}
-use Rattle.conf.specs.declared.table.Place.TheVariants.{Sign}
-use Rattle.conf.specs.declared.table.Rule.TheVariants as rule
+use Rattle.conf_table.specs.declared.table.Place.TheVariants.{Sign}
+use Rattle.conf_table.specs.declared.table.Rule.TheVariants as rule
 use Rattle.conf.specs.Paths.{HoldsOfNone}
 use Rattle.conf.specs.Refusals.{HasBadKeyText, IsBadList, IsLeastRow}
-use Rattle.conf.specs.Rows.{fails, is_ill_typed, is_out_of_range}
-use Rattle.conf.specs.Table.{Row, rows, at_sign, at_top, value_of, members_at, has_place, is_missing}
-use Rattle.conf.specs.Values.{has_type, is_allowed}
+use Rattle.conf_table.specs.Rows.{fails, is_ill_typed, is_out_of_range}
+use Rattle.conf_table.specs.Table.{Row, rows, at_sign, at_top, value_of, members_at, has_place, is_missing}
+use Rattle.conf_table.specs.Values.{has_type, is_allowed}
 use Rattle.conf.specs.tools.Judged.{IsJudged}
 use Rattle.conf.specs.tools.SignReads.{IsToldList}
 use Rattle.conf.proofs.LeastLaws.{least_at}

@@ -16,10 +16,10 @@ use Rattle.component_ids.specs.declared.id.ComponentId.{ComponentId}
 use Rattle.component_ids.specs.Identifiers.{item_of, is_id_in_range}
 use Rattle.component_ids.specs.SignatureParams.{list_of}
 use Rattle.toml.specs.Data.{Data, string}
-use Rattle.conf.specs.declared.table.Rule.TheVariants.{Components}
+use Rattle.conf_table.specs.declared.table.Rule.TheVariants.{Components}
 use Rattle.conf.specs.Refusals.{IsBadList}
 use Rattle.conf.specs.Valid.{AreValidComponents}
-use Rattle.conf.specs.Values.{IsCovered, params_of}
+use Rattle.conf_table.specs.Values.{IsCovered, params_of}
 use Rattle.conf.specs.tools.SignReads.{is_id_memory, is_sf_memory, IsIdsOf, IsReadList, IsToldList}
 
 pub not_id_memory : (f : IdFault) → is_id_memory f ≡ false → ¬ (f ≡ id_fault.Memory)

@@ -7,13 +7,13 @@ use Rattle.component_ids.specs.declared.id.ComponentId.{ComponentId}
 use Rattle.conf.specs.declared.fault.ConfFault.{ConfFault}
 use Rattle.conf.specs.declared.fault.ConfFault.TheVariants as fault
 use Rattle.conf.specs.declared.sign_conf.SignConf.{SignConf}
-use Rattle.conf.specs.declared.table.Place.TheVariants.{Sign}
-use Rattle.conf.specs.declared.table.Rule.TheVariants as rule
+use Rattle.conf_table.specs.declared.table.Place.TheVariants.{Sign}
+use Rattle.conf_table.specs.declared.table.Rule.TheVariants as rule
 use Rattle.conf.specs.Meaning.{AreComponents}
 use Rattle.conf.specs.Paths.{HoldsOfNone}
-use Rattle.conf.specs.Rows.{fails}
-use Rattle.conf.specs.Table.{rows, has_place, is_missing}
-use Rattle.conf.specs.Values.{has_type}
+use Rattle.conf_table.specs.Rows.{fails}
+use Rattle.conf_table.specs.Table.{rows, has_place, is_missing}
+use Rattle.conf_table.specs.Values.{has_type}
 use Rattle.conf.specs.tools.Judged.{IsCauseNumbered, IsClearBelow, IsFirstIn, IsJudged}
 use Rattle.conf.specs.tools.SignReads.{IsListFault, IsSignOf, IsSignRead, IsToldList, LacksName}
 use Rattle.conf.proofs.JudgedLaws.{first_is, below_missing}

@@ -9,11 +9,11 @@ use Rattle.toml.specs.Data.{Data, Members, string, table, as_str, get_member}
 use Rattle.component_ids.specs.Table.{is_field_name, is_listed}
 use Rattle.component_ids.specs.Types.{KindMap, kind_in, standard_types}
 use Rattle.component_ids.specs.declared.types.FieldKind.{FieldKind}
-use Rattle.conf.specs.declared.table.Rule.TheVariants as rule
+use Rattle.conf_table.specs.declared.table.Rule.TheVariants as rule
 use Rattle.conf.specs.Meaning.{AreTypes, told_kind}
-use Rattle.conf.specs.Rows.{fails}
-use Rattle.conf.specs.Table.{entries_of, members_in}
-use Rattle.conf.specs.Values.{is_allowed, is_type, kind_of_word, standard_names}
+use Rattle.conf_table.specs.Rows.{fails}
+use Rattle.conf_table.specs.Table.{entries_of, members_in}
+use Rattle.conf_table.specs.Values.{is_allowed, is_type, kind_of_word, standard_names}
 use Rattle.conf.specs.tools.Added.{all_added, kind_told, HasDistinctNames}
 use Rattle.conf.specs.tools.Judged.{IsJudged}
 use Rattle.conf.proofs.AddedLaws.{get_added, entry_passes, or_else}

@@ -9,7 +9,7 @@ use Rattle.component_ids.specs.declared.scheme.Scheme.{Scheme}
 use Rattle.conf.specs.declared.sign_conf.SignConf.{SignConf}
 use Rattle.conf.specs.Keys.{KeyMap}
 use Rattle.conf.specs.Valid.{IsValid, IsValidSign}
-use Rattle.conf.specs.Values.{IsHmacKey, is_keyid}
+use Rattle.conf_table.specs.Values.{IsHmacKey, is_keyid}
 use Rattle.conf.proofs.AddedLaws.{name_cmp, same_name}
 
 -- what a map has after an insert is what was there or what came

@@ -1,6 +1,3 @@
-pub mod Table
-pub mod Values
-pub mod Rows
 pub mod Keys
 pub mod Paths
 pub mod Meaning

@@ -13,10 +13,10 @@ use Rattle.conf.specs.declared.sign_conf.SignConf.{SignConf}
 use Rattle.conf.specs.declared.sign_conf.SignDigest.{SignDigest}
 use Rattle.conf.specs.declared.sign_conf.SignDigest.TheVariants.{No, Sha256, Sha512}
 use Rattle.conf.specs.Keys.{KeyMap}
-use Rattle.conf.specs.Table.{rows, places, members_in, has_unknown, is_missing}
-use Rattle.conf.specs.Values.{IsKeyText, IsCovered, kind_of_word}
+use Rattle.conf_table.specs.Table.{rows, places, members_in, has_unknown, is_missing}
+use Rattle.conf_table.specs.Values.{IsKeyText, IsCovered, kind_of_word}
 use Rattle.conf.specs.Paths.{HoldsOfNone}
-use Rattle.conf.specs.Rows.{is_ill_typed, is_out_of_range}
+use Rattle.conf_table.specs.Rows.{is_ill_typed, is_out_of_range}
 
 -- a configuration
 pub record Configuration : Type 0 where

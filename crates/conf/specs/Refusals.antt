@@ -5,12 +5,12 @@ use Rattle.component_ids.specs.declared.id.ComponentId.{ComponentId}
 use Rattle.toml.specs.Data.{Data, Members, string, table, get_member}
 use Rattle.conf.specs.declared.fault.ConfFault.{ConfFault}
 use Rattle.conf.specs.declared.fault.ConfFault.TheVariants.{Memory, NotToml, UnknownKey, WrongType, OutOfRange, BadKeyText, BadComponents, Missing}
-use Rattle.conf.specs.declared.table.Rule.{Rule}
-use Rattle.conf.specs.declared.table.Rule.TheVariants.{Keys, Components}
-use Rattle.conf.specs.Table.{Row, rows, places, place_path, value_of, has_unknown, is_missing}
-use Rattle.conf.specs.Values.{IsKeyText, IsCovered}
+use Rattle.conf_table.specs.declared.table.Rule.{Rule}
+use Rattle.conf_table.specs.declared.table.Rule.TheVariants.{Keys, Components}
+use Rattle.conf_table.specs.Table.{Row, rows, places, place_path, value_of, has_unknown, is_missing}
+use Rattle.conf_table.specs.Values.{IsKeyText, IsCovered}
 use Rattle.conf.specs.Paths.{HoldsAtPath, IsLeast}
-use Rattle.conf.specs.Rows.{is_ill_typed, is_out_of_range}
+use Rattle.conf_table.specs.Rows.{is_ill_typed, is_out_of_range}
 use Rattle.conf.specs.Meaning.{IsDocument}
 
 -- the path is the least of a key of which the fact holds

@@ -7,9 +7,9 @@ use Rattle.sfv_text.specs.Range.{is_string_byte, is_key}
 use Rattle.component_ids.specs.declared.id.ComponentId.{ComponentId}
 use Rattle.component_ids.specs.Identifiers.{is_id_in_range}
 use Rattle.component_ids.specs.SignatureParams.{IsSigParams}
-use Rattle.conf.specs.declared.limits.TheConstants.{MAX_EXPIRES_AFTER}
+use Rattle.conf_table.specs.declared.limits.TheConstants.{MAX_EXPIRES_AFTER}
 use Rattle.conf.specs.declared.sign_conf.SignConf.{SignConf}
-use Rattle.conf.specs.Values.{IsHmacKey, is_keyid, params_of}
+use Rattle.conf_table.specs.Values.{IsHmacKey, is_keyid, params_of}
 use Rattle.conf.specs.Keys.{KeyMap}
 use Rattle.conf.specs.Meaning.{Configuration}
 

@@ -1,7 +1,5 @@
-pub mod TableRows
 pub mod Judged
 pub mod KeyEntries
-pub mod Views
 pub mod Added
 pub mod KeyFaults
 pub mod SignReads

@@ -5,7 +5,7 @@ ghost use Rattle.std.specs.FinMap as map;
 ghost use Rattle.conf.specs.ConfMeaning.{meaning};
 ghost use Rattle.conf.specs.Keys.{KeyMap};
 ghost use Rattle.conf.specs.Valid.{IsValidSign};
-ghost use Rattle.conf.specs.Values.{IsHmacKey, is_keyid};
+ghost use Rattle.conf_table.specs.Values.{IsHmacKey, is_keyid};
 
 use crate::conf::Conf;
 use crate::sign_conf::SignConf;

@@ -1,17 +1,13 @@
-//! A TOML document, and its values.
+//! A TOML document.
 
-ghost use Rattle.std.specs.Prelude.{◌≡◌, IfOk, IfErr, option_and_then, option_copied, option_map, string_bytes};
-ghost use Rattle.toml.specs.Data.{as_str, as_table, get_member};
-ghost use Rattle.toml.specs.View.{table_view, view};
+ghost use Rattle.std.specs.Prelude.{IfOk, IfErr};
+ghost use Rattle.toml.specs.View.{table_view};
 ghost use Rattle.conf.specs.Meaning.{IsDocument};
-ghost use Rattle.conf.specs.Table.{has_place, members_at, members_in};
 ghost use Rattle.conf.specs.tools.Judged.{IsNotToml};
-ghost use Rattle.conf.specs.tools.Views.{table_members};
 
 use crate::fault::ConfFault;
-use crate::table::Place;
 use std::alloc::Global;
-use toml::{Table, Value};
+use toml::Table;
 
 /// The document of the text.
 pub(crate) fn read_document(alloc: Global, text: &[u8]) -> Result<Table, ConfFault>
@@ -27,67 +23,5 @@ pub(crate) fn read_document(alloc: Global, text: &[u8]) -> Result<Table, ConfFau
                 Err(ConfFault::NotToml)
             }
         }
-    }
-}
-
-/// The value of that name in the table.
-pub(crate) fn member<'d>(table: &'d Table, name: &str) -> Option<&'d Value>
-    ensures { option_map (λ value. view value.now) result
-        ≡ get_member name.now (table_view table.now) }
-{
-    table.get(name)
-}
-
-/// The table of that name in the table.
-pub(crate) fn table_in<'d>(table: &'d Table, name: &str) -> Option<&'d Table>
-    ensures { option_map (λ inner. table_view inner.now) result
-        ≡ option_and_then as_table (get_member name.now (table_view table.now)) }
-{
-    match member(table, name) {
-        None => None,
-        Some(value) => value.as_table(),
-    }
-}
-
-/// The text of that name in the table.
-pub(crate) fn text_in<'d>(table: &'d Table, name: &str) -> Option<&'d str>
-    ensures { option_copied result
-        ≡ option_and_then as_str (get_member name.now (table_view table.now)) }
-{
-    match member(table, name) {
-        None => None,
-        Some(value) => value.as_str(),
-    }
-}
-
-/// The table at the place, where the document has it.
-pub(crate) fn table_at(document: &Table, place: Place) -> Option<&Table>
-    ensures members { table_members result ≡ members_at (table_view document.now) place }
-{
-    match place {
-        Place::Top => Some(document),
-        Place::Sign => table_in(document, "sign"),
-    }
-}
-
-/// The value of that name at the place.
-pub(crate) fn value_at<'d>(document: &'d Table, place: Place, name: &str) -> Option<&'d Value>
-    ensures { option_map (λ value. view value.now) result
-        ≡ get_member name.now (members_at (table_view document.now) place) }
-{
-    match table_at(document, place) {
-        None => None,
-        Some(table) => member(table, name),
-    }
-}
-
-/// The text of that name at the place.
-pub(crate) fn text_at<'d>(document: &'d Table, place: Place, name: &str) -> Option<&'d str>
-    ensures { option_copied result ≡ option_and_then as_str
-        (get_member name.now (members_at (table_view document.now) place)) }
-{
-    match value_at(document, place, name) {
-        None => None,
-        Some(value) => value.as_str(),
     }
 }

@@ -4,14 +4,13 @@ ghost use Rattle.std.specs.Prelude.{◌≡◌, IfErr, IfOk, OnErr, OnOk, option_
 ghost use Rattle.std.specs.FinMap as map;
 ghost use Rattle.toml.specs.Data.{string, get_member};
 ghost use Rattle.toml.specs.View.{table_view, view};
-ghost use Rattle.conf.specs.Table.{members_in};
+ghost use Rattle.conf_table.specs.Table.{members_in};
 ghost use Rattle.conf.specs.tools.Added.{all_added, is_key_length, key_in, spell_keys, spells_key, with_entry, HasDistinctNames};
 ghost use Rattle.conf.specs.tools.KeyFaults.{IsKeyFault, IsKeysFault};
 
-use crate::document::table_in;
+use conf_table::{MAX_KEY_BYTES, table_in};
 use crate::fault::ConfFault;
 use crate::keys::Keys;
-use crate::limits::MAX_KEY_BYTES;
 use base64::DecodeAllocError;
 use base64::engine::general_purpose::STANDARD;
 use sfv_text::{Memory, Text};

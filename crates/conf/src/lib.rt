@@ -9,7 +9,6 @@
 //! ```
 #![tactic(auto)]
 
-mod allowed;
 mod calls;
 mod conf;
 mod document;
@@ -19,18 +18,15 @@ mod key_texts;
 mod keys;
 mod kinds;
 mod laws;
-mod limits;
 mod read;
 mod sign;
 mod sign_conf;
-mod table;
 mod values;
 
-pub use allowed::is_keyid;
 pub use conf::Conf;
+pub use conf_table::{MAX_EXPIRES_AFTER, MAX_KEY_BYTES, MAX_KEYID_BYTES, is_keyid};
 pub use fault::ConfFault;
 pub use laws::a_text_has_one_answer;
-pub use limits::{MAX_EXPIRES_AFTER, MAX_KEY_BYTES, MAX_KEYID_BYTES};
 pub use read::{empty_conf, read_conf};
 pub use sign_conf::{SignConf, SignDigest};
 

@@ -4,17 +4,16 @@ ghost use Rattle.std.specs.Prelude.{◌≡◌, List, IfErr, IfOk, MatchOption, c
 ghost use Rattle.component_ids.specs.declared.id.ComponentId.{ComponentId};
 ghost use Rattle.toml.specs.Data.{as_str, get_member};
 ghost use Rattle.toml.specs.View.{table_view};
-ghost use Rattle.conf.specs.declared.table.Place.TheVariants.{Sign};
-ghost use Rattle.conf.specs.Table.{members_at};
-ghost use Rattle.conf.specs.Values.{IsCovered};
+ghost use Rattle.conf_table.specs.declared.table.Place.TheVariants.{Sign};
+ghost use Rattle.conf_table.specs.Table.{members_at};
+ghost use Rattle.conf_table.specs.Values.{IsCovered};
 ghost use Rattle.conf.specs.tools.Judged.{IsClearBelow, IsFirstIn, IsJudged};
 ghost use Rattle.conf.specs.tools.SignReads.{is_id_memory, is_sf_memory, IsIdsOf, IsListFault, IsReadList, IsSignOf, IsSignRead, IsToldList, LacksName};
 
-use crate::document::{table_in, text_at, text_in};
+use conf_table::{Place, table_in, text_at, text_in};
 use crate::fault::ConfFault;
 use crate::judge::{Refusal, judge_rows};
 use crate::sign_conf::SignConf;
-use crate::table::Place;
 use crate::values::{digest_in, has_alg, seconds_in};
 use component_ids::{IdFault, Ids, SigParams, read_params};
 use sfv_read::{SfError, read_inner};

@@ -5,7 +5,7 @@ ghost use Rattle.toml.specs.Data.{as_bool, get_member};
 ghost use Rattle.toml.specs.View.{table_view};
 ghost use Rattle.conf.specs.Meaning.{digest_of, digest_of_word, scheme_of, seconds_of};
 
-use crate::document::{member, text_in};
+use conf_table::{member, text_in};
 use crate::sign_conf::SignDigest;
 use component_ids::Scheme;
 use toml::Table;

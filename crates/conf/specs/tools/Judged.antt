@@ -7,10 +7,10 @@ use Rattle.conf.specs.declared.fault.ConfFault.{ConfFault}
 use Rattle.conf.specs.declared.fault.ConfFault.TheVariants as fault
 use Rattle.conf.specs.declared.judge.Refusal.{Refusal}
 use Rattle.conf.specs.declared.judge.Refusal.TheVariants.{WrongType, OutOfRange, Missing}
-use Rattle.conf.specs.declared.table.Place.{Place}
-use Rattle.conf.specs.Table.{Row, rows, places, place_path, has_unknown, is_missing}
+use Rattle.conf_table.specs.declared.table.Place.{Place}
+use Rattle.conf_table.specs.Table.{Row, rows, places, place_path, has_unknown, is_missing}
 use Rattle.conf.specs.Paths.{HoldsOfNone}
-use Rattle.conf.specs.Rows.{is_ill_typed, is_out_of_range}
+use Rattle.conf_table.specs.Rows.{is_ill_typed, is_out_of_range}
 use Rattle.conf.specs.Meaning.{IsDocument}
 use Rattle.conf.specs.Refusals.{IsCauseIn, fault_number}
 

@@ -14,13 +14,13 @@ use Rattle.component_ids.specs.SignatureParams.{IsSigParams, list_of}
 use Rattle.conf.specs.declared.fault.ConfFault.{ConfFault}
 use Rattle.conf.specs.declared.fault.ConfFault.TheVariants as fault
 use Rattle.conf.specs.declared.sign_conf.SignConf.{SignConf}
-use Rattle.conf.specs.declared.table.Rule.TheVariants as rule
+use Rattle.conf_table.specs.declared.table.Rule.TheVariants as rule
 use Rattle.conf.specs.Meaning.{HasSign, digest_of, seconds_of}
 use Rattle.conf.specs.Paths.{HoldsOfNone}
 use Rattle.conf.specs.Refusals.{IsBadList}
-use Rattle.conf.specs.Table.{rows, value_of, is_missing}
+use Rattle.conf_table.specs.Table.{rows, value_of, is_missing}
 use Rattle.conf.specs.Valid.{AreValidComponents}
-use Rattle.conf.specs.Values.{IsCovered, params_of}
+use Rattle.conf_table.specs.Values.{IsCovered, params_of}
 
 abbrev pub is_id_memory : IdFault → Bool
 is_id_memory id_fault.Memory = true

@@ -1,7 +1,7 @@
 use Rattle.std.proofs.Common.{◌≡◌, not}
 use Rattle.std.specs.List.{list_any}
 use Rattle.toml.specs.View.{table_view, members_view}
-use Rattle.conf.specs.Table.{entries_of, is_known}
+use Rattle.conf_table.specs.Table.{entries_of, is_known}
 use Rattle.conf.proofs.judge.has_unknown_in.Given as goal
 
 abbrev pub invariant-loop-name : goal.invariant-loop-name

@@ -1,5 +1,5 @@
 use Rattle.std.proofs.Common.{sym}
-use Rattle.conf.specs.Values.{params_of}
+use Rattle.conf_table.specs.Values.{params_of}
 use Rattle.conf.proofs.SignLaws.{not_id_memory}
 use Rattle.conf.proofs.sign.ids_of.Goals as goal
 

@@ -1,7 +1,7 @@
 use Rattle.std.proofs.Common.{sym}
 use Rattle.std.proofs.lemmas.Result.{IfOk-weaker}
 use Rattle.component_ids.specs.SignatureParams.{list_of}
-use Rattle.conf.specs.Values.{params_of}
+use Rattle.conf_table.specs.Values.{params_of}
 use Rattle.conf.proofs.SignLaws.{covered_of, not_read}
 use Rattle.conf.proofs.sign.read_covered.Goals as goal
 

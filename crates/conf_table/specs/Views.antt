@@ -1,4 +1,4 @@
--- What the code's references to tables stand for. No public clause cites this module.
+-- What the code's references to tables stand for.
 use Rattle.std.specs.Prelude.{Option, Some, None, String}
 use Rattle.std.specs.Borrow.{Bor}
 use Rattle.std.specs.BTreeMap.{BTreeMap}

@@ -13,10 +13,10 @@ use Rattle.component_ids.specs.declared.types.FieldKind.TheVariants.{Item, List 
 use Rattle.component_ids.specs.declared.params.SigParams.{SigParams}
 use Rattle.component_ids.specs.SignatureParams.{IsSigParams, list_of}
 use Rattle.component_ids.specs.Table.{is_field_name, is_listed}
-use Rattle.conf.specs.declared.limits.TheConstants.{MAX_KEYID_BYTES, MAX_KEY_BYTES, MAX_EXPIRES_AFTER}
-use Rattle.conf.specs.declared.table.Rule.{Rule}
-use Rattle.conf.specs.declared.table.Rule.TheVariants.{Version, Scheme, Keys, Types, Table, Label, Keyid, Seconds, Flag, Tag, Digest}
-use Rattle.conf.specs.Table.{members_in, entries_of}
+use Rattle.conf_table.specs.declared.limits.TheConstants.{MAX_KEYID_BYTES, MAX_KEY_BYTES, MAX_EXPIRES_AFTER}
+use Rattle.conf_table.specs.declared.table.Rule.{Rule}
+use Rattle.conf_table.specs.declared.table.Rule.TheVariants.{Version, Scheme, Keys, Types, Table, Label, Keyid, Seconds, Flag, Tag, Digest}
+use Rattle.conf_table.specs.Table.{members_in, entries_of}
 
 -- ---- types
 

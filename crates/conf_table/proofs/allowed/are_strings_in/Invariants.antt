@@ -3,8 +3,8 @@ use Rattle.std.specs.Prelude.{is_some}
 use Rattle.std.specs.List.{list_all}
 use Rattle.toml.specs.Data.{as_str}
 use Rattle.toml.specs.View.{table_view, members_view}
-use Rattle.conf.specs.Table.{entries_of}
-use Rattle.conf.proofs.allowed.are_strings_in.Given as goal
+use Rattle.conf_table.specs.Table.{entries_of}
+use Rattle.conf_table.proofs.allowed.are_strings_in.Given as goal
 
 abbrev pub invariant-loop-value : goal.invariant-loop-value
 invariant-loop-value l =

@@ -4,10 +4,10 @@ use Rattle.std.specs.Prelude.{ℕ, Bool, true, false, ◌&&◌, not, Option, Som
 use Rattle.std.specs.List.{list_any}
 use Rattle.std.specs.Str.{bytes_eq}
 use Rattle.toml.specs.Data.{Data, Members, no_members, member, table, as_table, get_member}
-use Rattle.conf.specs.declared.table.Place.{Place}
-use Rattle.conf.specs.declared.table.Place.TheVariants.{Top, Sign}
-use Rattle.conf.specs.declared.table.Rule.{Rule}
-use Rattle.conf.specs.declared.table.Rule.TheVariants.{Version, Scheme, Keys, Types, Table, Label, Keyid, Components, Seconds, Flag, Tag, Digest}
+use Rattle.conf_table.specs.declared.table.Place.{Place}
+use Rattle.conf_table.specs.declared.table.Place.TheVariants.{Top, Sign}
+use Rattle.conf_table.specs.declared.table.Rule.{Rule}
+use Rattle.conf_table.specs.declared.table.Rule.TheVariants.{Version, Scheme, Keys, Types, Table, Label, Keyid, Components, Seconds, Flag, Tag, Digest}
 
 -- a key: its path, the table where it stands, its name there, what is asked of its value, and
 -- whether that table has to have it

@@ -1,9 +1,9 @@
 use Rattle.std.proofs.Common.{◌≡◌, ◌&&◌, drop, map}
 use Rattle.std.specs.List.{list_any}
 use Rattle.std.specs.Str.{bytes_eq}
-use Rattle.conf.specs.Table.{is_same_place}
-use Rattle.conf.specs.tools.TableRows.{row_of}
-use Rattle.conf.proofs.table.is_among.Given as goal
+use Rattle.conf_table.specs.Table.{is_same_place}
+use Rattle.conf_table.specs.TableRows.{row_of}
+use Rattle.conf_table.proofs.table.is_among.Given as goal
 
 abbrev pub invariant-loop-row : goal.invariant-loop-row
 invariant-loop-row l =

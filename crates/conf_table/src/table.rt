@@ -3,12 +3,12 @@
 ghost use Rattle.std.specs.Prelude.{◌≡◌, ◌&&◌, map};
 ghost use Rattle.std.specs.List.{list_any};
 ghost use Rattle.std.specs.Str.{bytes_eq};
-ghost use Rattle.conf.specs.Table.{is_known, is_same_place, place_path};
-ghost use Rattle.conf.specs.tools.TableRows.{is_key_at, row_of};
+ghost use Rattle.conf_table.specs.Table.{is_known, is_same_place, place_path};
+ghost use Rattle.conf_table.specs.TableRows.{is_key_at, row_of};
 
 /// A table whose keys are fixed.
 #[derive(Clone, Copy, Debug)]
-pub(crate) enum Place {
+pub enum Place {
     /// The document itself.
     Top,
     /// The table `sign`.
@@ -17,7 +17,7 @@ pub(crate) enum Place {
 
 /// What is asked of a key's value.
 #[derive(Clone, Copy, Debug)]
-pub(crate) enum Rule {
+pub enum Rule {
     /// The integer 1.
     Version,
     /// `http` or `https`.
@@ -46,7 +46,7 @@ pub(crate) enum Rule {
 
 /// A key.
 #[derive(Clone, Copy, Debug)]
-pub(crate) struct Row {
+pub struct Row {
     /// Its path in faults.
     pub path: &'static str,
     /// The table where it stands.
@@ -60,7 +60,7 @@ pub(crate) struct Row {
 }
 
 /// The keys, in the order of their paths' bytes.
-pub(crate) const ROWS: [Row; 13] = [
+pub const ROWS: [Row; 13] = [
     Row {
         path: "keys",
         place: Place::Top,
@@ -155,11 +155,11 @@ pub(crate) const ROWS: [Row; 13] = [
 ];
 
 /// The tables whose keys are fixed, in the order of their paths' bytes.
-pub(crate) const PLACES: [Place; 2] = [Place::Sign, Place::Top];
+pub const PLACES: [Place; 2] = [Place::Sign, Place::Top];
 
 impl Place {
     /// Its path in faults.
-    pub(crate) fn path(self) -> &'static str
+    pub fn path(self) -> &'static str
         ensures { result.now ≡ place_path self }
     {
         match self {
@@ -197,7 +197,7 @@ fn is_among(rows: &[Row], place: Place, key: &str) -> bool
 }
 
 /// Whether the table has a key of that name.
-pub(crate) fn is_known(place: Place, key: &str) -> bool
+pub fn is_known(place: Place, key: &str) -> bool
     ensures { result ≡ is_known place key.now }
 {
     is_among(&ROWS, place, key)

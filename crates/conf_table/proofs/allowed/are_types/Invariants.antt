@@ -1,9 +1,9 @@
 use Rattle.std.proofs.Common.{◌≡◌}
 use Rattle.std.specs.List.{list_all}
 use Rattle.toml.specs.View.{table_view, members_view}
-use Rattle.conf.specs.Table.{entries_of}
-use Rattle.conf.specs.Values.{is_type}
-use Rattle.conf.proofs.allowed.are_types.Given as goal
+use Rattle.conf_table.specs.Table.{entries_of}
+use Rattle.conf_table.specs.Values.{is_type}
+use Rattle.conf_table.proofs.allowed.are_types.Given as goal
 
 abbrev pub invariant-loop-name : goal.invariant-loop-name
 invariant-loop-name l =

@@ -7,8 +7,8 @@ ghost use Rattle.component_ids.specs.Table.{is_listed};
 ghost use Rattle.sfv_text.specs.Range.{is_key, is_key_first, is_key_rest, is_string_byte};
 ghost use Rattle.toml.specs.Data.{as_str, get_member};
 ghost use Rattle.toml.specs.View.{table_view, view};
-ghost use Rattle.conf.specs.Table.{entries_of, members_in};
-ghost use Rattle.conf.specs.Values.{are_strings, has_type, is_allowed, is_integer_allowed, is_keyid, is_table_allowed, is_text_allowed, is_type, is_within, kind_of_word, standard_names};
+ghost use Rattle.conf_table.specs.Table.{entries_of, members_in};
+ghost use Rattle.conf_table.specs.Values.{are_strings, has_type, is_allowed, is_integer_allowed, is_keyid, is_table_allowed, is_text_allowed, is_type, is_within, kind_of_word, standard_names};
 
 use crate::document::{member, table_in};
 use crate::limits::{MAX_EXPIRES_AFTER, MAX_KEYID_BYTES};
@@ -40,7 +40,7 @@ fn are_strings(value: &Value) -> bool
 }
 
 /// Whether the value has the type that the rule asks for.
-pub(crate) fn has_type(rule: Rule, value: &Value) -> bool
+pub fn has_type(rule: Rule, value: &Value) -> bool
     ensures { result ≡ has_type rule (view value.now) }
 {
     match rule {
@@ -164,7 +164,7 @@ fn is_standard_name(name: &[u8]) -> bool
 }
 
 /// The kind of structured field that the word names.
-pub(crate) fn kind_of_word(word: &[u8]) -> Option<FieldKind>
+pub fn kind_of_word(word: &[u8]) -> Option<FieldKind>
     ensures { result ≡ kind_of_word word.now }
 {
     if word == b"item".as_slice() {
@@ -251,7 +251,7 @@ fn is_table_allowed(rule: Rule, table: &Table) -> bool
 }
 
 /// Whether the value is one that the rule allows in this document, or of another type.
-pub(crate) fn is_allowed(document: &Table, rule: Rule, value: &Value) -> bool
+pub fn is_allowed(document: &Table, rule: Rule, value: &Value) -> bool
     ensures { result ≡ is_allowed (table_view document.now) rule (view value.now) }
 {
     match value {

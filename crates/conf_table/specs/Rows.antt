@@ -1,8 +1,8 @@
 -- Values that are refused at the keys of a configuration.
 use Rattle.std.specs.Prelude.{Bool, false, not, Option, Some, None}
 use Rattle.toml.specs.Data.{Data, Members}
-use Rattle.conf.specs.Table.{Row, value_of}
-use Rattle.conf.specs.Values.{has_type, is_allowed}
+use Rattle.conf_table.specs.Table.{Row, value_of}
+use Rattle.conf_table.specs.Values.{has_type, is_allowed}
 
 -- there is a value, and it fails the test
 abbrev pub fails : (Data → Bool) → Option Data → Bool

@@ -1,9 +1,9 @@
--- The rows of the code beside those of the table. No public clause cites this module.
+-- The rows of the code beside those of the table.
 use Rattle.std.specs.Prelude.{◌&&◌, ℕ, Bool, List}
 use Rattle.std.specs.Str.{bytes_eq}
-use Rattle.conf.specs.declared.table.Place.{Place}
-use Rattle.conf.specs.declared.table.Row.{Row as CodeRow}
-use Rattle.conf.specs.Table.{Row, is_same_place}
+use Rattle.conf_table.specs.declared.table.Place.{Place}
+use Rattle.conf_table.specs.declared.table.Row.{Row as CodeRow}
+use Rattle.conf_table.specs.Table.{Row, is_same_place}
 
 -- a row of the code as one of the table
 abbrev pub row_of : CodeRow → Row
