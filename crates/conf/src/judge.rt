@@ -10,8 +10,10 @@ ghost use Rattle.conf_table.specs.Rows.{is_ill_typed, is_out_of_range};
 ghost use Rattle.conf.specs.tools.Judged.{fault_of, first_path, first_place, is_refused, refusal_number, IsJudged, IsFirstIn, IsCauseNumbered};
 ghost use Rattle.conf_table.specs.TableRows.{row_of};
 
-use conf_table::{PLACES, Place, ROWS, Row, has_type, is_allowed, is_known, table_at, table_in, value_at};
 use crate::fault::ConfFault;
+use conf_table::{
+    PLACES, Place, ROWS, Row, has_type, is_allowed, is_known, table_at, table_in, value_at,
+};
 use sfv_text::Text;
 use std::alloc::Global;
 use toml::Table;

@@ -8,11 +8,11 @@ ghost use Rattle.conf_table.specs.Table.{members_in};
 ghost use Rattle.conf.specs.tools.Added.{all_added, is_key_length, key_in, spell_keys, spells_key, with_entry, HasDistinctNames};
 ghost use Rattle.conf.specs.tools.KeyFaults.{IsKeyFault, IsKeysFault};
 
-use conf_table::{MAX_KEY_BYTES, table_in};
 use crate::fault::ConfFault;
 use crate::keys::Keys;
 use base64::DecodeAllocError;
 use base64::engine::general_purpose::STANDARD;
+use conf_table::{MAX_KEY_BYTES, table_in};
 use sfv_text::{Memory, Text};
 use std::alloc::Global;
 use toml::{Table, Value};

@@ -7,8 +7,8 @@ ghost use Rattle.component_ids.specs.Types.{standard_types};
 ghost use Rattle.conf_table.specs.Table.{members_in};
 ghost use Rattle.conf.specs.tools.Added.{all_added, kind_told, with_entry, HasDistinctNames};
 
-use conf_table::{kind_of_word, table_in};
 use component_ids::{FieldKind, Types};
+use conf_table::{kind_of_word, table_in};
 use sfv_text::Memory;
 use std::alloc::Global;
 use toml::{Table, Value};

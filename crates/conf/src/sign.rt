@@ -10,12 +10,12 @@ ghost use Rattle.conf_table.specs.Values.{IsCovered};
 ghost use Rattle.conf.specs.tools.Judged.{IsClearBelow, IsFirstIn, IsJudged};
 ghost use Rattle.conf.specs.tools.SignReads.{is_id_memory, is_sf_memory, IsIdsOf, IsListFault, IsReadList, IsSignOf, IsSignRead, IsToldList, LacksName};
 
-use conf_table::{Place, table_in, text_at, text_in};
 use crate::fault::ConfFault;
 use crate::judge::{Refusal, judge_rows};
 use crate::sign_conf::SignConf;
 use crate::values::{digest_in, has_alg, seconds_in};
 use component_ids::{IdFault, Ids, SigParams, read_params};
+use conf_table::{Place, table_in, text_at, text_in};
 use sfv_read::{SfError, read_inner};
 use sfv_text::{InnerList, Memory, Text};
 use std::alloc::Global;

@@ -5,9 +5,9 @@ ghost use Rattle.toml.specs.Data.{as_bool, get_member};
 ghost use Rattle.toml.specs.View.{table_view};
 ghost use Rattle.conf.specs.Meaning.{digest_of, digest_of_word, scheme_of, seconds_of};
 
-use conf_table::{member, text_in};
 use crate::sign_conf::SignDigest;
 use component_ids::Scheme;
+use conf_table::{member, text_in};
 use toml::Table;
 
 /// The scheme of the document; `https` where it tells none.
