@@ -36,7 +36,7 @@ use Rattle.verdicts.specs.declared.place.Place.TheVariants.{None as Nowhere, Ind
 use Rattle.verdicts.specs.declared.rule.Rule.{Rule}
 use Rattle.verdicts.specs.declared.rule.Rule.TheVariants.{InputAbsent, InputMalformed, SignatureAbsent, SignatureMalformed, LabelNotInInput, LabelNotInSignature, InputNotList, SignatureNotBytes, ComponentsMany, ComponentBad, ComponentRepeated, ParameterBad}
 use Rattle.verdicts.specs.Signatures.{input_name, signature_name, tag_in, HasField, HasDict, HasMember, HasSignature}
-use Rattle.verdicts.specs.Rules.{HasCause, FailsToRead, IsUnread}
+use Rattle.verdicts.specs.Rules.{ListHasCause, FailsToRead, IsUnread}
 use Rattle.verdicts.specs.Words.{rule_number}
 use Rattle.verdicts.specs.Laws.{HasLabels, HasOneListOfLabels, HasSignatureOrNot}
 use Rattle.verdicts.specs.tools.Answered.{SaysRule, ExplainsField, ExplainsLabel, field_fault_of, label_fault_of, id_fault_of}
@@ -97,7 +97,7 @@ module _ (message : Message) (label : List ℕ) where
       let none = fails.3 in
       absurd (cc (tags, is, none))
 
-  no_cause_of : (list : InnerList) (fault : IdFault) → HasMember message input_name label (InnerMember list) → ¬ IsCause list fault → ¬ HasCause message label fault
+  no_cause_of : (list : InnerList) (fault : IdFault) → HasMember message input_name label (InnerMember list) → ¬ IsCause list fault → ¬ ListHasCause message label fault
   no_cause_of list fault has none cause = none (subst (λ (l : InnerList). IsCause l fault) (one_list message label cause.0 list cause.1 has) cause.2)
 
   -- ---- one after another, and the first that fails
@@ -255,7 +255,7 @@ first_cause message label rule place list fault has first same cause = record {
 }
 
 one_cause : (message : Message) (label : List ℕ) (rule : Rule) (p q : Place) (fault other : IdFault) → IsUnread message label rule p → IsUnread message label rule q
-    → rule_number rule ≡ 9 + id_order fault → rule_number rule ≡ 9 + id_order other → HasCause message label fault → HasCause message label other → fault ≡ other
+    → rule_number rule ≡ 9 + id_order fault → rule_number rule ≡ 9 + id_order other → ListHasCause message label fault → ListHasCause message label other → fault ≡ other
 one_cause message label rule p q fault other a b same also x y =
     let cause : IsCause y.0 fault = subst (λ (l : InnerList). IsCause l fault) (one_list message label x.0 y.0 x.1 y.1) x.2 in
     one_fault y.0 fault other (first_cause message label rule p y.0 fault y.1 a same cause) (first_cause message label rule q y.0 other y.1 b also y.2)

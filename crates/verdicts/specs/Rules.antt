@@ -37,8 +37,8 @@ use Rattle.verdicts.specs.Words.{rule_number}
 -- ---- rules 1 to 12: whether the message has a signature of the label
 
 -- the label's Inner List is no signature parameters, and this is a cause (RFC 9421 section 2.3)
-abbrev pub HasCause : Message → List ℕ → IdFault → Type 0
-HasCause message label fault =
+abbrev pub ListHasCause : Message → List ℕ → IdFault → Type 0
+ListHasCause message label fault =
     (list : InnerList) × HasMember message input_name label (InnerMember list) × IsCause list fault
 
 abbrev pub FailsToRead : Message → List ℕ → Rule → Place → Type 0
@@ -63,14 +63,14 @@ FailsToRead message label SignatureNotBytes place =
     (place ≡ Nowhere) × (member : Member) × HasMember message signature_name label member
     × (tag_in member ≡ None)
 FailsToRead message label ComponentsMany place =
-    (place ≡ Nowhere) × HasCause message label TooMany
+    (place ≡ Nowhere) × ListHasCause message label TooMany
 FailsToRead message label ComponentBad place =
     (index : ℕ) × (reason : BadReason) × (place ≡ Component index reason)
-    × HasCause message label (BadComponent index reason)
+    × ListHasCause message label (BadComponent index reason)
 FailsToRead message label ComponentRepeated place =
-    (index : ℕ) × (place ≡ Index index) × HasCause message label (Repeated index)
+    (index : ℕ) × (place ≡ Index index) × ListHasCause message label (Repeated index)
 FailsToRead message label ParameterBad place =
-    (key : List ℕ) × (place ≡ Name key) × HasCause message label (BadParameter key)
+    (key : List ℕ) × (place ≡ Name key) × ListHasCause message label (BadParameter key)
 FailsToRead message label rule place = ⊥
 
 -- ---- all rules
