@@ -24,7 +24,7 @@ use Rattle.component_ids.specs.declared.fault.BadReason.{BadReason}
 use Rattle.component_ids.specs.declared.fault.IdFault.{IdFault}
 use Rattle.component_ids.specs.declared.fault.IdFault.TheVariants.{Memory, TooMany, BadComponent, Repeated, BadParameter}
 use Rattle.component_ids.specs.declared.params.SigParams.{SigParams}
-use Rattle.component_ids.proofs.FaultLaws.{one_value, one_fault, no_cause, not_both}
+use Rattle.component_ids.proofs.FaultLaws.{one_value, one_fault, not_both}
 use Rattle.component_ids.proofs.Judged.{has_answer}
 use Rattle.verdicts.specs.declared.field.FieldFault.{FieldFault}
 use Rattle.verdicts.specs.declared.field.FieldFault.TheVariants as field
@@ -64,6 +64,15 @@ one_inner a b e = cc
 
 pub one_list : (message : Message) (label : List ℕ) (a b : InnerList) → HasMember message input_name label (InnerMember a) → HasMember message input_name label (InnerMember b) → a ≡ b
 one_list message label a b x y = one_inner a b (one_member message input_name label (InnerMember a) (InnerMember b) x y)
+
+-- signature parameters have no fault, so no cause of one
+causes_below : (list : InnerList) (params : SigParams) → IsParamsOf list params → (n : ℕ) (fault : IdFault) → id_order fault < n → ¬ IsCause list fault
+causes_below list params is zero fault lt cause = absurd (omega (arith, lt))
+causes_below list params is (suc n) fault lt cause =
+    not_both list params fault is (record { holds = cause; none_before = λ other less h. causes_below list params is n other (omega (arith, lt, less)) h })
+
+no_cause : (list : InnerList) (params : SigParams) → IsParamsOf list params → (fault : IdFault) → ¬ IsCause list fault
+no_cause list params is fault = causes_below list params is (suc (id_order fault)) fault (omega arith)
 
 -- ---- which rules don't fail
 

@@ -41,6 +41,7 @@ abbrev pub ListHasCause : Message → List ℕ → IdFault → Type 0
 ListHasCause message label fault =
     (list : InnerList) × HasMember message input_name label (InnerMember list) × IsCause list fault
 
+-- the rows of rules 1 to 12 (RFC 9421 sections 2.3, 4.1 and 4.2)
 abbrev pub FailsToRead : Message → List ℕ → Rule → Place → Type 0
 FailsToRead message label InputAbsent place = (place ≡ Nowhere) × ¬ HasField message input_name
 FailsToRead message label InputMalformed place =
@@ -127,6 +128,7 @@ pub record IsNoMac (v : Verification) (params : SigParams) (tag : List ℕ) : Ty
   pub have : HaveValues v.context params.ids values
   pub other : ¬ (tag ≡ hmac key (signature_base params values))
 
+-- the rows of the rules after them (RFC 9421 section 3.2), and those above
 abbrev pub Fails : Verification → Rule → Place → Type 0
 Fails v AlgRefused place =
     OfSignature v (λ params tag. IsSomeAnd (alg_of params) (λ alg.
@@ -150,6 +152,7 @@ Fails v rule place = FailsToRead v.context.message v.label rule place
 
 -- ---- the first rule that fails
 
+-- a rule, and where it fails
 pub record Failure : Type 0 where
   pub rule : Rule
   pub place : Place
