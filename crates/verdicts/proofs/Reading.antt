@@ -1,5 +1,5 @@
 -- Rules 1 to 12: the signature of a label.
-use Rattle.std.proofs.Common.{◌≡◌, ◌⊎◌, ◌<◌, ◌+◌, lit<, ℕ, zero, suc, nat_lt, Bool, true, false, IsTrue, Option, Some, None, Result, Ok, Err, List, [], map, refl, sym, ap, subst, ◌∙◌, arith, inl, inr}
+use Rattle.std.proofs.Common.{◌≡◌, ◌⊎◌, ◌<◌, ◌+◌, lit<, ℕ, zero, suc, nat_lt, true, Option, Some, None, Result, Ok, Err, List, [], map, refl, sym, ap, subst, ◌∙◌, arith, inl, inr}
 use Rattle.std.proofs.lemmas.Bool.Decides.{nat_tests}
 use Rattle.std.proofs.lemmas.Bool.{cases_Bool, false≢true}
 use Rattle.sfv_text.specs.Keys.{value_of}
@@ -19,7 +19,7 @@ use Rattle.msg_body.specs.Views.{lines_on}
 use Rattle.field_values.specs.Values.{combined_value, is_there}
 use Rattle.byte_grammar.specs.Causes.{AnswersWhere}
 use Rattle.component_ids.specs.Causes.{IsCause, IsIdFault, id_order}
-use Rattle.component_ids.specs.SignatureParams.{IsSigParams, IsParamsOf, list_of}
+use Rattle.component_ids.specs.SignatureParams.{IsParamsOf, list_of}
 use Rattle.component_ids.specs.declared.fault.BadReason.{BadReason}
 use Rattle.component_ids.specs.declared.fault.IdFault.{IdFault}
 use Rattle.component_ids.specs.declared.fault.IdFault.TheVariants.{Memory, TooMany, BadComponent, Repeated, BadParameter}

@@ -7,7 +7,6 @@ use Rattle.byte_grammar.specs.Causes.{IsFirst}
 use Rattle.sfv_text.specs.Keys.{value_of}
 use Rattle.sfv_text.specs.Strict.{string_text}
 use Rattle.sfv_text.specs.declared.pair.Pair.{Pair}
-use Rattle.sfv_text.specs.declared.value.BareItem.{BareItem}
 use Rattle.sfv_text.specs.declared.value.Item.{Item}
 use Rattle.sfv_text.specs.declared.value.InnerList.{InnerList}
 use Rattle.sfv_text.specs.declared.value.Member.{Member}
