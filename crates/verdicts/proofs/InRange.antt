@@ -1,11 +1,10 @@
 -- What is in range is so in its parts.
-use Rattle.std.proofs.Common.{◌≡◌, Bool, true, ◌&&◌, List, [], ◌∷◌, ℕ, Some, refl, sym, ap, ◌∙◌, inl, inr}
+use Rattle.std.proofs.Common.{◌≡◌, Bool, true, List, [], ◌∷◌, ℕ, Some, sym, ap, ◌∙◌, inl, inr}
 use Rattle.std.specs.List.{list_all}
 use Rattle.std.proofs.lemmas.Bool.{cases_Bool, and_parts}
 use Rattle.sfv_text.specs.Keys.{has_key, have_distinct_keys, value_of}
 use Rattle.sfv_text.specs.Range.{is_key, is_bare_in_range, is_inner_in_range, is_member_in_range, is_param_in_range, is_dict_member_in_range, are_params_in_range, is_dict_in_range, is_string_byte}
 use Rattle.sfv_text.specs.declared.pair.Pair.{Pair}
-use Rattle.sfv_text.specs.declared.value.BareItem.{BareItem}
 use Rattle.sfv_text.specs.declared.value.BareItem.TheVariants.{Str}
 use Rattle.sfv_text.specs.declared.value.InnerList.{InnerList}
 use Rattle.sfv_text.specs.declared.value.Member.{Member}

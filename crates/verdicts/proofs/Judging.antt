@@ -1,5 +1,5 @@
 -- Rules 13 to 32, and verdicts.
-use Rattle.std.proofs.Common.{◌≡◌, ◌⊎◌, ◌↔◌, ◌<◌, ◌+◌, lit<, ℕ, Bool, true, false, ◌||◌, IsTrue, IsFalse, Option, Some, None, IfSome, List, [], ◌∷◌, Result, Ok, Err, length, refl, sym, ap, subst, ◌∙◌, arith, inl, inr}
+use Rattle.std.proofs.Common.{◌≡◌, ◌⊎◌, ◌<◌, lit<, ℕ, Bool, true, false, ◌||◌, IsTrue, IsFalse, Option, Some, None, IfSome, List, ◌∷◌, Err, length, refl, sym, ap, subst, ◌∙◌, arith, inl, inr}
 use Rattle.std.specs.List.{slice_get}
 use Rattle.std.specs.Option.{IsSomeAnd}
 use Rattle.std.specs.Str.{bytes_eq}
@@ -37,7 +37,7 @@ use Rattle.verdicts.specs.Rules.{Verification, key_in, supported_algorithm, refu
 use Rattle.verdicts.specs.Verdicts.{Accepts, IsVerdict}
 use Rattle.verdicts.specs.Laws.{HasVerdict, HasOneVerdict, IsAcceptedWhereNoRuleFails}
 use Rattle.verdicts.specs.tools.Answered.{SaysRule}
-use Rattle.verdicts.specs.tools.Judged.{FailsByAlgorithm, FailsByKeyid, FailsByKey, FailsByTag, SaysLack, SaysFault, LiesIn, rule_of_lack}
+use Rattle.verdicts.specs.tools.Judged.{FailsByAlgorithm, FailsByKeyid, FailsByKey, FailsByTag, SaysFault, LiesIn, rule_of_lack}
 use Rattle.verdicts.proofs.RuleOrder.{NoneBelow, most, nor, none_between, first_failure, one_first_failure}
 use Rattle.verdicts.proofs.Reading.{has_one_signature, is_unread_by_one_rule, signature_passes, has_signature_or_not, below_13}
 

@@ -1,5 +1,5 @@
 -- The component at which a rule fails is in range.
-use Rattle.std.proofs.Common.{◌≡◌, ℕ, Bool, true, IsTrue, IsFalse, ◌∷◌, Some, List, map, refl, sym, ap, ◌∙◌}
+use Rattle.std.proofs.Common.{◌≡◌, ℕ, true, IsTrue, IsFalse, ◌∷◌, List, map, refl, sym, ◌∙◌}
 use Rattle.std.specs.List.{list_all, slice_get}
 use Rattle.std.specs.Option.{IsSomeAnd}
 use Rattle.std.proofs.lemmas.Bool.{and_parts}
@@ -26,7 +26,7 @@ use Rattle.verdicts.specs.declared.place.Place.TheVariants.{Name, Identifier}
 use Rattle.verdicts.specs.declared.rule.Rule.{Rule}
 use Rattle.verdicts.specs.declared.rule.Rule.TheVariants.{InputAbsent, InputMalformed, SignatureAbsent, SignatureMalformed, LabelNotInInput, LabelNotInSignature, InputNotList, SignatureNotBytes, ComponentsMany, ComponentBad, ComponentRepeated, ParameterBad, AlgRefused, AlgUnknown, KeyidAbsent, KeyUnknown, Absent, Ambiguous, Underivable, Unreadable, NotAscii, MacMismatch}
 use Rattle.verdicts.specs.Signatures.{input_name, HasSignature}
-use Rattle.verdicts.specs.Rules.{Verification, supported_algorithm, refused_algorithms, alg_of, OfSignature, FailsByLack, FailsToRead, Fails}
+use Rattle.verdicts.specs.Rules.{Verification, supported_algorithm, refused_algorithms, alg_of, FailsByLack, FailsToRead, Fails}
 use Rattle.verdicts.specs.Verdicts.{IsVerdict, is_place_in_range, is_verdict_in_range}
 use Rattle.verdicts.proofs.InRange.{inner_in_range}
 

@@ -1,5 +1,5 @@
 -- Rules 1 to 12: the signature of a label.
-use Rattle.std.proofs.Common.{◌≡◌, ◌⊎◌, ◌<◌, ◌+◌, lit<, ℕ, zero, suc, nat_lt, Bool, true, false, IsTrue, Option, Some, None, Result, Ok, Err, List, [], map, refl, sym, ap, subst, ◌∙◌, arith, inl, inr}
+use Rattle.std.proofs.Common.{◌≡◌, ◌⊎◌, ◌<◌, ◌+◌, lit<, ℕ, zero, suc, nat_lt, true, Option, Some, None, Result, Ok, Err, List, [], map, refl, sym, ap, subst, ◌∙◌, arith, inl, inr}
 use Rattle.std.proofs.lemmas.Bool.Decides.{nat_tests}
 use Rattle.std.proofs.lemmas.Bool.{cases_Bool, false≢true}
 use Rattle.sfv_text.specs.Keys.{value_of}
@@ -19,7 +19,7 @@ use Rattle.msg_body.specs.Views.{lines_on}
 use Rattle.field_values.specs.Values.{combined_value, is_there}
 use Rattle.byte_grammar.specs.Causes.{AnswersWhere}
 use Rattle.component_ids.specs.Causes.{IsCause, IsIdFault, id_order}
-use Rattle.component_ids.specs.SignatureParams.{IsSigParams, IsParamsOf, list_of}
+use Rattle.component_ids.specs.SignatureParams.{IsParamsOf, list_of}
 use Rattle.component_ids.specs.declared.fault.BadReason.{BadReason}
 use Rattle.component_ids.specs.declared.fault.IdFault.{IdFault}
 use Rattle.component_ids.specs.declared.fault.IdFault.TheVariants.{Memory, TooMany, BadComponent, Repeated, BadParameter}
@@ -36,7 +36,7 @@ use Rattle.verdicts.specs.declared.place.Place.TheVariants.{None as Nowhere, Ind
 use Rattle.verdicts.specs.declared.rule.Rule.{Rule}
 use Rattle.verdicts.specs.declared.rule.Rule.TheVariants.{InputAbsent, InputMalformed, SignatureAbsent, SignatureMalformed, LabelNotInInput, LabelNotInSignature, InputNotList, SignatureNotBytes, ComponentsMany, ComponentBad, ComponentRepeated, ParameterBad}
 use Rattle.verdicts.specs.Signatures.{input_name, signature_name, tag_in, HasField, HasDict, HasMember, HasSignature}
-use Rattle.verdicts.specs.Rules.{HasCause, FailsToRead, IsUnread}
+use Rattle.verdicts.specs.Rules.{ListHasCause, FailsToRead, IsUnread}
 use Rattle.verdicts.specs.Words.{rule_number}
 use Rattle.verdicts.specs.Laws.{HasLabels, HasOneListOfLabels, HasSignatureOrNot}
 use Rattle.verdicts.specs.tools.Answered.{SaysRule, ExplainsField, ExplainsLabel, field_fault_of, label_fault_of, id_fault_of}
@@ -75,6 +75,15 @@ one_inner a b e = cc
 pub one_list : (message : Message) (label : List ℕ) (a b : InnerList) → HasMember message input_name label (InnerMember a) → HasMember message input_name label (InnerMember b) → a ≡ b
 one_list message label a b x y = one_inner a b (one_member message input_name label (InnerMember a) (InnerMember b) x y)
 
+-- signature parameters have no fault, so no cause of one
+causes_below : (list : InnerList) (params : SigParams) → IsParamsOf list params → (n : ℕ) (fault : IdFault) → id_order fault < n → ¬ IsCause list fault
+causes_below list params is zero fault lt cause = absurd (omega (arith, lt))
+causes_below list params is (suc n) fault lt cause =
+    not_both list params fault is (record { holds = cause; none_before = λ other less h. causes_below list params is n other (omega (arith, lt, less)) h })
+
+no_cause : (list : InnerList) (params : SigParams) → IsParamsOf list params → (fault : IdFault) → ¬ IsCause list fault
+no_cause list params is fault = causes_below list params is (suc (id_order fault)) fault (omega arith)
+
 -- ---- which rules don't fail
 
 module _ (message : Message) (label : List ℕ) where
@@ -107,7 +116,7 @@ module _ (message : Message) (label : List ℕ) where
       let none = fails.3 in
       absurd (cc (tags, is, none))
 
-  no_cause_of : (list : InnerList) (fault : IdFault) → HasMember message input_name label (InnerMember list) → ¬ IsCause list fault → ¬ HasCause message label fault
+  no_cause_of : (list : InnerList) (fault : IdFault) → HasMember message input_name label (InnerMember list) → ¬ IsCause list fault → ¬ ListHasCause message label fault
   no_cause_of list fault has none cause = none (subst (λ (l : InnerList). IsCause l fault) (one_list message label cause.0 list cause.1 has) cause.2)
 
   -- ---- one after another, and the first that fails
@@ -265,7 +274,7 @@ first_cause message label rule place list fault has first same cause = record {
 }
 
 one_cause : (message : Message) (label : List ℕ) (rule : Rule) (p q : Place) (fault other : IdFault) → IsUnread message label rule p → IsUnread message label rule q
-    → rule_number rule ≡ 9 + id_order fault → rule_number rule ≡ 9 + id_order other → HasCause message label fault → HasCause message label other → fault ≡ other
+    → rule_number rule ≡ 9 + id_order fault → rule_number rule ≡ 9 + id_order other → ListHasCause message label fault → ListHasCause message label other → fault ≡ other
 one_cause message label rule p q fault other a b same also x y =
     let cause : IsCause y.0 fault = subst (λ (l : InnerList). IsCause l fault) (one_list message label x.0 y.0 x.1 y.1) x.2 in
     one_fault y.0 fault other (first_cause message label rule p y.0 fault y.1 a same cause) (first_cause message label rule q y.0 other y.1 b also y.2)

@@ -7,7 +7,6 @@ use Rattle.byte_grammar.specs.Causes.{IsFirst}
 use Rattle.sfv_text.specs.Keys.{value_of}
 use Rattle.sfv_text.specs.Strict.{string_text}
 use Rattle.sfv_text.specs.declared.pair.Pair.{Pair}
-use Rattle.sfv_text.specs.declared.value.BareItem.{BareItem}
 use Rattle.sfv_text.specs.declared.value.Item.{Item}
 use Rattle.sfv_text.specs.declared.value.InnerList.{InnerList}
 use Rattle.sfv_text.specs.declared.value.Member.{Member}
@@ -37,10 +36,11 @@ use Rattle.verdicts.specs.Words.{rule_number}
 -- ---- rules 1 to 12: whether the message has a signature of the label
 
 -- the label's Inner List is no signature parameters, and this is a cause (RFC 9421 section 2.3)
-abbrev pub HasCause : Message → List ℕ → IdFault → Type 0
-HasCause message label fault =
+abbrev pub ListHasCause : Message → List ℕ → IdFault → Type 0
+ListHasCause message label fault =
     (list : InnerList) × HasMember message input_name label (InnerMember list) × IsCause list fault
 
+-- the rows of rules 1 to 12 (RFC 9421 sections 2.3, 4.1 and 4.2)
 abbrev pub FailsToRead : Message → List ℕ → Rule → Place → Type 0
 FailsToRead message label InputAbsent place = (place ≡ Nowhere) × ¬ HasField message input_name
 FailsToRead message label InputMalformed place =
@@ -63,14 +63,14 @@ FailsToRead message label SignatureNotBytes place =
     (place ≡ Nowhere) × (member : Member) × HasMember message signature_name label member
     × (tag_in member ≡ None)
 FailsToRead message label ComponentsMany place =
-    (place ≡ Nowhere) × HasCause message label TooMany
+    (place ≡ Nowhere) × ListHasCause message label TooMany
 FailsToRead message label ComponentBad place =
     (index : ℕ) × (reason : BadReason) × (place ≡ Component index reason)
-    × HasCause message label (BadComponent index reason)
+    × ListHasCause message label (BadComponent index reason)
 FailsToRead message label ComponentRepeated place =
-    (index : ℕ) × (place ≡ Index index) × HasCause message label (Repeated index)
+    (index : ℕ) × (place ≡ Index index) × ListHasCause message label (Repeated index)
 FailsToRead message label ParameterBad place =
-    (key : List ℕ) × (place ≡ Name key) × HasCause message label (BadParameter key)
+    (key : List ℕ) × (place ≡ Name key) × ListHasCause message label (BadParameter key)
 FailsToRead message label rule place = ⊥
 
 -- ---- all rules
@@ -127,6 +127,7 @@ pub record IsNoMac (v : Verification) (params : SigParams) (tag : List ℕ) : Ty
   pub have : HaveValues v.context params.ids values
   pub other : ¬ (tag ≡ hmac key (signature_base params values))
 
+-- the rows of the rules after them (RFC 9421 section 3.2), and those above
 abbrev pub Fails : Verification → Rule → Place → Type 0
 Fails v AlgRefused place =
     OfSignature v (λ params tag. IsSomeAnd (alg_of params) (λ alg.
@@ -150,6 +151,7 @@ Fails v rule place = FailsToRead v.context.message v.label rule place
 
 -- ---- the first rule that fails
 
+-- a rule, and where it fails
 pub record Failure : Type 0 where
   pub rule : Rule
   pub place : Place
