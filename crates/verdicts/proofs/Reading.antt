@@ -42,16 +42,6 @@ use Rattle.verdicts.specs.Laws.{HasLabels, HasOneListOfLabels, HasSignatureOrNot
 use Rattle.verdicts.specs.tools.Answered.{SaysRule, ExplainsField, ExplainsLabel, field_fault_of, label_fault_of, id_fault_of}
 use Rattle.verdicts.proofs.RuleOrder.{NoneBelow, none_below_one, nor, first_failure, one_first_failure}
 
--- Of signature parameters no cause holds: the first that did would be a fault.
-none_under : (list : InnerList) (params : SigParams) → IsParamsOf list params → (n : ℕ) (fault : IdFault) → id_order fault < n → ¬ IsCause list fault
-none_under list params is zero fault lt cause = omega (arith, lt)
-none_under list params is (suc n) fault lt cause =
-    not_both list params fault is
-    (record { holds = cause; none_before = λ other less. none_under list params is n other (omega (arith, lt, less)) })
-
-no_cause_of_params : (list : InnerList) (params : SigParams) → IsParamsOf list params → (fault : IdFault) → ¬ IsCause list fault
-no_cause_of_params list params is fault = none_under list params is (id_order fault + 1) fault (omega arith)
-
 -- ---- what is there is there once
 
 pub one_dict : (message : Message) (name : List ℕ) (a b : List (Pair Member)) → HasDict message name a → HasDict message name b → a ≡ b
@@ -243,7 +233,7 @@ module _ (message : Message) (label : List ℕ) where
   pub signature_passes : (params : SigParams) (tag : List ℕ) → HasSignature message label params tag → NoneBelow (FailsToRead message label) 13
   signature_passes params tag has =
       none_below_13 (list_of params) has.input (none_below_9 (list_of params) has.member tag has.input has.signature has.tag_is)
-      (no_cause_of_params (list_of params) params (has.are, refl))
+      (no_cause (list_of params) params (has.are, refl))
 
 pub has_one_signature : (message : Message) (label : List ℕ) (params others : SigParams) (tag other : List ℕ)
     → HasSignature message label params tag → HasSignature message label others other → (params ≡ others) × (tag ≡ other)
