@@ -24,7 +24,7 @@ use Rattle.conf.specs.declared.fault.ConfFault.TheVariants as fault
 use Rattle.conf.specs.declared.sign_conf.SignConf.{SignConf}
 use Rattle.conf_table.specs.declared.table.Place.TheVariants.{Sign}
 use Rattle.conf_table.specs.declared.table.Rule.TheVariants as rule
-use Rattle.conf.specs.Meaning.{AreComponents, AreKeys, AreTypes, Configuration, Configures, HasKey, HasSign, IsDocument, IsSignConf, digest_of, scheme_of, seconds_of}
+use Rattle.conf.specs.Meaning.{AreComponents, AreKeys, AreTypes, Configuration, Configures, HasKey, HasSign, IsDocument, IsSignConf, digest_of, told_scheme, seconds_of}
 use Rattle.conf.specs.Paths.{HoldsAtPath, HoldsOfNone, IsLeast}
 use Rattle.conf.specs.Refusals.{HasBadKeyText, IsBadKeyText, IsBadList, IsConfFault}
 use Rattle.conf_table.specs.Rows.{fails, is_ill_typed, is_out_of_range}
@@ -221,7 +221,7 @@ complete_answer text document is judged spell below request response first secon
           let sign = has_sign document judged complete request response first second in
           inl (
             record {
-              scheme = scheme_of (get_member (codes "scheme") document);
+              scheme = told_scheme (get_member (codes "scheme") document);
               keys = all_of key_in map.empty (keys_of_document document);
               types = all_of kind_told standard_types (types_of_document document);
               sign = sign.0;

@@ -10,7 +10,7 @@ use Rattle.conf.specs.declared.fault.ConfFault.TheVariants.{Memory, NotToml, Unk
 use Rattle.conf.specs.declared.sign_conf.SignConf.{SignConf}
 use Rattle.conf_table.specs.declared.table.Rule.TheVariants as rule
 use Rattle.conf.specs.Meaning.{AreComponents, Configuration, Configures, HasKey, HasSign, IsConfiguration, IsDocument}
-use Rattle.conf.specs.Refusals.{HasBadKeyText, IsBadKeyText, IsBadList, IsCause, IsCauseIn, IsConfFault, fault_number}
+use Rattle.conf.specs.Refusals.{HasBadKeyText, IsBadKeyText, IsBadList, IsConfCause, IsCauseIn, IsConfFault, fault_number}
 use Rattle.conf_table.specs.Table.{members_in}
 use Rattle.conf.proofs.JudgedLaws.{known_clear, typed_clear, allowed_clear, keys_clear, lists_clear, complete_clear}
 use Rattle.conf.proofs.LeastLaws.{least_once}
@@ -29,7 +29,7 @@ paths_once : (text : List ℕ) (Holds : Members → List ℕ → Type 0) (first 
     (path other : List ℕ) → (document : Members) × IsDocument text document × Holds document path → (document : Members) × IsDocument text document × Holds document other → path ≡ other
 paths_once text Holds first path other (a, is, h) (b, also, k) = first a path other h (rw (one_document text b a also is) at k)
 
-determined : (text : List ℕ) → AreDetermined fault_number (IsCause text)
+determined : (text : List ℕ) → AreDetermined fault_number (IsConfCause text)
 determined text NotToml NotToml e h k = refl
 determined text (UnknownKey a) (UnknownKey b) e h k =
     ap (λ (path : List ℕ). UnknownKey path) (paths_once text (λ d path. IsCauseIn d (UnknownKey path)) (λ d path other one two. least_once _ path other one two) a b h k)
@@ -48,7 +48,7 @@ determined text fault Memory e h k = absurd k.2
 determined text fault other e h k = absurd (omega (arith, e))
 
 pub one_fault : (text : List ℕ) (fault other : ConfFault) → IsConfFault text fault → IsConfFault text other → fault ≡ other
-one_fault text fault other first second = first_is_one fault_number (IsCause text) (determined text) fault other first second
+one_fault text fault other first second = first_is_one fault_number (IsConfCause text) (determined text) fault other first second
 
 -- ---- no fault of a configuration
 
@@ -88,7 +88,7 @@ no_cause document conf is Memory h = h
 no_cause document conf is NotToml h = h
 
 -- a configuration has no cause
-pub no_fault : (text : List ℕ) (conf : Configuration) → Configures text conf → (fault : ConfFault) → ¬ IsCause text fault
+pub no_fault : (text : List ℕ) (conf : Configuration) → Configures text conf → (fault : ConfFault) → ¬ IsConfCause text fault
 no_fault text conf (document, is, says) NotToml h = h document is
 no_fault text conf (document, is, says) Memory h = h.2
 no_fault text conf (document, is, says) (UnknownKey path) (other, also, h) = no_cause document conf says (UnknownKey path) (rw (one_document text document other is also) h)

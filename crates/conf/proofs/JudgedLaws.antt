@@ -6,7 +6,7 @@ use Rattle.conf.specs.declared.fault.ConfFault.{ConfFault}
 use Rattle.conf.specs.declared.fault.ConfFault.TheVariants as fault
 use Rattle.conf.specs.declared.judge.Refusal.{Refusal}
 use Rattle.conf.specs.declared.judge.Refusal.TheVariants.{WrongType, OutOfRange, Missing}
-use Rattle.conf_table.specs.Table.{Row, rows, places, place_path, value_of, has_unknown, is_missing}
+use Rattle.conf_table.specs.Table.{Row, rows, places, place_path, row_value, has_unknown, is_missing}
 use Rattle.conf.specs.Paths.{HoldsOfNone}
 use Rattle.conf_table.specs.Rows.{is_ill_typed, is_out_of_range}
 use Rattle.conf.specs.Refusals.{IsCauseIn, IsLeastRow, HasBadKeyText, IsBadList, fault_number}
@@ -55,12 +55,12 @@ pub allowed_clear : (document : Members) → HoldsOfNone (λ row. IsTrue (is_out
 allowed_clear document none (fault.OutOfRange path) e h = none_of_rows (λ row. IsTrue (is_out_of_range document row)) path none h
 allowed_clear document none other e h = absurd (omega arith)
 
-pub keys_clear : (document : Members) → HoldsOfNone (λ row. HasBadKeyText row.rule (value_of document row)) rows → IsClearAt 6 document
-keys_clear document none (fault.BadKeyText path) e h = none_of_rows (λ row. HasBadKeyText row.rule (value_of document row)) path none h
+pub keys_clear : (document : Members) → HoldsOfNone (λ row. HasBadKeyText row.rule (row_value document row)) rows → IsClearAt 6 document
+keys_clear document none (fault.BadKeyText path) e h = none_of_rows (λ row. HasBadKeyText row.rule (row_value document row)) path none h
 keys_clear document none other e h = absurd (omega arith)
 
-pub lists_clear : (document : Members) → HoldsOfNone (λ row. IsBadList row.rule (value_of document row)) rows → IsClearAt 7 document
-lists_clear document none (fault.BadComponents path) e h = none_of_rows (λ row. IsBadList row.rule (value_of document row)) path none h
+pub lists_clear : (document : Members) → HoldsOfNone (λ row. IsBadList row.rule (row_value document row)) rows → IsClearAt 7 document
+lists_clear document none (fault.BadComponents path) e h = none_of_rows (λ row. IsBadList row.rule (row_value document row)) path none h
 lists_clear document none other e h = absurd (omega arith)
 
 pub eight_clear : (document : Members) → IsClearAt 8 document
@@ -100,5 +100,5 @@ pub below_keys : (document : Members) → IsJudged document → IsClearBelow 6 d
 below_keys document judged = clear_more 5 document (below_allowed document judged.known judged.typed) (allowed_clear document judged.allowed)
 
 -- after the texts of keys the lists are next, and then, with nothing between, what is missing
-pub below_missing : (document : Members) → IsClearBelow 7 document → HoldsOfNone (λ row. IsBadList row.rule (value_of document row)) rows → IsClearBelow 9 document
+pub below_missing : (document : Members) → IsClearBelow 7 document → HoldsOfNone (λ row. IsBadList row.rule (row_value document row)) rows → IsClearBelow 9 document
 below_missing document below lists = clear_more 8 document (clear_more 7 document below (lists_clear document lists)) (eight_clear document)

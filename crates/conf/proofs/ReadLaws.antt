@@ -7,7 +7,7 @@ use Rattle.conf.specs.declared.fault.ConfFault.{ConfFault}
 use Rattle.conf.specs.declared.fault.ConfFault.TheVariants.{Memory, NotToml, UnknownKey, WrongType, OutOfRange, BadKeyText, BadComponents, Missing}
 use Rattle.conf.specs.ConfMeaning.{meaning}
 use Rattle.conf.specs.Meaning.{Configuration, Configures, IsConfiguration, IsDocument}
-use Rattle.conf.specs.Refusals.{IsCause, IsCauseIn, IsConfFault, fault_number}
+use Rattle.conf.specs.Refusals.{IsConfCause, IsCauseIn, IsConfFault, fault_number}
 use Rattle.conf.specs.tools.Explained.{Explains}
 use Rattle.conf.specs.tools.Judged.{IsFirstIn, IsNotToml}
 use Rattle.conf.proofs.CauseLaws.{one_document, one_fault, not_both}
@@ -15,7 +15,7 @@ use Rattle.conf.proofs.MeaningLaws.{one_meaning}
 
 -- ---- the first fault of a document is that of its text
 
-before : (text : List ℕ) (document : Members) (fault other : ConfFault) → IsDocument text document → IsFirst fault_number (IsCauseIn document) fault → fault_number other < fault_number fault → ¬ IsCause text other
+before : (text : List ℕ) (document : Members) (fault other : ConfFault) → IsDocument text document → IsFirst fault_number (IsCauseIn document) fault → fault_number other < fault_number fault → ¬ IsConfCause text other
 before text document fault NotToml is first lt h = h document is
 before text document fault Memory is first lt h = h.2
 before text document fault (UnknownKey path) is first lt (also, is_also, h) = first.none_before (UnknownKey path) lt (rw (one_document text document also is is_also) h)
@@ -35,7 +35,7 @@ first_of text document (BadKeyText path) is h = inr (record { holds = (document,
 first_of text document (BadComponents path) is h = inr (record { holds = (document, is, h.holds); none_before = λ other. before text document (BadComponents path) other is h })
 first_of text document (Missing path) is h = inr (record { holds = (document, is, h.holds); none_before = λ other. before text document (Missing path) other is h })
 
-nothing_before : (text : List ℕ) (other : ConfFault) → fault_number other < 2 → ¬ IsCause text other
+nothing_before : (text : List ℕ) (other : ConfFault) → fault_number other < 2 → ¬ IsConfCause text other
 nothing_before text Memory lt h = h.2
 nothing_before text other lt h = absurd (omega (arith, lt))
 

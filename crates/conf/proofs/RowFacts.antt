@@ -11,7 +11,7 @@ use Rattle.conf_table.specs.declared.table.Rule.TheVariants as rule
 use Rattle.conf.specs.Paths.{HoldsOfNone}
 use Rattle.conf.specs.Refusals.{HasBadKeyText, IsBadList, IsLeastRow}
 use Rattle.conf_table.specs.Rows.{fails, is_ill_typed, is_out_of_range}
-use Rattle.conf_table.specs.Table.{Row, rows, at_sign, at_top, value_of, members_at, has_place, is_missing}
+use Rattle.conf_table.specs.Table.{Row, rows, at_sign, at_top, row_value, members_at, has_place, is_missing}
 use Rattle.conf_table.specs.Values.{has_type, is_allowed}
 use Rattle.conf.specs.tools.Judged.{IsJudged}
 use Rattle.conf.specs.tools.SignReads.{IsToldList}
@@ -114,43 +114,43 @@ label_there document complete has = there (has_place document Sign) (sign_value 
 
 -- ---- key texts and lists
 
-pub texts_fine : (document : Members) → (HasBadKeyText rule.Keys (get_member (codes "keys") document) → ⊥) → HoldsOfNone (λ row. HasBadKeyText row.rule (value_of document row)) rows
+pub texts_fine : (document : Members) → (HasBadKeyText rule.Keys (get_member (codes "keys") document) → ⊥) → HoldsOfNone (λ row. HasBadKeyText row.rule (row_value document row)) rows
 unfolding rows
 texts_fine document fine = (fine, (λ h. h, (λ h. h, (λ h. h, (λ h. h, (λ h. h, (λ h. h, (λ h. h, (λ h. h, (λ h. h, (λ h. h, (λ h. h, (λ h. h, tt)))))))))))))
 
-pub keys_least : (document : Members) → HasBadKeyText rule.Keys (get_member (codes "keys") document) → IsLeastRow (λ row. HasBadKeyText row.rule (value_of document row)) (codes "keys")
+pub keys_least : (document : Members) → HasBadKeyText rule.Keys (get_member (codes "keys") document) → IsLeastRow (λ row. HasBadKeyText row.rule (row_value document row)) (codes "keys")
 unfolding rows
 keys_least document bad =
-    least_at (λ (row : Row). row.path) (λ (row : Row). HasBadKeyText row.rule (value_of document row)) [] (at_top (codes "keys") rule.Keys) (drop 1 rows) rows_ascend tt bad
+    least_at (λ (row : Row). row.path) (λ (row : Row). HasBadKeyText row.rule (row_value document row)) [] (at_top (codes "keys") rule.Keys) (drop 1 rows) rows_ascend tt bad
 
 pub lists_fine_by : (document : Members) → (IsBadList rule.Components (sign_value document (codes "components-request")) → ⊥)
-    → (IsBadList rule.Components (sign_value document (codes "components-response")) → ⊥) → HoldsOfNone (λ row. IsBadList row.rule (value_of document row)) rows
+    → (IsBadList rule.Components (sign_value document (codes "components-response")) → ⊥) → HoldsOfNone (λ row. IsBadList row.rule (row_value document row)) rows
 unfolding rows
 lists_fine_by document request response =
     (λ h. h, (λ h. h, (λ h. h, (λ h. h, (request, (response, (λ h. h, (λ h. h, (λ h. h, (λ h. h, (λ h. h, (λ h. h, (λ h. h, tt)))))))))))))
 
 pub lists_fine : (document : Members) (request response : List ComponentId) → IsToldList (sign_value document (codes "components-request")) request
-    → IsToldList (sign_value document (codes "components-response")) response → HoldsOfNone (λ row. IsBadList row.rule (value_of document row)) rows
+    → IsToldList (sign_value document (codes "components-response")) response → HoldsOfNone (λ row. IsBadList row.rule (row_value document row)) rows
 lists_fine document request response first second =
     lists_fine_by document (told_not_bad (sign_value document (codes "components-request")) request first)
     (told_not_bad (sign_value document (codes "components-response")) response second)
 
 pub request_least : (document : Members) → IsBadList rule.Components (sign_value document (codes "components-request"))
-    → IsLeastRow (λ row. IsBadList row.rule (value_of document row)) (codes "sign.components-request")
+    → IsLeastRow (λ row. IsBadList row.rule (row_value document row)) (codes "sign.components-request")
 unfolding rows
 request_least document bad =
-    least_at (λ (row : Row). row.path) (λ (row : Row). IsBadList row.rule (value_of document row)) (take 4 rows) (at_sign (codes "sign.components-request") (codes "components-request") rule.Components) (drop 5 rows)
+    least_at (λ (row : Row). row.path) (λ (row : Row). IsBadList row.rule (row_value document row)) (take 4 rows) (at_sign (codes "sign.components-request") (codes "components-request") rule.Components) (drop 5 rows)
     rows_ascend (λ h. h, (λ h. h, (λ h. h, (λ h. h, tt)))) bad
 
 pub response_least_by : (document : Members) → (IsBadList rule.Components (sign_value document (codes "components-request")) → ⊥)
     → IsBadList rule.Components (sign_value document (codes "components-response"))
-    → IsLeastRow (λ row. IsBadList row.rule (value_of document row)) (codes "sign.components-response")
+    → IsLeastRow (λ row. IsBadList row.rule (row_value document row)) (codes "sign.components-response")
 unfolding rows
 response_least_by document request bad =
-    least_at (λ (row : Row). row.path) (λ (row : Row). IsBadList row.rule (value_of document row)) (take 5 rows) (at_sign (codes "sign.components-response") (codes "components-response") rule.Components) (drop 6 rows)
+    least_at (λ (row : Row). row.path) (λ (row : Row). IsBadList row.rule (row_value document row)) (take 5 rows) (at_sign (codes "sign.components-response") (codes "components-response") rule.Components) (drop 6 rows)
     rows_ascend (λ h. h, (λ h. h, (λ h. h, (λ h. h, (request, tt))))) bad
 
 pub response_least : (document : Members) (request : List ComponentId) → IsToldList (sign_value document (codes "components-request")) request
     → IsBadList rule.Components (sign_value document (codes "components-response"))
-    → IsLeastRow (λ row. IsBadList row.rule (value_of document row)) (codes "sign.components-response")
+    → IsLeastRow (λ row. IsBadList row.rule (row_value document row)) (codes "sign.components-response")
 response_least document request first bad = response_least_by document (told_not_bad (sign_value document (codes "components-request")) request first) bad

@@ -32,9 +32,9 @@ IsDocument text document = IsUtf8 text × (parse_document text ≡ Some document
 -- ---- the values of keys
 
 -- `https` where nothing is said
-abbrev pub scheme_of : Option Data → Scheme
-scheme_of (Some (string text)) = if bytes_eq text (codes "http") then Http else Https
-scheme_of value = Https
+abbrev pub told_scheme : Option Data → Scheme
+told_scheme (Some (string text)) = if bytes_eq text (codes "http") then Http else Https
+told_scheme value = Https
 
 -- the key that a keyid has: the one of the text, or none
 abbrev pub HasKey : Option Data → Option (List ℕ) → Type 0
@@ -107,7 +107,7 @@ pub record IsConfiguration (document : Members) (conf : Configuration) : Type 0 
   pub typed : HoldsOfNone (λ row. IsTrue (is_ill_typed document row)) rows
   pub allowed : HoldsOfNone (λ row. IsTrue (is_out_of_range document row)) rows
   pub complete : HoldsOfNone (λ row. IsTrue (is_missing document row)) rows
-  pub scheme : conf.scheme ≡ scheme_of (get_member (codes "scheme") document)
+  pub scheme : conf.scheme ≡ told_scheme (get_member (codes "scheme") document)
   pub keys : AreKeys (members_in (get_member (codes "keys") document)) conf.keys
   pub types : AreTypes (members_in (get_member (codes "types") document)) conf.types
   pub sign : HasSign (get_member (codes "sign") document) conf.sign

@@ -7,7 +7,7 @@ use Rattle.conf.specs.declared.fault.ConfFault.{ConfFault}
 use Rattle.conf.specs.declared.fault.ConfFault.TheVariants.{Memory, NotToml, UnknownKey, WrongType, OutOfRange, BadKeyText, BadComponents, Missing}
 use Rattle.conf_table.specs.declared.table.Rule.{Rule}
 use Rattle.conf_table.specs.declared.table.Rule.TheVariants.{Keys, Components}
-use Rattle.conf_table.specs.Table.{Row, rows, places, place_path, value_of, has_unknown, is_missing}
+use Rattle.conf_table.specs.Table.{Row, rows, places, place_path, row_value, has_unknown, is_missing}
 use Rattle.conf_table.specs.Values.{IsKeyText, IsCovered}
 use Rattle.conf.specs.Paths.{HoldsAtPath, IsLeast}
 use Rattle.conf_table.specs.Rows.{is_ill_typed, is_out_of_range}
@@ -41,16 +41,16 @@ IsCauseIn document (WrongType path) = IsLeastRow (λ row. IsTrue (is_ill_typed d
 IsCauseIn document (OutOfRange path) =
     IsLeastRow (λ row. IsTrue (is_out_of_range document row)) path
 IsCauseIn document (BadKeyText path) =
-    IsLeastRow (λ row. HasBadKeyText row.rule (value_of document row)) path
+    IsLeastRow (λ row. HasBadKeyText row.rule (row_value document row)) path
 IsCauseIn document (BadComponents path) =
-    IsLeastRow (λ row. IsBadList row.rule (value_of document row)) path
+    IsLeastRow (λ row. IsBadList row.rule (row_value document row)) path
 IsCauseIn document (Missing path) = IsLeastRow (λ row. IsTrue (is_missing document row)) path
 IsCauseIn document fault = ⊥
 
 -- of a text: it is no document, or the fact holds of its document; being out of memory is none
-abbrev pub IsCause : List ℕ → ConfFault → Type 0
-IsCause text NotToml = (document : Members) → ¬ IsDocument text document
-IsCause text fault = (document : Members) × IsDocument text document × IsCauseIn document fault
+abbrev pub IsConfCause : List ℕ → ConfFault → Type 0
+IsConfCause text NotToml = (document : Members) → ¬ IsDocument text document
+IsConfCause text fault = (document : Members) × IsDocument text document × IsCauseIn document fault
 
 -- the numbers of the faults, in whose order they are judged
 abbrev pub fault_number : ConfFault → ℕ
@@ -65,7 +65,7 @@ fault_number (Missing path) = 9
 
 -- the fault's cause is the first that holds
 abbrev pub IsConfFault : List ℕ → ConfFault → Type 0
-IsConfFault text fault = IsFirst fault_number (IsCause text) fault
+IsConfFault text fault = IsFirst fault_number (IsConfCause text) fault
 
 -- where a fault is
 abbrev pub fault_path : ConfFault → Option (List ℕ)

@@ -4,7 +4,7 @@
 ghost use Rattle.conf.specs.Laws.{HasConfAnswer, HasOneMeaning, HasOneConfFault, HasNoFaultWhereRead};
 
 /// A text is one configuration, or has one fault, and not both.
-pub fn a_text_has_one_answer()
+pub fn a_text_is_one_configuration()
     ensures answer { HasConfAnswer }
     ensures meaning { HasOneMeaning }
     ensures fault { HasOneConfFault }

@@ -26,7 +26,7 @@ mod values;
 pub use conf::Conf;
 pub use conf_table::{MAX_EXPIRES_AFTER, MAX_KEY_BYTES, MAX_KEYID_BYTES, is_keyid};
 pub use fault::ConfFault;
-pub use laws::a_text_has_one_answer;
+pub use laws::a_text_is_one_configuration;
 pub use read::{empty_conf, read_conf};
 pub use sign_conf::{SignConf, SignDigest};
 

@@ -3,7 +3,7 @@
 ghost use Rattle.std.specs.Prelude.{◌≡◌, false, unwrap_or, option_and_then, codes};
 ghost use Rattle.toml.specs.Data.{as_bool, get_member};
 ghost use Rattle.toml.specs.View.{table_view};
-ghost use Rattle.conf.specs.Meaning.{digest_of, digest_of_word, scheme_of, seconds_of};
+ghost use Rattle.conf.specs.Meaning.{digest_of, digest_of_word, told_scheme, seconds_of};
 
 use crate::sign_conf::SignDigest;
 use component_ids::Scheme;
@@ -12,7 +12,7 @@ use toml::Table;
 
 /// The scheme of the document; `https` where it tells none.
 pub(crate) fn scheme_in(document: &Table) -> Scheme
-    ensures { result ≡ scheme_of (get_member (codes "scheme") (table_view document.now)) }
+    ensures { result ≡ told_scheme (get_member (codes "scheme") (table_view document.now)) }
 {
     match text_in(document, "scheme") {
         Some("http") => Scheme::Http,

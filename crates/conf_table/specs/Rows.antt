@@ -1,7 +1,7 @@
 -- Values that are refused at the keys of a configuration.
 use Rattle.std.specs.Prelude.{Bool, false, not, Option, Some, None}
 use Rattle.toml.specs.Data.{Data, Members}
-use Rattle.conf_table.specs.Table.{Row, value_of}
+use Rattle.conf_table.specs.Table.{Row, row_value}
 use Rattle.conf_table.specs.Values.{has_type, is_allowed}
 
 -- there is a value, and it fails the test
@@ -11,8 +11,8 @@ fails test (Some value) = not (test value)
 
 -- the key has a value of another type
 abbrev pub is_ill_typed : Members → Row → Bool
-is_ill_typed document row = fails (has_type row.rule) (value_of document row)
+is_ill_typed document row = fails (has_type row.rule) (row_value document row)
 
 -- the key has a value that isn't allowed
 abbrev pub is_out_of_range : Members → Row → Bool
-is_out_of_range document row = fails (is_allowed document row.rule) (value_of document row)
+is_out_of_range document row = fails (is_allowed document row.rule) (row_value document row)

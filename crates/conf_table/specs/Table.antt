@@ -75,8 +75,8 @@ members_at document Top = document
 members_at document Sign = members_in (get_member (codes "sign") document)
 
 -- the value of the key, where the document has it
-abbrev pub value_of : Members → Row → Option Data
-value_of document row = get_member row.key (members_at document row.place)
+abbrev pub row_value : Members → Row → Option Data
+row_value document row = get_member row.key (members_at document row.place)
 
 -- the pairs one by one, with their names
 abbrev pub entries_of : Members → List (List ℕ × Data)
@@ -103,4 +103,4 @@ has_place document Sign = is_some (option_and_then as_table (get_member (codes "
 -- the document has the table without a key that it has to have
 abbrev pub is_missing : Members → Row → Bool
 is_missing document row =
-    row.required && (has_place document row.place && is_none (value_of document row))
+    row.required && (has_place document row.place && is_none (row_value document row))

@@ -24,7 +24,7 @@ use Rattle.msg_body.specs.Messages.{Message}
 use Rattle.msg_body.specs.declared.error.MessageFault.{MessageFault}
 use Rattle.hms.specs.Base.{HasIdFault, AreParamsRefused, IsValueLacking}
 use Rattle.hms.specs.Covered.{ReadsParams}
-use Rattle.hms.specs.Messages.{IsMessage, IsInputRefused}
+use Rattle.hms.specs.Messages.{IsInputMessage, IsInputRefused}
 use Rattle.hms.specs.declared.refusal.InputRefusal.{InputRefusal}
 use Rattle.hms.specs.declared.refusal.InputRefusal.TheVariants.{TooLong, Message as NoMessage}
 use Rattle.hms.specs.declared.refusal.CommandRefusal.{CommandRefusal}
@@ -52,11 +52,11 @@ input_cause input TooLong (NoMessage g) a b = absurd (omega (arith, a, b.0))
 input_cause input (NoMessage f) TooLong a b = absurd (omega (arith, a.0, b))
 input_cause input (NoMessage f) (NoMessage g) a b = ap (λ (h : MessageFault). NoMessage h) (one_message_fault input f g a.1 b.1)
 
-input_either : (input : List ℕ) (message : Message) (c : InputRefusal) → IsMessage input message → IsInputRefused input c → ⊥
+input_either : (input : List ℕ) (message : Message) (c : InputRefusal) → IsInputMessage input message → IsInputRefused input c → ⊥
 input_either input message TooLong is c = absurd (omega (arith, is.0, c))
 input_either input message (NoMessage f) is c = text_no_fault input message f is.1 c.1
 
-pub input_decided : (input : List ℕ) → IsDecisive (IsMessage input) (IsInputRefused input)
+pub input_decided : (input : List ℕ) → IsDecisive (IsInputMessage input) (IsInputRefused input)
 input_decided input = record {
   value = λ a b is also. one_text input a b is.1 also.1;
   cause = input_cause input;

@@ -23,8 +23,8 @@ IsMessageFault input (Truncated count) = (count ≡ length input) × IsUnfinishe
 IsMessageFault input (Trailing offset) = GoesOn input offset
 
 -- the input is within the limit, and it is this message
-abbrev pub IsMessage : List ℕ → Message → Type 0
-IsMessage input message = (length input ≤ MAX_INPUT_BYTES) × Spells message input
+abbrev pub IsInputMessage : List ℕ → Message → Type 0
+IsInputMessage input message = (length input ≤ MAX_INPUT_BYTES) × Spells message input
 
 -- why an input is refused
 abbrev pub IsInputRefused : List ℕ → InputRefusal → Type 0

@@ -12,7 +12,7 @@ use Rattle.conf.specs.Meaning.{Configuration}
 use Rattle.hms.specs.Base.{ReportsBase}
 use Rattle.hms.specs.Configured.{IsConfigured, IsConfRefused}
 use Rattle.hms.specs.Layers.{ReadsThen}
-use Rattle.hms.specs.Messages.{IsMessage, IsInputRefused}
+use Rattle.hms.specs.Messages.{IsInputMessage, IsInputRefused}
 use Rattle.hms.specs.Outcome.{status_of, output_of}
 use Rattle.hms.specs.Verify.{ReportsVerdicts}
 use Rattle.hms.specs.declared.refusal.TheConstants.{MAX_INPUT_BYTES}
@@ -29,7 +29,7 @@ ReportsCommand (Verify file now label) conf message = ReportsVerdicts label conf
 -- what it comes to over an input, which is read as a message
 abbrev pub ReportsInput : CommandLine → Configuration → List ℕ → Outcome → Type 0
 ReportsInput command conf input =
-    ReadsThen (IsMessage input) (IsInputRefused input) Input (ReportsCommand command conf)
+    ReadsThen (IsInputMessage input) (IsInputRefused input) Input (ReportsCommand command conf)
 
 -- and over files, of which one may be its configuration
 abbrev pub ReportsFiles : CommandLine → FileMap → List ℕ → Outcome → Type 0

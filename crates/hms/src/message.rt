@@ -3,7 +3,7 @@
 ghost use Rattle.std.specs.Prelude.{◌≡◌, ◌≤◌, length, IfOk, IfErr};
 ghost use Rattle.msg_body.specs.Views.{message_of};
 ghost use Rattle.hms.specs.declared.refusal.TheConstants.{MAX_INPUT_BYTES};
-ghost use Rattle.hms.specs.Messages.{IsMessage, IsInputRefused};
+ghost use Rattle.hms.specs.Messages.{IsInputMessage, IsInputRefused};
 ghost use Rattle.hms.specs.declared.refusal.Refusal.TheVariants.{Input};
 ghost use Rattle.hms.specs.tools.Stops.{IfRefused, IsRefusalFor, stop_for};
 
@@ -22,7 +22,7 @@ fn stop_for(fault: MessageFault) -> Stop
 /// Reads the input as one whole message.
 pub fn read_input<'m>(alloc: Global, input: &'m [u8]) -> Result<MessageView<'m>, Stop>
     requires { length input.now ≤ MAX_INPUT_BYTES }
-    ensures ok { IfOk result (λ view. IsMessage input.now (message_of view)) }
+    ensures ok { IfOk result (λ view. IsInputMessage input.now (message_of view)) }
     ensures refused { IfErr result (λ stop.
         IfRefused stop (IsRefusalFor (IsInputRefused input.now) Input)) }
 {

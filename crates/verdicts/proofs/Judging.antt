@@ -33,7 +33,7 @@ use Rattle.verdicts.specs.declared.rule.Rule.{Rule}
 use Rattle.verdicts.specs.declared.rule.Rule.TheVariants.{InputAbsent, InputMalformed, SignatureAbsent, SignatureMalformed, LabelNotInInput, LabelNotInSignature, InputNotList, SignatureNotBytes, ComponentsMany, ComponentBad, ComponentRepeated, ParameterBad, AlgRefused, AlgUnknown, KeyidAbsent, KeyUnknown, Absent, Ambiguous, Underivable, Unreadable, NotAscii, MacMismatch}
 use Rattle.verdicts.specs.Words.{rule_number}
 use Rattle.verdicts.specs.Signatures.{HasSignature}
-use Rattle.verdicts.specs.Rules.{Verification, key_in, supported_algorithm, refused_algorithms, alg_of, keyid_of, OfSignature, FailsByLack, IsNoMac, FailsToRead, Fails, IsUnread, IsFirstFailure}
+use Rattle.verdicts.specs.Rules.{Verification, key_in, supported_algorithm, refused_algorithms, alg_of, keyid_of, OfSignature, FailsByLack, IsNoMac, FailsToRead, Fails, IsLabelUnread, IsFirstFailure}
 use Rattle.verdicts.specs.Verdicts.{Accepts, IsVerdict}
 use Rattle.verdicts.specs.Laws.{HasVerdict, HasOneVerdict, IsAcceptedWhereNoRuleFails}
 use Rattle.verdicts.specs.tools.Answered.{SaysRule}
@@ -110,7 +110,7 @@ module _ (v : Verification) where
   of_reading ParameterBad place fails = fails
   of_reading rule place fails = absurd fails
 
-  pub unread_is_first : (rule : Rule) (place : Place) → IsUnread v.context.message v.label rule place → IsFirstFailure (Fails v) rule place
+  pub unread_is_first : (rule : Rule) (place : Place) → IsLabelUnread v.context.message v.label rule place → IsFirstFailure (Fails v) rule place
   unread_is_first rule place first = record {
     holds = of_reading rule place first.holds;
     none_before = λ other lt fails.
@@ -118,7 +118,7 @@ module _ (v : Verification) where
         first.none_before other lt (as_reading other.rule other.place (omega (arith, lt, low)) fails);
   }
 
-  first_is_unread : (rule : Rule) (place : Place) → rule_number rule < 13 → IsFirstFailure (Fails v) rule place → IsUnread v.context.message v.label rule place
+  first_is_unread : (rule : Rule) (place : Place) → rule_number rule < 13 → IsFirstFailure (Fails v) rule place → IsLabelUnread v.context.message v.label rule place
   first_is_unread rule place low first = record {
     holds = as_reading rule place low first.holds;
     none_before = λ other lt fails. first.none_before other lt (of_reading other.rule other.place fails);
@@ -126,7 +126,7 @@ module _ (v : Verification) where
 
   -- what a fault of the reader says of all rules
   pub read_says : (fault : LabelFault)
-      → ((rule : Rule) (place : Place) → AnswersWhere {T = LabelRead} Memory (Err fault) (IsRule rule place) (IsUnread v.context.message v.label rule place))
+      → ((rule : Rule) (place : Place) → AnswersWhere {T = LabelRead} Memory (Err fault) (IsRule rule place) (IsLabelUnread v.context.message v.label rule place))
       → SaysRule (IsFirstFailure (Fails v)) fault
   read_says Memory answers = tt
   read_says (IsRule rule place) answers = unread_is_first rule place ((answers rule place).only refl)

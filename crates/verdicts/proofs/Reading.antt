@@ -36,7 +36,7 @@ use Rattle.verdicts.specs.declared.place.Place.TheVariants.{None as Nowhere, Ind
 use Rattle.verdicts.specs.declared.rule.Rule.{Rule}
 use Rattle.verdicts.specs.declared.rule.Rule.TheVariants.{InputAbsent, InputMalformed, SignatureAbsent, SignatureMalformed, LabelNotInInput, LabelNotInSignature, InputNotList, SignatureNotBytes, ComponentsMany, ComponentBad, ComponentRepeated, ParameterBad}
 use Rattle.verdicts.specs.Signatures.{input_name, signature_name, tag_in, HasField, HasDict, HasMember, HasSignature}
-use Rattle.verdicts.specs.Rules.{ListHasCause, FailsToRead, IsUnread}
+use Rattle.verdicts.specs.Rules.{ListHasCause, FailsToRead, IsLabelUnread}
 use Rattle.verdicts.specs.Words.{rule_number}
 use Rattle.verdicts.specs.Laws.{HasLabels, HasOneListOfLabels, HasSignatureOrNot}
 use Rattle.verdicts.specs.tools.Answered.{SaysRule, ExplainsField, ExplainsLabel, field_fault_of, label_fault_of, id_fault_of}
@@ -161,7 +161,7 @@ module _ (message : Message) (label : List ℕ) where
         (λ place fails. no_cause_of list (BadParameter fails.0) has (none (BadParameter fails.0)) fails.2)
 
     -- the fault of the list is that of the label
-    pub list_fails : (fault : IdFault) → IsIdFault list fault → SaysRule (IsUnread message label) (id_fault_of fault)
+    pub list_fails : (fault : IdFault) → IsIdFault list fault → SaysRule (IsLabelUnread message label) (id_fault_of fault)
     list_fails Memory is = tt
     list_fails TooMany is = first_failure (FailsToRead message label) ComponentsMany Nowhere below (refl, (list, has, is.holds))
     list_fails (BadComponent i r) is =
@@ -175,19 +175,19 @@ module _ (message : Message) (label : List ℕ) where
         (key, refl, (list, has, is.holds))
 
   -- the fault of a field is that of the label
-  pub input_fails : (fault : FieldFault) → ExplainsField message input_name (Err fault) → SaysRule (IsUnread message label) (label_fault_of fault InputAbsent InputMalformed)
+  pub input_fails : (fault : FieldFault) → ExplainsField message input_name (Err fault) → SaysRule (IsLabelUnread message label) (label_fault_of fault InputAbsent InputMalformed)
   input_fails field.Memory x = tt
   input_fails field.Absent x = first_failure (FailsToRead message label) InputAbsent Nowhere (none_below_one (FailsToRead message label)) (refl, x)
   input_fails field.Malformed x = first_failure (FailsToRead message label) InputMalformed Nowhere (none_below_2 x.0) (refl, x.0, x.1)
 
   pub signature_fails : (input : List (Pair Member)) → HasDict message input_name input → (fault : FieldFault) → ExplainsField message signature_name (Err fault)
-      → SaysRule (IsUnread message label) (label_fault_of fault SignatureAbsent SignatureMalformed)
+      → SaysRule (IsLabelUnread message label) (label_fault_of fault SignatureAbsent SignatureMalformed)
   signature_fails input has field.Memory x = tt
   signature_fails input has field.Absent x = first_failure (FailsToRead message label) SignatureAbsent Nowhere (none_below_3 input has) (refl, x)
   signature_fails input has field.Malformed x = first_failure (FailsToRead message label) SignatureMalformed Nowhere (none_below_4 input has x.0) (refl, x.0, x.1)
 
   module _ (input signature : List (Pair Member)) (has : HasDict message input_name input) (also : HasDict message signature_name signature) where
-    pub not_in_input : value_of input label ≡ None → IsUnread message label LabelNotInInput Nowhere
+    pub not_in_input : value_of input label ≡ None → IsLabelUnread message label LabelNotInInput Nowhere
     not_in_input none = first_failure (FailsToRead message label) LabelNotInInput Nowhere (none_below_5 input signature has also) (refl, input, has, none)
 
     in_input : (covered : Member) → value_of input label ≡ Some covered → HasMember message input_name label covered
@@ -196,24 +196,24 @@ module _ (message : Message) (label : List ℕ) where
     in_signature : (member : Member) → value_of signature label ≡ Some member → HasMember message signature_name label member
     in_signature member is = record { dict = signature; has = also; member_is = is }
 
-    pub not_in_signature : (covered : Member) → value_of input label ≡ Some covered → value_of signature label ≡ None → IsUnread message label LabelNotInSignature Nowhere
+    pub not_in_signature : (covered : Member) → value_of input label ≡ Some covered → value_of signature label ≡ None → IsLabelUnread message label LabelNotInSignature Nowhere
     not_in_signature covered is none =
         first_failure (FailsToRead message label) LabelNotInSignature Nowhere (none_below_6 covered signature (in_input covered is) also) (refl, signature, also, none)
 
     pub not_a_list : (item : Item) (member : Member) → value_of input label ≡ Some (ItemMember item) → value_of signature label ≡ Some member
-        → IsUnread message label InputNotList Nowhere
+        → IsLabelUnread message label InputNotList Nowhere
     not_a_list item member is there =
         first_failure (FailsToRead message label) InputNotList Nowhere (none_below_7 (ItemMember item) member (in_input (ItemMember item) is) (in_signature member there))
         (refl, item, in_input (ItemMember item) is)
 
     pub not_bytes : (list : InnerList) (member : Member) → value_of input label ≡ Some (InnerMember list) → value_of signature label ≡ Some member → tag_in member ≡ None
-        → IsUnread message label SignatureNotBytes Nowhere
+        → IsLabelUnread message label SignatureNotBytes Nowhere
     not_bytes list member is there none =
         first_failure (FailsToRead message label) SignatureNotBytes Nowhere (none_below_8 list member (in_input (InnerMember list) is) (in_signature member there))
         (refl, member, in_signature member there, none)
 
     pub no_params : (list : InnerList) (member : Member) (tag : List ℕ) → value_of input label ≡ Some (InnerMember list) → value_of signature label ≡ Some member → tag_in member ≡ Some tag
-        → (fault : IdFault) → IsIdFault list fault → SaysRule (IsUnread message label) (id_fault_of fault)
+        → (fault : IdFault) → IsIdFault list fault → SaysRule (IsLabelUnread message label) (id_fault_of fault)
     no_params list member tag is there bytes =
         list_fails list (in_input (InnerMember list) is) (none_below_9 list member tag (in_input (InnerMember list) is) (in_signature member there) bytes)
 
@@ -255,7 +255,7 @@ cause_fails message label list has Memory cause = absurd cause
 
 -- the cause of a rule that is the first is the first
 first_cause : (message : Message) (label : List ℕ) (rule : Rule) (place : Place) (list : InnerList) (fault : IdFault) → HasMember message input_name label (InnerMember list)
-    → IsUnread message label rule place → rule_number rule ≡ 9 + id_order fault → IsCause list fault → IsIdFault list fault
+    → IsLabelUnread message label rule place → rule_number rule ≡ 9 + id_order fault → IsCause list fault → IsIdFault list fault
 first_cause message label rule place list fault has first same cause = record {
   holds = cause;
   none_before = λ other lt h.
@@ -263,7 +263,7 @@ first_cause message label rule place list fault has first same cause = record {
       first.none_before (record { rule = f.0; place = f.1 }) (omega (arith, f.2, lt, same)) f.3;
 }
 
-one_cause : (message : Message) (label : List ℕ) (rule : Rule) (p q : Place) (fault other : IdFault) → IsUnread message label rule p → IsUnread message label rule q
+one_cause : (message : Message) (label : List ℕ) (rule : Rule) (p q : Place) (fault other : IdFault) → IsLabelUnread message label rule p → IsLabelUnread message label rule q
     → rule_number rule ≡ 9 + id_order fault → rule_number rule ≡ 9 + id_order other → ListHasCause message label fault → ListHasCause message label other → fault ≡ other
 one_cause message label rule p q fault other a b same also x y =
     let cause : IsCause y.0 fault = subst (λ (l : InnerList). IsCause l fault) (one_list message label x.0 y.0 x.1 y.1) x.2 in
@@ -276,7 +276,7 @@ place_of (Repeated i) = Index i
 place_of (BadParameter key) = Name key
 place_of Memory = Nowhere
 
-one_place : (message : Message) (label : List ℕ) (rule : Rule) (p q : Place) → IsUnread message label rule p → IsUnread message label rule q → p ≡ q
+one_place : (message : Message) (label : List ℕ) (rule : Rule) (p q : Place) → IsLabelUnread message label rule p → IsLabelUnread message label rule q → p ≡ q
 one_place message label InputAbsent p q a b = a.holds.0 ∙ sym b.holds.0
 one_place message label InputMalformed p q a b = a.holds.0 ∙ sym b.holds.0
 one_place message label SignatureAbsent p q a b = a.holds.0 ∙ sym b.holds.0
@@ -298,7 +298,7 @@ one_place message label ParameterBad p q a b =
 one_place message label rule p q a b = absurd a.holds
 
 pub is_unread_by_one_rule : (message : Message) (label : List ℕ) (rule other : Rule) (place another : Place)
-    → IsUnread message label rule place → IsUnread message label other another → (rule ≡ other) × (place ≡ another)
+    → IsLabelUnread message label rule place → IsLabelUnread message label other another → (rule ≡ other) × (place ≡ another)
 is_unread_by_one_rule message label = one_first_failure (FailsToRead message label) (one_place message label)
 
 -- only rules up to 12 are judged here
@@ -318,7 +318,7 @@ below_13 message label ParameterBad place fails = lit< tt
 below_13 message label rule place fails = absurd fails
 
 pub has_not_both : (message : Message) (label : List ℕ) (params : SigParams) (tag : List ℕ) (rule : Rule) (place : Place)
-    → HasSignature message label params tag → ¬ IsUnread message label rule place
+    → HasSignature message label params tag → ¬ IsLabelUnread message label rule place
 has_not_both message label params tag rule place has first =
     signature_passes message label params tag has rule place (below_13 message label rule place first.holds) first.holds
 
@@ -327,9 +327,9 @@ has_not_both message label params tag rule place has first =
 -- what there is of the label
 abbrev Answer : Message → List ℕ → Type 0
 Answer message label =
-    ((params : SigParams) × (tag : List ℕ) × HasSignature message label params tag) ⊎ ((rule : Rule) × (place : Place) × IsUnread message label rule place)
+    ((params : SigParams) × (tag : List ℕ) × HasSignature message label params tag) ⊎ ((rule : Rule) × (place : Place) × IsLabelUnread message label rule place)
 
-says_rule : (message : Message) (label : List ℕ) (fault : LabelFault) → ¬ (fault ≡ label_fault.Memory) → SaysRule (IsUnread message label) fault → Answer message label
+says_rule : (message : Message) (label : List ℕ) (fault : LabelFault) → ¬ (fault ≡ label_fault.Memory) → SaysRule (IsLabelUnread message label) fault → Answer message label
 says_rule message label label_fault.Memory known says = absurd (known refl)
 says_rule message label (label_fault.Rule rule place) known says = inr (rule, place, says)
 
@@ -425,8 +425,8 @@ fault_of list fault known answers = (answers fault known).only refl
 
 pub params_fail : (message : Message) (label : List ℕ) (list : InnerList) (fault : IdFault)
     → ((other : IdFault) → ¬ (other ≡ Memory) → AnswersWhere Memory (not_params fault) other (IsIdFault list other))
-    → ((other : IdFault) → IsIdFault list other → SaysRule (IsUnread message label) (id_fault_of other))
-    → SaysRule (IsUnread message label) (id_fault_of fault)
+    → ((other : IdFault) → IsIdFault list other → SaysRule (IsLabelUnread message label) (id_fault_of other))
+    → SaysRule (IsLabelUnread message label) (id_fault_of fault)
 params_fail message label list Memory answers says = tt
 params_fail message label list TooMany answers says = says TooMany (fault_of list TooMany (λ e. absurd cc) answers)
 params_fail message label list (BadComponent i r) answers says = says (BadComponent i r) (fault_of list (BadComponent i r) (λ e. absurd cc) answers)
@@ -436,7 +436,7 @@ params_fail message label list (BadParameter key) answers says = says (BadParame
 -- ---- what the reader answers
 
 pub answers_where : (message : Message) (label : List ℕ) (result : Result LabelRead LabelFault) → ExplainsLabel message label result
-    → (rule : Rule) (place : Place) → AnswersWhere label_fault.Memory result (label_fault.Rule rule place) (IsUnread message label rule place)
+    → (rule : Rule) (place : Place) → AnswersWhere label_fault.Memory result (label_fault.Rule rule place) (IsLabelUnread message label rule place)
 answers_where message label (Ok read) x rule place = record {
   only = λ e. absurd cc;
   there = λ first. absurd (has_not_both message label read.params read.tag rule place x first);

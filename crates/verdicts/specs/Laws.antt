@@ -6,7 +6,7 @@ use Rattle.verdicts.specs.declared.outcome.Verdict.{Verdict}
 use Rattle.verdicts.specs.declared.place.Place.{Place}
 use Rattle.verdicts.specs.declared.rule.Rule.{Rule}
 use Rattle.verdicts.specs.Signatures.{HasSignature, AreLabels}
-use Rattle.verdicts.specs.Rules.{Verification, Fails, IsUnread}
+use Rattle.verdicts.specs.Rules.{Verification, Fails, IsLabelUnread}
 use Rattle.verdicts.specs.Verdicts.{Accepts, IsVerdict}
 
 -- a message has a list of labels
@@ -24,7 +24,7 @@ abbrev pub HasSignatureOrNot : Type 0
 HasSignatureOrNot =
     (message : Message) (label : List ℕ)
     → ((params : SigParams) × (tag : List ℕ) × HasSignature message label params tag)
-    ⊎ ((rule : Rule) × (place : Place) × IsUnread message label rule place)
+    ⊎ ((rule : Rule) × (place : Place) × IsLabelUnread message label rule place)
 
 -- it has one signature of the label
 abbrev pub HasOneSignature : Type 0
@@ -37,14 +37,15 @@ HasOneSignature =
 abbrev pub IsUnreadByOneRule : Type 0
 IsUnreadByOneRule =
     (message : Message) (label : List ℕ) (rule other : Rule) (place another : Place)
-    → IsUnread message label rule place → IsUnread message label other another
+    → IsLabelUnread message label rule place → IsLabelUnread message label other another
     → (rule ≡ other) × (place ≡ another)
 
 -- it isn't both
 abbrev pub HasNoFailureWhereRead : Type 0
 HasNoFailureWhereRead =
     (message : Message) (label : List ℕ) (params : SigParams) (tag : List ℕ) (rule : Rule)
-    (place : Place) → HasSignature message label params tag → ¬ IsUnread message label rule place
+    (place : Place) → HasSignature message label params tag
+    → ¬ IsLabelUnread message label rule place
 
 -- a label has a verdict
 abbrev pub HasVerdict : Type 0

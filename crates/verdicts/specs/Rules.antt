@@ -166,5 +166,5 @@ IsFirstFailure Table rule place =
     (record { rule = rule; place = place })
 
 -- the first of rules 1 to 12 that fails
-abbrev pub IsUnread : Message → List ℕ → Rule → Place → Type 0
-IsUnread message label rule place = IsFirstFailure (FailsToRead message label) rule place
+abbrev pub IsLabelUnread : Message → List ℕ → Rule → Place → Type 0
+IsLabelUnread message label rule place = IsFirstFailure (FailsToRead message label) rule place

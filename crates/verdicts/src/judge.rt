@@ -135,7 +135,7 @@ fn rule_of_lack(lack: Lack) -> Rule
 }
 
 /// The fault of a label whose components aren't prepared.
-fn lack_fault(alloc: Global, ids: &[ComponentId], fault: ValueFault) -> LabelFault
+fn fault_of_lack(alloc: Global, ids: &[ComponentId], fault: ValueFault) -> LabelFault
     requires { LiesIn (length ids.now) fault }
     ensures { SaysFault ids.now fault result }
 {
@@ -170,7 +170,7 @@ fn judge_tag(
 {
     let prepared = match prepare(alloc, context, &read.params) {
         Ok(prepared) => prepared,
-        Err(fault) => return Err(lack_fault(alloc, read.params.ids.as_slice(), fault)),
+        Err(fault) => return Err(fault_of_lack(alloc, read.params.ids.as_slice(), fault)),
     };
     if tag_matches(&prepared, key, read.tag.bytes()) {
         Ok(())

@@ -9,7 +9,7 @@ ghost use Rattle.component_ids.specs.SignatureParams.{are_sig_params_in_range};
 ghost use Rattle.verdicts.specs.declared.place.Place.{Place};
 ghost use Rattle.verdicts.specs.declared.rule.Rule.{Rule};
 ghost use Rattle.verdicts.specs.Signatures.{input_name, signature_name, tag_in, HasDict, HasSignature};
-ghost use Rattle.verdicts.specs.Rules.{IsUnread};
+ghost use Rattle.verdicts.specs.Rules.{IsLabelUnread};
 ghost use Rattle.verdicts.specs.tools.Answered.{ExplainsLabel};
 
 use crate::field::{header_dict, label_fault};
@@ -120,7 +120,7 @@ pub fn read_label(
 
     // The first rule that fails is answered, and no other.
     ensures fault { (rule : Rule) (place : Place) → AnswersWhere LabelFault.Memory result
-        (LabelFault.Rule rule place) (IsUnread (message_of view.now) label.now rule place) }
+        (LabelFault.Rule rule place) (IsLabelUnread (message_of view.now) label.now rule place) }
 {
     judge_label(alloc, view, label)
 }

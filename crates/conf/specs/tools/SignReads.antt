@@ -18,7 +18,7 @@ use Rattle.conf_table.specs.declared.table.Rule.TheVariants as rule
 use Rattle.conf.specs.Meaning.{HasSign, digest_of, seconds_of}
 use Rattle.conf.specs.Paths.{HoldsOfNone}
 use Rattle.conf.specs.Refusals.{IsBadList}
-use Rattle.conf_table.specs.Table.{rows, value_of, is_missing}
+use Rattle.conf_table.specs.Table.{rows, row_value, is_missing}
 use Rattle.conf.specs.Valid.{AreValidComponents}
 use Rattle.conf_table.specs.Values.{IsCovered, params_of}
 
@@ -73,7 +73,7 @@ LacksName pairs =
 
 -- how messages are signed by the document
 pub record IsSignOf (document : Members) (sign : Option SignConf) : Type 0 where
-  pub lists : HoldsOfNone (λ row. IsBadList row.rule (value_of document row)) rows
+  pub lists : HoldsOfNone (λ row. IsBadList row.rule (row_value document row)) rows
   pub complete : HoldsOfNone (λ row. IsTrue (is_missing document row)) rows
   pub says : HasSign (get_member (codes "sign") document) sign
   pub request : ForSome sign (λ s. AreValidComponents s.components_request)

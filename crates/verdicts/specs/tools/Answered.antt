@@ -17,7 +17,7 @@ use Rattle.verdicts.specs.declared.place.Place.TheVariants.{None as Nowhere, Ind
 use Rattle.verdicts.specs.declared.rule.Rule.{Rule}
 use Rattle.verdicts.specs.declared.rule.Rule.TheVariants.{ComponentsMany, ComponentBad, ComponentRepeated, ParameterBad}
 use Rattle.verdicts.specs.Signatures.{HasField, HasDict, HasSignature}
-use Rattle.verdicts.specs.Rules.{IsUnread}
+use Rattle.verdicts.specs.Rules.{IsLabelUnread}
 
 -- why a field whose combined value isn't read is no Dictionary
 abbrev pub field_fault_of : SfError → FieldFault
@@ -61,4 +61,5 @@ Explains Holds FailsSo (Err fault) = SaysRule FailsSo fault
 -- what an answer says of the label's signature
 abbrev pub ExplainsLabel : Message → List ℕ → Result LabelRead LabelFault → Type 0
 ExplainsLabel message name result =
-    Explains (λ read. HasSignature message name read.params read.tag) (IsUnread message name) result
+    Explains (λ read. HasSignature message name read.params read.tag)
+    (IsLabelUnread message name) result

@@ -7,13 +7,13 @@ use Rattle.hmac_sha256.specs.Hmac.{hmac}
 use Rattle.verdicts.proofs.Judging.{lies_in, lack_says}
 use Rattle.verdicts.proofs.judge.judge_tag.Goals as goal
 
-pub lack_fault-requires : goal.lack_fault-requires
-lack_fault-requires c = rw c.as_slice.ensures (lies_in (context_of c.args.context.now) c.args.read.now.params c.in-Err.fault c.in-Err.ensures.lacks)
+pub fault_of_lack-requires : goal.fault_of_lack-requires
+fault_of_lack-requires c = rw c.as_slice.ensures (lies_in (context_of c.args.context.now) c.args.read.now.params c.in-Err.fault c.in-Err.ensures.lacks)
 
 pub returns-in-Err : goal.returns-in-Err
 returns-in-Err c =
-    lack_says (context_of c.args.context.now) c.args.read.now.params c.args.read.now.tag c.args.key.now c.in-Err.fault c.lack_fault.result c.in-Err.ensures.lacks
-    (rw c.as_slice.ensures at c.lack_fault.ensures)
+    lack_says (context_of c.args.context.now) c.args.read.now.params c.args.read.now.tag c.args.key.now c.in-Err.fault c.fault_of_lack.result c.in-Err.ensures.lacks
+    (rw c.as_slice.ensures at c.fault_of_lack.ensures)
 
 pub returns : goal.returns
 returns c =
