@@ -27,9 +27,9 @@ use Rattle.msg_head.specs.declared.error.Side.{Side}
 use Rattle.msg_head.specs.declared.error.Side.TheVariants.{Header, Trailer}
 use Rattle.msg_head.specs.Heads.{head_text}
 use Rattle.msg_body.specs.Messages.{Message, body_text, is_request}
-use Rattle.msg_body.specs.Names.{has_name}
+use Rattle.line_values.specs.Names.{has_name}
 use Rattle.msg_body.specs.Views.{lines_on}
-use Rattle.field_values.specs.Values.{is_end, without_first_blanks, without_blanks, has_bytes, texts_of, value, values, combined_value, is_there}
+use Rattle.line_values.specs.Values.{is_end, without_first_blanks, without_blanks, has_bytes, texts_of, value, values, combined_value, is_there}
 use Rattle.component_ids.specs.Table.{is_field_name, has_param}
 use Rattle.component_ids.specs.Types.{kind_in}
 use Rattle.component_ids.specs.declared.types.FieldKind.{FieldKind}

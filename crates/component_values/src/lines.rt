@@ -3,13 +3,14 @@
 ghost use Rattle.std.specs.Prelude.{◌≡◌, ◌++◌, ◌∷◌, [], ℕ, List, IfOk, OnOk};
 ghost use Rattle.std.specs.Char.{is_ascii};
 ghost use Rattle.std.specs.List.{list_all};
-ghost use Rattle.field_values.specs.Values.{value, values, combined_value, is_there};
+ghost use Rattle.line_values.specs.Values.{value, values, combined_value, is_there};
 ghost use Rattle.component_values.specs.Values.{byte_sequences};
 ghost use Rattle.component_values.specs.tools.Rows.{field_lines, kept_text};
 
 use crate::strict::append_byte_sequence;
-use field_values::{combined_pieces, count_lines, line_pieces};
-use msg_body::{MessageView, is_named};
+use field_values::{combined_pieces, count_lines};
+use line_values::{is_named, line_pieces};
+use msg_body::MessageView;
 use msg_head::{LineView, Side};
 use sfv_text::{Absorb, Memory, Text};
 use std::alloc::Global;

@@ -2,7 +2,7 @@
 
 ghost use Rattle.std.specs.Prelude.{◌≡◌, IfOk};
 ghost use Rattle.msg_body.specs.Views.{message_of, lines_on};
-ghost use Rattle.field_values.specs.Values.{combined_value};
+ghost use Rattle.line_values.specs.Values.{combined_value};
 
 use field_values::combined_pieces;
 use msg_body::MessageView;

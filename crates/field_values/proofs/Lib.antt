@@ -1,4 +1,1 @@
-mod Bytes
 mod LineCounts
-mod TextLaws
-mod Unfolded

@@ -1,7 +1,7 @@
 //! The values of a field's lines, joined.
 
 use crate::lines::next_named;
-use crate::pieces::Pieces;
+use line_values::{Pieces, line_pieces};
 use msg_body::{MessageView, SideLines};
 use msg_head::Side;
 
@@ -19,7 +19,7 @@ pub struct Combined<'a, 'm> {
 
 impl<'a, 'm> Iterator for Combined<'a, 'm> {
     ghost use Rattle.std.specs.Iterator.{at_most};
-    ghost use Rattle.field_values.specs.Pieces.{YieldsPiece};
+    ghost use Rattle.line_values.specs.Pieces.{YieldsPiece};
     ghost use Rattle.field_values.specs.LeftInFields.{combined_left, combined_bound};
 
     type Item = &'m [u8];
@@ -33,10 +33,7 @@ impl<'a, 'm> Iterator for Combined<'a, 'm> {
             return Some(piece);
         }
         let line = next_named(&mut self.lines, self.name)?;
-        self.current = Pieces {
-            left: line.raw,
-            is_due: false,
-        };
+        self.current = line_pieces(line);
         if self.is_started {
             return Some(b", ");
         }
@@ -48,7 +45,7 @@ impl<'a, 'm> Iterator for Combined<'a, 'm> {
 impl<'a, 'm> Combined<'a, 'm> {
     ghost use Rattle.std.specs.Prelude.{◌≡◌};
     ghost use Rattle.msg_body.specs.Views.{message_of, lines_on};
-    ghost use Rattle.field_values.specs.Values.{combined_value};
+    ghost use Rattle.line_values.specs.Values.{combined_value};
     ghost use Rattle.field_values.specs.LeftInFields.{combined_left};
 
     /// All pieces of the combined value.
@@ -59,10 +56,7 @@ impl<'a, 'm> Combined<'a, 'm> {
         Combined {
             lines: view.lines(side),
             name,
-            current: Pieces {
-                left: &[],
-                is_due: false,
-            },
+            current: Pieces::empty(),
             is_started: false,
         }
     }

@@ -2,7 +2,7 @@
 
 ghost use Rattle.std.specs.Prelude.{◌≡◌};
 ghost use Rattle.msg_body.specs.Views.{message_of, lines_on};
-ghost use Rattle.field_values.specs.Values.{combined_value};
+ghost use Rattle.line_values.specs.Values.{combined_value};
 ghost use Rattle.field_values.specs.LeftInFields.{combined_left};
 
 use crate::combined::Combined;

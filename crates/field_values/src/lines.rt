@@ -2,12 +2,13 @@
 
 ghost use Rattle.std.specs.Prelude.{◌≡◌, ◌<◌, [], ◌∷◌, length, filter, nat_lt, slice_index_or, IfSome, IfNone};
 ghost use Rattle.msg_head.specs.Views.{field_line_of};
-ghost use Rattle.msg_body.specs.Names.{has_name};
+ghost use Rattle.line_values.specs.Names.{has_name};
 ghost use Rattle.msg_body.specs.Views.{message_of, lines_on};
-ghost use Rattle.field_values.specs.Values.{values, is_there};
+ghost use Rattle.line_values.specs.Values.{values, is_there};
 ghost use Rattle.field_values.specs.tools.Walks.{no_line};
 
-use msg_body::{MessageView, SideLines, is_named};
+use line_values::is_named;
+use msg_body::{MessageView, SideLines};
 use msg_head::{LineView, Side};
 
 /// The next of these lines that has the name.

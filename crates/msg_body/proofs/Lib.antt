@@ -1,4 +1,3 @@
-mod Lowered
 pub mod AnswerLaws
 mod Drops
 mod Judged

@@ -8,7 +8,7 @@ use Rattle.msg_body.specs.declared.framing.Framing.{Framing}
 use Rattle.msg_body.specs.declared.framing.Framing.TheVariants.{None, Length, Chunked, ToEnd}
 use Rattle.msg_body.specs.declared.framing.Expect.{Expect}
 use Rattle.msg_body.specs.declared.framing.Expect.TheVariants.{Request, Response, Any}
-use Rattle.msg_body.specs.Names.{has_name}
+use Rattle.line_values.specs.Names.{has_name}
 
 -- a head, and what says where the content ends
 pub record Message : Type 0 where

@@ -6,7 +6,7 @@ ghost use Rattle.msg_head.specs.Views.{start_line_of, head_of, lines_of, field_l
 ghost use Rattle.msg_body.specs.Messages.{is_request, is_expected, is_framing_line, has_no_content};
 
 use crate::framing::Expect;
-use crate::name::is_named;
+use line_values::is_named;
 use msg_head::{HeadView, LineView, Start};
 
 /// Whether the start line is a request line.

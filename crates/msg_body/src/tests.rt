@@ -33,8 +33,6 @@ fn request_without_content_is_whole(rt: HostRuntime) -> Result<(), Fail> {
         return Err("no line".into());
     };
     assert_eq!(rt; first.name, b"Host".as_slice());
-    assert!(rt; is_named(first, b"host") && !is_named(first, b"Host"));
-    assert!(rt; !is_named(first, b"hos") && !is_named(first, b"hosts"));
     Ok(())
 }
 

@@ -11,7 +11,7 @@ use Rattle.sfv_read.proofs.InRange.{dict_read_in_range}
 use Rattle.msg_head.specs.declared.error.Side.TheVariants.{Header}
 use Rattle.msg_body.specs.Messages.{Message}
 use Rattle.msg_body.specs.Views.{lines_on}
-use Rattle.field_values.specs.Values.{combined_value}
+use Rattle.line_values.specs.Values.{combined_value}
 use Rattle.component_ids.specs.Identifiers.{item_of, is_id_in_range}
 use Rattle.component_ids.specs.SignatureParams.{list_of}
 use Rattle.component_ids.specs.Table.{is_listed}

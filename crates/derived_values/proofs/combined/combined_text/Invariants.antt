@@ -1,7 +1,7 @@
 use Rattle.std.proofs.Common.{◌≡◌, ◌++◌}
 use Rattle.msg_body.specs.Views.{message_of, lines_on}
 use Rattle.field_values.specs.LeftInFields.{combined_left}
-use Rattle.field_values.specs.Values.{combined_value}
+use Rattle.line_values.specs.Values.{combined_value}
 use Rattle.derived_values.proofs.combined.combined_text.Given as goal
 
 abbrev pub invariant-loop-piece : goal.invariant-loop-piece

@@ -1,0 +1,4 @@
+mod Bytes
+mod Lowered
+mod TextLaws
+mod Unfolded
