@@ -1,5 +1,5 @@
--- The end of a head: the first empty line.
-use Rattle.std.proofs.Common.{◌≡◌, ℕ, ◌+◌, List, ◌++◌, length, take, drop, get_or, Some, None, sym, ap, inl, inr, ◌∙◌, arith, append_assoc, length-append, length-take, codes}
+-- The end of a head or a trailer section: the first empty line.
+use Rattle.std.proofs.Common.{◌≡◌, ◌≢◌, ℕ, ◌+◌, List, [], ◌∷◌, ◌++◌, length, take, drop, get_or, Some, None, sym, ap, inl, inr, ◌∙◌, arith, append_assoc, length-append, length-take, refl, subst, codes}
 use Rattle.std.proofs.Math.ListN.{get_or-append}
 use Rattle.std.proofs.Math.Seq.{take-add}
 use Rattle.std.proofs.lemmas.Bool.{cases_lt}
@@ -7,6 +7,8 @@ use Rattle.std.proofs.lemmas.List.{nil_from_length, get_or-append-add, take-appe
 use Rattle.memchr.specs.Find.{OccursAt, FindsNeedle}
 use Rattle.memchr.proofs.lemmas.MatchLemmas.{OccursAt-split}
 use Rattle.msg_head.specs.Cuts.{HasNoEnd, IsSection}
+use Rattle.msg_head.specs.Trailers.{IsTrailerSection, after_chunks}
+use Rattle.msg_head.specs.tools.Texts.{BeginsWithCrlf}
 
 -- a needle by its offsets, and as a part
 occurs_there : (before needle more bytes : List ℕ) → bytes ≡ before ++ (needle ++ more) → OccursAt bytes needle (length before)
@@ -40,3 +42,35 @@ section_there bytes k h =
             | inr high ↦ nil_from_length other (omega (arith, high, ap (length {A = ℕ}) e, length-append one (codes "\r\n\r\n" ++ other), length-take {A = ℕ} (k + 4) bytes))
           ];
     }
+
+-- ---- after the last chunk's line
+
+-- a CRLF that the bytes begin with is a trailer section
+pub empty_section : (bytes : List ℕ) → BeginsWithCrlf bytes → IsTrailerSection bytes (take 2 bytes)
+empty_section bytes b = subst (λ (x : List ℕ). IsTrailerSection x (take 2 x)) (sym b.1) (record {
+  more = b.0;
+  joined = refl;
+  before = [];
+  ends = refl;
+  first = λ one other e. nil_from_length other (omega (arith, ap (length {A = ℕ}) e, length-append one (codes "\r\n\r\n" ++ other)));
+})
+
+-- where bytes don't begin with CRLF, each CRLF CRLF after the line's end stands in them
+end_after : (bytes one other : List ℕ) → ((rest : List ℕ) → bytes ≢ 13 ∷ 10 ∷ rest) → 13 ∷ 10 ∷ bytes ≡ one ++ (codes "\r\n\r\n" ++ other) → (less : List ℕ) × (bytes ≡ less ++ (codes "\r\n\r\n" ++ other))
+end_after bytes [] other none e = absurd (none other cc)
+end_after bytes (c ∷ []) other none e = absurd cc
+end_after bytes (c ∷ d ∷ one) other none e = (one, cc)
+
+pub no_end_after : (bytes : List ℕ) → ¬ BeginsWithCrlf bytes → HasNoEnd bytes → HasNoEnd (after_chunks bytes)
+no_end_after bytes plain none before after e =
+    let there = end_after bytes before after (λ rest is. plain (rest, is)) e in none there.0 after there.1
+
+pub section_after : (bytes section : List ℕ) → ¬ BeginsWithCrlf bytes → IsSection bytes section → IsTrailerSection bytes section
+section_after bytes section plain s = record {
+  more = s.more;
+  joined = ap (λ (x : List ℕ). 13 ∷ 10 ∷ x) s.joined;
+  before = 13 ∷ 10 ∷ s.before;
+  ends = ap (λ (x : List ℕ). 13 ∷ 10 ∷ x) s.ends;
+  first = λ one other e.
+      let there = end_after section one other (λ rest is. plain (rest ++ s.more, s.joined ∙ ap (λ (x : List ℕ). x ++ s.more) is)) e in s.first there.0 other there.1;
+}

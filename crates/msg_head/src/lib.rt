@@ -22,15 +22,17 @@ mod raw;
 mod section;
 mod slices;
 mod start;
+mod trailer;
 mod view;
 
 pub use error::{HeadError, Side};
 pub use field_lines::FieldLines;
 pub use head::{HeadRead, read_head};
-pub use laws::{head_laws, heads_have_one_answer};
+pub use laws::{head_laws, heads_have_one_answer, trailers_have_one_answer};
 pub use limits::{MAX_HEAD_BYTES, MAX_HEAD_LINES};
 pub use line::{LineSpan, LineView};
 pub use start::Start;
+pub use trailer::{TrailerRead, TrailerView, read_trailer};
 pub use view::HeadView;
 
 #[cfg(test)]
