@@ -61,3 +61,23 @@ then_decided {V} {W} {G} IsPart IsFault IsOpen IsNext IsNextFault IsNextOpen byt
     open_part parts n (inr o) a =
         let same = d.one o.part parts.0 o.used a.count o.is a.first in
         (next parts.0 a.count a.first).open_part parts.1 a.rest (moved (λ part used. IsNextOpen part used (drop used bytes)) o.part parts.0 o.used a.count same o.holds) a.second
+
+-- a whole that is made of parts in one way
+pub as_whole : {V W F : Type 0} (join : V → W) (IsPart : V → ℕ → Type 0) (IsWhole : W → ℕ → Type 0) (IsFault : F → Type 0) (IsOpen : Type 0)
+    → IsDecided IsPart IsFault IsOpen
+    → ((whole : W) (n : ℕ) → IsWhole whole n → (part : V) × IsPart part n × (whole ≡ join part))
+    → IsDecided IsWhole IsFault IsOpen
+as_whole {V} {W} {F} join IsPart IsWhole IsFault IsOpen d made = record {
+  one = one;
+  one_fault = d.one_fault;
+  no_fault = λ whole n f is. let p = made whole n is in d.no_fault p.0 n f p.1;
+  open_fault = d.open_fault;
+  open_part = λ whole n open is. let p = made whole n is in d.open_part p.0 n open p.1;
+}
+  where
+    one : (whole other : W) (n m : ℕ) → IsWhole whole n → IsWhole other m → (whole ≡ other) × (n ≡ m)
+    one whole other n m a b =
+        let p = made whole n a in
+        let q = made other m b in
+        let same = d.one p.0 q.0 n m p.1 q.1 in
+        (p.2 ∙ ap join same.0 ∙ sym q.2, same.1)
