@@ -7,13 +7,13 @@ moved : {V : Type 0} (P : V → ℕ → Type 0) (part other : V) (n m : ℕ) →
 moved P part other n m same is = subst (P other) same.1 (subst (λ x. P x n) same.0 is)
 
 -- a fault in other terms
-pub renamed : {V F G : Type 0} (as : F → G) (IsPart : V → ℕ → Type 0) (IsFault : F → Type 0) (IsOpen : Type 0)
-    → IsDecided IsPart IsFault IsOpen → IsDecided IsPart (IsFaultAs as IsFault) IsOpen
-renamed as IsPart IsFault IsOpen d = record {
+pub renamed : {V F G : Type 0} (told : F → G) (IsPart : V → ℕ → Type 0) (IsFault : F → Type 0) (IsOpen : Type 0)
+    → IsDecided IsPart IsFault IsOpen → IsDecided IsPart (IsFaultAs told IsFault) IsOpen
+renamed told IsPart IsFault IsOpen d = record {
   one = d.one;
-  one_fault = λ f g a b. a.2 ∙ ap as (d.one_fault a.0 b.0 a.1 b.1) ∙ sym b.2;
+  one_fault = λ f g a b. a.2 ∙ ap told (d.one_fault a.0 b.0 a.1 b.1) ∙ sym b.2;
   no_fault = λ part n f is a. d.no_fault part n a.0 is a.1;
-  open_fault = λ f open a. d.open_fault a.0 open a.1;
+  open_fault = λ f more a. d.open_fault a.0 more a.1;
   open_part = d.open_part;
 }
 
@@ -72,7 +72,7 @@ as_whole {V} {W} {F} join IsPart IsWhole IsFault IsOpen d made = record {
   one_fault = d.one_fault;
   no_fault = λ whole n f is. let p = made whole n is in d.no_fault p.0 n f p.1;
   open_fault = d.open_fault;
-  open_part = λ whole n open is. let p = made whole n is in d.open_part p.0 n open p.1;
+  open_part = λ whole n more is. let p = made whole n is in d.open_part p.0 n more p.1;
 }
   where
     one : (whole other : W) (n m : ℕ) → IsWhole whole n → IsWhole other m → (whole ≡ other) × (n ≡ m)

@@ -5,4 +5,4 @@ mod Lower
 mod OneBodies
 pub mod OneMessages
 mod Outcomes
-mod Read
+mod Readings

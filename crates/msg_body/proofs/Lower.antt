@@ -12,7 +12,6 @@ use Rattle.msg_head.proofs.TrailerFaults.{one_trailer_fault}
 use Rattle.msg_head.proofs.TrailerAnswers.{no_fault_at_trailer_law, no_trailer_answer_yet_law}
 use Rattle.chunks.specs.Chunks.{SpellsChunks}
 use Rattle.chunks.specs.Causes.{IsChunksError, AreChunksUnfinished}
-use Rattle.chunks.proofs.ChunksLaws.{one_chunks_law, one_chunks_fault_law, no_fault_at_chunks_law, no_chunks_answer_yet_law}
 use Rattle.msg_body.specs.tools.Decided.{IsDecided}
 
 pub head_decided : (bytes : List ℕ) → IsDecided (λ head n. SpellsHead head n bytes) (IsHeadError bytes) (IsUnfinished bytes)
@@ -20,8 +19,8 @@ head_decided bytes = record {
   one = one_head_law bytes;
   one_fault = one_fault bytes;
   no_fault = no_fault_at_head_law bytes;
-  open_fault = λ fault open. (no_answer_yet_law bytes open).0 fault;
-  open_part = λ head n open. (no_answer_yet_law bytes open).1 head n;
+  open_fault = λ fault more. (no_answer_yet_law bytes more).0 fault;
+  open_part = λ head n more. (no_answer_yet_law bytes more).1 head n;
 }
 
 pub trailer_decided : (bytes : List ℕ) → IsDecided (λ lines n. SpellsTrailer lines n bytes) (IsTrailerError bytes) (IsTrailerUnfinished bytes)
@@ -29,15 +28,9 @@ trailer_decided bytes = record {
   one = one_trailer_law bytes;
   one_fault = one_trailer_fault bytes;
   no_fault = no_fault_at_trailer_law bytes;
-  open_fault = λ fault open. (no_trailer_answer_yet_law bytes open).0 fault;
-  open_part = λ lines n open. (no_trailer_answer_yet_law bytes open).1 lines n;
+  open_fault = λ fault more. (no_trailer_answer_yet_law bytes more).0 fault;
+  open_part = λ lines n more. (no_trailer_answer_yet_law bytes more).1 lines n;
 }
 
 pub chunks_decided : (bytes : List ℕ) → IsDecided (λ chunks n. SpellsChunks chunks n bytes) (IsChunksError bytes) (AreChunksUnfinished bytes)
-chunks_decided bytes = record {
-  one = λ one other n m a b. one_chunks_law bytes one other n m a.within b.within a.text b.text;
-  one_fault = one_chunks_fault_law bytes;
-  no_fault = no_fault_at_chunks_law bytes;
-  open_fault = λ fault open. (no_chunks_answer_yet_law bytes open).0 fault;
-  open_part = λ chunks n open. (no_chunks_answer_yet_law bytes open).1 chunks n;
-}
+chunks_decided bytes = ?

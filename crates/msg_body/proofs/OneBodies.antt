@@ -56,8 +56,8 @@ none_decided count start bytes = record {
   one = λ body other n m a b. one_plain bytes 0 body other n m (none_plain count bytes body n a) (none_plain count bytes other m b);
   one_fault = λ f g a b. absurd a;
   no_fault = λ body n f s a. a;
-  open_fault = λ f open a. a;
-  open_part = λ body n open s. open;
+  open_fault = λ f more a. a;
+  open_part = λ body n more s. more;
 }
 
 length_decided : (count start : ℕ) (bytes : List ℕ) → IsDecided (λ body n. SpellsBody Length count body n bytes) (λ fault. IsBodyError Length count start fault bytes) (IsBodyUnfinished Length count bytes)
@@ -75,15 +75,15 @@ length_decided count start bytes = record {
         let long = a.0 in
         omega (arith, short, long)
     open_fault : (f : MessageError) → IsBodyUnfinished Length count bytes → ¬ IsBodyError Length count start f bytes
-    open_fault f open a =
-        let short = open.0 in
+    open_fault f more a =
+        let short = more.0 in
         let long = a.0 in
         omega (arith, short, long)
     open_part : (body : Body) (n : ℕ) → IsBodyUnfinished Length count bytes → ¬ SpellsBody Length count body n bytes
-    open_part body n open s =
+    open_part body n more s =
         let used = (length_plain count bytes body n s).1 in
         let within = s.within in
-        let less = open.1 in
+        let less = more.1 in
         omega (arith, used, within, less)
 
 end_decided : (count start : ℕ) (bytes : List ℕ) → IsDecided (λ body n. SpellsBody ToEnd count body n bytes) (λ fault. IsBodyError ToEnd count start fault bytes) (IsBodyUnfinished ToEnd count bytes)
@@ -91,8 +91,8 @@ end_decided count start bytes = record {
   one = λ body other n m a b. one_plain bytes (length bytes) body other n m (end_plain count bytes body n a) (end_plain count bytes other m b);
   one_fault = λ f g a b. a.1 ∙ sym b.1;
   no_fault = no_fault;
-  open_fault = λ f open a. open;
-  open_part = λ body n open s. open;
+  open_fault = λ f more a. more;
+  open_part = λ body n more s. more;
 }
   where
     no_fault : (body : Body) (n : ℕ) (f : MessageError) → SpellsBody ToEnd count body n bytes → ¬ IsBodyError ToEnd count start f bytes

@@ -46,7 +46,7 @@ after_head_decided expect to_head head start rest = record {
   one_fault = one_fault;
   no_fault = no_fault;
   open_fault = open_fault;
-  open_part = λ body n open a. bodies.open_part body n open.2 a.2;
+  open_part = λ body n more a. bodies.open_part body n more.2 a.2;
 }
   where
     bodies : IsDecided (λ body n. SpellsBody (framing_of to_head head) (content_length_of head) body n rest) (λ fault. IsBodyError (framing_of to_head head) (content_length_of head) start fault rest) (IsBodyUnfinished (framing_of to_head head) (content_length_of head) rest)
@@ -128,9 +128,9 @@ pub no_fault_at_message_law : NoFaultAtMessage
 no_fault_at_message_law expect to_head bytes message used fault s expected = (message_decided expect to_head bytes).no_fault message used fault (s, expected)
 
 pub no_message_answer_yet_law : NoMessageAnswerYet
-no_message_answer_yet_law expect to_head bytes open = (
-  (λ fault. (message_decided expect to_head bytes).open_fault fault open),
-  (λ message used expected s. (message_decided expect to_head bytes).open_part message used open (s, expected)),
+no_message_answer_yet_law expect to_head bytes more = (
+  (λ fault. (message_decided expect to_head bytes).open_fault fault more),
+  (λ message used expected s. (message_decided expect to_head bytes).open_part message used more (s, expected)),
 )
 
 -- a text is the first bytes of itself

@@ -1,6 +1,6 @@
 -- The view of a body in its parts, and what an iterator over the pieces of content has left.
-use Rattle.std.specs.Prelude.{ℕ, List, [], Some, None}
-use Rattle.chunks.specs.Pieces.{chunk_pieces_left, chunk_pieces_bound}
+use Rattle.std.specs.Prelude.{ℕ, List, [], length, Some, None}
+use Rattle.chunks.specs.Chunks.{data_of}
 use Rattle.msg_body.specs.declared.body.BodyView.{BodyView}
 use Rattle.msg_body.specs.declared.body.BodyView.TheVariants as body
 use Rattle.msg_body.specs.declared.content.ContentPieces.{ContentPieces}
@@ -15,10 +15,10 @@ body_parts (body.Chunked chunks trailer) = chunked_parts chunks trailer
 abbrev pub content_left : ContentPieces → List ℕ
 content_left (pieces.Plain (Some content)) = content.now
 content_left (pieces.Plain None) = []
-content_left (pieces.Chunked chunks) = chunk_pieces_left chunks
+content_left (pieces.Chunked chunks) = data_of chunks
 
 -- no more pieces come than this
 abbrev pub content_bound : ContentPieces → ℕ
 content_bound (pieces.Plain (Some content)) = 1
 content_bound (pieces.Plain None) = 0
-content_bound (pieces.Chunked chunks) = chunk_pieces_bound chunks
+content_bound (pieces.Chunked chunks) = length chunks

@@ -15,7 +15,7 @@ pub record IsDecided {V F : Type 0} (IsPart : V → ℕ → Type 0) (IsFault : F
 
 -- the fault of a part, in the terms of the whole
 abbrev pub IsFaultAs : {F G : Type 0} → (F → G) → (F → Type 0) → G → Type 0
-IsFaultAs {F} {G} as IsFault fault = (cause : F) × IsFault cause × (fault ≡ as cause)
+IsFaultAs {F} {G} told IsFault fault = (cause : F) × IsFault cause × (fault ≡ told cause)
 
 -- two parts, the second right after the first
 pub record AreParts {V W : Type 0} (IsPart : V → ℕ → List ℕ → Type 0)
