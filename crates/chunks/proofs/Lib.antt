@@ -1,0 +1,6 @@
+pub mod LineLaws
+pub mod TurnTexts
+pub mod TooLong
+pub mod Spans
+pub mod ChunkLaws
+pub mod Finding

@@ -1,8 +1,8 @@
 //! Reads a chunk line, and the data after it.
 
-ghost use Rattle.std.specs.Prelude.{◌≡◌, ◌≤◌, ◌<◌, ◌+◌, ◌*◌, ◌^◌, ◌-◌, length, codes, take, IfOk, IsTrue};
+ghost use Rattle.std.specs.Prelude.{◌≡◌, ◌≤◌, ◌<◌, ◌+◌, ◌*◌, ◌^◌, ◌-◌, ◌++◌, length, codes, take, IfOk, IsTrue};
 ghost use Rattle.std.specs.List.{list_all};
-ghost use Rattle.std.specs.Char.{is_ascii_hexdigit};
+ghost use Rattle.std.specs.Char.{is_ascii_hexdigit, digit_value};
 ghost use Rattle.std.specs.Str.Parse.{digits_value};
 ghost use Rattle.byte_grammar.specs.Gives.{Gives};
 ghost use Rattle.byte_grammar.specs.Language.{AreBytesOf};
@@ -34,7 +34,8 @@ fn read_crlf(bytes: &[u8]) -> Result<&[u8], Left>
 // Reads the extension of a chunk line, or none.
 #[tactic(auto, unfolding(crate::specs::tools::ChunkWalk::extension_read))]
 fn read_extension(bytes: &[u8]) -> Result<(&[u8], &[u8]), Left>
-    ensures { Gives (λ x. (x.0.now, x.1.now)) result (extension_read bytes.now) }
+    ensures gives { Gives (λ x. (x.0.now, x.1.now)) result (extension_read bytes.now) }
+    ensures joined { IfOk result (λ x. bytes.now ≡ x.0.now ++ x.1.now) }
 {
     if starts_with(ExtensionStart, bytes) {
         read_run(ExtensionByte, 0, MAX_EXTENSION_BYTES, bytes)
@@ -74,7 +75,7 @@ pub(crate) fn read_line(bytes: &[u8]) -> Result<(ChunkLine<'_>, &[u8]), Left>
     ensures gives { Gives (λ x. ((x.0.text.now, x.0.size), x.1.now)) result (line_read bytes.now) }
 {
     let (digits, rest) = read_run(HexDigit, 1, MAX_SIZE_DIGITS, bytes)?;
-    let (_, rest) = read_extension(rest)?;
+    let (_extension, rest) = read_extension(rest)?;
     let text = &bytes[..bytes.len() - rest.len()];
     let rest = read_crlf(rest)?;
     let size = size_of(digits);

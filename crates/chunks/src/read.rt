@@ -6,7 +6,7 @@ ghost use Rattle.chunks.specs.Chunks.{Chunks, SpellsChunks};
 ghost use Rattle.chunks.specs.Causes.{IsChunksError, AreChunksUnfinished};
 ghost use Rattle.chunks.specs.Views.{IsChunksViewOf};
 ghost use Rattle.chunks.specs.Outcome.{IfWholeChunks, IsChunksUnlessMemory, IsPartialUnlessMemory};
-ghost use Rattle.chunks.specs.tools.Judged.{IsFound, IsStop};
+ghost use Rattle.chunks.specs.tools.Judged.{IsFound, IsStop, ExplainsChunks};
 
 use crate::error::ChunkError;
 use crate::limits::MAX_CONTENT_BYTES;
@@ -113,6 +113,27 @@ fn find_chunks(alloc: Global, bytes: &[u8]) -> Result<Found, Stop>
     }
 }
 
+// The answer to bytes, by its cause.
+fn judge<'m>(alloc: Global, bytes: &'m [u8]) -> Result<ChunksRead<'m>, ChunkError>
+    ensures { ExplainsChunks bytes.now result }
+{
+    match find_chunks(alloc, bytes) {
+        Ok(found) => {
+            let chunks = &bytes[..found.used];
+            let view = ChunksView::new(chunks, found.spans, found.last, found.content);
+            Ok(ChunksRead::Whole(view, found.used))
+        }
+        Err(Stop::Left(left)) => {
+            if left == 0 {
+                return Ok(ChunksRead::Partial);
+            }
+            Err(ChunkError::Bad(bytes.len() - left))
+        }
+        Err(Stop::TooLong) => Err(ChunkError::TooLong),
+        Err(Stop::Memory) => Err(ChunkError::Memory),
+    }
+}
+
 /// Reads the chunks that the bytes begin with, up to and with the line of the last one and its CRLF
 /// (RFC 9112 section 7.1).
 ///
@@ -128,15 +149,5 @@ pub fn read_chunks<'m>(alloc: Global, bytes: &'m [u8]) -> Result<ChunksRead<'m>,
     ensures fault { (fault : ChunkError) → fault ≢ ChunkError.Memory
         → AnswersWhere ChunkError.Memory result fault (IsChunksError bytes.now fault) }
 {
-    match find_chunks(alloc, bytes) {
-        Ok(found) => {
-            let chunks = &bytes[..found.used];
-            let view = ChunksView::new(chunks, found.spans, found.last, found.content);
-            Ok(ChunksRead::Whole(view, found.used))
-        }
-        Err(Stop::Left(0)) => Ok(ChunksRead::Partial),
-        Err(Stop::Left(left)) => Err(ChunkError::Bad(bytes.len() - left)),
-        Err(Stop::TooLong) => Err(ChunkError::TooLong),
-        Err(Stop::Memory) => Err(ChunkError::Memory),
-    }
+    judge(alloc, bytes)
 }
