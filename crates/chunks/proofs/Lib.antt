@@ -4,3 +4,4 @@ pub mod TooLong
 pub mod Spans
 pub mod ChunkLaws
 pub mod Finding
+pub mod Outcomes

@@ -23,12 +23,12 @@ line_given bytes d r e s w t one two three =
 
 pub slice_bounds-text-count : goal.slice_bounds-text-count
 slice_bounds-text-count c =
-    omega (arith, ap (λ (y : List ℕ). length y) c.in_ok-digits.ensures.joined, ap (λ (y : List ℕ). length y) c.in_ok-rest.ensures.joined, length-append c.in_ok-digits.digits.now c.in_ok-digits.rest.now, length-append c.in_ok-rest.field-0-0.now c.in_ok-rest.rest.now)
+    omega (arith, ap (λ (y : List ℕ). length y) c.in_ok-digits.ensures.joined, ap (λ (y : List ℕ). length y) c.in_ok-_extension.ensures.joined, length-append c.in_ok-digits.digits.now c.in_ok-digits.rest.now, length-append c.in_ok-_extension._extension.now c.in_ok-_extension.rest.now)
 
 pub returns : goal.returns
 returns c =
-    let text = text_is c.args.bytes.now c.in_ok-digits.digits.now c.in_ok-digits.rest.now c.in_ok-rest.field-0-0.now c.in_ok-rest.rest.now c.in_ok-digits.ensures.joined c.in_ok-rest.ensures.joined in
+    let text = text_is c.args.bytes.now c.in_ok-digits.digits.now c.in_ok-digits.rest.now c.in_ok-_extension._extension.now c.in_ok-_extension.rest.now c.in_ok-digits.ensures.joined c.in_ok-_extension.ensures.joined in
     record {
-      gives = line_given c.args.bytes.now _ _ _ _ _ _ c.in_ok-digits.ensures.gives c.in_ok-rest.ensures.gives c.in_ok-rest-2.ensures
-      ∙ λ i. Ok ((sym text i, sym c.size_of-size.ensures i), c.in_ok-rest-2.rest.now);
+      gives = line_given c.args.bytes.now _ _ _ _ _ _ c.in_ok-digits.ensures.gives c.in_ok-_extension.ensures.gives c.in_ok-rest.ensures
+      ∙ λ i. Ok ((sym text i, sym c.size_of-size.ensures i), c.in_ok-rest.rest.now);
     }
