@@ -140,10 +140,9 @@ bad bytes n e some =
     let place : length s.0 ≡ length bytes - n = omega arith in
     let cut : take (length bytes - n) bytes ≡ s.0 = ap (λ (y : List ℕ). take (length bytes - n) y) s.2 ∙ take_at s.0 s.1 (length bytes - n) place in
     let far : (k : ℕ) → BeginsChunks (take k bytes) → n ≤ length bytes - k = λ k b.
-        let le = begins_left (take k bytes) (drop k bytes) b in
-        let same : left (turns_read turn_read (take k bytes ++ drop k bytes)) ≡ n = ap (λ (y : List ℕ). left (turns_read turn_read y)) (take-append-drop k bytes) ∙ ap left e in
-        omega (arith, le, same, length-drop k bytes) in
-    (
+    let le = begins_left (take k bytes) (drop k bytes) b in
+    let same : left (turns_read turn_read (take k bytes ++ drop k bytes)) ≡ n = ap (λ (y : List ℕ). left (turns_read turn_read y)) (take-append-drop k bytes) ∙ ap left e in
+    omega (arith, le, same, length-drop k bytes) in (
       omega arith,
       record {
         within = omega arith;

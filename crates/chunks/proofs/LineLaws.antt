@@ -185,8 +185,7 @@ meets_bytes size = record { ok = λ bytes v rest e. ok (ltb (length bytes) size)
     ok false bytes v rest is e =
         let pair : (take size bytes, drop size bytes) ≡ (v, rest) = ok_is _ _ e in
         let long : size ≤ length bytes = ltb-false _ _ is in
-        let first : take size bytes ≡ v = ap (λ (a : List ℕ × List ℕ). a.0) pair in
-        (
+        let first : take size bytes ≡ v = ap (λ (a : List ℕ × List ℕ). a.0) pair in (
           take size bytes,
           sym (take-append-drop size bytes) ∙ ap (λ (a : List ℕ × List ℕ). take size bytes ++ a.1) pair,
           (first, ap (λ (y : List ℕ). length y) (sym first) ∙ omega (arith, length-take size bytes)),

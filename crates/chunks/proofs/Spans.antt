@@ -57,8 +57,7 @@ pub spans_follow : (chunks : List Chunk) (from to : ℕ) → All IsChunk chunks 
 spans_follow [] from to all e = omega arith
 spans_follow (c ∷ chunks) from to all e =
     let is = All-head IsChunk c chunks all in
-    let next : from + length (chunk_text c) ≡ from + length c.line + 2 + length c.chunk_data + 2 = omega (arith, text_length c) in
-    (
+    let next : from + length (chunk_text c) ≡ from + length c.line + 2 + length c.chunk_data + 2 = omega (arith, text_length c) in (
       refl,
       omega (arith, line_some c.line (length c.chunk_data) is.line),
       omega (arith, is.some),

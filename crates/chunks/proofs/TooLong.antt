@@ -89,20 +89,20 @@ long_line room bytes t = go t.chunks t.joined t.each t.long
           then = elim (cases_lt room (length c.chunk_data)) [
             | inl less ↦ inl less
             | inr fits ↦ inr (record {
-                chunk = c;
-                rest = others;
-                turn = ap turn_read parted ∙ turn_is c others is;
-                long = record {
-                  chunks = chunks;
-                  line = t.line;
-                  size = t.size;
-                  more = t.more;
-                  joined = refl;
-                  each = All-tail IsChunk c chunks all;
-                  is = t.is;
-                  long = omega (arith, length-append c.chunk_data (data_of chunks), lt, fits);
-                };
-              })
+              chunk = c;
+              rest = others;
+              turn = ap turn_read parted ∙ turn_is c others is;
+              long = record {
+                chunks = chunks;
+                line = t.line;
+                size = t.size;
+                more = t.more;
+                joined = refl;
+                each = All-tail IsChunk c chunks all;
+                is = t.is;
+                long = omega (arith, length-append c.chunk_data (data_of chunks), lt, fits);
+              };
+            })
           ];
         }
 

@@ -27,8 +27,7 @@ fill_body (line, suc size) =
 turn_to : (x : List ℕ) (o : Option Chunk) (f s : List ℕ) (l : List ℕ × ℕ) → x ≡ f ++ s → IsLineText f l → IsBody l s o → IsTurn x o
 turn_to x o f s (line, zero) e a b = subst (λ (o : Option Chunk). IsTurn x o) b.1 (line, cc (e, a.0, b.0, append-nil f), a.1)
 turn_to x o f s (line, suc size) e a (d, b, is) =
-    subst (λ (o : Option Chunk). IsTurn x o) is
-    (
+    subst (λ (o : Option Chunk). IsTurn x o) is (
       cc (e, a.0, b.0, append_assoc line (codes "\r\n") (d ++ codes "\r\n")),
       record { line = subst (λ (n : ℕ). IsChunkLine line n) (sym b.1) a.1; some = omega (arith, b.1) },
     )

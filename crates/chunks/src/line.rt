@@ -99,6 +99,6 @@ pub(crate) fn read_data(size: usize, bytes: &[u8]) -> Result<(&[u8], &[u8]), Lef
     ensures { Gives (λ x. (x.0.now, x.1.now)) result (data_read size bytes.now) }
 {
     let (chunk, rest) = split_bytes(size, bytes)?;
-    let rest = read_crlf(rest)?;
-    Ok((chunk, rest))
+    let after = read_crlf(rest)?;
+    Ok((chunk, after))
 }

@@ -30,5 +30,5 @@ returns c =
     let text = text_is c.args.bytes.now c.in_ok-digits.digits.now c.in_ok-digits.rest.now c.in_ok-_extension._extension.now c.in_ok-_extension.rest.now c.in_ok-digits.ensures.joined c.in_ok-_extension.ensures.joined in
     record {
       gives = line_given c.args.bytes.now _ _ _ _ _ _ c.in_ok-digits.ensures.gives c.in_ok-_extension.ensures.gives c.in_ok-rest.ensures
-      ∙ λ i. Ok ((sym text i, sym c.size_of-size.ensures i), c.in_ok-rest.rest.now);
+          ∙ λ i. Ok ((sym text i, sym c.size_of-size.ensures i), c.in_ok-rest.rest.now);
     }
