@@ -12,6 +12,7 @@ use Rattle.msg_head.proofs.TrailerFaults.{one_trailer_fault}
 use Rattle.msg_head.proofs.TrailerAnswers.{no_fault_at_trailer_law, no_trailer_answer_yet_law}
 use Rattle.chunks.specs.Chunks.{SpellsChunks}
 use Rattle.chunks.specs.Causes.{IsChunksError, AreChunksUnfinished}
+use Rattle.chunks.proofs.ChunkLaws.{one_chunks, one_fault as one_chunks_fault, no_fault_at_chunks, no_answer_yet as no_chunks_answer_yet}
 use Rattle.msg_body.specs.tools.Decided.{IsDecided}
 
 pub head_decided : (bytes : List ℕ) → IsDecided (λ head n. SpellsHead head n bytes) (IsHeadError bytes) (IsUnfinished bytes)
@@ -33,4 +34,10 @@ trailer_decided bytes = record {
 }
 
 pub chunks_decided : (bytes : List ℕ) → IsDecided (λ chunks n. SpellsChunks chunks n bytes) (IsChunksError bytes) (AreChunksUnfinished bytes)
-chunks_decided bytes = ?
+chunks_decided bytes = record {
+  one = λ one other n m a b. one_chunks bytes one other n m a.within b.within a.text b.text;
+  one_fault = one_chunks_fault bytes;
+  no_fault = no_fault_at_chunks bytes;
+  open_fault = λ fault more. (no_chunks_answer_yet bytes more).0 fault;
+  open_part = λ chunks n more. (no_chunks_answer_yet bytes more).1 chunks n;
+}

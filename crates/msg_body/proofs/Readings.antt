@@ -52,7 +52,7 @@ naked_within bytes offset is =
     let at = is.first.is in
     let sized : length is.section ≡ length at.before + suc (length at.after) = ap (length {A = ℕ}) at.joined ∙ length-append at.before (at.c ∷ at.after) in
     let stands = at.stands in
-    let all : 2 + length bytes ≡ 2 + length is.section + length is.is.more = ap (length {A = ℕ}) is.is.joined ∙ length-append (after_chunks is.section) is.is.more in
+    let all : suc (suc (length bytes)) ≡ suc (suc (length is.section)) + length is.is.more = ap (length {A = ℕ}) is.is.joined ∙ length-append (after_chunks is.section) is.is.more in
     omega (arith, sized, stands, all)
 
 pub trailer_offset : (start : ℕ) (bytes : List ℕ) (used : ℕ) (fault : HeadError) → start + length bytes ≤ MAX_MESSAGE_BYTES → used ≤ length bytes

@@ -42,7 +42,8 @@ fn read_chunked<'m>(
         Ok(ChunksRead::Partial) => return Ok(BodyRead::Partial),
         Err(fault) => return Err(MessageError::of_chunks(start, fault)),
     };
-    match read_trailer(alloc, &bytes[used..]) {
+    let (_, rest) = bytes.split_at(used);
+    match read_trailer(alloc, rest) {
         Ok(TrailerRead::Whole(trailer, count)) => {
             Ok(BodyRead::Whole(BodyView::Chunked(chunks, trailer), used + count))
         }

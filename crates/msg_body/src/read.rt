@@ -44,7 +44,8 @@ fn judge<'m>(
         return Err(MessageError::BadStart);
     }
     let framed = read_framing(&head, to_head)?;
-    match read_body(alloc, &bytes[start..], start, framed)? {
+    let (_, rest) = bytes.split_at(start);
+    match read_body(alloc, rest, start, framed)? {
         BodyRead::Whole(body, count) => {
             Ok(MessageRead::Whole(MessageView::new(head, framed.framing, body), start + count))
         }

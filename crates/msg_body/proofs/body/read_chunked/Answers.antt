@@ -11,20 +11,29 @@ returns-in-Err c n = chunk_fault c.args.start c.args.bytes.now c.in-Err.fault c.
 
 pub returns-in-Ok-Whole-read_trailer : goal.returns-in-Ok-Whole-read_trailer
 returns-in-Ok-Whole-read_trailer c =
-    chunked_whole c.args.bytes.now c.in-Ok-Whole.chunks c.in-Ok-Whole.used c.in-Ok-Whole-read_trailer.trailer c.in-Ok-Whole-read_trailer.count c.in-Ok-Whole.ensures.whole c.in-Ok-Whole-read_trailer.ensures.whole
+    let chunks = rw c.in-Ok-Whole.field-0-is at c.in-Ok-Whole.ensures in
+    let trailer = rw (c.in-Ok-Whole-read_trailer.field-0-is, c.split_at.ensures.back) at c.in-Ok-Whole-read_trailer.ensures in
+    chunked_whole c.args.bytes.now c.in-Ok-Whole.chunks c.in-Ok-Whole.used c.in-Ok-Whole-read_trailer.trailer c.in-Ok-Whole-read_trailer.count chunks.whole trailer.whole
 
 pub returns-in-Ok-Partial-read_trailer : goal.returns-in-Ok-Partial-read_trailer
-returns-in-Ok-Partial-read_trailer c n = inr (record {
-  part = chunks_of c.in-Ok-Whole.chunks;
-  used = c.in-Ok-Whole.used;
-  is = c.in-Ok-Whole.ensures.whole.spells;
-  holds = c.in-Ok-Partial-read_trailer.ensures.partial.0 refl;
-})
+returns-in-Ok-Partial-read_trailer c n =
+    let chunks = rw c.in-Ok-Whole.field-0-is at c.in-Ok-Whole.ensures in
+    let trailer = rw (c.in-Ok-Partial-read_trailer.field-0-is, c.split_at.ensures.back) at c.in-Ok-Partial-read_trailer.ensures in
+    inr (record {
+      part = chunks_of c.in-Ok-Whole.chunks;
+      used = c.in-Ok-Whole.used;
+      is = chunks.whole.spells;
+      holds = trailer.partial.0 refl;
+    })
 
 pub of_trailer-requires : goal.of_trailer-requires
 of_trailer-requires c =
-    trailer_offset c.args.start c.args.bytes.now c.in-Ok-Whole.used c.in-Err-read_trailer.fault c.requires.short c.in-Ok-Whole.ensures.whole.within (λ own. (c.in-Err-read_trailer.ensures.fault c.in-Err-read_trailer.fault own).only refl)
+    let chunks = rw c.in-Ok-Whole.field-0-is at c.in-Ok-Whole.ensures in
+    let trailer = rw c.split_at.ensures.back at c.in-Err-read_trailer.ensures in
+    trailer_offset c.args.start c.args.bytes.now c.in-Ok-Whole.used c.in-Err-read_trailer.fault c.requires.short chunks.whole.within (λ own. (trailer.fault c.in-Err-read_trailer.fault own).only refl)
 
 pub returns : goal.returns
 returns c n =
-    trailer_fault c.args.start c.args.bytes.now c.in-Ok-Whole.chunks c.in-Ok-Whole.used c.in-Err-read_trailer.fault c.of_trailer.result c.in-Ok-Whole.ensures.whole c.of_trailer.ensures (λ own. (c.in-Err-read_trailer.ensures.fault c.in-Err-read_trailer.fault own).only refl)
+    let chunks = rw c.in-Ok-Whole.field-0-is at c.in-Ok-Whole.ensures in
+    let trailer = rw c.split_at.ensures.back at c.in-Err-read_trailer.ensures in
+    trailer_fault c.args.start c.args.bytes.now c.in-Ok-Whole.chunks c.in-Ok-Whole.used c.in-Err-read_trailer.fault c.of_trailer.result chunks.whole c.of_trailer.ensures (λ own. (trailer.fault c.in-Err-read_trailer.fault own).only refl)

@@ -23,6 +23,7 @@ pub returns-in_err-body : goal.returns-in_err-body
 returns-in_err-body c =
     let known = rw c.in-Whole.is at c.in_ok-head.ensures in
     let framed = c.in_ok-framed.ensures.ok in
+    let body = rw c.split_at.ensures.back at c.in_err-body.ensures in
     explained c.args.expect c.args.to_head c.args.bytes.now c.from_residual-in_err-body.result c.in_err-body.field-0.0 c.from_residual-in_err-body.ensures.1
     (λ own. body_fault c.args.expect c.args.to_head c.args.bytes.now c.in-Whole.head c.in-Whole.start c.in_ok-framed.framed c.in_err-body.field-0.0
     (record {
@@ -31,13 +32,13 @@ returns-in_err-body c =
       framable = framed.0;
       framing = framed.1;
       length_is = framed.2;
-    }) (c.in_err-body.ensures own))
+    }) (body own))
 
 pub returns-in-Whole-2 : goal.returns-in-Whole-2
 returns-in-Whole-2 c =
     let known = rw c.in-Whole.is at c.in_ok-head.ensures in
     let framed = c.in_ok-framed.ensures.ok in
-    let body = rw c.in-Whole-2.is at c.in_ok-body.ensures in
+    let body = rw (c.in-Whole-2.is, c.split_at.ensures.back) at c.in_ok-body.ensures in
     rw c.new.ensures
     (message_whole c.args.expect c.args.to_head c.args.bytes.now c.in-Whole.head c.in-Whole.start c.in_ok-framed.framed (body_parts c.in-Whole-2.body) c.in-Whole-2.count c.requires
     (record {
@@ -52,7 +53,7 @@ pub returns : goal.returns
 returns c =
     let known = rw c.in-Whole.is at c.in_ok-head.ensures in
     let framed = c.in_ok-framed.ensures.ok in
-    let body = rw c.in-Partial-2.is at c.in_ok-body.ensures in
+    let body = rw (c.in-Partial-2.is, c.split_at.ensures.back) at c.in_ok-body.ensures in
     body_unfinished c.args.expect c.args.to_head c.args.bytes.now c.in-Whole.head c.in-Whole.start c.in_ok-framed.framed
     (record {
       view_is = known.whole;
