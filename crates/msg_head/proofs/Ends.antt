@@ -1,13 +1,14 @@
 -- The end of a head or a trailer section: the first empty line.
-use Rattle.std.proofs.Common.{◌≡◌, ◌≢◌, ℕ, ◌+◌, List, [], ◌∷◌, ◌++◌, length, take, drop, get_or, Some, None, sym, ap, inl, inr, ◌∙◌, arith, append_assoc, length-append, length-take, refl, subst, codes}
+use Rattle.std.proofs.Common.{◌≡◌, ◌≢◌, ◌⊎◌, ℕ, ◌+◌, List, [], ◌∷◌, ◌++◌, length, take, drop, get_or, Some, None, sym, ap, inl, inr, ◌∙◌, arith, append_assoc, length-append, length-take, refl, subst, codes}
 use Rattle.std.proofs.Math.ListN.{get_or-append}
 use Rattle.std.proofs.Math.Seq.{take-add}
 use Rattle.std.proofs.lemmas.Bool.{cases_lt}
-use Rattle.std.proofs.lemmas.List.{nil_from_length, get_or-append-add, take-append-drop}
+use Rattle.std.proofs.lemmas.List.{nil_from_length, append_cancel_left, get_or-append-add, take-append-drop}
 use Rattle.memchr.specs.Find.{OccursAt, FindsNeedle}
 use Rattle.memchr.proofs.lemmas.MatchLemmas.{OccursAt-split}
 use Rattle.msg_head.specs.Cuts.{HasNoEnd, IsSection}
 use Rattle.msg_head.specs.Trailers.{IsTrailerSection, after_chunks}
+use Rattle.msg_head.specs.Laws.{TrailerSectionIs}
 use Rattle.msg_head.specs.tools.Texts.{BeginsWithCrlf}
 
 -- a needle by its offsets, and as a part
@@ -74,3 +75,37 @@ section_after bytes section plain s = record {
   first = λ one other e.
       let there = end_after section one other (λ rest is. plain (rest ++ s.more, s.joined ∙ ap (λ (x : List ℕ). x ++ s.more) is)) e in s.first there.0 other there.1;
 }
+
+-- a section that has more than its end doesn't begin with CRLF
+longer : (bytes section rest before : List ℕ) → IsTrailerSection bytes section → section ≡ before ++ codes "\r\n\r\n" → (more : List ℕ) → section ++ more ≡ 13 ∷ 10 ∷ rest → ⊥
+longer bytes [] rest before s ends more e = omega (arith, ap (length {A = ℕ}) ends, length-append before (codes "\r\n\r\n"))
+longer bytes (x ∷ []) rest before s ends more e = omega (arith, ap (length {A = ℕ}) ends, length-append before (codes "\r\n\r\n"))
+longer bytes (x ∷ y ∷ text) rest before s ends more e =
+    let one : x ≡ 13 = cc in
+    let two : y ≡ 10 = cc in
+    let alone : text ≡ [] = s.first [] text (λ i. 13 ∷ 10 ∷ one i ∷ two i ∷ text) in
+    omega (arith, ap (length {A = ℕ}) alone, ap (length {A = ℕ}) ends, length-append before (codes "\r\n\r\n"))
+
+-- the section, by what stands before its last end
+section_by : (bytes section : List ℕ) (s : IsTrailerSection bytes section) (before : List ℕ) → 13 ∷ 10 ∷ section ≡ before ++ codes "\r\n\r\n" → ((rest : List ℕ) × (bytes ≡ 13 ∷ 10 ∷ rest) × (section ≡ codes "\r\n")) ⊎ (((rest : List ℕ) → bytes ≢ 13 ∷ 10 ∷ rest) × IsSection bytes section)
+section_by bytes section s [] e =
+    let first = append_cancel_left (13 ∷ 10 ∷ []) bytes (section ++ s.more) s.joined in
+    let alone : section ≡ codes "\r\n" = append_cancel_left (13 ∷ 10 ∷ []) section (13 ∷ 10 ∷ []) e in
+    inl (s.more, first ∙ ap (λ (x : List ℕ). x ++ s.more) alone, alone)
+section_by bytes section s (c ∷ []) e = absurd cc
+section_by bytes section s (c ∷ d ∷ before) e =
+    let first = append_cancel_left (13 ∷ 10 ∷ []) bytes (section ++ s.more) s.joined in
+    let ends : section ≡ before ++ codes "\r\n\r\n" = cc in
+    inr (
+      (λ rest is. longer bytes section rest before s ends s.more (sym first ∙ is)),
+      record { more = s.more; joined = first; before = before; ends = ends; first = λ one other there. s.first (13 ∷ 10 ∷ one) other (ap (λ (x : List ℕ). 13 ∷ 10 ∷ x) there) },
+    )
+
+pub trailer_section_law : TrailerSectionIs
+trailer_section_law bytes section = (
+  λ s. section_by bytes section s s.before s.ends,
+  λ where_it_ends. elim where_it_ends [
+    | inl alone ↦ subst (λ (x : List ℕ). IsTrailerSection bytes x) (ap (λ (x : List ℕ). take 2 x) alone.1 ∙ sym alone.2) (empty_section bytes (alone.0, alone.1))
+    | inr plain ↦ section_after bytes section (λ b. plain.0 b.0 b.1) plain.1
+  ],
+)

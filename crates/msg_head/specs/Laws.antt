@@ -1,5 +1,5 @@
 -- Laws of heads and of trailer sections.
-use Rattle.std.specs.Prelude.{◌≡◌, ◌≢◌, ℕ, ◌<◌, List, length, take}
+use Rattle.std.specs.Prelude.{◌≡◌, ◌≢◌, ◌⊎◌, ◌↔◌, ℕ, ◌<◌, List, ◌++◌, length, take, codes}
 use Rattle.msg_head.specs.Cuts.{IsSection}
 use Rattle.msg_head.specs.Heads.{Head, IsHead, IsHeadText, SpellsHead, IsUnfinished, head_text}
 use Rattle.msg_head.specs.Causes.{IsHeadError}
@@ -59,6 +59,15 @@ abbrev pub OneTrailer : Type 0
 OneTrailer =
     (bytes : List ℕ) (one other : List FieldLine) (n m : ℕ) →
     SpellsTrailer one n bytes → SpellsTrailer other m bytes → (one ≡ other) × (n ≡ m)
+
+-- A trailer section is CRLF alone where the bytes begin with CRLF, and else the bytes up to and
+-- with the first CRLF CRLF.
+abbrev pub TrailerSectionIs : Type 0
+TrailerSectionIs =
+    (bytes section : List ℕ) →
+    IsTrailerSection bytes section
+    ↔ (((rest : List ℕ) × (bytes ≡ codes "\r\n" ++ rest) × (section ≡ codes "\r\n"))
+    ⊎ (((rest : List ℕ) → bytes ≢ codes "\r\n" ++ rest) × IsSection bytes section))
 
 -- A trailer section ends at its first empty line.
 abbrev pub TrailerEndsAtFirstEnd : Type 0

@@ -1,4 +1,5 @@
-//! Heads of HTTP/1.1 messages: a start line and field lines (RFC 9112).
+//! Heads of HTTP/1.1 messages: a start line and field lines (RFC 9112). Trailer sections too: field
+//! lines after chunked content.
 //!
 //! A head is read from the start of the bytes that hold it, and the view of it borrows them. Raw
 //! values keep their obsolete line folding.
