@@ -16,11 +16,7 @@ use sfv_text::{Member, Pair};
 use std::alloc::Global;
 
 // Judges the digests of the members in order.
-fn check_members(
-    alloc: Global,
-    members: &[Pair<Member>],
-    content: &[u8],
-) -> Result<(), DigestFault>
+fn check_members(alloc: Global, members: &[Pair<Member>], content: &[u8]) -> Result<(), DigestFault>
     requires { IsTrue (list_all is_sound members.now) }
     ensures ok { IfOk result (λ _. IsTrue (list_all (agrees content.now) members.now)) }
     ensures fault { IfErr result (λ fault. FailsByMembers content.now members.now fault) }

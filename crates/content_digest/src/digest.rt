@@ -35,11 +35,7 @@ fn text_of(alloc: Global, bytes: &[u8]) -> Result<Text, Memory>
 }
 
 /// The digest of the content by the algorithm.
-pub(crate) fn digest_of(
-    alloc: Global,
-    algorithm: Algorithm,
-    content: &[u8],
-) -> Result<Text, Memory>
+pub(crate) fn digest_of(alloc: Global, algorithm: Algorithm, content: &[u8]) -> Result<Text, Memory>
     ensures is { IfOk result (λ digest. digest ≡ digest_by algorithm content.now) }
     ensures in_range { IfOk result (λ digest. IsTrue (list_all is_byte digest)) }
 {

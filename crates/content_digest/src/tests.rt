@@ -1,15 +1,18 @@
 use super::*;
-use sfv_text::Text;
+use sfv_text::{Memory, Text};
 use std::alloc::Global;
 use std::test::Fail;
 
-// The content of the examples of RFC 9421 appendix B.2 and RFC 9530 appendix B.
+// The content of RFC 9421 appendix B.2 and of RFC 9530 appendix B.1.
 const HELLO: &[u8] = b"{\"hello\": \"world\"}";
 
-// The digests of RFC 9421 appendix B.2.2.
 const SHA_256: &[u8] = b"sha-256=:X48E9qOokqqrvdts8nOJRJN3OWDUoyWxBf7kbu9DBPE=:";
+
 const SHA_512: &[u8] = b"sha-512=:WZDPaVn/7XgHaAy8pmojAkGWoRx2UFChF41A2svX+TaPm\
     +AbwAgBWnrIiYllu7BNNyealdVLvRwEmTHWXvJwew==:";
+
+// The digest of no bytes.
+const EMPTY: &[u8] = b"sha-256=:47DEQpj8HBSa+/TImW+5JCeuQeRkm5NMpJWZG3hSuFU=:";
 
 // What is answered, with the algorithm of a mismatch.
 #[derive(Clone, Copy, Debug, PartialEq, Eq)]
@@ -31,10 +34,171 @@ fn answer_to(alloc: Global, text: &[u8], content: &[u8]) -> Answer {
     }
 }
 
-// The texts joined by a comma and a space.
-fn joined(alloc: Global, first: &[u8], second: &[u8]) -> Result<Text, Fail> {
-    let mut text = Text::from_bytes(alloc, first)?;
-    text.append(b", ")?;
-    text.append(second)?;
-    Ok(text)
+// A member with the texts before and after it, and what is answered for the content `HELLO`.
+#[derive(Clone, Copy)]
+struct Around {
+    before: &'static [u8],
+    member: &'static [u8],
+    after: &'static [u8],
+    answer: Answer,
+}
+
+impl Around {
+    fn text(&self, alloc: Global) -> Result<Text, Memory> {
+        let mut text = Text::from_bytes(alloc, self.before)?;
+        text.append(self.member)?;
+        text.append(self.after)?;
+        Ok(text)
+    }
+}
+
+#[test]
+fn members_of_known_algorithms_are_compared(rt: HostRuntime) -> Result<(), Fail> {
+    let alone = Around {
+        before: b"",
+        member: SHA_256,
+        after: b"",
+        answer: Answer::Holds,
+    };
+    let cases = [
+        alone,
+        Around {
+            member: SHA_512,
+            ..alone
+        },
+        Around {
+            before: b" ",
+            after: b";a=1;b ",
+            ..alone
+        },
+        Around {
+            before: b"md5=1, unixsum=(1 2), ",
+            after: b",\tid-sha-512=:AAAA:",
+            ..alone
+        },
+        Around {
+            before: b"sha-256=1, ",
+            ..alone
+        },
+        Around {
+            after: b", sha-512=:AAAA:",
+            answer: Answer::Mismatch(Algorithm::Sha512),
+            ..alone
+        },
+        Around {
+            before: b"sha-256=1, sha-512=1, ",
+            after: b", sha-512=:AAAA:",
+            answer: Answer::Mismatch(Algorithm::Sha512),
+            ..alone
+        },
+        Around {
+            before: b"sha-256=:AAAA:, ",
+            member: SHA_512,
+            answer: Answer::Mismatch(Algorithm::Sha256),
+            ..alone
+        },
+        Around {
+            after: b", sha-512=1",
+            answer: Answer::Malformed,
+            ..alone
+        },
+        Around {
+            member: EMPTY,
+            answer: Answer::Mismatch(Algorithm::Sha256),
+            ..alone
+        },
+    ];
+    for case in cases {
+        let text = case.text(rt.alloc())?;
+        assert_eq!(rt; answer_to(rt.alloc(), text.bytes(), HELLO), case.answer);
+    }
+    assert_eq!(rt; answer_to(rt.alloc(), EMPTY, b""), Answer::Holds);
+    Ok(())
+}
+
+#[test]
+fn other_digests_are_refused(rt: HostRuntime) {
+    let cases = [
+        (b"".as_slice(), Answer::NoneKnown),
+        (b"md5=:AAAA:, sha=:AAAA:", Answer::NoneKnown),
+        (b"sha-256-=:AAAA:, sha-25=1", Answer::NoneKnown),
+        (b"sha-256=1", Answer::Malformed),
+        (b"sha-256", Answer::Malformed),
+        (b"sha-256=AAAA", Answer::Malformed),
+        (b"sha-256=\"AAAA\"", Answer::Malformed),
+        (b"sha-256=(:AAAA:)", Answer::Malformed),
+        (b"md5=:AAAA:, sha-512=?0", Answer::Malformed),
+        (b"sha-256=:AAAA:, sha-512=()", Answer::Malformed),
+        (b"sha-256=:AAAA", Answer::Malformed),
+        (b"SHA-256=:AAAA:", Answer::Malformed),
+        (b"a=@1", Answer::Malformed),
+        (
+            b"sha-256=:AAAA:, sha-512=:AAAA:",
+            Answer::Mismatch(Algorithm::Sha256),
+        ),
+        (
+            b"sha-512=:AAAA:, sha-256=:AAAA:",
+            Answer::Mismatch(Algorithm::Sha512),
+        ),
+        (b"sha-256=::", Answer::Mismatch(Algorithm::Sha256)),
+    ];
+    for (text, answer) in cases {
+        assert_eq!(rt; answer_to(rt.alloc(), text, b""), answer);
+    }
+}
+
+#[test]
+fn a_mismatch_has_both_digests(rt: HostRuntime) -> Result<(), Fail> {
+    match check_digest(rt.alloc(), b"sha-256=:AAAA:", HELLO) {
+        Err(DigestFault::Mismatch { kept, computed, .. }) => {
+            assert_eq!(rt; kept.bytes(), b"\0\0\0".as_slice());
+            assert_eq!(rt; computed.bytes().len(), 32);
+            assert!(rt;
+                computed
+                    .bytes()
+                    .starts_with(b"\x5f\x8f\x04\xf6\xa3\xa8\x92\xaa")
+            );
+            Ok(())
+        }
+        _ => Err("no mismatch".into()),
+    }
+}
+
+#[test]
+fn digests_are_made(rt: HostRuntime) -> Result<(), Fail> {
+    let sha_256 = make_digest(rt.alloc(), Algorithm::Sha256, HELLO)?;
+    assert_eq!(rt; sha_256.bytes(), SHA_256);
+    let sha_512 = make_digest(rt.alloc(), Algorithm::Sha512, HELLO)?;
+    assert_eq!(rt; sha_512.bytes(), SHA_512);
+    let empty = make_digest(rt.alloc(), Algorithm::Sha256, b"")?;
+    assert_eq!(rt; empty.bytes(), EMPTY);
+    Ok(())
+}
+
+#[test]
+fn faults_are_printed(rt: HostRuntime) -> Result<(), Fail> {
+    let cases = [
+        (
+            b"sha-256=1".as_slice(),
+            "the digests are no Dictionary of Byte Sequences",
+        ),
+        (b"md5=1", "no digest is by a known algorithm"),
+        (
+            b"sha-256=::",
+            "the sha-256 digest is not that of the content",
+        ),
+        (
+            b"sha-512=::",
+            "the sha-512 digest is not that of the content",
+        ),
+    ];
+    for (text, line) in cases {
+        if let Err(fault) = check_digest(rt.alloc(), text, HELLO) {
+            let printed = format!(in rt.alloc(); "{}", fault)?;
+            assert_eq!(rt; printed.as_str(), line);
+        } else {
+            return Err("no fault".into());
+        }
+    }
+    Ok(())
 }
