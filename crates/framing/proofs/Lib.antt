@@ -1,3 +1,3 @@
 mod Codings
 mod Digits
-mod FramingLaws
+pub mod FramingLaws
