@@ -1,5 +1,5 @@
 -- Texts of bytes.
-use Rattle.std.proofs.Common.{◌≡◌, ℕ, suc, ◌<◌, ◌^◌, true, Result, Ok, Err, List, [], ◌∷◌, slice_index, refl, subst, sym}
+use Rattle.std.proofs.Common.{◌≡◌, ℕ, suc, ◌<◌, true, Result, Ok, Err, List, [], ◌∷◌, slice_index, refl, subst, sym}
 use Rattle.std.specs.Prelude.{IsTrue, IfOk}
 use Rattle.std.specs.List.{list_all}
 use Rattle.std.proofs.lemmas.Bool.{lt-ltb}

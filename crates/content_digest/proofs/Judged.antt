@@ -1,10 +1,9 @@
 -- What is answered, from what the parts answer.
-use Rattle.std.proofs.Common.{◌≡◌, ◌≢◌, ◌⊎◌, ℕ, true, false, Some, Result, Ok, Err, List, [], ◌∷◌, take, refl, sym, ap, subst, ◌∙◌, inl, inr}
-use Rattle.std.specs.Prelude.{⊤, slice_get, IfErr, IfOk, IsTrue}
+use Rattle.std.proofs.Common.{◌≡◌, ◌≢◌, ◌⊎◌, ℕ, true, Result, Ok, Err, List, refl, sym, ap, subst, ◌∙◌, inl, inr}
+use Rattle.std.specs.Prelude.{⊤, IfErr, IfOk, IsTrue}
 use Rattle.std.proofs.lemmas.Slice.Eq.{bytes_eq-Decides}
 use Rattle.std.specs.List.{list_all, list_any}
 use Rattle.byte_grammar.specs.Causes.{AnswersWhere}
-use Rattle.byte_grammar.proofs.Indices.{some_and}
 use Rattle.sfv_text.specs.declared.pair.Pair.{Pair}
 use Rattle.sfv_text.specs.declared.value.Member.{Member}
 use Rattle.sfv_read.specs.Fault.{IsRead}
@@ -20,9 +19,9 @@ use Rattle.content_digest.specs.Algorithms.{digest_by}
 use Rattle.content_digest.specs.declared.fault.DigestFault.{DigestFault}
 use Rattle.content_digest.specs.declared.fault.DigestFault.TheVariants.{Memory, Malformed, NoneKnown, Mismatch}
 use Rattle.content_digest.specs.Digests.{DigestHolds, is_known, is_sound, agrees, digest_dict}
-use Rattle.content_digest.specs.Faults.{Differs, IsMismatch, IsDigestFault, fault_of}
-use Rattle.content_digest.specs.tools.Judged.{FailsByMember, FailsByMembers, ExplainsDigest}
-use Rattle.content_digest.proofs.DigestLaws.{one_digest_fault, no_fault_where_holds, is_malformed, is_none_known, is_mismatch}
+use Rattle.content_digest.specs.Faults.{IsDigestFault, fault_of}
+use Rattle.content_digest.specs.tools.Judged.{FailsByMembers, ExplainsDigest}
+use Rattle.content_digest.proofs.DigestLaws.{one_digest_fault, no_fault_where_holds, is_malformed, is_mismatch}
 
 -- the text isn't read
 pub unread : (text content : List ℕ) (error : SfError) → ((dict : List (Pair Member)) → ReadsDict text dict → IsRead {V = List (Pair Member)} (Err error) dict)

@@ -2,12 +2,14 @@
 
 ghost use Rattle.std.specs.Prelude.{◌≡◌, option_map, IsTrue, IfOk, IfErr};
 ghost use Rattle.std.specs.List.{list_all, list_any};
+ghost use Rattle.msg_body.specs.Views.{message_of, message_content};
 ghost use Rattle.content_digest.specs.Digests.{digest_in, is_known, is_sound, agrees};
 ghost use Rattle.content_digest.specs.tools.Judged.{FailsByMember};
 
 use crate::algorithm::Algorithm;
 use crate::digest::digest_of;
 use crate::fault::DigestFault;
+use msg_body::MessageView;
 use sfv_text::{BareItem, Member, Pair, Text};
 use std::alloc::Global;
 
@@ -56,11 +58,13 @@ pub(crate) fn are_sound(members: &[Pair<Member>]) -> bool
 pub(crate) fn check_member(
     alloc: Global,
     member: &Pair<Member>,
-    content: &[u8],
+    view: &MessageView<'_>,
 ) -> Result<(), DigestFault>
     requires { IsTrue (is_sound member.now) }
-    ensures ok { IfOk result (λ _. IsTrue (agrees content.now member.now)) }
-    ensures fault { IfErr result (λ fault. FailsByMember content.now member.now fault) }
+    ensures ok { IfOk result
+        (λ _. IsTrue (agrees (message_content (message_of view.now)) member.now)) }
+    ensures fault { IfErr result
+        (λ fault. FailsByMember (message_content (message_of view.now)) member.now fault) }
 {
     let Some(algorithm) = Algorithm::of_key(member.key.bytes()) else {
         return Ok(());
@@ -68,7 +72,7 @@ pub(crate) fn check_member(
     let Some(kept) = digest_in(&member.value) else {
         unreachable!()
     };
-    let computed = digest_of(alloc, algorithm, content)?;
+    let computed = digest_of(alloc, algorithm, view)?;
     if kept.bytes() == computed.bytes() {
         return Ok(());
     }

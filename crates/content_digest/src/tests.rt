@@ -1,10 +1,17 @@
 use super::*;
+use msg_body::{Expect, MAX_MESSAGE_BYTES, MessageRead, MessageView, read_message};
 use sfv_text::{Memory, Text};
 use std::alloc::Global;
 use std::test::Fail;
 
-// The content of RFC 9421 appendix B.2 and of RFC 9530 appendix B.1.
-const HELLO: &[u8] = b"{\"hello\": \"world\"}";
+// Requests with the content of RFC 9421 appendix B.2, `{"hello": "world"}`.
+const HELLO: &[u8] = b"POST / HTTP/1.1\r\nContent-Length: 18\r\n\r\n{\"hello\": \"world\"}";
+
+const CHUNKED: &[u8] = b"POST / HTTP/1.1\r\nTransfer-Encoding: chunked\r\n\r\n\
+    5\r\n{\"hel\r\nD;a=b\r\nlo\": \"world\"}\r\n0\r\nA: b\r\n\r\n";
+
+// A request without content.
+const BARE: &[u8] = b"GET / HTTP/1.1\r\n\r\n";
 
 const SHA_256: &[u8] = b"sha-256=:X48E9qOokqqrvdts8nOJRJN3OWDUoyWxBf7kbu9DBPE=:";
 
@@ -24,17 +31,30 @@ enum Answer {
     Mismatch(Algorithm),
 }
 
-fn answer_to(alloc: Global, text: &[u8], content: &[u8]) -> Answer {
-    match check_digest(alloc, text, content) {
+// The message that the bytes are; None where they are none.
+fn view_of(alloc: Global, bytes: &[u8]) -> Option<MessageView<'_>> {
+    if bytes.len() > MAX_MESSAGE_BYTES {
+        return None;
+    }
+    match read_message(alloc, bytes, Expect::Any, false) {
+        Ok(MessageRead::Whole(view, _)) => Some(view),
+        Ok(MessageRead::Partial) => None,
+        Err(_) => None,
+    }
+}
+
+fn answer_to(alloc: Global, text: &[u8], bytes: &[u8]) -> Option<Answer> {
+    let view = view_of(alloc, bytes)?;
+    Some(match check_digest(alloc, text, &view) {
         Ok(()) => Answer::Holds,
         Err(DigestFault::Memory) => Answer::Memory,
         Err(DigestFault::Malformed) => Answer::Malformed,
         Err(DigestFault::NoneKnown) => Answer::NoneKnown,
         Err(DigestFault::Mismatch { algorithm, .. }) => Answer::Mismatch(algorithm),
-    }
+    })
 }
 
-// A member with the texts before and after it, and what is answered for the content `HELLO`.
+// A member with the texts before and after it, and what is answered for `HELLO` and `CHUNKED`.
 #[derive(Clone, Copy)]
 struct Around {
     before: &'static [u8],
@@ -110,9 +130,12 @@ fn members_of_known_algorithms_are_compared(rt: HostRuntime) -> Result<(), Fail>
     ];
     for case in cases {
         let text = case.text(rt.alloc())?;
-        assert_eq!(rt; answer_to(rt.alloc(), text.bytes(), HELLO), case.answer);
+        for message in [HELLO, CHUNKED] {
+            let answer = answer_to(rt.alloc(), text.bytes(), message);
+            assert_eq!(rt; answer, Some(case.answer));
+        }
     }
-    assert_eq!(rt; answer_to(rt.alloc(), EMPTY, b""), Answer::Holds);
+    assert_eq!(rt; answer_to(rt.alloc(), EMPTY, BARE), Some(Answer::Holds));
     Ok(())
 }
 
@@ -143,13 +166,16 @@ fn other_digests_are_refused(rt: HostRuntime) {
         (b"sha-256=::", Answer::Mismatch(Algorithm::Sha256)),
     ];
     for (text, answer) in cases {
-        assert_eq!(rt; answer_to(rt.alloc(), text, b""), answer);
+        assert_eq!(rt; answer_to(rt.alloc(), text, BARE), Some(answer));
     }
 }
 
 #[test]
 fn a_mismatch_has_both_digests(rt: HostRuntime) -> Result<(), Fail> {
-    match check_digest(rt.alloc(), b"sha-256=:AAAA:", HELLO) {
+    let Some(view) = view_of(rt.alloc(), CHUNKED) else {
+        return Err("no message".into());
+    };
+    match check_digest(rt.alloc(), b"sha-256=:AAAA:", &view) {
         Err(DigestFault::Mismatch { kept, computed, .. }) => {
             assert_eq!(rt; kept.bytes(), b"\0\0\0".as_slice());
             assert_eq!(rt; computed.bytes().len(), 32);
@@ -166,12 +192,20 @@ fn a_mismatch_has_both_digests(rt: HostRuntime) -> Result<(), Fail> {
 
 #[test]
 fn digests_are_made(rt: HostRuntime) -> Result<(), Fail> {
-    let sha_256 = make_digest(rt.alloc(), Algorithm::Sha256, HELLO)?;
-    assert_eq!(rt; sha_256.bytes(), SHA_256);
-    let sha_512 = make_digest(rt.alloc(), Algorithm::Sha512, HELLO)?;
-    assert_eq!(rt; sha_512.bytes(), SHA_512);
-    let empty = make_digest(rt.alloc(), Algorithm::Sha256, b"")?;
-    assert_eq!(rt; empty.bytes(), EMPTY);
+    let cases = [
+        (HELLO, Algorithm::Sha256, SHA_256),
+        (HELLO, Algorithm::Sha512, SHA_512),
+        (CHUNKED, Algorithm::Sha256, SHA_256),
+        (CHUNKED, Algorithm::Sha512, SHA_512),
+        (BARE, Algorithm::Sha256, EMPTY),
+    ];
+    for (bytes, algorithm, text) in cases {
+        let Some(view) = view_of(rt.alloc(), bytes) else {
+            return Err("no message".into());
+        };
+        let made = make_digest(rt.alloc(), algorithm, &view)?;
+        assert_eq!(rt; made.bytes(), text);
+    }
     Ok(())
 }
 
@@ -192,8 +226,11 @@ fn faults_are_printed(rt: HostRuntime) -> Result<(), Fail> {
             "the sha-512 digest is not that of the content",
         ),
     ];
+    let Some(view) = view_of(rt.alloc(), HELLO) else {
+        return Err("no message".into());
+    };
     for (text, line) in cases {
-        if let Err(fault) = check_digest(rt.alloc(), text, HELLO) {
+        if let Err(fault) = check_digest(rt.alloc(), text, &view) {
             let printed = format!(in rt.alloc(); "{}", fault)?;
             assert_eq!(rt; printed.as_str(), line);
         } else {
