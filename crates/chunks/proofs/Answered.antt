@@ -11,21 +11,20 @@ use Rattle.chunks.specs.declared.limits.TheConstants.{MAX_CONTENT_BYTES}
 use Rattle.chunks.specs.declared.error.ChunkError.{ChunkError}
 use Rattle.chunks.specs.declared.error.ChunkError.TheVariants.{Memory, TooLong, Bad}
 use Rattle.chunks.specs.Chunks.{Chunk, Chunks, IsChunk, AreChunksText, SpellsChunks, chunk_text, data_of}
-use Rattle.chunks.specs.Causes.{IsContentTooLong, IsChunksCause, IsChunksError, AreChunksUnfinished, chunks_order}
+use Rattle.chunks.specs.Causes.{HasContentOver, IsContentTooLong, IsChunksCause, IsChunksError, AreChunksUnfinished, chunks_order}
 use Rattle.chunks.specs.Laws.{EachHasAnAnswer}
 use Rattle.chunks.specs.tools.ChunkWalk.{line_read, turn_read}
-use Rattle.chunks.specs.tools.Turns.{IsTooLongFor}
 use Rattle.chunks.proofs.LineLaws.{meets_line}
 use Rattle.chunks.proofs.TurnTexts.{meets_turn, meets_chunks, turns_are}
 use Rattle.chunks.proofs.TooLong.{line_goes, no_turn, last_turn, next_turn}
-use Rattle.chunks.proofs.ChunkLaws.{as_room, unfinished, bad}
+use Rattle.chunks.proofs.ChunkLaws.{unfinished, bad}
 use Rattle.chunks.proofs.Outcomes.{bad_first}
 
 IsDecided : ℕ → List ℕ → Type 0
-IsDecided room bytes = IsTooLongFor room bytes ⊎ (IsTooLongFor room bytes → ⊥)
+IsDecided room bytes = HasContentOver room bytes ⊎ (HasContentOver room bytes → ⊥)
 
 -- one more chunk before what shows it
-with_chunk : (c : Chunk) (bytes rest : List ℕ) (room : ℕ) → bytes ≡ chunk_text c ++ rest → IsChunk c → IsTooLongFor (room - length c.chunk_data) rest → IsTooLongFor room bytes
+with_chunk : (c : Chunk) (bytes rest : List ℕ) (room : ℕ) → bytes ≡ chunk_text c ++ rest → IsChunk c → HasContentOver (room - length c.chunk_data) rest → HasContentOver room bytes
 with_chunk c bytes rest room e is t = record {
   chunks = c ∷ t.chunks;
   line = t.line;
@@ -42,8 +41,8 @@ unfolding IsDecided
 decided zero room bytes less = absurd (omega arith)
 decided (suc k) room bytes less = at_line (λ room rest l. decided k room rest l) (line_read bytes) refl
   where
-    at_turn : ((room : ℕ) (rest : List ℕ) → length rest < k → IsTooLongFor room rest ⊎ (IsTooLongFor room rest → ⊥)) → (text after : List ℕ) (size : ℕ) → line_read bytes ≡ Ok ((text, size), after) → size ≤ room
-        → (r : Result (Option Chunk × List ℕ) ℕ) → turn_read bytes ≡ r → IsTooLongFor room bytes ⊎ (IsTooLongFor room bytes → ⊥)
+    at_turn : ((room : ℕ) (rest : List ℕ) → length rest < k → HasContentOver room rest ⊎ (HasContentOver room rest → ⊥)) → (text after : List ℕ) (size : ℕ) → line_read bytes ≡ Ok ((text, size), after) → size ≤ room
+        → (r : Result (Option Chunk × List ℕ) ℕ) → turn_read bytes ≡ r → HasContentOver room bytes ⊎ (HasContentOver room bytes → ⊥)
     at_turn again text after size line fits (Err n) e = inr (no_turn room bytes text after size n line fits e)
     at_turn again text after size line fits (Ok (None, rest)) e = inr (last_turn room bytes text after rest size line fits e)
     at_turn again text after size line fits (Ok (Some c, rest)) e =
@@ -55,7 +54,7 @@ decided (suc k) room bytes less = at_line (λ room rest l. decided k room rest l
           | inr none ↦ inr (λ t. none (next_turn room bytes text after rest size c line fits e t))
         ]
 
-    at_line : ((room : ℕ) (rest : List ℕ) → length rest < k → IsTooLongFor room rest ⊎ (IsTooLongFor room rest → ⊥)) → (r : Result ((List ℕ × ℕ) × List ℕ) ℕ) → line_read bytes ≡ r → IsTooLongFor room bytes ⊎ (IsTooLongFor room bytes → ⊥)
+    at_line : ((room : ℕ) (rest : List ℕ) → length rest < k → HasContentOver room rest ⊎ (HasContentOver room rest → ⊥)) → (r : Result ((List ℕ × ℕ) × List ℕ) ℕ) → line_read bytes ≡ r → HasContentOver room bytes ⊎ (HasContentOver room bytes → ⊥)
     at_line again (Err n) e = inr (line_goes room bytes n e)
     at_line again (Ok ((text, size), after)) e = elim (cases_lt room size) [
       | inl long ↦
@@ -64,17 +63,14 @@ decided (suc k) room bytes less = at_line (λ room rest l. decided k room rest l
       | inr fits ↦ at_turn again text after size e fits (turn_read bytes) refl
     ]
 
-as_content : (bytes : List ℕ) → IsTooLongFor MAX_CONTENT_BYTES bytes → IsContentTooLong bytes
-as_content bytes t = record { chunks = t.chunks; line = t.line; size = t.size; more = t.more; joined = t.joined; each = t.each; is = t.is; long = t.long }
-
 too_long_first : (bytes : List ℕ) → IsContentTooLong bytes → IsChunksError bytes TooLong
 too_long_first bytes t = record { holds = t; none_before = λ other less. absurd (omega (arith, less)) }
 
 pub each_has_an_answer : EachHasAnAnswer
 unfolding IsDecided
 each_has_an_answer bytes = elim (decided (suc (length bytes)) MAX_CONTENT_BYTES bytes (omega arith)) [
-  | inl t ↦ inr (inl (TooLong, too_long_first bytes (as_content bytes t)))
-  | inr none ↦ go (λ t. none (as_room bytes t)) (turns_read turn_read bytes) refl
+  | inl t ↦ inr (inl (TooLong, too_long_first bytes t))
+  | inr none ↦ go none (turns_read turn_read bytes) refl
 ]
   where
     go : (IsContentTooLong bytes → ⊥) → (r : Result (List Chunk × List ℕ) ℕ) → turns_read turn_read bytes ≡ r
