@@ -1,17 +1,15 @@
 -- Each bytes have an answer.
-use Rattle.std.proofs.Common.{◌≡◌, ◌⊎◌, inl, inr, ℕ, zero, suc, ◌-◌, ◌<◌, ◌≤◌, List, [], ◌∷◌, ◌++◌, length, take, drop, Option, Some, None, Result, Ok, Err, refl, sym, ap, subst, ◌∙◌, append_assoc, append-nil, arith, codes}
+use Rattle.std.proofs.Common.{◌≡◌, ◌⊎◌, inl, inr, ℕ, zero, suc, ◌-◌, ◌<◌, ◌≤◌, List, [], ◌∷◌, ◌++◌, length, take, Option, Some, None, Result, Ok, Err, refl, sym, ap, subst, ◌∙◌, append_assoc, arith, codes}
 use Rattle.std.proofs.lemmas.List.{length-append, take_at}
 use Rattle.std.proofs.lemmas.List.Elements.{All-nil, All-cons}
 use Rattle.std.proofs.lemmas.Bool.{cases_lt}
 use Rattle.std.specs.List.{flat_map}
-use Rattle.byte_grammar.specs.Causes.{IsFirst}
 use Rattle.byte_grammar.specs.tools.Walks.{turns_read}
-use Rattle.byte_grammar.proofs.Laws.{Meets}
 use Rattle.chunks.specs.declared.limits.TheConstants.{MAX_CONTENT_BYTES}
 use Rattle.chunks.specs.declared.error.ChunkError.{ChunkError}
-use Rattle.chunks.specs.declared.error.ChunkError.TheVariants.{Memory, TooLong, Bad}
+use Rattle.chunks.specs.declared.error.ChunkError.TheVariants.{TooLong, Bad}
 use Rattle.chunks.specs.Chunks.{Chunk, Chunks, IsChunk, AreChunksText, SpellsChunks, chunk_text, data_of}
-use Rattle.chunks.specs.Causes.{HasContentOver, IsContentTooLong, IsChunksCause, IsChunksError, AreChunksUnfinished, chunks_order}
+use Rattle.chunks.specs.Causes.{HasContentOver, IsContentTooLong, IsChunksError, AreChunksUnfinished}
 use Rattle.chunks.specs.Laws.{EachHasAnAnswer}
 use Rattle.chunks.specs.tools.ChunkWalk.{line_read, turn_read}
 use Rattle.chunks.proofs.LineLaws.{meets_line}

@@ -1,24 +1,23 @@
 -- Chunk after chunk, as the search takes them.
-use Rattle.std.proofs.Common.{◌≡◌, ◌≢◌, true, ℕ, ◌+◌, ◌-◌, ◌*◌, ◌<◌, ◌≤◌, List, [], ◌∷◌, ◌++◌, length, take, map, Option, Some, None, Ok, Err, refl, sym, ap, subst, ◌∙◌, append_assoc, arith, codes}
+use Rattle.std.proofs.Common.{◌≡◌, ℕ, ◌+◌, ◌-◌, ◌<◌, ◌≤◌, List, [], ◌∷◌, ◌++◌, length, take, Some, Ok, Err, refl, sym, ap, subst, ◌∙◌, append_assoc, arith, codes}
 use Rattle.std.proofs.lemmas.List.{append-nil, length-append, take_at}
 use Rattle.std.proofs.lemmas.List.Elements.{All-nil, All-cons, All-append}
 use Rattle.std.proofs.lemmas.Grind.{flat_map-append}
-use Rattle.std.specs.List.{All, list_all, flat_map}
-use Rattle.byte_grammar.proofs.Loops.{loop_first, loop_last, loop_err, loop_more}
-use Rattle.byte_grammar.specs.tools.Walks.{turns_read, with_prefix}
-use Rattle.byte_grammar.proofs.Laws.{Meets}
+use Rattle.std.specs.List.{All, flat_map}
+use Rattle.byte_grammar.proofs.Loops.{loop_first, loop_err, loop_more}
+use Rattle.byte_grammar.specs.tools.Walks.{turns_read}
 use Rattle.chunks.specs.declared.limits.TheConstants.{MAX_CONTENT_BYTES}
 use Rattle.chunks.specs.declared.view.ChunkSpan.{ChunkSpan}
 use Rattle.chunks.specs.declared.read.Found.{Found}
-use Rattle.chunks.specs.Chunks.{Chunk, Chunks, IsChunkLine, IsChunk, AreChunksText, SpellsChunks, chunk_text, chunks_text, data_of, content_of}
+use Rattle.chunks.specs.Chunks.{Chunk, Chunks, IsChunkLine, IsChunk, SpellsChunks, chunk_text, data_of, content_of}
 use Rattle.chunks.specs.Causes.{HasContentOver, IsContentTooLong}
-use Rattle.chunks.specs.Views.{ChunksParts, chunks_of, chunk_at, lies_in, IsChunksViewOf}
+use Rattle.chunks.specs.Views.{ChunksParts, chunks_of, IsChunksViewOf}
 use Rattle.chunks.specs.tools.ChunkWalk.{line_read, data_read, turn_read}
-use Rattle.chunks.specs.tools.Turns.{IsTurn, span_of, spans_of}
+use Rattle.chunks.specs.tools.Turns.{span_of, spans_of}
 use Rattle.chunks.specs.tools.Judged.{Finding, IsFound, parts_of}
 use Rattle.chunks.proofs.LineLaws.{meets_line, meets_data}
 use Rattle.chunks.proofs.TurnTexts.{meets_turn, chunk_loop}
-use Rattle.chunks.proofs.TooLong.{turn_err, turn_last, turn_some, turn_data_err, line_goes, no_turn, last_turn, next_turn}
+use Rattle.chunks.proofs.TooLong.{turn_err, turn_some, turn_data_err, line_goes, no_turn, next_turn}
 use Rattle.chunks.proofs.Spans.{slice_at, chunks_at, spans_more, spans_follow, spans_lie, line_some}
 
 pub first_found : (bytes : List ℕ) → Finding bytes [] bytes MAX_CONTENT_BYTES

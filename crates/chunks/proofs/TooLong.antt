@@ -5,12 +5,10 @@ use Rattle.std.proofs.lemmas.List.Elements.{All-head, All-tail}
 use Rattle.std.proofs.lemmas.Bool.{cases_lt}
 use Rattle.std.specs.List.{All, flat_map}
 use Rattle.byte_grammar.specs.Walk.{◌>>=◌}
-use Rattle.byte_grammar.specs.tools.Languages.{Turns}
-use Rattle.byte_grammar.proofs.Laws.{Meets, any_next, ok_is, not_err}
+use Rattle.byte_grammar.proofs.Laws.{any_next, ok_is, not_err}
 use Rattle.chunks.specs.Chunks.{Chunk, Chunks, IsChunkLine, IsChunk, AreChunksText, chunk_text, chunks_text, data_of, content_of}
 use Rattle.chunks.specs.Causes.{HasContentOver}
 use Rattle.chunks.specs.tools.ChunkWalk.{line_read, data_read, body_read, turn_read}
-use Rattle.chunks.specs.tools.Turns.{IsTurn}
 use Rattle.chunks.proofs.LineLaws.{meets_line}
 use Rattle.chunks.proofs.TurnTexts.{meets_turn}
 

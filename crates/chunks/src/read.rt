@@ -1,6 +1,6 @@
 //! Reads chunks.
 
-ghost use Rattle.std.specs.Prelude.{◌≡◌, ◌≢◌, ℕ, ◌≤◌, length, Ok, Err, IfOk, IfErr};
+ghost use Rattle.std.specs.Prelude.{◌≡◌, ◌≢◌, ℕ, Ok, Err, IfOk, IfErr};
 ghost use Rattle.byte_grammar.specs.Causes.{AnswersWhere};
 ghost use Rattle.chunks.specs.Chunks.{Chunks, SpellsChunks};
 ghost use Rattle.chunks.specs.Causes.{IsChunksError, AreChunksUnfinished};

@@ -1,5 +1,5 @@
 -- What the search for chunks gives. No public clause cites this module.
-use Rattle.std.specs.Prelude.{◌≡◌, ◌≢◌, ℕ, ◌+◌, ◌≤◌, ⊤, IsTrue, List, ◌++◌, length, take, Result, Ok, Err}
+use Rattle.std.specs.Prelude.{◌≡◌, ◌≢◌, ℕ, ◌+◌, ⊤, IsTrue, List, ◌++◌, length, take, Result, Ok, Err}
 use Rattle.std.specs.List.{All, list_all, flat_map}
 use Rattle.byte_grammar.specs.tools.Walks.{turns_read, with_prefix}
 use Rattle.chunks.specs.declared.limits.TheConstants.{MAX_CONTENT_BYTES}

@@ -1,8 +1,8 @@
 -- Chunks one after the other, as the reader takes them. No public clause cites this module.
-use Rattle.std.specs.Prelude.{◌≡◌, ℕ, zero, suc, ◌+◌, ◌<◌, ⊤, Bool, true, List, [], ◌∷◌, ◌++◌, length, codes, Option, Some, None}
+use Rattle.std.specs.Prelude.{◌≡◌, ℕ, zero, suc, ◌+◌, Bool, true, List, [], ◌∷◌, ◌++◌, length, codes, Option, Some, None}
 use Rattle.byte_grammar.specs.tools.Languages.{Mapped}
 use Rattle.chunks.specs.declared.view.ChunkSpan.{ChunkSpan}
-use Rattle.chunks.specs.Chunks.{Chunk, IsChunkLine, IsChunk, IsExtension, chunk_text, data_of}
+use Rattle.chunks.specs.Chunks.{Chunk, IsChunkLine, IsChunk, IsExtension, chunk_text}
 
 -- any byte may come next
 abbrev pub Anything : {V : Type 0} → V → ℕ → Bool
