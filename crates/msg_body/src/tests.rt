@@ -154,71 +154,73 @@ fn each_framing_is_read(rt: HostRuntime) -> Result<(), Fail> {
     Ok(())
 }
 
+// The first fault of each (RFC 9112 sections 2 to 7).
+const REFUSED: [Refused; 12] = [
+    Refused {
+        bytes: b"HTTP/1.1 204\r\n\r\n",
+        expect: Expect::Request,
+        error: MessageError::BadStart,
+    },
+    Refused {
+        bytes: b"POST / HTTP/1.1\r\nContent-Length: 0\r\n\r\n",
+        expect: Expect::Response,
+        error: MessageError::BadStart,
+    },
+    Refused {
+        bytes: b"HTTP/1.1 204\r\nA\r\n\r\n",
+        expect: Expect::Request,
+        error: MessageError::BadLine(Side::Header, 0),
+    },
+    Refused {
+        bytes: b"GET / HTTP/1.1\nA: b\r\n\r\n",
+        expect: Expect::Response,
+        error: MessageError::NakedEnd(14),
+    },
+    Refused {
+        bytes: b"GET / HTTP/1.1\r\nA : b\r\n\r\n",
+        expect: Expect::Any,
+        error: MessageError::BadLine(Side::Header, 0),
+    },
+    Refused {
+        bytes: b"GET  / HTTP/1.1\r\n\r\n",
+        expect: Expect::Any,
+        error: MessageError::BadStart,
+    },
+    Refused {
+        bytes: b"HTTP/1.1 204\r\nContent-Length: 0\r\nTransfer-Encoding: chunked\r\n\r\n",
+        expect: Expect::Any,
+        error: MessageError::FramingConflict,
+    },
+    Refused {
+        bytes: b"HTTP/1.1 304\r\nContent-Length: +1\r\n\r\n",
+        expect: Expect::Any,
+        error: MessageError::BadLength,
+    },
+    Refused {
+        bytes: b"POST / HTTP/1.1\r\nTransfer-Encoding: gzip, chunked\r\n\r\n",
+        expect: Expect::Any,
+        error: MessageError::CodingRefused,
+    },
+    Refused {
+        bytes: b"POST / HTTP/1.1\r\nContent-Length: 8388609\r\n\r\n",
+        expect: Expect::Any,
+        error: MessageError::ContentTooLong,
+    },
+    Refused {
+        bytes: b"POST / HTTP/1.1\r\nTransfer-Encoding: chunked\r\n\r\n1\r\nx\r\n800000\r\n",
+        expect: Expect::Any,
+        error: MessageError::ContentTooLong,
+    },
+    Refused {
+        bytes: b"POST / HTTP/1.1\r\nTransfer-Encoding: chunked\r\n\r\n0x5\r\n",
+        expect: Expect::Any,
+        error: MessageError::BadChunk(48),
+    },
+];
+
 #[test]
 fn other_messages_are_refused(rt: HostRuntime) {
-    let cases = [
-        Refused {
-            bytes: b"HTTP/1.1 204\r\n\r\n",
-            expect: Expect::Request,
-            error: MessageError::BadStart,
-        },
-        Refused {
-            bytes: b"POST / HTTP/1.1\r\nContent-Length: 0\r\n\r\n",
-            expect: Expect::Response,
-            error: MessageError::BadStart,
-        },
-        Refused {
-            bytes: b"HTTP/1.1 204\r\nA\r\n\r\n",
-            expect: Expect::Request,
-            error: MessageError::BadLine(Side::Header, 0),
-        },
-        Refused {
-            bytes: b"GET / HTTP/1.1\nA: b\r\n\r\n",
-            expect: Expect::Response,
-            error: MessageError::NakedEnd(14),
-        },
-        Refused {
-            bytes: b"GET / HTTP/1.1\r\nA : b\r\n\r\n",
-            expect: Expect::Any,
-            error: MessageError::BadLine(Side::Header, 0),
-        },
-        Refused {
-            bytes: b"GET  / HTTP/1.1\r\n\r\n",
-            expect: Expect::Any,
-            error: MessageError::BadStart,
-        },
-        Refused {
-            bytes: b"HTTP/1.1 204\r\nContent-Length: 0\r\nTransfer-Encoding: chunked\r\n\r\n",
-            expect: Expect::Any,
-            error: MessageError::FramingConflict,
-        },
-        Refused {
-            bytes: b"HTTP/1.1 304\r\nContent-Length: +1\r\n\r\n",
-            expect: Expect::Any,
-            error: MessageError::BadLength,
-        },
-        Refused {
-            bytes: b"POST / HTTP/1.1\r\nTransfer-Encoding: gzip, chunked\r\n\r\n",
-            expect: Expect::Any,
-            error: MessageError::CodingRefused,
-        },
-        Refused {
-            bytes: b"POST / HTTP/1.1\r\nContent-Length: 8388609\r\n\r\n",
-            expect: Expect::Any,
-            error: MessageError::ContentTooLong,
-        },
-        Refused {
-            bytes: b"POST / HTTP/1.1\r\nTransfer-Encoding: chunked\r\n\r\n1\r\nx\r\n800000\r\n",
-            expect: Expect::Any,
-            error: MessageError::ContentTooLong,
-        },
-        Refused {
-            bytes: b"POST / HTTP/1.1\r\nTransfer-Encoding: chunked\r\n\r\n0x5\r\n",
-            expect: Expect::Any,
-            error: MessageError::BadChunk(48),
-        },
-    ];
-    for case in cases {
+    for case in REFUSED {
         let answer = read_message(rt.alloc(), case.bytes, case.expect, false);
         assert!(rt; matches!(&answer, Err(error) if *error == case.error));
     }
