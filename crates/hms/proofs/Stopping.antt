@@ -14,10 +14,10 @@ use Rattle.msg_body.specs.declared.error.MessageError.TheVariants as message
 use Rattle.msg_body.specs.declared.error.MessageFault.TheVariants as fault
 use Rattle.hms.specs.Base.{AreParamsRefused}
 use Rattle.hms.specs.Messages.{IsInputRefused}
-use Rattle.hms.specs.declared.refusal.TheConstants.{MAX_INPUT_BYTES}
-use Rattle.hms.specs.declared.refusal.Refusal.TheVariants.{Input, Command}
-use Rattle.hms.specs.declared.refusal.InputRefusal.TheVariants.{Message as NoMessage}
-use Rattle.hms.specs.declared.refusal.CommandRefusal.TheVariants.{Ids}
+use Rattle.output_lines.specs.declared.refusal.TheConstants.{MAX_INPUT_BYTES}
+use Rattle.output_lines.specs.declared.refusal.Refusal.TheVariants.{Input, Command}
+use Rattle.output_lines.specs.declared.refusal.InputRefusal.TheVariants.{Message as NoMessage}
+use Rattle.output_lines.specs.declared.refusal.CommandRefusal.TheVariants.{Ids}
 use Rattle.hms.specs.tools.Stops.{IfRefused, IsRefusalFor, stop_of_fault, stop_of_message}
 
 abbrev answered : IdFault → Result SigParams IdFault

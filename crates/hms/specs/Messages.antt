@@ -6,9 +6,9 @@ use Rattle.msg_body.specs.Messages.{Message, Spells, SpellsMessage}
 use Rattle.msg_body.specs.declared.error.MessageFault.{MessageFault}
 use Rattle.msg_body.specs.declared.error.MessageFault.TheVariants.{Refused, Truncated, Trailing}
 use Rattle.msg_body.specs.declared.framing.Expect.TheVariants.{Any}
-use Rattle.hms.specs.declared.refusal.TheConstants.{MAX_INPUT_BYTES}
-use Rattle.hms.specs.declared.refusal.InputRefusal.{InputRefusal}
-use Rattle.hms.specs.declared.refusal.InputRefusal.TheVariants.{TooLong, Message as NoMessage}
+use Rattle.output_lines.specs.declared.refusal.TheConstants.{MAX_INPUT_BYTES}
+use Rattle.output_lines.specs.declared.refusal.InputRefusal.{InputRefusal}
+use Rattle.output_lines.specs.declared.refusal.InputRefusal.TheVariants.{TooLong, Message as NoMessage}
 
 -- a message of so many bytes, and further bytes
 pub record GoesOn (input : List ℕ) (offset : ℕ) : Type 0 where

@@ -9,13 +9,13 @@ use Rattle.derived_values.specs.Words.{lack_word}
 use Rattle.hms_io.specs.declared.status.Status.{Status}
 use Rattle.hms_io.specs.declared.status.Status.TheVariants.{BadArguments, BadInput, BadConf, LimitPassed, FileMissing}
 use Rattle.conf.specs.Refusals.{fault_number, fault_path}
-use Rattle.hms.specs.declared.refusal.TheConstants.{MAX_CONF_BYTES, MAX_INPUT_BYTES}
-use Rattle.hms.specs.declared.refusal.Refusal.{Refusal}
-use Rattle.hms.specs.declared.refusal.Refusal.TheVariants.{Arguments, Conf, Input, Command}
-use Rattle.hms.specs.declared.refusal.ConfRefusal.{ConfRefusal}
-use Rattle.hms.specs.declared.refusal.ConfRefusal.TheVariants as conf
-use Rattle.hms.specs.declared.refusal.InputRefusal.{InputRefusal}
-use Rattle.hms.specs.declared.refusal.InputRefusal.TheVariants.{TooLong, Message}
+use Rattle.output_lines.specs.declared.refusal.TheConstants.{MAX_CONF_BYTES, MAX_INPUT_BYTES}
+use Rattle.output_lines.specs.declared.refusal.Refusal.{Refusal}
+use Rattle.output_lines.specs.declared.refusal.Refusal.TheVariants.{Arguments, Conf, Input, Command}
+use Rattle.output_lines.specs.declared.refusal.ConfRefusal.{ConfRefusal}
+use Rattle.output_lines.specs.declared.refusal.ConfRefusal.TheVariants as conf
+use Rattle.output_lines.specs.declared.refusal.InputRefusal.{InputRefusal}
+use Rattle.output_lines.specs.declared.refusal.InputRefusal.TheVariants.{TooLong, Message}
 use Rattle.msg_head.specs.declared.error.Side.{Side}
 use Rattle.msg_head.specs.declared.error.Side.TheVariants.{Header, Trailer}
 use Rattle.msg_head.specs.declared.limits.TheConstants.{MAX_HEAD_BYTES, MAX_HEAD_LINES}
@@ -23,8 +23,8 @@ use Rattle.msg_body.specs.declared.error.MessageError.{MessageError}
 use Rattle.msg_body.specs.declared.error.MessageError.TheVariants as message
 use Rattle.msg_body.specs.declared.error.MessageFault.{MessageFault}
 use Rattle.msg_body.specs.declared.error.MessageFault.TheVariants.{Refused, Truncated, Trailing}
-use Rattle.hms.specs.declared.refusal.CommandRefusal.{CommandRefusal}
-use Rattle.hms.specs.declared.refusal.CommandRefusal.TheVariants.{Syntax, ItemKind, Ids, Lacks}
+use Rattle.output_lines.specs.declared.refusal.CommandRefusal.{CommandRefusal}
+use Rattle.output_lines.specs.declared.refusal.CommandRefusal.TheVariants.{Syntax, ItemKind, Ids, Lacks}
 
 -- a path, after a space, where there is one
 abbrev pub path_text : Option (List ℕ) → List ℕ
