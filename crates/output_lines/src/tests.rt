@@ -11,175 +11,115 @@ use std::process::Abort;
 use std::test::Fail;
 use verdicts::{Place, Rule, Verdict};
 
-// A refusal, the status that it has to give, and its line.
-#[derive(Drop)]
-struct Case<'a> {
-    refusal: Refusal,
+// The refusal gives the status, and its line is `refused `, the cause and LF.
+fn assert_refusal(
+    rt: &(impl Abort + AllocGlobal),
+    refusal: &Refusal,
     status: Status,
-    line: &'a [u8],
-}
-
-fn assert_cases(rt: &(impl Abort + AllocGlobal), cases: &[Case<'_>]) -> Result<(), Fail> {
-    for case in cases {
-        let line = case.refusal.line(rt.alloc())?;
-        assert_eq!(rt; line.bytes(), case.line);
-        assert_eq!(rt; case.refusal.status(), case.status, "at {:?}", case.line);
-    }
+    cause: &str,
+) -> Result<(), Fail> {
+    let alloc = rt.alloc();
+    let line = format!(in alloc; "refused {cause}\n")?;
+    assert_eq!(rt; refusal.line(alloc)?.bytes(), line.as_bytes());
+    assert_eq!(rt; refusal.status(), status, "at {cause}");
     Ok(())
 }
 
-fn message<'a>(error: MessageError, status: Status, line: &'a [u8]) -> Case<'a> {
-    fault(MessageFault::Refused(error), status, line)
-}
-
-fn fault<'a>(fault: MessageFault, status: Status, line: &'a [u8]) -> Case<'a> {
-    Case {
-        refusal: Refusal::Input(InputRefusal::Message(fault)),
-        status,
-        line,
-    }
+// The same of an input that isn't one whole message.
+fn assert_fault(
+    rt: &(impl Abort + AllocGlobal),
+    fault: MessageFault,
+    status: Status,
+    cause: &str,
+) -> Result<(), Fail> {
+    let refusal = Refusal::Input(InputRefusal::Message(fault));
+    assert_refusal(rt, &refusal, status, cause)
 }
 
 #[test]
 fn refusals_of_an_input(rt: HostRuntime) -> Result<(), Fail> {
     let bad = Status::BadInput;
     let limit = Status::LimitPassed;
-    let cases = [
-        Case {
-            refusal: Refusal::Input(InputRefusal::TooLong),
-            status: limit,
-            line: b"refused input bytes 16777216\n",
-        },
-        fault(
-            MessageFault::Truncated(0),
-            bad,
-            b"refused input truncated 0\n",
-        ),
-        message(
-            MessageError::TooLong(Side::Header),
+    let longest = Refusal::Input(InputRefusal::TooLong);
+    assert_refusal(&rt, &longest, limit, "input bytes 16777216")?;
+    let cut = MessageFault::Truncated(0);
+    assert_fault(&rt, cut, bad, "input truncated 0")?;
+    let head = Side::Header;
+    let trailer = Side::Trailer;
+    let causes = [
+        (MessageError::TooLong(head), limit, "head-bytes 65536"),
+        (MessageError::TooLong(trailer), limit, "trailer-bytes 65536"),
+        (MessageError::NakedEnd(20), bad, "naked-end 20"),
+        (MessageError::BadStart, bad, "start-line"),
+        (MessageError::TooManyLines(head), limit, "head-lines 256"),
+        (
+            MessageError::TooManyLines(trailer),
             limit,
-            b"refused input head-bytes 65536\n",
+            "trailer-lines 256",
         ),
-        message(
-            MessageError::TooLong(Side::Trailer),
-            limit,
-            b"refused input trailer-bytes 65536\n",
-        ),
-        message(
-            MessageError::NakedEnd(20),
-            bad,
-            b"refused input naked-end 20\n",
-        ),
-        message(MessageError::BadStart, bad, b"refused input start-line\n"),
-        message(
-            MessageError::TooManyLines(Side::Header),
-            limit,
-            b"refused input head-lines 256\n",
-        ),
-        message(
-            MessageError::TooManyLines(Side::Trailer),
-            limit,
-            b"refused input trailer-lines 256\n",
-        ),
-        message(
-            MessageError::BadLine(Side::Header, 1),
-            bad,
-            b"refused input head-line 1\n",
-        ),
-        message(
-            MessageError::BadLine(Side::Trailer, 12),
-            bad,
-            b"refused input trailer-line 12\n",
-        ),
+        (MessageError::BadLine(head, 1), bad, "head-line 1"),
+        (MessageError::BadLine(trailer, 12), bad, "trailer-line 12"),
     ];
-    assert_cases(&rt, &cases)
-}
-
-fn conf<'a>(refusal: ConfRefusal, status: Status, line: &'a [u8]) -> Case<'a> {
-    Case {
-        refusal: Refusal::Conf(refusal),
-        status,
-        line,
+    for (error, status, cause) in &causes {
+        let line = format!(in rt.alloc(); "input {cause}")?;
+        assert_fault(&rt, MessageFault::Refused(*error), *status, &line)?;
     }
+    Ok(())
 }
 
 #[test]
 fn refusals_of_arguments_and_of_a_configuration(rt: HostRuntime) -> Result<(), Fail> {
+    assert_refusal(&rt, &Refusal::Arguments, Status::BadArguments, "words")?;
     let path = Text::from_bytes(rt.alloc(), b"policy.max-age")?;
+    let range = ConfRefusal::Fault(ConfFault::OutOfRange(path));
+    let syntax = ConfRefusal::Fault(ConfFault::NotToml);
+    let missing = Refusal::Conf(ConfRefusal::Missing);
+    let long = Refusal::Conf(ConfRefusal::TooLong);
     let cases = [
-        Case {
-            refusal: Refusal::Arguments,
-            status: Status::BadArguments,
-            line: b"refused words\n",
-        },
-        conf(
-            ConfRefusal::Missing,
-            Status::FileMissing,
-            b"refused conf missing\n",
-        ),
-        conf(
-            ConfRefusal::TooLong,
-            Status::LimitPassed,
-            b"refused conf bytes 65536\n",
-        ),
-        conf(
-            ConfRefusal::Fault(ConfFault::NotToml),
+        (missing, Status::FileMissing, "conf missing"),
+        (long, Status::LimitPassed, "conf bytes 65536"),
+        (Refusal::Conf(syntax), Status::BadConf, "conf 2"),
+        (
+            Refusal::Conf(range),
             Status::BadConf,
-            b"refused conf 2\n",
-        ),
-        conf(
-            ConfRefusal::Fault(ConfFault::OutOfRange(path)),
-            Status::BadConf,
-            b"refused conf 5 policy.max-age\n",
+            "conf 5 policy.max-age",
         ),
     ];
-    assert_cases(&rt, &cases)
-}
-
-fn command<'a>(refusal: CommandRefusal, line: &'a [u8]) -> Case<'a> {
-    Case {
-        refusal: Refusal::Command(refusal),
-        status: Status::BadInput,
-        line,
+    for (refusal, status, cause) in &cases {
+        assert_refusal(&rt, refusal, *status, *cause)?;
     }
+    Ok(())
 }
 
 #[test]
 fn refusals_of_a_command(rt: HostRuntime) -> Result<(), Fail> {
     let alloc = rt.alloc();
     let id = Text::from_bytes(alloc, br#""example-dict";key="e""#)?;
-    let key = Text::from_bytes(alloc, b"expires")?;
+    let lack = CommandRefusal::Lacks(Lack::Absent, id);
+    let key = CommandRefusal::Ids(IdFault::BadParameter(Text::from_bytes(alloc, b"expires")?));
+    let bad = CommandRefusal::Ids(IdFault::BadComponent(0, BadReason::NotAString));
+    let repeated = CommandRefusal::Ids(IdFault::Repeated(1));
+    let many = CommandRefusal::Ids(IdFault::TooMany);
     let cases = [
-        command(
-            CommandRefusal::Syntax(1),
-            b"refused command params-syntax 1\n",
+        (
+            Refusal::Command(CommandRefusal::Syntax(1)),
+            "params-syntax 1",
         ),
-        command(
-            CommandRefusal::ItemKind(5),
-            b"refused command params-kind 5\n",
+        (
+            Refusal::Command(CommandRefusal::ItemKind(5)),
+            "params-kind 5",
         ),
-        command(
-            CommandRefusal::Ids(IdFault::TooMany),
-            b"refused command components-many\n",
-        ),
-        command(
-            CommandRefusal::Ids(IdFault::BadComponent(0, BadReason::NotAString)),
-            b"refused command component-bad 0 not-a-string\n",
-        ),
-        command(
-            CommandRefusal::Ids(IdFault::Repeated(1)),
-            b"refused command component-repeated 1\n",
-        ),
-        command(
-            CommandRefusal::Ids(IdFault::BadParameter(key)),
-            b"refused command parameter-bad expires\n",
-        ),
-        command(
-            CommandRefusal::Lacks(Lack::Absent, id),
-            b"refused command absent \"example-dict\";key=\"e\"\n",
-        ),
+        (Refusal::Command(many), "components-many"),
+        (Refusal::Command(bad), "component-bad 0 not-a-string"),
+        (Refusal::Command(repeated), "component-repeated 1"),
+        (Refusal::Command(key), "parameter-bad expires"),
+        (Refusal::Command(lack), r#"absent "example-dict";key="e""#),
     ];
-    assert_cases(&rt, &cases)
+    for (refusal, cause) in &cases {
+        let line = format!(in alloc; "command {cause}")?;
+        assert_refusal(&rt, refusal, Status::BadInput, &line)?;
+    }
+    Ok(())
 }
 
 // The label `sig-b25` has this verdict.
