@@ -26,7 +26,13 @@ use Rattle.msg_head.specs.Starts.{start_text}
 use Rattle.msg_head.specs.declared.error.Side.{Side}
 use Rattle.msg_head.specs.declared.error.Side.TheVariants.{Header, Trailer}
 use Rattle.msg_head.specs.Heads.{head_text}
-use Rattle.msg_body.specs.Messages.{Message, body_text, is_request}
+use Rattle.msg_head.specs.Trailers.{IsTrailer, trailer_text}
+use Rattle.chunks.specs.Chunks.{Chunks, chunks_text}
+use Rattle.framing.specs.declared.kind.Framing.{Framing}
+use Rattle.framing.specs.declared.kind.Framing.TheVariants as framing
+use Rattle.framing.specs.Framings.{is_request, content_length_of}
+use Rattle.msg_body.specs.Bodies.{Body, plain, chunked, IsBodyOf, body_text, trailers_in}
+use Rattle.msg_body.specs.Messages.{Message}
 use Rattle.line_values.specs.Names.{has_name}
 use Rattle.msg_body.specs.Views.{lines_on}
 use Rattle.line_values.specs.Values.{is_end, without_first_blanks, without_blanks, has_bytes, texts_of, value, values, combined_value, is_there}
@@ -191,13 +197,30 @@ lines_raw (line ∷ lines) are bytes =
 message_raw : (message : Message) → IsSpelled message → list_all has_raw_bytes message.head.lines ≡ true
 message_raw message is =
     let head = message.head in
-    let text = all_parts is_byte (head_text head) (body_text message) (ap (list_all is_byte) (sym is.spells.text) ∙ is.are_bytes) in
+    let text = all_parts is_byte (head_text head) (body_text message.body) (ap (list_all is_byte) (sym is.spells.text) ∙ is.are_bytes) in
     let after_start = all_parts is_byte (start_text head.start) (flat_map line_text head.lines ++ codes "\r\n") text.0 in
     lines_raw head.lines is.spells.is.head.lines (all_parts is_byte (flat_map line_text head.lines) (codes "\r\n") after_start.1).0
 
+is_trailer : (framing : Framing) (count : ℕ) (chunks : Chunks) (trailers : List FieldLine) → IsBodyOf framing count (chunked chunks trailers) → IsTrailer trailers
+is_trailer framing.None count chunks trailers is = absurd is
+is_trailer framing.Length count chunks trailers is = absurd is
+is_trailer framing.Chunked count chunks trailers is = is.1
+is_trailer framing.ToEnd count chunks trailers is = absurd is
+
+body_raw : (framing : Framing) (count : ℕ) (body : Body) → IsBodyOf framing count body → list_all is_byte (body_text body) ≡ true → list_all has_raw_bytes (trailers_in body) ≡ true
+body_raw framing count (plain content) is bytes = refl
+body_raw framing count (chunked chunks trailers) is bytes =
+    let both = all_parts is_byte (chunks_text chunks) (trailer_text trailers) bytes in
+    lines_raw trailers (is_trailer framing count chunks trailers is).each (all_parts is_byte (flat_map line_text trailers) (codes "\r\n") both.1).0
+
+trailers_raw : (message : Message) → IsSpelled message → list_all has_raw_bytes (trailers_in message.body) ≡ true
+trailers_raw message is =
+    let text = all_parts is_byte (head_text message.head) (body_text message.body) (ap (list_all is_byte) (sym is.spells.text) ∙ is.are_bytes) in
+    body_raw message.framing (content_length_of message.head) message.body is.spells.is.body text.1
+
 side_raw : (side : Side) (message : Message) → IsSpelled message → list_all has_raw_bytes (lines_on side message) ≡ true
 side_raw Header message is = message_raw message is
-side_raw Trailer message is = refl
+side_raw Trailer message is = trailers_raw message is
 
 name_clean : (named : Bool) (context : MessageContext) (id : ComponentId) (message : Message) (value : List ℕ) → IsSpelled message → NameRow named context id message (Ok value) → IsClean value
 name_clean true context id message value is row =

@@ -38,11 +38,12 @@ LacksNoValue =
 abbrev pub is_value_byte : ℕ → Bool
 is_value_byte c = is_ascii c && not (is_one_of (codes "\0\r\n") c)
 
--- some bytes spell the message
+-- some bytes spell the message, which answers a HEAD request or doesn't
 pub record IsSpelled (message : Message) : Type 0 where
+  pub to_head : Bool
   pub text : List ℕ
   pub are_bytes : IsTrue (list_all is_byte text)
-  pub spells : Spells message text
+  pub spells : Spells to_head message text
 
 -- what the values are drawn from are messages, which bytes spell
 pub record HasMessages (context : MessageContext) : Type 0 where

@@ -12,7 +12,8 @@ use Rattle.sfv_read.specs.Reads.{ReadsItem, ReadsList, ReadsDict}
 use Rattle.msg_head.specs.declared.error.Side.{Side}
 use Rattle.msg_head.specs.declared.error.Side.TheVariants.{Header, Trailer}
 use Rattle.msg_head.specs.Lines.{FieldLine}
-use Rattle.msg_body.specs.Messages.{Message, is_request}
+use Rattle.framing.specs.Framings.{is_request}
+use Rattle.msg_body.specs.Messages.{Message}
 use Rattle.msg_body.specs.Views.{lines_on}
 use Rattle.line_values.specs.Values.{values, combined_value, is_there}
 use Rattle.component_ids.specs.Table.{is_field_name, has_param}

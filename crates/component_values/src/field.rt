@@ -1,7 +1,7 @@
 //! The value of a component, or how it lacks one.
 
 ghost use Rattle.std.specs.Prelude.{◌≡◌, Option, option_map, Ok, Err, MatchResult, codes};
-ghost use Rattle.msg_body.specs.Messages.{is_request};
+ghost use Rattle.framing.specs.Framings.{is_request};
 ghost use Rattle.msg_body.specs.Views.{message_of};
 ghost use Rattle.component_ids.specs.Table.{has_param};
 ghost use Rattle.component_ids.specs.Types.{kind_in};
@@ -14,7 +14,8 @@ use crate::lines::{NamedLines, Value, byte_sequences, is_ascii, is_there};
 use crate::strict::{member_value, strict_value};
 use component_ids::{ComponentId, FieldKind, has_param, is_field_name};
 use derived_values::{Lack, NoValue, combined_text, derived_value};
-use msg_body::{MessageView, is_request};
+use framing::is_request;
+use msg_body::MessageView;
 use msg_head::Side;
 use sfv_text::{BareItem, Params};
 use std::alloc::Global;

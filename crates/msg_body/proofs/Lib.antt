@@ -1,4 +1,8 @@
-pub mod AnswerLaws
+mod Decided
 mod Drops
-mod Judged
-pub mod MessageLaws
+mod Joins
+mod Lower
+mod OneBodies
+pub mod OneMessages
+mod Outcomes
+mod Readings

@@ -1,36 +1,85 @@
--- Why bytes are refused as a message of the expected kind. The faults of its head come first, in
--- their order; where the head is whole there is none.
-use Rattle.std.specs.Prelude.{◌⊎◌, ℕ, IsTrue, IsFalse, List}
-use Rattle.msg_head.specs.declared.error.HeadError.TheVariants as head
-use Rattle.msg_head.specs.Heads.{Head, SpellsHead}
+-- Why bytes are refused as a message of the expected kind, in the order in which it is judged: the
+-- head, the kind of its start line, what says how its content ends, the content, and the trailer
+-- section. Each is judged where those before it are there and right.
+use Rattle.std.specs.Prelude.{◌≡◌, ◌⊎◌, ℕ, ◌+◌, ◌<◌, ◌≤◌, Bool, IsTrue, IsFalse, List, length, drop}
+use Rattle.msg_head.specs.declared.error.HeadError.{HeadError}
+use Rattle.msg_head.specs.Heads.{Head, SpellsHead, IsUnfinished}
 use Rattle.msg_head.specs.Causes.{IsHeadError}
-use Rattle.msg_body.specs.declared.framing.Expect.{Expect}
+use Rattle.msg_head.specs.Trailers.{IsTrailerUnfinished}
+use Rattle.msg_head.specs.TrailerCauses.{IsTrailerError}
+use Rattle.chunks.specs.declared.limits.TheConstants.{MAX_CONTENT_BYTES}
+use Rattle.chunks.specs.declared.error.ChunkError.{ChunkError}
+use Rattle.chunks.specs.Chunks.{Chunks, SpellsChunks}
+use Rattle.chunks.specs.Causes.{IsChunksError, AreChunksUnfinished}
+use Rattle.framing.specs.declared.error.FramingError.{FramingError}
+use Rattle.framing.specs.declared.kind.Framing.{Framing}
+use Rattle.framing.specs.declared.kind.Framing.TheVariants.{None, Length, Chunked, ToEnd}
+use Rattle.framing.specs.Framings.{IsFramable, framing_of, content_length_of}
+use Rattle.framing.specs.Causes.{IsFramingError}
+use Rattle.msg_body.specs.declared.expect.Expect.{Expect}
 use Rattle.msg_body.specs.declared.error.MessageError.{MessageError}
-use Rattle.msg_body.specs.declared.error.MessageError.TheVariants.{Memory, TooLong, NakedEnd, BadStart, TooManyLines, BadLine, NotYet}
-use Rattle.msg_body.specs.Messages.{is_expected, has_no_content}
+use Rattle.msg_body.specs.declared.error.MessageError.TheVariants.{BadStart, ContentTooLong}
+use Rattle.msg_body.specs.Messages.{is_expected}
+use Rattle.msg_body.specs.Errors.{error_of, framing_error, chunk_error, trailer_error}
 
--- the first bytes are a head of which this holds
-pub record HasHead (Holds : Head → Type 0) (bytes : List ℕ) : Type 0 where
-  pub head : Head
+-- the first bytes are such a part, and of it, its length and the bytes after it this holds
+pub record After {V : Type 0} (IsPart : V → ℕ → List ℕ → Type 0)
+    (Holds : V → ℕ → List ℕ → Type 0) (bytes : List ℕ) : Type 0 where
+  pub part : V
   pub used : ℕ
-  pub spells : SpellsHead head used bytes
-  pub holds : Holds head
+  pub is : IsPart part used bytes
+  pub holds : Holds part used (drop used bytes)
 
--- the message is of the other kind
-abbrev pub IsOfOtherKind : Expect → Head → Type 0
-IsOfOtherKind expect head = IsFalse (is_expected expect head.start)
+-- ---- the body, which begins at the offset
 
--- the message is of the expected kind, and one that isn't read yet
-abbrev pub IsUnread : Expect → Head → Type 0
-IsUnread expect head = IsTrue (is_expected expect head.start) × IsFalse (has_no_content head)
+-- why the bytes after a head are refused where its content comes in chunks
+abbrev pub IsChunkedError : ℕ → MessageError → List ℕ → Type 0
+IsChunkedError start fault bytes =
+    ((cause : ChunkError) × IsChunksError bytes cause × (fault ≡ chunk_error start cause))
+    ⊎ After SpellsChunks
+    (λ chunks used rest. (cause : HeadError) × IsTrailerError rest cause
+    × (fault ≡ trailer_error (start + used) cause)) bytes
 
--- the fact for which the fault is answered; being out of memory is none of them
-abbrev pub IsMessageError : Expect → List ℕ → MessageError → Type 0
-IsMessageError expect bytes (TooLong side) = IsHeadError bytes (head.TooLong side)
-IsMessageError expect bytes (NakedEnd offset) = IsHeadError bytes (head.NakedEnd offset)
-IsMessageError expect bytes BadStart =
-    IsHeadError bytes head.BadStart ⊎ HasHead (IsOfOtherKind expect) bytes
-IsMessageError expect bytes (TooManyLines side) = IsHeadError bytes (head.TooManyLines side)
-IsMessageError expect bytes (BadLine side index) = IsHeadError bytes (head.BadLine side index)
-IsMessageError expect bytes NotYet = HasHead (IsUnread expect) bytes
-IsMessageError expect bytes Memory = ⊥
+-- why they are refused, by the framing and the count that a Content-Length line has
+abbrev pub IsBodyError : Framing → ℕ → ℕ → MessageError → List ℕ → Type 0
+IsBodyError None count start fault bytes = ⊥
+IsBodyError Length count start fault bytes =
+    (MAX_CONTENT_BYTES < count) × (fault ≡ ContentTooLong)
+IsBodyError ToEnd count start fault bytes =
+    (MAX_CONTENT_BYTES < length bytes) × (fault ≡ ContentTooLong)
+IsBodyError Chunked count start fault bytes = IsChunkedError start fault bytes
+
+-- bytes of the content, or of what ends it, are missing after a head, and none is wrong
+abbrev pub IsBodyUnfinished : Framing → ℕ → List ℕ → Type 0
+IsBodyUnfinished None count bytes = ⊥
+IsBodyUnfinished Length count bytes = (count ≤ MAX_CONTENT_BYTES) × (length bytes < count)
+IsBodyUnfinished ToEnd count bytes = ⊥
+IsBodyUnfinished Chunked count bytes =
+    AreChunksUnfinished bytes
+    ⊎ After SpellsChunks (λ chunks used rest. IsTrailerUnfinished rest) bytes
+
+-- ---- the message
+
+-- why a message with this head is refused, by the bytes after the head, which begin at the offset
+abbrev pub IsErrorAfterHead : Expect → Bool → MessageError → Head → ℕ → List ℕ → Type 0
+IsErrorAfterHead expect to_head fault head start bytes =
+    (IsFalse (is_expected expect head.start) × (fault ≡ BadStart))
+    ⊎ (IsTrue (is_expected expect head.start)
+    × (((cause : FramingError) × IsFramingError head cause × (fault ≡ framing_error cause))
+    ⊎ (IsFramable head
+    × IsBodyError (framing_of to_head head) (content_length_of head) start fault bytes)))
+
+-- the fact for which the fault is answered; being out of memory has none
+abbrev pub IsMessageError : Expect → Bool → List ℕ → MessageError → Type 0
+IsMessageError expect to_head bytes fault =
+    ((cause : HeadError) × IsHeadError bytes cause × (fault ≡ error_of cause))
+    ⊎ After SpellsHead (IsErrorAfterHead expect to_head fault) bytes
+
+-- No fault stands in the bytes, and more are missing: the end of the head may still come, or the
+-- head is whole, of the expected kind and framed, and its body's end may.
+abbrev pub IsMessageUnfinished : Expect → Bool → List ℕ → Type 0
+IsMessageUnfinished expect to_head bytes =
+    IsUnfinished bytes
+    ⊎ After SpellsHead
+    (λ head start rest. IsTrue (is_expected expect head.start) × IsFramable head
+    × IsBodyUnfinished (framing_of to_head head) (content_length_of head) rest) bytes

@@ -1,45 +1,53 @@
--- Laws of messages.
-use Rattle.std.specs.Prelude.{◌≡◌, ℕ, ◌<◌, List, length, take, IsTrue}
-use Rattle.msg_head.specs.Heads.{IsUnfinished}
-use Rattle.msg_body.specs.declared.framing.Expect.{Expect}
+-- Laws of messages, for one value of `to_head`.
+use Rattle.std.specs.Prelude.{◌≡◌, ℕ, ◌<◌, Bool, List, length, take, IsTrue}
+use Rattle.framing.specs.declared.kind.Framing.TheVariants.{ToEnd}
+use Rattle.msg_body.specs.declared.expect.Expect.{Expect}
 use Rattle.msg_body.specs.declared.error.MessageError.{MessageError}
-use Rattle.msg_body.specs.Causes.{IsMessageError}
+use Rattle.msg_body.specs.Causes.{IsMessageError, IsMessageUnfinished}
 use Rattle.msg_body.specs.Messages.{Message, Spells, SpellsMessage, is_expected}
 
 -- Bytes spell at most one message.
 abbrev pub OneMessage : Type 0
 OneMessage =
-    (bytes : List ℕ) (one other : Message) → Spells one bytes → Spells other bytes → one ≡ other
+    (to_head : Bool) (bytes : List ℕ) (one other : Message) →
+    Spells to_head one bytes → Spells to_head other bytes → one ≡ other
 
--- No proper prefix of a message's bytes spells a message, so no longer text that begins with a
--- message's bytes does.
+-- Where a proper prefix of a message's bytes spells a message too, the content of both goes to the
+-- end. So of another message no proper prefix and no longer text that begins with it spells one.
 abbrev pub NoMessageInPrefix : Type 0
 NoMessageInPrefix =
-    (bytes : List ℕ) (one other : Message) (n : ℕ) →
-    Spells one bytes → n < length bytes → ¬ Spells other (take n bytes)
+    (to_head : Bool) (bytes : List ℕ) (one other : Message) (n : ℕ) →
+    Spells to_head one bytes → n < length bytes → Spells to_head other (take n bytes) →
+    (one.framing ≡ ToEnd) × (other.framing ≡ ToEnd)
 
 -- Bytes begin with at most one message, of one length.
 abbrev pub OneMessageAt : Type 0
 OneMessageAt =
-    (bytes : List ℕ) (one other : Message) (n m : ℕ) →
-    SpellsMessage one n bytes → SpellsMessage other m bytes → (one ≡ other) × (n ≡ m)
+    (to_head : Bool) (bytes : List ℕ) (one other : Message) (n m : ℕ) →
+    SpellsMessage to_head one n bytes → SpellsMessage to_head other m bytes →
+    (one ≡ other) × (n ≡ m)
 
 -- Bytes have at most one fault.
 abbrev pub OneMessageFault : Type 0
 OneMessageFault =
-    (expect : Expect) (bytes : List ℕ) (fault other : MessageError) →
-    IsMessageError expect bytes fault → IsMessageError expect bytes other → fault ≡ other
+    (expect : Expect) (to_head : Bool) (bytes : List ℕ) (fault other : MessageError) →
+    IsMessageError expect to_head bytes fault → IsMessageError expect to_head bytes other →
+    fault ≡ other
 
 -- Bytes that begin with a message of the expected kind have no fault.
 abbrev pub NoFaultAtMessage : Type 0
 NoFaultAtMessage =
-    (expect : Expect) (bytes : List ℕ) (message : Message) (used : ℕ) (fault : MessageError) →
-    SpellsMessage message used bytes → IsTrue (is_expected expect message.head.start)
-    → ¬ IsMessageError expect bytes fault
+    (expect : Expect) (to_head : Bool) (bytes : List ℕ) (message : Message) (used : ℕ)
+    (fault : MessageError) →
+    SpellsMessage to_head message used bytes → IsTrue (is_expected expect message.head.start) →
+    ¬ IsMessageError expect to_head bytes fault
 
--- Bytes to which the end of a head may still come have no fault, and begin with no message.
+-- Bytes to which the end of a message may still come have no fault, and begin with no message of
+-- the expected kind.
 abbrev pub NoMessageAnswerYet : Type 0
 NoMessageAnswerYet =
-    (bytes : List ℕ) → IsUnfinished bytes →
-    ((expect : Expect) (fault : MessageError) → ¬ IsMessageError expect bytes fault)
-    × ((message : Message) (used : ℕ) → ¬ SpellsMessage message used bytes)
+    (expect : Expect) (to_head : Bool) (bytes : List ℕ) →
+    IsMessageUnfinished expect to_head bytes →
+    ((fault : MessageError) → ¬ IsMessageError expect to_head bytes fault)
+    × ((message : Message) (used : ℕ) → IsTrue (is_expected expect message.head.start) →
+    ¬ SpellsMessage to_head message used bytes)

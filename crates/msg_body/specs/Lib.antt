@@ -1,7 +1,10 @@
+pub mod Bodies
 pub mod Messages
 pub mod Views
+pub mod Content
 pub mod Errors
 pub mod Causes
 pub mod Outcome
 pub mod Laws
+pub mod tools
 pub use Rattle.msg_head.specs.Heads

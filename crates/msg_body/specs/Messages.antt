@@ -1,24 +1,21 @@
 -- Messages: RFC 9112 sections 2.1 and 6.
-use Rattle.std.specs.Prelude.{◌≡◌, ℕ, ◌≤◌, Bool, true, false, IsTrue, ◌&&◌, ◌||◌, not, List, [], ◌++◌, length, take, codes}
-use Rattle.std.specs.List.{list_any}
-use Rattle.msg_head.specs.Lines.{FieldLine}
-use Rattle.msg_head.specs.Starts.{StartLine, request, status}
+use Rattle.std.specs.Prelude.{◌≡◌, ℕ, ◌≤◌, Bool, true, not, List, ◌++◌, length, take}
+use Rattle.msg_head.specs.Starts.{StartLine}
 use Rattle.msg_head.specs.Heads.{Head, IsHead, head_text}
-use Rattle.msg_body.specs.declared.framing.Framing.{Framing}
-use Rattle.msg_body.specs.declared.framing.Framing.TheVariants.{None, Length, Chunked, ToEnd}
-use Rattle.msg_body.specs.declared.framing.Expect.{Expect}
-use Rattle.msg_body.specs.declared.framing.Expect.TheVariants.{Request, Response, Any}
-use Rattle.line_values.specs.Names.{has_name}
+use Rattle.chunks.specs.declared.limits.TheConstants.{MAX_CONTENT_BYTES}
+use Rattle.framing.specs.declared.kind.Framing.{Framing}
+use Rattle.framing.specs.declared.kind.Framing.TheVariants.{ToEnd}
+use Rattle.framing.specs.Framings.{IsFramable, is_request, framing_of, content_length_of}
+use Rattle.msg_body.specs.declared.expect.Expect.{Expect}
+use Rattle.msg_body.specs.declared.expect.Expect.TheVariants.{Request, Response, Any}
+use Rattle.msg_body.specs.declared.limits.TheConstants.{MAX_MESSAGE_BYTES}
+use Rattle.msg_body.specs.Bodies.{Body, IsBodyOf, body_text, content_in}
 
--- a head, and what says where the content ends
+-- a head, what says where the content ends, and what comes after the head
 pub record Message : Type 0 where
   pub head : Head
   pub framing : Framing
-
--- the start line is a request line
-abbrev pub is_request : StartLine → Bool
-is_request (request line) = true
-is_request (status line) = false
+  pub body : Body
 
 -- the start line is of the kind that is expected
 abbrev pub is_expected : Expect → StartLine → Bool
@@ -26,37 +23,26 @@ is_expected Request start = is_request start
 is_expected Response start = not (is_request start)
 is_expected Any start = true
 
--- the line says how content ends (RFC 9112 sections 6.1 and 6.2)
-abbrev pub is_framing_line : FieldLine → Bool
-is_framing_line line =
-    has_name (codes "content-length") line || has_name (codes "transfer-encoding") line
+abbrev pub message_text : Message → List ℕ
+message_text message = head_text message.head ++ body_text message.body
 
--- a request that no line frames has no content (RFC 9112 section 6.3)
-abbrev pub has_no_content : Head → Bool
-has_no_content head = is_request head.start && not (list_any is_framing_line head.lines)
-
--- the head's message is so framed; the other framings aren't read yet
-abbrev pub IsFramedBy : Framing → Head → Type 0
-IsFramedBy None head = IsTrue (has_no_content head)
-IsFramedBy Length head = ⊥
-IsFramedBy Chunked head = ⊥
-IsFramedBy ToEnd head = ⊥
-
--- what comes after the head: nothing, while no content is read
-abbrev pub body_text : Message → List ℕ
-body_text message = []
-
--- the parts are those that a message has
-pub record IsMessage (message : Message) : Type 0 where
+-- The parts are those that a message has, within the limits that are set here. A response answers a
+-- HEAD request where `to_head` says so, and has no content then.
+pub record IsMessage (to_head : Bool) (message : Message) : Type 0 where
   pub head : IsHead message.head
-  pub framing : IsFramedBy message.framing message.head
+  pub framable : IsFramable message.head
+  pub framing : message.framing ≡ framing_of to_head message.head
+  pub body : IsBodyOf message.framing (content_length_of message.head) message.body
+  pub content : length (content_in message.body) ≤ MAX_CONTENT_BYTES
+  pub short : length (message_text message) ≤ MAX_MESSAGE_BYTES
 
 -- the bytes are a message's text, and nothing more
-pub record Spells (message : Message) (bytes : List ℕ) : Type 0 where
-  pub is : IsMessage message
-  pub text : bytes ≡ head_text message.head ++ body_text message
+pub record Spells (to_head : Bool) (message : Message) (bytes : List ℕ) : Type 0 where
+  pub is : IsMessage to_head message
+  pub text : bytes ≡ message_text message
 
--- the first bytes, so many, are a message's text
-pub record SpellsMessage (message : Message) (used : ℕ) (bytes : List ℕ) : Type 0 where
+-- The first bytes, so many, are a message's text. Content that goes to the end takes all bytes.
+pub record SpellsMessage (to_head : Bool) (message : Message) (used : ℕ) (bytes : List ℕ) : Type 0 where
   pub within : used ≤ length bytes
-  pub spells : Spells message (take used bytes)
+  pub spells : Spells to_head message (take used bytes)
+  pub all : message.framing ≡ ToEnd → used ≡ length bytes

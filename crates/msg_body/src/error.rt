@@ -1,11 +1,14 @@
 //! Why a message isn't read.
 
+use chunks::ChunkError;
+use framing::FramingError;
 use msg_head::{HeadError, Side};
 use std::error::Error;
 use std::fmt;
 
-/// Why no message was read. Where several hold, the first in this order is answered, and a start
-/// line of the other kind than expected comes after all faults of the head.
+/// Why no message was read. The faults of the head are judged first, in this order, then a start
+/// line of the other kind than expected, then what says how the content ends, then the content from
+/// its first byte on, and last the trailer section, as the head is.
 #[derive(Clone, Copy, Debug, PartialEq, Eq)]
 pub enum MessageError {
     /// No memory was found for the offsets of the field lines.
@@ -21,9 +24,19 @@ pub enum MessageError {
     TooManyLines(Side),
     /// The line with this index on its side is no field line. Those before it are.
     BadLine(Side, usize),
-    /// The head is whole, and its message is a response or may have content. Such messages aren't
-    /// read yet.
-    NotYet,
+    /// There are a `Content-Length` and a `Transfer-Encoding` line (RFC 9112 section 6.1).
+    FramingConflict,
+    /// There are several `Content-Length` lines, or the value of the one isn't 1 to 15 digits (RFC
+    /// 9112 section 6.2).
+    BadLength,
+    /// There are several `Transfer-Encoding` lines, or one of another coding than `chunked`, or of
+    /// another version than HTTP/1.1 (RFC 9112 sections 6.1 and 7).
+    CodingRefused,
+    /// The bytes up to and with the one at this offset, counted from the message's first byte,
+    /// begin no chunks (RFC 9112 section 7.1).
+    BadChunk(usize),
+    /// The content has more bytes than it may have.
+    ContentTooLong,
 }
 
 /// Why a text isn't one whole message.
@@ -31,7 +44,7 @@ pub enum MessageError {
 pub enum MessageFault {
     /// It begins with no message. The error is never out of memory.
     Refused(MessageError),
-    /// No end of a head is in it, and there is room for more bytes. It has this many.
+    /// Bytes of a message are missing, and nothing in it is wrong. It has this many bytes.
     Truncated(usize),
     /// It begins with a message, and further bytes come after it, from this offset on.
     Trailing(usize),
@@ -46,7 +59,11 @@ impl fmt::Display for MessageError {
             MessageError::BadStart => HeadError::BadStart.fmt(f),
             MessageError::TooManyLines(side) => HeadError::TooManyLines(side).fmt(f),
             MessageError::BadLine(side, index) => HeadError::BadLine(side, index).fmt(f),
-            MessageError::NotYet => f.write_str("messages of this form are not read yet"),
+            MessageError::FramingConflict => FramingError::Conflict.fmt(f),
+            MessageError::BadLength => FramingError::BadLength.fmt(f),
+            MessageError::CodingRefused => FramingError::CodingRefused.fmt(f),
+            MessageError::BadChunk(offset) => ChunkError::Bad(offset).fmt(f),
+            MessageError::ContentTooLong => ChunkError::TooLong.fmt(f),
         }
     }
 }
@@ -83,6 +100,50 @@ impl From<HeadError> for MessageError {
             HeadError::BadStart => Self::BadStart,
             HeadError::TooManyLines(side) => Self::TooManyLines(side),
             HeadError::BadLine(side, index) => Self::BadLine(side, index),
+        }
+    }
+}
+
+impl From<FramingError> for MessageError {
+    ghost use Rattle.std.specs.Prelude.{◌≡◌};
+    ghost use Rattle.msg_body.specs.Errors.{framing_error};
+
+    ghost from_gives = { λ framing error. error ≡ framing_error framing };
+
+    fn from(error: FramingError) -> Self {
+        match error {
+            FramingError::Conflict => Self::FramingConflict,
+            FramingError::BadLength => Self::BadLength,
+            FramingError::CodingRefused => Self::CodingRefused,
+        }
+    }
+}
+
+impl MessageError {
+    ghost use Rattle.std.specs.Prelude.{◌≡◌, ◌+◌, ◌<◌, ◌^◌};
+    ghost use Rattle.msg_body.specs.Errors.{chunk_error, trailer_error};
+    ghost use Rattle.msg_body.specs.tools.Judged.{IsChunkOffset, IsTrailerOffset};
+
+    // The error for this one of the chunks that begin at that offset.
+    pub(crate) fn of_chunks(start: usize, fault: ChunkError) -> MessageError
+        requires { IsChunkOffset start fault }
+        ensures { result ≡ chunk_error start fault }
+    {
+        match fault {
+            ChunkError::Memory => Self::Memory,
+            ChunkError::TooLong => Self::ContentTooLong,
+            ChunkError::Bad(offset) => Self::BadChunk(start + offset),
+        }
+    }
+
+    // The error for this one of the trailer section that begins at that offset.
+    pub(crate) fn of_trailer(start: usize, fault: HeadError) -> MessageError
+        requires { IsTrailerOffset start fault }
+        ensures { result ≡ trailer_error start fault }
+    {
+        match fault {
+            HeadError::NakedEnd(offset) => Self::NakedEnd(start + offset),
+            _ => fault.into(),
         }
     }
 }

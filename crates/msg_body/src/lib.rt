@@ -1,30 +1,33 @@
-//! Messages of HTTP/1.1: a head, and the content that its framing says (RFC 9112 sections 2.1
-//! and 6).
+//! Messages of HTTP/1.1: a head, and the content that its framing says (RFC 9112 sections 2.1, 6
+//! and 7).
 //!
-//! Requests without content are read. A response, or a message with a `Content-Length` or
-//! `Transfer-Encoding` line, is [`MessageError::NotYet`].
+//! Requests and responses are read, their content of a length, in chunks with a trailer section, or
+//! up to the end. The view of a message borrows its bytes, and no content is copied.
 //!
 //! ```text
-//! let bytes = b"GET / HTTP/1.1\r\nHost: example.com\r\n\r\n";
+//! let bytes = b"POST / HTTP/1.1\r\nTransfer-Encoding: chunked\r\n\r\n3\r\nabc\r\n0\r\nA: b\r\n\r\n";
 //! match read_message(alloc, bytes, Expect::Request, false)? {
-//!     MessageRead::Whole(message, used) => { .. } // used is 37
+//!     MessageRead::Whole(message, used) => { .. } // used is 67
 //!     MessageRead::Partial => { .. }              // more bytes are wanted
 //! }
+//! for piece in message.content_pieces() { .. }    // b"abc"
+//! message.line(Side::Trailer, 0)                  // `A`, ` b`
 //! ```
 #![tactic(auto)]
 
+mod body;
+mod content;
 mod error;
-mod framing;
-mod kind;
+mod expect;
 mod laws;
 mod limits;
 mod read;
 mod side_lines;
 mod view;
 
+pub use content::ContentPieces;
 pub use error::{MessageError, MessageFault};
-pub use framing::{Expect, Framing};
-pub use kind::is_request;
+pub use expect::Expect;
 pub use laws::{message_laws, messages_have_one_answer};
 pub use limits::MAX_MESSAGE_BYTES;
 pub use read::{MessageRead, read_message};

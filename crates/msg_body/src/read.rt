@@ -1,18 +1,19 @@
 //! Reads a message.
 
-ghost use Rattle.std.specs.Prelude.{◌≡◌, ◌≢◌, ℕ, ◌≤◌, ◌↔◌, length, Ok, IsTrue};
+ghost use Rattle.std.specs.Prelude.{◌≡◌, ◌≢◌, ℕ, ◌≤◌, length, Ok, IsTrue};
 ghost use Rattle.byte_grammar.specs.Causes.{AnswersWhere};
-ghost use Rattle.msg_head.specs.Heads.{IsUnfinished};
 ghost use Rattle.msg_body.specs.declared.limits.TheConstants.{MAX_MESSAGE_BYTES};
 ghost use Rattle.msg_body.specs.Messages.{Message, SpellsMessage, is_expected};
 ghost use Rattle.msg_body.specs.Views.{IsMessageViewOf};
-ghost use Rattle.msg_body.specs.Causes.{IsMessageError};
-ghost use Rattle.msg_body.specs.Outcome.{IfWholeMessage, IsMessageUnlessMemory};
+ghost use Rattle.msg_body.specs.Causes.{IsMessageError, IsMessageUnfinished};
+ghost use Rattle.msg_body.specs.Outcome.{IfWholeMessage, IsMessageUnlessMemory, IsPartialUnlessMemory};
+ghost use Rattle.msg_body.specs.tools.Judged.{ExplainsMessage};
 
+use crate::body::{BodyRead, read_body};
 use crate::error::MessageError;
-use crate::framing::{Expect, Framing};
-use crate::kind::{has_no_content, is_expected};
+use crate::expect::{Expect, is_expected};
 use crate::view::MessageView;
+use framing::read_framing;
 use msg_head::{HeadRead, read_head};
 use std::alloc::Global;
 
@@ -25,37 +26,59 @@ pub enum MessageRead<'m> {
     Partial,
 }
 
-/// Reads the message of the expected kind that the bytes begin with (RFC 9112 section 2.1).
-///
-/// `to_head` says that a response answers a HEAD request, which is why it has no content (RFC 9112
-/// section 6.3). While responses aren't read it changes nothing.
-pub fn read_message<'m>(
+// The answer to bytes, by its cause.
+fn judge<'m>(
     alloc: Global,
     bytes: &'m [u8],
     expect: Expect,
-    _to_head: bool,
+    to_head: bool,
 ) -> Result<MessageRead<'m>, MessageError>
     requires { length bytes.now ≤ MAX_MESSAGE_BYTES }
-    ensures whole { IfWholeMessage result
-        (λ view used. IsMessageViewOf expect bytes.now view used) }
-    ensures found { (message : Message) (used : ℕ) → SpellsMessage message used bytes.now
-        → IsTrue (is_expected expect message.head.start)
-        → IsMessageUnlessMemory result message used }
-    ensures partial { (result ≡ Ok MessageRead.Partial) ↔ IsUnfinished bytes.now }
-
-    // The first fault whose cause holds is answered, and no other.
-    ensures fault { (fault : MessageError) → fault ≢ MessageError.Memory
-        → AnswersWhere MessageError.Memory result fault (IsMessageError expect bytes.now fault) }
+    ensures { ExplainsMessage expect to_head bytes.now result }
 {
-    let (head, used) = match read_head(alloc, bytes)? {
-        HeadRead::Whole(head, used) => (head, used),
+    let (head, start) = match read_head(alloc, bytes)? {
+        HeadRead::Whole(head, start) => (head, start),
         HeadRead::Partial => return Ok(MessageRead::Partial),
     };
     if !is_expected(expect, head.start()) {
         return Err(MessageError::BadStart);
     }
-    if !has_no_content(&head) {
-        return Err(MessageError::NotYet);
+    let framed = read_framing(&head, to_head)?;
+    let (_, rest) = bytes.split_at(start);
+    match read_body(alloc, rest, start, framed)? {
+        BodyRead::Whole(body, count) => {
+            Ok(MessageRead::Whole(MessageView::new(head, framed.framing, body), start + count))
+        }
+        BodyRead::Partial => Ok(MessageRead::Partial),
     }
-    Ok(MessageRead::Whole(MessageView::new(head, Framing::None), used))
+}
+
+/// Reads the message of the expected kind that the bytes begin with (RFC 9112 section 2.1).
+///
+/// `to_head` says that a response answers a HEAD request, which is why it has no content (RFC 9112
+/// section 6.3). Content that ends where its sender closes the connection takes all bytes.
+pub fn read_message<'m>(
+    alloc: Global,
+    bytes: &'m [u8],
+    expect: Expect,
+    to_head: bool,
+) -> Result<MessageRead<'m>, MessageError>
+    requires { length bytes.now ≤ MAX_MESSAGE_BYTES }
+    ensures whole { IfWholeMessage result
+        (λ view used. IsMessageViewOf expect to_head bytes.now view used) }
+    ensures found { (message : Message) (used : ℕ)
+        → SpellsMessage to_head message used bytes.now
+        → IsTrue (is_expected expect message.head.start)
+        → IsMessageUnlessMemory result message used }
+    ensures partial { result ≡ Ok MessageRead.Partial
+        → IsMessageUnfinished expect to_head bytes.now }
+    ensures unfinished { IsMessageUnfinished expect to_head bytes.now
+        → IsPartialUnlessMemory result }
+
+    // The fault whose cause holds is answered, and no other.
+    ensures fault { (fault : MessageError) → fault ≢ MessageError.Memory
+        → AnswersWhere MessageError.Memory result fault
+        (IsMessageError expect to_head bytes.now fault) }
+{
+    judge(alloc, bytes, expect, to_head)
 }

@@ -2,38 +2,52 @@
 
 ghost use Rattle.std.specs.Prelude.{◌≡◌, ◌<◌, length, slice_get, Some};
 ghost use Rattle.msg_head.specs.Views.{field_line_of, start_line_of};
-ghost use Rattle.msg_body.specs.Views.{message_of, lines_on};
+ghost use Rattle.msg_body.specs.Views.{message_of, lines_on, message_content};
+ghost use Rattle.msg_body.specs.Content.{body_parts, content_left};
 
-use crate::framing::Framing;
+use crate::body::BodyView;
+use crate::content::ContentPieces;
 use crate::side_lines::SideLines;
+use framing::Framing;
 use msg_head::{HeadView, LineView, Side, Start};
 use std::marker::Model;
 
-/// A message, borrowed from its bytes. A contract sees it as the view of its head and its framing,
-/// of which the message that it spells is a function.
+/// A message, borrowed from its bytes. A contract sees it as the views of its head and its body and
+/// its framing, of which the message that it spells is a function.
 #[derive(Debug, Drop)]
 pub struct MessageView<'m> {
     head: HeadView<'m>,
     framing: Framing,
+    body: BodyView<'m>,
 }
 
 impl<'m> Model for MessageView<'m> {
     ghost use Rattle.msg_body.specs.Views.{MessageParts};
+    ghost use Rattle.msg_body.specs.Content.{body_parts};
 
     ghost Value = { MessageParts };
 
     ghost view = { λ m. record {
       head = m.head;
       framing = m.framing;
+      body = body_parts m.body;
     } };
 }
 
 impl<'m> MessageView<'m> {
-    /// The view of a message of this head and framing.
-    pub(crate) fn new(head: HeadView<'m>, framing: Framing) -> MessageView<'m>
-        ensures { result ≡ record { head = head.entry; framing = framing } }
+    /// The view of a message of these parts.
+    pub(crate) fn new(head: HeadView<'m>, framing: Framing, body: BodyView<'m>) -> MessageView<'m>
+        ensures { result ≡ record {
+          head = head.entry;
+          framing = framing;
+          body = body_parts body.entry;
+        } }
     {
-        MessageView { head, framing }
+        MessageView {
+            head,
+            framing,
+            body,
+        }
     }
 
     /// The start line.
@@ -56,7 +70,10 @@ impl<'m> MessageView<'m> {
     {
         match side {
             Side::Header => self.head.line_count(),
-            Side::Trailer => 0,
+            Side::Trailer => match &self.body {
+                BodyView::Plain(_) => 0,
+                BodyView::Chunked(_, trailer) => trailer.line_count(),
+            },
         }
     }
 
@@ -68,7 +85,10 @@ impl<'m> MessageView<'m> {
     {
         match side {
             Side::Header => self.head.line(index),
-            Side::Trailer => unreachable!(),
+            Side::Trailer => match &self.body {
+                BodyView::Plain(_) => unreachable!(),
+                BodyView::Chunked(_, trailer) => trailer.line(index),
+            },
         }
     }
 
@@ -77,5 +97,22 @@ impl<'m> MessageView<'m> {
         ensures { result ≡ lines_on side (message_of self.now) }
     {
         SideLines::new(self, side)
+    }
+
+    /// How many bytes the content has, chunks taken off (RFC 9110 section 6.4).
+    pub fn content_len(&self) -> usize
+        ensures { result ≡ length (message_content (message_of self.now)) }
+    {
+        match &self.body {
+            BodyView::Plain(content) => content.len(),
+            BodyView::Chunked(chunks, _) => chunks.content_len(),
+        }
+    }
+
+    /// The pieces of the content, in order, borrowed from the message's bytes.
+    pub fn content_pieces(&self) -> ContentPieces<'_, 'm>
+        ensures { content_left result ≡ message_content (message_of self.now) }
+    {
+        ContentPieces::new(&self.body)
     }
 }

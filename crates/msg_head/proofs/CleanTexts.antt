@@ -48,25 +48,30 @@ clean_both text middle left a b = record {
       ∙ ap (λ (x : List ℕ). x ++ left) (sym (flat_map-append ended a.pieces b.pieces));
 }
 
--- A section that is a start line and a rest which is clean up to a CRLF is clean, since the section
--- ends at its first empty line.
-pub clean_section : (section rest : List ℕ) (start : StartLine) → IsSection section section → BeginsWithStart start rest section → IsCleanUpToCrlf rest → IsClean section
-clean_section section rest start is b c =
-    let own = start_cut start b.is in
+-- A section that is a clean text, its end and a rest which is clean up to a CRLF is clean, since
+-- the section ends at its first empty line.
+pub clean_whole : (section text rest : List ℕ) → IsSection section section → list_all is_line_byte text ≡ true → section ≡ text ++ 13 ∷ 10 ∷ rest → IsCleanUpToCrlf rest → IsClean section
+clean_whole section text rest is clean e c =
     let lines = c.1 in
-    let pieces = own.text ∷ lines.pieces in
-    let ends = ended_ends own.text lines.pieces in
+    let pieces = text ∷ lines.pieces in
+    let ends = ended_ends text lines.pieces in
     let joined : section ≡ flat_map ended pieces ++ (13 ∷ 10 ∷ c.2.0) =
-    b.joined
-    ∙ ap (λ (x : List ℕ). x ++ rest) own.is
-    ∙ ap (λ (x : List ℕ). ended own.text ++ x) (lines.joined ∙ ap (λ (x : List ℕ). flat_map ended lines.pieces ++ x) c.2.1)
-    ∙ sym (append_assoc (ended own.text) (flat_map ended lines.pieces) (13 ∷ 10 ∷ c.2.0)) in
+    e
+    ∙ sym (append_assoc text (13 ∷ 10 ∷ []) rest)
+    ∙ ap (λ (x : List ℕ). ended text ++ x) (lines.joined ∙ ap (λ (x : List ℕ). flat_map ended lines.pieces ++ x) c.2.1)
+    ∙ sym (append_assoc (ended text) (flat_map ended lines.pieces) (13 ∷ 10 ∷ c.2.0)) in
     let none : c.2.0 ≡ [] = is.first ends.before c.2.0 (joined ∙ ap (λ (x : List ℕ). x ++ 13 ∷ 10 ∷ c.2.0) ends.is ∙ append_assoc ends.before (13 ∷ 10 ∷ []) (13 ∷ 10 ∷ c.2.0)) in
     record {
       pieces = pieces ++ [] ∷ [];
-      each = list_all-append (list_all is_line_byte) pieces ([] ∷ []) ∙ and_from _ _ (and_from (list_all is_line_byte own.text) (list_all (list_all is_line_byte) lines.pieces) own.clean lines.each) refl;
+      each = list_all-append (list_all is_line_byte) pieces ([] ∷ []) ∙ and_from _ _ (and_from (list_all is_line_byte text) (list_all (list_all is_line_byte) lines.pieces) clean lines.each) refl;
       joined =
           joined
           ∙ ap (λ (x : List ℕ). flat_map ended pieces ++ 13 ∷ 10 ∷ x) none
           ∙ sym (flat_map-append ended pieces ([] ∷ []));
     }
+
+-- so a head is, after its start line
+pub clean_section : (section rest : List ℕ) (start : StartLine) → IsSection section section → BeginsWithStart start rest section → IsCleanUpToCrlf rest → IsClean section
+clean_section section rest start is b c =
+    let own = start_cut start b.is in
+    clean_whole section own.text rest is own.clean (b.joined ∙ ap (λ (x : List ℕ). x ++ rest) own.is ∙ append_assoc own.text (13 ∷ 10 ∷ []) rest) c

@@ -1,12 +1,15 @@
--- The end of a head: the first empty line.
-use Rattle.std.proofs.Common.{◌≡◌, ℕ, ◌+◌, List, ◌++◌, length, take, drop, get_or, Some, None, sym, ap, inl, inr, ◌∙◌, arith, append_assoc, length-append, length-take, codes}
+-- The end of a head or a trailer section: the first empty line.
+use Rattle.std.proofs.Common.{◌≡◌, ◌≢◌, ◌⊎◌, ℕ, ◌+◌, List, [], ◌∷◌, ◌++◌, length, take, drop, get_or, Some, None, sym, ap, inl, inr, ◌∙◌, arith, append_assoc, length-append, length-take, refl, subst, codes}
 use Rattle.std.proofs.Math.ListN.{get_or-append}
 use Rattle.std.proofs.Math.Seq.{take-add}
 use Rattle.std.proofs.lemmas.Bool.{cases_lt}
-use Rattle.std.proofs.lemmas.List.{nil_from_length, get_or-append-add, take-append-drop}
+use Rattle.std.proofs.lemmas.List.{nil_from_length, append_cancel_left, get_or-append-add, take-append-drop}
 use Rattle.memchr.specs.Find.{OccursAt, FindsNeedle}
 use Rattle.memchr.proofs.lemmas.MatchLemmas.{OccursAt-split}
 use Rattle.msg_head.specs.Cuts.{HasNoEnd, IsSection}
+use Rattle.msg_head.specs.Trailers.{IsTrailerSection, after_chunks}
+use Rattle.msg_head.specs.Laws.{TrailerSectionIs}
+use Rattle.msg_head.specs.tools.Texts.{BeginsWithCrlf}
 
 -- a needle by its offsets, and as a part
 occurs_there : (before needle more bytes : List ℕ) → bytes ≡ before ++ (needle ++ more) → OccursAt bytes needle (length before)
@@ -40,3 +43,69 @@ section_there bytes k h =
             | inr high ↦ nil_from_length other (omega (arith, high, ap (length {A = ℕ}) e, length-append one (codes "\r\n\r\n" ++ other), length-take {A = ℕ} (k + 4) bytes))
           ];
     }
+
+-- ---- after the last chunk's line
+
+-- a CRLF that the bytes begin with is a trailer section
+pub empty_section : (bytes : List ℕ) → BeginsWithCrlf bytes → IsTrailerSection bytes (take 2 bytes)
+empty_section bytes b = subst (λ (x : List ℕ). IsTrailerSection x (take 2 x)) (sym b.1) (record {
+  more = b.0;
+  joined = refl;
+  before = [];
+  ends = refl;
+  first = λ one other e. nil_from_length other (omega (arith, ap (length {A = ℕ}) e, length-append one (codes "\r\n\r\n" ++ other)));
+})
+
+-- where bytes don't begin with CRLF, each CRLF CRLF after the line's end stands in them
+end_after : (bytes one other : List ℕ) → ((rest : List ℕ) → bytes ≢ 13 ∷ 10 ∷ rest) → 13 ∷ 10 ∷ bytes ≡ one ++ (codes "\r\n\r\n" ++ other) → (less : List ℕ) × (bytes ≡ less ++ (codes "\r\n\r\n" ++ other))
+end_after bytes [] other none e = absurd (none other cc)
+end_after bytes (c ∷ []) other none e = absurd cc
+end_after bytes (c ∷ d ∷ one) other none e = (one, cc)
+
+pub no_end_after : (bytes : List ℕ) → ¬ BeginsWithCrlf bytes → HasNoEnd bytes → HasNoEnd (after_chunks bytes)
+no_end_after bytes plain none before after e =
+    let there = end_after bytes before after (λ rest is. plain (rest, is)) e in none there.0 after there.1
+
+pub section_after : (bytes section : List ℕ) → ¬ BeginsWithCrlf bytes → IsSection bytes section → IsTrailerSection bytes section
+section_after bytes section plain s = record {
+  more = s.more;
+  joined = ap (λ (x : List ℕ). 13 ∷ 10 ∷ x) s.joined;
+  before = 13 ∷ 10 ∷ s.before;
+  ends = ap (λ (x : List ℕ). 13 ∷ 10 ∷ x) s.ends;
+  first = λ one other e.
+      let there = end_after section one other (λ rest is. plain (rest ++ s.more, s.joined ∙ ap (λ (x : List ℕ). x ++ s.more) is)) e in s.first there.0 other there.1;
+}
+
+-- a section that has more than its end doesn't begin with CRLF
+longer : (bytes section rest before : List ℕ) → IsTrailerSection bytes section → section ≡ before ++ codes "\r\n\r\n" → (more : List ℕ) → section ++ more ≡ 13 ∷ 10 ∷ rest → ⊥
+longer bytes [] rest before s ends more e = omega (arith, ap (length {A = ℕ}) ends, length-append before (codes "\r\n\r\n"))
+longer bytes (x ∷ []) rest before s ends more e = omega (arith, ap (length {A = ℕ}) ends, length-append before (codes "\r\n\r\n"))
+longer bytes (x ∷ y ∷ text) rest before s ends more e =
+    let one : x ≡ 13 = cc in
+    let two : y ≡ 10 = cc in
+    let alone : text ≡ [] = s.first [] text (λ i. 13 ∷ 10 ∷ one i ∷ two i ∷ text) in
+    omega (arith, ap (length {A = ℕ}) alone, ap (length {A = ℕ}) ends, length-append before (codes "\r\n\r\n"))
+
+-- the section, by what stands before its last end
+section_by : (bytes section : List ℕ) (s : IsTrailerSection bytes section) (before : List ℕ) → 13 ∷ 10 ∷ section ≡ before ++ codes "\r\n\r\n" → ((rest : List ℕ) × (bytes ≡ 13 ∷ 10 ∷ rest) × (section ≡ codes "\r\n")) ⊎ (((rest : List ℕ) → bytes ≢ 13 ∷ 10 ∷ rest) × IsSection bytes section)
+section_by bytes section s [] e =
+    let first = append_cancel_left (13 ∷ 10 ∷ []) bytes (section ++ s.more) s.joined in
+    let alone : section ≡ codes "\r\n" = append_cancel_left (13 ∷ 10 ∷ []) section (13 ∷ 10 ∷ []) e in
+    inl (s.more, first ∙ ap (λ (x : List ℕ). x ++ s.more) alone, alone)
+section_by bytes section s (c ∷ []) e = absurd cc
+section_by bytes section s (c ∷ d ∷ before) e =
+    let first = append_cancel_left (13 ∷ 10 ∷ []) bytes (section ++ s.more) s.joined in
+    let ends : section ≡ before ++ codes "\r\n\r\n" = cc in
+    inr (
+      (λ rest is. longer bytes section rest before s ends s.more (sym first ∙ is)),
+      record { more = s.more; joined = first; before = before; ends = ends; first = λ one other there. s.first (13 ∷ 10 ∷ one) other (ap (λ (x : List ℕ). 13 ∷ 10 ∷ x) there) },
+    )
+
+pub trailer_section_law : TrailerSectionIs
+trailer_section_law bytes section = (
+  λ s. section_by bytes section s s.before s.ends,
+  λ where_it_ends. elim where_it_ends [
+    | inl alone ↦ subst (λ (x : List ℕ). IsTrailerSection bytes x) (ap (λ (x : List ℕ). take 2 x) alone.1 ∙ sym alone.2) (empty_section bytes (alone.0, alone.1))
+    | inr plain ↦ section_after bytes section (λ b. plain.0 b.0 b.1) plain.1
+  ],
+)

@@ -44,13 +44,13 @@ not_before lines i j low a b =
     let good = all_there MakesSome lines j i here.0 low here.1 b.before in
     here.2 good.0 good.1
 
-bad_once : (lines : List RawPieces) (i j : ℕ) → IsFirstBadLine lines i → IsFirstBadLine lines j → i ≡ j
+pub bad_once : (lines : List RawPieces) (i j : ℕ) → IsFirstBadLine lines i → IsFirstBadLine lines j → i ≡ j
 bad_once lines i j a b = elim (cases_order i j) [
   | inl same ↦ same
   | inr apart ↦ elim apart [ inl less ↦ absurd (not_before lines i j less a b) | inr more ↦ absurd (not_before lines j i more b a) ]
 ]
 
-naked_once : (text : List ℕ) (i j : ℕ) → IsFirstNakedEnd text i → IsFirstNakedEnd text j → i ≡ j
+pub naked_once : (text : List ℕ) (i j : ℕ) → IsFirstNakedEnd text i → IsFirstNakedEnd text j → i ≡ j
 naked_once text i j a b = elim (cases_order i j) [
   | inl same ↦ same
   | inr apart ↦ elim apart [ inl less ↦ absurd (b.none_before i less a.is) | inr more ↦ absurd (a.none_before j more b.is) ]
@@ -88,7 +88,7 @@ pub record Sectioned (bytes section : List ℕ) : Type 0 where
   pub clean : IsClean section
   pub short : length section ≤ MAX_HEAD_BYTES
 
-end_within : (count : ℕ) (bytes section : List ℕ) → IsSection bytes section → length section ≤ count → ((before after : List ℕ) → take count bytes ≢ before ++ (codes "\r\n\r\n" ++ after)) → ⊥
+pub end_within : (count : ℕ) (bytes section : List ℕ) → IsSection bytes section → length section ≤ count → ((before after : List ℕ) → take count bytes ≢ before ++ (codes "\r\n\r\n" ++ after)) → ⊥
 end_within count bytes section is short none =
     let room : (k : ℕ) × (count ≡ length section + k) = (count - length section, omega (arith, short)) in
     none is.before (take room.0 is.more) (
@@ -194,11 +194,13 @@ section_fault bytes section (NakedEnd at) s f own = absurd f.3.lines_are
 section_fault bytes section Memory s f own = absurd (own refl)
 
 -- the fault of a section, where its first naked end comes before one that it has while clean
+pub first_of : (IsError : HeadError → Type 0) (section : List ℕ) (fault first : HeadError) → (IsClean section → fault ≢ Memory → IsError fault) → ((at : ℕ) → IsFirstNakedEnd section at → IsError (NakedEnd at)) → IsFirstFault section fault first → first ≢ Memory → IsError first
+first_of IsError section fault first clean naked (inl c) own = subst IsError (sym c.1) (clean c.0 (λ memory. own (c.1 ∙ memory)))
+first_of IsError section fault first clean naked (inr n) own = subst IsError (sym n.2) (naked n.0 n.1)
+
 pub first_fault : (bytes section : List ℕ) (fault first : HeadError) → IsSection bytes section → length section ≤ MAX_HEAD_BYTES → (IsClean section → IsSectionFault section fault) → IsFirstFault section fault first → first ≢ Memory → IsHeadError bytes first
-first_fault bytes section fault first is short cause (inl clean) own =
-    subst (IsHeadError bytes) (sym clean.1) (section_fault bytes section fault (record { is = is; clean = clean.0; short = short }) (cause clean.0) (λ memory. own (clean.1 ∙ memory)))
-first_fault bytes section fault first is short cause (inr naked) own =
-    subst (IsHeadError bytes) (sym naked.2) (first_naked bytes section naked.0 is short naked.1)
+first_fault bytes section fault first is short cause =
+    first_of (IsHeadError bytes) section fault first (λ clean. section_fault bytes section fault (record { is = is; clean = clean; short = short }) (cause clean)) (λ at. first_naked bytes section at is short)
 
 pub late_fault : (start : List ℕ) (lines : List RawPieces) (fault : HeadError) → ¬ MakesNoStart start → IsLinesFault Header lines fault → IsCutFault start lines fault
 late_fault start lines (TooLong side) good is = absurd is
@@ -210,7 +212,7 @@ late_fault start lines Memory good is = record { good = good; lines_are = is }
 
 -- ---- where a head is spelled
 
-all_good : (lines : List RawPieces) (i : ℕ) → All MakesSome lines → ¬ IsFirstBadLine lines i
+pub all_good : (lines : List RawPieces) (i : ℕ) → All MakesSome lines → ¬ IsFirstBadLine lines i
 all_good lines i all bad =
     let here = some_and_parts MakesNoLine (slice_get lines i) bad.there in
     let good = all_there MakesSome lines (suc i) i here.0 (omega arith) here.1 (All-take MakesSome (suc i) lines all) in

@@ -153,7 +153,20 @@ by_pieces section before (p ∷ ps) clean e ends first =
 pub section_cut : (section : List ℕ) → IsCleanSection section → SectionCut section
 section_cut section s = by_pieces section s.is.before s.clean.pieces s.clean.each s.clean.joined s.is.ends s.is.first
 
--- ---- its start line
+-- ---- its first line
+
+-- The text before the section's first end is the start, and what comes after that end is the lines.
+pub record LinesAfter (section : List ℕ) (cut : SectionCut section) (text rest : List ℕ) : Type 0 where
+  pub start_is : text ≡ cut.start
+  pub rest_is : AreLinesOf rest cut.lines
+
+pub lines_after : (section : List ℕ) (cut : SectionCut section) (text rest : List ℕ) → list_all is_line_byte text ≡ true → section ≡ text ++ 13 ∷ 10 ∷ rest → LinesAfter section cut text rest
+lines_after section cut text rest clean e =
+    let same = one_prefix is_line_byte 13 text cut.start (10 ∷ rest) (10 ∷ (cut.cut.section ++ cut.cut.more)) refl clean cut.cut.clean (sym e ∙ cut.cut.joined) in
+    let rest_is : rest ≡ cut.cut.section =
+    append_cancel_left (10 ∷ []) rest (cut.cut.section ++ cut.cut.more) same.1 ∙ ap (λ (x : List ℕ). cut.cut.section ++ x) cut.no_more ∙ append-nil cut.cut.section in
+    let lines = cut.cut.lines_are in
+    record { start_is = same.0; rest_is = record { joined = rest_is ∙ lines.joined; each = lines.each; ends = lines.ends } }
 
 pub record StartsWell (section : List ℕ) (cut : SectionCut section) (rest : List ℕ) : Type 0 where
   pub rest_is : AreLinesOf rest cut.lines
@@ -162,15 +175,10 @@ pub record StartsWell (section : List ℕ) (cut : SectionCut section) (rest : Li
 pub well_started : (section : List ℕ) (cut : SectionCut section) (start : StartLine) (rest : List ℕ) → BeginsWithStart start rest section → StartsWell section cut rest
 well_started section cut start rest b =
     let own = start_cut start b.is in
-    let joined : own.text ++ 13 ∷ 10 ∷ rest ≡ cut.start ++ 13 ∷ 10 ∷ (cut.cut.section ++ cut.cut.more) =
-    sym (append_assoc own.text (13 ∷ 10 ∷ []) rest) ∙ ap (λ (x : List ℕ). x ++ rest) (sym own.is) ∙ sym b.joined ∙ cut.cut.joined in
-    let same = one_prefix is_line_byte 13 own.text cut.start (10 ∷ rest) (10 ∷ (cut.cut.section ++ cut.cut.more)) refl own.clean cut.cut.clean joined in
-    let rest_is : rest ≡ cut.cut.section =
-    append_cancel_left (10 ∷ []) rest (cut.cut.section ++ cut.cut.more) same.1 ∙ ap (λ (x : List ℕ). cut.cut.section ++ x) cut.no_more ∙ append-nil cut.cut.section in
-    let lines = cut.cut.lines_are in
+    let after = lines_after section cut own.text rest own.clean (b.joined ∙ ap (λ (x : List ℕ). x ++ rest) own.is ∙ append_assoc own.text (13 ∷ 10 ∷ []) rest) in
     record {
-      rest_is = record { joined = rest_is ∙ lines.joined; each = lines.each; ends = lines.ends };
-      good = λ none. none start b.is (ap (λ (x : List ℕ). x ++ 13 ∷ 10 ∷ []) (sym same.0) ∙ sym own.is);
+      rest_is = after.rest_is;
+      good = λ none. none start b.is (ap (λ (x : List ℕ). x ++ 13 ∷ 10 ∷ []) (sym after.start_is) ∙ sym own.is);
     }
 
 pub bad_start : (section : List ℕ) (cut : SectionCut section) → BeginsWithNoStart section → MakesNoStart cut.start

@@ -1,5 +1,5 @@
 -- Heads as they are cut.
-use Rattle.std.proofs.Common.{◌≡◌, ℕ, Bool, true, false, ◌&&◌, ◌==◌, not, inl, inr, nat_lt, List, [], ◌∷◌, ◌++◌, length, drop, refl, sym, ap, ◌∙◌, arith, append_assoc}
+use Rattle.std.proofs.Common.{◌≡◌, ℕ, ◌≤◌, Bool, true, false, ◌&&◌, ◌==◌, not, inl, inr, nat_lt, List, [], ◌∷◌, ◌++◌, length, take, drop, refl, sym, ap, ◌∙◌, arith, append_assoc}
 use Rattle.std.specs.Prelude.{⊤}
 use Rattle.std.specs.List.{All, list_all, flat_map}
 use Rattle.std.proofs.lemmas.Bool.{and_parts, and_from, cases_Bool, or_cases, eqb-true, lt-ltb, false≢true}
@@ -135,6 +135,36 @@ all_but_first : (lines : List RawPieces) (p : RawPieces → Bool) → list_all p
 all_but_first [] p h = refl
 all_but_first (l ∷ ls) p h = (and_parts _ _ h).1
 
+-- ---- lines after a first one
+
+-- the clean text, its end, the lines and an empty one, and more, as they are cut
+pub record CutAfter (start : List ℕ) (cuts : List RawPieces) (more bytes : List ℕ) : Type 0 where
+  pub cut : IsCut start cuts bytes
+  pub more_is : cut.more ≡ more
+
+pub cut_after : (start : List ℕ) (lines : List FieldLine) (own : LinesCut lines) (more bytes : List ℕ) → list_all is_line_byte start ≡ true → bytes ≡ start ++ 13 ∷ 10 ∷ (flat_map line_text lines ++ 13 ∷ 10 ∷ more) → CutAfter start own.cuts more bytes
+cut_after start lines own more bytes clean e = record {
+  cut = record {
+    section = flat_map cut_text own.cuts ++ 13 ∷ 10 ∷ [];
+    more = more;
+    clean = clean;
+    joined =
+        e
+        ∙ ap (λ (x : List ℕ). start ++ 13 ∷ 10 ∷ (x ++ 13 ∷ 10 ∷ more)) (sym own.text)
+        ∙ ap (λ (x : List ℕ). start ++ 13 ∷ 10 ∷ x) (sym (append_assoc (flat_map cut_text own.cuts) (13 ∷ 10 ∷ []) more));
+    lines_are = record { joined = refl; each = own.each; ends = all_but_first own.cuts _ own.ends };
+  };
+  more_is = refl;
+}
+
+-- where the first bytes, so many, are a text, the bytes are the text and what is left
+pub text_first : (text : List ℕ) (used : ℕ) (bytes : List ℕ) → take used bytes ≡ text → bytes ≡ text ++ drop used bytes
+text_first text used bytes is = sym (take-append-drop used bytes) ∙ ap (λ (x : List ℕ). x ++ drop used bytes) is
+
+-- and as many are used as the text has
+pub text_used : (text : List ℕ) (used : ℕ) (bytes : List ℕ) → used ≤ length bytes → take used bytes ≡ text → used ≡ length text
+text_used text used bytes within is = sym (length-take-le used bytes within) ∙ ap (length {A = ℕ}) is
+
 -- ---- heads
 
 pub opened_head : (head : Head) (more : List ℕ) → head_text head ++ more ≡ start_text head.start ++ (flat_map line_text head.lines ++ 13 ∷ 10 ∷ more)
@@ -153,33 +183,15 @@ pub head_cut : (head : Head) (more bytes : List ℕ) → IsHead head → bytes �
 head_cut head more bytes is e =
     let start = start_cut head.start is.start in
     let lines = lines_cut head.lines is.lines in
-    let section = flat_map cut_text lines.cuts ++ 13 ∷ 10 ∷ [] in
-    record {
-      start = start;
-      lines = lines;
-      cut = record {
-        section = section;
-        more = more;
-        clean = start.clean;
-        joined =
-            e
-            ∙ opened_head head more
-            ∙ ap (λ (x : List ℕ). x ++ (flat_map line_text head.lines ++ 13 ∷ 10 ∷ more)) start.is
-            ∙ append_assoc start.text (13 ∷ 10 ∷ []) (flat_map line_text head.lines ++ 13 ∷ 10 ∷ more)
-            ∙ ap (λ (x : List ℕ). start.text ++ 13 ∷ 10 ∷ (x ++ 13 ∷ 10 ∷ more)) (sym lines.text)
-            ∙ ap (λ (x : List ℕ). start.text ++ 13 ∷ 10 ∷ x) (sym (append_assoc (flat_map cut_text lines.cuts) (13 ∷ 10 ∷ []) more));
-        lines_are = record { joined = refl; each = lines.each; ends = all_but_first lines.cuts _ lines.ends };
-      };
-      more_is = refl;
-    }
+    let tail = flat_map line_text head.lines ++ 13 ∷ 10 ∷ more in
+    let there = cut_after start.text head.lines lines more bytes start.clean (e ∙ opened_head head more ∙ ap (λ (x : List ℕ). x ++ tail) start.is ∙ append_assoc start.text (13 ∷ 10 ∷ []) tail) in
+    record { start = start; lines = lines; cut = there.cut; more_is = there.more_is }
 
--- the bytes are the text of the head that they begin with, and what is left
 pub spelled_first : (head : Head) (used : ℕ) (bytes : List ℕ) → SpellsHead head used bytes → bytes ≡ head_text head ++ drop used bytes
-spelled_first head used bytes s = sym (take-append-drop used bytes) ∙ ap (λ (x : List ℕ). x ++ drop used bytes) s.spells.text
+spelled_first head used bytes s = text_first (head_text head) used bytes s.spells.text
 
--- and as many are used as the text has
 pub used_is : (head : Head) (used : ℕ) (bytes : List ℕ) → SpellsHead head used bytes → used ≡ length (head_text head)
-used_is head used bytes s = sym (length-take-le used bytes s.within) ∙ ap (length {A = ℕ}) s.spells.text
+used_is head used bytes s = text_used (head_text head) used bytes s.within s.spells.text
 
 pub spelled_cut : (head : Head) (used : ℕ) (bytes : List ℕ) → SpellsHead head used bytes → HeadCut head (drop used bytes) bytes
 spelled_cut head used bytes s = head_cut head (drop used bytes) bytes s.spells.is (spelled_first head used bytes s)

@@ -17,4 +17,8 @@ pub mod CleanTexts
 pub mod Grouping
 pub mod FaultLaws
 pub mod Wholes
+pub mod OneAnswer
 pub mod Outcomes
+pub mod TrailerCuts
+pub mod TrailerFaults
+pub mod TrailerAnswers

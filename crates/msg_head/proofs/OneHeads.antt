@@ -76,7 +76,7 @@ one_made cut one other a b =
     let raws = append_cancel_right one.raw other.raw (13 ∷ 10 ∷ []) names.1 in
     λ i. record { name = names.0 i; raw = raws i }
 
-one_lines_made : (cuts others : List RawPieces) (ls ms : List FieldLine) → cuts ≡ others → AreMade cuts ls → AreMade others ms → ls ≡ ms
+pub one_lines_made : (cuts others : List RawPieces) (ls ms : List FieldLine) → cuts ≡ others → AreMade cuts ls → AreMade others ms → ls ≡ ms
 one_lines_made [] [] [] [] e a b = refl
 one_lines_made (c ∷ cs) (d ∷ ds) (l ∷ ls) (m ∷ ms) e a b =
     let first : c ≡ d = cc in

@@ -1,6 +1,6 @@
 -- Each answer to bytes has its cause, and no two causes are met.
-use Rattle.std.proofs.Common.{◌≡◌, ◌≢◌, ℕ, ◌⊎◌, inl, inr, List, ◌∷◌, [], ◌++◌, refl, sym, subst, ap, ◌∙◌, arith, append_assoc}
-use Rattle.std.specs.Prelude.{Result, Ok, Err, IsErrAnd}
+use Rattle.std.proofs.Common.{◌≢◌, ℕ, inl, inr, List, ◌∷◌, [], ◌++◌, sym, ◌∙◌, arith, append_assoc}
+use Rattle.std.specs.Prelude.{Result, Ok, Err}
 use Rattle.byte_grammar.specs.Causes.{AnswersWhere}
 use Rattle.msg_head.specs.declared.head.HeadRead.{HeadRead}
 use Rattle.msg_head.specs.declared.head.HeadRead.TheVariants.{Whole, Partial}
@@ -21,10 +21,7 @@ use Rattle.msg_head.proofs.Sectioning.{cut_section}
 use Rattle.msg_head.proofs.OneHeads.{one_head_law}
 use Rattle.msg_head.proofs.FaultLaws.{one_fault, no_cause_spelled}
 use Rattle.msg_head.proofs.Wholes.{no_section, spelled_by}
-
-pub explains_err : (bytes : List ℕ) (result : Result HeadRead HeadError) (e : HeadError) → IsErrAnd result (λ given. given ≡ e) → (e ≢ Memory → IsHeadError bytes e) → ExplainsHead bytes result
-explains_err bytes (Ok x) e is fault = absurd is
-explains_err bytes (Err f) e is fault = λ own. subst (IsHeadError bytes) (sym is) (fault (λ same. own (is ∙ same)))
+use Rattle.msg_head.proofs.OneAnswer.{NamesFault, memory_or_not, answers_where}
 
 pub ends_with_lf : (bytes section : List ℕ) → IsSection bytes section → EndsWithLf section
 ends_with_lf bytes section s = (s.before ++ 13 ∷ 10 ∷ 13 ∷ [], s.ends ∙ sym (append_assoc s.before (13 ∷ 10 ∷ 13 ∷ []) (10 ∷ [])))
@@ -59,37 +56,18 @@ pub found_is : (bytes : List ℕ) (result : Result HeadRead HeadError) → Expla
 found_is bytes (Ok (Whole view count)) x head used s =
     one_head_law bytes (head_of view) head count used (spelled_by bytes view count x) s
 found_is bytes (Ok Partial) x head used s = not_both bytes head used s x
-found_is bytes (Err Memory) x head used s = refl
-found_is bytes (Err (TooLong side)) x head used s = absurd (no_cause_spelled bytes head used s (TooLong side) (x (λ e. cc)).holds)
-found_is bytes (Err (NakedEnd at)) x head used s = absurd (no_cause_spelled bytes head used s (NakedEnd at) (x (λ e. cc)).holds)
-found_is bytes (Err BadStart) x head used s = absurd (no_cause_spelled bytes head used s BadStart (x (λ e. cc)).holds)
-found_is bytes (Err (TooManyLines side)) x head used s = absurd (no_cause_spelled bytes head used s (TooManyLines side) (x (λ e. cc)).holds)
-found_is bytes (Err (BadLine side at)) x head used s = absurd (no_cause_spelled bytes head used s (BadLine side at) (x (λ e. cc)).holds)
-
-memory_or_not : (e : HeadError) → (e ≡ Memory) ⊎ (e ≢ Memory)
-memory_or_not Memory = inl refl
-memory_or_not (TooLong side) = inr (λ e. cc)
-memory_or_not (NakedEnd at) = inr (λ e. cc)
-memory_or_not BadStart = inr (λ e. cc)
-memory_or_not (TooManyLines side) = inr (λ e. cc)
-memory_or_not (BadLine side at) = inr (λ e. cc)
-
-only_fault : (bytes : List ℕ) (result : Result HeadRead HeadError) → ExplainsHead bytes result → (fault : HeadError) → fault ≢ Memory → result ≡ Err fault → IsHeadError bytes fault
-only_fault bytes (Ok x) h fault own e = absurd cc
-only_fault bytes (Err f) h fault own e =
-    let same : f ≡ fault = cc in subst (IsHeadError bytes) same (h (λ m. own (sym same ∙ m)))
-
-fault_there : (bytes : List ℕ) (result : Result HeadRead HeadError) → ExplainsHead bytes result → (fault : HeadError) → IsHeadError bytes fault → (result ≡ Err fault) ⊎ (result ≡ Err Memory)
-fault_there bytes (Ok (Whole view count)) x fault f =
-    absurd (no_cause_spelled bytes (head_of view) count (spelled_by bytes view count x) fault f.holds)
-fault_there bytes (Ok Partial) x fault f = absurd (no_cause_unfinished bytes x fault f.holds)
-fault_there bytes (Err e) x fault f = elim (memory_or_not e) [
-  | inl memory ↦ inr (ap Err memory)
-  | inr own ↦ inl (ap Err (one_fault bytes e fault (x own) f))
+found_is bytes (Err fault) x head used s = elim (memory_or_not fault) [
+  | inl memory ↦ memory
+  | inr own ↦ absurd (no_cause_spelled bytes head used s fault (x own).holds)
 ]
 
+named : (bytes : List ℕ) (result : Result HeadRead HeadError) → ExplainsHead bytes result → NamesFault (IsHeadError bytes) result
+named bytes (Ok (Whole view count)) x = λ fault f. no_cause_spelled bytes (head_of view) count (spelled_by bytes view count x) fault f.holds
+named bytes (Ok Partial) x = λ fault f. no_cause_unfinished bytes x fault f.holds
+named bytes (Err fault) x = x
+
 pub fault_is : (bytes : List ℕ) (result : Result HeadRead HeadError) → ExplainsHead bytes result → (fault : HeadError) → fault ≢ Memory → AnswersWhere Memory result fault (IsHeadError bytes fault)
-fault_is bytes result x fault own = record { only = only_fault bytes result x fault own; there = fault_there bytes result x fault }
+fault_is bytes result x = answers_where (IsHeadError bytes) result (one_fault bytes) (named bytes result x)
 
 -- the laws of answers
 pub no_fault_at_head_law : NoFaultAtHead

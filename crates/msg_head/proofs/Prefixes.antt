@@ -85,3 +85,11 @@ at_some N P (Some x) m = m
 pub at_none : {X : Type 0} (N : Type 0) (P : X → Type 0) (found : Option X) → MatchOption found N P → IfNone found N
 at_none N P None m = m
 at_none N P (Some x) m = tt
+
+pub some_more : {X : Type 0} (P Q : X → Type 0) (found : Option X) → ((x : X) → P x → Q x) → IfSome found P → IfSome found Q
+some_more P Q None more p = tt
+some_more P Q (Some x) more p = more x p
+
+pub none_more : {X P Q : Type 0} (found : Option X) → (P → Q) → IfNone found P → IfNone found Q
+none_more None more p = more p
+none_more (Some x) more p = tt

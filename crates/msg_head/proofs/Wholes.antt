@@ -70,20 +70,24 @@ section_short count bytes prefix section is s =
 pub own_section : (bytes section : List ℕ) → IsSection bytes section → IsSection section section
 own_section bytes section s = record { more = []; joined = sym (append-nil section); before = s.before; ends = s.ends; first = s.first }
 
+-- the first bytes, so many, are all where there are fewer
+pub all_of : (count : ℕ) (bytes prefix : List ℕ) → prefix ≡ take count bytes → length bytes < count → prefix ≡ bytes
+all_of count bytes prefix is short = is ∙ take_all count bytes (omega (arith, short))
+
 -- where no end is among the first bytes
 pub unfinished : (bytes prefix : List ℕ) → prefix ≡ take MAX_HEAD_BYTES bytes → HasNoEnd prefix → length bytes < MAX_HEAD_BYTES → IsUnfinished bytes
-unfinished bytes prefix is none short = record { no_end = λ before after e. none before after (whole MAX_HEAD_BYTES is short ∙ e); short = short }
-  where
-    whole : (count : ℕ) → prefix ≡ take count bytes → length bytes < count → prefix ≡ bytes
-    whole count is short = is ∙ take_all count bytes (omega (arith, short))
+unfinished bytes prefix is none short = record { no_end = λ before after e. none before after (all_of MAX_HEAD_BYTES bytes prefix is short ∙ e); short = short }
 
 pub long : (bytes prefix : List ℕ) → prefix ≡ take MAX_HEAD_BYTES bytes → HasNoEnd prefix → MAX_HEAD_BYTES ≤ length bytes → IsTooLong bytes
 long bytes prefix is none size = record { long = size; no_end = λ before after e. none before after (is ∙ e) }
 
--- bytes that are unfinished have no section
+-- bytes without an end have no section
+pub none_of : (bytes section : List ℕ) → HasNoEnd bytes → ¬ IsSection bytes section
+none_of bytes section none s =
+    none s.before s.more (s.joined ∙ ap (λ (x : List ℕ). x ++ s.more) s.ends ∙ append_assoc s.before (13 ∷ 10 ∷ 13 ∷ 10 ∷ []) s.more)
+
 pub no_section : (bytes section : List ℕ) → IsUnfinished bytes → ¬ IsSection bytes section
-no_section bytes section u s =
-    u.no_end s.before s.more (s.joined ∙ ap (λ (x : List ℕ). x ++ s.more) s.ends ∙ append_assoc s.before (13 ∷ 10 ∷ 13 ∷ 10 ∷ []) s.more)
+no_section bytes section u = none_of bytes section u.no_end
 
 -- the view of the section is one of the bytes
 pub view_of : (bytes section : List ℕ) (view : View) → IsSection bytes section → IsSectionView view section → IsViewOf bytes view (length section)

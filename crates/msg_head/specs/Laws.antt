@@ -1,8 +1,11 @@
--- Laws of heads.
-use Rattle.std.specs.Prelude.{◌≡◌, ◌≢◌, ℕ, ◌<◌, List, length, take}
+-- Laws of heads and of trailer sections.
+use Rattle.std.specs.Prelude.{◌≡◌, ◌≢◌, ◌⊎◌, ◌↔◌, ℕ, ◌<◌, List, ◌++◌, length, take, codes}
 use Rattle.msg_head.specs.Cuts.{IsSection}
 use Rattle.msg_head.specs.Heads.{Head, IsHead, IsHeadText, SpellsHead, IsUnfinished, head_text}
 use Rattle.msg_head.specs.Causes.{IsHeadError}
+use Rattle.msg_head.specs.Lines.{FieldLine}
+use Rattle.msg_head.specs.Trailers.{SpellsTrailer, IsTrailerSection, IsTrailerUnfinished}
+use Rattle.msg_head.specs.TrailerCauses.{IsTrailerError}
 use Rattle.msg_head.specs.declared.error.HeadError.{HeadError}
 
 -- Two heads that the same bytes begin with are one head of one length.
@@ -48,3 +51,46 @@ NoHeadAnswerYet =
     (bytes : List ℕ) → IsUnfinished bytes →
     ((fault : HeadError) → ¬ IsHeadError bytes fault)
     × ((head : Head) (used : ℕ) → ¬ SpellsHead head used bytes)
+
+-- ---- trailer sections
+
+-- Two trailer sections that the same bytes begin with are one of one length.
+abbrev pub OneTrailer : Type 0
+OneTrailer =
+    (bytes : List ℕ) (one other : List FieldLine) (n m : ℕ) →
+    SpellsTrailer one n bytes → SpellsTrailer other m bytes → (one ≡ other) × (n ≡ m)
+
+-- A trailer section is CRLF alone where the bytes begin with CRLF, and else the bytes up to and
+-- with the first CRLF CRLF.
+abbrev pub TrailerSectionIs : Type 0
+TrailerSectionIs =
+    (bytes section : List ℕ) →
+    IsTrailerSection bytes section
+    ↔ (((rest : List ℕ) × (bytes ≡ codes "\r\n" ++ rest) × (section ≡ codes "\r\n"))
+    ⊎ (((rest : List ℕ) → bytes ≢ codes "\r\n" ++ rest) × IsSection bytes section))
+
+-- A trailer section ends at its first empty line.
+abbrev pub TrailerEndsAtFirstEnd : Type 0
+TrailerEndsAtFirstEnd =
+    (bytes : List ℕ) (lines : List FieldLine) (used : ℕ) →
+    SpellsTrailer lines used bytes → IsTrailerSection bytes (take used bytes)
+
+-- Bytes have at most one fault as a trailer section.
+abbrev pub OneTrailerFault : Type 0
+OneTrailerFault =
+    (bytes : List ℕ) (fault other : HeadError) →
+    IsTrailerError bytes fault → IsTrailerError bytes other → fault ≡ other
+
+-- Bytes that begin with a trailer section have no fault as one.
+abbrev pub NoFaultAtTrailer : Type 0
+NoFaultAtTrailer =
+    (bytes : List ℕ) (lines : List FieldLine) (used : ℕ) (fault : HeadError) →
+    SpellsTrailer lines used bytes → ¬ IsTrailerError bytes fault
+
+-- Bytes to which the end of a trailer section may still come have no fault as one, and begin with
+-- none.
+abbrev pub NoTrailerAnswerYet : Type 0
+NoTrailerAnswerYet =
+    (bytes : List ℕ) → IsTrailerUnfinished bytes →
+    ((fault : HeadError) → ¬ IsTrailerError bytes fault)
+    × ((lines : List FieldLine) (used : ℕ) → ¬ SpellsTrailer lines used bytes)

@@ -4,8 +4,12 @@ pub mod Starts
 pub mod Cuts
 pub mod Heads
 pub mod Causes
+pub mod Trailers
+pub mod TrailerCauses
 pub mod Laws
 pub mod Views
 pub mod Outcome
+pub mod TrailerViews
+pub mod TrailerOutcome
 pub mod tools
 pub use Rattle.byte_classes.specs.Classes

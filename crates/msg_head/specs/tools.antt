@@ -2,3 +2,4 @@ pub mod Texts
 pub mod Prefixes
 pub mod Sections
 pub mod Judged
+pub mod TrailerJudged

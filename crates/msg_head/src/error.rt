@@ -1,4 +1,4 @@
-//! Why a head isn't read.
+//! Why a head or a trailer section isn't read.
 
 use std::alloc::{AllocError, AllocFailed};
 use std::error::Error;
@@ -13,16 +13,18 @@ pub enum Side {
     Trailer,
 }
 
-/// Why no head was read. Where several hold, the first in this order is answered.
+/// Why no head or no trailer section was read. Where several hold, the first in this order is
+/// answered.
 #[derive(Clone, Copy, Debug, PartialEq, Eq)]
 pub enum HeadError {
     /// No memory was found for the offsets of the field lines.
     Memory,
     /// As many bytes as the side may have are there, and its end isn't among them.
     TooLong(Side),
-    /// NUL, a CR without LF after it or an LF without CR before it stands at this offset.
+    /// NUL, a CR without LF after it or an LF without CR before it stands at this offset from the
+    /// first byte that was given.
     NakedEnd(usize),
-    /// The first line is neither a request line nor a status line.
+    /// The first line of a head is neither a request line nor a status line.
     BadStart,
     /// The side has more field lines than it may have. A folded line counts as one.
     TooManyLines(Side),

@@ -1,9 +1,9 @@
-//! The field lines of a head, one after the other.
+//! The field lines of a head or a trailer section, one after the other.
 
 use crate::line::{LineSpan, LineView, line_at};
 use std::marker::Model;
 
-/// The field lines of a head that are left, in order. A contract sees it as their list.
+/// The field lines that are left, in order. A contract sees it as their list.
 #[derive(Debug, Drop)]
 pub struct FieldLines<'h, 'm> {
     bytes: &'m [u8],

@@ -7,13 +7,13 @@ ghost use Rattle.byte_grammar.specs.Causes.{AnswersWhere};
 ghost use Rattle.msg_head.specs.Causes.{IsHeadError};
 ghost use Rattle.msg_head.specs.Views.{IsViewOf};
 ghost use Rattle.msg_head.specs.Outcome.{IfWholeHead, IsHeadUnlessMemory};
-ghost use Rattle.msg_head.specs.tools.Texts.{EndsWithLf, IsClean};
-ghost use Rattle.msg_head.specs.tools.Judged.{IsSectionView, IsSectionFault, IsFirstFault, ExplainsHead};
+ghost use Rattle.msg_head.specs.tools.Texts.{IsClean};
+ghost use Rattle.msg_head.specs.tools.Judged.{IsSectionView, IsSectionFault, ExplainsHead};
 
 use crate::error::{HeadError, Side};
 use crate::limits::MAX_HEAD_BYTES;
 use crate::line::read_lines;
-use crate::section::{first_naked_end, head_section};
+use crate::section::{first_fault, head_section};
 use crate::slices::prefix_of;
 use crate::start::read_start;
 use crate::view::HeadView;
@@ -40,17 +40,6 @@ fn read_section<'m>(alloc: Global, section: &'m [u8]) -> Result<HeadView<'m>, He
     };
     let spans = read_lines(alloc, Side::Header, section, rest)?;
     Ok(HeadView::new(section, start, spans))
-}
-
-// The naked end of a refused section, which is judged first, or the fault where there is none.
-fn first_fault(section: &[u8], fault: HeadError) -> HeadError
-    requires { EndsWithLf section.now }
-    ensures { IsFirstFault section.now fault result }
-{
-    match first_naked_end(section) {
-        Some(offset) => HeadError::NakedEnd(offset),
-        None => fault,
-    }
 }
 
 // The answer to bytes, by its cause.

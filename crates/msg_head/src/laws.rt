@@ -1,6 +1,6 @@
-//! Laws of heads.
+//! Laws of heads and of trailer sections.
 
-ghost use Rattle.msg_head.specs.Laws.{OneHead, OneHeadOfText, NoHeadInPrefix, EndsAtFirstEnd, OneHeadFault, NoFaultAtHead, NoHeadAnswerYet};
+ghost use Rattle.msg_head.specs.Laws.{OneHead, OneHeadOfText, NoHeadInPrefix, EndsAtFirstEnd, OneHeadFault, NoFaultAtHead, NoHeadAnswerYet, OneTrailer, TrailerSectionIs, TrailerEndsAtFirstEnd, OneTrailerFault, NoFaultAtTrailer, NoTrailerAnswerYet};
 
 /// The laws of heads: bytes begin with at most one head, a text is that of at most one head, no
 /// head's text is a proper prefix of another's, and a head ends at the first CRLF CRLF.
@@ -17,4 +17,16 @@ pub fn heads_have_one_answer()
     ensures fault { OneHeadFault }
     ensures head { NoFaultAtHead }
     ensures unfinished { NoHeadAnswerYet }
+{}
+
+/// Out of memory aside, the answer to bytes that are read as a trailer section is one: they begin
+/// with one such section, which ends at its first empty line, or its end may still come, or they
+/// have one fault.
+pub fn trailers_have_one_answer()
+    ensures one { OneTrailer }
+    ensures section { TrailerSectionIs }
+    ensures end { TrailerEndsAtFirstEnd }
+    ensures fault { OneTrailerFault }
+    ensures trailer { NoFaultAtTrailer }
+    ensures unfinished { NoTrailerAnswerYet }
 {}

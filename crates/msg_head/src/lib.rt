@@ -1,4 +1,5 @@
-//! Heads of HTTP/1.1 messages: a start line and field lines (RFC 9112).
+//! Heads of HTTP/1.1 messages: a start line and field lines (RFC 9112). Trailer sections too: field
+//! lines after chunked content.
 //!
 //! A head is read from the start of the bytes that hold it, and the view of it borrows them. Raw
 //! values keep their obsolete line folding.
@@ -22,15 +23,17 @@ mod raw;
 mod section;
 mod slices;
 mod start;
+mod trailer;
 mod view;
 
 pub use error::{HeadError, Side};
 pub use field_lines::FieldLines;
 pub use head::{HeadRead, read_head};
-pub use laws::{head_laws, heads_have_one_answer};
+pub use laws::{head_laws, heads_have_one_answer, trailers_have_one_answer};
 pub use limits::{MAX_HEAD_BYTES, MAX_HEAD_LINES};
 pub use line::{LineSpan, LineView};
 pub use start::Start;
+pub use trailer::{TrailerRead, TrailerView, read_trailer};
 pub use view::HeadView;
 
 #[cfg(test)]

@@ -1,10 +1,13 @@
-//! Where a head ends, and the ends in it that are none.
+//! Where a head or a trailer section ends, and the ends in it that are none.
 
 ghost use Rattle.std.specs.Prelude.{IfSome, IfNone};
 ghost use Rattle.msg_head.specs.Cuts.{HasNoEnd, IsSection, IsFirstNakedEnd};
+ghost use Rattle.msg_head.specs.Trailers.{IsTrailerSection, after_chunks};
 ghost use Rattle.msg_head.specs.tools.Texts.{EndsWithLf, IsClean};
+ghost use Rattle.msg_head.specs.tools.Judged.{IsFirstFault};
 
-use crate::slices::{rest_after, rest_from};
+use crate::error::HeadError;
+use crate::slices::{begins_with_crlf, rest_after, rest_from};
 use memchr::{memchr3, memmem};
 
 /// The bytes up to and with the first CRLF CRLF.
@@ -14,6 +17,17 @@ pub(crate) fn head_section(bytes: &[u8]) -> Option<&[u8]>
 {
     let end = memmem::find(bytes, b"\r\n\r\n")?;
     Some(&bytes[..end + 4])
+}
+
+/// The bytes up to and with the end of the trailer section that they begin with.
+pub(crate) fn trailer_section(bytes: &[u8]) -> Option<&[u8]>
+    ensures some { IfSome result (λ section. IsTrailerSection bytes.now section.now) }
+    ensures none { IfNone result (HasNoEnd (after_chunks bytes.now)) }
+{
+    if begins_with_crlf(bytes) {
+        return Some(&bytes[..2]);
+    }
+    head_section(bytes)
 }
 
 /// Where the first NUL stands, or the first CR without LF after it or LF without CR before it.
@@ -29,5 +43,16 @@ pub(crate) fn first_naked_end(section: &[u8]) -> Option<usize>
             return Some(section.len() - left.len() + n);
         };
         left = after;
+    }
+}
+
+/// The naked end of a refused section, which is judged first, or the fault where there is none.
+pub(crate) fn first_fault(section: &[u8], fault: HeadError) -> HeadError
+    requires { EndsWithLf section.now }
+    ensures { IsFirstFault section.now fault result }
+{
+    match first_naked_end(section) {
+        Some(offset) => HeadError::NakedEnd(offset),
+        None => fault,
     }
 }

@@ -2,6 +2,8 @@ use super::*;
 use std::alloc::{AllocError, Global};
 use std::test::Fail;
 
+const LINE: &[u8] = b"GET / HTTP/1.1\r\n";
+
 const SMALL: &[u8] = b"GET /a?b HTTP/1.1\r\nHost: example.com\r\nX-Empty:\r\n\r\n";
 
 // How many bytes the first head has; None where the end of a head may still come.
@@ -12,10 +14,23 @@ fn used(alloc: Global, bytes: &[u8]) -> Result<Option<usize>, HeadError> {
     }
 }
 
-// A request line of 16 bytes, and then the same bytes some times.
-fn repeated(alloc: Global, bytes: &[u8], times: usize) -> Result<Vec<u8>, AllocError> {
+// How many bytes the first trailer section has; None where its end may still come.
+fn trailer_used(alloc: Global, bytes: &[u8]) -> Result<Option<usize>, HeadError> {
+    match read_trailer(alloc, bytes)? {
+        TrailerRead::Whole(_, used) => Ok(Some(used)),
+        TrailerRead::Partial => Ok(None),
+    }
+}
+
+// The first bytes, and then the same bytes some times.
+fn repeated(
+    alloc: Global,
+    first: &[u8],
+    bytes: &[u8],
+    times: usize,
+) -> Result<Vec<u8>, AllocError> {
     let mut text = Vec::new(alloc);
-    text.extend_from_slice(b"GET / HTTP/1.1\r\n")?;
+    text.extend_from_slice(first)?;
     for _ in 0..times {
         text.extend_from_slice(bytes)?;
     }
@@ -183,7 +198,7 @@ fn first_bad_line_is_named(rt: HostRuntime) {
 
 #[test]
 fn head_has_at_most_65536_bytes(rt: HostRuntime) -> Result<(), Fail> {
-    let mut text = repeated(rt.alloc(), b"", 0)?;
+    let mut text = repeated(rt.alloc(), LINE, b"", 0)?;
     text.extend_from_slice(b"A:")?;
     for _ in 0..65_514 {
         text.push(b'x')?;
@@ -329,26 +344,127 @@ fn each_byte_is_judged_beside_half_an_end(rt: HostRuntime) {
 
 #[test]
 fn head_has_at_most_256_lines(rt: HostRuntime) -> Result<(), Fail> {
-    let mut text = repeated(rt.alloc(), b"a:\r\n", 256)?;
+    let mut text = repeated(rt.alloc(), LINE, b"a:\r\n", 256)?;
     text.extend_from_slice(b"\r\n")?;
     assert_eq!(rt; used(rt.alloc(), &text)?, Some(1_042));
-    let mut more = repeated(rt.alloc(), b"a:\r\n", 257)?;
+    let mut more = repeated(rt.alloc(), LINE, b"a:\r\n", 257)?;
     more.extend_from_slice(b"\r\n")?;
     assert_eq!(rt;
         used(rt.alloc(), &more),
         Err(HeadError::TooManyLines(Side::Header))
     );
-    let mut bad = repeated(rt.alloc(), b"bad\r\n", 256)?;
+    let mut bad = repeated(rt.alloc(), LINE, b"bad\r\n", 256)?;
     bad.extend_from_slice(b"\r\n")?;
     assert_eq!(rt;
         used(rt.alloc(), &bad),
         Err(HeadError::BadLine(Side::Header, 0))
     );
-    let mut many = repeated(rt.alloc(), b"bad\r\n", 257)?;
+    let mut many = repeated(rt.alloc(), LINE, b"bad\r\n", 257)?;
     many.extend_from_slice(b"\r\n")?;
     assert_eq!(rt;
         used(rt.alloc(), &many),
         Err(HeadError::TooManyLines(Side::Header))
+    );
+    Ok(())
+}
+
+#[test]
+fn trailer_view_has_the_lines_as_written(rt: HostRuntime) -> Result<(), Fail> {
+    let bytes = b"X-Sum: 1 \r\nA:b\r\n c\r\n\r\nGET";
+    let TrailerRead::Whole(view, used) = read_trailer(rt.alloc(), bytes)? else {
+        return Err("no trailer section".into());
+    };
+    assert_eq!(rt; used, 22);
+    assert_eq!(rt; view.line_count(), 2);
+    let first = view.line(0);
+    assert_eq!(rt; first.name, b"X-Sum".as_slice());
+    assert_eq!(rt; first.raw, b" 1 ".as_slice());
+    let last = view.line(1);
+    assert_eq!(rt; last.name, b"A".as_slice());
+    assert_eq!(rt; last.raw, b"b\r\n c".as_slice());
+    assert_eq!(rt; view.lines().count(), 2);
+    Ok(())
+}
+
+#[test]
+fn trailer_section_ends_at_its_first_empty_line(rt: HostRuntime) -> Result<(), Fail> {
+    let section = b"A: b\r\nC:\r\n d\r\n\r\n".as_slice();
+    for count in 0..section.len() {
+        assert_eq!(rt; trailer_used(rt.alloc(), &section[..count])?, None);
+    }
+    let sections = [
+        (b"\r\n".as_slice(), Some(2)),
+        (b"\r\n\r\n", Some(2)),
+        (b"\r\nA: b\0", Some(2)),
+        (b"A: b\r\n\r\n\r\n\0", Some(8)),
+        (b"A:\r\n\t\r\n\r\n", Some(9)),
+        (b"\r", None),
+        (b"\n", None),
+        (b"\n\r\n", None),
+        (b"\rA", None),
+        (b"A: \0\r\n", None),
+        (b"A\n\n", None),
+    ];
+    for (bytes, wanted) in sections {
+        assert_eq!(rt; trailer_used(rt.alloc(), bytes)?, wanted);
+    }
+    Ok(())
+}
+
+#[test]
+fn each_fault_of_a_trailer_section_is_named(rt: HostRuntime) {
+    let sections = [
+        (
+            b" A: b\r\n\r\n".as_slice(),
+            HeadError::BadLine(Side::Trailer, 0),
+        ),
+        (
+            b"\tA: b\r\nC: d\r\n\r\n",
+            HeadError::BadLine(Side::Trailer, 0),
+        ),
+        (b"A : b\r\n\r\n", HeadError::BadLine(Side::Trailer, 0)),
+        (
+            b"A:\r\n b\r\nC\r\n D: e\r\n\r\n",
+            HeadError::BadLine(Side::Trailer, 1),
+        ),
+        (b"A: \0\r\n\r\n", HeadError::NakedEnd(3)),
+        (b"A\r\nB: c\nD: e\r\n\r\n", HeadError::NakedEnd(7)),
+        (b"\n\r\n\r\n", HeadError::NakedEnd(0)),
+        (b"\r\r\n\r\n", HeadError::NakedEnd(0)),
+    ];
+    for (bytes, fault) in sections {
+        assert_eq!(rt; trailer_used(rt.alloc(), bytes), Err(fault));
+    }
+}
+
+#[test]
+fn trailer_section_has_at_most_65536_bytes(rt: HostRuntime) -> Result<(), Fail> {
+    let long = Err(HeadError::TooLong(Side::Trailer));
+    let mut text = repeated(rt.alloc(), b"A:", b"x", 65_530)?;
+    text.extend_from_slice(b"\r\n\r\n")?;
+    assert_eq!(rt; trailer_used(rt.alloc(), &text), Ok(Some(65_536)));
+
+    text.truncate(65_532);
+    text.extend_from_slice(b"\0\r\n")?;
+    assert_eq!(rt; text.len(), 65_535);
+    assert_eq!(rt; trailer_used(rt.alloc(), &text), Ok(None));
+    text.extend_from_slice(b"\r\n")?;
+    assert_eq!(rt; trailer_used(rt.alloc(), &text), long);
+    text.truncate(65_536);
+    assert_eq!(rt; trailer_used(rt.alloc(), &text), long);
+    Ok(())
+}
+
+#[test]
+fn trailer_section_has_at_most_256_lines(rt: HostRuntime) -> Result<(), Fail> {
+    let mut text = repeated(rt.alloc(), b"", b"a:\r\n", 256)?;
+    text.extend_from_slice(b"\r\n")?;
+    assert_eq!(rt; trailer_used(rt.alloc(), &text)?, Some(1_026));
+    let mut more = repeated(rt.alloc(), b"bad\r\n", b"a:\r\n", 256)?;
+    more.extend_from_slice(b"\r\n")?;
+    assert_eq!(rt;
+        trailer_used(rt.alloc(), &more),
+        Err(HeadError::TooManyLines(Side::Trailer))
     );
     Ok(())
 }

@@ -1,6 +1,5 @@
 -- What is answered to bytes, by its cause. No public clause cites this module.
-use Rattle.std.specs.Prelude.{◌≡◌, ◌≢◌, ◌⊎◌, ℕ, ◌≤◌, List, length, Result, Ok, Err}
-use Rattle.msg_head.specs.declared.limits.TheConstants.{MAX_HEAD_BYTES}
+use Rattle.std.specs.Prelude.{◌≡◌, ◌≢◌, ◌⊎◌, ℕ, List, Result, Ok, Err}
 use Rattle.msg_head.specs.declared.head.HeadRead.{HeadRead}
 use Rattle.msg_head.specs.declared.head.HeadRead.TheVariants.{Whole, Partial}
 use Rattle.msg_head.specs.declared.error.Side.TheVariants.{Header}
@@ -14,11 +13,10 @@ use Rattle.msg_head.specs.Causes.{IsHeadError}
 use Rattle.msg_head.specs.tools.Texts.{IsClean}
 use Rattle.msg_head.specs.tools.Sections.{IsLinesFault}
 
--- the bytes up to their first end, short enough and clean
+-- the bytes up to their first end, and clean
 pub record IsCleanSection (section : List ℕ) : Type 0 where
   pub is : IsSection section section
   pub clean : IsClean section
-  pub short : length section ≤ MAX_HEAD_BYTES
 
 -- the section's first naked end, or the fault where there is none
 abbrev pub IsFirstFault : List ℕ → HeadError → HeadError → Type 0

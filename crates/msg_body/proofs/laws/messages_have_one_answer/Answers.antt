@@ -1,4 +1,4 @@
-use Rattle.msg_body.proofs.AnswerLaws.{one_message_at_law, one_message_fault_law, no_fault_at_message_law, no_message_yet_law}
+use Rattle.msg_body.proofs.OneMessages.{one_message_at_law, one_message_fault_law, no_fault_at_message_law, no_message_answer_yet_law}
 use Rattle.msg_body.proofs.laws.messages_have_one_answer.Goals as goal
 
 pub returns-clause-at : goal.returns-clause-at
@@ -11,4 +11,4 @@ pub returns-clause-message : goal.returns-clause-message
 returns-clause-message c = no_fault_at_message_law
 
 pub returns-clause-unfinished : goal.returns-clause-unfinished
-returns-clause-unfinished c = no_message_yet_law
+returns-clause-unfinished c = no_message_answer_yet_law

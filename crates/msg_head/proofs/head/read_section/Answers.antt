@@ -1,27 +1,23 @@
-use Rattle.std.proofs.Common.{◌≡◌, sym, subst}
-use Rattle.std.specs.Prelude.{Result, Ok, Err, IsErrAnd, IfErr}
+use Rattle.std.proofs.Common.{sym, subst}
 use Rattle.msg_head.specs.Views.{View}
 use Rattle.msg_head.specs.tools.Judged.{IsSectionView, IsSectionFault}
 use Rattle.msg_head.proofs.CleanTexts.{clean_section}
 use Rattle.msg_head.proofs.Grouping.{section_cut, well_started, bad_start}
 use Rattle.msg_head.proofs.FaultLaws.{late_fault}
+use Rattle.msg_head.proofs.OneAnswer.{err_of}
 use Rattle.msg_head.proofs.Wholes.{section_view}
 use Rattle.msg_head.proofs.head.read_section.Goals as goal
-
-err_of : {T E : Type 0} (result : Result T E) (P : E → Type 0) (e : E) → IsErrAnd result (λ given. given ≡ e) → P e → IfErr result P
-err_of (Ok x) P e is p = tt
-err_of (Err f) P e is p = subst P (sym is) p
 
 pub returns-in_default-clause-err : goal.returns-in_default-clause-err
 returns-in_default-clause-err c clean =
     let section = c.args.section.now in
-    let cut = section_cut section (record { is = c.requires.is; clean = clean; short = c.requires.short }) in
+    let cut = section_cut section (record { is = c.requires.is; clean = clean }) in
     (cut.start, cut.lines, cut.cut, bad_start section cut c.in_default.ensures.none)
 
 pub returns-in_err-spans-clause-err : goal.returns-in_err-spans-clause-err
 returns-in_err-spans-clause-err c clean =
     let section = c.args.section.now in
-    let cut = section_cut section (record { is = c.requires.is; clean = clean; short = c.requires.short }) in
+    let cut = section_cut section (record { is = c.requires.is; clean = clean }) in
     let well = well_started section cut _ _ c.in-Some.ensures.some in
     let fault = c.in_err-spans.ensures.err cut.lines well.rest_is in
     err_of c.from_residual.result (λ f. IsSectionFault section f) c.in_err-spans.field-0.0 c.from_residual.ensures.1 (cut.start, cut.lines, cut.cut, late_fault cut.start cut.lines c.in_err-spans.field-0.0 well.good fault)
@@ -30,7 +26,7 @@ pub new-requires : goal.new-requires
 new-requires c =
     let section = c.args.section.now in
     let clean = clean_section section _ _ c.requires.is c.in-Some.ensures.some c.in_ok-spans.ensures.clean in
-    let cut = section_cut section (record { is = c.requires.is; clean = clean; short = c.requires.short }) in
+    let cut = section_cut section (record { is = c.requires.is; clean = clean }) in
     let well = well_started section cut _ _ c.in-Some.ensures.some in
     (c.in_ok-spans.ensures.ok cut.lines well.rest_is).lie
 
@@ -38,7 +34,7 @@ pub returns-clause-ok : goal.returns-clause-ok
 returns-clause-ok c =
     let section = c.args.section.now in
     let clean = clean_section section _ _ c.requires.is c.in-Some.ensures.some c.in_ok-spans.ensures.clean in
-    let cut = section_cut section (record { is = c.requires.is; clean = clean; short = c.requires.short }) in
+    let cut = section_cut section (record { is = c.requires.is; clean = clean }) in
     let well = well_started section cut _ _ c.in-Some.ensures.some in
     let spans = c.in_ok-spans.ensures.ok cut.lines well.rest_is in
     subst (λ (v : View). IsSectionView v section) (sym c.new.ensures) (section_view section _ _ _ c.requires.short c.in-Some.ensures.some spans)

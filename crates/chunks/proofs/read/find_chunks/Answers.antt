@@ -1,0 +1,46 @@
+use Rattle.std.proofs.Common.{◌≡◌, ◌+◌, ◌-◌, ◌<◌, ◌≤◌, length, refl, sym, arith}
+use Rattle.chunks.specs.declared.read.Stop.TheVariants.{Left}
+use Rattle.chunks.specs.tools.Judged.{IsStop}
+use Rattle.chunks.proofs.Finding.{first_found, left_within, done_count, stopped_at_line, stopped_at_data, line_count, too_long, next_found, data_count, last_found}
+use Rattle.chunks.proofs.Outcomes.{err_of}
+use Rattle.chunks.proofs.read.find_chunks.Goals as goal
+
+pub chunks-init : goal.chunks-init
+chunks-init c = rw c.new-spans.ensures.items (first_found c.args.bytes.now)
+
+pub returns-in_err-first-clause-err : goal.returns-in_err-first-clause-err
+returns-in_err-first-clause-err c =
+    err_of c.from_residual.result (λ stop. IsStop c.args.bytes.now stop) (Left c.in_err-first.field-0.0.0) c.from_residual.ensures.1 (stopped_at_line c.chunks.invariant c.in_err-first.field-0.0.0 c.in_err-first.ensures.gives)
+
+pub overflow_sub-result : goal.overflow_sub-result
+overflow_sub-result c = omega (arith, left_within c.chunks.invariant, line_count c.chunks.invariant c.in_ok-first.ensures.gives)
+
+pub returns-then-first-eq0-clause-ok : goal.returns-then-first-eq0-clause-ok
+returns-then-first-eq0-clause-ok c =
+    last_found c.chunks.invariant c.in_ok-first.ensures.gives _ c.if-first-eq0.true refl refl refl refl
+
+pub returns-then-first-room-clause-err : goal.returns-then-first-room-clause-err
+returns-then-first-room-clause-err c = too_long c.chunks.invariant c.in_ok-first.ensures.gives c.if-first-room.true
+
+pub returns-in_err-after-clause-err : goal.returns-in_err-after-clause-err
+returns-in_err-after-clause-err c =
+    err_of c.from_residual-in_err-after.result (λ stop. IsStop c.args.bytes.now stop) (Left c.in_err-after.field-0.0.0) c.from_residual-in_err-after.ensures.1
+    (stopped_at_data c.chunks.invariant c.in_ok-first.ensures.gives c.in_err-after.field-0.0.0 (omega (arith, c.if-first-eq0.false)) (omega (arith, c.if-first-room.false)) c.in_err-after.ensures)
+
+pub overflow_add-line_end-in-chunks : goal.overflow_add-line_end-in-chunks
+overflow_add-line_end-in-chunks c = omega (arith, left_within c.chunks.invariant, line_count c.chunks.invariant c.in_ok-first.ensures.gives)
+
+pub overflow_add-line_end-in-chunks-2 : goal.overflow_add-line_end-in-chunks-2
+overflow_add-line_end-in-chunks-2 c =
+    omega (arith, left_within c.chunks.invariant, line_count c.chunks.invariant c.in_ok-first.ensures.gives, (data_count c.chunks.invariant c.in_ok-first.ensures.gives _ _ c.in_ok-after.ensures).1)
+
+pub chunks-smaller : goal.chunks-smaller
+chunks-smaller c =
+    omega (arith, line_count c.chunks.invariant c.in_ok-first.ensures.gives, (data_count c.chunks.invariant c.in_ok-first.ensures.gives _ _ c.in_ok-after.ensures).1)
+
+pub chunks-preserved : goal.chunks-preserved
+chunks-preserved c =
+    let offset = length c.args.bytes.now - length c.chunks.left.now in
+    let count = (data_count c.chunks.invariant c.in_ok-first.ensures.gives _ _ c.in_ok-after.ensures).0 in
+    rw c.in_ok-push.ensures.items (next_found c.chunks.invariant c.in_ok-first.ensures.gives c.in_ok-after.field-0-0.now c.in_ok-after.after.now _ (omega (arith, c.if-first-eq0.false)) (omega (arith, c.if-first-room.false)) c.in_ok-after.ensures
+    (λ i. record { line = offset; line_end = offset + length c.in_ok-first.first.text.now; end = offset + length c.in_ok-first.first.text.now + 2 + sym count i }))

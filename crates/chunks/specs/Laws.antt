@@ -1,0 +1,38 @@
+-- Laws of chunks.
+use Rattle.std.specs.Prelude.{◌≡◌, ◌≢◌, ℕ, ◌<◌, ◌≤◌, List, length, take}
+use Rattle.chunks.specs.Chunks.{Chunks, AreChunks, AreChunksText, SpellsChunks, chunks_text}
+use Rattle.chunks.specs.Causes.{BeginsChunks, IsChunksError, AreChunksUnfinished}
+use Rattle.chunks.specs.declared.error.ChunkError.{ChunkError}
+
+-- Bytes begin with at most one text of chunks, whatever the length of its content, and it is that of
+-- one list of chunks.
+abbrev pub OneChunks : Type 0
+OneChunks =
+    (bytes : List ℕ) (one other : Chunks) (n m : ℕ) → n ≤ length bytes → m ≤ length bytes →
+    AreChunksText one (take n bytes) → AreChunksText other (take m bytes)
+    → (one ≡ other) × (n ≡ m)
+
+-- No text of chunks is a proper prefix of another, or of what begins another.
+abbrev pub NoChunksInPrefix : Type 0
+NoChunksInPrefix =
+    (bytes : List ℕ) (cs : Chunks) (n : ℕ) →
+    BeginsChunks bytes → n < length bytes → ¬ AreChunksText cs (take n bytes)
+
+-- Bytes have at most one fault.
+abbrev pub OneChunksFault : Type 0
+OneChunksFault =
+    (bytes : List ℕ) (fault other : ChunkError) →
+    IsChunksError bytes fault → IsChunksError bytes other → fault ≡ other
+
+-- Bytes that begin with chunks within the limit have no fault.
+abbrev pub NoFaultAtChunks : Type 0
+NoFaultAtChunks =
+    (bytes : List ℕ) (cs : Chunks) (used : ℕ) (fault : ChunkError) →
+    SpellsChunks cs used bytes → ¬ IsChunksError bytes fault
+
+-- Bytes to which the end of chunks may still come have no fault, and begin with no chunks.
+abbrev pub NoChunksAnswerYet : Type 0
+NoChunksAnswerYet =
+    (bytes : List ℕ) → AreChunksUnfinished bytes →
+    ((fault : ChunkError) → ¬ IsChunksError bytes fault)
+    × ((cs : Chunks) (used : ℕ) → ¬ SpellsChunks cs used bytes)

@@ -1,0 +1,24 @@
+-- What the reader of chunks answers.
+use Rattle.std.specs.Prelude.{◌≡◌, ◌⊎◌, ℕ, Result, Ok, Err, ⊤}
+use Rattle.chunks.specs.declared.read.ChunksRead.{ChunksRead}
+use Rattle.chunks.specs.declared.read.ChunksRead.TheVariants.{Whole, Partial}
+use Rattle.chunks.specs.declared.error.ChunkError.{ChunkError}
+use Rattle.chunks.specs.declared.error.ChunkError.TheVariants.{Memory}
+use Rattle.chunks.specs.Chunks.{Chunks}
+use Rattle.chunks.specs.Views.{ChunksParts, chunks_of}
+
+-- where the answer is a view and its length, this holds of them
+abbrev pub IfWholeChunks : Result ChunksRead ChunkError → (ChunksParts → ℕ → Type 0) → Type 0
+IfWholeChunks (Ok (Whole view used)) P = P view used
+IfWholeChunks (Ok Partial) P = ⊤
+IfWholeChunks (Err _) P = ⊤
+
+-- the answer is a view of these chunks, and its length, or out of memory
+abbrev pub IsChunksUnlessMemory : Result ChunksRead ChunkError → Chunks → ℕ → Type 0
+IsChunksUnlessMemory (Ok (Whole view count)) cs used = (chunks_of view ≡ cs) × (count ≡ used)
+IsChunksUnlessMemory (Ok Partial) cs used = ⊥
+IsChunksUnlessMemory (Err error) cs used = error ≡ Memory
+
+-- the answer is that more bytes are wanted, or out of memory
+abbrev pub IsPartialUnlessMemory : Result ChunksRead ChunkError → Type 0
+IsPartialUnlessMemory result = (result ≡ Ok Partial) ⊎ (result ≡ Err Memory)

@@ -1,0 +1,3 @@
+pub mod ChunkWalk
+pub mod Turns
+pub mod Judged

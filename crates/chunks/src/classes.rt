@@ -1,0 +1,45 @@
+//! The classes of the bytes of a chunk line.
+
+use byte_classes::ByteClass;
+
+/// A hexadecimal digit of either case: HEXDIG of RFC 5234 appendix B.1, and a to f.
+#[derive(Clone, Copy)]
+pub(crate) struct HexDigit;
+
+/// A byte with which an extension begins.
+#[derive(Clone, Copy)]
+pub(crate) struct ExtensionStart;
+
+/// A byte of an extension.
+#[derive(Clone, Copy)]
+pub(crate) struct ExtensionByte;
+
+impl ByteClass for HexDigit {
+    ghost use Rattle.std.specs.Char.{is_ascii_hexdigit};
+
+    ghost members = { λ _ c. is_ascii_hexdigit c };
+
+    fn allows(self, byte: u8) -> bool {
+        byte.is_ascii_hexdigit()
+    }
+}
+
+impl ByteClass for ExtensionStart {
+    ghost use Rattle.chunks.specs.Chunks.{begins_extension};
+
+    ghost members = { λ _ c. begins_extension c };
+
+    fn allows(self, byte: u8) -> bool {
+        matches!(byte, b';' | b' ' | b'\t')
+    }
+}
+
+impl ByteClass for ExtensionByte {
+    ghost use Rattle.chunks.specs.Chunks.{is_extension_byte};
+
+    ghost members = { λ _ c. is_extension_byte c };
+
+    fn allows(self, byte: u8) -> bool {
+        !matches!(byte, b'\0' | b'\r' | b'\n')
+    }
+}

@@ -1,0 +1,18 @@
+//! Laws of chunks.
+
+ghost use Rattle.chunks.specs.Laws.{OneChunks, NoChunksInPrefix, OneChunksFault, NoFaultAtChunks, NoChunksAnswerYet};
+
+/// The laws of chunks: bytes begin with the text of at most one list of chunks, and nothing that
+/// begins chunks goes on after their end.
+pub fn chunks_laws()
+    ensures one { OneChunks }
+    ensures prefix { NoChunksInPrefix }
+{}
+
+/// Out of memory aside, the answer to bytes is one: they begin with chunks, or the end of chunks may
+/// still come, or they have one fault.
+pub fn chunks_have_one_answer()
+    ensures fault { OneChunksFault }
+    ensures chunks { NoFaultAtChunks }
+    ensures unfinished { NoChunksAnswerYet }
+{}

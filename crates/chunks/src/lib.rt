@@ -1,0 +1,33 @@
+//! The chunks of a chunked message (RFC 9112 section 7.1), up to and with the line of the last one.
+//! The trailer section that comes after them is not read here.
+//!
+//! Chunks are read from the start of the bytes that hold them, and the view of them borrows these
+//! bytes. Sizes and limits are judged before any data is asked for, and data is never copied.
+//!
+//! ```text
+//! let bytes = b"4;a=b\r\nWiki\r\n0\r\n\r\n";
+//! match read_chunks(alloc, bytes)? {
+//!     ChunksRead::Whole(chunks, used) => { .. } // used is 16, the pieces of the content are b"Wiki"
+//!     ChunksRead::Partial => { .. }             // more bytes are wanted
+//! }
+//! ```
+#![tactic(auto)]
+
+mod classes;
+mod error;
+mod laws;
+mod limits;
+mod line;
+mod pieces;
+mod read;
+mod view;
+
+pub use error::ChunkError;
+pub use laws::{chunks_have_one_answer, chunks_laws};
+pub use limits::{MAX_CONTENT_BYTES, MAX_EXTENSION_BYTES, MAX_SIZE_DIGITS};
+pub use pieces::ChunkPieces;
+pub use read::{ChunksRead, read_chunks};
+pub use view::{ChunkSpan, ChunksView};
+
+#[cfg(test)]
+mod tests;

@@ -1,0 +1,153 @@
+//! Reads chunks.
+
+ghost use Rattle.std.specs.Prelude.{◌≡◌, ◌≢◌, ℕ, ◌≤◌, length, Ok, Err, IfOk, IfErr};
+ghost use Rattle.byte_grammar.specs.Causes.{AnswersWhere};
+ghost use Rattle.chunks.specs.Chunks.{Chunks, SpellsChunks};
+ghost use Rattle.chunks.specs.Causes.{IsChunksError, AreChunksUnfinished};
+ghost use Rattle.chunks.specs.Views.{IsChunksViewOf};
+ghost use Rattle.chunks.specs.Outcome.{IfWholeChunks, IsChunksUnlessMemory, IsPartialUnlessMemory};
+ghost use Rattle.chunks.specs.tools.Judged.{IsFound, IsStop, ExplainsChunks};
+
+use crate::error::ChunkError;
+use crate::limits::MAX_CONTENT_BYTES;
+use crate::line::{read_data, read_line};
+use crate::view::{ChunkSpan, ChunksView};
+use byte_grammar::Left;
+use std::alloc::{AllocError, AllocFailed, Global};
+
+/// What the bytes begin with.
+#[derive(Debug, Drop)]
+pub enum ChunksRead<'m> {
+    /// Chunks, and how many bytes spell them, the line of the last one and its CRLF included.
+    Whole(ChunksView<'m>, usize),
+    /// The last line isn't there yet, and may still come with its CRLF.
+    Partial,
+}
+
+// Where the chunks stand that the bytes begin with.
+#[derive(Debug, Drop)]
+struct Found {
+    spans: Vec<ChunkSpan>,
+    // Where the last line begins, and where its CRLF ends.
+    last: usize,
+    used: usize,
+    // How many bytes of data the chunks have.
+    content: usize,
+}
+
+// Why the chunks aren't found.
+#[derive(Clone, Copy, Debug)]
+enum Stop {
+    Memory,
+    TooLong,
+    // So many bytes were left where it stopped.
+    Left(usize),
+}
+
+impl From<Left> for Stop {
+    ghost use Rattle.std.specs.Prelude.{◌≡◌};
+    ghost use Rattle.chunks.specs.declared.read.Stop.TheVariants.{Left};
+
+    ghost from_gives = { λ left e. e ≡ Left left.0 };
+
+    fn from(left: Left) -> Self {
+        Self::Left(left.0)
+    }
+}
+
+impl From<AllocError> for Stop {
+    ghost use Rattle.std.specs.Prelude.{◌≡◌};
+    ghost use Rattle.chunks.specs.declared.read.Stop.TheVariants.{Memory};
+
+    ghost from_gives = { λ _ e. e ≡ Memory };
+
+    fn from(_error: AllocError) -> Self {
+        Self::Memory
+    }
+}
+
+impl<T: Drop> From<AllocFailed<T>> for Stop {
+    ghost use Rattle.std.specs.Prelude.{◌≡◌};
+    ghost use Rattle.chunks.specs.declared.read.Stop.TheVariants.{Memory};
+
+    ghost from_gives = { λ _ e. e ≡ Memory };
+
+    fn from(_error: AllocFailed<T>) -> Self {
+        Self::Memory
+    }
+}
+
+// Finds the chunks that the bytes begin with. A size is compared with the room that is left for
+// content, so no sum of sizes is made that could be too great.
+fn find_chunks(alloc: Global, bytes: &[u8]) -> Result<Found, Stop>
+    ensures ok { IfOk result (λ found. IsFound bytes.now found) }
+    ensures err { IfErr result (λ stop. IsStop bytes.now stop) }
+{
+    let mut spans = Vec::new(alloc);
+    let mut room = MAX_CONTENT_BYTES;
+    let mut left = bytes;
+    'chunks: loop {
+        let line = bytes.len() - left.len();
+        let (first, after_line) = read_line(left)?;
+        if first.size == 0 {
+            return Ok(Found {
+                spans,
+                last: line,
+                used: bytes.len() - after_line.len(),
+                content: MAX_CONTENT_BYTES - room,
+            });
+        }
+        if first.size > room as u64 {
+            return Err(Stop::TooLong);
+        }
+        let size = first.size as usize;
+        let (_, after) = read_data(size, after_line)?;
+        let line_end = line + first.text.len();
+        spans.push(ChunkSpan {
+            line,
+            line_end,
+            end: line_end + 2 + size,
+        })?;
+        room -= size;
+        left = after;
+    }
+}
+
+// The answer to bytes, by its cause.
+fn judge<'m>(alloc: Global, bytes: &'m [u8]) -> Result<ChunksRead<'m>, ChunkError>
+    ensures { ExplainsChunks bytes.now result }
+{
+    match find_chunks(alloc, bytes) {
+        Ok(found) => {
+            let chunks = &bytes[..found.used];
+            let view = ChunksView::new(chunks, found.spans, found.last, found.content);
+            Ok(ChunksRead::Whole(view, found.used))
+        }
+        Err(Stop::Left(left)) => {
+            if left == 0 {
+                return Ok(ChunksRead::Partial);
+            }
+            Err(ChunkError::Bad(bytes.len() - left))
+        }
+        Err(Stop::TooLong) => Err(ChunkError::TooLong),
+        Err(Stop::Memory) => Err(ChunkError::Memory),
+    }
+}
+
+/// Reads the chunks that the bytes begin with, up to and with the line of the last one and its CRLF
+/// (RFC 9112 section 7.1).
+///
+/// `TooLong` is answered as soon as the chunk line is there by whose size content is too long.
+pub fn read_chunks<'m>(alloc: Global, bytes: &'m [u8]) -> Result<ChunksRead<'m>, ChunkError>
+    ensures whole { IfWholeChunks result (λ view used. IsChunksViewOf bytes.now view used) }
+    ensures found { (cs : Chunks) (used : ℕ) → SpellsChunks cs used bytes.now
+        → IsChunksUnlessMemory result cs used }
+    ensures partial { result ≡ Ok ChunksRead.Partial → AreChunksUnfinished bytes.now }
+    ensures unfinished { AreChunksUnfinished bytes.now → IsPartialUnlessMemory result }
+
+    // The first fault whose cause holds is answered, and no other.
+    ensures fault { (fault : ChunkError) → fault ≢ ChunkError.Memory
+        → AnswersWhere ChunkError.Memory result fault (IsChunksError bytes.now fault) }
+{
+    judge(alloc, bytes)
+}

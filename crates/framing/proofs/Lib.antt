@@ -1,0 +1,3 @@
+mod Codings
+mod Digits
+pub mod FramingLaws

@@ -1,0 +1,5 @@
+use Rattle.framing.proofs.Digits.{is_length_bounded}
+use Rattle.framing.proofs.laws.framing_laws.Goals as goal
+
+pub returns-clause-bounded : goal.returns-clause-bounded
+returns-clause-bounded c = is_length_bounded

@@ -1,0 +1,14 @@
+use Rattle.std.proofs.Common.{◌∷◌, sym, ap, ◌∙◌, map}
+use Rattle.msg_head.specs.Lines.{FieldLine}
+use Rattle.msg_head.specs.Views.{field_line_of}
+use Rattle.line_values.specs.Values.{value, values}
+use Rattle.framing.proofs.named.NamedLines.of.Goals as goal
+
+pub returns-in-Some-next_named : goal.returns-in-Some-next_named
+returns-in-Some-next_named c = (
+  value c.in-Some.line.raw.now,
+  value c.in-Some-next_named.field-0.raw.now,
+  values c.next_named-2.new.lines c.args.name.now,
+  ap (λ lines. values lines c.args.name.now) (sym c.lines-lines.ensures)
+      ∙ ap (map (λ (line : FieldLine). value line.raw)) (c.in-Some.ensures.some ∙ ap (λ lines. field_line_of c.in-Some.line ∷ lines) c.in-Some-next_named.ensures.some),
+)

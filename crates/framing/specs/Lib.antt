@@ -1,0 +1,5 @@
+pub mod Framings
+pub mod Causes
+pub mod Laws
+pub mod tools
+pub use Rattle.msg_head.specs.Heads

@@ -1,0 +1,3 @@
+pub mod NamedLines
+pub mod Digits
+pub mod Judged

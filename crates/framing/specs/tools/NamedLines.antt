@@ -1,0 +1,12 @@
+-- The lines of a name, as the code keeps them. No public clause cites this module.
+use Rattle.std.specs.Prelude.{◌≡◌, ℕ, List, [], ◌∷◌}
+use Rattle.line_values.specs.Values.{value}
+use Rattle.framing.specs.declared.named.NamedLines.{NamedLines}
+use Rattle.framing.specs.declared.named.NamedLines.TheVariants.{None, One, Many}
+
+-- these are the values of the lines
+abbrev pub HaveValues : NamedLines → List (List ℕ) → Type 0
+HaveValues None texts = texts ≡ []
+HaveValues (One line) texts = texts ≡ value line.raw.now ∷ []
+HaveValues Many texts =
+    (first second : List ℕ) × (others : List (List ℕ)) × (texts ≡ first ∷ (second ∷ others))

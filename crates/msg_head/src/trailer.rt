@@ -1,0 +1,135 @@
+//! Reads a trailer section.
+
+ghost use Rattle.std.specs.Prelude.{◌≡◌, ◌≢◌, ℕ, ◌<◌, ◌≤◌, ◌↔◌, List, length, slice_get, Some, IsTrue, IfOk, IfErr, Ok};
+ghost use Rattle.byte_grammar.specs.Causes.{AnswersWhere};
+ghost use Rattle.msg_head.specs.Lines.{FieldLine};
+ghost use Rattle.msg_head.specs.Trailers.{SpellsTrailer, IsTrailerSection, IsTrailerUnfinished};
+ghost use Rattle.msg_head.specs.TrailerCauses.{IsTrailerError};
+ghost use Rattle.msg_head.specs.TrailerViews.{IsTrailerViewOf};
+ghost use Rattle.msg_head.specs.TrailerOutcome.{IfWholeTrailer, IsTrailerUnlessMemory};
+ghost use Rattle.msg_head.specs.tools.Texts.{IsClean};
+ghost use Rattle.msg_head.specs.tools.TrailerJudged.{IsTrailerSectionView, IsTrailerSectionFault, ExplainsTrailer};
+
+use crate::error::{HeadError, Side};
+use crate::field_lines::FieldLines;
+use crate::limits::MAX_HEAD_BYTES;
+use crate::line::{LineSpan, LineView, line_at, read_lines};
+use crate::section::{first_fault, trailer_section};
+use crate::slices::prefix_of;
+use std::alloc::Global;
+use std::marker::Model;
+
+/// A trailer section, borrowed from its bytes. A contract sees it as the bytes and the offsets of
+/// the field lines.
+#[derive(Debug, Drop)]
+pub struct TrailerView<'m> {
+    bytes: &'m [u8],
+    lines: Vec<LineSpan>,
+}
+
+impl<'m> Model for TrailerView<'m> {
+    ghost use Rattle.std.specs.Prelude.{length, IsTrue};
+    ghost use Rattle.std.specs.List.{list_all};
+    ghost use Rattle.msg_head.specs.Views.{lies_in};
+    ghost use Rattle.msg_head.specs.TrailerViews.{TrailerParts};
+
+    ghost Value = { TrailerParts };
+
+    ghost view = { λ t. record { bytes = t.bytes.now; spans = t.lines.items } };
+
+    ghost invariant = { λ t. IsTrue (list_all (lies_in (length t.bytes.now)) t.lines.items) };
+}
+
+impl<'m> TrailerView<'m> {
+    ghost use Rattle.std.specs.Prelude.{◌≡◌, ◌<◌, length, slice_get, Some, IsTrue};
+    ghost use Rattle.std.specs.List.{list_all};
+    ghost use Rattle.msg_head.specs.Views.{lies_in, field_line_of};
+    ghost use Rattle.msg_head.specs.TrailerViews.{trailer_lines_of};
+
+    // The view of a trailer section whose field lines stand at these offsets.
+    fn new(bytes: &'m [u8], lines: Vec<LineSpan>) -> TrailerView<'m>
+        requires { IsTrue (list_all (lies_in (length bytes.now)) lines.items) }
+        ensures { result ≡ record { bytes = bytes.now; spans = lines.items } }
+    {
+        TrailerView { bytes, lines }
+    }
+
+    /// How many field lines there are.
+    pub fn line_count(&self) -> usize
+        ensures { result ≡ length self.now.spans }
+    {
+        self.lines.len()
+    }
+
+    /// The field line with that index in their order.
+    pub fn line(&self, index: usize) -> LineView<'m>
+        requires { index < length self.now.spans }
+        ensures { slice_get (trailer_lines_of self.now) index ≡ Some (field_line_of result) }
+    {
+        line_at(self.bytes, self.lines[index])
+    }
+
+    /// The field lines, in order.
+    pub fn lines(&self) -> FieldLines<'_, 'm>
+        ensures { result ≡ trailer_lines_of self.now }
+    {
+        FieldLines::new(self.bytes, &self.lines)
+    }
+}
+
+/// What the bytes begin with.
+#[derive(Debug, Drop)]
+pub enum TrailerRead<'m> {
+    /// A trailer section, and how many bytes spell it, the empty line at its end included.
+    Whole(TrailerView<'m>, usize),
+    /// No end of a trailer section is there yet, and there is room for more bytes.
+    Partial,
+}
+
+// The field lines that the section spells, or its fault where it has no naked end.
+fn read_section<'m>(alloc: Global, section: &'m [u8]) -> Result<TrailerView<'m>, HeadError>
+    requires is { IsTrailerSection section.now section.now }
+    requires short { length section.now ≤ MAX_HEAD_BYTES }
+    ensures ok { IfOk result (λ view. IsTrailerSectionView view section.now) }
+    ensures err { IsClean section.now
+        → IfErr result (λ fault. IsTrailerSectionFault section.now fault) }
+{
+    let spans = read_lines(alloc, Side::Trailer, section, section)?;
+    Ok(TrailerView::new(section, spans))
+}
+
+// The answer to bytes, by its cause.
+fn judge<'m>(alloc: Global, bytes: &'m [u8]) -> Result<TrailerRead<'m>, HeadError>
+    ensures explains { ExplainsTrailer bytes.now result }
+    ensures partial { IsTrailerUnfinished bytes.now → result ≡ Ok TrailerRead.Partial }
+{
+    let Some(section) = trailer_section(prefix_of(bytes, MAX_HEAD_BYTES)) else {
+        if bytes.len() < MAX_HEAD_BYTES {
+            return Ok(TrailerRead::Partial);
+        }
+        return Err(HeadError::TooLong(Side::Trailer));
+    };
+    match read_section(alloc, section) {
+        Ok(view) => Ok(TrailerRead::Whole(view, section.len())),
+        Err(fault) => Err(first_fault(section, fault)),
+    }
+}
+
+/// Reads the trailer section that the bytes begin with, which stand right after the last chunk's
+/// line (RFC 9112 section 7.1.2).
+///
+/// The section is CRLF alone where the bytes begin with it; else it ends at the first CRLF CRLF. Of
+/// several faults the first in the order of `HeadError` is answered, with the side
+/// `Side::Trailer`. `BadStart` isn't among them.
+pub fn read_trailer<'m>(alloc: Global, bytes: &'m [u8]) -> Result<TrailerRead<'m>, HeadError>
+    ensures whole { IfWholeTrailer result (λ view used. IsTrailerViewOf bytes.now view used) }
+    ensures found { (lines : List FieldLine) (used : ℕ) → SpellsTrailer lines used bytes.now
+        → IsTrailerUnlessMemory result lines used }
+    ensures partial { (result ≡ Ok TrailerRead.Partial) ↔ IsTrailerUnfinished bytes.now }
+
+    // The first fault whose cause holds is answered, and no other.
+    ensures fault { (fault : HeadError) → fault ≢ HeadError.Memory
+        → AnswersWhere HeadError.Memory result fault (IsTrailerError bytes.now fault) }
+{
+    judge(alloc, bytes)
+}
