@@ -240,7 +240,7 @@ fn covered_components_are_refused_by_their_cause(rt: HostRuntime) -> Result<(), 
 fn inputs_that_are_no_message(rt: HostRuntime) -> Result<(), Fail> {
     let causes = [
         (b"".as_slice(), b"truncated 0".as_slice()),
-        (b"GET / HTTP/1.1\r\n\r\nx", b"not-yet"),
+        (b"GET / HTTP/1.1\r\n\r\nx", b"trailing 18"),
         (b"GET  / HTTP/1.1\r\n\r\n", b"start-line"),
         (b"GET / HTTP/1.1\r\nA: b\0\r\n\r\n", b"naked-end 20"),
         (b"GET / HTTP/1.1\r\nA: b\r\nC\r\n\r\n", b"head-line 1"),

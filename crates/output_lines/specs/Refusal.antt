@@ -56,7 +56,7 @@ message_text message.NotYet = codes "not-yet"
 abbrev pub fault_text : MessageFault → List ℕ
 fault_text (Refused error) = message_text error
 fault_text (Truncated count) = codes "truncated " ++ decimal count
-fault_text (Trailing offset) = codes "not-yet"
+fault_text (Trailing offset) = codes "trailing " ++ decimal offset
 
 abbrev pub input_text : InputRefusal → List ℕ
 input_text TooLong = codes "bytes " ++ decimal MAX_INPUT_BYTES

@@ -64,7 +64,7 @@ fn append_fault(alloc: Global, fault: MessageFault, line: &mut Text) -> Result<(
     match fault {
         MessageFault::Refused(error) => append_message(alloc, error, line),
         MessageFault::Truncated(count) => append_number(alloc, b"truncated ", count, line),
-        MessageFault::Trailing(_) => line.append(b"not-yet"),
+        MessageFault::Trailing(offset) => append_number(alloc, b"trailing ", offset, line),
     }
 }
 

@@ -44,6 +44,8 @@ fn refusals_of_an_input(rt: HostRuntime) -> Result<(), Fail> {
     assert_refusal(&rt, &longest, limit, "input bytes 16777216")?;
     let cut = MessageFault::Truncated(0);
     assert_fault(&rt, cut, bad, "input truncated 0")?;
+    let more = MessageFault::Trailing(344);
+    assert_fault(&rt, more, bad, "input trailing 344")?;
     let head = Side::Header;
     let trailer = Side::Trailer;
     let causes = [
