@@ -37,7 +37,7 @@ fault_stop params list (BadParameter key) reads faults =
     (Ids (BadParameter key), record { list = list; reads = reads; is = (faults (BadParameter key) (λ e. absurd (cc e))).only refl }, refl)
 
 pub error_stop : {T : Type 0} (input : List ℕ) (error : MessageError) → length input ≤ MAX_INPUT_BYTES
-    → ((other : MessageError) → ¬ (other ≡ message.Memory) → AnswersWhere {T = T} message.Memory (Err error) other (IsMessageError Any input other))
+    → ((other : MessageError) → ¬ (other ≡ message.Memory) → AnswersWhere {T = T} message.Memory (Err error) other (IsMessageError Any false input other))
     → IfRefused (stop_of_message error) (IsRefusalFor (IsInputRefused input) Input)
 error_stop input message.Memory short faults = tt
 error_stop input (message.TooLong side) short faults =
@@ -50,5 +50,13 @@ error_stop input (message.TooManyLines side) short faults =
     (NoMessage (fault.Refused (message.TooManyLines side)), (short, (faults (message.TooManyLines side) (λ e. absurd (cc e))).only refl), refl)
 error_stop input (message.BadLine side index) short faults =
     (NoMessage (fault.Refused (message.BadLine side index)), (short, (faults (message.BadLine side index) (λ e. absurd (cc e))).only refl), refl)
-error_stop input message.NotYet short faults =
-    (NoMessage (fault.Refused message.NotYet), (short, (faults message.NotYet (λ e. absurd (cc e))).only refl), refl)
+error_stop input message.FramingConflict short faults =
+    (NoMessage (fault.Refused message.FramingConflict), (short, (faults message.FramingConflict (λ e. absurd (cc e))).only refl), refl)
+error_stop input message.BadLength short faults =
+    (NoMessage (fault.Refused message.BadLength), (short, (faults message.BadLength (λ e. absurd (cc e))).only refl), refl)
+error_stop input message.CodingRefused short faults =
+    (NoMessage (fault.Refused message.CodingRefused), (short, (faults message.CodingRefused (λ e. absurd (cc e))).only refl), refl)
+error_stop input (message.BadChunk offset) short faults =
+    (NoMessage (fault.Refused (message.BadChunk offset)), (short, (faults (message.BadChunk offset) (λ e. absurd (cc e))).only refl), refl)
+error_stop input message.ContentTooLong short faults =
+    (NoMessage (fault.Refused message.ContentTooLong), (short, (faults message.ContentTooLong (λ e. absurd (cc e))).only refl), refl)

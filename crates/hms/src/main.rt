@@ -28,6 +28,9 @@ use std::process::ExitCode;
 #[cfg(test)]
 mod tests;
 
+#[cfg(test)]
+mod message_tests;
+
 /// The arguments of the process, the program's name among them.
 fn arguments_of(rt: &HostRuntime) -> Result<Vec<String>, Status> {
     match env::args(rt) {

@@ -17,7 +17,11 @@ of_message (error.NakedEnd offset) = tt
 of_message error.BadStart = tt
 of_message (error.TooManyLines side) = tt
 of_message (error.BadLine side index) = tt
-of_message error.NotYet = tt
+of_message error.FramingConflict = tt
+of_message error.BadLength = tt
+of_message error.CodingRefused = tt
+of_message (error.BadChunk offset) = tt
+of_message error.ContentTooLong = tt
 
 of_fault : (f : MessageFault) → IsOfRefusal (fault_status f)
 of_fault (fault.Refused e) = of_message e

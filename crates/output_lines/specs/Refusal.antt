@@ -19,6 +19,7 @@ use Rattle.output_lines.specs.declared.refusal.InputRefusal.TheVariants.{TooLong
 use Rattle.msg_head.specs.declared.error.Side.{Side}
 use Rattle.msg_head.specs.declared.error.Side.TheVariants.{Header, Trailer}
 use Rattle.msg_head.specs.declared.limits.TheConstants.{MAX_HEAD_BYTES, MAX_HEAD_LINES}
+use Rattle.chunks.specs.declared.limits.TheConstants.{MAX_CONTENT_BYTES}
 use Rattle.msg_body.specs.declared.error.MessageError.{MessageError}
 use Rattle.msg_body.specs.declared.error.MessageError.TheVariants as message
 use Rattle.msg_body.specs.declared.error.MessageFault.{MessageFault}
@@ -51,7 +52,11 @@ message_text message.BadStart = codes "start-line"
 message_text (message.TooManyLines side) =
     side_text side ++ (codes "-lines " ++ decimal MAX_HEAD_LINES)
 message_text (message.BadLine side index) = side_text side ++ (codes "-line " ++ decimal index)
-message_text message.NotYet = codes "not-yet"
+message_text message.FramingConflict = codes "framing"
+message_text message.BadLength = codes "length"
+message_text message.CodingRefused = codes "coding"
+message_text (message.BadChunk offset) = codes "chunk " ++ decimal offset
+message_text message.ContentTooLong = codes "content " ++ decimal MAX_CONTENT_BYTES
 
 abbrev pub fault_text : MessageFault → List ℕ
 fault_text (Refused error) = message_text error
@@ -92,6 +97,7 @@ refusal_line refusal = codes "refused " ++ (refusal_text refusal ++ codes "\n")
 abbrev pub message_status : MessageError → Status
 message_status (message.TooLong side) = LimitPassed
 message_status (message.TooManyLines side) = LimitPassed
+message_status message.ContentTooLong = LimitPassed
 message_status error = BadInput
 
 abbrev pub fault_status : MessageFault → Status

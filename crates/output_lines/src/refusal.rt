@@ -108,6 +108,7 @@ fn message_status(error: MessageError) -> Status
     match error {
         MessageError::TooLong(_) => Status::LimitPassed,
         MessageError::TooManyLines(_) => Status::LimitPassed,
+        MessageError::ContentTooLong => Status::LimitPassed,
         _ => Status::BadInput,
     }
 }

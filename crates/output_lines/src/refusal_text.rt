@@ -10,6 +10,7 @@ use crate::line::{append_component, append_number, append_words};
 use crate::refusal::{
     CommandRefusal, ConfRefusal, InputRefusal, MAX_CONF_BYTES, MAX_INPUT_BYTES, Refusal,
 };
+use chunks::MAX_CONTENT_BYTES;
 use component_ids::IdFault;
 use component_values::Lack;
 use msg_body::{MessageError, MessageFault};
@@ -54,7 +55,11 @@ fn append_message(alloc: Global, error: MessageError, line: &mut Text) -> Result
             append_of_side(alloc, side, b"-lines ", MAX_HEAD_LINES, line)
         }
         MessageError::BadLine(side, index) => append_of_side(alloc, side, b"-line ", index, line),
-        MessageError::NotYet => line.append(b"not-yet"),
+        MessageError::FramingConflict => line.append(b"framing"),
+        MessageError::BadLength => line.append(b"length"),
+        MessageError::CodingRefused => line.append(b"coding"),
+        MessageError::BadChunk(offset) => append_number(alloc, b"chunk ", offset, line),
+        MessageError::ContentTooLong => append_number(alloc, b"content ", MAX_CONTENT_BYTES, line),
     }
 }
 

@@ -61,6 +61,11 @@ fn refusals_of_an_input(rt: HostRuntime) -> Result<(), Fail> {
         ),
         (MessageError::BadLine(head, 1), bad, "head-line 1"),
         (MessageError::BadLine(trailer, 12), bad, "trailer-line 12"),
+        (MessageError::FramingConflict, bad, "framing"),
+        (MessageError::BadLength, bad, "length"),
+        (MessageError::CodingRefused, bad, "coding"),
+        (MessageError::BadChunk(53), bad, "chunk 53"),
+        (MessageError::ContentTooLong, limit, "content 8388608"),
     ];
     for (error, status, cause) in &causes {
         let line = format!(in rt.alloc(); "input {cause}")?;
