@@ -1,5 +1,5 @@
 -- Inputs that are one whole message, and why others aren't (RFC 9112 sections 2.1 and 6.3).
-use Rattle.std.specs.Prelude.{◌≡◌, ◌<◌, ◌≤◌, ℕ, Bool, false, List, length}
+use Rattle.std.specs.Prelude.{◌≡◌, ◌<◌, ◌≤◌, ℕ, false, List, length}
 use Rattle.msg_body.specs.Causes.{IsMessageError, IsMessageUnfinished}
 use Rattle.msg_body.specs.Messages.{Message, Spells, SpellsMessage}
 use Rattle.msg_body.specs.declared.error.MessageFault.{MessageFault}
