@@ -26,10 +26,9 @@ use std::io::ErrorKind;
 use std::process::ExitCode;
 
 #[cfg(test)]
-mod tests;
-
-#[cfg(test)]
 mod message_tests;
+#[cfg(test)]
+mod tests;
 
 /// The arguments of the process, the program's name among them.
 fn arguments_of(rt: &HostRuntime) -> Result<Vec<String>, Status> {
