@@ -7,7 +7,7 @@ use Rattle.std.proofs.lemmas.List.{take_all}
 use Rattle.msg_body.specs.Messages.{Message, Spells, SpellsMessage}
 use Rattle.msg_body.specs.declared.error.MessageFault.TheVariants.{Refused, Truncated, Trailing}
 use Rattle.msg_body.specs.declared.framing.Expect.TheVariants.{Any}
-use Rattle.msg_body.proofs.AnswerLaws.{one_message_at_law, one_message_fault_law, no_fault_at_message_law, no_message_yet_law}
+use Rattle.msg_body.proofs.OneMessages.{one_message_at_law, one_message_fault_law, no_fault_at_message_law, no_message_answer_yet_law}
 use Rattle.msg_body.specs.declared.error.MessageFault.{MessageFault}
 use Rattle.hms.specs.Messages.{IsMessageFault}
 use Rattle.component_ids.specs.Causes.{IsIdFault}
@@ -44,13 +44,13 @@ one_text input a b one other =
 -- an input that isn't one whole message has one fault
 pub one_message_fault : (input : List ℕ) (f g : MessageFault) → IsMessageFault input f → IsMessageFault input g → f ≡ g
 one_message_fault input (Refused e) (Refused d) a b = ap Refused (one_message_fault_law Any false input e d a b)
-one_message_fault input (Refused e) (Truncated n) a b = absurd ((no_message_yet_law Any false input b.1).0 e a)
+one_message_fault input (Refused e) (Truncated n) a b = absurd ((no_message_answer_yet_law Any false input b.1).0 e a)
 one_message_fault input (Refused e) (Trailing o) a b = absurd (no_fault_at_message_law Any false input b.message o e b.spells refl a)
-one_message_fault input (Truncated n) (Refused e) a b = absurd ((no_message_yet_law Any false input a.1).0 e b)
+one_message_fault input (Truncated n) (Refused e) a b = absurd ((no_message_answer_yet_law Any false input a.1).0 e b)
 one_message_fault input (Truncated n) (Truncated m) a b = ap Truncated (a.0 ∙ sym b.0)
-one_message_fault input (Truncated n) (Trailing o) a b = absurd ((no_message_yet_law Any false input a.1).1 b.message o refl b.spells)
+one_message_fault input (Truncated n) (Trailing o) a b = absurd ((no_message_answer_yet_law Any false input a.1).1 b.message o refl b.spells)
 one_message_fault input (Trailing o) (Refused e) a b = absurd (no_fault_at_message_law Any false input a.message o e a.spells refl b)
-one_message_fault input (Trailing o) (Truncated n) a b = absurd ((no_message_yet_law Any false input b.1).1 a.message o refl a.spells)
+one_message_fault input (Trailing o) (Truncated n) a b = absurd ((no_message_answer_yet_law Any false input b.1).1 a.message o refl a.spells)
 one_message_fault input (Trailing o) (Trailing p) a b = ap Trailing (one_message_at_law false input a.message b.message o p a.spells b.spells).1
 
 -- and one that is has none
@@ -58,7 +58,7 @@ pub text_no_fault : (input : List ℕ) (message : Message) (f : MessageFault) �
 text_no_fault input message (Refused e) spelled fault =
     no_fault_at_message_law Any false input message (length input) e (at_length input message spelled) refl fault
 text_no_fault input message (Truncated n) spelled fault =
-    (no_message_yet_law Any false input fault.1).1 message (length input) refl (at_length input message spelled)
+    (no_message_answer_yet_law Any false input fault.1).1 message (length input) refl (at_length input message spelled)
 text_no_fault input message (Trailing o) spelled fault =
     let used : length input ≡ o = (one_message_at_law false input message fault.message (length input) o (at_length input message spelled) fault.spells).1 in
     let more = fault.more in
