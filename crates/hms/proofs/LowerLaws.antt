@@ -6,7 +6,7 @@ use Rattle.sfv_read.proofs.Readings.{inner_has_one_value}
 use Rattle.std.proofs.lemmas.List.{take_all}
 use Rattle.msg_body.specs.Messages.{Message, Spells, SpellsMessage}
 use Rattle.msg_body.specs.declared.error.MessageFault.TheVariants.{Refused, Truncated, Trailing}
-use Rattle.msg_body.specs.declared.framing.Expect.TheVariants.{Any}
+use Rattle.msg_body.specs.declared.expect.Expect.TheVariants.{Any}
 use Rattle.msg_body.proofs.OneMessages.{one_message_at_law, one_message_fault_law, no_fault_at_message_law, no_message_answer_yet_law}
 use Rattle.msg_body.specs.declared.error.MessageFault.{MessageFault}
 use Rattle.hms.specs.Messages.{IsMessageFault}

@@ -8,7 +8,7 @@ use Rattle.component_ids.specs.declared.fault.IdFault.{IdFault}
 use Rattle.component_ids.specs.declared.fault.IdFault.TheVariants.{Memory, TooMany, BadComponent, Repeated, BadParameter}
 use Rattle.component_ids.specs.declared.params.SigParams.{SigParams}
 use Rattle.msg_body.specs.Causes.{IsMessageError}
-use Rattle.msg_body.specs.declared.framing.Expect.TheVariants.{Any}
+use Rattle.msg_body.specs.declared.expect.Expect.TheVariants.{Any}
 use Rattle.msg_body.specs.declared.error.MessageError.{MessageError}
 use Rattle.msg_body.specs.declared.error.MessageError.TheVariants as message
 use Rattle.msg_body.specs.declared.error.MessageFault.TheVariants as fault

@@ -4,7 +4,7 @@ use Rattle.msg_body.specs.Causes.{IsMessageError, IsMessageUnfinished}
 use Rattle.msg_body.specs.Messages.{Message, Spells, SpellsMessage}
 use Rattle.msg_body.specs.declared.error.MessageFault.{MessageFault}
 use Rattle.msg_body.specs.declared.error.MessageFault.TheVariants.{Refused, Truncated, Trailing}
-use Rattle.msg_body.specs.declared.framing.Expect.TheVariants.{Any}
+use Rattle.msg_body.specs.declared.expect.Expect.TheVariants.{Any}
 use Rattle.output_lines.specs.declared.refusal.TheConstants.{MAX_INPUT_BYTES}
 use Rattle.output_lines.specs.declared.refusal.InputRefusal.{InputRefusal}
 use Rattle.output_lines.specs.declared.refusal.InputRefusal.TheVariants.{TooLong, Message as NoMessage}
@@ -18,7 +18,8 @@ pub record GoesOn (input : List ℕ) (offset : ℕ) : Type 0 where
 -- why an input isn't one whole message; a response answers no request that is known
 abbrev pub IsMessageFault : List ℕ → MessageFault → Type 0
 IsMessageFault input (Refused error) = IsMessageError Any false input error
-IsMessageFault input (Truncated count) = (count ≡ length input) × IsMessageUnfinished Any false input
+IsMessageFault input (Truncated count) =
+    (count ≡ length input) × IsMessageUnfinished Any false input
 IsMessageFault input (Trailing offset) = GoesOn input offset
 
 -- the input is within the limit, and it is this message
