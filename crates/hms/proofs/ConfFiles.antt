@@ -17,9 +17,9 @@ use Rattle.conf.specs.declared.fault.ConfFault.{ConfFault}
 use Rattle.conf.specs.declared.fault.ConfFault.TheVariants as fault
 use Rattle.hms.specs.Configured.{IsConfigured, IsConfRefused}
 use Rattle.hms.specs.Report.{HasFiles}
-use Rattle.hms.specs.declared.refusal.TheConstants.{MAX_CONF_BYTES}
-use Rattle.hms.specs.declared.refusal.ConfRefusal.TheVariants.{Missing, TooLong, Fault}
-use Rattle.hms.specs.declared.refusal.Refusal.TheVariants.{Conf as OfConf}
+use Rattle.output_lines.specs.declared.refusal.TheConstants.{MAX_CONF_BYTES}
+use Rattle.output_lines.specs.declared.refusal.ConfRefusal.TheVariants.{Missing, TooLong, Fault}
+use Rattle.output_lines.specs.declared.refusal.Refusal.TheVariants.{Conf as OfConf}
 use Rattle.hms.specs.tools.Stops.{IfStopped, IsRefusalFor, stop_of_file, stop_of_conf}
 
 -- files of which one has the name and the text

@@ -25,10 +25,10 @@ use Rattle.msg_body.specs.declared.error.MessageFault.{MessageFault}
 use Rattle.hms.specs.Base.{HasIdFault, AreParamsRefused, IsValueLacking}
 use Rattle.hms.specs.Covered.{ReadsParams}
 use Rattle.hms.specs.Messages.{IsInputMessage, IsInputRefused}
-use Rattle.hms.specs.declared.refusal.InputRefusal.{InputRefusal}
-use Rattle.hms.specs.declared.refusal.InputRefusal.TheVariants.{TooLong, Message as NoMessage}
-use Rattle.hms.specs.declared.refusal.CommandRefusal.{CommandRefusal}
-use Rattle.hms.specs.declared.refusal.CommandRefusal.TheVariants.{Syntax, ItemKind, Ids, Lacks}
+use Rattle.output_lines.specs.declared.refusal.InputRefusal.{InputRefusal}
+use Rattle.output_lines.specs.declared.refusal.InputRefusal.TheVariants.{TooLong, Message as NoMessage}
+use Rattle.output_lines.specs.declared.refusal.CommandRefusal.{CommandRefusal}
+use Rattle.output_lines.specs.declared.refusal.CommandRefusal.TheVariants.{Syntax, ItemKind, Ids, Lacks}
 use Rattle.hms.proofs.Layers.{IsDecisive}
 use Rattle.hms.proofs.LowerLaws.{one_list, no_fault, one_params, one_text, one_message_fault, text_no_fault}
 

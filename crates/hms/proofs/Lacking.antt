@@ -16,7 +16,7 @@ use Rattle.component_values.specs.declared.prepared.Prepared.{Prepared}
 use Rattle.component_values.specs.Values.{IsFirstLack, Lacks as LacksSo}
 use Rattle.component_values.specs.Context.{MessageContext}
 use Rattle.hms.specs.Base.{context_for, ReportsValues}
-use Rattle.hms.specs.declared.refusal.CommandRefusal.TheVariants.{Lacks as LacksValue}
+use Rattle.output_lines.specs.declared.refusal.CommandRefusal.TheVariants.{Lacks as LacksValue}
 use Rattle.hms.specs.declared.stop.Stop.{Stop}
 use Rattle.hms.specs.tools.Prepared.{LiesIn, SaysFault, stop_for_lack}
 use Rattle.hms.specs.tools.Stops.{IfOutcome}

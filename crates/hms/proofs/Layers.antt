@@ -3,7 +3,7 @@ use Rattle.std.proofs.Common.{◌≡◌, inl, inr, sym, ap, subst, ◌∙◌, Re
 use Rattle.hms.specs.Layers.{ReadsThen}
 use Rattle.hms.specs.declared.outcome.Outcome.{Outcome}
 use Rattle.hms.specs.declared.outcome.Outcome.TheVariants.{Refused}
-use Rattle.hms.specs.declared.refusal.Refusal.{Refusal}
+use Rattle.output_lines.specs.declared.refusal.Refusal.{Refusal}
 use Rattle.hms.specs.declared.stop.Stop.{Stop}
 use Rattle.hms.specs.declared.stop.Stop.TheVariants.{Memory, ReadFault, Refused as IsRefused}
 use Rattle.hms.specs.tools.Stops.{IfRefused, IfOutcome, IsRefusalFor}

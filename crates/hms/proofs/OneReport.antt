@@ -15,9 +15,9 @@ use Rattle.hms.specs.Configured.{IsConfigured, IsFileRefused, IsConfRefused}
 use Rattle.hms.specs.Laws.{HasOneReport}
 use Rattle.hms.specs.Report.{ReportsCommand, ReportsInput, ReportsFiles}
 use Rattle.hms.specs.Verify.{AreAsked, AreVerdicts, verification_for, ReportsVerdicts, or_no_label, verdicts_outcome}
-use Rattle.hms.specs.declared.refusal.TheConstants.{MAX_CONF_BYTES}
-use Rattle.hms.specs.declared.refusal.ConfRefusal.{ConfRefusal}
-use Rattle.hms.specs.declared.refusal.ConfRefusal.TheVariants.{Missing, TooLong, Fault}
+use Rattle.output_lines.specs.declared.refusal.TheConstants.{MAX_CONF_BYTES}
+use Rattle.output_lines.specs.declared.refusal.ConfRefusal.{ConfRefusal}
+use Rattle.output_lines.specs.declared.refusal.ConfRefusal.TheVariants.{Missing, TooLong, Fault}
 use Rattle.hms.proofs.Decided.{arguments_decided, input_decided, params_decided, values_decided}
 use Rattle.hms.proofs.Layers.{HasOne, IsDecisive, one_of_layers}
 use Rattle.hms.proofs.LowerConf.{one_meaning, one_conf_fault, not_both_conf, one_list_of_labels, one_verdict}

@@ -7,19 +7,14 @@ use Rattle.hms_io.specs.declared.status.Status.{Status}
 use Rattle.hms_io.specs.declared.status.Status.TheVariants.{Done as Success, NotOk as Failure, BadArguments, BadInput, ReadFault, WriteFault, OutOfMemory, BadConf, LimitPassed, FileMissing}
 use Rattle.command_line.specs.Command.{CommandLine, IsCommand, NoCommand, conf_of}
 use Rattle.conf.specs.Meaning.{Configuration}
-use Rattle.msg_body.specs.declared.error.MessageError.{MessageError}
-use Rattle.msg_body.specs.declared.error.MessageError.TheVariants as error
-use Rattle.msg_body.specs.declared.error.MessageFault.{MessageFault}
-use Rattle.msg_body.specs.declared.error.MessageFault.TheVariants as fault
 use Rattle.hms.specs.Configured.{IsConfigured, IsConfRefused}
-use Rattle.hms.specs.Refusal.{conf_status, message_status, fault_status}
+use Rattle.output_lines.specs.Laws.{IsOfRefusal}
+use Rattle.output_lines.specs.Refusal.{refusal_status}
+use Rattle.output_lines.proofs.Statuses.{status_of_refusal}
 use Rattle.hms.specs.Outcome.{status_of, output_of}
 use Rattle.hms.specs.Report.{ReportsInput, Reports, HasFiles, HasInput, Leaves, HasReport, AppendsPrefix, Ends}
-use Rattle.hms.specs.declared.refusal.Refusal.{Refusal}
-use Rattle.hms.specs.declared.refusal.Refusal.TheVariants.{Arguments, Conf, Input, Command}
-use Rattle.hms.specs.declared.refusal.ConfRefusal.{ConfRefusal}
-use Rattle.hms.specs.declared.refusal.ConfRefusal.TheVariants.{Missing, TooLong as LongConf, Fault}
-use Rattle.hms.specs.declared.refusal.InputRefusal.TheVariants.{TooLong, Message as NoMessage}
+use Rattle.output_lines.specs.declared.refusal.Refusal.{Refusal}
+use Rattle.output_lines.specs.declared.refusal.Refusal.TheVariants.{Arguments, Conf}
 use Rattle.hms.specs.declared.outcome.Outcome.{Outcome}
 use Rattle.hms.specs.declared.outcome.Outcome.TheVariants.{Done, NotOk, Refused}
 use Rattle.hms.specs.declared.stop.Stop.{Stop}
@@ -107,38 +102,25 @@ whole_ends arguments shelf before left taken now outcome BadConf is has same all
 whole_ends arguments shelf before left taken now outcome LimitPassed is has same all = (outcome, has, same, all)
 whole_ends arguments shelf before left taken now outcome FileMissing is has same all = (outcome, has, same, all)
 
-whole_message : (e : MessageError) → is_whole (message_status e) ≡ true
+whole_refusal : (status : Status) → IsOfRefusal status → is_whole status ≡ true
 unfolding is_whole
-whole_message error.Memory = refl
-whole_message (error.TooLong side) = refl
-whole_message (error.NakedEnd offset) = refl
-whole_message error.BadStart = refl
-whole_message (error.TooManyLines side) = refl
-whole_message (error.BadLine side index) = refl
-whole_message error.NotYet = refl
-
-whole_fault : (f : MessageFault) → is_whole (fault_status f) ≡ true
-unfolding is_whole
-whole_fault (fault.Refused e) = whole_message e
-whole_fault (fault.Truncated count) = refl
-whole_fault (fault.Trailing offset) = refl
-
-whole_conf : (refusal : ConfRefusal) → is_whole (conf_status refusal) ≡ true
-unfolding is_whole
-whole_conf Missing = refl
-whole_conf LongConf = refl
-whole_conf (Fault f) = refl
+whole_refusal Success is = absurd is
+whole_refusal Failure is = absurd is
+whole_refusal BadArguments is = refl
+whole_refusal BadInput is = refl
+whole_refusal ReadFault is = absurd is
+whole_refusal WriteFault is = absurd is
+whole_refusal OutOfMemory is = absurd is
+whole_refusal BadConf is = refl
+whole_refusal LimitPassed is = refl
+whole_refusal FileMissing is = refl
 
 -- the status of an outcome is one
 whole_status : (outcome : Outcome) → is_whole (status_of outcome) ≡ true
 unfolding is_whole
 whole_status (Done text) = refl
 whole_status (NotOk text) = refl
-whole_status (Refused Arguments) = refl
-whole_status (Refused (Conf refusal)) = whole_conf refusal
-whole_status (Refused (Input TooLong)) = refl
-whole_status (Refused (Input (NoMessage f))) = whole_fault f
-whole_status (Refused (Command refusal)) = refl
+whole_status (Refused refusal) = whole_refusal (refusal_status refusal) (status_of_refusal refusal)
 
 -- an outcome that was written whole ends the run with its status
 pub written_outcome : (arguments : List (List ℕ)) (shelf : Option FileMap) (before left taken now : Option (List ℕ)) (outcome : Outcome) (status : Status) (output : List ℕ)

@@ -14,10 +14,10 @@ use Rattle.verdicts.specs.declared.outcome.Verdict.{Verdict}
 use Rattle.hms.specs.Messages.{IsInputRefused}
 use Rattle.hms.specs.Verify.{is_accepted, verdicts_outcome}
 use Rattle.hms.specs.Report.{ReportsCommand, ReportsInput, HasInput, Leaves}
-use Rattle.hms.specs.declared.refusal.TheConstants.{MAX_INPUT_BYTES}
-use Rattle.hms.specs.declared.refusal.Refusal.TheVariants.{Input}
-use Rattle.hms.specs.declared.refusal.InputRefusal.{InputRefusal}
-use Rattle.hms.specs.declared.refusal.InputRefusal.TheVariants.{TooLong, Message as NoMessage}
+use Rattle.output_lines.specs.declared.refusal.TheConstants.{MAX_INPUT_BYTES}
+use Rattle.output_lines.specs.declared.refusal.Refusal.TheVariants.{Input}
+use Rattle.output_lines.specs.declared.refusal.InputRefusal.{InputRefusal}
+use Rattle.output_lines.specs.declared.refusal.InputRefusal.TheVariants.{TooLong, Message as NoMessage}
 use Rattle.hms.specs.declared.outcome.Outcome.{Outcome}
 use Rattle.hms.specs.declared.outcome.Outcome.TheVariants.{Refused}
 use Rattle.hms.specs.declared.stop.Stop.{Stop}

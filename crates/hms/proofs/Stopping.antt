@@ -1,5 +1,5 @@
 -- Errors of the layers below, as what stops a run.
-use Rattle.std.proofs.Common.{◌≡◌, ◌≤◌, ℕ, List, length, Result, Err, refl}
+use Rattle.std.proofs.Common.{◌≡◌, ◌≤◌, ℕ, false, List, length, Result, Err, refl}
 use Rattle.byte_grammar.specs.Causes.{AnswersWhere}
 use Rattle.sfv_text.specs.declared.value.InnerList.{InnerList}
 use Rattle.sfv_read.specs.Reads.{ReadsInner}
@@ -8,16 +8,16 @@ use Rattle.component_ids.specs.declared.fault.IdFault.{IdFault}
 use Rattle.component_ids.specs.declared.fault.IdFault.TheVariants.{Memory, TooMany, BadComponent, Repeated, BadParameter}
 use Rattle.component_ids.specs.declared.params.SigParams.{SigParams}
 use Rattle.msg_body.specs.Causes.{IsMessageError}
-use Rattle.msg_body.specs.declared.framing.Expect.TheVariants.{Any}
+use Rattle.msg_body.specs.declared.expect.Expect.TheVariants.{Any}
 use Rattle.msg_body.specs.declared.error.MessageError.{MessageError}
 use Rattle.msg_body.specs.declared.error.MessageError.TheVariants as message
 use Rattle.msg_body.specs.declared.error.MessageFault.TheVariants as fault
 use Rattle.hms.specs.Base.{AreParamsRefused}
 use Rattle.hms.specs.Messages.{IsInputRefused}
-use Rattle.hms.specs.declared.refusal.TheConstants.{MAX_INPUT_BYTES}
-use Rattle.hms.specs.declared.refusal.Refusal.TheVariants.{Input, Command}
-use Rattle.hms.specs.declared.refusal.InputRefusal.TheVariants.{Message as NoMessage}
-use Rattle.hms.specs.declared.refusal.CommandRefusal.TheVariants.{Ids}
+use Rattle.output_lines.specs.declared.refusal.TheConstants.{MAX_INPUT_BYTES}
+use Rattle.output_lines.specs.declared.refusal.Refusal.TheVariants.{Input, Command}
+use Rattle.output_lines.specs.declared.refusal.InputRefusal.TheVariants.{Message as NoMessage}
+use Rattle.output_lines.specs.declared.refusal.CommandRefusal.TheVariants.{Ids}
 use Rattle.hms.specs.tools.Stops.{IfRefused, IsRefusalFor, stop_of_fault, stop_of_message}
 
 abbrev answered : IdFault → Result SigParams IdFault
@@ -37,7 +37,7 @@ fault_stop params list (BadParameter key) reads faults =
     (Ids (BadParameter key), record { list = list; reads = reads; is = (faults (BadParameter key) (λ e. absurd (cc e))).only refl }, refl)
 
 pub error_stop : {T : Type 0} (input : List ℕ) (error : MessageError) → length input ≤ MAX_INPUT_BYTES
-    → ((other : MessageError) → ¬ (other ≡ message.Memory) → AnswersWhere {T = T} message.Memory (Err error) other (IsMessageError Any input other))
+    → ((other : MessageError) → ¬ (other ≡ message.Memory) → AnswersWhere {T = T} message.Memory (Err error) other (IsMessageError Any false input other))
     → IfRefused (stop_of_message error) (IsRefusalFor (IsInputRefused input) Input)
 error_stop input message.Memory short faults = tt
 error_stop input (message.TooLong side) short faults =
@@ -50,5 +50,13 @@ error_stop input (message.TooManyLines side) short faults =
     (NoMessage (fault.Refused (message.TooManyLines side)), (short, (faults (message.TooManyLines side) (λ e. absurd (cc e))).only refl), refl)
 error_stop input (message.BadLine side index) short faults =
     (NoMessage (fault.Refused (message.BadLine side index)), (short, (faults (message.BadLine side index) (λ e. absurd (cc e))).only refl), refl)
-error_stop input message.NotYet short faults =
-    (NoMessage (fault.Refused message.NotYet), (short, (faults message.NotYet (λ e. absurd (cc e))).only refl), refl)
+error_stop input message.FramingConflict short faults =
+    (NoMessage (fault.Refused message.FramingConflict), (short, (faults message.FramingConflict (λ e. absurd (cc e))).only refl), refl)
+error_stop input message.BadLength short faults =
+    (NoMessage (fault.Refused message.BadLength), (short, (faults message.BadLength (λ e. absurd (cc e))).only refl), refl)
+error_stop input message.CodingRefused short faults =
+    (NoMessage (fault.Refused message.CodingRefused), (short, (faults message.CodingRefused (λ e. absurd (cc e))).only refl), refl)
+error_stop input (message.BadChunk offset) short faults =
+    (NoMessage (fault.Refused (message.BadChunk offset)), (short, (faults (message.BadChunk offset) (λ e. absurd (cc e))).only refl), refl)
+error_stop input message.ContentTooLong short faults =
+    (NoMessage (fault.Refused message.ContentTooLong), (short, (faults message.ContentTooLong (λ e. absurd (cc e))).only refl), refl)

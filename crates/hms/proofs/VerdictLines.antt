@@ -7,7 +7,8 @@ use Rattle.msg_body.specs.Messages.{Message}
 use Rattle.conf.specs.Meaning.{Configuration}
 use Rattle.verdicts.specs.Verdicts.{IsVerdict}
 use Rattle.verdicts.specs.declared.outcome.Verdict.{Verdict}
-use Rattle.hms.specs.Verify.{AreVerdicts, verification_for, is_accepted, verdict_line, verdict_lines}
+use Rattle.output_lines.specs.VerdictLine.{verdict_line}
+use Rattle.hms.specs.Verify.{AreVerdicts, verification_for, is_accepted, verdict_lines}
 use Rattle.hms.specs.tools.Verdicts.{WritesVerdict, AreLinesSoFar}
 
 verdicts_more : (conf : Configuration) (message : Message) (labels : List (List ℕ)) (verdicts : List Verdict) (label : List ℕ) (verdict : Verdict)

@@ -16,9 +16,9 @@ use Rattle.sig_base.specs.SignatureBase.{signature_base}
 use Rattle.conf.specs.Meaning.{Configuration}
 use Rattle.hms.specs.Covered.{ReadsParams}
 use Rattle.hms.specs.Layers.{ReadsThen}
-use Rattle.hms.specs.declared.refusal.Refusal.TheVariants.{Command}
-use Rattle.hms.specs.declared.refusal.CommandRefusal.{CommandRefusal}
-use Rattle.hms.specs.declared.refusal.CommandRefusal.TheVariants.{Syntax, ItemKind, Ids, Lacks}
+use Rattle.output_lines.specs.declared.refusal.Refusal.TheVariants.{Command}
+use Rattle.output_lines.specs.declared.refusal.CommandRefusal.{CommandRefusal}
+use Rattle.output_lines.specs.declared.refusal.CommandRefusal.TheVariants.{Syntax, ItemKind, Ids, Lacks}
 use Rattle.hms.specs.declared.outcome.Outcome.{Outcome}
 use Rattle.hms.specs.declared.outcome.Outcome.TheVariants.{Done}
 

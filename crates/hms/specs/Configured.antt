@@ -4,9 +4,9 @@ use Rattle.std.specs.FinMap as map
 use Rattle.hms_io.specs.Files.{FileMap}
 use Rattle.conf.specs.Meaning.{Configuration, Configures}
 use Rattle.conf.specs.Refusals.{IsConfFault}
-use Rattle.hms.specs.declared.refusal.TheConstants.{MAX_CONF_BYTES}
-use Rattle.hms.specs.declared.refusal.ConfRefusal.{ConfRefusal}
-use Rattle.hms.specs.declared.refusal.ConfRefusal.TheVariants.{Missing, TooLong, Fault}
+use Rattle.output_lines.specs.declared.refusal.TheConstants.{MAX_CONF_BYTES}
+use Rattle.output_lines.specs.declared.refusal.ConfRefusal.{ConfRefusal}
+use Rattle.output_lines.specs.declared.refusal.ConfRefusal.TheVariants.{Missing, TooLong, Fault}
 
 -- the file says the configuration, which is that of the empty text where no file is named
 abbrev pub IsConfigured : FileMap → Option (List ℕ) → Configuration → Type 0

@@ -2,7 +2,7 @@
 use Rattle.std.specs.Prelude.{◌≡◌, ◌⊎◌}
 use Rattle.hms.specs.declared.outcome.Outcome.{Outcome}
 use Rattle.hms.specs.declared.outcome.Outcome.TheVariants.{Refused}
-use Rattle.hms.specs.declared.refusal.Refusal.{Refusal}
+use Rattle.output_lines.specs.declared.refusal.Refusal.{Refusal}
 
 -- a value is read, and the outcome is one that comes after it; or there is a cause to refuse it,
 -- and the outcome is its refusal

@@ -5,7 +5,6 @@ pub mod Laws
 pub mod Layers
 pub mod Messages
 pub mod Outcome
-pub mod Refusal
 pub mod Report
 pub mod Verify
 pub mod tools

@@ -15,9 +15,9 @@ use Rattle.hms.specs.Layers.{ReadsThen}
 use Rattle.hms.specs.Messages.{IsInputMessage, IsInputRefused}
 use Rattle.hms.specs.Outcome.{status_of, output_of}
 use Rattle.hms.specs.Verify.{ReportsVerdicts}
-use Rattle.hms.specs.declared.refusal.TheConstants.{MAX_INPUT_BYTES}
-use Rattle.hms.specs.declared.refusal.Refusal.TheVariants.{Arguments, Conf, Input}
-use Rattle.hms.specs.declared.refusal.InputRefusal.TheVariants.{TooLong}
+use Rattle.output_lines.specs.declared.refusal.TheConstants.{MAX_INPUT_BYTES}
+use Rattle.output_lines.specs.declared.refusal.Refusal.TheVariants.{Arguments, Conf, Input}
+use Rattle.output_lines.specs.declared.refusal.InputRefusal.TheVariants.{TooLong}
 use Rattle.hms.specs.declared.outcome.Outcome.{Outcome}
 use Rattle.hms.specs.declared.outcome.Outcome.TheVariants.{Refused}
 

@@ -1,20 +1,14 @@
 -- What `verify` comes to, for labels, a configuration and a message.
-use Rattle.std.specs.Prelude.{◌≡◌, ⊤, ℕ, Bool, true, false, List, [], ◌∷◌, ◌++◌, codes, Option, Some, None, if◌then◌else◌}
-use Rattle.std.specs.Fmt.{decimal}
+use Rattle.std.specs.Prelude.{◌≡◌, ⊤, ℕ, Bool, true, false, List, [], ◌∷◌, codes, Option, Some, None, if◌then◌else◌}
 use Rattle.std.specs.List.{list_all, flat_map, zip}
-use Rattle.std.specs.Str.{byte}
-use Rattle.component_ids.specs.Identifiers.{id_text}
-use Rattle.component_ids.specs.Reasons.{word_of}
 use Rattle.msg_body.specs.Messages.{Message}
 use Rattle.conf.specs.Meaning.{Configuration}
 use Rattle.verdicts.specs.Rules.{Verification}
 use Rattle.verdicts.specs.Signatures.{AreLabels}
 use Rattle.verdicts.specs.Verdicts.{IsVerdict}
-use Rattle.verdicts.specs.Words.{rule_number, rule_word}
 use Rattle.verdicts.specs.declared.outcome.Verdict.{Verdict}
 use Rattle.verdicts.specs.declared.outcome.Verdict.TheVariants.{Ok as Accepted, Rule as Failing}
-use Rattle.verdicts.specs.declared.place.Place.{Place}
-use Rattle.verdicts.specs.declared.place.Place.TheVariants.{None as Nowhere, Index, Component, Name, Identifier}
+use Rattle.output_lines.specs.VerdictLine.{verdict_line}
 use Rattle.hms.specs.Base.{context_for}
 use Rattle.hms.specs.declared.outcome.Outcome.{Outcome}
 use Rattle.hms.specs.declared.outcome.Outcome.TheVariants.{Done, NotOk}
@@ -48,27 +42,11 @@ AreVerdicts conf message (label ∷ labels) (verdict ∷ verdicts) =
     × AreVerdicts conf message labels verdicts
 AreVerdicts conf message labels verdicts = ⊥
 
--- where a rule fails, after a space
-abbrev pub place_text : Place → List ℕ
-place_text Nowhere = []
-place_text (Index index) = byte " " ∷ decimal index
-place_text (Component index reason) = byte " " ∷ (decimal index ++ byte " " ∷ word_of reason)
-place_text (Name text) = byte " " ∷ text
-place_text (Identifier id) = byte " " ∷ id_text id
-
-abbrev pub verdict_text : Verdict → List ℕ
-verdict_text (Accepted keyid) = codes "ok"
-verdict_text (Failing rule place) =
-    codes "rule " ++ (decimal (rule_number rule) ++ byte " " ∷ (rule_word rule ++ place_text place))
-
 abbrev pub is_accepted : Verdict → Bool
 is_accepted (Accepted keyid) = true
 is_accepted (Failing rule place) = false
 
--- the label and its verdict
-abbrev pub verdict_line : List ℕ × Verdict → List ℕ
-verdict_line line = line.0 ++ byte " " ∷ (verdict_text line.1 ++ codes "\n")
-
+-- the lines of labels and their verdicts
 abbrev pub verdict_lines : List (List ℕ) → List Verdict → List ℕ
 verdict_lines labels verdicts = flat_map verdict_line (zip labels verdicts)
 

@@ -12,12 +12,12 @@ ghost use Rattle.hms.specs.tools.Stops.{IfOutcome, ReadsNothing};
 
 use crate::covered::read_signature_params;
 use crate::outcome::Outcome;
-use crate::refusal::{CommandRefusal, Refusal};
 use crate::stop::Stop;
 use component_ids::{ComponentId, SigParams, print_id};
 use component_values::{Context, ValueFault, prepare};
 use conf::Conf;
 use msg_body::MessageView;
+use output_lines::{CommandRefusal, Refusal};
 use sig_base::base_bytes;
 use std::alloc::Global;
 

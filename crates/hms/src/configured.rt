@@ -5,13 +5,13 @@ ghost use Rattle.hms_io.specs.Files.{KeepsFiles};
 ghost use Rattle.conf.specs.ConfMeaning.{meaning};
 ghost use Rattle.hms.specs.Configured.{IsConfigured, IsConfRefused};
 ghost use Rattle.hms.specs.Report.{HasFiles};
-ghost use Rattle.hms.specs.declared.refusal.Refusal.TheVariants.{Conf as OfConf};
+ghost use Rattle.output_lines.specs.declared.refusal.Refusal.TheVariants.{Conf as OfConf};
 ghost use Rattle.hms.specs.tools.Stops.{IfStopped, IsRefusalFor, CountsStop};
 
-use crate::refusal::MAX_CONF_BYTES;
 use crate::stop::Stop;
 use conf::{Conf, empty_conf, read_conf};
 use hms_io::{Shelf, take_file};
+use output_lines::MAX_CONF_BYTES;
 use std::alloc::Global;
 
 /// Reads the configuration in the named file.

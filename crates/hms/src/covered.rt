@@ -4,7 +4,7 @@ ghost use Rattle.std.specs.Prelude.{IsTrue, IfOk, IfErr};
 ghost use Rattle.component_ids.specs.SignatureParams.{are_sig_params_in_range};
 ghost use Rattle.hms.specs.Covered.{ReadsParams};
 ghost use Rattle.hms.specs.Base.{AreParamsRefused};
-ghost use Rattle.hms.specs.declared.refusal.Refusal.TheVariants.{Command};
+ghost use Rattle.output_lines.specs.declared.refusal.Refusal.TheVariants.{Command};
 ghost use Rattle.hms.specs.tools.Stops.{IfRefused, IsRefusalFor};
 
 use crate::stop::Stop;

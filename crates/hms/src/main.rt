@@ -13,10 +13,8 @@ mod base;
 mod configured;
 mod covered;
 mod laws;
-mod line;
 mod message;
 mod outcome;
-mod refusal;
 mod run;
 mod stop;
 mod verify;
@@ -27,6 +25,8 @@ use std::env;
 use std::io::ErrorKind;
 use std::process::ExitCode;
 
+#[cfg(test)]
+mod message_tests;
 #[cfg(test)]
 mod tests;
 

@@ -2,14 +2,14 @@
 
 ghost use Rattle.std.specs.Prelude.{◌≡◌, ◌≤◌, length, IfOk, IfErr};
 ghost use Rattle.msg_body.specs.Views.{message_of};
-ghost use Rattle.hms.specs.declared.refusal.TheConstants.{MAX_INPUT_BYTES};
+ghost use Rattle.output_lines.specs.declared.refusal.TheConstants.{MAX_INPUT_BYTES};
 ghost use Rattle.hms.specs.Messages.{IsInputMessage, IsInputRefused};
-ghost use Rattle.hms.specs.declared.refusal.Refusal.TheVariants.{Input};
+ghost use Rattle.output_lines.specs.declared.refusal.Refusal.TheVariants.{Input};
 ghost use Rattle.hms.specs.tools.Stops.{IfRefused, IsRefusalFor, stop_for};
 
-use crate::refusal::{InputRefusal, Refusal};
 use crate::stop::Stop;
 use msg_body::{Expect, MessageFault, MessageRead, MessageView, read_message};
+use output_lines::{InputRefusal, Refusal};
 use std::alloc::Global;
 
 /// A refusal of the input for this fault.

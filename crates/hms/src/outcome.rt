@@ -3,8 +3,8 @@
 ghost use Rattle.std.specs.Prelude.{◌≡◌, IfOk};
 ghost use Rattle.hms.specs.Outcome.{status_of, output_of};
 
-use crate::refusal::Refusal;
 use hms_io::Status;
+use output_lines::Refusal;
 use sfv_text::{Memory, Text};
 use std::alloc::Global;
 

@@ -6,7 +6,7 @@ ghost use Rattle.hms_io.specs.Files.{KeepsFiles};
 ghost use Rattle.command_line.specs.Command.{NoCommand, IsTimely, line_of};
 ghost use Rattle.conf.specs.ConfMeaning.{meaning};
 ghost use Rattle.hms.specs.Report.{ReportsCommand, ReportsInput, HasReport, HasInput, Ends, CountsFaults, CountsReads, NamesNoFile};
-ghost use Rattle.hms.specs.declared.refusal.Refusal.TheVariants.{Arguments};
+ghost use Rattle.output_lines.specs.declared.refusal.Refusal.TheVariants.{Arguments};
 ghost use Rattle.hms.specs.declared.stop.Stop.TheVariants.{Refused};
 ghost use Rattle.hms.specs.tools.Stops.{IfOutcome, ReadsNothing, CountsStop, CountsOne};
 
@@ -14,13 +14,13 @@ use crate::base::write_base;
 use crate::configured::read_configuration;
 use crate::message::read_input;
 use crate::outcome::Outcome;
-use crate::refusal::{MAX_INPUT_BYTES, Refusal};
 use crate::stop::Stop;
 use crate::verify::verify;
 use command_line::{Command, read_words};
 use conf::Conf;
 use hms_io::{Failed, Shelf, Sink, Source, Status, fill, put_all};
 use msg_body::MessageView;
+use output_lines::{MAX_INPUT_BYTES, Refusal};
 use std::alloc::Global;
 
 /// Does the command over the message.

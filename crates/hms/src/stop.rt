@@ -2,11 +2,11 @@
 
 ghost use Rattle.std.specs.Prelude.{◌≡◌};
 
-use crate::refusal::{CommandRefusal, ConfRefusal, InputRefusal, Refusal};
 use component_ids::IdFault;
 use conf::ConfFault;
 use hms_io::{FileError, FillError};
 use msg_body::{MessageError, MessageFault};
+use output_lines::{CommandRefusal, ConfRefusal, InputRefusal, Refusal};
 use sfv_read::SfError;
 use sfv_text::Memory;
 

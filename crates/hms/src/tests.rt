@@ -27,7 +27,7 @@ fn status_of(
 
 // Runs the words over a shelf whose file `c` is the configuration, and compares what came out. The
 // input comes in pieces, and the output goes in pieces.
-fn assert_run(
+pub fn assert_run(
     rt: &(impl Abort + AllocGlobal),
     words: &[&str],
     conf: &[u8],
@@ -46,16 +46,22 @@ fn assert_run(
     Ok(())
 }
 
-// The text between others.
-fn between(alloc: Global, before: &[u8], text: &[u8], after: &[u8]) -> Result<Text, Memory> {
-    let mut all = Text::from_bytes(alloc, before)?;
-    all.append(text)?;
-    all.append(after)?;
+// The texts one after another.
+pub fn joined(alloc: Global, texts: &[&[u8]]) -> Result<Text, Memory> {
+    let mut all = Text::new(alloc);
+    for text in texts {
+        all.append(*text)?;
+    }
     Ok(all)
 }
 
+// The text between others.
+pub fn between(alloc: Global, before: &[u8], text: &[u8], after: &[u8]) -> Result<Text, Memory> {
+    joined(alloc, &[before, text, after])
+}
+
 // PARAMS are refused over the message by the line of this cause.
-fn assert_refused(
+pub fn assert_refused(
     rt: &(impl Abort + AllocGlobal),
     input: &[u8],
     params: &str,
@@ -67,7 +73,7 @@ fn assert_refused(
 }
 
 // The input is refused by the line of this cause, whatever PARAMS are: it is judged first.
-fn assert_input_refused(
+pub fn assert_input_refused(
     rt: &(impl Abort + AllocGlobal),
     input: &[u8],
     status: Status,
@@ -78,7 +84,7 @@ fn assert_input_refused(
 }
 
 // Each component has the value under the configuration.
-fn assert_values(
+pub fn assert_values(
     rt: &(impl Abort + AllocGlobal),
     conf: &[u8],
     input: &[u8],
@@ -140,7 +146,7 @@ X-List: a , b;q=1.50\r\n\
 X-Item: \"hi\";  q=?1\r\n\r\n";
 
 // The key of RFC 9421 appendix B.1.5, and three structured fields.
-const CONF: &[u8] = b"[keys]\n\
+pub const CONF: &[u8] = b"[keys]\n\
 \"test-shared-secret\" = \"uzvJfB4u3N0Jy4T7NZ75MDVcr8zSTInedJtkgcu46YW4XByzNJjxBdtjUkdJPBtbmHhI\
 Di6pcl8jsasjlTMtDQ==\"\n\
 [types]\n\
@@ -240,12 +246,10 @@ fn covered_components_are_refused_by_their_cause(rt: HostRuntime) -> Result<(), 
 fn inputs_that_are_no_message(rt: HostRuntime) -> Result<(), Fail> {
     let causes = [
         (b"".as_slice(), b"truncated 0".as_slice()),
-        (b"GET / HTTP/1.1\r\n\r\nx", b"not-yet"),
+        (b"GET / HTTP/1.1\r\n\r\nx", b"trailing 18"),
         (b"GET  / HTTP/1.1\r\n\r\n", b"start-line"),
         (b"GET / HTTP/1.1\r\nA: b\0\r\n\r\n", b"naked-end 20"),
         (b"GET / HTTP/1.1\r\nA: b\r\nC\r\n\r\n", b"head-line 1"),
-        (b"GET / HTTP/1.1\r\nContent-Length: 0\r\n\r\n", b"not-yet"),
-        (b"HTTP/1.1 200 OK\r\n\r\n", b"not-yet"),
     ];
     for (input, cause) in &causes {
         assert_input_refused(&rt, *input, Status::BadInput, *cause)?;
@@ -294,67 +298,79 @@ fn input_past_its_limit(rt: HostRuntime) -> Result<(), Fail> {
     assert_input_refused(&rt, input.as_slice(), Status::LimitPassed, cause)
 }
 
-const VERIFY: [&str; 5] = ["verify", "--conf", "c", "--now", "1618884473"];
+pub const VERIFY: [&str; 5] = ["verify", "--conf", "c", "--now", "1618884473"];
 
-// The message of RFC 9421 appendix B.2.5 without its content, up to its signature.
-const UNSIGNED: &[u8] = b"GET /foo HTTP/1.1\r\n\
+// The request of RFC 9421 appendix B.2 without its Content-Digest: lines, its length, the rest.
+pub const REQUEST: &[u8] = b"POST /foo?param=Value&Pet=dog HTTP/1.1\r\n\
 Host: example.com\r\n\
 Date: Tue, 20 Apr 2021 02:07:55 GMT\r\n\
-Content-Type: application/json\r\n\
-Signature-Input: sig-b25=(\"date\" \"@authority\" \"content-type\");created=1618884473\
-;keyid=\"test-shared-secret\"\r\n";
+Content-Type: application/json\r\n";
 
-const SIGNATURE: &[u8] =
-    b"Signature: sig-b25=:pxcQw6G3AjtMBQjwo8XzkZf/bws5LelbaMk5rGIGtE8=:\r\n\r\n";
+pub const LENGTH: &[u8] = b"Content-Length: 18\r\n";
+
+pub const CONTENT: &[u8] = b"\r\n{\"hello\": \"world\"}";
+
+// The signature of appendix B.2.5.
+pub const INPUT: &[u8] = b"Signature-Input: sig-b25=(\"date\" \"@authority\" \"content-type\")\
+;created=1618884473;keyid=\"test-shared-secret\"\r\n";
+
+pub const SIGNATURE: &[u8] =
+    b"Signature: sig-b25=:pxcQw6G3AjtMBQjwo8XzkZf/bws5LelbaMk5rGIGtE8=:\r\n";
 
 #[test]
 fn signature_of_the_standard_is_accepted(rt: HostRuntime) -> Result<(), Fail> {
-    let signed = between(rt.alloc(), UNSIGNED, b"", SIGNATURE)?;
+    let signed = joined(rt.alloc(), &[REQUEST, LENGTH, INPUT, SIGNATURE, CONTENT])?;
     let input = signed.bytes();
+    assert_eq!(rt; input.len(), 344);
     assert_run(&rt, &VERIFY, CONF, input, Status::Done, b"sig-b25 ok\n")?;
     let other = ["verify", "--now", "0", "--label", "z", "--conf", "c"];
     let line = b"z rule 5 label-not-in-input\n";
     assert_run(&rt, &other, CONF, input, Status::NotOk, line)
 }
 
-// The message, which these lines end, is answered by the lines, not all of them `ok`.
+// The message of these parts is answered by the lines, not all of them `ok`.
 fn assert_not_ok(
     rt: &(impl Abort + AllocGlobal),
-    message: &[u8],
-    fields: &[u8],
+    parts: &[&[u8]],
     lines: &[u8],
 ) -> Result<(), Fail> {
-    let text = between(rt.alloc(), message, fields, b"\r\n")?;
+    let text = joined(rt.alloc(), parts)?;
     assert_run(rt, &VERIFY, CONF, text.bytes(), Status::NotOk, lines)
 }
 
 #[test]
 fn signatures_that_are_not_ok(rt: HostRuntime) -> Result<(), Fail> {
     let cut = b"Signature: sig-b25=:pxcQw6G3AjtMBQjwo8XzkZf/bws5LelbaMk5rGIGtA==:\r\n";
-    assert_not_ok(&rt, UNSIGNED, cut, b"sig-b25 rule 32 mac-mismatch\n")?;
-    assert_not_ok(&rt, UNSIGNED, b"", b"sig-b25 rule 3 signature-absent\n")?;
+    let parts = [REQUEST, LENGTH, INPUT, cut, CONTENT];
+    assert_not_ok(&rt, &parts, b"sig-b25 rule 32 mac-mismatch\n")?;
+    let parts = [REQUEST, LENGTH, INPUT, CONTENT];
+    assert_not_ok(&rt, &parts, b"sig-b25 rule 3 signature-absent\n")?;
+    assert_not_ok(&rt, &[REQUEST, LENGTH, CONTENT], b"- rule 1 input-absent\n")?;
     // a second label, which nobody signed
     let twice = b"Signature-Input: z=()\r\n\
 Signature: sig-b25=:pxcQw6G3AjtMBQjwo8XzkZf/bws5LelbaMk5rGIGtE8=:\r\n";
     let lines = b"sig-b25 ok\nz rule 6 label-not-in-signature\n";
-    assert_not_ok(&rt, UNSIGNED, twice, lines)
+    assert_not_ok(&rt, &[REQUEST, LENGTH, INPUT, twice, CONTENT], lines)
 }
 
 #[test]
 fn labels_are_told_by_their_first_failing_rule(rt: HostRuntime) -> Result<(), Fail> {
     let start = b"GET / HTTP/1.1\r\nSignature: a=:AAAA:, b=:AA==:, c=:AA==:, d=:AA==:\r\n";
     let fields = b"Signature-Input: a=();keyid=\"test-shared-secret\";alg=\"ed25519\"\r\n";
-    assert_not_ok(&rt, start, fields, b"a rule 13 alg-refused ed25519\n")?;
+    let end = b"\r\n".as_slice();
+    let line = b"a rule 13 alg-refused ed25519\n";
+    assert_not_ok(&rt, &[start, fields, end], line)?;
     let fields = b"Signature-Input: a=();keyid=\"test-shared-secret\";alg=\"x\"\r\n";
-    assert_not_ok(&rt, start, fields, b"a rule 14 alg-unknown \"x\"\n")?;
+    let line = b"a rule 14 alg-unknown \"x\"\n";
+    assert_not_ok(&rt, &[start, fields, end], line)?;
     let fields = b"Signature-Input: d=(\"x\");keyid=\"test-shared-secret\", c=(\"X\"), \
 b=(\"x\" \"x\"), a=();tag=1\r\n";
     let lines = b"d rule 27 absent \"x\"\n\
 c rule 10 component-bad 0 name\n\
 b rule 11 component-repeated 1\n\
 a rule 12 parameter-bad tag\n";
-    assert_not_ok(&rt, start, fields, lines)?;
-    assert_not_ok(&rt, start, b"", b"- rule 1 input-absent\n")
+    assert_not_ok(&rt, &[start, fields, end], lines)?;
+    assert_not_ok(&rt, &[start, end], b"- rule 1 input-absent\n")
 }
 
 // The words are refused over this configuration, and no input, by the line of this cause.
@@ -405,7 +421,7 @@ fn assert_fault(
     taken: &[u8],
 ) -> Result<(), Fail> {
     let alloc = rt.alloc();
-    let input = between(alloc, UNSIGNED, b"", SIGNATURE)?;
+    let input = joined(alloc, &[REQUEST, LENGTH, INPUT, SIGNATURE, CONTENT])?;
     let mut shelf = MemShelf::new(alloc, fails[0])?;
     shelf.put("c", CONF)?;
     let mut source = MemSource::new(alloc, input.bytes(), 20, fails[1])?;

@@ -1,68 +1,20 @@
 //! The command `verify`: the verdicts on a message's labels (RFC 9421 section 3.2).
 
-ghost use Rattle.std.specs.Prelude.{◌≡◌, ◌≤◌, [], ◌∷◌, ◌++◌, option_map, OnOk, IfOk, IsTrue};
+ghost use Rattle.std.specs.Prelude.{◌≡◌, ◌≤◌, [], ◌∷◌, option_map, IfOk};
 ghost use Rattle.msg_body.specs.Views.{message_of};
 ghost use Rattle.conf.specs.ConfMeaning.{meaning};
-ghost use Rattle.verdicts.specs.Verdicts.{is_place_in_range, is_verdict_in_range, verification_of};
-ghost use Rattle.hms.specs.Verify.{AreAsked, ReportsVerdicts, place_text, verdict_text, verdict_line};
+ghost use Rattle.verdicts.specs.Verdicts.{verification_of};
+ghost use Rattle.hms.specs.Verify.{AreAsked, ReportsVerdicts};
 ghost use Rattle.hms.specs.tools.Verdicts.{WritesVerdict, ReportsLabels};
 
-use crate::line::{append_component, append_number, append_words};
 use crate::outcome::Outcome;
-use component_ids::print_id;
 use component_values::Context;
 use conf::Conf;
 use msg_body::MessageView;
+use output_lines::append_verdict_line;
 use sfv_text::{Memory, Text};
 use std::alloc::Global;
-use verdicts::{Labels, MAX_MOMENT, Place, Verdict, labels_of, verdict};
-
-/// Adds where a rule fails, after a space.
-fn append_place(alloc: Global, place: &Place, line: &mut Text) -> Result<(), Memory>
-    requires { IsTrue (is_place_in_range place.now) }
-    ensures { OnOk result (line.new ≡ line.old ++ place_text place.now) }
-{
-    match place {
-        Place::None => Ok(()),
-        Place::Index(index) => append_number(alloc, b" ", *index, line),
-        Place::Component(index, reason) => append_component(alloc, b" ", *index, *reason, line),
-        Place::Name(text) => append_words(b" ", text.bytes(), line),
-        Place::Identifier(id) => {
-            let text = print_id(alloc, id)?;
-            append_words(b" ", text.bytes(), line)
-        }
-    }
-}
-
-/// Adds a verdict.
-fn append_verdict(alloc: Global, verdict: &Verdict, line: &mut Text) -> Result<(), Memory>
-    requires { IsTrue (is_verdict_in_range verdict.now) }
-    ensures { OnOk result (line.new ≡ line.old ++ verdict_text verdict.now) }
-{
-    match verdict {
-        Verdict::Ok { .. } => line.append(b"ok"),
-        Verdict::Rule { number, place } => {
-            append_number(alloc, b"rule ", number.number() as usize, line)?;
-            append_words(b" ", number.word().as_bytes(), line)?;
-            append_place(alloc, place, line)
-        }
-    }
-}
-
-/// Adds the line of a label and its verdict.
-fn append_line(
-    alloc: Global,
-    label: &[u8],
-    verdict: &Verdict,
-    lines: &mut Text,
-) -> Result<(), Memory>
-    requires { IsTrue (is_verdict_in_range verdict.now) }
-    ensures { OnOk result (lines.new ≡ lines.old ++ verdict_line (label.now, verdict.now)) }
-{
-    append_words(label, b" ", lines)?;
-    append_verdict(alloc, verdict, lines)?;
-    lines.append(b"\n")
-}
+use verdicts::{Labels, MAX_MOMENT, Verdict, labels_of, verdict};
 
 /// Judges the label and adds its line. It answers whether the label is accepted.
 fn write_verdict(
@@ -78,7 +30,7 @@ fn write_verdict(
         label.now lines.old lines.new) }
 {
     let verdict = verdict(alloc, context, label, conf, now)?;
-    append_line(alloc, label, &verdict, lines)?;
+    append_verdict_line(alloc, label, &verdict, lines)?;
     Ok(match verdict {
         Verdict::Ok { .. } => true,
         Verdict::Rule { .. } => false,

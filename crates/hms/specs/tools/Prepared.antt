@@ -5,8 +5,8 @@ use Rattle.component_ids.specs.declared.id.ComponentId.{ComponentId}
 use Rattle.derived_values.specs.declared.lack.Lack.{Lack}
 use Rattle.component_values.specs.declared.fault.ValueFault.{ValueFault}
 use Rattle.component_values.specs.declared.fault.ValueFault.TheVariants as fault
-use Rattle.hms.specs.declared.refusal.Refusal.TheVariants.{Command}
-use Rattle.hms.specs.declared.refusal.CommandRefusal.TheVariants.{Lacks}
+use Rattle.output_lines.specs.declared.refusal.Refusal.TheVariants.{Command}
+use Rattle.output_lines.specs.declared.refusal.CommandRefusal.TheVariants.{Lacks}
 use Rattle.hms.specs.declared.stop.Stop.{Stop}
 use Rattle.hms.specs.declared.stop.Stop.TheVariants.{Memory, Refused}
 

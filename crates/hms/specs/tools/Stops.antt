@@ -15,11 +15,11 @@ use Rattle.msg_body.specs.declared.error.MessageFault.{MessageFault}
 use Rattle.msg_body.specs.declared.error.MessageFault.TheVariants as fault
 use Rattle.conf.specs.declared.fault.ConfFault.{ConfFault}
 use Rattle.conf.specs.declared.fault.ConfFault.TheVariants as conf
-use Rattle.hms.specs.declared.refusal.Refusal.{Refusal}
-use Rattle.hms.specs.declared.refusal.Refusal.TheVariants.{Conf, Input, Command}
-use Rattle.hms.specs.declared.refusal.ConfRefusal.TheVariants.{Missing as ConfMissing, TooLong as ConfTooLong, Fault as ConfFaulty}
-use Rattle.hms.specs.declared.refusal.InputRefusal.TheVariants.{TooLong, Message as NoMessage}
-use Rattle.hms.specs.declared.refusal.CommandRefusal.TheVariants.{Syntax, ItemKind, Ids}
+use Rattle.output_lines.specs.declared.refusal.Refusal.{Refusal}
+use Rattle.output_lines.specs.declared.refusal.Refusal.TheVariants.{Conf, Input, Command}
+use Rattle.output_lines.specs.declared.refusal.ConfRefusal.TheVariants.{Missing as ConfMissing, TooLong as ConfTooLong, Fault as ConfFaulty}
+use Rattle.output_lines.specs.declared.refusal.InputRefusal.TheVariants.{TooLong, Message as NoMessage}
+use Rattle.output_lines.specs.declared.refusal.CommandRefusal.TheVariants.{Syntax, ItemKind, Ids}
 use Rattle.hms.specs.Report.{OneRose}
 use Rattle.hms.specs.declared.outcome.Outcome.{Outcome}
 use Rattle.hms.specs.declared.outcome.Outcome.TheVariants.{Refused as IsRefused}

@@ -6,7 +6,8 @@ use Rattle.conf.specs.Meaning.{Configuration}
 use Rattle.verdicts.specs.Rules.{Verification}
 use Rattle.verdicts.specs.Verdicts.{IsVerdict}
 use Rattle.verdicts.specs.declared.outcome.Verdict.{Verdict}
-use Rattle.hms.specs.Verify.{AreVerdicts, is_accepted, verdict_line, verdict_lines, verdicts_outcome}
+use Rattle.output_lines.specs.VerdictLine.{verdict_line}
+use Rattle.hms.specs.Verify.{AreVerdicts, is_accepted, verdict_lines, verdicts_outcome}
 use Rattle.hms.specs.declared.outcome.Outcome.{Outcome}
 
 -- the line of the label's verdict is added, and it is told whether it is accepted

@@ -1,131 +1,22 @@
-//! Refusals: why a run is refused, the status that this gives, and the one line that says so.
+//! The text of a refusal. Each function adds its part at the end of the line.
 
-ghost use Rattle.std.specs.Prelude.{◌≡◌, ◌++◌, ◌∷◌, option_copied, OnOk, IfOk};
+ghost use Rattle.std.specs.Prelude.{◌≡◌, ◌++◌, ◌∷◌, option_copied, OnOk};
 ghost use Rattle.std.specs.Fmt.{decimal};
 ghost use Rattle.std.specs.Str.{byte};
 ghost use Rattle.derived_values.specs.Words.{lack_word};
-ghost use Rattle.hms.specs.Refusal.{path_text, conf_text, conf_status, side_text, message_text, fault_text, message_status, fault_status, input_text, ids_text, command_text, refusal_text, refusal_line, refusal_status};
+ghost use Rattle.output_lines.specs.Refusal.{path_text, conf_text, side_text, message_text, fault_text, input_text, ids_text, command_text, refusal_text};
 
 use crate::line::{append_component, append_number, append_words};
+use crate::refusal::{
+    CommandRefusal, ConfRefusal, InputRefusal, MAX_CONF_BYTES, MAX_INPUT_BYTES, Refusal,
+};
+use chunks::MAX_CONTENT_BYTES;
 use component_ids::IdFault;
 use component_values::Lack;
-use conf::ConfFault;
-use hms_io::Status;
 use msg_body::{MessageError, MessageFault};
 use msg_head::{MAX_HEAD_BYTES, MAX_HEAD_LINES, Side};
 use sfv_text::{Memory, Text};
 use std::alloc::Global;
-
-/// The most bytes of an input.
-pub const MAX_INPUT_BYTES: usize = 16_777_216;
-
-/// The most bytes of a configuration.
-pub const MAX_CONF_BYTES: usize = 65_536;
-
-/// Why a run is refused.
-#[derive(Debug, Drop)]
-pub enum Refusal {
-    /// The arguments are no command.
-    Arguments,
-    /// The file of the configuration isn't accepted.
-    Conf(ConfRefusal),
-    /// The input isn't read.
-    Input(InputRefusal),
-    /// The command can't be done over the input.
-    Command(CommandRefusal),
-}
-
-/// Why a configuration is refused.
-#[derive(Debug, Drop)]
-pub enum ConfRefusal {
-    /// There is no file of that name.
-    Missing,
-    /// It has more than [`MAX_CONF_BYTES`] bytes.
-    TooLong,
-    /// Its text is no configuration. The fault is never out of memory.
-    Fault(ConfFault),
-}
-
-/// Why an input is refused.
-#[derive(Clone, Copy, Debug, PartialEq, Eq)]
-pub enum InputRefusal {
-    /// It has more than [`MAX_INPUT_BYTES`] bytes.
-    TooLong,
-    /// It isn't one whole message (RFC 9112 section 2.1). The error of the fault is never out of
-    /// memory.
-    Message(MessageFault),
-}
-
-/// Why a command is refused.
-#[derive(Debug, Drop)]
-pub enum CommandRefusal {
-    /// PARAMS are no Inner List (RFC 9651 section 3.1.1): the longest prefix that begins one has so
-    /// many bytes.
-    Syntax(usize),
-    /// The same, where a Date or a Display String stands in place of an item.
-    ItemKind(usize),
-    /// PARAMS are no signature parameters (RFC 9421 section 2.3). The fault is never out of memory.
-    Ids(IdFault),
-    /// A covered component lacks a value so, the first that does. The text is that of its
-    /// identifier, quotes and parameters included.
-    Lacks(Lack, Text),
-}
-
-impl Refusal {
-    /// The status that the refusal gives.
-    pub fn status(&self) -> Status
-        ensures { result ≡ refusal_status self.now }
-    {
-        match self {
-            Refusal::Arguments => Status::BadArguments,
-            Refusal::Conf(refusal) => conf_status(refusal),
-            Refusal::Input(InputRefusal::TooLong) => Status::LimitPassed,
-            Refusal::Input(InputRefusal::Message(fault)) => fault_status(*fault),
-            Refusal::Command(_) => Status::BadInput,
-        }
-    }
-
-    /// The one line that says what is refused and why, with its line end.
-    pub fn line(&self, alloc: Global) -> Result<Text, Memory>
-        ensures { IfOk result (λ line. line ≡ refusal_line self.now) }
-    {
-        let mut line = Text::from_bytes(alloc, b"refused ")?;
-        append_refusal(alloc, self, &mut line)?;
-        line.append(b"\n")?;
-        Ok(line)
-    }
-}
-
-fn conf_status(refusal: &ConfRefusal) -> Status
-    ensures { result ≡ conf_status refusal.now }
-{
-    match refusal {
-        ConfRefusal::Missing => Status::FileMissing,
-        ConfRefusal::TooLong => Status::LimitPassed,
-        ConfRefusal::Fault(_) => Status::BadConf,
-    }
-}
-
-fn message_status(error: MessageError) -> Status
-    ensures { result ≡ message_status error }
-{
-    match error {
-        MessageError::TooLong(_) => Status::LimitPassed,
-        MessageError::TooManyLines(_) => Status::LimitPassed,
-        _ => Status::BadInput,
-    }
-}
-
-fn fault_status(fault: MessageFault) -> Status
-    ensures { result ≡ fault_status fault }
-{
-    match fault {
-        MessageFault::Refused(error) => message_status(error),
-        _ => Status::BadInput,
-    }
-}
-
-// Each function below adds its part at the end of the line.
 
 fn append_side(side: Side, line: &mut Text) -> Result<(), Memory>
     ensures { OnOk result (line.new ≡ line.old ++ side_text side) }
@@ -164,7 +55,11 @@ fn append_message(alloc: Global, error: MessageError, line: &mut Text) -> Result
             append_of_side(alloc, side, b"-lines ", MAX_HEAD_LINES, line)
         }
         MessageError::BadLine(side, index) => append_of_side(alloc, side, b"-line ", index, line),
-        MessageError::NotYet => line.append(b"not-yet"),
+        MessageError::FramingConflict => line.append(b"framing"),
+        MessageError::BadLength => line.append(b"length"),
+        MessageError::CodingRefused => line.append(b"coding"),
+        MessageError::BadChunk(offset) => append_number(alloc, b"chunk ", offset, line),
+        MessageError::ContentTooLong => append_number(alloc, b"content ", MAX_CONTENT_BYTES, line),
     }
 }
 
@@ -174,7 +69,7 @@ fn append_fault(alloc: Global, fault: MessageFault, line: &mut Text) -> Result<(
     match fault {
         MessageFault::Refused(error) => append_message(alloc, error, line),
         MessageFault::Truncated(count) => append_number(alloc, b"truncated ", count, line),
-        MessageFault::Trailing(_) => line.append(b"not-yet"),
+        MessageFault::Trailing(offset) => append_number(alloc, b"trailing ", offset, line),
     }
 }
 
@@ -241,7 +136,8 @@ fn append_command(alloc: Global, refusal: &CommandRefusal, line: &mut Text) -> R
     }
 }
 
-fn append_refusal(alloc: Global, refusal: &Refusal, line: &mut Text) -> Result<(), Memory>
+/// Adds what is refused, and why.
+pub fn append_refusal(alloc: Global, refusal: &Refusal, line: &mut Text) -> Result<(), Memory>
     ensures { OnOk result (line.new ≡ line.old ++ refusal_text refusal.now) }
 {
     match refusal {

@@ -1,4 +1,4 @@
-use Rattle.hms.proofs.refusal.append_ids.Goals as goal
+use Rattle.output_lines.proofs.refusal_text.append_ids.Goals as goal
 
 pub returns-in-BadComponent : goal.returns-in-BadComponent
 returns-in-BadComponent c = rw c.in-BadComponent.is c.append_component.ensures

@@ -9,22 +9,23 @@ use Rattle.derived_values.specs.Words.{lack_word}
 use Rattle.hms_io.specs.declared.status.Status.{Status}
 use Rattle.hms_io.specs.declared.status.Status.TheVariants.{BadArguments, BadInput, BadConf, LimitPassed, FileMissing}
 use Rattle.conf.specs.Refusals.{fault_number, fault_path}
-use Rattle.hms.specs.declared.refusal.TheConstants.{MAX_CONF_BYTES, MAX_INPUT_BYTES}
-use Rattle.hms.specs.declared.refusal.Refusal.{Refusal}
-use Rattle.hms.specs.declared.refusal.Refusal.TheVariants.{Arguments, Conf, Input, Command}
-use Rattle.hms.specs.declared.refusal.ConfRefusal.{ConfRefusal}
-use Rattle.hms.specs.declared.refusal.ConfRefusal.TheVariants as conf
-use Rattle.hms.specs.declared.refusal.InputRefusal.{InputRefusal}
-use Rattle.hms.specs.declared.refusal.InputRefusal.TheVariants.{TooLong, Message}
+use Rattle.output_lines.specs.declared.refusal.TheConstants.{MAX_CONF_BYTES, MAX_INPUT_BYTES}
+use Rattle.output_lines.specs.declared.refusal.Refusal.{Refusal}
+use Rattle.output_lines.specs.declared.refusal.Refusal.TheVariants.{Arguments, Conf, Input, Command}
+use Rattle.output_lines.specs.declared.refusal.ConfRefusal.{ConfRefusal}
+use Rattle.output_lines.specs.declared.refusal.ConfRefusal.TheVariants as conf
+use Rattle.output_lines.specs.declared.refusal.InputRefusal.{InputRefusal}
+use Rattle.output_lines.specs.declared.refusal.InputRefusal.TheVariants.{TooLong, Message}
 use Rattle.msg_head.specs.declared.error.Side.{Side}
 use Rattle.msg_head.specs.declared.error.Side.TheVariants.{Header, Trailer}
 use Rattle.msg_head.specs.declared.limits.TheConstants.{MAX_HEAD_BYTES, MAX_HEAD_LINES}
+use Rattle.chunks.specs.declared.limits.TheConstants.{MAX_CONTENT_BYTES}
 use Rattle.msg_body.specs.declared.error.MessageError.{MessageError}
 use Rattle.msg_body.specs.declared.error.MessageError.TheVariants as message
 use Rattle.msg_body.specs.declared.error.MessageFault.{MessageFault}
 use Rattle.msg_body.specs.declared.error.MessageFault.TheVariants.{Refused, Truncated, Trailing}
-use Rattle.hms.specs.declared.refusal.CommandRefusal.{CommandRefusal}
-use Rattle.hms.specs.declared.refusal.CommandRefusal.TheVariants.{Syntax, ItemKind, Ids, Lacks}
+use Rattle.output_lines.specs.declared.refusal.CommandRefusal.{CommandRefusal}
+use Rattle.output_lines.specs.declared.refusal.CommandRefusal.TheVariants.{Syntax, ItemKind, Ids, Lacks}
 
 -- a path, after a space, where there is one
 abbrev pub path_text : Option (List ℕ) → List ℕ
@@ -51,12 +52,16 @@ message_text message.BadStart = codes "start-line"
 message_text (message.TooManyLines side) =
     side_text side ++ (codes "-lines " ++ decimal MAX_HEAD_LINES)
 message_text (message.BadLine side index) = side_text side ++ (codes "-line " ++ decimal index)
-message_text message.NotYet = codes "not-yet"
+message_text message.FramingConflict = codes "framing"
+message_text message.BadLength = codes "length"
+message_text message.CodingRefused = codes "coding"
+message_text (message.BadChunk offset) = codes "chunk " ++ decimal offset
+message_text message.ContentTooLong = codes "content " ++ decimal MAX_CONTENT_BYTES
 
 abbrev pub fault_text : MessageFault → List ℕ
 fault_text (Refused error) = message_text error
 fault_text (Truncated count) = codes "truncated " ++ decimal count
-fault_text (Trailing offset) = codes "not-yet"
+fault_text (Trailing offset) = codes "trailing " ++ decimal offset
 
 abbrev pub input_text : InputRefusal → List ℕ
 input_text TooLong = codes "bytes " ++ decimal MAX_INPUT_BYTES
@@ -92,6 +97,7 @@ refusal_line refusal = codes "refused " ++ (refusal_text refusal ++ codes "\n")
 abbrev pub message_status : MessageError → Status
 message_status (message.TooLong side) = LimitPassed
 message_status (message.TooManyLines side) = LimitPassed
+message_status message.ContentTooLong = LimitPassed
 message_status error = BadInput
 
 abbrev pub fault_status : MessageFault → Status
