@@ -1,12 +1,13 @@
 -- Laws of chunks: what bytes begin with, and the causes for which they are refused.
 use Rattle.std.proofs.Common.{◌≡◌, inl, inr, ℕ, ◌+◌, ◌-◌, ◌<◌, ◌≤◌, List, [], ◌∷◌, ◌++◌, length, take, drop, Ok, Err, refl, sym, ap, subst, ◌∙◌, append_assoc, arith, codes}
-use Rattle.std.proofs.lemmas.List.{append-nil, length-append, length-drop, take-append-drop, take-take, take_at, append_cancel_left, append_cancel_right}
+use Rattle.std.proofs.lemmas.List.{append-nil, length-append, length-drop, take-append-drop, take-take, take_at, append_cancel_left, append_cancel_right, nil_from_length}
 use Rattle.std.proofs.lemmas.Bool.{cases_lt, cases_order}
 use Rattle.std.specs.List.{flat_map}
 use Rattle.byte_grammar.specs.tools.Determined.{AreDetermined}
 use Rattle.byte_grammar.specs.tools.Walks.{left, turns_read}
 use Rattle.byte_grammar.proofs.Laws.{any_next, ok_is, not_err}
 use Rattle.byte_grammar.proofs.CauseLaws.{first_is_one}
+use Rattle.byte_grammar.proofs.OffsetLaws.{begins_shorter}
 use Rattle.chunks.specs.declared.limits.TheConstants.{MAX_CONTENT_BYTES}
 use Rattle.chunks.specs.declared.error.ChunkError.{ChunkError}
 use Rattle.chunks.specs.declared.error.ChunkError.TheVariants.{Memory, TooLong, Bad}
@@ -27,16 +28,13 @@ prefix_read bytes cs n h = ap (turns_read turn_read) (sym (take-append-drop n by
 begins_left : (prefix more : List ℕ) → BeginsChunks prefix → left (turns_read turn_read (prefix ++ more)) ≤ length more
 begins_left prefix more b = meets_chunks.far prefix b.0 more b.1.chunks (are_turns b.1 (prefix ++ b.0) b.2)
 
-pub begins_shorter : (prefix more : List ℕ) → BeginsChunks (prefix ++ more) → BeginsChunks prefix
-begins_shorter prefix more b = (more ++ b.0, b.1, subst (AreChunksText b.1) (append_assoc prefix more b.0) b.2)
-
 pub begins_take : (bytes : List ℕ) (i j : ℕ) → i ≤ j → BeginsChunks (take j bytes) → BeginsChunks (take i bytes)
 begins_take bytes i j le b =
     let cut : take i bytes ++ drop i (take j bytes) ≡ take j bytes = ap (λ (x : List ℕ). x ++ drop i (take j bytes)) (sym (take-take i j bytes le)) ∙ take-append-drop i (take j bytes) in
-    begins_shorter (take i bytes) (drop i (take j bytes)) (subst BeginsChunks (sym cut) b)
+    begins_shorter (λ bytes (cs : Chunks). AreChunksText cs bytes) (take i bytes) (drop i (take j bytes)) (subst BeginsChunks (sym cut) b)
 
 begins_prefix : (bytes : List ℕ) (i : ℕ) → BeginsChunks bytes → BeginsChunks (take i bytes)
-begins_prefix bytes i b = begins_shorter (take i bytes) (drop i bytes) (subst BeginsChunks (sym (take-append-drop i bytes)) b)
+begins_prefix bytes i b = begins_shorter (λ bytes (cs : Chunks). AreChunksText cs bytes) (take i bytes) (drop i bytes) (subst BeginsChunks (sym (take-append-drop i bytes)) b)
 
 text_begins : (cs : Chunks) (bytes : List ℕ) → AreChunksText cs bytes → BeginsChunks bytes
 text_begins cs bytes h = ([], cs, subst (AreChunksText cs) (sym (append-nil bytes)) h)
@@ -116,14 +114,10 @@ unfinished bytes e short = record {
   short = short;
 }
   where
-    empty : (x : List ℕ) → length x ≡ 0 → x ≡ []
-    empty [] is = refl
-    empty (c ∷ x) is = absurd (omega arith)
-
     begins : BeginsChunks bytes
     begins =
         let s = meets_chunks.err bytes 0 e in
-        let whole : s.0 ≡ bytes = sym (append-nil s.0) ∙ ap (λ (y : List ℕ). s.0 ++ y) (sym (empty s.1 s.3)) ∙ sym s.2 in
+        let whole : s.0 ≡ bytes = sym (append-nil s.0) ∙ ap (λ (y : List ℕ). s.0 ++ y) (sym (nil_from_length s.1 s.3)) ∙ sym s.2 in
         let t = turns_are s.4.1 (s.0 ++ s.4.0) s.4.2 in
         subst BeginsChunks whole (s.4.0, record { chunks = s.4.1; last = t.0 }, t.1)
 

@@ -1,6 +1,6 @@
 -- The readers of a chunk line and of data meet their texts.
 use Rattle.std.proofs.Common.{cond, not, ltb, ◌==◌, ◌≡◌, ◌⊎◌, inl, inr, ℕ, ◌-◌, ◌≤◌, ◌<◌, Bool, true, false, List, [], ◌∷◌, ◌++◌, length, take, drop, replicate, Ok, Err, refl, sym, ap, subst, ◌∙◌, append_assoc, arith, codes}
-use Rattle.std.proofs.lemmas.List.{append-nil, length-append, length-replicate, take-append-drop, length-take, length-drop, take_at, drop_at}
+use Rattle.std.proofs.lemmas.List.{append-nil, length-append, length-replicate, take-append-drop, length-take, length-drop, take_at, drop_at, nil_from_length}
 use Rattle.std.proofs.lemmas.Bool.{eqb-true, ltb-false, ltb-true, le-ltb}
 use Rattle.std.specs.Char.{is_ascii_hexdigit}
 use Rattle.std.specs.Str.{byte}
@@ -46,10 +46,6 @@ meets_crlf =
 
 -- ---- an extension
 
-empty : (v : List ℕ) → length v ≤ 0 → v ≡ []
-empty [] le = refl
-empty (c ∷ v) le = absurd (omega arith)
-
 run_ok : (class : ℕ → Bool) (most : ℕ) (bytes : List ℕ) → run_read class 0 most bytes ≡ cut_at (run_length class most bytes) bytes
 unfolding run_read
 run_ok class most bytes = ap (λ (b : Bool). cond b (Err (length bytes - run_length class most bytes)) (cut_at (run_length class most bytes) bytes)) (le-ltb (run_length class most bytes) 0 (omega arith))
@@ -62,7 +58,7 @@ extension_ok true bytes [] v rest is e run = record { begins = inl (sym run.same
 extension_ok true bytes (c ∷ x) v rest is e run =
     let first : starts_in begins_extension (c ∷ x) ≡ true = ap (starts_in begins_extension) (sym e) ∙ is in
     record { begins = inr (subst (λ (y : List ℕ). starts_in begins_extension y ≡ true) run.same first); clean = run.passes; short = run.most }
-extension_ok false bytes x v rest is e run = record { begins = inl (empty v run.most); clean = run.passes; short = omega (arith, run.most) }
+extension_ok false bytes x v rest is e run = record { begins = inl (nil_from_length v (omega (arith, run.most))); clean = run.passes; short = omega (arith, run.most) }
 
 -- an extension that isn't empty begins so
 first_begins : (c : ℕ) (v : List ℕ) → ((c ∷ v) ≡ []) ⊎ (starts_in begins_extension (c ∷ v) ≡ true) → begins_extension c ≡ true

@@ -1,6 +1,7 @@
 -- Why bytes are refused as chunks, and when their end may still come.
 use Rattle.std.specs.Prelude.{◌≡◌, ℕ, ◌+◌, ◌<◌, List, ◌++◌, length, take, codes}
 use Rattle.std.specs.List.{All, flat_map}
+use Rattle.byte_grammar.specs.Language.{Begins}
 use Rattle.byte_grammar.specs.Causes.{IsFirst}
 use Rattle.chunks.specs.declared.limits.TheConstants.{MAX_CONTENT_BYTES}
 use Rattle.chunks.specs.declared.error.ChunkError.{ChunkError}
@@ -9,7 +10,7 @@ use Rattle.chunks.specs.Chunks.{Chunk, Chunks, IsChunkLine, IsChunk, AreChunksTe
 
 -- some text of chunks has this prefix; no limit is set on its content
 abbrev pub BeginsChunks : List ℕ → Type 0
-BeginsChunks prefix = (more : List ℕ) × (cs : Chunks) × AreChunksText cs (prefix ++ more)
+BeginsChunks prefix = Begins (λ bytes (cs : Chunks). AreChunksText cs bytes) prefix
 
 -- no prefix of the bytes is the text of chunks
 abbrev pub NoPrefixIsChunks : List ℕ → Type 0
