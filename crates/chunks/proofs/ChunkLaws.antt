@@ -1,21 +1,19 @@
 -- Laws of chunks: what bytes begin with, and the causes for which they are refused.
-use Rattle.std.proofs.Common.{◌≡◌, ◌⊎◌, inl, inr, ℕ, suc, ◌+◌, ◌-◌, ◌<◌, ◌≤◌, List, [], ◌∷◌, ◌++◌, length, take, drop, Option, Result, Ok, Err, refl, sym, ap, subst, ◌∙◌, append_assoc, arith, codes}
-use Rattle.std.proofs.lemmas.List.{append-nil, length-append, length-take, length-drop, take-append-drop, take-take, take_at, append_cancel_left, append_cancel_right}
+use Rattle.std.proofs.Common.{◌≡◌, inl, inr, ℕ, ◌+◌, ◌-◌, ◌<◌, ◌≤◌, List, [], ◌∷◌, ◌++◌, length, take, drop, Ok, Err, refl, sym, ap, subst, ◌∙◌, append_assoc, arith, codes}
+use Rattle.std.proofs.lemmas.List.{append-nil, length-append, length-drop, take-append-drop, take-take, take_at, append_cancel_left, append_cancel_right}
 use Rattle.std.proofs.lemmas.Bool.{cases_lt, cases_order}
 use Rattle.std.specs.List.{flat_map}
-use Rattle.byte_grammar.specs.Causes.{IsFirst}
 use Rattle.byte_grammar.specs.tools.Determined.{AreDetermined}
 use Rattle.byte_grammar.specs.tools.Walks.{left, turns_read}
-use Rattle.byte_grammar.proofs.Laws.{Meets, any_next, ok_is, not_err}
+use Rattle.byte_grammar.proofs.Laws.{any_next, ok_is, not_err}
 use Rattle.byte_grammar.proofs.CauseLaws.{first_is_one}
 use Rattle.chunks.specs.declared.limits.TheConstants.{MAX_CONTENT_BYTES}
 use Rattle.chunks.specs.declared.error.ChunkError.{ChunkError}
 use Rattle.chunks.specs.declared.error.ChunkError.TheVariants.{Memory, TooLong, Bad}
 use Rattle.chunks.specs.Chunks.{Chunk, Chunks, AreChunksText, SpellsChunks, chunk_text, chunks_text}
-use Rattle.chunks.specs.Causes.{BeginsChunks, NoPrefixIsChunks, IsContentTooLong, IsBadChunk, IsChunksCause, IsChunksError, AreChunksUnfinished, chunks_order}
+use Rattle.chunks.specs.Causes.{HasContentOver, BeginsChunks, IsContentTooLong, IsBadChunk, IsChunksCause, IsChunksError, AreChunksUnfinished, chunks_order}
 use Rattle.chunks.specs.Laws.{OneChunks, NoChunksInPrefix, OneChunksFault, NoFaultAtChunks, NoChunksAnswerYet}
 use Rattle.chunks.specs.tools.ChunkWalk.{turn_read}
-use Rattle.chunks.specs.tools.Turns.{IsTooLongFor}
 use Rattle.chunks.proofs.TurnTexts.{meets_chunks, turns_are, are_turns}
 use Rattle.chunks.proofs.TooLong.{within_room}
 
@@ -70,13 +68,10 @@ no_bad_at_chunks bytes cs n offset h bad = elim (cases_lt offset n) [
   | inr more ↦ bad.no_end n cs (subst (AreChunksText cs) (sym (take-take n offset bytes more)) h)
 ]
 
-pub as_room : (bytes : List ℕ) → IsContentTooLong bytes → IsTooLongFor MAX_CONTENT_BYTES bytes
-as_room bytes t = record { chunks = t.chunks; line = t.line; size = t.size; more = t.more; joined = t.joined; each = t.each; is = t.is; long = t.long }
-
 not_too_long : (bytes : List ℕ) (cs : Chunks) (used : ℕ) → SpellsChunks cs used bytes → IsContentTooLong bytes → ⊥
 not_too_long bytes cs used s t =
     let text : bytes ≡ chunks_text cs ++ drop used bytes = sym (take-append-drop used bytes) ∙ ap (λ (y : List ℕ). y ++ drop used bytes) s.text.text in
-    within_room cs (drop used bytes) MAX_CONTENT_BYTES (record { are = s.text.are; text = refl }) s.short (subst (IsTooLongFor MAX_CONTENT_BYTES) text (as_room bytes t))
+    within_room cs (drop used bytes) MAX_CONTENT_BYTES (record { are = s.text.are; text = refl }) s.short (subst (HasContentOver MAX_CONTENT_BYTES) text t)
 
 pub no_fault_at_chunks : NoFaultAtChunks
 no_fault_at_chunks bytes cs used Memory s f = f.holds

@@ -1,26 +1,24 @@
 -- Chunk after chunk, as the search takes them.
-use Rattle.std.proofs.Common.{◌≡◌, ◌≢◌, true, ℕ, ◌+◌, ◌-◌, ◌*◌, ◌<◌, ◌≤◌, List, [], ◌∷◌, ◌++◌, length, take, map, Option, Some, None, Ok, Err, refl, sym, ap, subst, ◌∙◌, append_assoc, arith, codes}
+use Rattle.std.proofs.Common.{◌≡◌, ℕ, ◌+◌, ◌-◌, ◌<◌, ◌≤◌, List, [], ◌∷◌, ◌++◌, length, take, Some, Ok, Err, refl, sym, ap, subst, ◌∙◌, append_assoc, arith, codes}
 use Rattle.std.proofs.lemmas.List.{append-nil, length-append, take_at}
 use Rattle.std.proofs.lemmas.List.Elements.{All-nil, All-cons, All-append}
 use Rattle.std.proofs.lemmas.Grind.{flat_map-append}
-use Rattle.std.specs.List.{All, list_all, flat_map}
-use Rattle.byte_grammar.proofs.Loops.{loop_first, loop_last, loop_err, loop_more}
-use Rattle.byte_grammar.specs.tools.Walks.{turns_read, with_prefix}
-use Rattle.byte_grammar.proofs.Laws.{Meets}
+use Rattle.std.specs.List.{All, flat_map}
+use Rattle.byte_grammar.proofs.Loops.{loop_first, loop_err, loop_more}
+use Rattle.byte_grammar.specs.tools.Walks.{turns_read}
 use Rattle.chunks.specs.declared.limits.TheConstants.{MAX_CONTENT_BYTES}
 use Rattle.chunks.specs.declared.view.ChunkSpan.{ChunkSpan}
 use Rattle.chunks.specs.declared.read.Found.{Found}
-use Rattle.chunks.specs.Chunks.{Chunk, Chunks, IsChunkLine, IsChunk, AreChunksText, SpellsChunks, chunk_text, chunks_text, data_of, content_of}
-use Rattle.chunks.specs.Causes.{IsContentTooLong}
-use Rattle.chunks.specs.Views.{ChunksParts, chunks_of, chunk_at, lies_in, IsChunksViewOf}
+use Rattle.chunks.specs.Chunks.{Chunk, Chunks, IsChunkLine, IsChunk, SpellsChunks, chunk_text, data_of, content_of}
+use Rattle.chunks.specs.Causes.{HasContentOver, IsContentTooLong}
+use Rattle.chunks.specs.Views.{ChunksParts, chunks_of, IsChunksViewOf}
 use Rattle.chunks.specs.tools.ChunkWalk.{line_read, data_read, turn_read}
-use Rattle.chunks.specs.tools.Turns.{IsTurn, IsTooLongFor, span_of, spans_of}
+use Rattle.chunks.specs.tools.Turns.{span_of, spans_of}
 use Rattle.chunks.specs.tools.Judged.{Finding, IsFound, parts_of}
 use Rattle.chunks.proofs.LineLaws.{meets_line, meets_data}
 use Rattle.chunks.proofs.TurnTexts.{meets_turn, chunk_loop}
-use Rattle.chunks.proofs.TooLong.{turn_err, turn_last, turn_some, turn_data_err, line_goes, no_turn, last_turn, next_turn}
+use Rattle.chunks.proofs.TooLong.{turn_err, turn_some, turn_data_err, line_goes, no_turn, next_turn}
 use Rattle.chunks.proofs.Spans.{slice_at, chunks_at, spans_more, spans_follow, spans_lie, line_some}
-use Rattle.chunks.proofs.ChunkLaws.{as_room}
 
 pub first_found : (bytes : List ℕ) → Finding bytes [] bytes MAX_CONTENT_BYTES
 first_found bytes = record {
@@ -30,7 +28,7 @@ first_found bytes = record {
   spans_are = refl;
   counted = refl;
   so_far = loop_first (turns_read turn_read bytes);
-  long = as_room bytes;
+  long = λ t. t;
 }
 
 -- these chunks and the last line fill the first bytes
@@ -129,7 +127,7 @@ module _ {bytes : List ℕ} {spans : List ChunkSpan} {left : List ℕ} {room : �
           spans_are = ap (λ (x : ChunkSpan). spans ++ x ∷ []) (is ∙ ap (λ (n : ℕ). span_of n c) place) ∙ ap (λ (x : List ChunkSpan). x ++ span_of (0 + length (flat_map chunk_text f.done)) c ∷ []) f.spans_are ∙ sym (spans_more f.done c 0);
           counted = omega (arith, contents, f.counted);
           so_far = loop_more turn_read chunk_loop f.done left (turns_read turn_read bytes) f.so_far c rest turn;
-          long = λ t. subst (λ (n : ℕ). IsTooLongFor (room - n) rest) count (next_turn room left text after rest size c line fits turn (f.long t));
+          long = λ t. subst (λ (n : ℕ). HasContentOver (room - n) rest) count (next_turn room left text after rest size c line fits turn (f.long t));
         }
 
     pub data_count : (d rest : List ℕ) → data_read size after ≡ Ok (d, rest) → (length d ≡ size) × (length after ≡ size + 2 + length rest)

@@ -5,3 +5,4 @@ pub mod Spans
 pub mod ChunkLaws
 pub mod Finding
 pub mod Outcomes
+pub mod Answered

@@ -1,7 +1,7 @@
 -- Each answer to bytes has its cause, and no two causes are met.
-use Rattle.std.proofs.Common.{◌≡◌, ◌≢◌, ◌⊎◌, inl, inr, ℕ, ◌-◌, ◌<◌, List, length, refl, sym, subst, ap, ◌∙◌, arith}
+use Rattle.std.proofs.Common.{◌≡◌, ◌≢◌, ◌⊎◌, inl, inr, ℕ, ◌<◌, List, refl, sym, subst, ap, ◌∙◌, arith}
 use Rattle.std.specs.Prelude.{Result, Ok, Err, IsErrAnd, IfErr}
-use Rattle.byte_grammar.specs.Causes.{IsFirst, AnswersWhere}
+use Rattle.byte_grammar.specs.Causes.{AnswersWhere}
 use Rattle.chunks.specs.declared.read.ChunksRead.{ChunksRead}
 use Rattle.chunks.specs.declared.read.ChunksRead.TheVariants.{Whole, Partial}
 use Rattle.chunks.specs.declared.error.ChunkError.{ChunkError}

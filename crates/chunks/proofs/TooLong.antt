@@ -5,11 +5,10 @@ use Rattle.std.proofs.lemmas.List.Elements.{All-head, All-tail}
 use Rattle.std.proofs.lemmas.Bool.{cases_lt}
 use Rattle.std.specs.List.{All, flat_map}
 use Rattle.byte_grammar.specs.Walk.{◌>>=◌}
-use Rattle.byte_grammar.specs.tools.Languages.{Turns}
-use Rattle.byte_grammar.proofs.Laws.{Meets, any_next, ok_is, not_err}
+use Rattle.byte_grammar.proofs.Laws.{any_next, ok_is, not_err}
 use Rattle.chunks.specs.Chunks.{Chunk, Chunks, IsChunkLine, IsChunk, AreChunksText, chunk_text, chunks_text, data_of, content_of}
+use Rattle.chunks.specs.Causes.{HasContentOver}
 use Rattle.chunks.specs.tools.ChunkWalk.{line_read, data_read, body_read, turn_read}
-use Rattle.chunks.specs.tools.Turns.{IsTurn, IsTooLongFor}
 use Rattle.chunks.proofs.LineLaws.{meets_line}
 use Rattle.chunks.proofs.TurnTexts.{meets_turn}
 
@@ -62,7 +61,7 @@ pub record GoesOn (room : ℕ) (bytes : List ℕ) : Type 0 where
   pub chunk : Chunk
   pub rest : List ℕ
   pub turn : turn_read bytes ≡ Ok (Some chunk, rest)
-  pub long : IsTooLongFor (room - length chunk.chunk_data) rest
+  pub long : HasContentOver (room - length chunk.chunk_data) rest
 
 -- the line that is read makes content too long, or a later one does
 pub record LongLine (room : ℕ) (bytes : List ℕ) : Type 0 where
@@ -72,7 +71,7 @@ pub record LongLine (room : ℕ) (bytes : List ℕ) : Type 0 where
   pub line : line_read bytes ≡ Ok ((text, size), after)
   pub then : (room < size) ⊎ GoesOn room bytes
 
-pub long_line : (room : ℕ) (bytes : List ℕ) → IsTooLongFor room bytes → LongLine room bytes
+pub long_line : (room : ℕ) (bytes : List ℕ) → HasContentOver room bytes → LongLine room bytes
 long_line room bytes t = go t.chunks t.joined t.each t.long
   where
     go : (chunks : List Chunk) → bytes ≡ flat_map chunk_text chunks ++ (t.line ++ (codes "\r\n" ++ t.more)) → All IsChunk chunks → room < length (data_of chunks) + t.size → LongLine room bytes
@@ -107,7 +106,7 @@ long_line room bytes t = go t.chunks t.joined t.each t.long
         }
 
 -- where the line's size is within the room, the turn is read
-pub goes_on : (room : ℕ) (bytes text after : List ℕ) (size : ℕ) → line_read bytes ≡ Ok ((text, size), after) → size ≤ room → IsTooLongFor room bytes → GoesOn room bytes
+pub goes_on : (room : ℕ) (bytes text after : List ℕ) (size : ℕ) → line_read bytes ≡ Ok ((text, size), after) → size ≤ room → HasContentOver room bytes → GoesOn room bytes
 goes_on room bytes text after size e fits t = go (long_line room bytes t)
   where
     go : LongLine room bytes → GoesOn room bytes
@@ -118,16 +117,16 @@ goes_on room bytes text after size e fits t = go (long_line room bytes t)
           | inr on ↦ on
         ]
 
-pub line_goes : (room : ℕ) (bytes : List ℕ) (n : ℕ) → line_read bytes ≡ Err n → IsTooLongFor room bytes → ⊥
+pub line_goes : (room : ℕ) (bytes : List ℕ) (n : ℕ) → line_read bytes ≡ Err n → HasContentOver room bytes → ⊥
 line_goes room bytes n e t = not_err _ _ (sym (long_line room bytes t).line ∙ e)
 
-pub no_turn : (room : ℕ) (bytes text after : List ℕ) (size n : ℕ) → line_read bytes ≡ Ok ((text, size), after) → size ≤ room → turn_read bytes ≡ Err n → IsTooLongFor room bytes → ⊥
+pub no_turn : (room : ℕ) (bytes text after : List ℕ) (size n : ℕ) → line_read bytes ≡ Ok ((text, size), after) → size ≤ room → turn_read bytes ≡ Err n → HasContentOver room bytes → ⊥
 no_turn room bytes text after size n e fits is t = not_err _ _ (sym (goes_on room bytes text after size e fits t).turn ∙ is)
 
 not_last : (c : Chunk) (a b : List ℕ) → ◌≡◌ {A = Option Chunk × List ℕ} (Some c, a) (None, b) → ⊥
 not_last c a b e = absurd (cc (ap (λ (x : Option Chunk × List ℕ). x.0) e))
 
-pub last_turn : (room : ℕ) (bytes text after rest : List ℕ) (size : ℕ) → line_read bytes ≡ Ok ((text, size), after) → size ≤ room → turn_read bytes ≡ Ok (None, rest) → IsTooLongFor room bytes → ⊥
+pub last_turn : (room : ℕ) (bytes text after rest : List ℕ) (size : ℕ) → line_read bytes ≡ Ok ((text, size), after) → size ≤ room → turn_read bytes ≡ Ok (None, rest) → HasContentOver room bytes → ⊥
 last_turn room bytes text after rest size e fits is t =
     let on = goes_on room bytes text after size e fits t in
     not_last on.chunk on.rest rest (ok_is _ _ (sym on.turn ∙ is))
@@ -135,17 +134,17 @@ last_turn room bytes text after rest size e fits is t =
 some_is : (c d : Chunk) (a b : List ℕ) → ◌≡◌ {A = Option Chunk × List ℕ} (Some c, a) (Some d, b) → (c ≡ d) × (a ≡ b)
 some_is c d a b e = (cc (ap (λ (x : Option Chunk × List ℕ). x.0) e), ap (λ (x : Option Chunk × List ℕ). x.1) e)
 
-pub next_turn : (room : ℕ) (bytes text after rest : List ℕ) (size : ℕ) (c : Chunk) → line_read bytes ≡ Ok ((text, size), after) → size ≤ room → turn_read bytes ≡ Ok (Some c, rest) → IsTooLongFor room bytes → IsTooLongFor (room - length c.chunk_data) rest
+pub next_turn : (room : ℕ) (bytes text after rest : List ℕ) (size : ℕ) (c : Chunk) → line_read bytes ≡ Ok ((text, size), after) → size ≤ room → turn_read bytes ≡ Ok (Some c, rest) → HasContentOver room bytes → HasContentOver (room - length c.chunk_data) rest
 next_turn room bytes text after rest size c e fits is t =
     let on = goes_on room bytes text after size e fits t in
     let same = some_is on.chunk c on.rest rest (ok_is _ _ (sym on.turn ∙ is)) in
-    subst (λ (d : Chunk). IsTooLongFor (room - length d.chunk_data) rest) same.0 (subst (λ (r : List ℕ). IsTooLongFor (room - length on.chunk.chunk_data) r) same.1 on.long)
+    subst (λ (d : Chunk). HasContentOver (room - length d.chunk_data) rest) same.0 (subst (λ (r : List ℕ). HasContentOver (room - length on.chunk.chunk_data) r) same.1 on.long)
 
 -- what is within the room isn't too long for it
-pub within_room : (cs : Chunks) (more : List ℕ) (room : ℕ) → AreChunksText cs (chunks_text cs) → length (content_of cs) ≤ room → IsTooLongFor room (chunks_text cs ++ more) → ⊥
-within_room cs more room h le t = go cs.chunks room h.are.each le (subst (λ (y : List ℕ). IsTooLongFor room y) (append_assoc (flat_map chunk_text cs.chunks) (cs.last ++ codes "\r\n") more) t)
+pub within_room : (cs : Chunks) (more : List ℕ) (room : ℕ) → AreChunksText cs (chunks_text cs) → length (content_of cs) ≤ room → HasContentOver room (chunks_text cs ++ more) → ⊥
+within_room cs more room h le t = go cs.chunks room h.are.each le (subst (λ (y : List ℕ). HasContentOver room y) (append_assoc (flat_map chunk_text cs.chunks) (cs.last ++ codes "\r\n") more) t)
   where
-    go : (chunks : List Chunk) (room : ℕ) → All IsChunk chunks → length (data_of chunks) ≤ room → IsTooLongFor room (flat_map chunk_text chunks ++ ((cs.last ++ codes "\r\n") ++ more)) → ⊥
+    go : (chunks : List Chunk) (room : ℕ) → All IsChunk chunks → length (data_of chunks) ≤ room → HasContentOver room (flat_map chunk_text chunks ++ ((cs.last ++ codes "\r\n") ++ more)) → ⊥
     go [] room all le t =
         let line = meets_line.only (cs.last ++ codes "\r\n") more (cs.last, 0) (refl, h.are.last) (any_next more) in
         last_turn room ((cs.last ++ codes "\r\n") ++ more) cs.last more more 0 line (omega arith) (turn_last _ cs.last more 0 line refl) t
@@ -154,5 +153,5 @@ within_room cs more room h le t = go cs.chunks room h.are.each le (subst (λ (y 
         let is = All-head IsChunk c chunks all in
         let size = length-append c.chunk_data (data_of chunks) in
         let parted : (chunk_text c ++ flat_map chunk_text chunks) ++ ((cs.last ++ codes "\r\n") ++ more) ≡ chunk_text c ++ others = append_assoc (chunk_text c) (flat_map chunk_text chunks) ((cs.last ++ codes "\r\n") ++ more) in
-        let long = next_turn room (chunk_text c ++ others) c.line ((c.chunk_data ++ codes "\r\n") ++ others) others (length c.chunk_data) c (chunk_line_is c others is) (omega (arith, size, le)) (turn_is c others is) (subst (λ (y : List ℕ). IsTooLongFor room y) parted t) in
+        let long = next_turn room (chunk_text c ++ others) c.line ((c.chunk_data ++ codes "\r\n") ++ others) others (length c.chunk_data) c (chunk_line_is c others is) (omega (arith, size, le)) (turn_is c others is) (subst (λ (y : List ℕ). HasContentOver room y) parted t) in
         go chunks (room - length c.chunk_data) (All-tail IsChunk c chunks all) (omega (arith, size, le)) long

@@ -1,16 +1,15 @@
 -- The reader of chunks meets the text of chunks.
-use Rattle.std.proofs.Common.{◌≡◌, ℕ, zero, suc, ◌+◌, ◌<◌, List, [], ◌∷◌, ◌++◌, length, replicate, Option, Some, None, Result, Ok, Err, refl, sym, ap, subst, ◌∙◌, append_assoc, arith, codes}
+use Rattle.std.proofs.Common.{◌≡◌, ℕ, zero, suc, ◌<◌, List, [], ◌∷◌, ◌++◌, length, replicate, Option, Some, None, refl, sym, ap, subst, ◌∙◌, append_assoc, arith, codes}
 use Rattle.std.proofs.lemmas.List.{append-nil, length-append, length-replicate}
 use Rattle.std.proofs.lemmas.List.Elements.{All-nil, All-cons, All-head, All-tail}
 use Rattle.std.specs.List.{All, flat_map}
-use Rattle.byte_grammar.specs.Language.{Begins}
 use Rattle.byte_grammar.specs.tools.Languages.{Then, Turns}
 use Rattle.byte_grammar.specs.tools.Walks.{turns_read, IsLoop}
 use Rattle.byte_grammar.proofs.Laws.{Meets, meets_then, meets_map, meets_same, meets_done, any_next}
 use Rattle.byte_grammar.proofs.TurnLaws.{meets_turns, turns_step}
-use Rattle.chunks.specs.Chunks.{Chunk, Chunks, IsChunkLine, IsChunk, AreChunks, AreChunksText, chunk_text, chunks_text}
+use Rattle.chunks.specs.Chunks.{Chunk, Chunks, IsChunkLine, IsChunk, AreChunksText, chunk_text}
 use Rattle.chunks.specs.tools.ChunkWalk.{body_read, turn_read}
-use Rattle.chunks.specs.tools.Turns.{Anything, IsLineText, IsDataText, IsBody, IsTurn}
+use Rattle.chunks.specs.tools.Turns.{Anything, IsLineText, IsBody, IsTurn}
 use Rattle.chunks.proofs.LineLaws.{meets_line, meets_data, no_extension}
 
 meets_body : (l : List ℕ × ℕ) → Meets (IsBody l) Anything (body_read l)

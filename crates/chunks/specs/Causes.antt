@@ -16,8 +16,8 @@ abbrev pub NoPrefixIsChunks : List ℕ → Type 0
 NoPrefixIsChunks bytes = (n : ℕ) (cs : Chunks) → ¬ AreChunksText cs (take n bytes)
 
 -- The bytes are chunks, a chunk line, its CRLF, and more. The data of these chunks and the size of
--- the line make more content than there may be.
-pub record IsContentTooLong (bytes : List ℕ) : Type 0 where
+-- the line make more content than the limit.
+pub record HasContentOver (limit : ℕ) (bytes : List ℕ) : Type 0 where
   pub chunks : List Chunk
   pub line : List ℕ
   pub size : ℕ
@@ -25,7 +25,11 @@ pub record IsContentTooLong (bytes : List ℕ) : Type 0 where
   pub joined : bytes ≡ flat_map chunk_text chunks ++ (line ++ (codes "\r\n" ++ more))
   pub each : All IsChunk chunks
   pub is : IsChunkLine line size
-  pub long : MAX_CONTENT_BYTES < length (data_of chunks) + size
+  pub long : limit < length (data_of chunks) + size
+
+-- content has more bytes than it may have
+abbrev pub IsContentTooLong : List ℕ → Type 0
+IsContentTooLong bytes = HasContentOver MAX_CONTENT_BYTES bytes
 
 -- the offset is the first at which the bytes up to and with it begin no chunks, and no chunks end
 -- before it

@@ -1,11 +1,11 @@
 -- Laws of chunks.
-use Rattle.std.specs.Prelude.{◌≡◌, ◌≢◌, ℕ, ◌<◌, ◌≤◌, List, length, take}
-use Rattle.chunks.specs.Chunks.{Chunks, AreChunks, AreChunksText, SpellsChunks, chunks_text}
+use Rattle.std.specs.Prelude.{◌≡◌, ◌⊎◌, ℕ, ◌<◌, ◌≤◌, List, length, take}
+use Rattle.chunks.specs.Chunks.{Chunks, AreChunksText, SpellsChunks}
 use Rattle.chunks.specs.Causes.{BeginsChunks, IsChunksError, AreChunksUnfinished}
 use Rattle.chunks.specs.declared.error.ChunkError.{ChunkError}
 
--- Bytes begin with at most one text of chunks, whatever the length of its content, and it is that of
--- one list of chunks.
+-- Bytes begin with at most one text of chunks, whatever the length of its content, and it is that
+-- of one list of chunks.
 abbrev pub OneChunks : Type 0
 OneChunks =
     (bytes : List ℕ) (one other : Chunks) (n m : ℕ) → n ≤ length bytes → m ≤ length bytes →
@@ -17,6 +17,14 @@ abbrev pub NoChunksInPrefix : Type 0
 NoChunksInPrefix =
     (bytes : List ℕ) (cs : Chunks) (n : ℕ) →
     BeginsChunks bytes → n < length bytes → ¬ AreChunksText cs (take n bytes)
+
+-- Bytes begin with chunks within the limit, or have a fault, or the end of chunks may still come.
+abbrev pub EachHasAnAnswer : Type 0
+EachHasAnAnswer =
+    (bytes : List ℕ) →
+    ((cs : Chunks) × (used : ℕ) × SpellsChunks cs used bytes)
+    ⊎ ((fault : ChunkError) × IsChunksError bytes fault)
+    ⊎ AreChunksUnfinished bytes
 
 -- Bytes have at most one fault.
 abbrev pub OneChunksFault : Type 0

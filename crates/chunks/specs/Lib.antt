@@ -2,6 +2,5 @@ pub mod Chunks
 pub mod Causes
 pub mod Views
 pub mod Outcome
-pub mod Pieces
 pub mod Laws
 pub mod tools

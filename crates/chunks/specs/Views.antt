@@ -30,8 +30,8 @@ lies_in count span =
     nat_le span.line span.line_end
     && (nat_le (span.line_end + 2) span.end && nat_le span.end count)
 
--- From the one offset to the other chunks follow each other. After a chunk's line stands CRLF, which
--- is two bytes, and after its data too.
+-- From the one offset to the other chunks follow each other. After a chunk's line stands CRLF,
+-- which is two bytes, and after its data too.
 abbrev pub FollowEachOther : ℕ → List ChunkSpan → ℕ → Type 0
 FollowEachOther from [] to = from ≡ to
 FollowEachOther from (span ∷ spans) to =

@@ -9,7 +9,8 @@ use std::fmt;
 pub enum ChunkError {
     /// No memory was found for the offsets of the chunks.
     Memory,
-    /// The chunks whose lines are there have more data by their sizes than content may have.
+    /// The chunks whose lines are there have more data by their sizes than content may have
+    /// (RFC 9112 section 7.1 asks to guard against such sizes; the limit is `MAX_CONTENT_BYTES`).
     TooLong,
     /// The byte at this offset is the first one that no chunks have after the bytes before it
     /// (RFC 9112 section 7.1).

@@ -1,6 +1,6 @@
 //! Laws of chunks.
 
-ghost use Rattle.chunks.specs.Laws.{OneChunks, NoChunksInPrefix, OneChunksFault, NoFaultAtChunks, NoChunksAnswerYet};
+ghost use Rattle.chunks.specs.Laws.{OneChunks, NoChunksInPrefix, EachHasAnAnswer, OneChunksFault, NoFaultAtChunks, NoChunksAnswerYet};
 
 /// The laws of chunks: bytes begin with the text of at most one list of chunks, and nothing that
 /// begins chunks goes on after their end.
@@ -9,9 +9,10 @@ pub fn chunks_laws()
     ensures prefix { NoChunksInPrefix }
 {}
 
-/// Out of memory aside, the answer to bytes is one: they begin with chunks, or the end of chunks may
-/// still come, or they have one fault.
+/// Out of memory aside, the answer to bytes is one: they begin with chunks, or the end of chunks
+/// may still come, or they have one fault.
 pub fn chunks_have_one_answer()
+    ensures some { EachHasAnAnswer }
     ensures fault { OneChunksFault }
     ensures chunks { NoFaultAtChunks }
     ensures unfinished { NoChunksAnswerYet }

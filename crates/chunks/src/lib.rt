@@ -7,7 +7,7 @@
 //! ```text
 //! let bytes = b"4;a=b\r\nWiki\r\n0\r\n\r\n";
 //! match read_chunks(alloc, bytes)? {
-//!     ChunksRead::Whole(chunks, used) => { .. } // used is 16, the pieces of the content are b"Wiki"
+//!     ChunksRead::Whole(chunks, used) => { .. } // used is 16, the content is b"Wiki"
 //!     ChunksRead::Partial => { .. }             // more bytes are wanted
 //! }
 //! ```

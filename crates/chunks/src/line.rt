@@ -1,7 +1,6 @@
 //! Reads a chunk line, and the data after it.
 
-ghost use Rattle.std.specs.Prelude.{◌≡◌, ◌≤◌, ◌<◌, ◌+◌, ◌*◌, ◌^◌, ◌-◌, ◌++◌, length, codes, take, IfOk, IsTrue};
-ghost use Rattle.std.specs.List.{list_all};
+ghost use Rattle.std.specs.Prelude.{◌≡◌, ◌<◌, ◌↔◌, ◌++◌, codes, IfOk, IsTrue};
 ghost use Rattle.std.specs.Char.{is_ascii_hexdigit, digit_value};
 ghost use Rattle.std.specs.Str.Parse.{digits_value};
 ghost use Rattle.byte_grammar.specs.Gives.{Gives};
@@ -19,6 +18,15 @@ use byte_grammar::{Left, read_byte, read_run, starts_with};
 pub(crate) struct ChunkLine<'m> {
     pub(crate) text: &'m [u8],
     pub(crate) size: u64,
+}
+
+impl ChunkLine<'_> {
+    /// Whether it is the line of the last chunk.
+    pub(crate) fn is_last(&self) -> bool
+        ensures { IsTrue result ↔ (self.now.size ≡ 0) }
+    {
+        self.size == 0
+    }
 }
 
 // Reads CRLF.

@@ -1,6 +1,6 @@
 //! Reads chunks.
 
-ghost use Rattle.std.specs.Prelude.{◌≡◌, ◌≢◌, ℕ, ◌≤◌, length, Ok, Err, IfOk, IfErr};
+ghost use Rattle.std.specs.Prelude.{◌≡◌, ◌≢◌, ℕ, Ok, Err, IfOk, IfErr};
 ghost use Rattle.byte_grammar.specs.Causes.{AnswersWhere};
 ghost use Rattle.chunks.specs.Chunks.{Chunks, SpellsChunks};
 ghost use Rattle.chunks.specs.Causes.{IsChunksError, AreChunksUnfinished};
@@ -79,6 +79,8 @@ impl<T: Drop> From<AllocFailed<T>> for Stop {
 
 // Finds the chunks that the bytes begin with. A size is compared with the room that is left for
 // content, so no sum of sizes is made that could be too great.
+// Compiled by itself its loop keeps its variables in registers.
+#[inline(never)]
 fn find_chunks(alloc: Global, bytes: &[u8]) -> Result<Found, Stop>
     ensures ok { IfOk result (λ found. IsFound bytes.now found) }
     ensures err { IfErr result (λ stop. IsStop bytes.now stop) }
@@ -89,7 +91,7 @@ fn find_chunks(alloc: Global, bytes: &[u8]) -> Result<Found, Stop>
     'chunks: loop {
         let line = bytes.len() - left.len();
         let (first, after_line) = read_line(left)?;
-        if first.size == 0 {
+        if first.is_last() {
             return Ok(Found {
                 spans,
                 last: line,

@@ -34,7 +34,7 @@ struct Swap {
     answer: Answer,
 }
 
-fn swap(place: usize, bytes: &'static [u8], answer: Answer) -> Swap {
+fn swap_of(place: usize, bytes: &'static [u8], answer: Answer) -> Swap {
     Swap {
         place,
         bytes,
@@ -73,33 +73,33 @@ fn each_byte_at_each_place_has_its_answer(rt: HostRuntime) -> Result<(), Fail> {
     ];
     let rows = [
         // another size: where its data ends, CRLF stands, or it doesn't, or it isn't there yet
-        swap(0, b"0", Whole(5)),
-        swap(0, b"1", Bad(6)),
-        swap(0, b"2", Bad(7)),
-        swap(0, b"3", Whole(13)),
-        swap(0, b"4", Bad(9)),
-        swap(0, b"5", Bad(10)),
-        swap(0, b"7", Bad(12)),
-        swap(0, HEX, Partial),
+        swap_of(0, b"0", Whole(5)),
+        swap_of(0, b"1", Bad(6)),
+        swap_of(0, b"2", Bad(7)),
+        swap_of(0, b"3", Whole(13)),
+        swap_of(0, b"4", Bad(9)),
+        swap_of(0, b"5", Bad(10)),
+        swap_of(0, b"7", Bad(12)),
+        swap_of(0, HEX, Partial),
         // a size of three digits, an extension, or half of the line's end
-        swap(1, HEX, Partial),
-        swap(1, b"; \t", Whole(13)),
-        swap(1, b"\r", Bad(2)),
-        swap(2, b"\0\n", Bad(2)),
-        swap(2, b"\r", Bad(3)),
+        swap_of(1, HEX, Partial),
+        swap_of(1, b"; \t", Whole(13)),
+        swap_of(1, b"\r", Bad(2)),
+        swap_of(2, b"\0\n", Bad(2)),
+        swap_of(2, b"\r", Bad(3)),
         // any other byte belongs to the extension
-        swap(3, b"\r", Whole(13)),
-        swap(3, b"\0\n", Bad(3)),
-        swap(4, b"\n", Whole(13)),
-        swap(8, b"\r", Whole(13)),
-        swap(9, b"\n", Whole(13)),
+        swap_of(3, b"\r", Whole(13)),
+        swap_of(3, b"\0\n", Bad(3)),
+        swap_of(4, b"\n", Whole(13)),
+        swap_of(8, b"\r", Whole(13)),
+        swap_of(9, b"\n", Whole(13)),
         // a chunk whose data isn't there yet
-        swap(10, b"0", Whole(13)),
-        swap(10, HEX, Partial),
-        swap(11, b"\r", Whole(13)),
-        swap(11, HEX, Bad(12)),
-        swap(11, b"; \t", Bad(12)),
-        swap(12, b"\n", Whole(13)),
+        swap_of(10, b"0", Whole(13)),
+        swap_of(10, HEX, Partial),
+        swap_of(11, b"\r", Whole(13)),
+        swap_of(11, HEX, Bad(12)),
+        swap_of(11, b"; \t", Bad(12)),
+        swap_of(12, b"\n", Whole(13)),
     ];
     for (place, answer) in others.iter().enumerate() {
         for byte in 0..=255u8 {
@@ -130,35 +130,35 @@ struct Case {
     answer: Answer,
 }
 
-fn case(bytes: &'static [u8], answer: Answer) -> Case {
+fn case_of(bytes: &'static [u8], answer: Answer) -> Case {
     Case { bytes, answer }
 }
 
 #[test]
 fn sizes_are_judged_by_their_digits_and_the_limit(rt: HostRuntime) -> Result<(), Fail> {
     let cases = [
-        case(b"FFFFFFFFFFFFFFFF\r\n", TooLong),
-        case(b"FFFFFFFFFFFFFFFF\r", Partial),
-        case(b"FFFFFFFFFFFFFFFFF\r\n", Bad(16)),
-        case(b"FFFFFFFFFFFFFFFF;\n", Bad(17)),
-        case(b"0000000000000001\r\na\r\n0\r\n", Whole(24)),
-        case(b"00000000000000001\r\n", Bad(16)),
-        case(b"1000000000000001\r\na\r\n0\r\n", TooLong),
-        case(b"0x5\r\nabcde\r\n0\r\n", Bad(1)),
-        case(b"+5\r\n", Bad(0)),
-        case(b"-5\r\n", Bad(0)),
-        case(b"\r\n", Bad(0)),
-        case(b"5\nabcde\r\n", Bad(1)),
-        case(b"00\r\n", Whole(4)),
-        case(b"0000000000000000\r\n", Whole(18)),
-        case(b"0;a=\"b\"\t\r\nA: b\r\n\r\n", Whole(10)),
-        case(b"800000\r\n", Partial),
-        case(b"800001\r\n", TooLong),
-        case(b"800001\r", Partial),
-        case(b"1\r\na\r\n7fffff\r\n", Partial),
-        case(b"1\r\na\r\n800000\r\n", TooLong),
-        case(b"1\r\na\r\nffffffffffffffff\r\n", TooLong),
-        case(b"1\r\nab\r\n800000\r\n", Bad(4)),
+        case_of(b"FFFFFFFFFFFFFFFF\r\n", TooLong),
+        case_of(b"FFFFFFFFFFFFFFFF\r", Partial),
+        case_of(b"FFFFFFFFFFFFFFFFF\r\n", Bad(16)),
+        case_of(b"FFFFFFFFFFFFFFFF;\n", Bad(17)),
+        case_of(b"0000000000000001\r\na\r\n0\r\n", Whole(24)),
+        case_of(b"00000000000000001\r\n", Bad(16)),
+        case_of(b"1000000000000001\r\na\r\n0\r\n", TooLong),
+        case_of(b"0x5\r\nabcde\r\n0\r\n", Bad(1)),
+        case_of(b"+5\r\n", Bad(0)),
+        case_of(b"-5\r\n", Bad(0)),
+        case_of(b"\r\n", Bad(0)),
+        case_of(b"5\nabcde\r\n", Bad(1)),
+        case_of(b"00\r\n", Whole(4)),
+        case_of(b"0000000000000000\r\n", Whole(18)),
+        case_of(b"0;a=\"b\"\t\r\nA: b\r\n\r\n", Whole(10)),
+        case_of(b"800000\r\n", Partial),
+        case_of(b"800001\r\n", TooLong),
+        case_of(b"800001\r", Partial),
+        case_of(b"1\r\na\r\n7fffff\r\n", Partial),
+        case_of(b"1\r\na\r\n800000\r\n", TooLong),
+        case_of(b"1\r\na\r\nffffffffffffffff\r\n", TooLong),
+        case_of(b"1\r\nab\r\n800000\r\n", Bad(4)),
     ];
     for case in cases {
         assert_eq!(rt; answer_to(rt.alloc(), case.bytes)?, case.answer);

@@ -1,4 +1,4 @@
-//! What start lines and lines say of content.
+//! What start lines say of content, and how content is framed.
 
 ghost use Rattle.std.specs.Prelude.{◌≡◌};
 ghost use Rattle.msg_head.specs.Views.{start_line_of};

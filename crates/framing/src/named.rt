@@ -37,7 +37,7 @@ fn next_named<'m>(lines: &mut FieldLines<'_, 'm>, name: &[u8]) -> Option<LineVie
 
 impl<'m> NamedLines<'m> {
     /// The lines of the head that have the name, which is in lower case.
-    pub(crate) fn of(head: &HeadView<'m>, name: &[u8]) -> NamedLines<'m>
+    pub(crate) fn find(head: &HeadView<'m>, name: &[u8]) -> NamedLines<'m>
         ensures { HaveValues result (values (lines_of head.now) name.now) }
     {
         let mut lines = head.lines();

@@ -44,8 +44,8 @@ fn framing_by(to_head: bool, start: Start<'_>, has_codings: bool, has_lengths: b
 fn judge(head: &HeadView<'_>, to_head: bool) -> Result<Framed, FramingError>
     ensures { IsFramingAnswer to_head (head_of head.now) result }
 {
-    let codings = NamedLines::of(head, b"transfer-encoding");
-    let lengths = NamedLines::of(head, b"content-length");
+    let codings = NamedLines::find(head, b"transfer-encoding");
+    let lengths = NamedLines::find(head, b"content-length");
     if codings.are_some() && lengths.are_some() {
         return Err(FramingError::Conflict);
     }

@@ -88,65 +88,103 @@ fn framing_lines_are_judged(rt: HostRuntime) -> Result<(), Fail> {
     Ok(())
 }
 
+// A head, whether it answers a HEAD request, and what is read of it.
+#[derive(Clone, Copy)]
+struct Judged {
+    head: &'static [u8],
+    to_head: bool,
+    answer: Option<Result<Framed, FramingError>>,
+}
+
 #[test]
 fn start_lines_are_judged(rt: HostRuntime) {
+    let none = framed(Framing::None, 0);
+    let to_end = framed(Framing::ToEnd, 0);
     let coding = refused(FramingError::CodingRefused);
     let cases = [
-        (
-            b"GET / HTTP/1.0\r\nTransfer-Encoding: chunked\r\n\r\n".as_slice(),
-            false,
-            coding,
-        ),
-        (
-            b"HTTP/1.0 200\r\nTransfer-Encoding: chunked\r\n\r\n",
-            false,
-            coding,
-        ),
-        (
-            b"HTTP/1.1 204\r\nTransfer-Encoding: x\r\n\r\n",
-            true,
-            coding,
-        ),
-        (
-            b"HTTP/1.1 200\r\nTransfer-Encoding: chunked\r\n\r\n",
-            false,
-            framed(Framing::Chunked, 0),
-        ),
-        (
-            b"HTTP/1.0 200\r\nContent-Length: 7\r\n\r\n",
-            false,
-            framed(Framing::Length, 7),
-        ),
-        (b"HTTP/1.1 200\r\n\r\n", false, framed(Framing::ToEnd, 0)),
-        (b"HTTP/1.1 200\r\n\r\n", true, framed(Framing::None, 0)),
-        (
-            b"HTTP/1.1 200\r\nContent-Length: 7\r\n\r\n",
-            true,
-            framed(Framing::None, 7),
-        ),
-        (
-            b"HTTP/1.1 200\r\nTransfer-Encoding: chunked\r\n\r\n",
-            true,
-            framed(Framing::None, 0),
-        ),
-        (b"HTTP/1.1 100\r\n\r\n", false, framed(Framing::None, 0)),
-        (b"HTTP/1.1 199\r\n\r\n", false, framed(Framing::None, 0)),
-        (b"HTTP/1.1 203\r\n\r\n", false, framed(Framing::ToEnd, 0)),
-        (
-            b"HTTP/1.1 204\r\nContent-Length: 7\r\n\r\n",
-            false,
-            framed(Framing::None, 7),
-        ),
-        (b"HTTP/1.1 304\r\n\r\n", false, framed(Framing::None, 0)),
-        (b"HTTP/1.1 305\r\n\r\n", false, framed(Framing::ToEnd, 0)),
-        (
-            b"HTTP/1.1 204\r\nContent-Length: x\r\n\r\n",
-            true,
-            refused(FramingError::BadLength),
-        ),
+        Judged {
+            head: b"GET / HTTP/1.0\r\nTransfer-Encoding: chunked\r\n\r\n",
+            to_head: false,
+            answer: coding,
+        },
+        Judged {
+            head: b"HTTP/1.0 200\r\nTransfer-Encoding: chunked\r\n\r\n",
+            to_head: false,
+            answer: coding,
+        },
+        Judged {
+            head: b"HTTP/1.1 204\r\nTransfer-Encoding: x\r\n\r\n",
+            to_head: true,
+            answer: coding,
+        },
+        Judged {
+            head: b"HTTP/1.1 204\r\nContent-Length: x\r\n\r\n",
+            to_head: true,
+            answer: refused(FramingError::BadLength),
+        },
+        Judged {
+            head: b"HTTP/1.1 200\r\nTransfer-Encoding: chunked\r\n\r\n",
+            to_head: false,
+            answer: framed(Framing::Chunked, 0),
+        },
+        Judged {
+            head: b"HTTP/1.1 200\r\nTransfer-Encoding: chunked\r\n\r\n",
+            to_head: true,
+            answer: none,
+        },
+        Judged {
+            head: b"HTTP/1.0 200\r\nContent-Length: 7\r\n\r\n",
+            to_head: false,
+            answer: framed(Framing::Length, 7),
+        },
+        Judged {
+            head: b"HTTP/1.1 200\r\nContent-Length: 7\r\n\r\n",
+            to_head: true,
+            answer: framed(Framing::None, 7),
+        },
+        Judged {
+            head: b"HTTP/1.1 200\r\n\r\n",
+            to_head: false,
+            answer: to_end,
+        },
+        Judged {
+            head: b"HTTP/1.1 200\r\n\r\n",
+            to_head: true,
+            answer: none,
+        },
+        Judged {
+            head: b"HTTP/1.1 100\r\n\r\n",
+            to_head: false,
+            answer: none,
+        },
+        Judged {
+            head: b"HTTP/1.1 199\r\n\r\n",
+            to_head: false,
+            answer: none,
+        },
+        Judged {
+            head: b"HTTP/1.1 203\r\n\r\n",
+            to_head: false,
+            answer: to_end,
+        },
+        Judged {
+            head: b"HTTP/1.1 204\r\nContent-Length: 7\r\n\r\n",
+            to_head: false,
+            answer: framed(Framing::None, 7),
+        },
+        Judged {
+            head: b"HTTP/1.1 304\r\n\r\n",
+            to_head: false,
+            answer: none,
+        },
+        Judged {
+            head: b"HTTP/1.1 305\r\n\r\n",
+            to_head: false,
+            answer: to_end,
+        },
     ];
-    for (bytes, to_head, answer) in cases {
-        assert_eq!(rt; answer_to(rt.alloc(), bytes, to_head), answer);
+    for case in cases {
+        assert_eq!(rt; answer_to(rt.alloc(), case.head, case.to_head), case.answer);
     }
 }
 

@@ -37,6 +37,7 @@ then_decided {V} {W} {G} IsPart IsFault IsOpen IsNext IsNextFault IsNextOpen byt
         let second = moved (λ part used. IsNext part used (drop used bytes) others.1 b.rest) others.0 parts.0 b.count a.count same b.second in
         let rests = (next parts.0 a.count a.first).one parts.1 others.1 a.rest b.rest a.second second in
         (λ i. (sym same.0 i, rests.0 i), a.used_is ∙ (λ i. sym same.1 i + rests.1 i) ∙ sym b.used_is)
+
     one_fault : (f g : G) → IsFaultOfParts IsPart IsFault IsNextFault bytes f → IsFaultOfParts IsPart IsFault IsNextFault bytes g → f ≡ g
     one_fault f g (inl a) (inl b) = d.one_fault f g a b
     one_fault f g (inl a) (inr b) = absurd (d.no_fault b.part b.used f b.is a)
@@ -44,11 +45,13 @@ then_decided {V} {W} {G} IsPart IsFault IsOpen IsNext IsNextFault IsNextOpen byt
     one_fault f g (inr a) (inr b) =
         let same = d.one b.part a.part b.used a.used b.is a.is in
         (next a.part a.used a.is).one_fault f g a.holds (moved (λ part used. IsNextFault part used (drop used bytes) g) b.part a.part b.used a.used same b.holds)
+
     no_fault : (parts : V × W) (n : ℕ) (f : G) → AreParts IsPart IsNext bytes parts n → ¬ IsFaultOfParts IsPart IsFault IsNextFault bytes f
     no_fault parts n f a (inl b) = d.no_fault parts.0 a.count f a.first b
     no_fault parts n f a (inr b) =
         let same = d.one b.part parts.0 b.used a.count b.is a.first in
         (next parts.0 a.count a.first).no_fault parts.1 a.rest f a.second (moved (λ part used. IsNextFault part used (drop used bytes) f) b.part parts.0 b.used a.count same b.holds)
+
     open_fault : (f : G) → AreOpen IsPart IsOpen IsNextOpen bytes → ¬ IsFaultOfParts IsPart IsFault IsNextFault bytes f
     open_fault f (inl o) (inl b) = d.open_fault f o b
     open_fault f (inl o) (inr b) = d.open_part b.part b.used o b.is
@@ -56,6 +59,7 @@ then_decided {V} {W} {G} IsPart IsFault IsOpen IsNext IsNextFault IsNextOpen byt
     open_fault f (inr o) (inr b) =
         let same = d.one b.part o.part b.used o.used b.is o.is in
         (next o.part o.used o.is).open_fault f o.holds (moved (λ part used. IsNextFault part used (drop used bytes) f) b.part o.part b.used o.used same b.holds)
+
     open_part : (parts : V × W) (n : ℕ) → AreOpen IsPart IsOpen IsNextOpen bytes → ¬ AreParts IsPart IsNext bytes parts n
     open_part parts n (inl o) a = d.open_part parts.0 a.count o a.first
     open_part parts n (inr o) a =

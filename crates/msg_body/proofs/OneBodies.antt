@@ -74,11 +74,13 @@ length_decided count start bytes = record {
         let short = content_short Length count bytes count body n s (length_plain count bytes body n s) in
         let long = a.0 in
         omega (arith, short, long)
+
     open_fault : (f : MessageError) → IsBodyUnfinished Length count bytes → ¬ IsBodyError Length count start f bytes
     open_fault f more a =
         let short = more.0 in
         let long = a.0 in
         omega (arith, short, long)
+
     open_part : (body : Body) (n : ℕ) → IsBodyUnfinished Length count bytes → ¬ SpellsBody Length count body n bytes
     open_part body n more s =
         let used = (length_plain count bytes body n s).1 in
@@ -115,14 +117,17 @@ chunked_made : (count : ℕ) (bytes : List ℕ) (body : Body) (n : ℕ) → Spel
     → (parts : Chunks × List FieldLine) × AreParts SpellsChunks NextTrailer bytes parts n × (body ≡ body_in_chunks parts)
 chunked_made count bytes (plain content) n s = absurd s.is
 chunked_made count bytes (chunked chunks trailers) n s =
-    let at = parted bytes (chunks_text chunks) (trailer_text trailers) n s.within s.text in
-    ((chunks, trailers), record {
-      count = length (chunks_text chunks);
-      rest = at.rest;
-      first = record { within = at.within; text = record { are = s.is.0; text = at.first_is }; short = s.content };
-      second = record { within = at.rest_within; spells = record { is = s.is.1; text = at.second_is } };
-      used_is = at.used_is;
-    }, refl)
+    let at = parted bytes (chunks_text chunks) (trailer_text trailers) n s.within s.text in (
+      (chunks, trailers),
+      record {
+        count = length (chunks_text chunks);
+        rest = at.rest;
+        first = record { within = at.within; text = record { are = s.is.0; text = at.first_is }; short = s.content };
+        second = record { within = at.rest_within; spells = record { is = s.is.1; text = at.second_is } };
+        used_is = at.used_is;
+      },
+      refl,
+    )
 
 chunked_decided : (count start : ℕ) (bytes : List ℕ) → IsDecided (λ body n. SpellsBody Chunked count body n bytes) (λ fault. IsBodyError Chunked count start fault bytes) (IsBodyUnfinished Chunked count bytes)
 chunked_decided count start bytes =

@@ -51,6 +51,7 @@ after_head_decided expect to_head head start rest = record {
   where
     bodies : IsDecided (λ body n. SpellsBody (framing_of to_head head) (content_length_of head) body n rest) (λ fault. IsBodyError (framing_of to_head head) (content_length_of head) start fault rest) (IsBodyUnfinished (framing_of to_head head) (content_length_of head) rest)
     bodies = body_decided (framing_of to_head head) (content_length_of head) start rest
+
     one_fault : (f g : MessageError) → IsErrorAfterHead expect to_head f head start rest → IsErrorAfterHead expect to_head g head start rest → f ≡ g
     one_fault f g (inl a) (inl b) = a.1 ∙ sym b.1
     one_fault f g (inl a) (inr b) = absurd (false≢true (sym a.0 ∙ b.0))
@@ -60,10 +61,12 @@ after_head_decided expect to_head head start rest = record {
     one_fault f g (inr (expected, inl a)) (inr (_, inr b)) = absurd (no_error_where_framable head a.0 b.0 a.1)
     one_fault f g (inr (expected, inr a)) (inr (_, inl b)) = absurd (no_error_where_framable head b.0 a.0 b.1)
     one_fault f g (inr (expected, inr a)) (inr (_, inr b)) = bodies.one_fault f g a.1 b.1
+
     no_fault : (body : Body) (n : ℕ) (f : MessageError) → NextBody expect to_head head start rest body n → ¬ IsErrorAfterHead expect to_head f head start rest
     no_fault body n f a (inl b) = false≢true (sym b.0 ∙ a.0)
     no_fault body n f a (inr (expected, inl b)) = no_error_where_framable head b.0 a.1 b.1
     no_fault body n f a (inr (expected, inr b)) = bodies.no_fault body n f a.2 b.1
+
     open_fault : (f : MessageError) → NextIsOpen expect to_head head start rest → ¬ IsErrorAfterHead expect to_head f head start rest
     open_fault f a (inl b) = false≢true (sym b.0 ∙ a.0)
     open_fault f a (inr (expected, inl b)) = no_error_where_framable head b.0 a.1 b.1
@@ -92,20 +95,27 @@ message_parts expect to_head bytes message n of_kind =
     let s = of_kind.0 in
     let is = s.spells.is in
     let at = parted bytes (head_text message.head) (body_text message.body) n s.within s.spells.text in
-    let framing = is.framing in
-    ((message.head, message.body), record {
-      count = length (head_text message.head);
-      rest = at.rest;
-      first = record { within = at.within; spells = record { is = is.head; text = at.first_is } };
-      second = (of_kind.1, is.framable, record {
-        within = at.rest_within;
-        is = subst (λ f. IsBodyOf f (content_length_of message.head) message.body) framing is.body;
-        content = is.content;
-        text = at.second_is;
-        all = λ e. rest_of_all n (length (head_text message.head)) at.rest (length bytes) (length (drop (length (head_text message.head)) bytes)) at.used_is (s.all (framing ∙ e)) (length-drop (length (head_text message.head)) bytes);
-      });
-      used_is = at.used_is;
-    }, λ i. record { head = message.head; framing = framing i; body = message.body })
+    let framing = is.framing in (
+      (message.head, message.body),
+      record {
+        count = length (head_text message.head);
+        rest = at.rest;
+        first = record { within = at.within; spells = record { is = is.head; text = at.first_is } };
+        second = (
+          of_kind.1,
+          is.framable,
+          record {
+            within = at.rest_within;
+            is = subst (λ f. IsBodyOf f (content_length_of message.head) message.body) framing is.body;
+            content = is.content;
+            text = at.second_is;
+            all = λ e. rest_of_all n (length (head_text message.head)) at.rest (length bytes) (length (drop (length (head_text message.head)) bytes)) at.used_is (s.all (framing ∙ e)) (length-drop (length (head_text message.head)) bytes);
+          },
+        );
+        used_is = at.used_is;
+      },
+      λ i. record { head = message.head; framing = framing i; body = message.body },
+    )
 
 pub message_decided : (expect : Expect) (to_head : Bool) (bytes : List ℕ) → IsDecided (IsOfKind expect to_head bytes) (IsMessageError expect to_head bytes) (IsMessageUnfinished expect to_head bytes)
 message_decided expect to_head bytes =
@@ -174,6 +184,7 @@ no_message_in_prefix_law to_head bytes one other n a less b = elim (to_end_or_no
         let short : SpellsMessage to_head other n bytes = record { within = omega (arith, less); spells = b; all = λ e. absurd (ends e) } in
         let same = (one_message_at_law to_head bytes one other (length bytes) n (spells_all to_head bytes one a) short).1 in
         omega (arith, same, less)
+
     same_framing : one.framing ≡ other.framing
     same_framing =
         let first = head_at to_head bytes one (length bytes) (spells_all to_head bytes one a) in

@@ -129,9 +129,14 @@ body_fault expect to_head bytes view start framed fault j cause = inr (record {
   part = head_of view;
   used = start;
   is = view_head bytes view start j.view_is;
-  holds = inr (j.expected, inr (j.framable,
-    subst (λ f. IsBodyError f (content_length_of (head_of view)) start fault (drop start bytes)) j.framing
-    (subst (λ n. IsBodyError framed.framing n start fault (drop start bytes)) j.length_is cause)));
+  holds = inr (
+    j.expected,
+    inr (
+      j.framable,
+      subst (λ f. IsBodyError f (content_length_of (head_of view)) start fault (drop start bytes)) j.framing
+          (subst (λ n. IsBodyError framed.framing n start fault (drop start bytes)) j.length_is cause),
+    ),
+  );
 })
 
 pub body_unfinished : (expect : Expect) (to_head : Bool) (bytes : List ℕ) (view : View) (start : ℕ) (framed : Framed) → IsJudged expect to_head bytes view start framed
@@ -140,9 +145,12 @@ body_unfinished expect to_head bytes view start framed j more = inr (record {
   part = head_of view;
   used = start;
   is = view_head bytes view start j.view_is;
-  holds = (j.expected, j.framable,
+  holds = (
+    j.expected,
+    j.framable,
     subst (λ f. IsBodyUnfinished f (content_length_of (head_of view)) (drop start bytes)) j.framing
-    (subst (λ n. IsBodyUnfinished framed.framing n (drop start bytes)) j.length_is more));
+        (subst (λ n. IsBodyUnfinished framed.framing n (drop start bytes)) j.length_is more),
+  );
 })
 
 all_of : (bytes : List ℕ) (start count : ℕ) → start ≤ length bytes → count ≡ length (drop start bytes) → start + count ≡ length bytes

@@ -42,7 +42,8 @@ pub record Spells (to_head : Bool) (message : Message) (bytes : List ℕ) : Type
   pub text : bytes ≡ message_text message
 
 -- The first bytes, so many, are a message's text. Content that goes to the end takes all bytes.
-pub record SpellsMessage (to_head : Bool) (message : Message) (used : ℕ) (bytes : List ℕ) : Type 0 where
+pub record SpellsMessage (to_head : Bool) (message : Message) (used : ℕ) (bytes : List ℕ)
+    : Type 0 where
   pub within : used ≤ length bytes
   pub spells : Spells to_head message (take used bytes)
   pub all : message.framing ≡ ToEnd → used ≡ length bytes

@@ -43,23 +43,23 @@ side_text Header = codes "head"
 side_text Trailer = codes "trailer"
 
 -- an error of a message, which out of memory is none of
-abbrev pub message_text : MessageError → List ℕ
-message_text message.Memory = []
-message_text (message.TooLong side) =
+abbrev pub error_text : MessageError → List ℕ
+error_text message.Memory = []
+error_text (message.TooLong side) =
     side_text side ++ (codes "-bytes " ++ decimal MAX_HEAD_BYTES)
-message_text (message.NakedEnd offset) = codes "naked-end " ++ decimal offset
-message_text message.BadStart = codes "start-line"
-message_text (message.TooManyLines side) =
+error_text (message.NakedEnd offset) = codes "naked-end " ++ decimal offset
+error_text message.BadStart = codes "start-line"
+error_text (message.TooManyLines side) =
     side_text side ++ (codes "-lines " ++ decimal MAX_HEAD_LINES)
-message_text (message.BadLine side index) = side_text side ++ (codes "-line " ++ decimal index)
-message_text message.FramingConflict = codes "framing"
-message_text message.BadLength = codes "length"
-message_text message.CodingRefused = codes "coding"
-message_text (message.BadChunk offset) = codes "chunk " ++ decimal offset
-message_text message.ContentTooLong = codes "content " ++ decimal MAX_CONTENT_BYTES
+error_text (message.BadLine side index) = side_text side ++ (codes "-line " ++ decimal index)
+error_text message.FramingConflict = codes "framing"
+error_text message.BadLength = codes "length"
+error_text message.CodingRefused = codes "coding"
+error_text (message.BadChunk offset) = codes "chunk " ++ decimal offset
+error_text message.ContentTooLong = codes "content " ++ decimal MAX_CONTENT_BYTES
 
 abbrev pub fault_text : MessageFault → List ℕ
-fault_text (Refused error) = message_text error
+fault_text (Refused error) = error_text error
 fault_text (Truncated count) = codes "truncated " ++ decimal count
 fault_text (Trailing offset) = codes "trailing " ++ decimal offset
 

@@ -4,7 +4,7 @@ ghost use Rattle.std.specs.Prelude.{◌≡◌, ◌++◌, ◌∷◌, option_copie
 ghost use Rattle.std.specs.Fmt.{decimal};
 ghost use Rattle.std.specs.Str.{byte};
 ghost use Rattle.derived_values.specs.Words.{lack_word};
-ghost use Rattle.output_lines.specs.Refusal.{path_text, conf_text, side_text, message_text, fault_text, input_text, ids_text, command_text, refusal_text};
+ghost use Rattle.output_lines.specs.Refusal.{path_text, conf_text, side_text, error_text, fault_text, input_text, ids_text, command_text, refusal_text};
 
 use crate::line::{append_component, append_number, append_words};
 use crate::refusal::{
@@ -42,7 +42,7 @@ fn append_of_side(
 }
 
 fn append_message(alloc: Global, error: MessageError, line: &mut Text) -> Result<(), Memory>
-    ensures { OnOk result (line.new ≡ line.old ++ message_text error) }
+    ensures { OnOk result (line.new ≡ line.old ++ error_text error) }
 {
     match error {
         MessageError::Memory => Ok(()),

@@ -1,5 +1,5 @@
 -- What the search for chunks gives. No public clause cites this module.
-use Rattle.std.specs.Prelude.{◌≡◌, ◌≢◌, ℕ, ◌+◌, ◌≤◌, ⊤, IsTrue, List, ◌++◌, length, take, Result, Ok, Err}
+use Rattle.std.specs.Prelude.{◌≡◌, ◌≢◌, ℕ, ◌+◌, ⊤, IsTrue, List, ◌++◌, length, take, Result, Ok, Err}
 use Rattle.std.specs.List.{All, list_all, flat_map}
 use Rattle.byte_grammar.specs.tools.Walks.{turns_read, with_prefix}
 use Rattle.chunks.specs.declared.limits.TheConstants.{MAX_CONTENT_BYTES}
@@ -12,10 +12,10 @@ use Rattle.chunks.specs.declared.read.ChunksRead.TheVariants.{Whole, Partial}
 use Rattle.chunks.specs.declared.error.ChunkError.{ChunkError}
 use Rattle.chunks.specs.declared.error.ChunkError.TheVariants.{Memory}
 use Rattle.chunks.specs.Chunks.{Chunk, IsChunk, chunk_text, data_of, content_of}
-use Rattle.chunks.specs.Causes.{IsContentTooLong, IsChunksError, AreChunksUnfinished}
+use Rattle.chunks.specs.Causes.{HasContentOver, IsContentTooLong, IsChunksError, AreChunksUnfinished}
 use Rattle.chunks.specs.Views.{ChunksParts, IsChunksViewOf, chunks_of, lies_in}
 use Rattle.chunks.specs.tools.ChunkWalk.{turn_read}
-use Rattle.chunks.specs.tools.Turns.{IsTooLongFor, spans_of}
+use Rattle.chunks.specs.tools.Turns.{spans_of}
 
 -- what the found offsets say of the bytes
 abbrev pub parts_of : List ℕ → Found → ChunksParts
@@ -43,7 +43,7 @@ pub record Finding (bytes : List ℕ) (spans : List ChunkSpan) (left : List ℕ)
   pub spans_are : spans ≡ spans_of 0 done
   pub counted : length (data_of done) + room ≡ MAX_CONTENT_BYTES
   pub so_far : with_prefix done (turns_read turn_read left) ≡ turns_read turn_read bytes
-  pub long : IsContentTooLong bytes → IsTooLongFor room left
+  pub long : IsContentTooLong bytes → HasContentOver room left
 
 -- the answer's fact: a view, no last line yet, or the first cause that holds
 abbrev pub ExplainsChunks : List ℕ → Result ChunksRead ChunkError → Type 0

@@ -1,9 +1,8 @@
 -- Chunks one after the other, as the reader takes them. No public clause cites this module.
-use Rattle.std.specs.Prelude.{◌≡◌, ℕ, zero, suc, ◌+◌, ◌<◌, ⊤, Bool, true, List, [], ◌∷◌, ◌++◌, length, codes, Option, Some, None}
-use Rattle.std.specs.List.{All, flat_map}
+use Rattle.std.specs.Prelude.{◌≡◌, ℕ, zero, suc, ◌+◌, Bool, true, List, [], ◌∷◌, ◌++◌, length, codes, Option, Some, None}
 use Rattle.byte_grammar.specs.tools.Languages.{Mapped}
 use Rattle.chunks.specs.declared.view.ChunkSpan.{ChunkSpan}
-use Rattle.chunks.specs.Chunks.{Chunk, IsChunkLine, IsChunk, IsExtension, chunk_text, data_of}
+use Rattle.chunks.specs.Chunks.{Chunk, IsChunkLine, IsChunk, IsExtension, chunk_text}
 
 -- any byte may come next
 abbrev pub Anything : {V : Type 0} → V → ℕ → Bool
@@ -48,14 +47,3 @@ span_of offset c = record {
 abbrev pub spans_of : ℕ → List Chunk → List ChunkSpan
 spans_of offset [] = []
 spans_of offset (c ∷ chunks) = span_of offset c ∷ spans_of (offset + length (chunk_text c)) chunks
-
--- IsContentTooLong, with that room for the content
-pub record IsTooLongFor (room : ℕ) (bytes : List ℕ) : Type 0 where
-  pub chunks : List Chunk
-  pub line : List ℕ
-  pub size : ℕ
-  pub more : List ℕ
-  pub joined : bytes ≡ flat_map chunk_text chunks ++ (line ++ (codes "\r\n" ++ more))
-  pub each : All IsChunk chunks
-  pub is : IsChunkLine line size
-  pub long : room < length (data_of chunks) + size

@@ -1,5 +1,9 @@
 use Rattle.chunks.proofs.ChunkLaws.{one_fault, no_fault_at_chunks, no_answer_yet}
+use Rattle.chunks.proofs.Answered.{each_has_an_answer}
 use Rattle.chunks.proofs.laws.chunks_have_one_answer.Goals as goal
+
+pub returns-clause-some : goal.returns-clause-some
+returns-clause-some c = each_has_an_answer
 
 pub returns-clause-fault : goal.returns-clause-fault
 returns-clause-fault c = one_fault

@@ -1,9 +1,18 @@
-use Rattle.std.proofs.Common.{◌≡◌, ◌+◌, ◌-◌, ◌<◌, ◌≤◌, length, refl, sym, arith}
+use Rattle.std.proofs.Common.{◌≡◌, ◌↔◌, ◌⊎◌, inl, inr, false, true, ℕ, ◌+◌, ◌-◌, ◌<◌, ◌≤◌, length, refl, sym, arith}
+use Rattle.std.proofs.lemmas.Bool.{cases_lt}
 use Rattle.chunks.specs.declared.read.Stop.TheVariants.{Left}
 use Rattle.chunks.specs.tools.Judged.{IsStop}
-use Rattle.chunks.proofs.Finding.{first_found, left_within, done_count, stopped_at_line, stopped_at_data, line_count, too_long, next_found, data_count, last_found}
+use Rattle.chunks.proofs.Finding.{first_found, left_within, stopped_at_line, stopped_at_data, line_count, too_long, next_found, data_count, last_found}
 use Rattle.chunks.proofs.Outcomes.{err_of}
 use Rattle.chunks.proofs.read.find_chunks.Goals as goal
+
+-- a line that isn't the last one has a size
+not_last : {n : ℕ} → (false ≡ true) ↔ (n ≡ 0) → 0 < n
+not_last {n} is = go (cases_lt 0 n)
+  where
+    go : (0 < n) ⊎ (n ≤ 0) → 0 < n
+    go (inl some) = some
+    go (inr none) = absurd (cc (is.1 (omega arith)))
 
 pub chunks-init : goal.chunks-init
 chunks-init c = rw c.new-spans.ensures.items (first_found c.args.bytes.now)
@@ -15,9 +24,9 @@ returns-in_err-first-clause-err c =
 pub overflow_sub-result : goal.overflow_sub-result
 overflow_sub-result c = omega (arith, left_within c.chunks.invariant, line_count c.chunks.invariant c.in_ok-first.ensures.gives)
 
-pub returns-then-first-eq0-clause-ok : goal.returns-then-first-eq0-clause-ok
-returns-then-first-eq0-clause-ok c =
-    last_found c.chunks.invariant c.in_ok-first.ensures.gives _ c.if-first-eq0.true refl refl refl refl
+pub returns-then-is_last-clause-ok : goal.returns-then-is_last-clause-ok
+returns-then-is_last-clause-ok c =
+    last_found c.chunks.invariant c.in_ok-first.ensures.gives _ (c.if-is_last.ensures.0 refl) refl refl refl refl
 
 pub returns-then-first-room-clause-err : goal.returns-then-first-room-clause-err
 returns-then-first-room-clause-err c = too_long c.chunks.invariant c.in_ok-first.ensures.gives c.if-first-room.true
@@ -25,7 +34,7 @@ returns-then-first-room-clause-err c = too_long c.chunks.invariant c.in_ok-first
 pub returns-in_err-after-clause-err : goal.returns-in_err-after-clause-err
 returns-in_err-after-clause-err c =
     err_of c.from_residual-in_err-after.result (λ stop. IsStop c.args.bytes.now stop) (Left c.in_err-after.field-0.0.0) c.from_residual-in_err-after.ensures.1
-    (stopped_at_data c.chunks.invariant c.in_ok-first.ensures.gives c.in_err-after.field-0.0.0 (omega (arith, c.if-first-eq0.false)) (omega (arith, c.if-first-room.false)) c.in_err-after.ensures)
+    (stopped_at_data c.chunks.invariant c.in_ok-first.ensures.gives c.in_err-after.field-0.0.0 (not_last c.if-is_last.ensures) (omega (arith, c.if-first-room.false)) c.in_err-after.ensures)
 
 pub overflow_add-line_end-in-chunks : goal.overflow_add-line_end-in-chunks
 overflow_add-line_end-in-chunks c = omega (arith, left_within c.chunks.invariant, line_count c.chunks.invariant c.in_ok-first.ensures.gives)
@@ -42,5 +51,5 @@ pub chunks-preserved : goal.chunks-preserved
 chunks-preserved c =
     let offset = length c.args.bytes.now - length c.chunks.left.now in
     let count = (data_count c.chunks.invariant c.in_ok-first.ensures.gives _ _ c.in_ok-after.ensures).0 in
-    rw c.in_ok-push.ensures.items (next_found c.chunks.invariant c.in_ok-first.ensures.gives c.in_ok-after.field-0-0.now c.in_ok-after.after.now _ (omega (arith, c.if-first-eq0.false)) (omega (arith, c.if-first-room.false)) c.in_ok-after.ensures
+    rw c.in_ok-push.ensures.items (next_found c.chunks.invariant c.in_ok-first.ensures.gives c.in_ok-after.field-0-0.now c.in_ok-after.after.now _ (not_last c.if-is_last.ensures) (omega (arith, c.if-first-room.false)) c.in_ok-after.ensures
     (λ i. record { line = offset; line_end = offset + length c.in_ok-first.first.text.now; end = offset + length c.in_ok-first.first.text.now + 2 + sym count i }))

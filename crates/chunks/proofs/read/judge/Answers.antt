@@ -1,4 +1,4 @@
-use Rattle.std.proofs.Common.{◌≡◌, ◌∙◌, Err, ap, arith}
+use Rattle.std.proofs.Common.{◌∙◌, Err, ap, arith}
 use Rattle.chunks.proofs.ChunkLaws.{unfinished, bad}
 use Rattle.chunks.proofs.Outcomes.{bad_first}
 use Rattle.chunks.proofs.read.judge.Goals as goal
