@@ -1,5 +1,5 @@
 -- Errors of the layers below, as what stops a run.
-use Rattle.std.proofs.Common.{◌≡◌, ◌≤◌, ℕ, false, List, length, Result, Err, refl}
+use Rattle.std.proofs.Common.{◌≡◌, ◌<◌, ◌≤◌, ℕ, false, List, length, Result, Ok, Err, refl, arith}
 use Rattle.byte_grammar.specs.Causes.{AnswersWhere}
 use Rattle.sfv_text.specs.declared.value.InnerList.{InnerList}
 use Rattle.sfv_read.specs.Reads.{ReadsInner}
@@ -8,6 +8,9 @@ use Rattle.component_ids.specs.declared.fault.IdFault.{IdFault}
 use Rattle.component_ids.specs.declared.fault.IdFault.TheVariants.{Memory, TooMany, BadComponent, Repeated, BadParameter}
 use Rattle.component_ids.specs.declared.params.SigParams.{SigParams}
 use Rattle.msg_body.specs.Causes.{IsMessageError}
+use Rattle.msg_body.specs.Outcome.{IfWholeMessage}
+use Rattle.msg_body.specs.Views.{MessageParts, IsMessageViewOf, message_of}
+use Rattle.msg_body.specs.declared.read.MessageRead.TheVariants.{Whole}
 use Rattle.msg_body.specs.declared.expect.Expect.TheVariants.{Any}
 use Rattle.msg_body.specs.declared.error.MessageError.{MessageError}
 use Rattle.msg_body.specs.declared.error.MessageError.TheVariants as message
@@ -18,7 +21,7 @@ use Rattle.output_lines.specs.declared.refusal.TheConstants.{MAX_INPUT_BYTES}
 use Rattle.output_lines.specs.declared.refusal.Refusal.TheVariants.{Input, Command}
 use Rattle.output_lines.specs.declared.refusal.InputRefusal.TheVariants.{Message as NoMessage}
 use Rattle.output_lines.specs.declared.refusal.CommandRefusal.TheVariants.{Ids}
-use Rattle.hms.specs.tools.Stops.{IfRefused, IsRefusalFor, stop_of_fault, stop_of_message}
+use Rattle.hms.specs.tools.Stops.{IfRefused, IsRefusalFor, stop_for, stop_of_fault, stop_of_message}
 
 abbrev answered : IdFault → Result SigParams IdFault
 answered fault = Err fault
@@ -60,3 +63,12 @@ error_stop input (message.BadChunk offset) short faults =
     (NoMessage (fault.Refused (message.BadChunk offset)), (short, (faults (message.BadChunk offset) (λ e. absurd (cc e))).only refl), refl)
 error_stop input message.ContentTooLong short faults =
     (NoMessage (fault.Refused message.ContentTooLong), (short, (faults message.ContentTooLong (λ e. absurd (cc e))).only refl), refl)
+
+-- a message that isn't all of the input
+pub trailing_stop : (input : List ℕ) (parts : MessageParts) (used : ℕ) → length input ≤ MAX_INPUT_BYTES
+    → IfWholeMessage (Ok (Whole parts used)) (IsMessageViewOf Any false input) → ¬ (used ≡ length input)
+    → IfRefused (stop_for (fault.Trailing used)) (IsRefusalFor (IsInputRefused input) Input)
+trailing_stop input parts used short view other =
+    let within = view.spells.within in
+    let more : used < length input = omega (arith, within, other) in
+    (NoMessage (fault.Trailing used), (short, record { message = message_of parts; spells = view.spells; more = more }), refl)
