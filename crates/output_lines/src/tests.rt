@@ -1,3 +1,6 @@
+ghost use Rattle.std.specs.Prelude.{IsTrue};
+ghost use Rattle.verdicts.specs.Verdicts.{is_verdict_in_range};
+
 use super::*;
 use component_ids::{BadReason, IdFault};
 use component_values::Lack;
@@ -130,11 +133,9 @@ fn refusals_of_a_command(rt: HostRuntime) -> Result<(), Fail> {
 }
 
 // The label `sig-b25` has this verdict.
-fn assert_line(
-    rt: &(impl Abort + AllocGlobal),
-    verdict: &Verdict,
-    line: &[u8],
-) -> Result<(), Fail> {
+fn assert_line(rt: &(impl Abort + AllocGlobal), verdict: &Verdict, line: &[u8]) -> Result<(), Fail>
+    requires { IsTrue (is_verdict_in_range verdict.now) }
+{
     let alloc = rt.alloc();
     let mut lines = Text::from_bytes(alloc, b"a ok\n")?;
     append_verdict_line(alloc, b"sig-b25", verdict, &mut lines)?;
@@ -144,38 +145,30 @@ fn assert_line(
     Ok(())
 }
 
-fn failing(number: Rule, place: Place) -> Verdict {
-    Verdict::Rule { number, place }
-}
-
 #[test]
 fn lines_of_verdicts(rt: HostRuntime) -> Result<(), Fail> {
     let alloc = rt.alloc();
-    let accepted = Verdict::Ok {
-        keyid: Text::from_bytes(alloc, b"test-shared-secret")?,
+    let keyid = Text::from_bytes(alloc, b"test-shared-secret")?;
+    assert_line(&rt, &Verdict::Ok { keyid }, b"sig-b25 ok\n")?;
+    let nowhere = Verdict::Rule {
+        number: Rule::MacMismatch,
+        place: Place::None,
     };
-    assert_line(&rt, &accepted, b"sig-b25 ok\n")?;
-    let refused = Place::Name(Text::from_bytes(alloc, b"ed25519")?);
-    let rows = [
-        (
-            failing(Rule::MacMismatch, Place::None),
-            b"sig-b25 rule 32 mac-mismatch\n".as_slice(),
-        ),
-        (
-            failing(Rule::ComponentBad, Place::Component(0, BadReason::Name)),
-            b"sig-b25 rule 10 component-bad 0 name\n",
-        ),
-        (
-            failing(Rule::ComponentRepeated, Place::Index(1)),
-            b"sig-b25 rule 11 component-repeated 1\n",
-        ),
-        (
-            failing(Rule::AlgRefused, refused),
-            b"sig-b25 rule 13 alg-refused ed25519\n",
-        ),
-    ];
-    for (verdict, line) in &rows {
-        assert_line(&rt, verdict, *line)?;
-    }
-    Ok(())
+    assert_line(&rt, &nowhere, b"sig-b25 rule 32 mac-mismatch\n")?;
+    let component = Verdict::Rule {
+        number: Rule::ComponentBad,
+        place: Place::Component(0, BadReason::Name),
+    };
+    let line = b"sig-b25 rule 10 component-bad 0 name\n";
+    assert_line(&rt, &component, line)?;
+    let index = Verdict::Rule {
+        number: Rule::ComponentRepeated,
+        place: Place::Index(1),
+    };
+    assert_line(&rt, &index, b"sig-b25 rule 11 component-repeated 1\n")?;
+    let name = Verdict::Rule {
+        number: Rule::AlgRefused,
+        place: Place::Name(Text::from_bytes(alloc, b"ed25519")?),
+    };
+    assert_line(&rt, &name, b"sig-b25 rule 13 alg-refused ed25519\n")
 }
