@@ -301,10 +301,9 @@ fn longest_content_to_the_end_and_one_byte_more(rt: HostRuntime) -> Result<(), F
 fn longest_trailer_section_and_one_byte_more(rt: HostRuntime) -> Result<(), Fail> {
     let alloc = rt.alloc();
     let letters = vec![in alloc; b'a'; 65_530]?;
-    let start = b"0\r\nX:".as_slice();
-    let longest = joined(alloc, &[CHUNKED, start, &letters, b"\r\n\r\n"])?;
+    let longest = joined(alloc, &[CHUNKED, b"0\r\nX:", &letters, b"\r\n\r\n"])?;
     assert_value(&rt, longest.bytes(), r#""x";tr"#, letters.as_slice())?;
-    let longer = joined(alloc, &[start, &letters, b"a\r\n\r\n"])?;
+    let longer = joined(alloc, &[b"0\r\nX:", &letters, b"a\r\n\r\n"])?;
     let cause = b"trailer-bytes 65536";
     assert_chunks_refused(&rt, longer.bytes(), Status::LimitPassed, cause)
 }
@@ -325,14 +324,18 @@ fn most_trailer_lines_and_one_more(rt: HostRuntime) -> Result<(), Fail> {
 
 #[test]
 fn bytes_after_a_message_and_a_message_cut_off(rt: HostRuntime) -> Result<(), Fail> {
-    let alloc = rt.alloc();
-    let bad = Status::BadInput;
-    let signed = [REQUEST, LENGTH, INPUT, SIGNATURE, CONTENT];
-    let mut input = joined(alloc, &signed)?;
-    let cut = &input.bytes()[..343];
-    assert_input_refused(&rt, cut, bad, b"truncated 343")?;
-    input.append(b"x")?;
-    assert_input_refused(&rt, input.bytes(), bad, b"trailing 344")?;
-    let head = &input.bytes()[..326];
-    assert_input_refused(&rt, head, bad, b"truncated 326")
+    let ends = [
+        (
+            b"\r\n{\"hello\": \"world\"}x".as_slice(),
+            b"trailing 344".as_slice(),
+        ),
+        (b"\r\n{\"hello\": \"world\"", b"truncated 343"),
+        (b"\r\n", b"truncated 326"),
+        (b"\r", b"truncated 325"),
+    ];
+    for (end, cause) in &ends {
+        let input = joined(rt.alloc(), &[REQUEST, LENGTH, INPUT, SIGNATURE, *end])?;
+        assert_input_refused(&rt, input.bytes(), Status::BadInput, *cause)?;
+    }
+    Ok(())
 }
