@@ -352,29 +352,38 @@ fn told_of(place: usize, byte: u8, own: bool) -> Told {
     }
 }
 
+// What is answered to the bytes; None where it is something else. Offsets count from the body.
+fn answer_to(alloc: Global, bytes: &[u8]) -> Option<Told> {
+    if bytes.len() > MAX_MESSAGE_BYTES {
+        return None;
+    }
+    let start = CHUNKED_HEAD.len();
+    match read_message(alloc, bytes, Expect::Any, false) {
+        Ok(MessageRead::Whole(_, used)) if used == bytes.len() => Some(Told::Whole),
+        Ok(MessageRead::Partial) => Some(Told::Partial),
+        Err(MessageError::BadChunk(offset)) => Some(Told::Chunk(offset.saturating_sub(start))),
+        Err(MessageError::NakedEnd(offset)) => Some(Told::Naked(offset.saturating_sub(start))),
+        Err(MessageError::BadLine(Side::Trailer, 0)) => Some(Told::Line),
+        _ => None,
+    }
+}
+
 #[test]
 fn each_byte_at_each_place_of_a_chunked_message_is_judged(rt: HostRuntime) -> Result<(), Fail> {
     let mut bytes = Vec::new(rt.alloc());
     bytes.extend_from_slice(CHUNKED_HEAD)?;
     bytes.extend_from_slice(CHUNKED_BODY)?;
-    let start = CHUNKED_HEAD.len();
-    for place in 0..CHUNKED_BODY.len() {
+    for (place, own) in CHUNKED_BODY.iter().enumerate() {
         for byte in 0..=255 {
-            bytes[start + place] = byte;
-            let told = match read_message(rt.alloc(), &bytes, Expect::Any, false) {
-                Ok(MessageRead::Whole(_, used)) if used == bytes.len() => Some(Told::Whole),
-                Ok(MessageRead::Partial) => Some(Told::Partial),
-                Err(MessageError::BadChunk(offset)) => Some(Told::Chunk(offset - start)),
-                Err(MessageError::NakedEnd(offset)) => Some(Told::Naked(offset - start)),
-                Err(MessageError::BadLine(Side::Trailer, 0)) => Some(Told::Line),
-                _ => None,
-            };
-            assert_eq!(rt;
-                told,
-                Some(told_of(place, byte, byte == CHUNKED_BODY[place]))
-            );
+            if let Some(slot) = bytes.get_mut(CHUNKED_HEAD.len() + place) {
+                *slot = byte;
+            }
+            let told = told_of(place, byte, byte == *own);
+            assert_eq!(rt; answer_to(rt.alloc(), &bytes), Some(told));
         }
-        bytes[start + place] = CHUNKED_BODY[place];
+        if let Some(slot) = bytes.get_mut(CHUNKED_HEAD.len() + place) {
+            *slot = *own;
+        }
     }
     Ok(())
 }
