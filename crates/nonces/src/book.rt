@@ -37,8 +37,8 @@ impl Model for NonceBook {
         × (b.capacity ≤ vec_capacity b.entries) };
 }
 
-/// Drops the entries that don't live at this moment. Those that do keep their order.
-fn drop_dead<L: Ledger>(entries: &mut Vec<Entry>, now: u64, steps: &mut Steps<L>)
+/// Keeps the entries that live at this moment, in their order.
+fn keep_live<L: Ledger>(entries: &mut Vec<Entry>, now: u64, steps: &mut Steps<L>)
     ensures live { entries.new.items ≡ live_entries now entries.old.items }
     ensures room { vec_capacity entries.new ≡ vec_capacity entries.old }
     ensures steps { steps.old ≤ steps.new }
@@ -144,7 +144,8 @@ impl NonceBook {
         let _ = &self.moment;
     }
 
-    /// Goes on to a moment, and drops the entries that don't live then.
+    /// Goes on to a moment, and drops the entries that don't live then. What is dropped isn't found
+    /// again.
     pub fn advance<L: Ledger>(&mut self, now: u64, steps: &mut Steps<L>)
         requires now { now ≤ MAX_MOMENT }
         requires later { self.old.moment ≤ now }
@@ -154,7 +155,7 @@ impl NonceBook {
         ensures window { self.new.window ≡ self.old.window }
         ensures steps { steps.old ≤ steps.new }
     {
-        drop_dead(&mut self.entries, now, steps);
+        keep_live(&mut self.entries, now, steps);
         self.moment = now;
     }
 

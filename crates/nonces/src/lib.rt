@@ -21,3 +21,6 @@ pub use book::NonceBook;
 pub use full::Full;
 pub use limits::{MAX_ENTRIES, MAX_KEYID_BYTES, MAX_MOMENT, MAX_NONCE_BYTES, MAX_WINDOW};
 pub use steps::Steps;
+
+#[cfg(test)]
+mod tests;

@@ -1,4 +1,4 @@
-use Rattle.std.proofs.Common.{◌∙◌, ◌∷◌, sym, subst, arith}
+use Rattle.std.proofs.Common.{◌∷◌, sym, subst, arith}
 use Rattle.nonces.specs.Books.{Entry, HaveSameEntries}
 use Rattle.nonces.proofs.Held.{held_more, room_left, same_pushed}
 use Rattle.nonces.proofs.book.NonceBook.record.Goals as goal
@@ -7,14 +7,14 @@ pub add-requires : goal.add-requires
 add-requires g c =
     let held = c.self.invariant in
     let old = c.self.inside in
-    let room = rw (← c.self.view_is) at (sym c.is_full.ensures ∙ c.if-is_full.false) in
+    let room = rw (← c.self.view_is) at (sym c.if-is_full.ensures) in
     omega (arith, room_left old.entries.items old.capacity old.window old.moment held.0 room, held.1)
 
 pub invariant_of-self : goal.invariant_of-self
 invariant_of-self g c =
     let held = c.self.invariant in
     let old = c.self.inside in
-    let room = rw (← c.self.view_is) at (sym c.is_full.ensures ∙ c.if-is_full.false) in
+    let room = rw (← c.self.view_is) at (sym c.if-is_full.ensures) in
     let new = rw (← c.self.view_is) at c.requires.new in
     let live = rw (← c.self.view_is) at c.requires.live in
     let soon = rw (← c.self.view_is) at c.requires.soon in

@@ -2,7 +2,7 @@ use Rattle.std.proofs.Common.{◌≡◌, ◌≤◌}
 use Rattle.std.proofs.lemmas.List.Filters.{FiltersInPlace}
 use Rattle.std.specs.Vec.{vec_capacity}
 use Rattle.nonces.specs.Books.{is_live}
-use Rattle.nonces.proofs.book.drop_dead.Given as goal
+use Rattle.nonces.proofs.book.keep_live.Given as goal
 
 -- those of the first entries that live stand before `kept`
 abbrev pub invariant-entries : goal.invariant-entries
