@@ -31,7 +31,7 @@ same_pushed xs ys e equal =
 
 -- ---- those that live
 
-distinct_live : (now : ℕ) (xs : List Entry) → HasDistinctNonces xs → HasDistinctNonces (live_entries now xs)
+pub distinct_live : (now : ℕ) (xs : List Entry) → HasDistinctNonces xs → HasDistinctNonces (live_entries now xs)
 distinct_live now xs distinct keyid nonce =
     omega (
       arith,

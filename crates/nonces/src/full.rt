@@ -9,7 +9,7 @@ pub struct Full;
 
 impl fmt::Display for Full {
     fn fmt<W: fmt::Write>(&self, f: &mut fmt::Formatter<W>) -> fmt::Result {
-        f.write_str("as many nonces as can be are remembered")
+        f.write_str("the book of nonces is full")
     }
 }
 

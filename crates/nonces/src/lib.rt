@@ -13,12 +13,14 @@
 mod book;
 mod entry;
 mod full;
+mod laws;
 mod limits;
 mod short;
 mod steps;
 
 pub use book::NonceBook;
 pub use full::Full;
+pub use laws::{same_entries_are_alike, same_entries_are_an_equivalence};
 pub use limits::{MAX_ENTRIES, MAX_KEYID_BYTES, MAX_MOMENT, MAX_NONCE_BYTES, MAX_WINDOW};
 pub use steps::Steps;
 

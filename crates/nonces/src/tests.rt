@@ -207,7 +207,7 @@ fn is_like<L: Ledger>(book: &NonceBook, list: &[Seen], steps: &mut Steps<L>) -> 
             }
         }
     }
-    book.len() == list.len() && book.is_full() == (list.len() == CAPACITY)
+    book.len() == list.len() && book.is_full() == (list.len() == book.capacity())
 }
 
 // Goes on by so many seconds; false where the book can't.
