@@ -170,7 +170,7 @@ impl NonceBook {
         is_seen(&self.entries, keyid, nonce, steps)
     }
 
-    /// Holds one more entry, which lives until this moment and no longer. It takes no memory.
+    /// Adds an entry, which lives until this moment and no longer. It takes no memory.
     pub fn record<L: Ledger>(
         &mut self,
         keyid: &[u8],

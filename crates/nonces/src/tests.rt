@@ -156,6 +156,10 @@ fn first_wrong<L: Ledger>(
 fn calls_answer_at_the_edges(rt: HostRuntime) -> Result<(), Fail> {
     let wrong = first_wrong::<Brand>(rt.alloc(), &CALLS, Blank::new(1))?;
     assert_eq!(rt; wrong, None);
+    assert_eq!(rt;
+        format!(in rt.alloc(); "{}", Full)?.as_str(),
+        "the book of nonces is full"
+    );
     Ok(())
 }
 
