@@ -1,0 +1,34 @@
+-- Laws of lists that have the same entries: what is asked of one is answered by the other.
+use Rattle.std.specs.Prelude.{◌≡◌, ℕ, List, ◌∷◌}
+use Rattle.nonces.specs.Books.{Entry, HasDistinctNonces, HaveSameEntries, is_seen, live_entries}
+
+-- a list has the same entries as itself
+abbrev pub IsSameAsItself : Type 0
+IsSameAsItself = (xs : List Entry) → HaveSameEntries xs xs
+
+-- whichever of the two comes first
+abbrev pub IsSameBothWays : Type 0
+IsSameBothWays = (xs ys : List Entry) → HaveSameEntries xs ys → HaveSameEntries ys xs
+
+-- by a third that has the same entries as both
+abbrev pub IsSameThrough : Type 0
+IsSameThrough =
+    (xs ys zs : List Entry) → HaveSameEntries xs ys → HaveSameEntries ys zs → HaveSameEntries xs zs
+
+-- an entry is seen in one where it is in the other
+abbrev pub IsSeenAlike : Type 0
+IsSeenAlike =
+    (xs ys : List Entry) (keyid nonce : List ℕ) → HaveSameEntries xs ys
+    → is_seen keyid nonce xs ≡ is_seen keyid nonce ys
+
+-- with one more entry they still have the same
+abbrev pub IsSameWithOneMore : Type 0
+IsSameWithOneMore =
+    (xs ys : List Entry) (entry : Entry) → HaveSameEntries xs ys
+    → HaveSameEntries (entry ∷ xs) (entry ∷ ys)
+
+-- the same of them live
+abbrev pub HaveSameLive : Type 0
+HaveSameLive =
+    (now : ℕ) (xs ys : List Entry) → HasDistinctNonces xs → HasDistinctNonces ys
+    → HaveSameEntries xs ys → HaveSameEntries (live_entries now xs) (live_entries now ys)

@@ -1,0 +1,18 @@
+//! Laws of lists that have the same entries. Each function does nothing; its contract is the law.
+
+ghost use Rattle.nonces.specs.Laws.{HaveSameLive, IsSameAsItself, IsSameBothWays, IsSameThrough, IsSameWithOneMore, IsSeenAlike};
+
+/// To have the same entries is an equivalence.
+pub fn same_entries_are_an_equivalence()
+    ensures itself { IsSameAsItself }
+    ensures both_ways { IsSameBothWays }
+    ensures through { IsSameThrough }
+{}
+
+/// Lists that have the same entries are alike to a book: an entry is seen in both or in neither,
+/// they take one more alike, and where entries are distinct the same of them live.
+pub fn same_entries_are_alike()
+    ensures seen { IsSeenAlike }
+    ensures more { IsSameWithOneMore }
+    ensures live { HaveSameLive }
+{}

@@ -1,0 +1,28 @@
+//! The book of seen nonces: a verifier that refuses replays remembers the nonces of the signatures
+//! that it accepted until these are too old (RFC 9421 section 7.2.2).
+//!
+//! ```text
+//! let mut book = NonceBook::open(alloc, 1_024, 300, now)?;
+//! book.advance(now, &mut steps);
+//! if !book.find(keyid, nonce, &mut steps) {
+//!     book.record(keyid, nonce, created + 300, &mut steps)?;
+//! }
+//! ```
+#![tactic(auto)]
+
+mod book;
+mod entry;
+mod full;
+mod laws;
+mod limits;
+mod short;
+mod steps;
+
+pub use book::NonceBook;
+pub use full::Full;
+pub use laws::{same_entries_are_alike, same_entries_are_an_equivalence};
+pub use limits::{MAX_ENTRIES, MAX_KEYID_BYTES, MAX_MOMENT, MAX_NONCE_BYTES, MAX_WINDOW};
+pub use steps::Steps;
+
+#[cfg(test)]
+mod tests;
