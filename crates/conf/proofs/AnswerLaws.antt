@@ -19,27 +19,35 @@ use Rattle.component_ids.proofs.FaultLaws as list_faults
 use Rattle.component_ids.proofs.Judged as list_answers
 use Rattle.toml.specs.Data.{Data, Members, string, table, as_bool, as_str, get_member}
 use Rattle.toml.specs.Parse.{parse_document}
+use Rattle.conf_table.specs.declared.limits.TheConstants.{DEFAULT_MAX_AGE, DEFAULT_SKEW, MAX_NONCES}
+use Rattle.conf_table.specs.declared.table.Place.TheVariants as place
+use Rattle.conf_table.specs.declared.table.Rule.TheVariants as rule
+use Rattle.conf_table.specs.Covered.{IsCovered, params_of}
+use Rattle.conf_table.specs.Rows.{fails, is_ill_typed, is_out_of_range}
+use Rattle.conf_table.specs.Table.{Row, rows, places, place_path, entries_of, has_place, has_unknown, is_missing, members_at, members_in, row_value}
+use Rattle.conf_table.specs.Values.{has_type, is_type, number_or}
+use Rattle.conf_sections.specs.declared.policy.Policy.{Policy}
+use Rattle.conf_sections.specs.declared.sign_conf.SignConf.{SignConf}
+use Rattle.conf_sections.specs.Sections.{AreComponents, HasSign, IsPolicy, IsSignConf, digest_of, digest_use_of, is_required, nonce_use_of, seconds_of}
 use Rattle.conf.specs.declared.fault.ConfFault.{ConfFault}
 use Rattle.conf.specs.declared.fault.ConfFault.TheVariants as fault
-use Rattle.conf.specs.declared.sign_conf.SignConf.{SignConf}
-use Rattle.conf_table.specs.declared.table.Place.TheVariants.{Sign}
-use Rattle.conf_table.specs.declared.table.Rule.TheVariants as rule
-use Rattle.conf.specs.Meaning.{AreComponents, AreKeys, AreTypes, Configuration, Configures, HasKey, HasSign, IsDocument, IsSignConf, digest_of, told_scheme, seconds_of}
+use Rattle.conf.specs.declared.lists.Lists.{Lists}
+use Rattle.conf.specs.Configuration.{Configuration}
+use Rattle.conf.specs.Meaning.{AreKeys, AreTypes, Configures, HasKey, IsDocument, told_scheme}
 use Rattle.conf.specs.Paths.{HoldsAtPath, HoldsOfNone, IsLeast}
-use Rattle.conf.specs.Refusals.{HasBadKeyText, IsBadKeyText, IsBadList, IsConfFault}
-use Rattle.conf_table.specs.Rows.{fails, is_ill_typed, is_out_of_range}
-use Rattle.conf_table.specs.Table.{Row, rows, places, place_path, entries_of, has_place, has_unknown, is_missing, members_in}
-use Rattle.conf_table.specs.Values.{IsCovered, has_type, is_type, params_of}
+use Rattle.conf.specs.Refusals.{HasBadKeyText, IsBadKeyText, IsBadList, IsConfFault, IsLeastRow}
 use Rattle.conf.specs.tools.Added.{key_in, kind_told, spells_key}
 use Rattle.conf.specs.tools.Judged.{IsClearBelow, IsFirstIn, IsJudged}
+use Rattle.conf.specs.tools.SectionReads.{value_of}
 use Rattle.conf.proofs.AddedLaws.{AllRead, all_of, entry_passes, get_all, or_else}
 use Rattle.conf.proofs.JudgedLaws.{first_is, clear_first, clear_more, below_typed, below_allowed, below_keys, below_missing, keys_clear}
 use Rattle.conf.proofs.KeyTextLaws.{are_texts, key_of_text, keys_of_document, not_spelled, spelled}
 use Rattle.conf.proofs.LeastLaws.{ascends, found_least, found_none}
+use Rattle.conf.proofs.ListLaws.{not_bad}
 use Rattle.conf.proofs.ReadLaws.{first_of, not_toml}
-use Rattle.conf.proofs.RowFacts.{sign_value, keys_typed, sign_typed, request_typed, response_typed, keyid_typed, label_typed, types_typed, types_allowed, keyid_there, label_there, keys_least, texts_fine, lists_fine_by, request_least, response_least_by}
+use Rattle.conf.proofs.RowFacts.{keys_typed, sign_typed, require_request_typed, require_response_typed, request_typed, response_typed, keyid_typed, label_typed, types_typed, types_allowed, keyid_there, label_there, keys_least, texts_fine, lists_fine_by, require_request_least, require_response_least, request_least, response_least}
 use Rattle.conf.proofs.RowLaws.{rows_ascend, places_ascend}
-use Rattle.conf.proofs.SignReadLaws.{table_or_none}
+use Rattle.conf.proofs.SectionLaws.{table_or_none}
 use Rattle.conf.proofs.TypeLaws.{are_types, kind_at, kind_read, types_of_document}
 
 abbrev Answer : List ℕ → Type 0
@@ -145,11 +153,34 @@ list_or_bad (Some (string text)) typed = elim (covered_or_not text) [
 ]
 list_or_bad (Some value) typed = absurd (typed refl)
 
-not_bad : (value : Option Data) (ids : List ComponentId) → AreComponents value ids → IsBadList rule.Components value → ⊥
-not_bad (Some (string text)) ids are bad = bad ids are
-not_bad value ids are bad = bad
+-- ---- the tables
 
--- ---- the table `sign`
+has_policy : (pairs : Members) (request response : List ComponentId) → AreComponents (get_member (codes "require-request") pairs) request
+    → AreComponents (get_member (codes "require-response") pairs) response → (policy : Policy) × IsPolicy pairs policy
+has_policy pairs request response first second = (
+  record {
+    max_age = number_or DEFAULT_MAX_AGE (get_member (codes "max-age") pairs);
+    skew = number_or DEFAULT_SKEW (get_member (codes "skew") pairs);
+    require_request = request;
+    require_response = response;
+    expires = is_required (get_member (codes "expires") pairs);
+    nonce = nonce_use_of (get_member (codes "nonce") pairs);
+    nonces = number_or MAX_NONCES (get_member (codes "nonces") pairs);
+    tag = option_and_then as_str (get_member (codes "tag") pairs);
+    digest = digest_use_of (get_member (codes "digest") pairs);
+  },
+  record {
+    max_age = refl;
+    skew = refl;
+    require_request = first;
+    require_response = second;
+    expires = refl;
+    nonce = refl;
+    nonces = refl;
+    tag = refl;
+    digest = refl;
+  },
+)
 
 label_text : (value : Option Data) → is_some value ≡ true → (IsTrue (fails (has_type rule.Label) value) → ⊥) → (text : List ℕ) × (value ≡ Some (string text))
 label_text None there typed = absurd (false≢true there)
@@ -165,14 +196,14 @@ has_table : (value : Option Data) (pairs : Members) (sign : SignConf) → value 
 has_table value pairs sign is says = rw is says
 
 has_sign : (document : Members) → IsJudged document → HoldsOfNone (λ row. IsTrue (is_missing document row)) rows
-    → (request response : List ComponentId) → AreComponents (sign_value document (codes "components-request")) request → AreComponents (sign_value document (codes "components-response")) response
+    → (request response : List ComponentId) → AreComponents (value_of document place.Sign (codes "components-request")) request → AreComponents (value_of document place.Sign (codes "components-response")) response
     → (sign : Option SignConf) × HasSign (get_member (codes "sign") document) sign
 has_sign document judged complete request response first second = elim (table_or_none (get_member (codes "sign") document) (sign_typed document judged)) [
   | inl none ↦ (None, rw none refl)
   | inr is ↦
-      let has : has_place document Sign ≡ true = rw is.1 refl in
-      let label = label_text (sign_value document (codes "label")) (label_there document complete has) (label_typed document judged) in
-      let keyid = keyid_text (sign_value document (codes "keyid")) (keyid_there document complete has) (keyid_typed document judged) in
+      let has : has_place document place.Sign ≡ true = rw is.1 refl in
+      let label = label_text (value_of document place.Sign (codes "label")) (label_there document complete has) (label_typed document judged) in
+      let keyid = keyid_text (value_of document place.Sign (codes "keyid")) (keyid_there document complete has) (keyid_typed document judged) in
       let sign : SignConf = record {
         label = label.0;
         keyid = keyid.0;
@@ -210,20 +241,30 @@ all_types document judged = λ name.
 
 -- ---- the answer
 
+-- the components that the lists of the document tell
+record AreSaid (document : Members) (lists : Lists) : Type 0 where
+  require_request : AreComponents (value_of document place.Policy (codes "require-request")) lists.require_request
+  require_response : AreComponents (value_of document place.Policy (codes "require-response")) lists.require_response
+  components_request : AreComponents (value_of document place.Sign (codes "components-request")) lists.components_request
+  components_response : AreComponents (value_of document place.Sign (codes "components-response")) lists.components_response
+
 complete_answer : (text : List ℕ) (document : Members) → IsDocument text document → IsJudged document
     → ((keyid : List ℕ) (value : Data) → get_member keyid (keys_of_document document) ≡ Some value → spells_key value ≡ true) → IsClearBelow 7 document
-    → (request response : List ComponentId) → AreComponents (sign_value document (codes "components-request")) request → AreComponents (sign_value document (codes "components-response")) response → Answer text
-complete_answer text document is judged spell below request response first second =
-    let lists = lists_fine_by document (not_bad (sign_value document (codes "components-request")) request first) (not_bad (sign_value document (codes "components-response")) response second) in
+    → (lists : Lists) → AreSaid document lists → Answer text
+complete_answer text document is judged spell below lists said =
+    let fine = lists_fine_by document (not_bad _ lists.require_request said.require_request) (not_bad _ lists.require_response said.require_response)
+    (not_bad _ lists.components_request said.components_request) (not_bad _ lists.components_response said.components_response) in
     elim (first_or_none (λ (row : Row). row.path) (is_missing document) rows rows_ascend) [
-      | inr at ↦ refused text document (fault.Missing at.0) is (λ e. absurd cc) (first_is 9 document (fault.Missing at.0) (below_missing document below lists) (refl, at.1))
+      | inr at ↦ refused text document (fault.Missing at.0) is (λ e. absurd cc) (first_is 9 document (fault.Missing at.0) (below_missing document below fine) (refl, at.1))
       | inl complete ↦
-          let sign = has_sign document judged complete request response first second in
+          let policy = has_policy (members_at document place.Policy) lists.require_request lists.require_response said.require_request said.require_response in
+          let sign = has_sign document judged complete lists.components_request lists.components_response said.components_request said.components_response in
           inl (
             record {
               scheme = told_scheme (get_member (codes "scheme") document);
               keys = all_of key_in map.empty (keys_of_document document);
               types = all_of kind_told standard_types (types_of_document document);
+              policy = policy.0;
               sign = sign.0;
             },
             (
@@ -237,20 +278,41 @@ complete_answer text document is judged spell below request response first secon
                 scheme = refl;
                 keys = all_keys document judged spell;
                 types = all_types document judged;
+                policy = policy.1;
                 sign = sign.1;
               },
             ),
           )
     ]
 
+-- a bad list whose path is the least
+bad_list : (text : List ℕ) (document : Members) (path : List ℕ) → IsDocument text document → IsClearBelow 7 document → IsLeastRow (λ row. IsBadList row.rule (row_value document row)) path → Answer text
+bad_list text document path is below least = refused text document (fault.BadComponents path) is (λ e. absurd cc) (first_is 7 document (fault.BadComponents path) below (refl, least))
+
+sign_answer : (text : List ℕ) (document : Members) → IsDocument text document → IsJudged document
+    → ((keyid : List ℕ) (value : Data) → get_member keyid (keys_of_document document) ≡ Some value → spells_key value ≡ true) → IsClearBelow 7 document
+    → (first second : List ComponentId) → AreComponents (value_of document place.Policy (codes "require-request")) first
+    → AreComponents (value_of document place.Policy (codes "require-response")) second → Answer text
+sign_answer text document is judged spell below first second first_is_said second_is_said =
+    let fine = not_bad _ first first_is_said in
+    let also = not_bad _ second second_is_said in
+    elim (list_or_bad (value_of document place.Sign (codes "components-request")) (request_typed document judged)) [
+      | inr bad ↦ bad_list text document (codes "sign.components-request") is below (request_least document fine also bad)
+      | inl request ↦ elim (list_or_bad (value_of document place.Sign (codes "components-response")) (response_typed document judged)) [
+        | inr bad ↦ bad_list text document (codes "sign.components-response") is below (response_least document fine also (not_bad _ request.0 request.1) bad)
+        | inl response ↦ complete_answer text document is judged spell below
+            (record { require_request = first; require_response = second; components_request = request.0; components_response = response.0 })
+            (record { require_request = first_is_said; require_response = second_is_said; components_request = request.1; components_response = response.1 })
+      ]
+    ]
+
 lists_answer : (text : List ℕ) (document : Members) → IsDocument text document → IsJudged document
     → ((keyid : List ℕ) (value : Data) → get_member keyid (keys_of_document document) ≡ Some value → spells_key value ≡ true) → IsClearBelow 7 document → Answer text
-lists_answer text document is judged spell below = elim (list_or_bad (sign_value document (codes "components-request")) (request_typed document judged)) [
-  | inr bad ↦ refused text document (fault.BadComponents (codes "sign.components-request")) is (λ e. absurd cc) (first_is 7 document (fault.BadComponents (codes "sign.components-request")) below (refl, request_least document bad))
-  | inl request ↦ elim (list_or_bad (sign_value document (codes "components-response")) (response_typed document judged)) [
-    | inr bad ↦ refused text document (fault.BadComponents (codes "sign.components-response")) is (λ e. absurd cc)
-        (first_is 7 document (fault.BadComponents (codes "sign.components-response")) below (refl, response_least_by document (not_bad (sign_value document (codes "components-request")) request.0 request.1) bad))
-    | inl response ↦ complete_answer text document is judged spell below request.0 response.0 request.1 response.1
+lists_answer text document is judged spell below = elim (list_or_bad (value_of document place.Policy (codes "require-request")) (require_request_typed document judged)) [
+  | inr bad ↦ bad_list text document (codes "policy.require-request") is below (require_request_least document bad)
+  | inl first ↦ elim (list_or_bad (value_of document place.Policy (codes "require-response")) (require_response_typed document judged)) [
+    | inr bad ↦ bad_list text document (codes "policy.require-response") is below (require_response_least document (not_bad _ first.0 first.1) bad)
+    | inl second ↦ sign_answer text document is judged spell below first.0 second.0 first.1 second.1
   ]
 ]
 

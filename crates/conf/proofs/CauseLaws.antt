@@ -4,16 +4,19 @@ use Rattle.std.specs.FinMap as map
 use Rattle.byte_grammar.specs.tools.Determined.{AreDetermined}
 use Rattle.byte_grammar.proofs.CauseLaws.{first_is_one}
 use Rattle.toml.specs.Data.{Data, Members, string, table, get_member}
-use Rattle.component_ids.specs.declared.id.ComponentId.{ComponentId}
 use Rattle.conf.specs.declared.fault.ConfFault.{ConfFault}
 use Rattle.conf.specs.declared.fault.ConfFault.TheVariants.{Memory, NotToml, UnknownKey, WrongType, OutOfRange, BadKeyText, BadComponents, Missing}
-use Rattle.conf.specs.declared.sign_conf.SignConf.{SignConf}
+use Rattle.conf_sections.specs.declared.sign_conf.SignConf.{SignConf}
 use Rattle.conf_table.specs.declared.table.Rule.TheVariants as rule
-use Rattle.conf.specs.Meaning.{AreComponents, Configuration, Configures, HasKey, HasSign, IsConfiguration, IsDocument}
+use Rattle.conf_sections.specs.Sections.{HasSign}
+use Rattle.conf.specs.Configuration.{Configuration}
+use Rattle.conf.specs.Meaning.{Configures, HasKey, IsConfiguration, IsDocument}
 use Rattle.conf.specs.Refusals.{HasBadKeyText, IsBadKeyText, IsBadList, IsConfCause, IsCauseIn, IsConfFault, fault_number}
-use Rattle.conf_table.specs.Table.{members_in}
+use Rattle.conf_table.specs.Table.{members_in, row_value, rows}
+use Rattle.conf.specs.Paths.{HoldsOfNone}
 use Rattle.conf.proofs.JudgedLaws.{known_clear, typed_clear, allowed_clear, keys_clear, lists_clear, complete_clear}
 use Rattle.conf.proofs.LeastLaws.{least_once}
+use Rattle.conf.proofs.ListLaws.{not_bad}
 use Rattle.conf.proofs.RowFacts.{texts_fine, lists_fine_by}
 
 -- ---- one document
@@ -61,19 +64,20 @@ bad_keys : (value : Option Data) (keys : (keyid : List ℕ) → (key : Option (L
 bad_keys (Some (table pairs)) keys bad = bad_key (get_member bad.0 pairs) (keys bad.0).0 (keys bad.0).1 bad.1
 bad_keys value keys bad = bad
 
-bad_list : (value : Option Data) (ids : List ComponentId) → AreComponents value ids → IsBadList rule.Components value → ⊥
-bad_list (Some (string text)) ids are bad = bad ids are
-bad_list value ids are bad = bad
-
 request_fine : (value : Option Data) (sign : Option SignConf) → HasSign value sign → IsBadList rule.Components (get_member (codes "components-request") (members_in value)) → ⊥
-request_fine (Some (table pairs)) (Some sign) says bad = bad_list (get_member (codes "components-request") pairs) sign.components_request says.components_request bad
+request_fine (Some (table pairs)) (Some sign) says bad = not_bad (get_member (codes "components-request") pairs) sign.components_request says.components_request bad
 request_fine (Some (table pairs)) None says bad = says
 request_fine value sign says bad = bad
 
 response_fine : (value : Option Data) (sign : Option SignConf) → HasSign value sign → IsBadList rule.Components (get_member (codes "components-response") (members_in value)) → ⊥
-response_fine (Some (table pairs)) (Some sign) says bad = bad_list (get_member (codes "components-response") pairs) sign.components_response says.components_response bad
+response_fine (Some (table pairs)) (Some sign) says bad = not_bad (get_member (codes "components-response") pairs) sign.components_response says.components_response bad
 response_fine (Some (table pairs)) None says bad = says
 response_fine value sign says bad = bad
+
+lists_read : (document : Members) (conf : Configuration) → IsConfiguration document conf → HoldsOfNone (λ row. IsBadList row.rule (row_value document row)) rows
+lists_read document conf is =
+    lists_fine_by document (not_bad _ conf.policy.require_request is.policy.require_request) (not_bad _ conf.policy.require_response is.policy.require_response)
+    (request_fine (get_member (codes "sign") document) conf.sign is.sign) (response_fine (get_member (codes "sign") document) conf.sign is.sign)
 
 no_cause : (document : Members) (conf : Configuration) → IsConfiguration document conf → (fault : ConfFault) → ¬ IsCauseIn document fault
 no_cause document conf is (UnknownKey path) h = known_clear document is.known (UnknownKey path) refl h
@@ -82,7 +86,7 @@ no_cause document conf is (OutOfRange path) h = allowed_clear document is.allowe
 no_cause document conf is (BadKeyText path) h =
     keys_clear document (texts_fine document (bad_keys (get_member (codes "keys") document) (λ keyid. (map.get conf.keys keyid, is.keys keyid)))) (BadKeyText path) refl h
 no_cause document conf is (BadComponents path) h =
-    lists_clear document (lists_fine_by document (request_fine (get_member (codes "sign") document) conf.sign is.sign) (response_fine (get_member (codes "sign") document) conf.sign is.sign)) (BadComponents path) refl h
+    lists_clear document (lists_read document conf is) (BadComponents path) refl h
 no_cause document conf is (Missing path) h = complete_clear document is.complete (Missing path) refl h
 no_cause document conf is Memory h = h
 no_cause document conf is NotToml h = h

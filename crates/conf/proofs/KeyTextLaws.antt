@@ -17,7 +17,8 @@ use Rattle.conf.specs.Meaning.{AreKeys, HasKey}
 use Rattle.conf.specs.Refusals.{IsBadKeyText, HasBadKeyText}
 use Rattle.conf_table.specs.Rows.{fails}
 use Rattle.conf_table.specs.Table.{entries_of, members_in}
-use Rattle.conf_table.specs.Values.{IsHmacKey, has_type, is_allowed, is_keyid, are_strings}
+use Rattle.conf_table.specs.Keys.{IsHmacKey, is_keyid}
+use Rattle.conf_table.specs.Values.{has_type, is_allowed, are_strings}
 use Rattle.conf.specs.tools.Added.{all_added, key_in, spells_key, spell_keys, HasDistinctNames}
 use Rattle.conf.specs.tools.Judged.{IsClearBelow, IsFirstIn, IsJudged}
 use Rattle.conf.specs.tools.KeyFaults.{IsKeysFault}

@@ -5,9 +5,10 @@ mod JudgedLaws
 mod KeyLaws
 mod AddedLaws
 mod ValidLaws
-mod SignLaws
+mod ListLaws
 mod RowFacts
-mod SignReadLaws
+mod SectionLaws
+mod PolicyLaws
 mod KeyTextLaws
 mod TypeLaws
 mod ConfLaws

@@ -1,21 +1,21 @@
 -- A text is one configuration.
-use Rattle.std.proofs.Common.{◌≡◌, ℕ, Option, Some, None, List, codes, refl, sym, ap, ◌∙◌}
+use Rattle.std.proofs.Common.{◌≡◌, ℕ, Option, Some, None, List, codes, sym, ap, ◌∙◌}
 use Rattle.std.specs.FinMap as map
 use Rattle.std.proofs.lemmas.Cmp.{nat_list_cmp_total}
-use Rattle.sfv_read.proofs.Readings.{inner_has_one_value}
 use Rattle.component_ids.specs.Types.{KindMap}
-use Rattle.component_ids.specs.SignatureParams.{list_of}
-use Rattle.component_ids.specs.declared.id.ComponentId.{ComponentId}
-use Rattle.component_ids.specs.declared.params.SigParams.{SigParams}
-use Rattle.component_ids.proofs.FaultLaws.{one_value}
 use Rattle.toml.specs.Data.{Data, Members, string, table, get_member}
-use Rattle.conf.specs.declared.sign_conf.SignConf.{SignConf}
+use Rattle.conf_table.specs.declared.table.Place.TheVariants as place
+use Rattle.conf_table.specs.Table.{members_at, members_in}
+use Rattle.conf_table.specs.Values.{IsKeyText}
+use Rattle.conf_sections.specs.declared.policy.Policy.{Policy}
+use Rattle.conf_sections.specs.declared.sign_conf.SignConf.{SignConf}
+use Rattle.conf_sections.specs.Sections.{HasSign, IsPolicy, IsSignConf}
+use Rattle.conf.specs.Configuration.{Configuration}
 use Rattle.conf.specs.Keys.{KeyMap}
-use Rattle.conf.specs.Meaning.{AreComponents, AreKeys, AreTypes, Configuration, Configures, HasKey, HasSign, IsConfiguration, IsSignConf}
-use Rattle.conf_table.specs.Table.{members_in}
-use Rattle.conf_table.specs.Values.{IsCovered, IsKeyText, params_of}
+use Rattle.conf.specs.Meaning.{AreKeys, AreTypes, Configures, HasKey, IsConfiguration}
 use Rattle.conf.proofs.CauseLaws.{one_document}
 use Rattle.conf.proofs.KeyLaws.{key_is}
+use Rattle.conf.proofs.ListLaws.{components_are}
 
 -- ---- keys
 
@@ -40,18 +40,30 @@ types_are : (pairs : Members) (types other : KindMap) → AreTypes pairs types �
 types_are pairs types other first second =
     map.same_map nat_list_cmp_total (map.slice_cmp-IsAntisymmetric map.nat_cmp-IsAntisymmetric) types other (λ name. first name ∙ sym (second name))
 
--- ---- the table `sign`
+-- ---- the tables
 
-one_list : (text : List ℕ) (ids other : List ComponentId) → IsCovered text ids → IsCovered text other → ids ≡ other
-one_list text ids other first second =
-    let same = inner_has_one_value text (list_of (params_of ids)) (list_of (params_of other)) first.reads second.reads in
-    let is : params_of ids ≡ params_of other = one_value (list_of (params_of other)) (params_of ids) (params_of other) (first.components, same) (second.components, refl) in
-    ap (λ (params : SigParams). params.ids) is
-
-components_are : (value : Option Data) (ids other : List ComponentId) → AreComponents value ids → AreComponents value other → ids ≡ other
-components_are None ids other first second = first ∙ sym second
-components_are (Some (string text)) ids other first second = one_list text ids other first second
-components_are (Some value) ids other first second = absurd first
+one_policy : (pairs : Members) (policy other : Policy) → IsPolicy pairs policy → IsPolicy pairs other → policy ≡ other
+one_policy pairs policy other a b =
+    let max_age : policy.max_age ≡ other.max_age = a.max_age ∙ sym b.max_age in
+    let skew : policy.skew ≡ other.skew = a.skew ∙ sym b.skew in
+    let request : policy.require_request ≡ other.require_request = components_are _ policy.require_request other.require_request a.require_request b.require_request in
+    let response : policy.require_response ≡ other.require_response = components_are _ policy.require_response other.require_response a.require_response b.require_response in
+    let expires : policy.expires ≡ other.expires = a.expires ∙ sym b.expires in
+    let nonce : policy.nonce ≡ other.nonce = a.nonce ∙ sym b.nonce in
+    let nonces : policy.nonces ≡ other.nonces = a.nonces ∙ sym b.nonces in
+    let tag : policy.tag ≡ other.tag = a.tag ∙ sym b.tag in
+    let digest : policy.digest ≡ other.digest = a.digest ∙ sym b.digest in
+    λ i. record {
+      max_age = max_age i;
+      skew = skew i;
+      require_request = request i;
+      require_response = response i;
+      expires = expires i;
+      nonce = nonce i;
+      nonces = nonces i;
+      tag = tag i;
+      digest = digest i;
+    }
 
 string_is : (a b : List ℕ) → Some (string a) ≡ Some (string b) → a ≡ b
 string_is a b same = cc
@@ -91,8 +103,9 @@ one_configuration document conf other a b =
     let scheme : conf.scheme ≡ other.scheme = a.scheme ∙ sym b.scheme in
     let keys : conf.keys ≡ other.keys = keys_are (members_in (get_member (codes "keys") document)) conf.keys other.keys a.keys b.keys in
     let types : conf.types ≡ other.types = types_are (members_in (get_member (codes "types") document)) conf.types other.types a.types b.types in
+    let policy : conf.policy ≡ other.policy = one_policy (members_at document place.Policy) conf.policy other.policy a.policy b.policy in
     let sign : conf.sign ≡ other.sign = signs_are (get_member (codes "sign") document) conf.sign other.sign a.sign b.sign in
-    λ i. record { scheme = scheme i; keys = keys i; types = types i; sign = sign i }
+    λ i. record { scheme = scheme i; keys = keys i; types = types i; policy = policy i; sign = sign i }
 
 pub one_meaning : (text : List ℕ) (conf other : Configuration) → Configures text conf → Configures text other → conf ≡ other
 one_meaning text conf other (document, is, says) (also, is_also, says_also) =

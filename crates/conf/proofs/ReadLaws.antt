@@ -6,7 +6,8 @@ use Rattle.conf.specs.declared.conf.Conf.{Conf}
 use Rattle.conf.specs.declared.fault.ConfFault.{ConfFault}
 use Rattle.conf.specs.declared.fault.ConfFault.TheVariants.{Memory, NotToml, UnknownKey, WrongType, OutOfRange, BadKeyText, BadComponents, Missing}
 use Rattle.conf.specs.ConfMeaning.{meaning}
-use Rattle.conf.specs.Meaning.{Configuration, Configures, IsConfiguration, IsDocument}
+use Rattle.conf.specs.Configuration.{Configuration}
+use Rattle.conf.specs.Meaning.{Configures, IsConfiguration, IsDocument}
 use Rattle.conf.specs.Refusals.{IsConfCause, IsCauseIn, IsConfFault, fault_number}
 use Rattle.conf.specs.tools.Explained.{Explains}
 use Rattle.conf.specs.tools.Judged.{IsFirstIn, IsNotToml}

@@ -1,27 +1,25 @@
 -- What holds at each row of the table.
-use Rattle.std.proofs.Common.{◌≡◌, ◌&&◌, ℕ, Bool, true, List, [], ◌∷◌, take, drop, Option, Some, None, IsTrue, codes, refl, inl, inr}
+use Rattle.std.proofs.Common.{◌≡◌, ◌++◌, ◌&&◌, ◌||◌, ℕ, Bool, true, false, List, [], ◌∷◌, take, drop, Option, Some, None, IsTrue, codes, refl, sym, ◌∙◌, inl, inr}
 use Rattle.std.specs.Prelude.{is_none, is_some}
-use Rattle.std.specs.List.{find}
+use Rattle.std.specs.List.{filter, find}
 use Rattle.std.specs.Str.{bytes_eq}
-use Rattle.std.proofs.lemmas.Bool.{cases_Bool}
-use Rattle.component_ids.specs.declared.id.ComponentId.{ComponentId}
+use Rattle.std.proofs.lemmas.Bool.{cases_Bool, false≢true}
 use Rattle.toml.specs.Data.{Data, Members, get_member}
-use Rattle.conf_table.specs.declared.table.Place.TheVariants.{Sign}
+use Rattle.conf_table.specs.declared.table.Place.{Place}
+use Rattle.conf_table.specs.declared.table.Place.TheVariants.{Policy, Sign}
+use Rattle.conf_table.specs.declared.table.Rule.{Rule}
 use Rattle.conf_table.specs.declared.table.Rule.TheVariants as rule
+use Rattle.conf_table.specs.Rows.{fails, is_ill_typed, is_out_of_range}
+use Rattle.conf_table.specs.Table.{Row, rows, at_policy, at_sign, at_top, row_value, has_place, is_missing}
+use Rattle.conf_table.specs.Values.{clashes, has_type, is_allowed}
+use Rattle.conf.specs.declared.lists.Lists.{Lists}
 use Rattle.conf.specs.Paths.{HoldsOfNone}
 use Rattle.conf.specs.Refusals.{HasBadKeyText, IsBadList, IsLeastRow}
-use Rattle.conf_table.specs.Rows.{fails, is_ill_typed, is_out_of_range}
-use Rattle.conf_table.specs.Table.{Row, rows, at_sign, at_top, row_value, members_at, has_place, is_missing}
-use Rattle.conf_table.specs.Values.{has_type, is_allowed}
 use Rattle.conf.specs.tools.Judged.{IsJudged}
-use Rattle.conf.specs.tools.SignReads.{IsToldList}
+use Rattle.conf.specs.tools.SectionReads.{AreLists, value_of}
 use Rattle.conf.proofs.LeastLaws.{least_at}
+use Rattle.conf.proofs.ListLaws.{told_not_bad}
 use Rattle.conf.proofs.RowLaws.{rows_ascend}
-use Rattle.conf.proofs.SignLaws.{told_not_bad}
-
--- the value at a key of `sign`
-abbrev pub sign_value : Members → List ℕ → Option Data
-sign_value document name = get_member name (members_at document Sign)
 
 -- a value that doesn't fail passes
 pub passes : (test : Data → Bool) (value : Option Data) (given : Data) → (IsTrue (fails test value) → ⊥) → value ≡ Some given → test given ≡ true
@@ -42,6 +40,16 @@ none_of_found P test (y ∷ xs) x found none here = elim (cases_Bool (test y)) [
 none_of_path : (P : Row → Type 0) (path : List ℕ) (row : Row) → find (λ (r : Row). bytes_eq r.path path) rows ≡ Some row → HoldsOfNone P rows → P row → ⊥
 none_of_path P path row found none here = none_of_found P (λ (r : Row). bytes_eq r.path path) rows row found none here
 
+-- what holds only of those that pass holds of none, where it holds of none of these
+none_but : {X : Type 0} (P : X → Type 0) (test : X → Bool) (xs : List X) → ((x : X) → P x → test x ≡ true) → HoldsOfNone P (filter test xs) → HoldsOfNone P xs
+none_but P test [] only none = tt
+none_but P test (x ∷ xs) only none = elim (cases_Bool (test x)) [
+  | inl passed ↦
+      let both : HoldsOfNone P (x ∷ filter test xs) = rw passed at none in
+      (both.0, none_but P test xs only both.1)
+  | inr failed ↦ (λ here. false≢true (sym failed ∙ only x here), none_but P test xs only (rw failed at none))
+]
+
 -- ---- types
 
 pub keys_typed : (document : Members) → IsJudged document → (IsTrue (fails (has_type rule.Keys) (get_member (codes "keys") document)) → ⊥)
@@ -52,19 +60,27 @@ pub sign_typed : (document : Members) → IsJudged document → (IsTrue (fails (
 unfolding rows
 sign_typed document judged = none_of_path (λ (row : Row). IsTrue (is_ill_typed document row)) (codes "sign") _ refl judged.typed
 
-pub request_typed : (document : Members) → IsJudged document → (IsTrue (fails (has_type rule.Components) (sign_value document (codes "components-request"))) → ⊥)
+pub require_request_typed : (document : Members) → IsJudged document → (IsTrue (fails (has_type rule.Components) (value_of document Policy (codes "require-request"))) → ⊥)
+unfolding rows
+require_request_typed document judged = none_of_path (λ (row : Row). IsTrue (is_ill_typed document row)) (codes "policy.require-request") _ refl judged.typed
+
+pub require_response_typed : (document : Members) → IsJudged document → (IsTrue (fails (has_type rule.Components) (value_of document Policy (codes "require-response"))) → ⊥)
+unfolding rows
+require_response_typed document judged = none_of_path (λ (row : Row). IsTrue (is_ill_typed document row)) (codes "policy.require-response") _ refl judged.typed
+
+pub request_typed : (document : Members) → IsJudged document → (IsTrue (fails (has_type rule.Components) (value_of document Sign (codes "components-request"))) → ⊥)
 unfolding rows
 request_typed document judged = none_of_path (λ (row : Row). IsTrue (is_ill_typed document row)) (codes "sign.components-request") _ refl judged.typed
 
-pub response_typed : (document : Members) → IsJudged document → (IsTrue (fails (has_type rule.Components) (sign_value document (codes "components-response"))) → ⊥)
+pub response_typed : (document : Members) → IsJudged document → (IsTrue (fails (has_type rule.Components) (value_of document Sign (codes "components-response"))) → ⊥)
 unfolding rows
 response_typed document judged = none_of_path (λ (row : Row). IsTrue (is_ill_typed document row)) (codes "sign.components-response") _ refl judged.typed
 
-pub keyid_typed : (document : Members) → IsJudged document → (IsTrue (fails (has_type rule.Keyid) (sign_value document (codes "keyid"))) → ⊥)
+pub keyid_typed : (document : Members) → IsJudged document → (IsTrue (fails (has_type rule.Keyid) (value_of document Sign (codes "keyid"))) → ⊥)
 unfolding rows
 keyid_typed document judged = none_of_path (λ (row : Row). IsTrue (is_ill_typed document row)) (codes "sign.keyid") _ refl judged.typed
 
-pub label_typed : (document : Members) → IsJudged document → (IsTrue (fails (has_type rule.Label) (sign_value document (codes "label"))) → ⊥)
+pub label_typed : (document : Members) → IsJudged document → (IsTrue (fails (has_type rule.Label) (value_of document Sign (codes "label"))) → ⊥)
 unfolding rows
 label_typed document judged = none_of_path (λ (row : Row). IsTrue (is_ill_typed document row)) (codes "sign.label") _ refl judged.typed
 
@@ -78,19 +94,49 @@ pub keys_allowed : (document : Members) → IsJudged document → (IsTrue (fails
 unfolding rows
 keys_allowed document judged = none_of_path (λ (row : Row). IsTrue (is_out_of_range document row)) (codes "keys") _ refl judged.allowed
 
-pub seconds_allowed : (document : Members) → IsJudged document → (IsTrue (fails (is_allowed document rule.Seconds) (sign_value document (codes "expires-after"))) → ⊥)
+-- seconds are in their range, and no values clash
+max_age_passes : (document : Members) → IsJudged document
+    → (IsTrue (clashes document rule.MaxAge || fails (is_allowed document rule.MaxAge) (value_of document Policy (codes "max-age"))) → ⊥)
+unfolding rows
+max_age_passes document judged = none_of_path (λ (row : Row). IsTrue (is_out_of_range document row)) (codes "policy.max-age") _ refl judged.allowed
+
+neither : (a b : Bool) → (IsTrue (a || b) → ⊥) → (IsTrue a → ⊥) × (IsTrue b → ⊥)
+neither true b never = absurd (never refl)
+neither false b never = (λ h. false≢true h, never)
+
+pub max_age_allowed : (document : Members) → IsJudged document → (IsTrue (fails (is_allowed document rule.MaxAge) (value_of document Policy (codes "max-age"))) → ⊥)
+max_age_allowed document judged =
+    (neither (clashes document rule.MaxAge) (fails (is_allowed document rule.MaxAge) (value_of document Policy (codes "max-age"))) (max_age_passes document judged)).1
+
+pub none_clash : (document : Members) → IsJudged document → (IsTrue (clashes document rule.MaxAge) → ⊥)
+none_clash document judged =
+    (neither (clashes document rule.MaxAge) (fails (is_allowed document rule.MaxAge) (value_of document Policy (codes "max-age"))) (max_age_passes document judged)).0
+
+pub skew_allowed : (document : Members) → IsJudged document → (IsTrue (fails (is_allowed document rule.Skew) (value_of document Policy (codes "skew"))) → ⊥)
+unfolding rows
+skew_allowed document judged = none_of_path (λ (row : Row). IsTrue (is_out_of_range document row)) (codes "policy.skew") _ refl judged.allowed
+
+pub nonces_allowed : (document : Members) → IsJudged document → (IsTrue (fails (is_allowed document rule.Nonces) (value_of document Policy (codes "nonces"))) → ⊥)
+unfolding rows
+nonces_allowed document judged = none_of_path (λ (row : Row). IsTrue (is_out_of_range document row)) (codes "policy.nonces") _ refl judged.allowed
+
+pub policy_tag_allowed : (document : Members) → IsJudged document → (IsTrue (fails (is_allowed document rule.Tag) (value_of document Policy (codes "tag"))) → ⊥)
+unfolding rows
+policy_tag_allowed document judged = none_of_path (λ (row : Row). IsTrue (is_out_of_range document row)) (codes "policy.tag") _ refl judged.allowed
+
+pub seconds_allowed : (document : Members) → IsJudged document → (IsTrue (fails (is_allowed document rule.Seconds) (value_of document Sign (codes "expires-after"))) → ⊥)
 unfolding rows
 seconds_allowed document judged = none_of_path (λ (row : Row). IsTrue (is_out_of_range document row)) (codes "sign.expires-after") _ refl judged.allowed
 
-pub keyid_allowed : (document : Members) → IsJudged document → (IsTrue (fails (is_allowed document rule.Keyid) (sign_value document (codes "keyid"))) → ⊥)
+pub keyid_allowed : (document : Members) → IsJudged document → (IsTrue (fails (is_allowed document rule.Keyid) (value_of document Sign (codes "keyid"))) → ⊥)
 unfolding rows
 keyid_allowed document judged = none_of_path (λ (row : Row). IsTrue (is_out_of_range document row)) (codes "sign.keyid") _ refl judged.allowed
 
-pub label_allowed : (document : Members) → IsJudged document → (IsTrue (fails (is_allowed document rule.Label) (sign_value document (codes "label"))) → ⊥)
+pub label_allowed : (document : Members) → IsJudged document → (IsTrue (fails (is_allowed document rule.Label) (value_of document Sign (codes "label"))) → ⊥)
 unfolding rows
 label_allowed document judged = none_of_path (λ (row : Row). IsTrue (is_out_of_range document row)) (codes "sign.label") _ refl judged.allowed
 
-pub tag_allowed : (document : Members) → IsJudged document → (IsTrue (fails (is_allowed document rule.Tag) (sign_value document (codes "tag"))) → ⊥)
+pub tag_allowed : (document : Members) → IsJudged document → (IsTrue (fails (is_allowed document rule.Tag) (value_of document Sign (codes "tag"))) → ⊥)
 unfolding rows
 tag_allowed document judged = none_of_path (λ (row : Row). IsTrue (is_out_of_range document row)) (codes "sign.tag") _ refl judged.allowed
 
@@ -104,53 +150,90 @@ there : (has : Bool) (value : Option Data) → has ≡ true → (IsTrue (has && 
 there has None known never = absurd (never (rw known refl))
 there has (Some value) known never = refl
 
-pub keyid_there : (document : Members) → HoldsOfNone (λ row. IsTrue (is_missing document row)) rows → has_place document Sign ≡ true → is_some (sign_value document (codes "keyid")) ≡ true
+pub keyid_there : (document : Members) → HoldsOfNone (λ row. IsTrue (is_missing document row)) rows → has_place document Sign ≡ true → is_some (value_of document Sign (codes "keyid")) ≡ true
 unfolding rows
-keyid_there document complete has = there (has_place document Sign) (sign_value document (codes "keyid")) has (none_of_path (λ (row : Row). IsTrue (is_missing document row)) (codes "sign.keyid") _ refl complete)
+keyid_there document complete has = there (has_place document Sign) (value_of document Sign (codes "keyid")) has (none_of_path (λ (row : Row). IsTrue (is_missing document row)) (codes "sign.keyid") _ refl complete)
 
-pub label_there : (document : Members) → HoldsOfNone (λ row. IsTrue (is_missing document row)) rows → has_place document Sign ≡ true → is_some (sign_value document (codes "label")) ≡ true
+pub label_there : (document : Members) → HoldsOfNone (λ row. IsTrue (is_missing document row)) rows → has_place document Sign ≡ true → is_some (value_of document Sign (codes "label")) ≡ true
 unfolding rows
-label_there document complete has = there (has_place document Sign) (sign_value document (codes "label")) has (none_of_path (λ (row : Row). IsTrue (is_missing document row)) (codes "sign.label") _ refl complete)
+label_there document complete has = there (has_place document Sign) (value_of document Sign (codes "label")) has (none_of_path (λ (row : Row). IsTrue (is_missing document row)) (codes "sign.label") _ refl complete)
 
--- ---- key texts and lists
+-- ---- key texts
+
+abbrev is_keys : Rule → Bool
+is_keys rule.Keys = true
+is_keys other = false
+
+only_keys : (r : Rule) (value : Option Data) → HasBadKeyText r value → is_keys r ≡ true
+only_keys rule.Keys value bad = refl
+only_keys r value bad = absurd bad
 
 pub texts_fine : (document : Members) → (HasBadKeyText rule.Keys (get_member (codes "keys") document) → ⊥) → HoldsOfNone (λ row. HasBadKeyText row.rule (row_value document row)) rows
 unfolding rows
-texts_fine document fine = (fine, (λ h. h, (λ h. h, (λ h. h, (λ h. h, (λ h. h, (λ h. h, (λ h. h, (λ h. h, (λ h. h, (λ h. h, (λ h. h, (λ h. h, tt)))))))))))))
+texts_fine document fine =
+    none_but (λ (row : Row). HasBadKeyText row.rule (row_value document row)) (λ (row : Row). is_keys row.rule) rows (λ row bad. only_keys row.rule (row_value document row) bad) (fine, tt)
 
 pub keys_least : (document : Members) → HasBadKeyText rule.Keys (get_member (codes "keys") document) → IsLeastRow (λ row. HasBadKeyText row.rule (row_value document row)) (codes "keys")
 unfolding rows
 keys_least document bad =
     least_at (λ (row : Row). row.path) (λ (row : Row). HasBadKeyText row.rule (row_value document row)) [] (at_top (codes "keys") rule.Keys) (drop 1 rows) rows_ascend tt bad
 
-pub lists_fine_by : (document : Members) → (IsBadList rule.Components (sign_value document (codes "components-request")) → ⊥)
-    → (IsBadList rule.Components (sign_value document (codes "components-response")) → ⊥) → HoldsOfNone (λ row. IsBadList row.rule (row_value document row)) rows
+-- ---- lists
+
+abbrev is_list : Rule → Bool
+is_list rule.Components = true
+is_list other = false
+
+only_lists : (r : Rule) (value : Option Data) → IsBadList r value → is_list r ≡ true
+only_lists rule.Components value bad = refl
+only_lists r value bad = absurd bad
+
+abbrev IsBadRow : Members → Row → Type 0
+IsBadRow document row = IsBadList row.rule (row_value document row)
+
+-- no row is bad, where none of a list is
+none_of_lists : (document : Members) (xs : List Row) → HoldsOfNone (IsBadRow document) (filter (λ (row : Row). is_list row.rule) xs) → HoldsOfNone (IsBadRow document) xs
+none_of_lists document xs none = none_but (IsBadRow document) (λ (row : Row). is_list row.rule) xs (λ row bad. only_lists row.rule (row_value document row) bad) none
+
+-- a bad row is the least, where no list before it is bad
+bad_is_least : (document : Members) (before : List Row) (row : Row) (after : List Row) → before ++ row ∷ after ≡ rows
+    → HoldsOfNone (IsBadRow document) (filter (λ (r : Row). is_list r.rule) before) → IsBadRow document row → IsLeastRow (IsBadRow document) row.path
+bad_is_least document before row after all none bad =
+    rw (← all) (least_at (λ (r : Row). r.path) (IsBadRow document) before row after (rw all rows_ascend) (none_of_lists document before none) bad)
+
+abbrev IsBad : Members → Place → List ℕ → Type 0
+IsBad document place name = IsBadList rule.Components (value_of document place name)
+
+pub lists_fine_by : (document : Members) → (IsBad document Policy (codes "require-request") → ⊥) → (IsBad document Policy (codes "require-response") → ⊥)
+    → (IsBad document Sign (codes "components-request") → ⊥) → (IsBad document Sign (codes "components-response") → ⊥) → HoldsOfNone (λ row. IsBadList row.rule (row_value document row)) rows
 unfolding rows
-lists_fine_by document request response =
-    (λ h. h, (λ h. h, (λ h. h, (λ h. h, (request, (response, (λ h. h, (λ h. h, (λ h. h, (λ h. h, (λ h. h, (λ h. h, (λ h. h, tt)))))))))))))
+lists_fine_by document first second third fourth = none_of_lists document rows (first, (second, (third, (fourth, tt))))
 
-pub lists_fine : (document : Members) (request response : List ComponentId) → IsToldList (sign_value document (codes "components-request")) request
-    → IsToldList (sign_value document (codes "components-response")) response → HoldsOfNone (λ row. IsBadList row.rule (row_value document row)) rows
-lists_fine document request response first second =
-    lists_fine_by document (told_not_bad (sign_value document (codes "components-request")) request first)
-    (told_not_bad (sign_value document (codes "components-response")) response second)
+pub lists_fine : (document : Members) (lists : Lists) → AreLists document lists → HoldsOfNone (λ row. IsBadList row.rule (row_value document row)) rows
+lists_fine document lists are =
+    lists_fine_by document (told_not_bad _ lists.require_request are.require_request) (told_not_bad _ lists.require_response are.require_response)
+    (told_not_bad _ lists.components_request are.components_request) (told_not_bad _ lists.components_response are.components_response)
 
-pub request_least : (document : Members) → IsBadList rule.Components (sign_value document (codes "components-request"))
-    → IsLeastRow (λ row. IsBadList row.rule (row_value document row)) (codes "sign.components-request")
+pub require_request_least : (document : Members) → IsBad document Policy (codes "require-request") → IsLeastRow (λ row. IsBadList row.rule (row_value document row)) (codes "policy.require-request")
 unfolding rows
-request_least document bad =
-    least_at (λ (row : Row). row.path) (λ (row : Row). IsBadList row.rule (row_value document row)) (take 4 rows) (at_sign (codes "sign.components-request") (codes "components-request") rule.Components) (drop 5 rows)
-    rows_ascend (λ h. h, (λ h. h, (λ h. h, (λ h. h, tt)))) bad
+require_request_least document bad =
+    bad_is_least document (take 7 rows) (at_policy (codes "policy.require-request") (codes "require-request") rule.Components) (drop 8 rows) refl tt bad
 
-pub response_least_by : (document : Members) → (IsBadList rule.Components (sign_value document (codes "components-request")) → ⊥)
-    → IsBadList rule.Components (sign_value document (codes "components-response"))
+pub require_response_least : (document : Members) → (IsBad document Policy (codes "require-request") → ⊥) → IsBad document Policy (codes "require-response")
+    → IsLeastRow (λ row. IsBadList row.rule (row_value document row)) (codes "policy.require-response")
+unfolding rows
+require_response_least document first bad =
+    bad_is_least document (take 8 rows) (at_policy (codes "policy.require-response") (codes "require-response") rule.Components) (drop 9 rows) refl (first, tt) bad
+
+pub request_least : (document : Members) → (IsBad document Policy (codes "require-request") → ⊥) → (IsBad document Policy (codes "require-response") → ⊥)
+    → IsBad document Sign (codes "components-request") → IsLeastRow (λ row. IsBadList row.rule (row_value document row)) (codes "sign.components-request")
+unfolding rows
+request_least document first second bad =
+    bad_is_least document (take 14 rows) (at_sign (codes "sign.components-request") (codes "components-request") rule.Components) (drop 15 rows) refl (first, (second, tt)) bad
+
+pub response_least : (document : Members) → (IsBad document Policy (codes "require-request") → ⊥) → (IsBad document Policy (codes "require-response") → ⊥)
+    → (IsBad document Sign (codes "components-request") → ⊥) → IsBad document Sign (codes "components-response")
     → IsLeastRow (λ row. IsBadList row.rule (row_value document row)) (codes "sign.components-response")
 unfolding rows
-response_least_by document request bad =
-    least_at (λ (row : Row). row.path) (λ (row : Row). IsBadList row.rule (row_value document row)) (take 5 rows) (at_sign (codes "sign.components-response") (codes "components-response") rule.Components) (drop 6 rows)
-    rows_ascend (λ h. h, (λ h. h, (λ h. h, (λ h. h, (request, tt))))) bad
-
-pub response_least : (document : Members) (request : List ComponentId) → IsToldList (sign_value document (codes "components-request")) request
-    → IsBadList rule.Components (sign_value document (codes "components-response"))
-    → IsLeastRow (λ row. IsBadList row.rule (row_value document row)) (codes "sign.components-response")
-response_least document request first bad = response_least_by document (told_not_bad (sign_value document (codes "components-request")) request first) bad
+response_least document first second third bad =
+    bad_is_least document (take 15 rows) (at_sign (codes "sign.components-response") (codes "components-response") rule.Components) (drop 16 rows) refl (first, (second, (third, tt))) bad

@@ -6,10 +6,11 @@ use Rattle.std.specs.Ordering.{is_eq}
 use Rattle.std.proofs.lemmas.Cmp.{nat_list_cmp_total}
 use Rattle.component_ids.specs.Types.{KindMap}
 use Rattle.component_ids.specs.declared.scheme.Scheme.{Scheme}
-use Rattle.conf.specs.declared.sign_conf.SignConf.{SignConf}
+use Rattle.conf_sections.specs.declared.policy.Policy.{Policy}
+use Rattle.conf_sections.specs.declared.sign_conf.SignConf.{SignConf}
 use Rattle.conf.specs.Keys.{KeyMap}
 use Rattle.conf.specs.Valid.{IsValid, IsValidSign}
-use Rattle.conf_table.specs.Values.{IsHmacKey, is_keyid}
+use Rattle.conf_table.specs.Keys.{IsHmacKey, is_keyid}
 use Rattle.conf.proofs.AddedLaws.{name_cmp, same_name}
 
 -- what a map has after an insert is what was there or what came
@@ -44,19 +45,20 @@ sign_stays keys keyid key sign valid = record {
   tag = valid.tag;
 }
 
-pub valid_with : (scheme : Scheme) (keys new : KeyMap) (types : KindMap) (sign : Option SignConf) (keyid key : List ℕ)
-    → IsValid (record { scheme = scheme; keys = keys; types = types; sign = sign }) → IsTrue (is_keyid keyid) → IsHmacKey key
-    → new ≡ map.insert keys keyid key → IsValid (record { scheme = scheme; keys = new; types = types; sign = sign })
-valid_with scheme keys new types sign keyid key valid keyid_is key_is is =
+pub valid_with : (scheme : Scheme) (keys new : KeyMap) (types : KindMap) (policy : Policy) (sign : Option SignConf) (keyid key : List ℕ)
+    → IsValid (record { scheme = scheme; keys = keys; types = types; policy = policy; sign = sign }) → IsTrue (is_keyid keyid) → IsHmacKey key
+    → new ≡ map.insert keys keyid key → IsValid (record { scheme = scheme; keys = new; types = types; policy = policy; sign = sign })
+valid_with scheme keys new types policy sign keyid key valid keyid_is key_is is =
     rw is (record {
       keyids = came_or_was (λ q k. IsTrue (is_keyid q)) keys keyid key keyid_is valid.keyids;
       keys = came_or_was (λ q k. IsHmacKey k) keys keyid key key_is valid.keys;
+      policy = valid.policy;
       sign = λ s there. sign_stays keys keyid key s (valid.sign s there);
     })
 
 -- whether the key was added or not
-pub valid_after : {T E : Type 0} (scheme : Scheme) (keys new : KeyMap) (types : KindMap) (sign : Option SignConf) (keyid key : List ℕ) (result : Result T E)
-    → IsValid (record { scheme = scheme; keys = keys; types = types; sign = sign }) → IsTrue (is_keyid keyid) → IsHmacKey key
-    → OnOk result (new ≡ map.insert keys keyid key) → OnErr result (new ≡ keys) → IsValid (record { scheme = scheme; keys = new; types = types; sign = sign })
-valid_after scheme keys new types sign keyid key (Ok x) valid keyid_is key_is ok err = valid_with scheme keys new types sign keyid key valid keyid_is key_is ok
-valid_after scheme keys new types sign keyid key (Err e) valid keyid_is key_is ok err = rw err valid
+pub valid_after : {T E : Type 0} (scheme : Scheme) (keys new : KeyMap) (types : KindMap) (policy : Policy) (sign : Option SignConf) (keyid key : List ℕ) (result : Result T E)
+    → IsValid (record { scheme = scheme; keys = keys; types = types; policy = policy; sign = sign }) → IsTrue (is_keyid keyid) → IsHmacKey key
+    → OnOk result (new ≡ map.insert keys keyid key) → OnErr result (new ≡ keys) → IsValid (record { scheme = scheme; keys = new; types = types; policy = policy; sign = sign })
+valid_after scheme keys new types policy sign keyid key (Ok x) valid keyid_is key_is ok err = valid_with scheme keys new types policy sign keyid key valid keyid_is key_is ok
+valid_after scheme keys new types policy sign keyid key (Err e) valid keyid_is key_is ok err = rw err valid

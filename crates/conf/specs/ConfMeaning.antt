@@ -1,7 +1,13 @@
 -- The configuration that a value of the code is.
 use Rattle.conf.specs.declared.conf.Conf.{Conf}
-use Rattle.conf.specs.Meaning.{Configuration}
+use Rattle.conf.specs.Configuration.{Configuration}
 
 abbrev pub meaning : Conf → Configuration
 meaning conf =
-    record { scheme = conf.scheme; keys = conf.keys; types = conf.types; sign = conf.sign }
+    record {
+      scheme = conf.scheme;
+      keys = conf.keys;
+      types = conf.types;
+      policy = conf.policy;
+      sign = conf.sign;
+    }

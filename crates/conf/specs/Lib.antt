@@ -1,10 +1,13 @@
 pub mod Keys
 pub mod Paths
+pub mod Configuration
 pub mod Meaning
 pub mod Refusals
 pub mod Valid
 pub mod ConfMeaning
 pub mod Laws
 pub mod tools
+pub use Rattle.conf_sections.specs.Sections
+pub use Rattle.conf_sections.specs.ValidSections
 pub use Rattle.toml.specs.Parse
 pub use Rattle.toml.specs.Data

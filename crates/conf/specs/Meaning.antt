@@ -1,29 +1,21 @@
 -- What the text of a configuration says.
-use Rattle.std.specs.Prelude.{◌≡◌, ℕ, pos, false, Option, Some, None, IsSomeAnd, IsTrue, IsUtf8, option_and_then, unwrap_or, List, [], codes, if◌then◌else◌}
+use Rattle.std.specs.Prelude.{◌≡◌, ℕ, Option, Some, None, IsSomeAnd, IsTrue, IsUtf8, List, codes, if◌then◌else◌}
 use Rattle.std.specs.FinMap as map
 use Rattle.std.specs.Str.{bytes_eq}
-use Rattle.toml.specs.Data.{Data, Members, string, integer, table, as_str, as_bool, get_member}
+use Rattle.toml.specs.Data.{Data, Members, string, get_member}
 use Rattle.toml.specs.Parse.{parse_document}
 use Rattle.component_ids.specs.Types.{KindMap, kind_in, standard_types}
-use Rattle.component_ids.specs.declared.id.ComponentId.{ComponentId}
 use Rattle.component_ids.specs.declared.types.FieldKind.{FieldKind}
 use Rattle.component_ids.specs.declared.scheme.Scheme.{Scheme}
 use Rattle.component_ids.specs.declared.scheme.Scheme.TheVariants.{Http, Https}
-use Rattle.conf.specs.declared.sign_conf.SignConf.{SignConf}
-use Rattle.conf.specs.declared.sign_conf.SignDigest.{SignDigest}
-use Rattle.conf.specs.declared.sign_conf.SignDigest.TheVariants.{No, Sha256, Sha512}
-use Rattle.conf.specs.Keys.{KeyMap}
-use Rattle.conf_table.specs.Table.{rows, places, members_in, has_unknown, is_missing}
-use Rattle.conf_table.specs.Values.{IsKeyText, IsCovered, kind_of_word}
-use Rattle.conf.specs.Paths.{HoldsOfNone}
+use Rattle.conf_table.specs.declared.table.Place.TheVariants.{Policy}
+use Rattle.conf_table.specs.Table.{rows, places, members_at, members_in, has_unknown, is_missing}
+use Rattle.conf_table.specs.Values.{IsKeyText, kind_of_word}
 use Rattle.conf_table.specs.Rows.{is_ill_typed, is_out_of_range}
-
--- a configuration
-pub record Configuration : Type 0 where
-  pub scheme : Scheme
-  pub keys : KeyMap
-  pub types : KindMap
-  pub sign : Option SignConf
+use Rattle.conf_sections.specs.Sections.{HasSign, IsPolicy}
+use Rattle.conf.specs.Configuration.{Configuration}
+use Rattle.conf.specs.Keys.{KeyMap}
+use Rattle.conf.specs.Paths.{HoldsOfNone}
 
 -- the text is UTF-8, and TOML reads this document in it
 abbrev pub IsDocument : List ℕ → Members → Type 0
@@ -57,47 +49,6 @@ AreTypes pairs types =
     (name : List ℕ)
     → kind_in types name ≡ told_kind (get_member name pairs) (kind_in standard_types name)
 
--- no components where nothing is said
-abbrev pub AreComponents : Option Data → List ComponentId → Type 0
-AreComponents None ids = ids ≡ []
-AreComponents (Some (string text)) ids = IsCovered text ids
-AreComponents (Some value) ids = ⊥
-
--- seconds, or none where nothing is said
-abbrev pub seconds_of : Option Data → Option ℕ
-seconds_of (Some (integer (pos n))) = Some n
-seconds_of value = None
-
-abbrev pub digest_of_word : List ℕ → SignDigest
-digest_of_word word =
-    if bytes_eq word (codes "sha-256") then Sha256
-    else if bytes_eq word (codes "sha-512") then Sha512
-    else No
-
--- none where nothing is said
-abbrev pub digest_of : Option Data → SignDigest
-digest_of (Some (string word)) = digest_of_word word
-digest_of value = No
-
--- what the table `sign` says
-pub record IsSignConf (pairs : Members) (sign : SignConf) : Type 0 where
-  pub label : get_member (codes "label") pairs ≡ Some (string sign.label)
-  pub keyid : get_member (codes "keyid") pairs ≡ Some (string sign.keyid)
-  pub components_request :
-      AreComponents (get_member (codes "components-request") pairs) sign.components_request
-  pub components_response :
-      AreComponents (get_member (codes "components-response") pairs) sign.components_response
-  pub expires_after : sign.expires_after ≡ seconds_of (get_member (codes "expires-after") pairs)
-  pub alg : sign.alg ≡ unwrap_or (option_and_then as_bool (get_member (codes "alg") pairs)) false
-  pub tag : sign.tag ≡ option_and_then as_str (get_member (codes "tag") pairs)
-  pub digest : sign.digest ≡ digest_of (get_member (codes "digest") pairs)
-
--- a table, or nothing where there is none
-abbrev pub HasSign : Option Data → Option SignConf → Type 0
-HasSign None sign = sign ≡ None
-HasSign (Some (table pairs)) sign = IsSomeAnd sign (IsSignConf pairs)
-HasSign (Some value) sign = ⊥
-
 -- ---- configurations
 
 -- the document is this configuration: its keys are known and there where they are required, their
@@ -110,6 +61,7 @@ pub record IsConfiguration (document : Members) (conf : Configuration) : Type 0 
   pub scheme : conf.scheme ≡ told_scheme (get_member (codes "scheme") document)
   pub keys : AreKeys (members_in (get_member (codes "keys") document)) conf.keys
   pub types : AreTypes (members_in (get_member (codes "types") document)) conf.types
+  pub policy : IsPolicy (members_at document Policy) conf.policy
   pub sign : HasSign (get_member (codes "sign") document) conf.sign
 
 -- the text is that of a document that is this configuration

@@ -8,7 +8,8 @@ use Rattle.conf.specs.declared.fault.ConfFault.TheVariants.{Memory, NotToml, Unk
 use Rattle.conf_table.specs.declared.table.Rule.{Rule}
 use Rattle.conf_table.specs.declared.table.Rule.TheVariants.{Keys, Components}
 use Rattle.conf_table.specs.Table.{Row, rows, places, place_path, row_value, has_unknown, is_missing}
-use Rattle.conf_table.specs.Values.{IsKeyText, IsCovered}
+use Rattle.conf_table.specs.Covered.{IsCovered}
+use Rattle.conf_table.specs.Values.{IsKeyText}
 use Rattle.conf.specs.Paths.{HoldsAtPath, IsLeast}
 use Rattle.conf_table.specs.Rows.{is_ill_typed, is_out_of_range}
 use Rattle.conf.specs.Meaning.{IsDocument}

@@ -2,5 +2,5 @@ pub mod Judged
 pub mod KeyEntries
 pub mod Added
 pub mod KeyFaults
-pub mod SignReads
+pub mod SectionReads
 pub mod Explained

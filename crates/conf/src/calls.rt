@@ -5,11 +5,12 @@ ghost use Rattle.std.specs.FinMap as map;
 ghost use Rattle.conf.specs.ConfMeaning.{meaning};
 ghost use Rattle.conf.specs.Keys.{KeyMap};
 ghost use Rattle.conf.specs.Valid.{IsValidSign};
-ghost use Rattle.conf_table.specs.Values.{IsHmacKey, is_keyid};
+ghost use Rattle.conf_sections.specs.ValidSections.{IsValidPolicy};
+ghost use Rattle.conf_table.specs.Keys.{IsHmacKey, is_keyid};
 
 use crate::conf::Conf;
-use crate::sign_conf::SignConf;
 use component_ids::{Scheme, Types};
+use conf_sections::{Policy, SignConf};
 use sfv_text::Memory;
 
 impl Conf {
@@ -25,6 +26,14 @@ impl Conf {
         ensures { result.now ≡ (meaning self.now).types }
     {
         &self.types
+    }
+
+    /// How signatures are judged.
+    pub fn policy(&self) -> &Policy
+        ensures is { result.now ≡ (meaning self.now).policy }
+        ensures valid { IsValidPolicy result.now }
+    {
+        &self.policy
     }
 
     /// How messages are signed, where it is configured.
@@ -54,6 +63,7 @@ impl Conf {
         ensures err { OnErr result ((meaning self.new).keys ≡ (meaning self.old).keys) }
         ensures scheme { (meaning self.new).scheme ≡ (meaning self.old).scheme }
         ensures types { (meaning self.new).types ≡ (meaning self.old).types }
+        ensures policy { (meaning self.new).policy ≡ (meaning self.old).policy }
         ensures sign { (meaning self.new).sign ≡ (meaning self.old).sign }
     {
         self.keys.add(keyid, key)

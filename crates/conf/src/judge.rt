@@ -5,14 +5,15 @@ ghost use Rattle.std.specs.List.{list_any};
 ghost use Rattle.toml.specs.View.{table_view, view};
 ghost use Rattle.conf.specs.Paths.{HoldsAtPath, HoldsOfNone, IsLeast};
 ghost use Rattle.conf.specs.Refusals.{IsLeastRow};
-ghost use Rattle.conf_table.specs.Table.{entries_of, has_place, has_unknown, is_known, is_missing, place_path, places, rows};
-ghost use Rattle.conf_table.specs.Rows.{is_ill_typed, is_out_of_range};
+ghost use Rattle.conf_table.specs.Table.{entries_of, has_place, has_unknown, is_known, is_missing, place_path, places, row_value, rows};
+ghost use Rattle.conf_table.specs.Values.{is_allowed};
+ghost use Rattle.conf_table.specs.Rows.{fails, is_ill_typed, is_out_of_range};
 ghost use Rattle.conf.specs.tools.Judged.{fault_of, first_path, first_place, is_refused, refusal_number, IsJudged, IsFirstIn, IsCauseNumbered};
 ghost use Rattle.conf_table.specs.TableRows.{row_of};
 
 use crate::fault::ConfFault;
 use conf_table::{
-    PLACES, Place, ROWS, Row, has_type, is_allowed, is_known, table_at, table_in, value_at,
+    PLACES, Place, ROWS, Row, clashes, has_type, is_allowed, is_known, table_at, table_in, value_at,
 };
 use sfv_text::Text;
 use std::alloc::Global;
@@ -96,8 +97,9 @@ fn is_ill_typed(document: &Table, row: &Row) -> bool
     }
 }
 
-fn is_out_of_range(document: &Table, row: &Row) -> bool
-    ensures { result ≡ is_out_of_range (table_view document.now) (row_of row.now) }
+fn has_refused_value(document: &Table, row: &Row) -> bool
+    ensures { result ≡ fails (is_allowed (table_view document.now) row.now.rule)
+        (row_value (table_view document.now) (row_of row.now)) }
 {
     match value_at(document, row.place, row.key) {
         None => false,
@@ -105,11 +107,18 @@ fn is_out_of_range(document: &Table, row: &Row) -> bool
     }
 }
 
+fn is_out_of_range(document: &Table, row: &Row) -> bool
+    ensures { result ≡ is_out_of_range (table_view document.now) (row_of row.now) }
+{
+    clashes(document, row.rule) || has_refused_value(document, row)
+}
+
 fn has_place(document: &Table, place: Place) -> bool
     ensures { result ≡ has_place (table_view document.now) place }
 {
     match place {
         Place::Top => true,
+        Place::Policy => table_in(document, "policy").is_some(),
         Place::Sign => table_in(document, "sign").is_some(),
     }
 }

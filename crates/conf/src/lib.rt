@@ -18,17 +18,20 @@ mod key_texts;
 mod keys;
 mod kinds;
 mod laws;
+mod lists;
 mod read;
-mod sign;
-mod sign_conf;
-mod values;
+mod scheme;
+mod sections;
 
 pub use conf::Conf;
-pub use conf_table::{MAX_EXPIRES_AFTER, MAX_KEY_BYTES, MAX_KEYID_BYTES, is_keyid};
+pub use conf_sections::{DigestUse, NonceUse, Policy, SignConf, SignDigest};
+pub use conf_table::{
+    MAX_AGE, MAX_EXPIRES_AFTER, MAX_KEY_BYTES, MAX_KEYID_BYTES, MAX_NONCES, MAX_SKEW, MAX_WINDOW,
+    is_keyid,
+};
 pub use fault::ConfFault;
 pub use laws::a_text_is_one_configuration;
 pub use read::{empty_conf, read_conf};
-pub use sign_conf::{SignConf, SignDigest};
 
 #[cfg(test)]
 mod tests;

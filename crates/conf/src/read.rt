@@ -3,7 +3,8 @@
 ghost use Rattle.std.specs.Prelude.{◌≡◌, [], IfOk, IfErr, MatchResult};
 ghost use Rattle.byte_grammar.specs.Causes.{AnswersWhere};
 ghost use Rattle.conf.specs.declared.fault.ConfFault.{ConfFault};
-ghost use Rattle.conf.specs.Meaning.{Configuration, Configures, IsConfiguration};
+ghost use Rattle.conf.specs.Configuration.{Configuration};
+ghost use Rattle.conf.specs.Meaning.{Configures, IsConfiguration};
 ghost use Rattle.conf.specs.Refusals.{IsConfFault};
 ghost use Rattle.toml.specs.View.{table_view};
 ghost use Rattle.conf.specs.tools.Judged.{IsFirstIn};
@@ -16,9 +17,10 @@ use crate::judge::judge_document;
 use crate::key_texts::read_keys;
 use crate::keys::Keys;
 use crate::kinds::read_types;
-use crate::sign::read_sign;
-use crate::values::scheme_in;
+use crate::scheme::scheme_in;
+use crate::sections::{Sections, read_sections};
 use component_ids::{Scheme, Types};
+use conf_sections::Policy;
 use sfv_text::Memory;
 use std::alloc::Global;
 use toml::Table;
@@ -30,12 +32,13 @@ fn conf_of(alloc: Global, document: &Table) -> Result<Conf, ConfFault>
 {
     judge_document(alloc, document)?;
     let keys = read_keys(alloc, document)?;
-    let sign = read_sign(alloc, document)?;
+    let Sections { policy, sign } = read_sections(alloc, document)?;
     let types = read_types(alloc, document)?;
     Ok(Conf {
         scheme: scheme_in(document),
         keys,
         types,
+        policy,
         sign,
     })
 }
@@ -65,6 +68,7 @@ pub fn empty_conf(alloc: Global) -> Result<Conf, Memory>
         scheme: Scheme::Https,
         keys: Keys::new(alloc),
         types: Types::standard(alloc)?,
+        policy: Policy::standard(alloc),
         sign: None,
     })
 }

@@ -140,8 +140,101 @@ digest = \"sha-512\"",
     Ok(())
 }
 
+#[test]
+fn a_policy_is_standard_where_nothing_is_said(rt: HostRuntime) -> Result<(), Fail> {
+    let alloc = rt.alloc();
+    let texts: [&[u8]; 3] = [b"", b"[policy]", b"policy.require-request = '()'"];
+    for text in texts {
+        let conf = read(alloc, text)?;
+        let policy = conf.policy();
+        assert_eq!(rt; policy.max_age, 300);
+        assert_eq!(rt; policy.skew, 60);
+        check_names(&rt, &policy.require_request, &[]);
+        check_names(&rt, &policy.require_response, &[]);
+        assert!(rt; !policy.expires);
+        assert_eq!(rt; policy.nonce, NonceUse::Ignore);
+        assert_eq!(rt; policy.nonces, 65_536);
+        assert!(rt; policy.tag.is_none());
+        assert_eq!(rt; policy.digest, DigestUse::Ignore);
+    }
+    Ok(())
+}
+
+#[test]
+fn each_key_of_a_policy_is_read(rt: HostRuntime) -> Result<(), Fail> {
+    let alloc = rt.alloc();
+    let conf = read(
+        alloc,
+        b"[policy]
+max-age = 79200
+skew = 3600
+require-request = ' (\"@method\" \"@status\") '
+require-response = '(\"date\")'
+expires = \"require\"
+nonce = \"check\"
+nonces = 1
+tag = \" ~\"
+digest = \"content\"",
+    )?;
+    let policy = conf.policy();
+    assert_eq!(rt; policy.max_age, 79_200);
+    assert_eq!(rt; policy.skew, 3_600);
+    check_names(&rt, &policy.require_request, &[b"@method", b"@status"]);
+    check_names(&rt, &policy.require_response, &[b"date"]);
+    assert!(rt; policy.expires);
+    assert_eq!(rt; policy.nonce, NonceUse::Check);
+    assert_eq!(rt; policy.nonces, 1);
+    assert!(rt;
+        policy
+            .tag
+            .as_ref()
+            .is_some_and(|tag| tag.bytes() == b" ~".as_slice())
+    );
+    assert_eq!(rt; policy.digest, DigestUse::Content);
+    Ok(())
+}
+
+#[test]
+fn the_ends_of_ranges_are_read(rt: HostRuntime) -> Result<(), Fail> {
+    let alloc = rt.alloc();
+    let conf = read(
+        alloc,
+        b"[policy]
+max-age = 86400
+skew = 0
+expires = \"optional\"
+nonce = \"require\"
+nonces = 65536
+tag = \"\"
+digest = \"always\"",
+    )?;
+    let policy = conf.policy();
+    assert_eq!(rt; policy.max_age, 86_400);
+    assert_eq!(rt; policy.skew, 0);
+    assert!(rt; !policy.expires);
+    assert_eq!(rt; policy.nonce, NonceUse::Require);
+    assert_eq!(rt; policy.nonces, 65_536);
+    assert!(rt;
+        policy
+            .tag
+            .as_ref()
+            .is_some_and(|tag| tag.bytes().is_empty())
+    );
+    assert_eq!(rt; policy.digest, DigestUse::Always);
+    check_refused(
+        &rt,
+        alloc,
+        b"[policy]\nmax-age = 1\nnonce = \"ignore\"\ndigest = \"ignore\"",
+        0,
+        b"",
+    );
+    check_refused(&rt, alloc, b"policy.max-age = 86280", 0, b"");
+    check_refused(&rt, alloc, b"policy.skew = 3600", 0, b"");
+    Ok(())
+}
+
 // A refusal of each number with each path.
-const REFUSALS: [Case<'static>; 22] = [
+const REFUSALS: [Case<'static>; 37] = [
     Case {
         number: 2,
         path: b"",
@@ -155,7 +248,12 @@ const REFUSALS: [Case<'static>; 22] = [
     Case {
         number: 3,
         path: b"top",
-        texts: &[b"a = 1", b"policy = 1", b"[gateway]", b"Keys = 1"],
+        texts: &[b"a = 1", b"policies = 1", b"[gateway]", b"Keys = 1"],
+    },
+    Case {
+        number: 3,
+        path: b"policy",
+        texts: &[b"policy.maxage = 5", b"[policy]\nlabel = \"a\""],
     },
     Case {
         number: 3,
@@ -170,6 +268,36 @@ const REFUSALS: [Case<'static>; 22] = [
             b"[keys]\na = 1",
             b"[keys]\na = \"AAAA\"\nb = []",
         ],
+    },
+    Case {
+        number: 4,
+        path: b"policy",
+        texts: &[b"policy = 1", b"[[policy]]"],
+    },
+    Case {
+        number: 4,
+        path: b"policy.expires",
+        texts: &[b"policy.expires = true"],
+    },
+    Case {
+        number: 4,
+        path: b"policy.max-age",
+        texts: &[b"policy.max-age = \"1\"", b"policy.max-age = 1.0"],
+    },
+    Case {
+        number: 4,
+        path: b"policy.nonces",
+        texts: &[b"policy.nonces = true"],
+    },
+    Case {
+        number: 4,
+        path: b"policy.require-request",
+        texts: &[b"policy.require-request = []"],
+    },
+    Case {
+        number: 4,
+        path: b"policy.tag",
+        texts: &[b"policy.tag = 1"],
     },
     Case {
         number: 4,
@@ -214,6 +342,57 @@ const REFUSALS: [Case<'static>; 22] = [
             b"[keys]\n\"\\u007F\" = \"AAAA\"",
             b"[keys]\n\"\xC3\xA9\" = \"AAAA\"",
         ],
+    },
+    Case {
+        number: 5,
+        path: b"policy.digest",
+        texts: &[b"policy.digest = \"never\""],
+    },
+    Case {
+        number: 5,
+        path: b"policy.expires",
+        texts: &[b"policy.expires = \"ignore\""],
+    },
+    Case {
+        number: 5,
+        path: b"policy.max-age",
+        texts: &[
+            b"policy.max-age = 0",
+            b"policy.max-age = -1",
+            b"policy.max-age = 86401",
+            b"[policy]\nmax-age = 86400\nskew = 1",
+            b"[policy]\nmax-age = 79201\nskew = 3600",
+            b"policy.max-age = 86281",
+            b"policy.skew = 100000",
+            b"policy.skew = 43051",
+            b"policy.skew = 9223372036854775807",
+            b"[policy]\nmax-age = 9223372036854775807\nskew = 9223372036854775807",
+        ],
+    },
+    Case {
+        number: 5,
+        path: b"policy.nonce",
+        texts: &[b"policy.nonce = \"content\""],
+    },
+    Case {
+        number: 5,
+        path: b"policy.nonces",
+        texts: &[b"policy.nonces = 0", b"policy.nonces = 65537"],
+    },
+    Case {
+        number: 5,
+        path: b"policy.skew",
+        texts: &[
+            b"policy.skew = -1",
+            b"policy.skew = 3601",
+            b"policy.skew = 43050",
+            b"[policy]\nmax-age = 86400\nskew = -1",
+        ],
+    },
+    Case {
+        number: 5,
+        path: b"policy.tag",
+        texts: &[b"policy.tag = \"\\u007F\"", b"policy.tag = \"\\n\""],
     },
     Case {
         number: 5,
@@ -280,6 +459,15 @@ const REFUSALS: [Case<'static>; 22] = [
     },
     Case {
         number: 7,
+        path: b"policy.require-request",
+        texts: &[
+            b"policy.require-request = \"();a\"",
+            b"policy.require-request = ''",
+            b"policy.require-request = '(\"a\" \"a\")'",
+        ],
+    },
+    Case {
+        number: 7,
         path: b"sign.components-request",
         texts: &[
             b"sign.components-request = \"();a\"",
@@ -301,7 +489,7 @@ fn each_fault_has_its_number_and_path(rt: HostRuntime) -> Result<(), Fail> {
 }
 
 // Two faults at once, of which the lesser is answered: by the number, and then by the path.
-const TWO_FAULTS: [Case<'static>; 9] = [
+const TWO_FAULTS: [Case<'static>; 13] = [
     Case {
         number: 3,
         path: b"sign",
@@ -313,9 +501,19 @@ const TWO_FAULTS: [Case<'static>; 9] = [
         texts: &[b"keys = 1\nzz = 1"],
     },
     Case {
+        number: 3,
+        path: b"policy",
+        texts: &[b"a = 1\nsign.a = 1\npolicy.a = 1"],
+    },
+    Case {
         number: 4,
         path: b"keys",
         texts: &[b"version = \"\"\nscheme = 1\nkeys = 1"],
+    },
+    Case {
+        number: 4,
+        path: b"policy.skew",
+        texts: &[b"[policy]\nmax-age = 100000\nskew = \"\""],
     },
     Case {
         number: 4,
@@ -339,8 +537,21 @@ const TWO_FAULTS: [Case<'static>; 9] = [
     },
     Case {
         number: 7,
+        path: b"policy.require-response",
+        texts: &[
+            b"sign.components-request = \"\"\npolicy.require-response = \"\"",
+            b"[sign]\n[policy]\nrequire-response = \"\"",
+        ],
+    },
+    Case {
+        number: 7,
         path: b"sign.components-response",
         texts: &[b"sign.components-response = \"\""],
+    },
+    Case {
+        number: 9,
+        path: b"sign.keyid",
+        texts: &[b"[policy]\n[sign]"],
     },
     Case {
         number: 9,
@@ -403,6 +614,7 @@ fn a_key_is_added_to_the_others(rt: HostRuntime) -> Result<(), Fail> {
     let mut conf = empty_conf(alloc)?;
     assert_eq!(rt; conf.scheme(), Scheme::Https);
     assert!(rt; conf.sign().is_none());
+    assert_eq!(rt; conf.policy().max_age, 300);
     assert!(rt; conf.key(b"a").is_none());
     conf.add_key(b"a", b"1")?;
     match conf.key(b"b") {

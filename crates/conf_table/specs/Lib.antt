@@ -1,4 +1,6 @@
 pub mod Table
+pub mod Keys
+pub mod Covered
 pub mod Values
 pub mod Rows
 pub mod TableRows

@@ -5,9 +5,9 @@ use Rattle.std.specs.List.{list_any}
 use Rattle.std.specs.Str.{bytes_eq}
 use Rattle.toml.specs.Data.{Data, Members, no_members, member, table, as_table, get_member}
 use Rattle.conf_table.specs.declared.table.Place.{Place}
-use Rattle.conf_table.specs.declared.table.Place.TheVariants.{Top, Sign}
+use Rattle.conf_table.specs.declared.table.Place.TheVariants.{Top, Policy, Sign}
 use Rattle.conf_table.specs.declared.table.Rule.{Rule}
-use Rattle.conf_table.specs.declared.table.Rule.TheVariants.{Version, Scheme, Keys, Types, Table, Label, Keyid, Components, Seconds, Flag, Tag, Digest}
+use Rattle.conf_table.specs.declared.table.Rule.TheVariants.{Version, Scheme, Keys, Types, Table, Label, Keyid, Components, Seconds, Flag, Tag, Digest, MaxAge, Skew, Nonces, Expires, NonceUse, DigestUse}
 
 -- a key: its path, the table where it stands, its name there, what is asked of its value, and
 -- whether that table has to have it
@@ -21,6 +21,11 @@ pub record Row : Type 0 where
 -- a key of the document itself
 abbrev pub at_top : List ℕ → Rule → Row
 at_top key rule = record { path = key; place = Top; key = key; rule = rule; required = false }
+
+-- a key of the table `policy`
+abbrev pub at_policy : List ℕ → List ℕ → Rule → Row
+at_policy path key rule =
+    record { path = path; place = Policy; key = key; rule = rule; required = false }
 
 -- a key of the table `sign`
 abbrev pub at_sign : List ℕ → List ℕ → Rule → Row
@@ -36,6 +41,16 @@ needed_at_sign path key rule =
 unfoldable pub rows : List Row
 rows =
     at_top (codes "keys") Keys
+    ∷ at_top (codes "policy") Table
+    ∷ at_policy (codes "policy.digest") (codes "digest") DigestUse
+    ∷ at_policy (codes "policy.expires") (codes "expires") Expires
+    ∷ at_policy (codes "policy.max-age") (codes "max-age") MaxAge
+    ∷ at_policy (codes "policy.nonce") (codes "nonce") NonceUse
+    ∷ at_policy (codes "policy.nonces") (codes "nonces") Nonces
+    ∷ at_policy (codes "policy.require-request") (codes "require-request") Components
+    ∷ at_policy (codes "policy.require-response") (codes "require-response") Components
+    ∷ at_policy (codes "policy.skew") (codes "skew") Skew
+    ∷ at_policy (codes "policy.tag") (codes "tag") Tag
     ∷ at_top (codes "scheme") Scheme
     ∷ at_top (codes "sign") Table
     ∷ at_sign (codes "sign.alg") (codes "alg") Flag
@@ -52,13 +67,15 @@ rows =
 
 -- the tables whose keys are fixed, in the order of their paths' bytes
 unfoldable pub places : List Place
-places = Sign ∷ Top ∷ []
+places = Policy ∷ Sign ∷ Top ∷ []
 
 abbrev pub place_path : Place → List ℕ
+place_path Policy = codes "policy"
 place_path Sign = codes "sign"
 place_path Top = codes "top"
 
 abbrev pub is_same_place : Place → Place → Bool
+is_same_place Policy Policy = true
 is_same_place Sign Sign = true
 is_same_place Top Top = true
 is_same_place a b = false
@@ -72,6 +89,7 @@ members_in value = no_members
 
 abbrev pub members_at : Members → Place → Members
 members_at document Top = document
+members_at document Policy = members_in (get_member (codes "policy") document)
 members_at document Sign = members_in (get_member (codes "sign") document)
 
 -- the value of the key, where the document has it
@@ -98,6 +116,8 @@ has_unknown document place =
 -- the document has the table
 abbrev pub has_place : Members → Place → Bool
 has_place document Top = true
+has_place document Policy =
+    is_some (option_and_then as_table (get_member (codes "policy") document))
 has_place document Sign = is_some (option_and_then as_table (get_member (codes "sign") document))
 
 -- the document has the table without a key that it has to have

@@ -1,18 +1,24 @@
 //! Which values a key takes.
 
-ghost use Rattle.std.specs.Prelude.{◌≡◌, [], ◌∷◌, is_some, codes, if◌then◌else◌};
+ghost use Rattle.std.specs.Prelude.{◌≡◌, [], ◌∷◌, is_some, codes, nat_lt, if◌then◌else◌};
 ghost use Rattle.std.specs.List.{list_all, list_any};
 ghost use Rattle.std.specs.Str.{bytes_eq};
 ghost use Rattle.component_ids.specs.Table.{is_listed};
 ghost use Rattle.sfv_text.specs.Range.{is_key, is_key_first, is_key_rest, is_string_byte};
 ghost use Rattle.toml.specs.Data.{as_str, get_member};
 ghost use Rattle.toml.specs.View.{table_view, view};
-ghost use Rattle.conf_table.specs.Table.{entries_of, members_in};
-ghost use Rattle.conf_table.specs.Values.{are_strings, has_type, is_allowed, is_integer_allowed, is_keyid, is_table_allowed, is_text_allowed, is_type, is_within, kind_of_word, standard_names};
+ghost use Rattle.conf_table.specs.declared.limits.TheConstants.{MAX_WINDOW};
+ghost use Rattle.conf_table.specs.declared.table.Place.TheVariants.{Policy};
+ghost use Rattle.conf_table.specs.Table.{entries_of, members_at, members_in};
+ghost use Rattle.conf_table.specs.Keys.{is_keyid};
+ghost use Rattle.conf_table.specs.Values.{are_strings, clashes, has_type, is_allowed, is_integer_allowed, is_table_allowed, is_text_allowed, is_type, is_within, kind_of_word, standard_names, window};
 
-use crate::document::{member, table_in};
-use crate::limits::{MAX_EXPIRES_AFTER, MAX_KEYID_BYTES};
-use crate::table::Rule;
+use crate::document::{member, number_or, table_in};
+use crate::limits::{
+    DEFAULT_MAX_AGE, DEFAULT_SKEW, MAX_AGE, MAX_EXPIRES_AFTER, MAX_KEYID_BYTES, MAX_NONCES,
+    MAX_SKEW, MAX_WINDOW,
+};
+use crate::table::{Place, Rule};
 use component_ids::{FieldKind, is_field_name};
 use toml::{Table, Value};
 
@@ -44,7 +50,9 @@ pub fn has_type(rule: Rule, value: &Value) -> bool
     ensures { result ≡ has_type rule (view value.now) }
 {
     match rule {
-        Rule::Version | Rule::Seconds => value.is_integer(),
+        Rule::Version | Rule::Seconds | Rule::MaxAge | Rule::Skew | Rule::Nonces => {
+            value.is_integer()
+        }
         Rule::Flag => value.is_bool(),
         Rule::Table => value.is_table(),
         Rule::Keys | Rule::Types => are_strings(value),
@@ -124,6 +132,30 @@ fn is_digest(text: &[u8]) -> bool
     is_listed(&DIGESTS, text)
 }
 
+const EXPIRES: [&[u8]; 2] = [b"optional", b"require"];
+
+fn is_expires(text: &[u8]) -> bool
+    ensures { result ≡ is_listed (codes "optional" ∷ codes "require" ∷ []) text.now }
+{
+    is_listed(&EXPIRES, text)
+}
+
+const NONCE_USES: [&[u8]; 3] = [b"ignore", b"check", b"require"];
+
+fn is_nonce_use(text: &[u8]) -> bool
+    ensures { result ≡ is_listed (codes "ignore" ∷ codes "check" ∷ codes "require" ∷ []) text.now }
+{
+    is_listed(&NONCE_USES, text)
+}
+
+const DIGEST_USES: [&[u8]; 3] = [b"ignore", b"content", b"always"];
+
+fn is_digest_use(text: &[u8]) -> bool
+    ensures { result ≡ is_listed (codes "ignore" ∷ codes "content" ∷ codes "always" ∷ []) text.now }
+{
+    is_listed(&DIGEST_USES, text)
+}
+
 /// Whether `keys` has the keyid.
 fn is_keyid_of(document: &Table, keyid: &str) -> bool
     ensures { result ≡ is_some
@@ -144,6 +176,9 @@ fn is_text_allowed(document: &Table, rule: Rule, text: &str) -> bool
         Rule::Keyid => is_keyid_of(document, text),
         Rule::Tag => are_string_bytes(text.as_bytes()),
         Rule::Digest => is_digest(text.as_bytes()),
+        Rule::Expires => is_expires(text.as_bytes()),
+        Rule::NonceUse => is_nonce_use(text.as_bytes()),
+        Rule::DigestUse => is_digest_use(text.as_bytes()),
         _ => true,
     }
 }
@@ -236,6 +271,9 @@ fn is_integer_allowed(rule: Rule, number: i64) -> bool
     match rule {
         Rule::Version => is_within(1, 1, number),
         Rule::Seconds => is_within(1, MAX_EXPIRES_AFTER, number),
+        Rule::MaxAge => is_within(1, MAX_AGE, number),
+        Rule::Skew => is_within(0, MAX_SKEW, number),
+        Rule::Nonces => is_within(1, MAX_NONCES as u64, number),
         _ => true,
     }
 }
@@ -259,5 +297,26 @@ pub fn is_allowed(document: &Table, rule: Rule, value: &Value) -> bool
         Value::Integer(number) => is_integer_allowed(rule, *number),
         Value::Table(table) => is_table_allowed(rule, table),
         _ => true,
+    }
+}
+
+// ---- values that don't go together
+
+fn has_long_window(document: &Table) -> bool
+    ensures { result ≡ nat_lt MAX_WINDOW (window (members_at (table_view document.now) Policy)) }
+{
+    let max_age = number_or(document, Place::Policy, "max-age", DEFAULT_MAX_AGE);
+    let skew = number_or(document, Place::Policy, "skew", DEFAULT_SKEW);
+    max_age.saturating_add(skew.saturating_mul(2)) > MAX_WINDOW
+}
+
+/// Whether the values of several keys don't go together, of which the rule's key is the first:
+/// whether `max-age` and twice `skew` are more than `MAX_WINDOW`.
+pub fn clashes(document: &Table, rule: Rule) -> bool
+    ensures { result ≡ clashes (table_view document.now) rule }
+{
+    match rule {
+        Rule::MaxAge => has_long_window(document),
+        _ => false,
     }
 }

@@ -1,9 +1,10 @@
 //! A TOML document, and its values.
 
-ghost use Rattle.std.specs.Prelude.{◌≡◌, option_and_then, option_copied, option_map, string_bytes};
+ghost use Rattle.std.specs.Prelude.{◌≡◌, Some, option_and_then, option_copied, option_map, string_bytes};
 ghost use Rattle.toml.specs.Data.{as_str, as_table, get_member};
 ghost use Rattle.toml.specs.View.{table_view, view};
 ghost use Rattle.conf_table.specs.Table.{has_place, members_at, members_in};
+ghost use Rattle.conf_table.specs.Values.{number_or};
 ghost use Rattle.conf_table.specs.Views.{table_members};
 
 use crate::table::Place;
@@ -45,6 +46,7 @@ pub fn table_at(document: &Table, place: Place) -> Option<&Table>
 {
     match place {
         Place::Top => Some(document),
+        Place::Policy => table_in(document, "policy"),
         Place::Sign => table_in(document, "sign"),
     }
 }
@@ -68,5 +70,26 @@ pub fn text_at<'d>(document: &'d Table, place: Place, name: &str) -> Option<&'d 
     match value_at(document, place, name) {
         None => None,
         Some(value) => value.as_str(),
+    }
+}
+
+fn number_of(value: &Value, other: u64) -> u64
+    ensures { result ≡ number_or other (Some (view value.now)) }
+{
+    match value.as_integer() {
+        None => other,
+        Some(number) if number >= 0 => number as u64,
+        Some(_) => 0,
+    }
+}
+
+/// The number of that name at the place, or else the other. A negative one counts as 0.
+pub fn number_or(document: &Table, place: Place, name: &str, other: u64) -> u64
+    ensures { result
+        ≡ number_or other (get_member name.now (members_at (table_view document.now) place)) }
+{
+    match value_at(document, place, name) {
+        None => other,
+        Some(value) => number_of(value, other),
     }
 }

@@ -16,7 +16,10 @@ mod document;
 mod limits;
 mod table;
 
-pub use allowed::{has_type, is_allowed, is_keyid, kind_of_word};
-pub use document::{member, table_at, table_in, text_at, text_in, value_at};
-pub use limits::{MAX_EXPIRES_AFTER, MAX_KEY_BYTES, MAX_KEYID_BYTES};
+pub use allowed::{clashes, has_type, is_allowed, is_keyid, kind_of_word};
+pub use document::{member, number_or, table_at, table_in, text_at, text_in, value_at};
+pub use limits::{
+    DEFAULT_MAX_AGE, DEFAULT_SKEW, MAX_AGE, MAX_EXPIRES_AFTER, MAX_KEY_BYTES, MAX_KEYID_BYTES,
+    MAX_NONCES, MAX_SKEW, MAX_WINDOW,
+};
 pub use table::{PLACES, Place, ROWS, Row, Rule, is_known};

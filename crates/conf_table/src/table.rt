@@ -11,6 +11,8 @@ ghost use Rattle.conf_table.specs.TableRows.{is_key_at, row_of};
 pub enum Place {
     /// The document itself.
     Top,
+    /// The table `policy`.
+    Policy,
     /// The table `sign`.
     Sign,
 }
@@ -42,6 +44,18 @@ pub enum Rule {
     Tag,
     /// `none`, `sha-256` or `sha-512`.
     Digest,
+    /// Seconds, at least one, at most a day together with twice the skew.
+    MaxAge,
+    /// Seconds, at most an hour.
+    Skew,
+    /// How many nonces, at least one and at most `MAX_NONCES`.
+    Nonces,
+    /// `optional` or `require`.
+    Expires,
+    /// `ignore`, `check` or `require`.
+    NonceUse,
+    /// `ignore`, `content` or `always`.
+    DigestUse,
 }
 
 /// A key.
@@ -60,12 +74,82 @@ pub struct Row {
 }
 
 /// The keys, in the order of their paths' bytes.
-pub const ROWS: [Row; 13] = [
+pub const ROWS: [Row; 23] = [
     Row {
         path: "keys",
         place: Place::Top,
         key: "keys",
         rule: Rule::Keys,
+        required: false,
+    },
+    Row {
+        path: "policy",
+        place: Place::Top,
+        key: "policy",
+        rule: Rule::Table,
+        required: false,
+    },
+    Row {
+        path: "policy.digest",
+        place: Place::Policy,
+        key: "digest",
+        rule: Rule::DigestUse,
+        required: false,
+    },
+    Row {
+        path: "policy.expires",
+        place: Place::Policy,
+        key: "expires",
+        rule: Rule::Expires,
+        required: false,
+    },
+    Row {
+        path: "policy.max-age",
+        place: Place::Policy,
+        key: "max-age",
+        rule: Rule::MaxAge,
+        required: false,
+    },
+    Row {
+        path: "policy.nonce",
+        place: Place::Policy,
+        key: "nonce",
+        rule: Rule::NonceUse,
+        required: false,
+    },
+    Row {
+        path: "policy.nonces",
+        place: Place::Policy,
+        key: "nonces",
+        rule: Rule::Nonces,
+        required: false,
+    },
+    Row {
+        path: "policy.require-request",
+        place: Place::Policy,
+        key: "require-request",
+        rule: Rule::Components,
+        required: false,
+    },
+    Row {
+        path: "policy.require-response",
+        place: Place::Policy,
+        key: "require-response",
+        rule: Rule::Components,
+        required: false,
+    },
+    Row {
+        path: "policy.skew",
+        place: Place::Policy,
+        key: "skew",
+        rule: Rule::Skew,
+        required: false,
+    },
+    Row {
+        path: "policy.tag",
+        place: Place::Policy,
+        key: "tag",
+        rule: Rule::Tag,
         required: false,
     },
     Row {
@@ -155,7 +239,7 @@ pub const ROWS: [Row; 13] = [
 ];
 
 /// The tables whose keys are fixed, in the order of their paths' bytes.
-pub const PLACES: [Place; 2] = [Place::Sign, Place::Top];
+pub const PLACES: [Place; 3] = [Place::Policy, Place::Sign, Place::Top];
 
 impl Place {
     /// Its path in faults.
@@ -163,6 +247,7 @@ impl Place {
         ensures { result.now ≡ place_path self }
     {
         match self {
+            Place::Policy => "policy",
             Place::Sign => "sign",
             Place::Top => "top",
         }
@@ -173,7 +258,7 @@ impl Place {
     {
         matches!(
             (self, other),
-            (Place::Sign, Place::Sign) | (Place::Top, Place::Top)
+            (Place::Policy, Place::Policy) | (Place::Sign, Place::Sign) | (Place::Top, Place::Top)
         )
     }
 }

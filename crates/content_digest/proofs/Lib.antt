@@ -1,3 +1,3 @@
 mod Bytes
-mod DigestLaws
+pub mod DigestLaws
 mod Judged

@@ -11,7 +11,8 @@ use Rattle.byte_grammar.proofs.Indices.{some_and}
 use Rattle.hms_io.specs.Files.{FileMap, HasFile, HasLongerFile, HasNoFile}
 use Rattle.hms_io.specs.declared.whole_file.FileError.{FileError}
 use Rattle.hms_io.specs.declared.whole_file.FileError.TheVariants as file
-use Rattle.conf.specs.Meaning.{Configuration, Configures}
+use Rattle.conf.specs.Configuration.{Configuration}
+use Rattle.conf.specs.Meaning.{Configures}
 use Rattle.conf.specs.Refusals.{IsConfFault}
 use Rattle.conf.specs.declared.fault.ConfFault.{ConfFault}
 use Rattle.conf.specs.declared.fault.ConfFault.TheVariants as fault

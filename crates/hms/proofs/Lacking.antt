@@ -6,7 +6,7 @@ use Rattle.byte_grammar.specs.Causes.{AnswersWhere}
 use Rattle.byte_grammar.proofs.Indices.{some_and, some_and_parts}
 use Rattle.component_ids.specs.Identifiers.{id_text}
 use Rattle.msg_body.specs.Messages.{Message}
-use Rattle.conf.specs.Meaning.{Configuration}
+use Rattle.conf.specs.Configuration.{Configuration}
 use Rattle.component_ids.specs.declared.id.ComponentId.{ComponentId}
 use Rattle.component_ids.specs.declared.params.SigParams.{SigParams}
 use Rattle.derived_values.specs.declared.lack.Lack.{Lack}

@@ -5,7 +5,8 @@ use Rattle.std.specs.FinMap as map
 use Rattle.hms_io.specs.Files.{FileMap}
 use Rattle.command_line.specs.Command.{CommandLine, Base, Verify, conf_of}
 use Rattle.msg_body.specs.Messages.{Message}
-use Rattle.conf.specs.Meaning.{Configuration, Configures}
+use Rattle.conf.specs.Configuration.{Configuration}
+use Rattle.conf.specs.Meaning.{Configures}
 use Rattle.conf.specs.Refusals.{IsConfFault}
 use Rattle.conf.specs.declared.fault.ConfFault.{ConfFault}
 use Rattle.component_ids.specs.declared.params.SigParams.{SigParams}
@@ -81,22 +82,22 @@ labels_one None message a b is also =
     is.2 ∙ (ap or_no_label (one_list_of_labels message is.0 also.0 is.1 also.1) ∙ sym also.2)
 labels_one (Some label) message a b is also = is ∙ sym also
 
-verdicts_one : (conf : Configuration) (message : Message) (labels : List (List ℕ)) (a b : List Verdict) → AreVerdicts conf message labels a → AreVerdicts conf message labels b → a ≡ b
-verdicts_one conf message [] [] [] is also = refl
-verdicts_one conf message [] [] (w ∷ ws) is also = absurd also
-verdicts_one conf message [] (v ∷ vs) b is also = absurd is
-verdicts_one conf message (l ∷ ls) [] b is also = absurd is
-verdicts_one conf message (l ∷ ls) (v ∷ vs) [] is also = absurd also
-verdicts_one conf message (l ∷ ls) (v ∷ vs) (w ∷ ws) is also =
-    let same = one_verdict (verification_for conf message l) v w is.0 also.0 in
-    let rest = verdicts_one conf message ls vs ws is.1 also.1 in
+verdicts_one : (conf : Configuration) (moment : ℕ) (message : Message) (labels : List (List ℕ)) (a b : List Verdict) → AreVerdicts conf moment message labels a → AreVerdicts conf moment message labels b → a ≡ b
+verdicts_one conf moment message [] [] [] is also = refl
+verdicts_one conf moment message [] [] (w ∷ ws) is also = absurd also
+verdicts_one conf moment message [] (v ∷ vs) b is also = absurd is
+verdicts_one conf moment message (l ∷ ls) [] b is also = absurd is
+verdicts_one conf moment message (l ∷ ls) (v ∷ vs) [] is also = absurd also
+verdicts_one conf moment message (l ∷ ls) (v ∷ vs) (w ∷ ws) is also =
+    let same = one_verdict (verification_for conf moment message l) v w is.0 also.0 in
+    let rest = verdicts_one conf moment message ls vs ws is.1 also.1 in
     λ i. same i ∷ rest i
 
-one_of_verdicts : (label : Option (List ℕ)) (conf : Configuration) (message : Message) → HasOne (ReportsVerdicts label conf message)
-one_of_verdicts label conf message one other a b =
+one_of_verdicts : (label : Option (List ℕ)) (moment : ℕ) (conf : Configuration) (message : Message) → HasOne (ReportsVerdicts label moment conf message)
+one_of_verdicts label moment conf message one other a b =
     let labels : a.labels ≡ b.labels = labels_one label message a.labels b.labels a.asked b.asked in
     let verdicts : a.verdicts ≡ b.verdicts =
-    verdicts_one conf message b.labels a.verdicts b.verdicts (subst (λ (ls : List (List ℕ)). AreVerdicts conf message ls a.verdicts) labels a.are) b.are in
+    verdicts_one conf moment message b.labels a.verdicts b.verdicts (subst (λ (ls : List (List ℕ)). AreVerdicts conf moment message ls a.verdicts) labels a.are) b.are in
     a.outcome_is ∙ ((λ i. verdicts_outcome (labels i) (verdicts i)) ∙ sym b.outcome_is)
 
 -- ---- all
@@ -110,7 +111,7 @@ one_of_base params conf message = one_of_layers _ _ _ _ (params_decided params) 
 
 one_of_command : (command : CommandLine) (conf : Configuration) (message : Message) → HasOne (ReportsCommand command conf message)
 one_of_command (Base params file) conf message = one_of_base params conf message
-one_of_command (Verify file now label) conf message = one_of_verdicts label conf message
+one_of_command (Verify file now label) conf message = one_of_verdicts label now conf message
 
 one_of_input : (command : CommandLine) (conf : Configuration) (input : List ℕ) → HasOne (ReportsInput command conf input)
 one_of_input command conf input = one_of_layers _ _ _ _ (input_decided input) (λ message _. one_of_command command conf message)

@@ -6,7 +6,7 @@ use Rattle.hms_io.specs.Files.{FileMap}
 use Rattle.hms_io.specs.declared.status.Status.{Status}
 use Rattle.hms_io.specs.declared.status.Status.TheVariants.{Done as Success, NotOk as Failure, BadArguments, BadInput, ReadFault, WriteFault, OutOfMemory, BadConf, LimitPassed, FileMissing}
 use Rattle.command_line.specs.Command.{CommandLine, IsCommand, NoCommand, conf_of}
-use Rattle.conf.specs.Meaning.{Configuration}
+use Rattle.conf.specs.Configuration.{Configuration}
 use Rattle.hms.specs.Configured.{IsConfigured, IsConfRefused}
 use Rattle.output_lines.specs.Laws.{IsOfRefusal}
 use Rattle.output_lines.specs.Refusal.{refusal_status}

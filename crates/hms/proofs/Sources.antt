@@ -9,7 +9,7 @@ use Rattle.hms_io.specs.declared.read_write.FillError.{FillError}
 use Rattle.hms_io.specs.declared.read_write.FillError.TheVariants.{Memory as NoFillMemory, Failed, TooLong as Longer}
 use Rattle.command_line.specs.Command.{CommandLine, Base, Verify}
 use Rattle.msg_body.specs.Messages.{Message}
-use Rattle.conf.specs.Meaning.{Configuration}
+use Rattle.conf.specs.Configuration.{Configuration}
 use Rattle.verdicts.specs.declared.outcome.Verdict.{Verdict}
 use Rattle.hms.specs.Messages.{IsInputRefused}
 use Rattle.hms.specs.Verify.{is_accepted, verdicts_outcome}

@@ -13,7 +13,7 @@ use Rattle.msg_body.specs.Messages.{Message}
 use Rattle.component_values.specs.Context.{MessageContext}
 use Rattle.component_values.specs.Values.{HaveValues, IsFirstLack}
 use Rattle.sig_base.specs.SignatureBase.{signature_base}
-use Rattle.conf.specs.Meaning.{Configuration}
+use Rattle.conf.specs.Configuration.{Configuration}
 use Rattle.hms.specs.Covered.{ReadsParams}
 use Rattle.hms.specs.Layers.{ReadsThen}
 use Rattle.output_lines.specs.declared.refusal.Refusal.TheVariants.{Command}

@@ -2,7 +2,8 @@
 use Rattle.std.specs.Prelude.{◌≡◌, ◌<◌, ◌≤◌, ℕ, List, [], length, Option, Some, None, IsSomeAnd}
 use Rattle.std.specs.FinMap as map
 use Rattle.hms_io.specs.Files.{FileMap}
-use Rattle.conf.specs.Meaning.{Configuration, Configures}
+use Rattle.conf.specs.Configuration.{Configuration}
+use Rattle.conf.specs.Meaning.{Configures}
 use Rattle.conf.specs.Refusals.{IsConfFault}
 use Rattle.output_lines.specs.declared.refusal.TheConstants.{MAX_CONF_BYTES}
 use Rattle.output_lines.specs.declared.refusal.ConfRefusal.{ConfRefusal}

@@ -8,7 +8,7 @@ use Rattle.hms_io.specs.declared.status.Status.{Status}
 use Rattle.hms_io.specs.declared.status.Status.TheVariants.{ReadFault, WriteFault, OutOfMemory}
 use Rattle.command_line.specs.Command.{CommandLine, Base, Verify, IsCommand, NoCommand, conf_of}
 use Rattle.msg_body.specs.Messages.{Message}
-use Rattle.conf.specs.Meaning.{Configuration}
+use Rattle.conf.specs.Configuration.{Configuration}
 use Rattle.hms.specs.Base.{ReportsBase}
 use Rattle.hms.specs.Configured.{IsConfigured, IsConfRefused}
 use Rattle.hms.specs.Layers.{ReadsThen}
@@ -24,7 +24,7 @@ use Rattle.hms.specs.declared.outcome.Outcome.TheVariants.{Refused}
 -- what a command comes to over its configuration and its message
 abbrev pub ReportsCommand : CommandLine → Configuration → Message → Outcome → Type 0
 ReportsCommand (Base params file) conf message = ReportsBase params conf message
-ReportsCommand (Verify file now label) conf message = ReportsVerdicts label conf message
+ReportsCommand (Verify file now label) conf message = ReportsVerdicts label now conf message
 
 -- what it comes to over an input, which is read as a message
 abbrev pub ReportsInput : CommandLine → Configuration → List ℕ → Outcome → Type 0

@@ -2,7 +2,7 @@
 use Rattle.std.specs.Prelude.{◌≡◌, ⊤, ℕ, Bool, true, false, List, [], ◌∷◌, codes, Option, Some, None, if◌then◌else◌}
 use Rattle.std.specs.List.{list_all, flat_map, zip}
 use Rattle.msg_body.specs.Messages.{Message}
-use Rattle.conf.specs.Meaning.{Configuration}
+use Rattle.conf.specs.Configuration.{Configuration}
 use Rattle.verdicts.specs.Rules.{Verification}
 use Rattle.verdicts.specs.Signatures.{AreLabels}
 use Rattle.verdicts.specs.Verdicts.{IsVerdict}
@@ -27,20 +27,23 @@ AreAsked (Some label) message labels = labels ≡ label ∷ []
 AreAsked None message labels =
     (found : List (List ℕ)) × AreLabels message found × (labels ≡ or_no_label found)
 
-abbrev pub verification_for : Configuration → Message → List ℕ → Verification
-verification_for conf message label = record {
+-- at this moment; no nonce is remembered
+abbrev pub verification_for : Configuration → ℕ → Message → List ℕ → Verification
+verification_for conf moment message label = record {
   context = context_for conf message;
   label = label;
   conf = conf;
+  now = moment;
+  seen = None;
 }
 
 -- each label has its verdict
-abbrev pub AreVerdicts : Configuration → Message → List (List ℕ) → List Verdict → Type 0
-AreVerdicts conf message [] [] = ⊤
-AreVerdicts conf message (label ∷ labels) (verdict ∷ verdicts) =
-    IsVerdict (verification_for conf message label) verdict
-    × AreVerdicts conf message labels verdicts
-AreVerdicts conf message labels verdicts = ⊥
+abbrev pub AreVerdicts : Configuration → ℕ → Message → List (List ℕ) → List Verdict → Type 0
+AreVerdicts conf moment message [] [] = ⊤
+AreVerdicts conf moment message (label ∷ labels) (verdict ∷ verdicts) =
+    IsVerdict (verification_for conf moment message label) verdict
+    × AreVerdicts conf moment message labels verdicts
+AreVerdicts conf moment message labels verdicts = ⊥
 
 abbrev pub is_accepted : Verdict → Bool
 is_accepted (Accepted keyid) = true
@@ -57,10 +60,10 @@ verdicts_outcome labels verdicts =
     else NotOk (verdict_lines labels verdicts)
 
 -- each label that is asked for has its line
-pub record ReportsVerdicts (label : Option (List ℕ)) (conf : Configuration) (message : Message)
-    (outcome : Outcome) : Type 0 where
+pub record ReportsVerdicts (label : Option (List ℕ)) (moment : ℕ) (conf : Configuration)
+    (message : Message) (outcome : Outcome) : Type 0 where
   pub labels : List (List ℕ)
   pub asked : AreAsked label message labels
   pub verdicts : List Verdict
-  pub are : AreVerdicts conf message labels verdicts
+  pub are : AreVerdicts conf moment message labels verdicts
   pub outcome_is : outcome ≡ verdicts_outcome labels verdicts

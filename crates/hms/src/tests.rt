@@ -346,7 +346,6 @@ fn signatures_that_are_not_ok(rt: HostRuntime) -> Result<(), Fail> {
     let parts = [REQUEST, LENGTH, INPUT, CONTENT];
     assert_not_ok(&rt, &parts, b"sig-b25 rule 3 signature-absent\n")?;
     assert_not_ok(&rt, &[REQUEST, LENGTH, CONTENT], b"- rule 1 input-absent\n")?;
-    // a second label, which nobody signed
     let twice = b"Signature-Input: z=()\r\n\
 Signature: sig-b25=:pxcQw6G3AjtMBQjwo8XzkZf/bws5LelbaMk5rGIGtE8=:\r\n";
     let lines = b"sig-b25 ok\nz rule 6 label-not-in-signature\n";
@@ -363,7 +362,8 @@ fn labels_are_told_by_their_first_failing_rule(rt: HostRuntime) -> Result<(), Fa
     let fields = b"Signature-Input: a=();keyid=\"test-shared-secret\";alg=\"x\"\r\n";
     let line = b"a rule 14 alg-unknown \"x\"\n";
     assert_not_ok(&rt, &[start, fields, end], line)?;
-    let fields = b"Signature-Input: d=(\"x\");keyid=\"test-shared-secret\", c=(\"X\"), \
+    let fields = b"Signature-Input: \
+d=(\"x\");created=1618884473;keyid=\"test-shared-secret\", c=(\"X\"), \
 b=(\"x\" \"x\"), a=();tag=1\r\n";
     let lines = b"d rule 27 absent \"x\"\n\
 c rule 10 component-bad 0 name\n\
@@ -391,19 +391,18 @@ fn refusals_are_judged_in_their_order(rt: HostRuntime) -> Result<(), Fail> {
     let twice = ["verify", "--conf", "c", "--now", "1", "--now", "2"];
     assert_conf_refused(&rt, &twice, bad, Status::BadArguments, b"words")?;
     let other = ["verify", "--conf", "d", "--now", "1"];
-    let missing = b"conf missing";
-    assert_conf_refused(&rt, &other, bad, Status::FileMissing, missing)?;
+    assert_conf_refused(&rt, &other, bad, Status::FileMissing, b"conf missing")?;
     let cause = b"conf 4 keys";
     assert_conf_refused(&rt, &VERIFY, bad, Status::BadConf, cause)?;
     let base = ["base", "(", "--conf", "c"];
     assert_conf_refused(&rt, &base, bad, Status::BadConf, cause)?;
-    assert_conf_refused(&rt, &VERIFY, b"=", Status::BadConf, b"conf 2")
+    let age = b"[policy]\nmax-age = 0";
+    assert_conf_refused(&rt, &VERIFY, age, Status::BadConf, b"conf 5 policy.max-age")
 }
 
 #[test]
 fn longest_configuration_and_one_byte_more(rt: HostRuntime) -> Result<(), Fail> {
     let mut lines = vec![in rt.alloc(); b'\n'; 65_536]?;
-    // it is accepted, so the input is judged
     let cause = b"input truncated 0";
     assert_conf_refused(&rt, &VERIFY, &lines, Status::BadInput, cause)?;
     lines.push(b'\n')?;

@@ -1,6 +1,6 @@
 //! The command `verify`: the verdicts on a message's labels (RFC 9421 section 3.2).
 
-ghost use Rattle.std.specs.Prelude.{◌≡◌, ◌≤◌, [], ◌∷◌, option_map, IfOk};
+ghost use Rattle.std.specs.Prelude.{◌≡◌, ◌≤◌, ◌<◌, [], ◌∷◌, None, option_map, IfOk};
 ghost use Rattle.msg_body.specs.Views.{message_of};
 ghost use Rattle.conf.specs.ConfMeaning.{meaning};
 ghost use Rattle.verdicts.specs.Verdicts.{verification_of};
@@ -11,25 +11,30 @@ use crate::outcome::Outcome;
 use component_values::Context;
 use conf::Conf;
 use msg_body::MessageView;
+use nonces::Steps;
 use output_lines::append_verdict_line;
 use sfv_text::{Memory, Text};
 use std::alloc::Global;
+use std::marker::Brand;
+use std::sync::ledger::{Blank, Ledger};
 use verdicts::{Labels, MAX_MOMENT, Verdict, labels_of, verdict};
 
 /// Judges the label and adds its line. It answers whether the label is accepted.
-fn write_verdict(
+fn write_verdict<L: Ledger>(
     alloc: Global,
     context: &Context<'_, '_>,
     label: &[u8],
     conf: &Conf,
     now: u64,
     lines: &mut Text,
+    steps: &mut Steps<L>,
 ) -> Result<bool, Memory>
     requires { now ≤ MAX_MOMENT }
-    ensures { IfOk result (WritesVerdict (verification_of context.now label.now (meaning conf.now))
+    ensures { IfOk result (WritesVerdict
+        (verification_of context.now label.now (meaning conf.now) now None)
         label.now lines.old lines.new) }
 {
-    let verdict = verdict(alloc, context, label, conf, now)?;
+    let verdict = verdict(alloc, context, label, conf, now, None, steps)?;
     append_verdict_line(alloc, label, &verdict, lines)?;
     Ok(match verdict {
         Verdict::Ok { .. } => true,
@@ -37,23 +42,36 @@ fn write_verdict(
     })
 }
 
-/// The lines of the labels, in order.
-fn write_verdicts(
+/// The lines of the labels, in order. Steps are counted and the count is let go.
+fn write_verdicts<L: Ledger>(
     alloc: Global,
     conf: &Conf,
     now: u64,
     message: &MessageView<'_>,
     labels: &[Text],
+    blank: Blank,
 ) -> Result<Outcome, Memory>
-    requires { now ≤ MAX_MOMENT }
+    requires now { now ≤ MAX_MOMENT }
+    requires name { blank.name ≡ L.name }
+    requires parts { blank.parts ≡ L.parts }
+    requires some { 0 < blank.parts }
     ensures { IfOk result
-        (ReportsLabels (meaning conf.now) (message_of message.now) labels.now) }
+        (ReportsLabels (meaning conf.now) now (message_of message.now) labels.now) }
 {
+    let mut steps: Steps<L> = Steps::new(blank);
     let context = Context::of_message(message, conf.scheme(), conf.types());
     let mut lines = Text::new(alloc);
     let mut all_accepted = true;
     for label in labels {
-        let is_accepted = write_verdict(alloc, &context, label.bytes(), conf, now, &mut lines)?;
+        let is_accepted = write_verdict(
+            alloc,
+            &context,
+            label.bytes(),
+            conf,
+            now,
+            &mut lines,
+            &mut steps,
+        )?;
         all_accepted &= is_accepted;
     }
     Ok(if all_accepted {
@@ -101,8 +119,8 @@ pub fn verify(
 ) -> Result<Outcome, Memory>
     requires { now ≤ MAX_MOMENT }
     ensures { IfOk result (ReportsVerdicts (option_map (λ word. word.now) label.entry)
-        (meaning conf.now) (message_of message.now)) }
+        now (meaning conf.now) (message_of message.now)) }
 {
     let labels = asked_labels(alloc, label, message)?;
-    write_verdicts(alloc, conf, now, message, labels.as_slice())
+    write_verdicts::<Brand>(alloc, conf, now, message, labels.as_slice(), Blank::new(1))
 }

@@ -4,11 +4,11 @@ use Rattle.std.specs.Fmt.{decimal}
 use Rattle.std.specs.Str.{byte}
 use Rattle.component_ids.specs.Identifiers.{id_text}
 use Rattle.component_ids.specs.Reasons.{word_of}
-use Rattle.verdicts.specs.Words.{rule_number, rule_word}
+use Rattle.verdicts.specs.Words.{rule_number, rule_word, reason_word}
 use Rattle.verdicts.specs.declared.outcome.Verdict.{Verdict}
 use Rattle.verdicts.specs.declared.outcome.Verdict.TheVariants.{Ok as Accepted, Rule as Failing}
 use Rattle.verdicts.specs.declared.place.Place.{Place}
-use Rattle.verdicts.specs.declared.place.Place.TheVariants.{None as Nowhere, Index, Component, Name, Identifier}
+use Rattle.verdicts.specs.declared.place.Place.TheVariants.{None as Nowhere, Index, Component, Name, Identifier, Digest}
 
 -- where a rule fails, after a space
 abbrev pub place_text : Place → List ℕ
@@ -17,6 +17,7 @@ place_text (Index index) = byte " " ∷ decimal index
 place_text (Component index reason) = byte " " ∷ (decimal index ++ byte " " ∷ word_of reason)
 place_text (Name text) = byte " " ∷ text
 place_text (Identifier id) = byte " " ∷ id_text id
+place_text (Digest reason) = byte " " ∷ reason_word reason
 
 abbrev pub verdict_text : Verdict → List ℕ
 verdict_text (Accepted keyid) = codes "ok"

@@ -24,6 +24,7 @@ fn append_place(alloc: Global, place: &Place, line: &mut Text) -> Result<(), Mem
             let text = print_id(alloc, id)?;
             append_words(b" ", text.bytes(), line)
         }
+        Place::Digest(reason) => append_words(b" ", reason.word().as_bytes(), line),
     }
 }
 

@@ -1,5 +1,5 @@
 -- The component at which a rule fails is in range.
-use Rattle.std.proofs.Common.{◌≡◌, ℕ, true, IsTrue, IsFalse, ◌∷◌, List, map, refl, sym, ◌∙◌}
+use Rattle.std.proofs.Common.{◌≡◌, ℕ, Bool, true, false, IsTrue, IsFalse, ◌∷◌, List, map, refl, sym, ◌∙◌}
 use Rattle.std.specs.List.{list_all, slice_get}
 use Rattle.std.specs.Option.{IsSomeAnd}
 use Rattle.std.proofs.lemmas.Bool.{and_parts}
@@ -19,15 +19,18 @@ use Rattle.component_ids.specs.declared.id.ComponentId.{ComponentId}
 use Rattle.component_ids.specs.declared.params.SigParams.{SigParams}
 use Rattle.derived_values.specs.declared.lack.Lack.{Lack}
 use Rattle.derived_values.specs.declared.lack.Lack.TheVariants as lack
-use Rattle.verdicts.specs.declared.outcome.Verdict.{Verdict}
-use Rattle.verdicts.specs.declared.outcome.Verdict.TheVariants.{Ok as Accepted, Rule as Refused}
+use Rattle.framing.specs.Framings.{is_request}
+use Rattle.conf_sections.specs.declared.policy.Policy.{Policy}
+use Rattle.conf_sections.specs.ValidSections.{IsValidPolicy}
+use Rattle.policy_rules.specs.Parameters.{alg_of}
+use Rattle.policy_rules.specs.PolicyRules.{required_ids}
 use Rattle.verdicts.specs.declared.place.Place.{Place}
 use Rattle.verdicts.specs.declared.place.Place.TheVariants.{Name, Identifier}
 use Rattle.verdicts.specs.declared.rule.Rule.{Rule}
-use Rattle.verdicts.specs.declared.rule.Rule.TheVariants.{InputAbsent, InputMalformed, SignatureAbsent, SignatureMalformed, LabelNotInInput, LabelNotInSignature, InputNotList, SignatureNotBytes, ComponentsMany, ComponentBad, ComponentRepeated, ParameterBad, AlgRefused, AlgUnknown, KeyidAbsent, KeyUnknown, Absent, Ambiguous, Underivable, Unreadable, NotAscii, MacMismatch}
+use Rattle.verdicts.specs.declared.rule.Rule.TheVariants.{InputAbsent, InputMalformed, SignatureAbsent, SignatureMalformed, LabelNotInInput, LabelNotInSignature, InputNotList, SignatureNotBytes, ComponentsMany, ComponentBad, ComponentRepeated, ParameterBad, AlgRefused, AlgUnknown, KeyidAbsent, KeyUnknown, ComponentRequired, CreatedAbsent, CreatedAhead, TooOld, ExpiresAbsent, Expired, TagWrong, NonceAbsent, NonceRepeated, NonceLong, Absent, Ambiguous, Underivable, Unreadable, NotAscii, MacMismatch, Digest, NoncesFull}
 use Rattle.verdicts.specs.Signatures.{input_name, HasSignature}
-use Rattle.verdicts.specs.Rules.{Verification, supported_algorithm, refused_algorithms, alg_of, FailsByLack, FailsToRead, Fails}
-use Rattle.verdicts.specs.Verdicts.{IsVerdict, is_place_in_range, is_verdict_in_range}
+use Rattle.verdicts.specs.Rules.{Verification, supported_algorithm, refused_algorithms, FailsByLack, FailsToRead, Fails}
+use Rattle.verdicts.specs.Verdicts.{is_place_in_range}
 use Rattle.verdicts.proofs.InRange.{inner_in_range}
 
 -- each component that a signature covers is in range
@@ -62,30 +65,49 @@ lack_place v how place fails =
     let at = some_and_parts (λ (id : ComponentId). place ≡ Identifier id) (slice_get fails.0.ids fails.3.0) fails.3.2 in
     rw at.2 (all_at is_id_in_range fails.0.ids fails.3.0 at.0 (ids_in_range v.context.message v.label fails.0 fails.1 fails.2) at.1)
 
-place_in_range : (v : Verification) (rule : Rule) (place : Place) → Fails v rule place → is_place_in_range place ≡ true
-place_in_range v InputAbsent place fails = reading_place v.context.message v.label InputAbsent place fails
-place_in_range v InputMalformed place fails = reading_place v.context.message v.label InputMalformed place fails
-place_in_range v SignatureAbsent place fails = reading_place v.context.message v.label SignatureAbsent place fails
-place_in_range v SignatureMalformed place fails = reading_place v.context.message v.label SignatureMalformed place fails
-place_in_range v LabelNotInInput place fails = reading_place v.context.message v.label LabelNotInInput place fails
-place_in_range v LabelNotInSignature place fails = reading_place v.context.message v.label LabelNotInSignature place fails
-place_in_range v InputNotList place fails = reading_place v.context.message v.label InputNotList place fails
-place_in_range v SignatureNotBytes place fails = reading_place v.context.message v.label SignatureNotBytes place fails
-place_in_range v ComponentsMany place fails = reading_place v.context.message v.label ComponentsMany place fails
-place_in_range v ComponentBad place fails = reading_place v.context.message v.label ComponentBad place fails
-place_in_range v ComponentRepeated place fails = reading_place v.context.message v.label ComponentRepeated place fails
-place_in_range v ParameterBad place fails = reading_place v.context.message v.label ParameterBad place fails
-place_in_range v AlgRefused place fails = name_place (λ alg. IsTrue (is_listed refused_algorithms alg)) (λ alg. alg) fails.0 place fails.3
-place_in_range v AlgUnknown place fails = name_place (λ alg. IsFalse (is_listed (supported_algorithm ∷ refused_algorithms) alg)) string_text fails.0 place fails.3
-place_in_range v KeyidAbsent place fails = rw fails.0 refl
-place_in_range v KeyUnknown place fails = rw fails.0 refl
-place_in_range v Absent place fails = lack_place v lack.Absent place fails
-place_in_range v Ambiguous place fails = lack_place v lack.Ambiguous place fails
-place_in_range v Underivable place fails = lack_place v lack.Underivable place fails
-place_in_range v Unreadable place fails = lack_place v lack.Unreadable place fails
-place_in_range v NotAscii place fails = lack_place v lack.NotAscii place fails
-place_in_range v MacMismatch place fails = rw fails.0 refl
+-- a required component is in range where the policy is valid
+required_in_range : (policy : Policy) (is_request : Bool) → IsValidPolicy policy → list_all is_id_in_range (required_ids policy is_request) ≡ true
+required_in_range policy true valid = valid.require_request.in_range
+required_in_range policy false valid = valid.require_response.in_range
 
-pub verdict_in_range : (v : Verification) (verdict : Verdict) → IsVerdict v verdict → is_verdict_in_range verdict ≡ true
-verdict_in_range v (Accepted keyid) is = refl
-verdict_in_range v (Refused rule place) is = place_in_range v rule place is.holds
+required_place : (v : Verification) → IsValidPolicy v.conf.policy → (place : Place) → Fails v ComponentRequired place → is_place_in_range place ≡ true
+required_place v valid place fails =
+    let first = fails.2.3 in
+    let is_asked = is_request v.context.message.head.start in
+    rw fails.1 (all_at is_id_in_range (required_ids v.conf.policy is_asked) first.index fails.0 (required_in_range v.conf.policy is_asked valid) first.there)
+
+pub place_in_range : (v : Verification) → IsValidPolicy v.conf.policy → (rule : Rule) (place : Place) → Fails v rule place → is_place_in_range place ≡ true
+place_in_range v valid InputAbsent place fails = reading_place v.context.message v.label InputAbsent place fails
+place_in_range v valid InputMalformed place fails = reading_place v.context.message v.label InputMalformed place fails
+place_in_range v valid SignatureAbsent place fails = reading_place v.context.message v.label SignatureAbsent place fails
+place_in_range v valid SignatureMalformed place fails = reading_place v.context.message v.label SignatureMalformed place fails
+place_in_range v valid LabelNotInInput place fails = reading_place v.context.message v.label LabelNotInInput place fails
+place_in_range v valid LabelNotInSignature place fails = reading_place v.context.message v.label LabelNotInSignature place fails
+place_in_range v valid InputNotList place fails = reading_place v.context.message v.label InputNotList place fails
+place_in_range v valid SignatureNotBytes place fails = reading_place v.context.message v.label SignatureNotBytes place fails
+place_in_range v valid ComponentsMany place fails = reading_place v.context.message v.label ComponentsMany place fails
+place_in_range v valid ComponentBad place fails = reading_place v.context.message v.label ComponentBad place fails
+place_in_range v valid ComponentRepeated place fails = reading_place v.context.message v.label ComponentRepeated place fails
+place_in_range v valid ParameterBad place fails = reading_place v.context.message v.label ParameterBad place fails
+place_in_range v valid AlgRefused place fails = name_place (λ alg. IsTrue (is_listed refused_algorithms alg)) (λ alg. alg) fails.0 place fails.3
+place_in_range v valid AlgUnknown place fails = name_place (λ alg. IsFalse (is_listed (supported_algorithm ∷ refused_algorithms) alg)) string_text fails.0 place fails.3
+place_in_range v valid KeyidAbsent place fails = rw fails.0 refl
+place_in_range v valid KeyUnknown place fails = rw fails.0 refl
+place_in_range v valid ComponentRequired place fails = required_place v valid place fails
+place_in_range v valid CreatedAbsent place fails = rw fails.0 refl
+place_in_range v valid CreatedAhead place fails = rw fails.0 refl
+place_in_range v valid TooOld place fails = rw fails.0 refl
+place_in_range v valid ExpiresAbsent place fails = rw fails.0 refl
+place_in_range v valid Expired place fails = rw fails.0 refl
+place_in_range v valid TagWrong place fails = rw fails.0 refl
+place_in_range v valid NonceAbsent place fails = rw fails.0 refl
+place_in_range v valid NonceRepeated place fails = rw fails.0 refl
+place_in_range v valid NonceLong place fails = rw fails.0 refl
+place_in_range v valid Absent place fails = lack_place v lack.Absent place fails
+place_in_range v valid Ambiguous place fails = lack_place v lack.Ambiguous place fails
+place_in_range v valid Underivable place fails = lack_place v lack.Underivable place fails
+place_in_range v valid Unreadable place fails = lack_place v lack.Unreadable place fails
+place_in_range v valid NotAscii place fails = lack_place v lack.NotAscii place fails
+place_in_range v valid MacMismatch place fails = rw fails.0 refl
+place_in_range v valid Digest place fails = rw fails.1 refl
+place_in_range v valid NoncesFull place fails = rw fails.0 refl

@@ -5,7 +5,7 @@ use Rattle.byte_grammar.specs.Causes.{IsFirst}
 use Rattle.byte_grammar.specs.tools.Determined.{AreDetermined}
 use Rattle.byte_grammar.proofs.CauseLaws.{first_is_one}
 use Rattle.verdicts.specs.declared.rule.Rule.{Rule}
-use Rattle.verdicts.specs.declared.rule.Rule.TheVariants.{InputAbsent, InputMalformed, SignatureAbsent, SignatureMalformed, LabelNotInInput, LabelNotInSignature, InputNotList, SignatureNotBytes, ComponentsMany, ComponentBad, ComponentRepeated, ParameterBad, AlgRefused, AlgUnknown, KeyidAbsent, KeyUnknown, Absent, Ambiguous, Underivable, Unreadable, NotAscii, MacMismatch}
+use Rattle.verdicts.specs.declared.rule.Rule.TheVariants.{InputAbsent, InputMalformed, SignatureAbsent, SignatureMalformed, LabelNotInInput, LabelNotInSignature, InputNotList, SignatureNotBytes, ComponentsMany, ComponentBad, ComponentRepeated, ParameterBad, AlgRefused, AlgUnknown, KeyidAbsent, KeyUnknown, ComponentRequired, CreatedAbsent, CreatedAhead, TooOld, ExpiresAbsent, Expired, TagWrong, NonceAbsent, NonceRepeated, NonceLong, Absent, Ambiguous, Underivable, Unreadable, NotAscii, MacMismatch, Digest, NoncesFull}
 use Rattle.verdicts.specs.declared.place.Place.{Place}
 use Rattle.verdicts.specs.Words.{rule_number}
 use Rattle.verdicts.specs.Rules.{Failure, failure_number, IsFirstFailure}
@@ -15,7 +15,7 @@ use Rattle.verdicts.specs.Rules.{Failure, failure_number, IsFirstFailure}
 -- by its number, the rule; what stands for no rule is never asked for
 abbrev rules : List Rule
 rules =
-    InputAbsent ∷ InputAbsent ∷ InputMalformed ∷ SignatureAbsent ∷ SignatureMalformed ∷ LabelNotInInput ∷ LabelNotInSignature ∷ InputNotList ∷ SignatureNotBytes ∷ ComponentsMany ∷ ComponentBad ∷ ComponentRepeated ∷ ParameterBad ∷ AlgRefused ∷ AlgUnknown ∷ KeyidAbsent ∷ KeyUnknown ∷ InputAbsent ∷ InputAbsent ∷ InputAbsent ∷ InputAbsent ∷ InputAbsent ∷ InputAbsent ∷ InputAbsent ∷ InputAbsent ∷ InputAbsent ∷ InputAbsent ∷ Absent ∷ Ambiguous ∷ Underivable ∷ Unreadable ∷ NotAscii ∷ MacMismatch ∷ []
+    InputAbsent ∷ InputAbsent ∷ InputMalformed ∷ SignatureAbsent ∷ SignatureMalformed ∷ LabelNotInInput ∷ LabelNotInSignature ∷ InputNotList ∷ SignatureNotBytes ∷ ComponentsMany ∷ ComponentBad ∷ ComponentRepeated ∷ ParameterBad ∷ AlgRefused ∷ AlgUnknown ∷ KeyidAbsent ∷ KeyUnknown ∷ ComponentRequired ∷ CreatedAbsent ∷ CreatedAhead ∷ TooOld ∷ ExpiresAbsent ∷ Expired ∷ TagWrong ∷ NonceAbsent ∷ NonceRepeated ∷ NonceLong ∷ Absent ∷ Ambiguous ∷ Underivable ∷ Unreadable ∷ NotAscii ∷ MacMismatch ∷ Digest ∷ NoncesFull ∷ []
 
 by_number : (rule : Rule) → get_or rules (rule_number rule) InputAbsent ≡ rule
 by_number InputAbsent = refl
@@ -34,12 +34,24 @@ by_number AlgRefused = refl
 by_number AlgUnknown = refl
 by_number KeyidAbsent = refl
 by_number KeyUnknown = refl
+by_number ComponentRequired = refl
+by_number CreatedAbsent = refl
+by_number CreatedAhead = refl
+by_number TooOld = refl
+by_number ExpiresAbsent = refl
+by_number Expired = refl
+by_number TagWrong = refl
+by_number NonceAbsent = refl
+by_number NonceRepeated = refl
+by_number NonceLong = refl
 by_number Absent = refl
 by_number Ambiguous = refl
 by_number Underivable = refl
 by_number Unreadable = refl
 by_number NotAscii = refl
 by_number MacMismatch = refl
+by_number Digest = refl
+by_number NoncesFull = refl
 
 pub one_rule : (rule other : Rule) → rule_number rule ≡ rule_number other → rule ≡ other
 one_rule rule other same = sym (by_number rule) ∙ (ap (λ (n : ℕ). get_or rules n InputAbsent) same ∙ by_number other)
@@ -61,14 +73,26 @@ least AlgRefused = lit≤ tt
 least AlgUnknown = lit≤ tt
 least KeyidAbsent = lit≤ tt
 least KeyUnknown = lit≤ tt
+least ComponentRequired = lit≤ tt
+least CreatedAbsent = lit≤ tt
+least CreatedAhead = lit≤ tt
+least TooOld = lit≤ tt
+least ExpiresAbsent = lit≤ tt
+least Expired = lit≤ tt
+least TagWrong = lit≤ tt
+least NonceAbsent = lit≤ tt
+least NonceRepeated = lit≤ tt
+least NonceLong = lit≤ tt
 least Absent = lit≤ tt
 least Ambiguous = lit≤ tt
 least Underivable = lit≤ tt
 least Unreadable = lit≤ tt
 least NotAscii = lit≤ tt
 least MacMismatch = lit≤ tt
+least Digest = lit≤ tt
+least NoncesFull = lit≤ tt
 
-pub most : (rule : Rule) → rule_number rule < 33
+pub most : (rule : Rule) → rule_number rule < 35
 most InputAbsent = lit< tt
 most InputMalformed = lit< tt
 most SignatureAbsent = lit< tt
@@ -85,37 +109,24 @@ most AlgRefused = lit< tt
 most AlgUnknown = lit< tt
 most KeyidAbsent = lit< tt
 most KeyUnknown = lit< tt
+most ComponentRequired = lit< tt
+most CreatedAbsent = lit< tt
+most CreatedAhead = lit< tt
+most TooOld = lit< tt
+most ExpiresAbsent = lit< tt
+most Expired = lit< tt
+most TagWrong = lit< tt
+most NonceAbsent = lit< tt
+most NonceRepeated = lit< tt
+most NonceLong = lit< tt
 most Absent = lit< tt
 most Ambiguous = lit< tt
 most Underivable = lit< tt
 most Unreadable = lit< tt
 most NotAscii = lit< tt
 most MacMismatch = lit< tt
-
--- no rule has a number from 17 to 26
-not_between : (rule : Rule) → rule_number rule < 27 → rule_number rule < 17
-not_between InputAbsent lt = lit< tt
-not_between InputMalformed lt = lit< tt
-not_between SignatureAbsent lt = lit< tt
-not_between SignatureMalformed lt = lit< tt
-not_between LabelNotInInput lt = lit< tt
-not_between LabelNotInSignature lt = lit< tt
-not_between InputNotList lt = lit< tt
-not_between SignatureNotBytes lt = lit< tt
-not_between ComponentsMany lt = lit< tt
-not_between ComponentBad lt = lit< tt
-not_between ComponentRepeated lt = lit< tt
-not_between ParameterBad lt = lit< tt
-not_between AlgRefused lt = lit< tt
-not_between AlgUnknown lt = lit< tt
-not_between KeyidAbsent lt = lit< tt
-not_between KeyUnknown lt = lit< tt
-not_between Absent lt = absurd (omega (arith, lt))
-not_between Ambiguous lt = absurd (omega (arith, lt))
-not_between Underivable lt = absurd (omega (arith, lt))
-not_between Unreadable lt = absurd (omega (arith, lt))
-not_between NotAscii lt = absurd (omega (arith, lt))
-not_between MacMismatch lt = absurd (omega (arith, lt))
+most Digest = lit< tt
+most NoncesFull = lit< tt
 
 -- ---- rules below a number
 
@@ -136,9 +147,6 @@ module _ (Table : Rule → Place → Type 0) where
       | inr more ↦ absurd (omega (arith, lt, more))
     ]
   ]
-
-  pub none_between : NoneBelow Table 17 → NoneBelow Table 27
-  none_between below rule place lt fails = below rule place (not_between rule lt) fails
 
   -- ---- the first that fails
 

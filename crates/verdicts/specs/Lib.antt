@@ -1,4 +1,5 @@
 pub mod Signatures
+pub mod ContentDigest
 pub mod Rules
 pub mod Verdicts
 pub mod Words

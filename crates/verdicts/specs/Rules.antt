@@ -1,7 +1,7 @@
 -- The rules that a label is judged by, as a table: a rule fails so, with this place, exactly where
 -- its row holds (RFC 9421 sections 3.2, 4.1 and 4.2). A row that speaks of what an earlier failure
 -- leaves undefined holds only where the earlier rule doesn't fail.
-use Rattle.std.specs.Prelude.{◌≡◌, ℕ, IsTrue, IsFalse, Option, Some, None, option_and_then, List, [], ◌∷◌, slice_get, IsSomeAnd, codes}
+use Rattle.std.specs.Prelude.{◌≡◌, ℕ, Bool, IsTrue, IsFalse, Option, Some, None, List, [], ◌∷◌, slice_get, IsSomeAnd, codes}
 use Rattle.std.specs.FinMap as map
 use Rattle.byte_grammar.specs.Causes.{IsFirst}
 use Rattle.sfv_text.specs.Keys.{value_of}
@@ -11,25 +11,34 @@ use Rattle.sfv_text.specs.declared.value.Item.{Item}
 use Rattle.sfv_text.specs.declared.value.InnerList.{InnerList}
 use Rattle.sfv_text.specs.declared.value.Member.{Member}
 use Rattle.sfv_text.specs.declared.value.Member.TheVariants.{Item as ItemMember, InnerList as InnerMember}
+use Rattle.framing.specs.Framings.{is_request}
 use Rattle.msg_body.specs.Messages.{Message}
+use Rattle.msg_body.specs.Views.{message_content}
 use Rattle.component_ids.specs.Causes.{IsCause}
 use Rattle.component_ids.specs.Table.{is_listed}
 use Rattle.component_ids.specs.declared.fault.BadReason.{BadReason}
 use Rattle.component_ids.specs.declared.fault.IdFault.{IdFault}
 use Rattle.component_ids.specs.declared.fault.IdFault.TheVariants.{TooMany, BadComponent, Repeated, BadParameter}
 use Rattle.component_ids.specs.declared.params.SigParams.{SigParams}
-use Rattle.derived_values.specs.Derived.{string_in}
+use Rattle.component_ids.specs.declared.id.ComponentId.{ComponentId}
 use Rattle.derived_values.specs.declared.lack.Lack.{Lack}
 use Rattle.derived_values.specs.declared.lack.Lack.TheVariants as lack
 use Rattle.component_values.specs.Context.{MessageContext}
 use Rattle.component_values.specs.Values.{HaveValues, IsFirstLack}
 use Rattle.sig_base.specs.SignatureBase.{signature_base}
 use Rattle.hmac_sha256.specs.Hmac.{hmac}
-use Rattle.conf.specs.Meaning.{Configuration}
+use Rattle.conf.specs.Configuration.{Configuration}
+use Rattle.nonces.specs.Books.{Book}
+use Rattle.policy_rules.specs.declared.fault.PolicyFault.{PolicyFault}
+use Rattle.policy_rules.specs.declared.fault.PolicyFault.TheVariants as policy
+use Rattle.policy_rules.specs.Parameters.{alg_of, keyid_of}
+use Rattle.policy_rules.specs.PolicyRules.{PolicyCheck, policy_check, FailsPolicy, LacksRoom}
 use Rattle.verdicts.specs.declared.rule.Rule.{Rule}
-use Rattle.verdicts.specs.declared.rule.Rule.TheVariants.{InputAbsent, InputMalformed, SignatureAbsent, SignatureMalformed, LabelNotInInput, LabelNotInSignature, InputNotList, SignatureNotBytes, ComponentsMany, ComponentBad, ComponentRepeated, ParameterBad, AlgRefused, AlgUnknown, KeyidAbsent, KeyUnknown, Absent, Ambiguous, Underivable, Unreadable, NotAscii, MacMismatch}
+use Rattle.verdicts.specs.declared.rule.Rule.TheVariants.{InputAbsent, InputMalformed, SignatureAbsent, SignatureMalformed, LabelNotInInput, LabelNotInSignature, InputNotList, SignatureNotBytes, ComponentsMany, ComponentBad, ComponentRepeated, ParameterBad, AlgRefused, AlgUnknown, KeyidAbsent, KeyUnknown, ComponentRequired, CreatedAbsent, CreatedAhead, TooOld, ExpiresAbsent, Expired, TagWrong, NonceAbsent, NonceRepeated, NonceLong, Absent, Ambiguous, Underivable, Unreadable, NotAscii, MacMismatch, Digest, NoncesFull}
+use Rattle.verdicts.specs.declared.place.DigestReason.{DigestReason}
 use Rattle.verdicts.specs.declared.place.Place.{Place}
-use Rattle.verdicts.specs.declared.place.Place.TheVariants.{None as Nowhere, Index, Component, Name, Identifier}
+use Rattle.verdicts.specs.declared.place.Place.TheVariants.{None as Nowhere, Index, Component, Name, Identifier, Digest as DigestPlace}
+use Rattle.verdicts.specs.ContentDigest.{asks_digest, LacksDigest}
 use Rattle.verdicts.specs.Signatures.{input_name, signature_name, tag_in, HasField, HasDict, HasMember, HasSignature}
 use Rattle.verdicts.specs.Words.{rule_number}
 
@@ -75,11 +84,14 @@ FailsToRead message label rule place = ⊥
 
 -- ---- all rules
 
--- what a label is judged by: what the values of components are drawn from, and the configuration
+-- what a label is judged by: what the values of components are drawn from, the configuration, the
+-- moment in seconds since the epoch, and the nonces that were seen, where they are remembered
 pub record Verification : Type 0 where
   pub context : MessageContext
   pub label : List ℕ
   pub conf : Configuration
+  pub now : ℕ
+  pub seen : Option Book
 
 -- the key that is configured for the `keyid`
 abbrev pub key_in : Configuration → List ℕ → Option (List ℕ)
@@ -95,16 +107,6 @@ refused_algorithms =
     codes "rsa-pss-sha512" ∷ codes "rsa-v1_5-sha256" ∷ codes "ecdsa-p256-sha256"
     ∷ codes "ecdsa-p384-sha384" ∷ codes "ed25519" ∷ []
 
--- the characters of a signature parameter that is a String (RFC 9421 section 2.3)
-abbrev pub string_param : SigParams → List ℕ → Option (List ℕ)
-string_param params key = option_and_then string_in (value_of params.params key)
-
-abbrev pub alg_of : SigParams → Option (List ℕ)
-alg_of params = string_param params (codes "alg")
-
-abbrev pub keyid_of : SigParams → Option (List ℕ)
-keyid_of params = string_param params (codes "keyid")
-
 -- the message has a signature of the label, so rules 1 to 12 hold, and this is so of it
 abbrev pub OfSignature : Verification → (SigParams → List ℕ → Type 0) → Type 0
 OfSignature v Fact =
@@ -117,6 +119,19 @@ FailsByLack v lack place =
     OfSignature v (λ params tag. (index : ℕ) × IsFirstLack v.context params.ids index lack
     × IsSomeAnd (slice_get params.ids index) (λ id. place ≡ Identifier id))
 
+-- the signature parameters, as the policy judges them
+abbrev pub check_of : Verification → SigParams → PolicyCheck
+check_of v params =
+    policy_check params v.conf.policy (is_request v.context.message.head.start) v.now v.seen
+
+-- the policy has this fault against them
+abbrev pub FailsByPolicy : Verification → PolicyFault → Type 0
+FailsByPolicy v fault = OfSignature v (λ params tag. FailsPolicy (check_of v params) fault)
+
+-- the policy asks for the digest of the content
+abbrev pub asks_digest_of : Verification → Bool
+asks_digest_of v = asks_digest v.conf.policy.digest (message_content v.context.message)
+
 -- another text than the HMAC of the signature base under the label's key (RFC 9421 section 3.3.3)
 pub record IsNoMac (v : Verification) (params : SigParams) (tag : List ℕ) : Type 0 where
   pub keyid : List ℕ
@@ -127,7 +142,8 @@ pub record IsNoMac (v : Verification) (params : SigParams) (tag : List ℕ) : Ty
   pub have : HaveValues v.context params.ids values
   pub other : ¬ (tag ≡ hmac key (signature_base params values))
 
--- the rows of the rules after them (RFC 9421 section 3.2), and those above
+-- the rows of the rules after them (RFC 9421 section 3.2; those of the policy are the rows of its
+-- faults), and those above
 abbrev pub Fails : Verification → Rule → Place → Type 0
 Fails v AlgRefused place =
     OfSignature v (λ params tag. IsSomeAnd (alg_of params) (λ alg.
@@ -141,12 +157,28 @@ Fails v KeyidAbsent place =
 Fails v KeyUnknown place =
     (place ≡ Nowhere) × OfSignature v (λ params tag.
     IsSomeAnd (keyid_of params) (λ keyid. key_in v.conf keyid ≡ None))
+Fails v ComponentRequired place =
+    (id : ComponentId) × (place ≡ Identifier id) × FailsByPolicy v (policy.Required id)
+Fails v CreatedAbsent place = (place ≡ Nowhere) × FailsByPolicy v policy.CreatedAbsent
+Fails v CreatedAhead place = (place ≡ Nowhere) × FailsByPolicy v policy.CreatedAhead
+Fails v TooOld place = (place ≡ Nowhere) × FailsByPolicy v policy.TooOld
+Fails v ExpiresAbsent place = (place ≡ Nowhere) × FailsByPolicy v policy.ExpiresAbsent
+Fails v Expired place = (place ≡ Nowhere) × FailsByPolicy v policy.Expired
+Fails v TagWrong place = (place ≡ Nowhere) × FailsByPolicy v policy.TagWrong
+Fails v NonceAbsent place = (place ≡ Nowhere) × FailsByPolicy v policy.NonceAbsent
+Fails v NonceRepeated place = (place ≡ Nowhere) × FailsByPolicy v policy.NonceRepeated
+Fails v NonceLong place = (place ≡ Nowhere) × FailsByPolicy v policy.NonceLong
 Fails v Absent place = FailsByLack v lack.Absent place
 Fails v Ambiguous place = FailsByLack v lack.Ambiguous place
 Fails v Underivable place = FailsByLack v lack.Underivable place
 Fails v Unreadable place = FailsByLack v lack.Unreadable place
 Fails v NotAscii place = FailsByLack v lack.NotAscii place
 Fails v MacMismatch place = (place ≡ Nowhere) × OfSignature v (IsNoMac v)
+Fails v Digest place =
+    (reason : DigestReason) × (place ≡ DigestPlace reason) × OfSignature v (λ params tag.
+    IsTrue (asks_digest_of v) × LacksDigest v.context.message params.ids reason)
+Fails v NoncesFull place =
+    (place ≡ Nowhere) × OfSignature v (λ params tag. LacksRoom (check_of v params))
 Fails v rule place = FailsToRead v.context.message v.label rule place
 
 -- ---- the first rule that fails

@@ -2,8 +2,11 @@
 use Rattle.std.specs.Prelude.{ℕ, List, ◌++◌, ◌∷◌, codes}
 use Rattle.std.specs.Fmt.{decimal}
 use Rattle.std.specs.Str.{byte}
+use Rattle.content_digest.specs.Algorithms.{key_of}
+use Rattle.verdicts.specs.declared.place.DigestReason.{DigestReason}
+use Rattle.verdicts.specs.declared.place.DigestReason.TheVariants.{Uncovered, Malformed, NoneKnown, Mismatch}
 use Rattle.verdicts.specs.declared.rule.Rule.{Rule}
-use Rattle.verdicts.specs.declared.rule.Rule.TheVariants.{InputAbsent, InputMalformed, SignatureAbsent, SignatureMalformed, LabelNotInInput, LabelNotInSignature, InputNotList, SignatureNotBytes, ComponentsMany, ComponentBad, ComponentRepeated, ParameterBad, AlgRefused, AlgUnknown, KeyidAbsent, KeyUnknown, Absent, Ambiguous, Underivable, Unreadable, NotAscii, MacMismatch}
+use Rattle.verdicts.specs.declared.rule.Rule.TheVariants.{InputAbsent, InputMalformed, SignatureAbsent, SignatureMalformed, LabelNotInInput, LabelNotInSignature, InputNotList, SignatureNotBytes, ComponentsMany, ComponentBad, ComponentRepeated, ParameterBad, AlgRefused, AlgUnknown, KeyidAbsent, KeyUnknown, ComponentRequired, CreatedAbsent, CreatedAhead, TooOld, ExpiresAbsent, Expired, TagWrong, NonceAbsent, NonceRepeated, NonceLong, Absent, Ambiguous, Underivable, Unreadable, NotAscii, MacMismatch, Digest, NoncesFull}
 use Rattle.verdicts.specs.declared.label.LabelFault.{LabelFault}
 use Rattle.verdicts.specs.declared.label.LabelFault.TheVariants as fault
 
@@ -25,12 +28,24 @@ rule_number AlgRefused = 13
 rule_number AlgUnknown = 14
 rule_number KeyidAbsent = 15
 rule_number KeyUnknown = 16
+rule_number ComponentRequired = 17
+rule_number CreatedAbsent = 18
+rule_number CreatedAhead = 19
+rule_number TooOld = 20
+rule_number ExpiresAbsent = 21
+rule_number Expired = 22
+rule_number TagWrong = 23
+rule_number NonceAbsent = 24
+rule_number NonceRepeated = 25
+rule_number NonceLong = 26
 rule_number Absent = 27
 rule_number Ambiguous = 28
 rule_number Underivable = 29
 rule_number Unreadable = 30
 rule_number NotAscii = 31
 rule_number MacMismatch = 32
+rule_number Digest = 33
+rule_number NoncesFull = 34
 
 -- by which output names them
 abbrev pub rule_word : Rule → List ℕ
@@ -50,12 +65,31 @@ rule_word AlgRefused = codes "alg-refused"
 rule_word AlgUnknown = codes "alg-unknown"
 rule_word KeyidAbsent = codes "keyid-absent"
 rule_word KeyUnknown = codes "key-unknown"
+rule_word ComponentRequired = codes "component-required"
+rule_word CreatedAbsent = codes "created-absent"
+rule_word CreatedAhead = codes "created-ahead"
+rule_word TooOld = codes "too-old"
+rule_word ExpiresAbsent = codes "expires-absent"
+rule_word Expired = codes "expired"
+rule_word TagWrong = codes "tag-wrong"
+rule_word NonceAbsent = codes "nonce-absent"
+rule_word NonceRepeated = codes "nonce-repeated"
+rule_word NonceLong = codes "nonce-long"
 rule_word Absent = codes "absent"
 rule_word Ambiguous = codes "ambiguous"
 rule_word Underivable = codes "underivable"
 rule_word Unreadable = codes "unreadable"
 rule_word NotAscii = codes "not-ascii"
 rule_word MacMismatch = codes "mac-mismatch"
+rule_word Digest = codes "digest"
+rule_word NoncesFull = codes "nonces-full"
+
+-- the word of a reason of the rule of the digest
+abbrev pub reason_word : DigestReason → List ℕ
+reason_word Uncovered = codes "uncovered"
+reason_word Malformed = codes "malformed"
+reason_word NoneKnown = codes "none-known"
+reason_word (Mismatch algorithm) = codes "mismatch " ++ key_of algorithm
 
 -- what a fault says
 abbrev pub label_fault_text : LabelFault → List ℕ

@@ -1,6 +1,6 @@
 //! The verdict on a label.
 
-ghost use Rattle.std.specs.Prelude.{◌≡◌, ◌≤◌, ◌<◌, ◌↔◌, Some, IsTrue, IfSome, IfOk, length, option_map};
+ghost use Rattle.std.specs.Prelude.{◌≡◌, ◌≤◌, ◌<◌, ◌↔◌, Some, IsTrue, IfOk, length, option_copied};
 ghost use Rattle.std.specs.List.{list_all, list_any};
 ghost use Rattle.std.specs.Str.{bytes_eq};
 ghost use Rattle.sfv_text.specs.Range.{is_string_byte};
@@ -11,40 +11,31 @@ ghost use Rattle.component_values.specs.Context.{context_of};
 ghost use Rattle.sig_base.specs.SignatureBase.{signature_base};
 ghost use Rattle.hmac_sha256.specs.Hmac.{hmac};
 ghost use Rattle.conf.specs.ConfMeaning.{meaning};
-ghost use Rattle.verdicts.specs.declared.judge.TheConstants.{MAX_MOMENT};
-ghost use Rattle.verdicts.specs.Rules.{refused_algorithms, string_param, keyid_of, key_in};
+ghost use Rattle.nonces.specs.declared.limits.TheConstants.{MAX_KEYID_BYTES};
+ghost use Rattle.policy_rules.specs.Parameters.{keyid_of};
+ghost use Rattle.policy_rules.specs.PolicyRules.{IsAt};
+ghost use Rattle.verdicts.specs.Rules.{refused_algorithms, key_in};
 ghost use Rattle.verdicts.specs.Verdicts.{IsVerdict, is_verdict_in_range, verification_of};
 ghost use Rattle.verdicts.specs.tools.Answered.{Explains};
 ghost use Rattle.verdicts.specs.tools.Judged.{ExplainsAlgorithm, ExplainsTag, ExplainsJudged, FailsByKeyid, FailsByKey, SaysFault, LiesIn, rule_of_lack};
 
+use crate::digest::judge_digest;
 use crate::label::{LabelFault, LabelRead};
 use crate::outcome::Verdict;
 use crate::place::Place;
+use crate::policy::{judge_by_policy, judge_room};
 use crate::read::read_label;
 use crate::rule::Rule;
 use component_ids::{ComponentId, SigParams};
 use component_values::{Context, Lack, Prepared, ValueFault, prepare};
 use conf::Conf;
 use hmac_sha256::{Hmac, same_tag};
+use nonces::{NonceBook, Steps};
+use policy_rules::string_param;
 use sfv_text::{BareItem, Item, Memory, Params, Text, print_item};
 use sig_base::feed_base;
 use std::alloc::Global;
-
-/// The latest moment, in seconds since the epoch: 15 digits, as an Integer has them (RFC 9651
-/// section 3.3.1).
-pub const MAX_MOMENT: u64 = 999_999_999_999_999;
-
-/// The characters of the signature parameter of the key, where it is a String.
-fn string_param<'a>(params: &'a SigParams, key: &[u8]) -> Option<&'a Text>
-    ensures is { option_map (λ text. text.now) result ≡ string_param params.now key.now }
-    ensures in_range { IsTrue (are_sig_params_in_range params.now)
-        → IfSome result (λ text. IsTrue (list_all is_string_byte text.now)) }
-{
-    match params.params.find(key) {
-        Some(BareItem::Str(text)) => Some(text),
-        _ => None,
-    }
-}
+use std::sync::ledger::Ledger;
 
 /// The registered algorithms that aren't supported (RFC 9421 section 6.2.2).
 const REFUSED_ALGORITHMS: [&[u8]; 5] = [
@@ -100,20 +91,21 @@ fn judge_algorithm(alloc: Global, params: &SigParams) -> Result<(), LabelFault>
 }
 
 /// The `keyid`: rule 15.
-fn keyid_of(params: &SigParams) -> Result<&Text, LabelFault>
+fn keyid_of(params: &SigParams) -> Result<&[u8], LabelFault>
     ensures { Explains (λ keyid. keyid_of params.now ≡ Some keyid.now) (FailsByKeyid params.now)
         result }
 {
     match string_param(params, b"keyid") {
-        Some(keyid) => Ok(keyid),
+        Some(keyid) => Ok(keyid.bytes()),
         None => Err(LabelFault::Rule(Rule::KeyidAbsent, Place::None)),
     }
 }
 
 /// The key of the `keyid`: rule 16.
 fn key_of<'a>(conf: &'a Conf, keyid: &[u8]) -> Result<&'a [u8], LabelFault>
-    ensures { Explains (λ key. key_in (meaning conf.now) keyid.now ≡ Some key.now)
+    ensures explains { Explains (λ key. key_in (meaning conf.now) keyid.now ≡ Some key.now)
         (FailsByKey (key_in (meaning conf.now) keyid.now)) result }
+    ensures short { IfOk result (λ _. length keyid.now ≤ MAX_KEYID_BYTES) }
 {
     match conf.key(keyid) {
         Some(key) => Ok(key),
@@ -180,38 +172,63 @@ fn judge_tag(
 }
 
 /// The `keyid` of the accepted label, or the first rule that fails.
-fn judge(
-    alloc: Global,
-    context: &Context<'_, '_>,
-    label: &[u8],
-    conf: &Conf,
-) -> Result<Text, LabelFault>
-    ensures { ExplainsJudged (verification_of context.now label.now (meaning conf.now)) result }
-{
-    let read = read_label(alloc, context.message, label)?;
-    judge_algorithm(alloc, &read.params)?;
-    let keyid = keyid_of(&read.params)?;
-    let key = key_of(conf, keyid.bytes())?;
-    judge_tag(alloc, context, &read, key)?;
-    Ok(keyid.copy(alloc)?)
-}
-
-/// The verdict on the label (RFC 9421 section 3.2): it is accepted, or the first rule that fails.
-/// No rule judges `now`, in seconds since the epoch, yet.
-pub fn verdict(
+fn judge<L: Ledger>(
     alloc: Global,
     context: &Context<'_, '_>,
     label: &[u8],
     conf: &Conf,
     now: u64,
-) -> Result<Verdict, Memory>
-    requires { now ≤ MAX_MOMENT }
-    ensures is { IfOk result (λ verdict.
-        IsVerdict (verification_of context.now label.now (meaning conf.now)) verdict) }
-    ensures in_range { IfOk result (λ verdict. IsTrue (is_verdict_in_range verdict)) }
+    seen: Option<&NonceBook>,
+    steps: &mut Steps<L>,
+) -> Result<Text, LabelFault>
+    requires { IsAt now (option_copied seen) }
+    ensures explains { ExplainsJudged (verification_of context.now label.now (meaning conf.now) now
+        (option_copied seen.entry)) result }
+    ensures steps { steps.old ≤ steps.new }
 {
-    let _ = now;
-    match judge(alloc, context, label, conf) {
+    let policy = conf.policy();
+    let message = context.message;
+    let read = read_label(alloc, message, label)?;
+    judge_algorithm(alloc, &read.params)?;
+    let keyid = keyid_of(&read.params)?;
+    let key = key_of(conf, keyid)?;
+    judge_by_policy(
+        alloc,
+        message,
+        &read.params,
+        policy,
+        keyid,
+        now,
+        seen,
+        steps,
+    )?;
+    judge_tag(alloc, context, &read, key)?;
+    judge_digest(alloc, message, &read.params, policy.digest)?;
+    judge_room(&read.params, policy, seen)?;
+    Ok(Text::from_bytes(alloc, keyid)?)
+}
+
+/// The verdict on the label at the moment `now`, in seconds since the epoch (RFC 9421 section
+/// 3.2): it is accepted, or the first rule that fails.
+///
+/// The moment of the book is `now`. Without a book no nonce is remembered, so none was seen, and
+/// room for them isn't asked for.
+pub fn verdict<L: Ledger>(
+    alloc: Global,
+    context: &Context<'_, '_>,
+    label: &[u8],
+    conf: &Conf,
+    now: u64,
+    seen: Option<&NonceBook>,
+    steps: &mut Steps<L>,
+) -> Result<Verdict, Memory>
+    requires { IsAt now (option_copied seen) }
+    ensures is { IfOk result (λ verdict. IsVerdict (verification_of context.now label.now
+        (meaning conf.now) now (option_copied seen.entry)) verdict) }
+    ensures in_range { IfOk result (λ verdict. IsTrue (is_verdict_in_range verdict)) }
+    ensures steps { steps.old ≤ steps.new }
+{
+    match judge(alloc, context, label, conf, now, seen, steps) {
         Ok(keyid) => Ok(Verdict::Ok { keyid }),
         Err(LabelFault::Memory) => Err(Memory),
         Err(LabelFault::Rule(number, place)) => Ok(Verdict::Rule { number, place }),

@@ -3,7 +3,7 @@
 //!
 //! ```text
 //! for label in labels_of(alloc, &message)?.iter() {
-//!     match verdict(alloc, &context, label.bytes(), &conf, now)? {
+//!     match verdict(alloc, &context, label.bytes(), &conf, now, None, &mut steps)? {
 //!         Verdict::Ok { keyid } => ..,           // the tag is right, under this key
 //!         Verdict::Rule { number, place } => .., // Rule::KeyUnknown and Place::None, say
 //!     }
@@ -11,6 +11,7 @@
 //! ```
 #![tactic(auto)]
 
+mod digest;
 mod field;
 mod judge;
 mod label;
@@ -18,17 +19,19 @@ mod labels;
 mod laws;
 mod outcome;
 mod place;
+mod policy;
 mod read;
 mod rule;
 
-pub use judge::{MAX_MOMENT, verdict};
+pub use judge::verdict;
 pub use label::{LabelFault, LabelRead, Labels};
 pub use labels::labels_of;
 pub use laws::{
     a_label_has_one_reading, a_label_has_one_verdict, a_message_has_one_list_of_labels,
 };
+pub use nonces::MAX_MOMENT;
 pub use outcome::Verdict;
-pub use place::Place;
+pub use place::{DigestReason, Place};
 pub use read::read_label;
 pub use rule::Rule;
 

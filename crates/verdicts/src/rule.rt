@@ -43,6 +43,26 @@ pub enum Rule {
     KeyidAbsent,
     /// 16: the configuration has no key of that `keyid`.
     KeyUnknown,
+    /// 17: a component that the policy requires isn't covered (RFC 9421 section 7.2.1).
+    ComponentRequired,
+    /// 18: there is no `created` (RFC 9421 section 2.3).
+    CreatedAbsent,
+    /// 19: it was created later than now, by more seconds than clocks may be apart.
+    CreatedAhead,
+    /// 20: it was created more seconds ago than a signature is taken for.
+    TooOld,
+    /// 21: `expires` is required and isn't there (RFC 9421 section 2.3).
+    ExpiresAbsent,
+    /// 22: it expired before now.
+    Expired,
+    /// 23: `tag` isn't the one that is configured (RFC 9421 section 2.3).
+    TagWrong,
+    /// 24: `nonce` is required and isn't there (RFC 9421 section 2.3).
+    NonceAbsent,
+    /// 25: its `nonce` was seen with its `keyid` (RFC 9421 section 7.2.2).
+    NonceRepeated,
+    /// 26: its `nonce` is too long to be remembered.
+    NonceLong,
     /// 27: the first component without a value is absent.
     Absent,
     /// 28: it is ambiguous.
@@ -55,6 +75,11 @@ pub enum Rule {
     NotAscii,
     /// 32: the tag isn't the HMAC of the signature base (RFC 9421 section 3.3.3).
     MacMismatch,
+    /// 33: the digest of the content isn't covered, or isn't that of the content (RFC 9530 section
+    /// 2).
+    Digest,
+    /// 34: no more nonces can be remembered (RFC 9421 section 7.2.2).
+    NoncesFull,
 }
 
 impl Rule {
@@ -79,12 +104,24 @@ impl Rule {
             Rule::AlgUnknown => 14,
             Rule::KeyidAbsent => 15,
             Rule::KeyUnknown => 16,
+            Rule::ComponentRequired => 17,
+            Rule::CreatedAbsent => 18,
+            Rule::CreatedAhead => 19,
+            Rule::TooOld => 20,
+            Rule::ExpiresAbsent => 21,
+            Rule::Expired => 22,
+            Rule::TagWrong => 23,
+            Rule::NonceAbsent => 24,
+            Rule::NonceRepeated => 25,
+            Rule::NonceLong => 26,
             Rule::Absent => 27,
             Rule::Ambiguous => 28,
             Rule::Underivable => 29,
             Rule::Unreadable => 30,
             Rule::NotAscii => 31,
             Rule::MacMismatch => 32,
+            Rule::Digest => 33,
+            Rule::NoncesFull => 34,
         }
     }
 
@@ -109,12 +146,24 @@ impl Rule {
             Rule::AlgUnknown => "alg-unknown",
             Rule::KeyidAbsent => "keyid-absent",
             Rule::KeyUnknown => "key-unknown",
+            Rule::ComponentRequired => "component-required",
+            Rule::CreatedAbsent => "created-absent",
+            Rule::CreatedAhead => "created-ahead",
+            Rule::TooOld => "too-old",
+            Rule::ExpiresAbsent => "expires-absent",
+            Rule::Expired => "expired",
+            Rule::TagWrong => "tag-wrong",
+            Rule::NonceAbsent => "nonce-absent",
+            Rule::NonceRepeated => "nonce-repeated",
+            Rule::NonceLong => "nonce-long",
             Rule::Absent => "absent",
             Rule::Ambiguous => "ambiguous",
             Rule::Underivable => "underivable",
             Rule::Unreadable => "unreadable",
             Rule::NotAscii => "not-ascii",
             Rule::MacMismatch => "mac-mismatch",
+            Rule::Digest => "digest",
+            Rule::NoncesFull => "nonces-full",
         }
     }
 }

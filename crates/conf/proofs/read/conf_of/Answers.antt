@@ -10,17 +10,17 @@ returns-in_err-keys-clause-err c =
     let p = err_from_is_err_and c.from_residual-in_err-keys.result c.from_residual-in_err-keys.ensures.1 in
     rw (p.1, p.2) (keys_fault (table_view c.args.document.now) c.in_err-keys.field-0.0 c.in_ok-judge_document.ensures.ok c.in_err-keys.ensures.distinct c.in_err-keys.ensures.err)
 
-pub returns-in_err-sign-clause-err : goal.returns-in_err-sign-clause-err
-returns-in_err-sign-clause-err c =
-    let p = err_from_is_err_and c.from_residual-in_err-sign.result c.from_residual-in_err-sign.ensures.1 in
-    rw (p.1, p.2) (c.in_err-sign.ensures.err (below_lists (table_view c.args.document.now) c.in_ok-judge_document.ensures.ok c.in_ok-keys.ensures.spell))
+pub returns-in_err-policy-clause-err : goal.returns-in_err-policy-clause-err
+returns-in_err-policy-clause-err c =
+    let p = err_from_is_err_and c.from_residual-in_err-policy.result c.from_residual-in_err-policy.ensures.1 in
+    rw (p.1, p.2) (c.in_err-policy.ensures.err (below_lists (table_view c.args.document.now) c.in_ok-judge_document.ensures.ok c.in_ok-keys.ensures.spell))
 
 pub invariant_of-result : goal.invariant_of-result
 invariant_of-result c =
     let document = table_view c.args.document.now in
     let judged = c.in_ok-judge_document.ensures.ok in
     let keys = are_keys document judged c.in_ok-keys.ensures.spell c.in_ok-keys.ensures.distinct c.in_ok-keys.keys c.in_ok-keys.ensures.ok in
-    record { valid = is_valid document judged c.scheme_in.result c.in_ok-keys.keys c.in_ok-types.types c.in_ok-sign.sign keys c.in_ok-sign.ensures.ok }
+    record { valid = is_valid document judged c.scheme_in.result c.in_ok-keys.keys c.in_ok-types.types c.in_ok-policy.field-0 keys c.in_ok-policy.ensures.ok }
 
 pub returns-clause-ok : goal.returns-clause-ok
 returns-clause-ok c =
@@ -30,9 +30,10 @@ returns-clause-ok c =
       known = judged.known;
       typed = judged.typed;
       allowed = judged.allowed;
-      complete = c.in_ok-sign.ensures.ok.complete;
+      complete = c.in_ok-policy.ensures.ok.complete;
       scheme = c.scheme_in.ensures;
       keys = are_keys document judged c.in_ok-keys.ensures.spell c.in_ok-keys.ensures.distinct c.in_ok-keys.keys c.in_ok-keys.ensures.ok;
       types = have_types document judged c.in_ok-types.ensures.distinct c.in_ok-types.types c.in_ok-types.ensures.ok;
-      sign = c.in_ok-sign.ensures.ok.says;
+      policy = c.in_ok-policy.ensures.ok.policy;
+      sign = c.in_ok-policy.ensures.ok.sign;
     }

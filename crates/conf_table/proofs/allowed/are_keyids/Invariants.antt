@@ -2,7 +2,7 @@ use Rattle.std.proofs.Common.{◌≡◌}
 use Rattle.std.specs.List.{list_all}
 use Rattle.toml.specs.View.{table_view, members_view}
 use Rattle.conf_table.specs.Table.{entries_of}
-use Rattle.conf_table.specs.Values.{is_keyid}
+use Rattle.conf_table.specs.Keys.{is_keyid}
 use Rattle.conf_table.proofs.allowed.are_keyids.Given as goal
 
 abbrev pub invariant-loop-keyid : goal.invariant-loop-keyid

@@ -5,5 +5,5 @@ use Rattle.hms.specs.tools.Verdicts.{AreLinesSoFar}
 use Rattle.hms.proofs.verify.write_verdicts.Given as goal
 
 abbrev pub invariant-loop-label : goal.invariant-loop-label
-invariant-loop-label l =
-    AreLinesSoFar (meaning l.conf) (message_of l.message) (take l.label-index l.labels) l.lines l.all_accepted
+invariant-loop-label g l =
+    AreLinesSoFar (meaning l.conf) l.now (message_of l.message) (take l.label-index l.labels) l.lines l.all_accepted

@@ -1,0 +1,60 @@
+-- Lists of covered components that a document tells.
+use Rattle.std.proofs.Common.{◌≡◌, Option, Some, None, List, [], IsTrue, ℕ, refl, sym, ap, ◌∙◌, arith}
+use Rattle.sfv_read.proofs.Readings.{inner_has_one_value}
+use Rattle.component_ids.specs.declared.id.ComponentId.{ComponentId}
+use Rattle.component_ids.specs.declared.params.SigParams.{SigParams}
+use Rattle.component_ids.specs.SignatureParams.{list_of}
+use Rattle.component_ids.proofs.FaultLaws.{one_value}
+use Rattle.toml.specs.Data.{Data, string}
+use Rattle.conf_table.specs.declared.table.Rule.TheVariants as rule
+use Rattle.conf_table.specs.Covered.{IsCovered, params_of}
+use Rattle.conf_table.specs.Rows.{fails}
+use Rattle.conf_table.specs.Values.{has_type}
+use Rattle.conf_sections.specs.Sections.{AreComponents}
+use Rattle.conf_sections.specs.ValidSections.{AreValidComponents}
+use Rattle.conf.specs.Refusals.{IsBadList}
+use Rattle.conf.specs.tools.SectionReads.{IsToldList}
+
+-- ---- the components that a value tells
+
+one_list : (text : List ℕ) (ids other : List ComponentId) → IsCovered text ids → IsCovered text other → ids ≡ other
+one_list text ids other first second =
+    let same = inner_has_one_value text (list_of (params_of ids)) (list_of (params_of other)) first.reads second.reads in
+    let is : params_of ids ≡ params_of other = one_value (list_of (params_of other)) (params_of ids) (params_of other) (first.components, same) (second.components, refl) in
+    ap (λ (params : SigParams). params.ids) is
+
+pub components_are : (value : Option Data) (ids other : List ComponentId) → AreComponents value ids → AreComponents value other → ids ≡ other
+components_are None ids other first second = first ∙ sym second
+components_are (Some (string text)) ids other first second = one_list text ids other first second
+components_are (Some value) ids other first second = absurd first
+
+-- such a value isn't bad
+pub not_bad : (value : Option Data) (ids : List ComponentId) → AreComponents value ids → IsBadList rule.Components value → ⊥
+not_bad (Some (string text)) ids are bad = bad ids are
+not_bad value ids are bad = bad
+
+-- ---- a list that was told
+
+pub told_not_bad : (value : Option Data) (ids : List ComponentId) → IsToldList value ids → IsBadList rule.Components value → ⊥
+told_not_bad (Some (string text)) ids told bad = bad ids told.covered
+told_not_bad value ids told bad = bad
+
+pub none_valid : AreValidComponents []
+none_valid = record {
+  components = record { few = omega arith; each = refl; distinct = λ i j d lt more. absurd (omega arith); typed = refl };
+  in_range = refl;
+}
+
+told_valid : (value : Option Data) (ids : List ComponentId) → IsToldList value ids → AreValidComponents ids
+told_valid (Some (string text)) ids told = record { components = told.covered.components; in_range = told.in_range }
+told_valid value ids told = rw told none_valid
+
+pub told_are : (value : Option Data) (ids : List ComponentId) → (IsTrue (fails (has_type rule.Components) value) → ⊥) → IsToldList value ids → AreComponents value ids
+told_are None ids typed told = told
+told_are (Some (string text)) ids typed told = told.covered
+told_are (Some value) ids typed told = absurd (typed refl)
+
+-- the components that a value tells are valid, where they were read
+pub valid_as_told : (value : Option Data) (ids other : List ComponentId) → (IsTrue (fails (has_type rule.Components) value) → ⊥) → IsToldList value ids
+    → AreComponents value other → AreValidComponents other
+valid_as_told value ids other typed told are = rw (components_are value other ids are (told_are value ids typed told)) (told_valid value ids told)

@@ -1,0 +1,39 @@
+//! What the tables `policy` and `sign` of a document say.
+
+ghost use Rattle.std.specs.Prelude.{IfErr, IfOk};
+ghost use Rattle.toml.specs.View.{table_view};
+ghost use Rattle.conf.specs.tools.Judged.{IsClearBelow, IsFirstIn, IsJudged};
+ghost use Rattle.conf.specs.tools.SectionReads.{AreSections};
+
+use crate::fault::ConfFault;
+use crate::judge::{Refusal, judge_rows};
+use crate::lists::{Lists, read_lists};
+use conf_sections::{Policy, SignConf, policy_of, sign_of};
+use std::alloc::Global;
+use toml::Table;
+
+/// How signatures are judged, and how messages are signed.
+#[derive(Drop)]
+pub(crate) struct Sections {
+    pub(crate) policy: Policy,
+    pub(crate) sign: Option<SignConf>,
+}
+
+/// What the tables say, where their lists are read and no key is missing.
+pub(crate) fn read_sections(alloc: Global, document: &Table) -> Result<Sections, ConfFault>
+    requires { IsJudged (table_view document.now) }
+    ensures ok { IfOk result (AreSections (table_view document.now)) }
+    ensures err { IfErr result (λ e. IsClearBelow 7 (table_view document.now)
+        → IsFirstIn (table_view document.now) e) }
+{
+    let Lists {
+        require_request,
+        require_response,
+        components_request,
+        components_response,
+    } = read_lists(alloc, document)?;
+    judge_rows(alloc, Refusal::Missing, document)?;
+    let policy = policy_of(alloc, document, require_request, require_response)?;
+    let sign = sign_of(alloc, document, components_request, components_response)?;
+    Ok(Sections { policy, sign })
+}

@@ -1,0 +1,3 @@
+mod Uncovered
+mod InRange
+pub mod Judging

@@ -1,0 +1,4 @@
+pub mod Parameters
+pub mod PolicyRules
+pub mod Laws
+pub mod tools
