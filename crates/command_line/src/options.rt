@@ -5,11 +5,12 @@ ghost use Rattle.std.specs.Str.{bytes_eq};
 ghost use Rattle.std.specs.Str.Parse.{digits_value};
 ghost use Rattle.std.specs.List.{list_all};
 ghost use Rattle.byte_classes.specs.Classes.{is_digit};
-ghost use Rattle.sfv_text.specs.Classes.{is_key_first, is_key_rest, is_key};
 ghost use Rattle.sfv_text.specs.Keys.{value_of};
 ghost use Rattle.sfv_text.specs.declared.pair.Pair.{Pair};
 ghost use Rattle.command_line.specs.Options.{is_moment, may_have, takes, words_of, AreOptions};
 ghost use Rattle.command_line.specs.tools.Met.{is_met, IsNewOption, HasOptions};
+
+use sfv_text::is_key;
 
 /// The most digits of a moment.
 pub const MAX_MOMENT_DIGITS: usize = 15;
@@ -67,34 +68,6 @@ pub fn moment_of(word: &str) -> u64
     match word.parse::<u64>() {
         Ok(moment) => moment,
         Err(_) => 0,
-    }
-}
-
-fn is_key_first(byte: u8) -> bool
-    ensures { result ≡ is_key_first byte }
-{
-    byte.is_ascii_lowercase() || byte == b'*'
-}
-
-fn is_key_rest(byte: u8) -> bool
-    ensures { result ≡ is_key_rest byte }
-{
-    byte.is_ascii_lowercase() || byte.is_ascii_digit() || matches!(byte, b'_' | b'-' | b'.' | b'*')
-}
-
-fn are_key_rest(bytes: &[u8]) -> bool
-    ensures { result ≡ list_all is_key_rest bytes.now }
-{
-    bytes.iter().all(|byte| is_key_rest(*byte))
-}
-
-/// Whether the word is the key of a Dictionary.
-fn is_key(word: &[u8]) -> bool
-    ensures { result ≡ is_key word.now }
-{
-    match word.split_first() {
-        None => false,
-        Some((first, others)) => { is_key_first(*first) && are_key_rest(others) }
     }
 }
 

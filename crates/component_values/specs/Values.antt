@@ -24,7 +24,8 @@ use Rattle.component_ids.specs.declared.id.ComponentId.{ComponentId}
 use Rattle.derived_values.specs.declared.lack.Lack.{Lack}
 use Rattle.derived_values.specs.declared.lack.Lack.TheVariants.{Absent, Underivable, Unreadable, NotAscii}
 use Rattle.component_values.specs.Context.{MessageContext}
-use Rattle.derived_values.specs.Derived.{DerivedRow, derived_of, string_in}
+use Rattle.sfv_text.specs.Parts.{string_in}
+use Rattle.derived_values.specs.Derived.{DerivedRow, derived_of}
 
 -- ---- structured values
 

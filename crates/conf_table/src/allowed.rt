@@ -4,7 +4,7 @@ ghost use Rattle.std.specs.Prelude.{◌≡◌, [], ◌∷◌, is_some, codes, na
 ghost use Rattle.std.specs.List.{list_all, list_any};
 ghost use Rattle.std.specs.Str.{bytes_eq};
 ghost use Rattle.component_ids.specs.Table.{is_listed};
-ghost use Rattle.sfv_text.specs.Range.{is_key, is_key_first, is_key_rest, is_string_byte};
+ghost use Rattle.sfv_text.specs.Range.{is_string_byte};
 ghost use Rattle.toml.specs.Data.{as_str, get_member};
 ghost use Rattle.toml.specs.View.{table_view, view};
 ghost use Rattle.conf_table.specs.declared.limits.TheConstants.{MAX_WINDOW};
@@ -20,6 +20,7 @@ use crate::limits::{
 };
 use crate::table::{Place, Rule};
 use component_ids::{FieldKind, is_field_name};
+use sfv_text::is_key;
 use toml::{Table, Value};
 
 // ---- types
@@ -80,34 +81,6 @@ pub fn is_keyid(keyid: &[u8]) -> bool
     ensures { result ≡ is_keyid keyid.now }
 {
     1 <= keyid.len() && keyid.len() <= MAX_KEYID_BYTES && are_string_bytes(keyid)
-}
-
-fn is_key_first(byte: u8) -> bool
-    ensures { result ≡ is_key_first byte }
-{
-    byte.is_ascii_lowercase() || byte == b'*'
-}
-
-fn is_key_rest(byte: u8) -> bool
-    ensures { result ≡ is_key_rest byte }
-{
-    byte.is_ascii_lowercase() || byte.is_ascii_digit() || matches!(byte, b'_' | b'-' | b'.' | b'*')
-}
-
-fn are_key_rest(text: &[u8]) -> bool
-    ensures { result ≡ list_all is_key_rest text.now }
-{
-    text.iter().all(|byte| is_key_rest(*byte))
-}
-
-/// Whether the text is a key of a Dictionary (RFC 9651 section 3.2).
-fn is_key(text: &[u8]) -> bool
-    ensures { result ≡ is_key text.now }
-{
-    match text.split_first() {
-        None => false,
-        Some((first, others)) => is_key_first(*first) && are_key_rest(others),
-    }
 }
 
 fn is_listed(texts: &[&[u8]], text: &[u8]) -> bool

@@ -16,7 +16,8 @@ use Rattle.content_digest.specs.declared.algorithm.Algorithm.{Algorithm}
 use Rattle.content_digest.specs.declared.fault.DigestFault.{DigestFault}
 use Rattle.content_digest.specs.declared.fault.DigestFault.TheVariants.{Memory, Malformed, NoneKnown, Mismatch}
 use Rattle.content_digest.specs.Algorithms.{algorithm_of, digest_by}
-use Rattle.content_digest.specs.Digests.{DigestHolds, digest_in, is_digest, is_known, is_sound, agrees}
+use Rattle.sfv_text.specs.Parts.{byte_sequence_in}
+use Rattle.content_digest.specs.Digests.{DigestHolds, is_digest, is_known, is_sound, agrees}
 use Rattle.content_digest.specs.Faults.{Differs, IsMismatch, IsDigestCause, IsDigestFault, digest_order}
 use Rattle.content_digest.specs.Laws.{HasDigestAnswer, NoFaultWhereHolds, OneDigestFault}
 
@@ -31,7 +32,7 @@ digest_is_sound content (Some algorithm) None is = absurd (false≢true is)
 digest_is_sound content (Some algorithm) (Some bytes) is = refl
 
 agreed_is_sound : (content : List ℕ) (member : Pair Member) → agrees content member ≡ true → is_sound member ≡ true
-agreed_is_sound content member is = digest_is_sound content (algorithm_of member.key) (digest_in member.value) is
+agreed_is_sound content member is = digest_is_sound content (algorithm_of member.key) (byte_sequence_in member.value) is
 
 -- a member that differs doesn't agree
 not_agreed : (content : List ℕ) (member : Pair Member) (algorithm : Algorithm) (kept computed : List ℕ) → Differs content member algorithm kept computed → ¬ (agrees content member ≡ true)
@@ -58,7 +59,7 @@ apart_where content (Some algorithm) (Some bytes) other sound =
 differs_where : (content : List ℕ) (member : Pair Member) → agrees content member ≡ false → is_sound member ≡ true
     → (algorithm : Algorithm) × (kept : List ℕ) × Differs content member algorithm kept (digest_by algorithm content)
 differs_where content member other sound =
-    let parts = apart_where content (algorithm_of member.key) (digest_in member.value) other sound in
+    let parts = apart_where content (algorithm_of member.key) (byte_sequence_in member.value) other sound in
     (parts.known, parts.kept, record { algorithm_is = parts.known_is; kept_is = parts.kept_is; computed_is = refl; apart = parts.apart })
 
 -- ---- the first that doesn't agree

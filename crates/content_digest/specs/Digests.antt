@@ -3,24 +3,15 @@ use Rattle.std.specs.Prelude.{ℕ, Bool, true, false, ◌||◌, not, IsTrue, Opt
 use Rattle.std.specs.List.{list_all, list_any}
 use Rattle.std.specs.Str.{bytes_eq}
 use Rattle.sfv_text.specs.declared.pair.Pair.{Pair}
-use Rattle.sfv_text.specs.declared.value.BareItem.{BareItem}
 use Rattle.sfv_text.specs.declared.value.BareItem.TheVariants.{Bytes}
 use Rattle.sfv_text.specs.declared.value.Member.{Member}
-use Rattle.sfv_text.specs.declared.value.Member.TheVariants.{Item as ItemMember, InnerList as InnerMember}
+use Rattle.sfv_text.specs.declared.value.Member.TheVariants.{Item as ItemMember}
+use Rattle.sfv_text.specs.Parts.{byte_sequence_in}
 use Rattle.sfv_read.specs.Reads.{ReadsDict}
 use Rattle.content_digest.specs.declared.algorithm.Algorithm.{Algorithm}
 use Rattle.content_digest.specs.Algorithms.{key_of, algorithm_of, digest_by}
 
 -- ---- a member of the Dictionary
-
-abbrev pub bytes_in : BareItem → Option (List ℕ)
-bytes_in (Bytes bytes) = Some bytes
-bytes_in bare = None
-
--- the bytes of a Byte Sequence; the parameters of the member say nothing
-abbrev pub digest_in : Member → Option (List ℕ)
-digest_in (ItemMember item) = bytes_in item.bare
-digest_in (InnerMember list) = None
 
 -- its key is that of a known algorithm
 abbrev pub is_known : Pair Member → Bool
@@ -28,7 +19,7 @@ is_known member = is_some (algorithm_of member.key)
 
 -- it is a Byte Sequence, where its algorithm is known
 abbrev pub is_sound : Pair Member → Bool
-is_sound member = not (is_known member) || is_some (digest_in member.value)
+is_sound member = not (is_known member) || is_some (byte_sequence_in member.value)
 
 -- the bytes are the content's digest by the algorithm, where one is known
 abbrev pub is_digest : List ℕ → Option Algorithm → Option (List ℕ) → Bool
@@ -38,7 +29,7 @@ is_digest content (Some algorithm) (Some bytes) = bytes_eq bytes (digest_by algo
 
 -- it is the content's digest, where its algorithm is known
 abbrev pub agrees : List ℕ → Pair Member → Bool
-agrees content member = is_digest content (algorithm_of member.key) (digest_in member.value)
+agrees content member = is_digest content (algorithm_of member.key) (byte_sequence_in member.value)
 
 -- ---- the field
 

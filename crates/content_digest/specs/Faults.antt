@@ -11,7 +11,8 @@ use Rattle.content_digest.specs.declared.algorithm.Algorithm.{Algorithm}
 use Rattle.content_digest.specs.declared.fault.DigestFault.{DigestFault}
 use Rattle.content_digest.specs.declared.fault.DigestFault.TheVariants.{Memory, Malformed, NoneKnown, Mismatch}
 use Rattle.content_digest.specs.Algorithms.{algorithm_of, digest_by}
-use Rattle.content_digest.specs.Digests.{digest_in, is_known, is_sound, agrees}
+use Rattle.sfv_text.specs.Parts.{byte_sequence_in}
+use Rattle.content_digest.specs.Digests.{is_known, is_sound, agrees}
 
 -- the fault of a text that is no Dictionary, for this error
 abbrev pub fault_of : SfError → DigestFault
@@ -23,7 +24,7 @@ fault_of (sf.ItemKind offset) = Malformed
 pub record Differs (content : List ℕ) (member : Pair Member) (algorithm : Algorithm)
     (kept computed : List ℕ) : Type 0 where
   pub algorithm_is : algorithm_of member.key ≡ Some algorithm
-  pub kept_is : digest_in member.value ≡ Some kept
+  pub kept_is : byte_sequence_in member.value ≡ Some kept
   pub computed_is : computed ≡ digest_by algorithm content
   pub apart : kept ≢ computed
 

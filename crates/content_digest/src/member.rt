@@ -1,30 +1,17 @@
 //! The members of a Dictionary of digests.
 
-ghost use Rattle.std.specs.Prelude.{◌≡◌, option_map, IsTrue, IfOk, IfErr};
+ghost use Rattle.std.specs.Prelude.{◌≡◌, IsTrue, IfOk, IfErr};
 ghost use Rattle.std.specs.List.{list_all, list_any};
 ghost use Rattle.msg_body.specs.Views.{message_of, message_content};
-ghost use Rattle.content_digest.specs.Digests.{digest_in, is_known, is_sound, agrees};
+ghost use Rattle.content_digest.specs.Digests.{is_known, is_sound, agrees};
 ghost use Rattle.content_digest.specs.tools.Judged.{FailsByMember};
 
 use crate::algorithm::Algorithm;
 use crate::digest::digest_of;
 use crate::fault::DigestFault;
 use msg_body::MessageView;
-use sfv_text::{BareItem, Member, Pair, Text};
+use sfv_text::{Member, Pair};
 use std::alloc::Global;
-
-// The bytes of a Byte Sequence.
-fn digest_in(member: &Member) -> Option<&Text>
-    ensures { option_map (λ digest. digest.now) result ≡ digest_in member.now }
-{
-    match member {
-        Member::Item(item) => match &item.bare {
-            BareItem::Bytes(digest) => Some(digest),
-            _ => None,
-        },
-        Member::InnerList(_) => None,
-    }
-}
 
 // Whether its key is that of a known algorithm.
 fn is_known(member: &Pair<Member>) -> bool
@@ -37,7 +24,7 @@ fn is_known(member: &Pair<Member>) -> bool
 fn is_sound(member: &Pair<Member>) -> bool
     ensures { result ≡ is_sound member.now }
 {
-    !is_known(member) || digest_in(&member.value).is_some()
+    !is_known(member) || member.value.byte_sequence().is_some()
 }
 
 /// Whether some member is of a known algorithm.
@@ -69,7 +56,7 @@ pub(crate) fn check_member(
     let Some(algorithm) = Algorithm::of_key(member.key.bytes()) else {
         return Ok(());
     };
-    let Some(kept) = digest_in(&member.value) else {
+    let Some(kept) = member.value.byte_sequence() else {
         unreachable!()
     };
     let computed = digest_of(alloc, algorithm, view)?;

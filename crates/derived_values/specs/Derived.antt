@@ -3,10 +3,10 @@
 use Rattle.std.specs.Prelude.{◌≡◌, ◌⊎◌, ℕ, Bool, true, false, Option, Some, None, unwrap_or, option_map, option_and_then, ok_or, List, [], ◌∷◌, ◌++◌, Result, Ok, Err, codes, if◌then◌else◌}
 use Rattle.std.specs.Result.{result_map_both}
 use Rattle.std.specs.Str.{byte, bytes_eq, str_to_ascii_lowercase}
+use Rattle.sfv_text.specs.Parts.{string_in}
 use Rattle.sfv_text.specs.Keys.{value_of}
 use Rattle.sfv_text.specs.declared.pair.Pair.{Pair}
 use Rattle.sfv_text.specs.declared.value.BareItem.{BareItem}
-use Rattle.sfv_text.specs.declared.value.BareItem.TheVariants.{Str}
 use Rattle.msg_head.specs.Lines.{FieldLine}
 use Rattle.msg_head.specs.Starts.{StartLine, request, status}
 use Rattle.line_values.specs.Values.{values}
@@ -109,10 +109,6 @@ TargetUriRow true parts target result = (authority : Result (List ℕ) Lack)
     × (result ≡ result_map_both (uri_text parts target) (λ lack. lack) authority)
 
 -- the characters of a String
-abbrev pub string_in : BareItem → Option (List ℕ)
-string_in (Str text) = Some text
-string_in bare = None
-
 -- the characters of the String that the parameter `name` is
 abbrev pub param_name : List (Pair BareItem) → List ℕ
 param_name params = unwrap_or (option_and_then string_in (value_of params (codes "name"))) []

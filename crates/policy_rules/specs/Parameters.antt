@@ -1,17 +1,14 @@
 -- The parameters of a signature by their keys (RFC 9421 section 2.3).
 use Rattle.std.specs.Prelude.{ℕ, ℤ, Option, Some, None, option_and_then, List, codes}
+use Rattle.sfv_text.specs.Parts.{string_in}
 use Rattle.sfv_text.specs.Keys.{value_of}
 use Rattle.sfv_text.specs.declared.value.BareItem.{BareItem}
-use Rattle.sfv_text.specs.declared.value.BareItem.TheVariants.{Integer, Str}
+use Rattle.sfv_text.specs.declared.value.BareItem.TheVariants.{Integer}
 use Rattle.component_ids.specs.declared.params.SigParams.{SigParams}
 
 abbrev pub integer_in : BareItem → Option ℤ
 integer_in (Integer z) = Some z
 integer_in bare = None
-
-abbrev pub string_in : BareItem → Option (List ℕ)
-string_in (Str text) = Some text
-string_in bare = None
 
 -- the number of a parameter that is an Integer
 abbrev pub integer_param : SigParams → List ℕ → Option ℤ

@@ -10,6 +10,7 @@
 #![tactic(auto)]
 
 mod absorb;
+mod key;
 mod laws;
 mod memory;
 mod pair;
@@ -21,6 +22,7 @@ mod text;
 mod value;
 
 pub use absorb::Absorb;
+pub use key::is_key;
 pub use laws::{equality_is_tested, keys_stay_distinct, strict_texts_are_printable};
 pub use memory::Memory;
 pub use pair::Pair;

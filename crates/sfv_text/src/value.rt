@@ -1,7 +1,8 @@
 //! The values of structured fields (RFC 9651 section 3).
 
-ghost use Rattle.std.specs.Prelude.{◌≡◌, ◌≤◌, ◌↔◌, ◌⊎◌, length, IsTrue, IfOk, IfErr};
+ghost use Rattle.std.specs.Prelude.{◌≡◌, ◌≤◌, ◌↔◌, ◌⊎◌, length, option_map, IsTrue, IfOk, IfErr};
 ghost use Rattle.sfv_text.specs.Equality.{is_equal_bare, is_equal_param};
+ghost use Rattle.sfv_text.specs.Parts.{byte_sequence_in};
 ghost use Rattle.sfv_text.specs.Values.{own_bytes};
 
 use crate::memory::Memory;
@@ -139,6 +140,22 @@ pub struct InnerList {
 pub enum Member {
     Item(Item),
     InnerList(InnerList),
+}
+
+impl Member {
+    /// The bytes of a Byte Sequence (RFC 9651 section 3.3.5), whatever its parameters; None for
+    /// each other member.
+    pub fn byte_sequence(&self) -> Option<&Text>
+        ensures { option_map (λ bytes. bytes.now) result ≡ byte_sequence_in self.now }
+    {
+        match self {
+            Member::Item(item) => match &item.bare {
+                BareItem::Bytes(bytes) => Some(bytes),
+                _ => None,
+            },
+            Member::InnerList(_) => None,
+        }
+    }
 }
 
 /// A List: its members, in order (RFC 9651 section 3.1).

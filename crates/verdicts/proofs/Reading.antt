@@ -35,7 +35,8 @@ use Rattle.verdicts.specs.declared.place.Place.{Place}
 use Rattle.verdicts.specs.declared.place.Place.TheVariants.{None as Nowhere, Index, Component, Name}
 use Rattle.verdicts.specs.declared.rule.Rule.{Rule}
 use Rattle.verdicts.specs.declared.rule.Rule.TheVariants.{InputAbsent, InputMalformed, SignatureAbsent, SignatureMalformed, LabelNotInInput, LabelNotInSignature, InputNotList, SignatureNotBytes, ComponentsMany, ComponentBad, ComponentRepeated, ParameterBad}
-use Rattle.verdicts.specs.Signatures.{input_name, signature_name, tag_in, HasField, HasDict, HasMember, HasSignature}
+use Rattle.sfv_text.specs.Parts.{byte_sequence_in}
+use Rattle.verdicts.specs.Signatures.{input_name, signature_name, HasField, HasDict, HasMember, HasSignature}
 use Rattle.verdicts.specs.Rules.{ListHasCause, FailsToRead, IsLabelUnread}
 use Rattle.verdicts.specs.Words.{rule_number}
 use Rattle.verdicts.specs.Laws.{HasLabels, HasOneListOfLabels, HasSignatureOrNot}
@@ -98,11 +99,11 @@ module _ (message : Message) (label : List ℕ) where
   passes_list : (list : InnerList) → HasMember message input_name label (InnerMember list) → (place : Place) → ¬ FailsToRead message label InputNotList place
   passes_list list has place fails = let same = one_member message input_name label (ItemMember fails.1) (InnerMember list) fails.2 has in absurd (cc same)
 
-  passes_bytes : (member : Member) (tag : List ℕ) → HasMember message signature_name label member → tag_in member ≡ Some tag
+  passes_bytes : (member : Member) (tag : List ℕ) → HasMember message signature_name label member → byte_sequence_in member ≡ Some tag
       → (place : Place) → ¬ FailsToRead message label SignatureNotBytes place
   passes_bytes member tag has is place fails =
       let same : fails.1 ≡ member = one_member message signature_name label fails.1 member fails.2 has in
-      let tags : tag_in fails.1 ≡ tag_in member = ap tag_in same in
+      let tags : byte_sequence_in fails.1 ≡ byte_sequence_in member = ap byte_sequence_in same in
       let none = fails.3 in
       absurd (cc (tags, is, none))
 
@@ -137,7 +138,7 @@ module _ (message : Message) (label : List ℕ) where
   none_below_8 list member has also = nor (FailsToRead message label) InputNotList (none_below_7 (InnerMember list) member has also) (passes_list list has)
 
   none_below_9 : (list : InnerList) (member : Member) (tag : List ℕ) → HasMember message input_name label (InnerMember list)
-      → HasMember message signature_name label member → tag_in member ≡ Some tag → NoneBelow (FailsToRead message label) 9
+      → HasMember message signature_name label member → byte_sequence_in member ≡ Some tag → NoneBelow (FailsToRead message label) 9
   none_below_9 list member tag has also is = nor (FailsToRead message label) SignatureNotBytes (none_below_8 list member has also) (passes_bytes member tag also is)
 
   module _ (list : InnerList) (has : HasMember message input_name label (InnerMember list)) (below : NoneBelow (FailsToRead message label) 9) where
@@ -206,19 +207,19 @@ module _ (message : Message) (label : List ℕ) where
         first_failure (FailsToRead message label) InputNotList Nowhere (none_below_7 (ItemMember item) member (in_input (ItemMember item) is) (in_signature member there))
         (refl, item, in_input (ItemMember item) is)
 
-    pub not_bytes : (list : InnerList) (member : Member) → value_of input label ≡ Some (InnerMember list) → value_of signature label ≡ Some member → tag_in member ≡ None
+    pub not_bytes : (list : InnerList) (member : Member) → value_of input label ≡ Some (InnerMember list) → value_of signature label ≡ Some member → byte_sequence_in member ≡ None
         → IsLabelUnread message label SignatureNotBytes Nowhere
     not_bytes list member is there none =
         first_failure (FailsToRead message label) SignatureNotBytes Nowhere (none_below_8 list member (in_input (InnerMember list) is) (in_signature member there))
         (refl, member, in_signature member there, none)
 
-    pub no_params : (list : InnerList) (member : Member) (tag : List ℕ) → value_of input label ≡ Some (InnerMember list) → value_of signature label ≡ Some member → tag_in member ≡ Some tag
+    pub no_params : (list : InnerList) (member : Member) (tag : List ℕ) → value_of input label ≡ Some (InnerMember list) → value_of signature label ≡ Some member → byte_sequence_in member ≡ Some tag
         → (fault : IdFault) → IsIdFault list fault → SaysRule (IsLabelUnread message label) (id_fault_of fault)
     no_params list member tag is there bytes =
         list_fails list (in_input (InnerMember list) is) (none_below_9 list member tag (in_input (InnerMember list) is) (in_signature member there) bytes)
 
     pub is_signature : (list : InnerList) (member : Member) (tag : List ℕ) (params : SigParams) → value_of input label ≡ Some (InnerMember list) → value_of signature label ≡ Some member
-        → tag_in member ≡ Some tag → IsParamsOf list params → HasSignature message label params tag
+        → byte_sequence_in member ≡ Some tag → IsParamsOf list params → HasSignature message label params tag
     is_signature list member tag params is there bytes are = record {
       input = in_input (InnerMember (list_of params)) (is ∙ ap (λ (l : InnerList). Some (InnerMember l)) (sym are.1));
       are = are.0;
@@ -240,7 +241,7 @@ pub has_one_signature : (message : Message) (label : List ℕ) (params others : 
 has_one_signature message label params others tag other a b =
     let lists : list_of params ≡ list_of others = one_list message label (list_of params) (list_of others) a.input b.input in
     let members : a.member ≡ b.member = one_member message signature_name label a.member b.member a.signature b.signature in
-    (one_value (list_of others) params others (a.are, lists) (b.are, refl), some_is tag other (sym a.tag_is ∙ (ap tag_in members ∙ b.tag_is)))
+    (one_value (list_of others) params others (a.are, lists) (b.are, refl), some_is tag other (sym a.tag_is ∙ (ap byte_sequence_in members ∙ b.tag_is)))
 
 -- ---- one rule is the first, with one place
 
@@ -348,7 +349,7 @@ dict_or_fault message name = elim (cases_Bool (is_there (lines_on Header message
 ]
 
 module _ (message : Message) (label : List ℕ) (input signature : List (Pair Member)) (has : HasDict message input_name input) (also : HasDict message signature_name signature) where
-  by_params : (list : InnerList) (member : Member) (tag : List ℕ) → value_of input label ≡ Some (InnerMember list) → value_of signature label ≡ Some member → tag_in member ≡ Some tag
+  by_params : (list : InnerList) (member : Member) (tag : List ℕ) → value_of input label ≡ Some (InnerMember list) → value_of signature label ≡ Some member → byte_sequence_in member ≡ Some tag
       → ((params : SigParams) × IsParamsOf list params) ⊎ ((fault : IdFault) × IsIdFault list fault) → Answer message label
   by_params list member tag is there bytes (inl params) = inl (params.0, tag, is_signature message label input signature has also list member tag params.0 is there bytes params.1)
   by_params list member tag is there bytes (inr fault) =
@@ -362,12 +363,12 @@ module _ (message : Message) (label : List ℕ) (input signature : List (Pair Me
       known Memory first e = absurd first.holds
 
   by_tag : (list : InnerList) (member : Member) → value_of input label ≡ Some (InnerMember list) → value_of signature label ≡ Some member
-      → (tag : Option (List ℕ)) → tag_in member ≡ tag → Answer message label
+      → (tag : Option (List ℕ)) → byte_sequence_in member ≡ tag → Answer message label
   by_tag list member is there (Some tag) bytes = by_params list member tag is there bytes (has_answer list)
   by_tag list member is there None bytes = inr (SignatureNotBytes, Nowhere, not_bytes message label input signature has also list member is there bytes)
 
   by_covered : (covered member : Member) → value_of input label ≡ Some covered → value_of signature label ≡ Some member → Answer message label
-  by_covered (InnerMember list) member is there = by_tag list member is there (tag_in member) refl
+  by_covered (InnerMember list) member is there = by_tag list member is there (byte_sequence_in member) refl
   by_covered (ItemMember item) member is there = inr (InputNotList, Nowhere, not_a_list message label input signature has also item member is there)
 
   by_members : (covered member : Option Member) → value_of input label ≡ covered → value_of signature label ≡ member → Answer message label

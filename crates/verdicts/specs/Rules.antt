@@ -39,7 +39,8 @@ use Rattle.verdicts.specs.declared.place.DigestReason.{DigestReason}
 use Rattle.verdicts.specs.declared.place.Place.{Place}
 use Rattle.verdicts.specs.declared.place.Place.TheVariants.{None as Nowhere, Index, Component, Name, Identifier, Digest as DigestPlace}
 use Rattle.verdicts.specs.ContentDigest.{asks_digest, LacksDigest}
-use Rattle.verdicts.specs.Signatures.{input_name, signature_name, tag_in, HasField, HasDict, HasMember, HasSignature}
+use Rattle.sfv_text.specs.Parts.{byte_sequence_in}
+use Rattle.verdicts.specs.Signatures.{input_name, signature_name, HasField, HasDict, HasMember, HasSignature}
 use Rattle.verdicts.specs.Words.{rule_number}
 
 -- ---- rules 1 to 12: whether the message has a signature of the label
@@ -70,7 +71,7 @@ FailsToRead message label InputNotList place =
     (place ≡ Nowhere) × (item : Item) × HasMember message input_name label (ItemMember item)
 FailsToRead message label SignatureNotBytes place =
     (place ≡ Nowhere) × (member : Member) × HasMember message signature_name label member
-    × (tag_in member ≡ None)
+    × (byte_sequence_in member ≡ None)
 FailsToRead message label ComponentsMany place =
     (place ≡ Nowhere) × ListHasCause message label TooMany
 FailsToRead message label ComponentBad place =

@@ -1,11 +1,10 @@
 -- The signatures of a message, by their labels (RFC 9421 sections 4.1 and 4.2).
 use Rattle.std.specs.Prelude.{◌≡◌, ◌⊎◌, ℕ, IsTrue, Option, Some, None, List, [], map, codes}
+use Rattle.sfv_text.specs.Parts.{byte_sequence_in}
 use Rattle.sfv_text.specs.Keys.{value_of}
 use Rattle.sfv_text.specs.declared.pair.Pair.{Pair}
-use Rattle.sfv_text.specs.declared.value.BareItem.{BareItem}
-use Rattle.sfv_text.specs.declared.value.BareItem.TheVariants.{Bytes}
 use Rattle.sfv_text.specs.declared.value.Member.{Member}
-use Rattle.sfv_text.specs.declared.value.Member.TheVariants.{Item as ItemMember, InnerList as InnerMember}
+use Rattle.sfv_text.specs.declared.value.Member.TheVariants.{InnerList as InnerMember}
 use Rattle.sfv_read.specs.Reads.{ReadsDict}
 use Rattle.msg_head.specs.declared.error.Side.TheVariants.{Header}
 use Rattle.msg_body.specs.Messages.{Message}
@@ -37,15 +36,6 @@ pub record HasMember (message : Message) (name label : List ℕ) (member : Membe
   pub has : HasDict message name dict
   pub member_is : value_of dict label ≡ Some member
 
-abbrev pub bytes_in : BareItem → Option (List ℕ)
-bytes_in (Bytes bytes) = Some bytes
-bytes_in bare = None
-
--- the bytes of a Byte Sequence; the parameters of the member say nothing
-abbrev pub tag_in : Member → Option (List ℕ)
-tag_in (ItemMember item) = bytes_in item.bare
-tag_in (InnerMember list) = None
-
 -- The message has a signature of the label: these signature parameters are the label's Inner List
 -- in `Signature-Input`, and the tag is its Byte Sequence in `Signature`.
 pub record HasSignature (message : Message) (label : List ℕ) (params : SigParams) (tag : List ℕ)
@@ -54,7 +44,7 @@ pub record HasSignature (message : Message) (label : List ℕ) (params : SigPara
   pub are : IsSigParams params
   pub member : Member
   pub signature : HasMember message signature_name label member
-  pub tag_is : tag_in member ≡ Some tag
+  pub tag_is : byte_sequence_in member ≡ Some tag
 
 -- the labels of a message: the keys of `Signature-Input` in order, or none where it is no
 -- Dictionary

@@ -1,6 +1,6 @@
 //! The signature of a label.
 
-ghost use Rattle.std.specs.Prelude.{◌≡◌, IsTrue, IfOk, option_map};
+ghost use Rattle.std.specs.Prelude.{◌≡◌, IsTrue, IfOk};
 ghost use Rattle.byte_grammar.specs.Causes.{AnswersWhere};
 ghost use Rattle.sfv_text.specs.Range.{is_dict_in_range};
 ghost use Rattle.msg_body.specs.Messages.{Message};
@@ -8,7 +8,7 @@ ghost use Rattle.msg_body.specs.Views.{message_of};
 ghost use Rattle.component_ids.specs.SignatureParams.{are_sig_params_in_range};
 ghost use Rattle.verdicts.specs.declared.place.Place.{Place};
 ghost use Rattle.verdicts.specs.declared.rule.Rule.{Rule};
-ghost use Rattle.verdicts.specs.Signatures.{input_name, signature_name, tag_in, HasDict, HasSignature};
+ghost use Rattle.verdicts.specs.Signatures.{input_name, signature_name, HasDict, HasSignature};
 ghost use Rattle.verdicts.specs.Rules.{IsLabelUnread};
 ghost use Rattle.verdicts.specs.tools.Answered.{ExplainsLabel};
 
@@ -18,7 +18,7 @@ use crate::place::Place;
 use crate::rule::Rule;
 use component_ids::{IdFault, read_params};
 use msg_body::MessageView;
-use sfv_text::{BareItem, Dict, Member, Text};
+use sfv_text::{Dict, Member};
 use std::alloc::Global;
 
 /// The fault of a label whose Inner List is no signature parameters.
@@ -43,19 +43,6 @@ impl From<IdFault> for LabelFault {
     }
 }
 
-/// The bytes of a Byte Sequence.
-fn tag_in(member: &Member) -> Option<&Text>
-    ensures { option_map (λ tag. tag.now) result ≡ tag_in member.now }
-{
-    match member {
-        Member::Item(item) => match &item.bare {
-            BareItem::Bytes(tag) => Some(tag),
-            _ => None,
-        },
-        Member::InnerList(_) => None,
-    }
-}
-
 /// The signature of the label in the Dictionaries `Signature-Input` and `Signature`.
 fn read_members(
     alloc: Global,
@@ -77,7 +64,7 @@ fn read_members(
     let Member::InnerList(list) = covered else {
         return Err(LabelFault::Rule(Rule::InputNotList, Place::None));
     };
-    let Some(tag) = tag_in(member) else {
+    let Some(tag) = member.byte_sequence() else {
         return Err(LabelFault::Rule(Rule::SignatureNotBytes, Place::None));
     };
     let params = read_params(alloc, list)?;

@@ -19,18 +19,18 @@ returns-in_default-covered-clause-explains c = λ message has also.
     not_a_list message c.args.label.now c.args.input.now c.args.signature.now has also c.in_default-covered.field-0 c.in-Some-find.member.now
     (sym c.in-Some.ensures ∙ ap (λ (m : Member). Some m) c.in_default-covered.is) (sym c.in-Some-find.ensures)
 
-pub returns-in_default-tag_in-clause-explains : goal.returns-in_default-tag_in-clause-explains
-returns-in_default-tag_in-clause-explains c = λ message has also.
+pub returns-in_default-byte_sequence-clause-explains : goal.returns-in_default-byte_sequence-clause-explains
+returns-in_default-byte_sequence-clause-explains c = λ message has also.
     not_bytes message c.args.label.now c.args.input.now c.args.signature.now has also c.in-InnerList.list c.in-Some-find.member.now
-    (sym c.in-Some.ensures ∙ ap (λ (m : Member). Some m) c.in-InnerList.is) (sym c.in-Some-find.ensures) (sym c.in_default-tag_in.ensures)
+    (sym c.in-Some.ensures ∙ ap (λ (m : Member). Some m) c.in-InnerList.is) (sym c.in-Some-find.ensures) (sym c.in_default-byte_sequence.ensures)
 
 pub returns-in_err-params-clause-explains : goal.returns-in_err-params-clause-explains
 returns-in_err-params-clause-explains c = λ message has also.
     let p = err_from_is_err_and c.from_residual.result c.from_residual.ensures.1 in
     rw (p.1, p.2)
     (params_fail message c.args.label.now c.in-InnerList.list c.in_err-params.field-0.0 c.in_err-params.ensures.fault
-    (no_params message c.args.label.now c.args.input.now c.args.signature.now has also c.in-InnerList.list c.in-Some-find.member.now c.in-Some-tag_in.tag.now
-    (sym c.in-Some.ensures ∙ ap (λ (m : Member). Some m) c.in-InnerList.is) (sym c.in-Some-find.ensures) (sym c.in-Some-tag_in.ensures)))
+    (no_params message c.args.label.now c.args.input.now c.args.signature.now has also c.in-InnerList.list c.in-Some-find.member.now c.in-Some-byte_sequence.tag.now
+    (sym c.in-Some.ensures ∙ ap (λ (m : Member). Some m) c.in-InnerList.is) (sym c.in-Some-find.ensures) (sym c.in-Some-byte_sequence.ensures)))
 
 pub returns-clause-in_range : goal.returns-clause-in_range
 returns-clause-in_range c = λ ranged.

@@ -1,0 +1,21 @@
+-- What bare items and members hold, by their type (RFC 9651 section 3.3).
+use Rattle.std.specs.Prelude.{ℕ, Option, Some, None, List}
+use Rattle.sfv_text.specs.declared.value.BareItem.{BareItem}
+use Rattle.sfv_text.specs.declared.value.BareItem.TheVariants.{Str, Bytes}
+use Rattle.sfv_text.specs.declared.value.Member.{Member}
+use Rattle.sfv_text.specs.declared.value.Member.TheVariants.{Item as ItemMember, InnerList as InnerMember}
+
+-- the characters of a String
+abbrev pub string_in : BareItem → Option (List ℕ)
+string_in (Str text) = Some text
+string_in bare = None
+
+-- the bytes of a Byte Sequence
+abbrev pub bytes_in : BareItem → Option (List ℕ)
+bytes_in (Bytes bytes) = Some bytes
+bytes_in bare = None
+
+-- the bytes of a member that is a Byte Sequence; its parameters say nothing
+abbrev pub byte_sequence_in : Member → Option (List ℕ)
+byte_sequence_in (ItemMember item) = bytes_in item.bare
+byte_sequence_in (InnerMember list) = None
