@@ -387,44 +387,46 @@ fn assert_digests(
     assert_verdict(rt, head.bytes(), end, case)
 }
 
+// Digests of the content of 18 bytes, the tag of a label that covers them, and its verdict where
+// they are asked for.
+const DIGESTS: [(&str, &str, &str); 7] = [
+    (
+        SHA_256,
+        "8GDU+CpdRctLJ2lyaozyrOZ8WdX26YCtbE7vKbb7RV4=",
+        "ok",
+    ),
+    (
+        SHA_512,
+        "bcBt+yhA7Erts51h3y3GV4BjuQ0i4F1z3cnW1s7sLvw=",
+        "ok",
+    ),
+    (
+        EMPTY_SHA_256,
+        "AiTL9vo3Z/+YT2UMidtSKbTbXX0357uZ1hEiuOQL83E=",
+        "rule 33 digest mismatch sha-256",
+    ),
+    (
+        "sha-512=:AAAA:",
+        "0FFfRMuvhKn9EULKNjrzVpdTqcPZ1oB/IxCzdhvnmTE=",
+        "rule 33 digest mismatch sha-512",
+    ),
+    (
+        "md5=:AAAA:",
+        "nSYroOqdsC7vj3MW25S/j+NTIzYx1ifsB+o+La8qmRY=",
+        "rule 33 digest none-known",
+    ),
+    (
+        "=",
+        "49MyTdz0wQQ/pfWF7tgxh5w0UCLVmFUryaDGfJ1bP+4=",
+        "rule 33 digest malformed",
+    ),
+    // a wrong tag is told first
+    ("=", "AAAA", "rule 32 mac-mismatch"),
+];
+
 #[test]
 fn digests_of_content(rt: HostRuntime) -> Result<(), Fail> {
-    let mismatch = "rule 33 digest mismatch sha-256";
-    let cases = [
-        (
-            SHA_256,
-            "8GDU+CpdRctLJ2lyaozyrOZ8WdX26YCtbE7vKbb7RV4=",
-            "ok",
-        ),
-        (
-            SHA_512,
-            "bcBt+yhA7Erts51h3y3GV4BjuQ0i4F1z3cnW1s7sLvw=",
-            "ok",
-        ),
-        (
-            EMPTY_SHA_256,
-            "AiTL9vo3Z/+YT2UMidtSKbTbXX0357uZ1hEiuOQL83E=",
-            mismatch,
-        ),
-        (
-            "sha-512=:AAAA:",
-            "0FFfRMuvhKn9EULKNjrzVpdTqcPZ1oB/IxCzdhvnmTE=",
-            "rule 33 digest mismatch sha-512",
-        ),
-        (
-            "md5=:AAAA:",
-            "nSYroOqdsC7vj3MW25S/j+NTIzYx1ifsB+o+La8qmRY=",
-            "rule 33 digest none-known",
-        ),
-        (
-            "=",
-            "49MyTdz0wQQ/pfWF7tgxh5w0UCLVmFUryaDGfJ1bP+4=",
-            "rule 33 digest malformed",
-        ),
-        // a wrong tag is told first
-        ("=", "AAAA", "rule 32 mac-mismatch"),
-    ];
-    for (digests, tag, verdict) in &cases {
+    for (digests, tag, verdict) in &DIGESTS {
         let by_content = judged(covering(*tag), CONTENT_POLICY, "1000", *verdict);
         assert_digests(&rt, *digests, true, &by_content)?;
         let always = judged(covering(*tag), ALWAYS_POLICY, "1000", *verdict);
