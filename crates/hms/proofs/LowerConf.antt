@@ -3,8 +3,9 @@ use Rattle.conf.proofs.CauseLaws as cause
 use Rattle.conf.proofs.MeaningLaws as meaning
 use Rattle.conf.specs.Laws.{HasOneMeaning, HasOneConfFault, HasNoFaultWhereRead}
 use Rattle.verdicts.proofs.Judging as judging
-use Rattle.verdicts.proofs.Reading as reading
-use Rattle.verdicts.specs.Laws.{HasOneListOfLabels, HasOneVerdict}
+use Rattle.signatures.proofs.Reading as reading
+use Rattle.signatures.specs.Laws.{HasOneListOfLabels}
+use Rattle.verdicts.specs.Laws.{HasOneVerdict}
 
 pub one_meaning : HasOneMeaning
 one_meaning = meaning.one_meaning

@@ -4,7 +4,7 @@ use Rattle.std.specs.List.{list_all, flat_map, zip}
 use Rattle.msg_body.specs.Messages.{Message}
 use Rattle.conf.specs.Configuration.{Configuration}
 use Rattle.verdicts.specs.Rules.{Verification}
-use Rattle.verdicts.specs.Signatures.{AreLabels}
+use Rattle.signatures.specs.Signatures.{AreLabels}
 use Rattle.verdicts.specs.Verdicts.{IsVerdict}
 use Rattle.verdicts.specs.declared.outcome.Verdict.{Verdict}
 use Rattle.verdicts.specs.declared.outcome.Verdict.TheVariants.{Ok as Accepted, Rule as Failing}

@@ -4,11 +4,11 @@ use Rattle.std.specs.Fmt.{decimal}
 use Rattle.std.specs.Str.{byte}
 use Rattle.component_ids.specs.Identifiers.{id_text}
 use Rattle.component_ids.specs.Reasons.{word_of}
-use Rattle.verdicts.specs.Words.{rule_number, rule_word, reason_word}
+use Rattle.signatures.specs.Words.{rule_number, rule_word, reason_word}
 use Rattle.verdicts.specs.declared.outcome.Verdict.{Verdict}
 use Rattle.verdicts.specs.declared.outcome.Verdict.TheVariants.{Ok as Accepted, Rule as Failing}
-use Rattle.verdicts.specs.declared.place.Place.{Place}
-use Rattle.verdicts.specs.declared.place.Place.TheVariants.{None as Nowhere, Index, Component, Name, Identifier, Digest}
+use Rattle.signatures.specs.declared.place.Place.{Place}
+use Rattle.signatures.specs.declared.place.Place.TheVariants.{None as Nowhere, Index, Component, Name, Identifier, Digest}
 
 -- where a rule fails, after a space
 abbrev pub place_text : Place → List ℕ

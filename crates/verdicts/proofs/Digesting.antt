@@ -9,16 +9,16 @@ use Rattle.content_digest.specs.Faults.{IsDigestFault}
 use Rattle.content_digest.specs.declared.fault.DigestFault.{DigestFault}
 use Rattle.content_digest.specs.declared.fault.DigestFault.TheVariants as fault
 use Rattle.content_digest.proofs.DigestLaws.{one_digest_fault, no_fault_where_holds, has_digest_answer}
-use Rattle.verdicts.specs.declared.label.LabelFault.{LabelFault}
-use Rattle.verdicts.specs.declared.label.LabelFault.TheVariants.{Memory, Rule as IsRule}
-use Rattle.verdicts.specs.declared.place.DigestReason.{DigestReason}
-use Rattle.verdicts.specs.declared.place.DigestReason.TheVariants.{Uncovered, Malformed, NoneKnown, Mismatch}
-use Rattle.verdicts.specs.declared.place.Place.{Place}
-use Rattle.verdicts.specs.declared.place.Place.TheVariants.{Digest as DigestPlace}
-use Rattle.verdicts.specs.declared.rule.Rule.{Rule}
-use Rattle.verdicts.specs.declared.rule.Rule.TheVariants.{Digest}
+use Rattle.signatures.specs.declared.label.LabelFault.{LabelFault}
+use Rattle.signatures.specs.declared.label.LabelFault.TheVariants.{Memory, Rule as IsRule}
+use Rattle.signatures.specs.declared.place.DigestReason.{DigestReason}
+use Rattle.signatures.specs.declared.place.DigestReason.TheVariants.{Uncovered, Malformed, NoneKnown, Mismatch}
+use Rattle.signatures.specs.declared.place.Place.{Place}
+use Rattle.signatures.specs.declared.place.Place.TheVariants.{Digest as DigestPlace}
+use Rattle.signatures.specs.declared.rule.Rule.{Rule}
+use Rattle.signatures.specs.declared.rule.Rule.TheVariants.{Digest}
 use Rattle.verdicts.specs.ContentDigest.{covers_digest, digest_text, reason_of, HasDigest, LacksDigest}
-use Rattle.verdicts.specs.tools.Answered.{SaysRule}
+use Rattle.signatures.specs.tools.Answered.{SaysRule}
 use Rattle.verdicts.specs.tools.Judged.{digest_label_fault, FailsByField, FailsByDigest}
 
 module _ (message : Message) (ids : List ComponentId) where

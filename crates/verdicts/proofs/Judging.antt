@@ -29,27 +29,28 @@ use Rattle.policy_rules.specs.Parameters.{alg_of, keyid_of, nonce_of}
 use Rattle.policy_rules.specs.PolicyRules.{PolicyCheck, asks_new, FailsPolicy, policy_order, IsFirstPolicyFault, AcceptsByPolicy, is_full_at, LacksRoom, HasRoom}
 use Rattle.policy_rules.proofs.Judging.{has_one_policy_fault, has_policy_answer, is_accepted_where_no_fault, has_room_or_lacks_it}
 use Rattle.verdicts.specs.ContentDigest.{HasDigest, LacksDigest}
-use Rattle.verdicts.specs.declared.place.DigestReason.{DigestReason}
-use Rattle.verdicts.specs.declared.label.LabelFault.{LabelFault}
-use Rattle.verdicts.specs.declared.label.LabelFault.TheVariants.{Memory, Rule as IsRule}
-use Rattle.verdicts.specs.declared.label.LabelRead.{LabelRead}
+use Rattle.signatures.specs.declared.place.DigestReason.{DigestReason}
+use Rattle.signatures.specs.declared.label.LabelFault.{LabelFault}
+use Rattle.signatures.specs.declared.label.LabelFault.TheVariants.{Memory, Rule as IsRule}
+use Rattle.signatures.specs.declared.label.LabelRead.{LabelRead}
 use Rattle.verdicts.specs.declared.outcome.Verdict.{Verdict}
 use Rattle.verdicts.specs.declared.outcome.Verdict.TheVariants.{Ok as Accepted, Rule as Refused}
-use Rattle.verdicts.specs.declared.place.Place.{Place}
-use Rattle.verdicts.specs.declared.place.Place.TheVariants.{None as Nowhere, Name, Identifier, Digest as DigestPlace}
-use Rattle.verdicts.specs.declared.rule.Rule.{Rule}
-use Rattle.verdicts.specs.declared.rule.Rule.TheVariants.{InputAbsent, InputMalformed, SignatureAbsent, SignatureMalformed, LabelNotInInput, LabelNotInSignature, InputNotList, SignatureNotBytes, ComponentsMany, ComponentBad, ComponentRepeated, ParameterBad, AlgRefused, AlgUnknown, KeyidAbsent, KeyUnknown, ComponentRequired, CreatedAbsent, CreatedAhead, TooOld, ExpiresAbsent, Expired, TagWrong, NonceAbsent, NonceRepeated, NonceLong, Absent, Ambiguous, Underivable, Unreadable, NotAscii, MacMismatch, Digest, NoncesFull}
-use Rattle.verdicts.specs.Words.{rule_number}
-use Rattle.verdicts.specs.Signatures.{HasSignature}
-use Rattle.verdicts.specs.Rules.{Verification, key_in, supported_algorithm, refused_algorithms, check_of, asks_digest_of, OfSignature, FailsByLack, IsNoMac, FailsToRead, Fails, IsLabelUnread, IsFirstFailure}
+use Rattle.signatures.specs.declared.place.Place.{Place}
+use Rattle.signatures.specs.declared.place.Place.TheVariants.{None as Nowhere, Name, Identifier, Digest as DigestPlace}
+use Rattle.signatures.specs.declared.rule.Rule.{Rule}
+use Rattle.signatures.specs.declared.rule.Rule.TheVariants.{InputAbsent, InputMalformed, SignatureAbsent, SignatureMalformed, LabelNotInInput, LabelNotInSignature, InputNotList, SignatureNotBytes, ComponentsMany, ComponentBad, ComponentRepeated, ParameterBad, AlgRefused, AlgUnknown, KeyidAbsent, KeyUnknown, ComponentRequired, CreatedAbsent, CreatedAhead, TooOld, ExpiresAbsent, Expired, TagWrong, NonceAbsent, NonceRepeated, NonceLong, Absent, Ambiguous, Underivable, Unreadable, NotAscii, MacMismatch, Digest, NoncesFull}
+use Rattle.signatures.specs.Words.{rule_number}
+use Rattle.signatures.specs.Signatures.{HasSignature}
+use Rattle.signatures.specs.Rules.{FailsToRead, IsLabelUnread, IsFirstFailure}
+use Rattle.verdicts.specs.Rules.{Verification, key_in, supported_algorithm, refused_algorithms, check_of, asks_digest_of, OfSignature, FailsByLack, IsNoMac, Fails}
 use Rattle.verdicts.specs.Verdicts.{Accepts, IsVerdict}
 use Rattle.verdicts.specs.Laws.{HasVerdict, HasOneVerdict, IsAcceptedWhereNoRuleFails}
-use Rattle.verdicts.specs.tools.Answered.{SaysRule}
+use Rattle.signatures.specs.tools.Answered.{SaysRule}
 use Rattle.verdicts.specs.tools.Judged.{FailsByAlgorithm, FailsByKeyid, FailsByKey, FailsByTag, SaysFault, LiesIn, rule_of_lack, policy_label_fault, FailsByCheck, FailsByDigest, FailsByRoom, IsJudged}
 use Rattle.verdicts.proofs.RuleOrder.{NoneBelow, most, nor, first_failure, one_first_failure}
 use Rattle.verdicts.proofs.Places.{place_in_range}
 use Rattle.verdicts.proofs.Digesting.{one_reason, has_not_both, has_digest_or_reason}
-use Rattle.verdicts.proofs.Reading.{has_one_signature, is_unread_by_one_rule, signature_passes, has_signature_or_not, below_13}
+use Rattle.signatures.proofs.Reading.{has_one_signature, is_unread_by_one_rule, has_no_failure_where_read, has_signature_or_not, is_unread_by_rules_to_12}
 
 -- ---- names of algorithms
 
@@ -136,7 +137,7 @@ module _ (v : Verification) where
   unread_is_first rule place first = record {
     holds = of_reading rule place first.holds;
     none_before = λ other lt fails.
-        let low = below_13 v.context.message v.label rule place first.holds in
+        let low = is_unread_by_rules_to_12 v.context.message v.label rule place first.holds in
         first.none_before other lt (as_reading other.rule other.place (omega (arith, lt, low)) fails);
   }
 
@@ -165,7 +166,7 @@ module _ (v : Verification) (params : SigParams) (tag : List ℕ) (has : HasSign
       subst (λ (t : List ℕ). Fact params t) same.1 (subst (λ (p : SigParams). Fact p x.1) same.0 x.3)
 
   none_below_13 : NoneBelow (Fails v) 13
-  none_below_13 rule place lt fails = signature_passes v.context.message v.label params tag has rule place lt (as_reading v rule place lt fails)
+  none_below_13 rule place lt fails = has_no_failure_where_read v.context.message v.label params tag rule place has (as_reading v rule place lt fails)
 
   -- ---- the rules of the policy
 

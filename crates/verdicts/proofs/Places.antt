@@ -1,19 +1,13 @@
 -- The component at which a rule fails is in range.
-use Rattle.std.proofs.Common.{◌≡◌, ℕ, Bool, true, false, IsTrue, IsFalse, ◌∷◌, List, map, refl, sym, ◌∙◌}
+use Rattle.std.proofs.Common.{◌≡◌, ℕ, Bool, true, false, IsTrue, IsFalse, ◌∷◌, List, refl}
 use Rattle.std.specs.List.{list_all, slice_get}
 use Rattle.std.specs.Option.{IsSomeAnd}
 use Rattle.std.proofs.lemmas.Bool.{and_parts}
-use Rattle.std.proofs.lemmas.List.Folds.{list_all-map}
 use Rattle.byte_grammar.proofs.Indices.{some_and_parts, all_at}
-use Rattle.sfv_text.specs.Range.{is_item_in_range, are_params_in_range}
+use Rattle.sfv_text.specs.Range.{are_params_in_range}
 use Rattle.sfv_text.specs.Strict.{string_text}
-use Rattle.sfv_read.proofs.InRange.{dict_read_in_range}
-use Rattle.msg_head.specs.declared.error.Side.TheVariants.{Header}
 use Rattle.msg_body.specs.Messages.{Message}
-use Rattle.msg_body.specs.Views.{lines_on}
-use Rattle.line_values.specs.Values.{combined_value}
-use Rattle.component_ids.specs.Identifiers.{item_of, is_id_in_range}
-use Rattle.component_ids.specs.SignatureParams.{list_of}
+use Rattle.component_ids.specs.Identifiers.{is_id_in_range}
 use Rattle.component_ids.specs.Table.{is_listed}
 use Rattle.component_ids.specs.declared.id.ComponentId.{ComponentId}
 use Rattle.component_ids.specs.declared.params.SigParams.{SigParams}
@@ -24,22 +18,19 @@ use Rattle.conf_sections.specs.declared.policy.Policy.{Policy}
 use Rattle.conf_sections.specs.ValidSections.{IsValidPolicy}
 use Rattle.policy_rules.specs.Parameters.{alg_of}
 use Rattle.policy_rules.specs.PolicyRules.{required_ids}
-use Rattle.verdicts.specs.declared.place.Place.{Place}
-use Rattle.verdicts.specs.declared.place.Place.TheVariants.{Name, Identifier}
-use Rattle.verdicts.specs.declared.rule.Rule.{Rule}
-use Rattle.verdicts.specs.declared.rule.Rule.TheVariants.{InputAbsent, InputMalformed, SignatureAbsent, SignatureMalformed, LabelNotInInput, LabelNotInSignature, InputNotList, SignatureNotBytes, ComponentsMany, ComponentBad, ComponentRepeated, ParameterBad, AlgRefused, AlgUnknown, KeyidAbsent, KeyUnknown, ComponentRequired, CreatedAbsent, CreatedAhead, TooOld, ExpiresAbsent, Expired, TagWrong, NonceAbsent, NonceRepeated, NonceLong, Absent, Ambiguous, Underivable, Unreadable, NotAscii, MacMismatch, Digest, NoncesFull}
-use Rattle.verdicts.specs.Signatures.{input_name, HasSignature}
-use Rattle.verdicts.specs.Rules.{Verification, supported_algorithm, refused_algorithms, FailsByLack, FailsToRead, Fails}
+use Rattle.signatures.specs.declared.place.Place.{Place}
+use Rattle.signatures.specs.declared.place.Place.TheVariants.{Name, Identifier}
+use Rattle.signatures.specs.declared.rule.Rule.{Rule}
+use Rattle.signatures.specs.declared.rule.Rule.TheVariants.{InputAbsent, InputMalformed, SignatureAbsent, SignatureMalformed, LabelNotInInput, LabelNotInSignature, InputNotList, SignatureNotBytes, ComponentsMany, ComponentBad, ComponentRepeated, ParameterBad, AlgRefused, AlgUnknown, KeyidAbsent, KeyUnknown, ComponentRequired, CreatedAbsent, CreatedAhead, TooOld, ExpiresAbsent, Expired, TagWrong, NonceAbsent, NonceRepeated, NonceLong, Absent, Ambiguous, Underivable, Unreadable, NotAscii, MacMismatch, Digest, NoncesFull}
+use Rattle.signatures.specs.Signatures.{HasSignature}
+use Rattle.signatures.specs.Rules.{FailsToRead}
+use Rattle.verdicts.specs.Rules.{Verification, supported_algorithm, refused_algorithms, FailsByLack, Fails}
 use Rattle.verdicts.specs.Verdicts.{is_place_in_range}
-use Rattle.verdicts.proofs.InRange.{inner_in_range}
+use Rattle.signatures.proofs.InRange.{is_signature_in_range}
 
 -- each component that a signature covers is in range
 ids_in_range : (message : Message) (label : List ℕ) (params : SigParams) (tag : List ℕ) → HasSignature message label params tag → list_all is_id_in_range params.ids ≡ true
-ids_in_range message label params tag has =
-    let dict = has.input.dict in
-    let fits = dict_read_in_range (combined_value (lines_on Header message) input_name) dict has.input.has.reads in
-    let inner = inner_in_range dict label (list_of params) fits has.input.member_is in
-    sym (list_all-map is_item_in_range item_of params.ids) ∙ (and_parts (list_all is_item_in_range (map item_of params.ids)) (are_params_in_range params.params) inner).0
+ids_in_range message label params tag has = (and_parts (list_all is_id_in_range params.ids) (are_params_in_range params.params) (is_signature_in_range message label params tag has)).0
 
 reading_place : (message : Message) (label : List ℕ) (rule : Rule) (place : Place) → FailsToRead message label rule place → is_place_in_range place ≡ true
 reading_place message label InputAbsent place fails = rw fails.0 refl

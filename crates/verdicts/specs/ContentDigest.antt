@@ -16,8 +16,8 @@ use Rattle.content_digest.specs.Digests.{DigestHolds}
 use Rattle.content_digest.specs.Faults.{IsDigestFault}
 use Rattle.content_digest.specs.declared.fault.DigestFault.{DigestFault}
 use Rattle.content_digest.specs.declared.fault.DigestFault.TheVariants as fault
-use Rattle.verdicts.specs.declared.place.DigestReason.{DigestReason}
-use Rattle.verdicts.specs.declared.place.DigestReason.TheVariants.{Uncovered, Malformed, NoneKnown, Mismatch}
+use Rattle.signatures.specs.declared.place.DigestReason.{DigestReason}
+use Rattle.signatures.specs.declared.place.DigestReason.TheVariants.{Uncovered, Malformed, NoneKnown, Mismatch}
 
 -- the digest has to be covered: always, or where the content has a byte
 abbrev pub asks_digest : DigestUse → List ℕ → Bool

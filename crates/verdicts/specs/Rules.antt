@@ -1,24 +1,13 @@
 -- The rules that a label is judged by, as a table: a rule fails so, with this place, exactly where
--- its row holds (RFC 9421 sections 3.2, 4.1 and 4.2). A row that speaks of what an earlier failure
--- leaves undefined holds only where the earlier rule doesn't fail.
+-- its row holds (RFC 9421 section 3.2). A row that speaks of what an earlier failure leaves
+-- undefined holds only where the earlier rule doesn't fail.
 use Rattle.std.specs.Prelude.{◌≡◌, ℕ, Bool, IsTrue, IsFalse, Option, Some, None, List, [], ◌∷◌, slice_get, IsSomeAnd, codes}
 use Rattle.std.specs.FinMap as map
-use Rattle.byte_grammar.specs.Causes.{IsFirst}
-use Rattle.sfv_text.specs.Keys.{value_of}
 use Rattle.sfv_text.specs.Strict.{string_text}
-use Rattle.sfv_text.specs.declared.pair.Pair.{Pair}
-use Rattle.sfv_text.specs.declared.value.Item.{Item}
-use Rattle.sfv_text.specs.declared.value.InnerList.{InnerList}
-use Rattle.sfv_text.specs.declared.value.Member.{Member}
-use Rattle.sfv_text.specs.declared.value.Member.TheVariants.{Item as ItemMember, InnerList as InnerMember}
 use Rattle.framing.specs.Framings.{is_request}
 use Rattle.msg_body.specs.Messages.{Message}
 use Rattle.msg_body.specs.Views.{message_content}
-use Rattle.component_ids.specs.Causes.{IsCause}
 use Rattle.component_ids.specs.Table.{is_listed}
-use Rattle.component_ids.specs.declared.fault.BadReason.{BadReason}
-use Rattle.component_ids.specs.declared.fault.IdFault.{IdFault}
-use Rattle.component_ids.specs.declared.fault.IdFault.TheVariants.{TooMany, BadComponent, Repeated, BadParameter}
 use Rattle.component_ids.specs.declared.params.SigParams.{SigParams}
 use Rattle.component_ids.specs.declared.id.ComponentId.{ComponentId}
 use Rattle.derived_values.specs.declared.lack.Lack.{Lack}
@@ -33,57 +22,14 @@ use Rattle.policy_rules.specs.declared.fault.PolicyFault.{PolicyFault}
 use Rattle.policy_rules.specs.declared.fault.PolicyFault.TheVariants as policy
 use Rattle.policy_rules.specs.Parameters.{alg_of, keyid_of}
 use Rattle.policy_rules.specs.PolicyRules.{PolicyCheck, policy_check, FailsPolicy, LacksRoom}
-use Rattle.verdicts.specs.declared.rule.Rule.{Rule}
-use Rattle.verdicts.specs.declared.rule.Rule.TheVariants.{InputAbsent, InputMalformed, SignatureAbsent, SignatureMalformed, LabelNotInInput, LabelNotInSignature, InputNotList, SignatureNotBytes, ComponentsMany, ComponentBad, ComponentRepeated, ParameterBad, AlgRefused, AlgUnknown, KeyidAbsent, KeyUnknown, ComponentRequired, CreatedAbsent, CreatedAhead, TooOld, ExpiresAbsent, Expired, TagWrong, NonceAbsent, NonceRepeated, NonceLong, Absent, Ambiguous, Underivable, Unreadable, NotAscii, MacMismatch, Digest, NoncesFull}
-use Rattle.verdicts.specs.declared.place.DigestReason.{DigestReason}
-use Rattle.verdicts.specs.declared.place.Place.{Place}
-use Rattle.verdicts.specs.declared.place.Place.TheVariants.{None as Nowhere, Index, Component, Name, Identifier, Digest as DigestPlace}
+use Rattle.signatures.specs.declared.rule.Rule.{Rule}
+use Rattle.signatures.specs.declared.rule.Rule.TheVariants.{AlgRefused, AlgUnknown, KeyidAbsent, KeyUnknown, ComponentRequired, CreatedAbsent, CreatedAhead, TooOld, ExpiresAbsent, Expired, TagWrong, NonceAbsent, NonceRepeated, NonceLong, Absent, Ambiguous, Underivable, Unreadable, NotAscii, MacMismatch, Digest, NoncesFull}
+use Rattle.signatures.specs.declared.place.DigestReason.{DigestReason}
+use Rattle.signatures.specs.declared.place.Place.{Place}
+use Rattle.signatures.specs.declared.place.Place.TheVariants.{None as Nowhere, Name, Identifier, Digest as DigestPlace}
 use Rattle.verdicts.specs.ContentDigest.{asks_digest, LacksDigest}
-use Rattle.sfv_text.specs.Parts.{byte_sequence_in}
-use Rattle.verdicts.specs.Signatures.{input_name, signature_name, HasField, HasDict, HasMember, HasSignature}
-use Rattle.verdicts.specs.Words.{rule_number}
-
--- ---- rules 1 to 12: whether the message has a signature of the label
-
--- the label's Inner List is no signature parameters, and this is a cause (RFC 9421 section 2.3)
-abbrev pub ListHasCause : Message → List ℕ → IdFault → Type 0
-ListHasCause message label fault =
-    (list : InnerList) × HasMember message input_name label (InnerMember list) × IsCause list fault
-
--- the rows of rules 1 to 12 (RFC 9421 sections 2.3, 4.1 and 4.2)
-abbrev pub FailsToRead : Message → List ℕ → Rule → Place → Type 0
-FailsToRead message label InputAbsent place = (place ≡ Nowhere) × ¬ HasField message input_name
-FailsToRead message label InputMalformed place =
-    (place ≡ Nowhere) × HasField message input_name
-    × ((dict : List (Pair Member)) → ¬ HasDict message input_name dict)
-FailsToRead message label SignatureAbsent place =
-    (place ≡ Nowhere) × ¬ HasField message signature_name
-FailsToRead message label SignatureMalformed place =
-    (place ≡ Nowhere) × HasField message signature_name
-    × ((dict : List (Pair Member)) → ¬ HasDict message signature_name dict)
-FailsToRead message label LabelNotInInput place =
-    (place ≡ Nowhere) × (dict : List (Pair Member)) × HasDict message input_name dict
-    × (value_of dict label ≡ None)
-FailsToRead message label LabelNotInSignature place =
-    (place ≡ Nowhere) × (dict : List (Pair Member)) × HasDict message signature_name dict
-    × (value_of dict label ≡ None)
-FailsToRead message label InputNotList place =
-    (place ≡ Nowhere) × (item : Item) × HasMember message input_name label (ItemMember item)
-FailsToRead message label SignatureNotBytes place =
-    (place ≡ Nowhere) × (member : Member) × HasMember message signature_name label member
-    × (byte_sequence_in member ≡ None)
-FailsToRead message label ComponentsMany place =
-    (place ≡ Nowhere) × ListHasCause message label TooMany
-FailsToRead message label ComponentBad place =
-    (index : ℕ) × (reason : BadReason) × (place ≡ Component index reason)
-    × ListHasCause message label (BadComponent index reason)
-FailsToRead message label ComponentRepeated place =
-    (index : ℕ) × (place ≡ Index index) × ListHasCause message label (Repeated index)
-FailsToRead message label ParameterBad place =
-    (key : List ℕ) × (place ≡ Name key) × ListHasCause message label (BadParameter key)
-FailsToRead message label rule place = ⊥
-
--- ---- all rules
+use Rattle.signatures.specs.Signatures.{HasSignature}
+use Rattle.signatures.specs.Rules.{FailsToRead}
 
 -- what a label is judged by: what the values of components are drawn from, the configuration, the
 -- moment in seconds since the epoch, and the nonces that were seen, where they are remembered
@@ -143,8 +89,8 @@ pub record IsNoMac (v : Verification) (params : SigParams) (tag : List ℕ) : Ty
   pub have : HaveValues v.context params.ids values
   pub other : ¬ (tag ≡ hmac key (signature_base params values))
 
--- the rows of the rules after them (RFC 9421 section 3.2; those of the policy are the rows of its
--- faults), and those above
+-- the rows of rules 13 to 34 (those of the policy are the rows of its faults); the rows of rules 1
+-- to 12 are those of reading
 abbrev pub Fails : Verification → Rule → Place → Type 0
 Fails v AlgRefused place =
     OfSignature v (λ params tag. IsSomeAnd (alg_of params) (λ alg.
@@ -181,23 +127,3 @@ Fails v Digest place =
 Fails v NoncesFull place =
     (place ≡ Nowhere) × OfSignature v (λ params tag. LacksRoom (check_of v params))
 Fails v rule place = FailsToRead v.context.message v.label rule place
-
--- ---- the first rule that fails
-
--- a rule, and where it fails
-pub record Failure : Type 0 where
-  pub rule : Rule
-  pub place : Place
-
-abbrev pub failure_number : Failure → ℕ
-failure_number failure = rule_number failure.rule
-
--- the rule fails so, and no rule of a lesser number fails
-abbrev pub IsFirstFailure : (Rule → Place → Type 0) → Rule → Place → Type 0
-IsFirstFailure Table rule place =
-    IsFirst failure_number (λ failure. Table failure.rule failure.place)
-    (record { rule = rule; place = place })
-
--- the first of rules 1 to 12 that fails
-abbrev pub IsLabelUnread : Message → List ℕ → Rule → Place → Type 0
-IsLabelUnread message label rule place = IsFirstFailure (FailsToRead message label) rule place

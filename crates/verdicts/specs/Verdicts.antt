@@ -13,11 +13,12 @@ use Rattle.policy_rules.specs.Parameters.{alg_of, keyid_of}
 use Rattle.policy_rules.specs.PolicyRules.{AcceptsByPolicy, HasRoom}
 use Rattle.verdicts.specs.declared.outcome.Verdict.{Verdict}
 use Rattle.verdicts.specs.declared.outcome.Verdict.TheVariants.{Ok as Accepted, Rule as Refused}
-use Rattle.verdicts.specs.declared.place.Place.{Place}
-use Rattle.verdicts.specs.declared.place.Place.TheVariants.{Identifier}
+use Rattle.signatures.specs.declared.place.Place.{Place}
+use Rattle.signatures.specs.declared.place.Place.TheVariants.{Identifier}
 use Rattle.verdicts.specs.ContentDigest.{HasDigest}
-use Rattle.verdicts.specs.Signatures.{HasSignature}
-use Rattle.verdicts.specs.Rules.{Verification, key_in, supported_algorithm, check_of, asks_digest_of, Fails, IsFirstFailure}
+use Rattle.signatures.specs.Signatures.{HasSignature}
+use Rattle.signatures.specs.Rules.{IsFirstFailure}
+use Rattle.verdicts.specs.Rules.{Verification, key_in, supported_algorithm, check_of, asks_digest_of, Fails}
 
 -- what a label is judged by, where the context is borrowed
 abbrev pub verification_of : Context → List ℕ → Configuration → ℕ → Option Book → Verification

@@ -5,12 +5,9 @@ ghost use Rattle.std.specs.List.{list_all};
 ghost use Rattle.content_digest.specs.Digests.{DigestHolds};
 ghost use Rattle.msg_body.specs.Views.{message_of, message_content};
 ghost use Rattle.verdicts.specs.ContentDigest.{asks_digest, keeps_whole, is_whole_digest, covers_digest, digest_text, HasDigest};
-ghost use Rattle.verdicts.specs.tools.Answered.{Explains};
+ghost use Rattle.signatures.specs.tools.Answered.{Explains};
 ghost use Rattle.verdicts.specs.tools.Judged.{digest_label_fault, FailsByField, FailsByDigest};
 
-use crate::label::LabelFault;
-use crate::place::{DigestReason, Place};
-use crate::rule::Rule;
 use component_ids::{ComponentId, SigParams};
 use conf::DigestUse;
 use content_digest::{DigestFault, check_digest};
@@ -18,6 +15,7 @@ use derived_values::combined_text;
 use msg_body::MessageView;
 use msg_head::Side;
 use sfv_text::{BareItem, Pair, Params};
+use signatures::{DigestReason, LabelFault, Place, Rule};
 use std::alloc::Global;
 
 /// Whether the digest of the content has to be covered.

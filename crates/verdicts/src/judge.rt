@@ -16,16 +16,12 @@ ghost use Rattle.policy_rules.specs.Parameters.{keyid_of};
 ghost use Rattle.policy_rules.specs.PolicyRules.{IsAt};
 ghost use Rattle.verdicts.specs.Rules.{refused_algorithms, key_in};
 ghost use Rattle.verdicts.specs.Verdicts.{IsVerdict, is_verdict_in_range, verification_of};
-ghost use Rattle.verdicts.specs.tools.Answered.{Explains};
+ghost use Rattle.signatures.specs.tools.Answered.{Explains};
 ghost use Rattle.verdicts.specs.tools.Judged.{ExplainsAlgorithm, ExplainsTag, ExplainsJudged, FailsByKeyid, FailsByKey, SaysFault, LiesIn, rule_of_lack};
 
 use crate::digest::judge_digest;
-use crate::label::{LabelFault, LabelRead};
 use crate::outcome::Verdict;
-use crate::place::Place;
 use crate::policy::{judge_by_policy, judge_room};
-use crate::read::read_label;
-use crate::rule::Rule;
 use component_ids::{ComponentId, SigParams};
 use component_values::{Context, Lack, Prepared, ValueFault, prepare};
 use conf::Conf;
@@ -34,6 +30,7 @@ use nonces::{NonceBook, Steps};
 use policy_rules::string_param;
 use sfv_text::{BareItem, Item, Memory, Params, Text, print_item};
 use sig_base::feed_base;
+use signatures::{LabelFault, LabelRead, Place, Rule, read_label};
 use std::alloc::Global;
 use std::sync::ledger::Ledger;
 

@@ -1,5 +1,5 @@
-//! The signatures of a message by their labels, and each label's verdict (RFC 9421 sections 3.2,
-//! 4.1 and 4.2): accepted, or the first rule that fails.
+//! The verdict on a label of a message (RFC 9421 section 3.2): accepted, or the first rule that
+//! fails.
 //!
 //! ```text
 //! for label in labels_of(alloc, &message)?.iter() {
@@ -12,28 +12,19 @@
 #![tactic(auto)]
 
 mod digest;
-mod field;
 mod judge;
-mod label;
-mod labels;
 mod laws;
 mod outcome;
-mod place;
 mod policy;
-mod read;
-mod rule;
 
 pub use judge::verdict;
-pub use label::{LabelFault, LabelRead, Labels};
-pub use labels::labels_of;
-pub use laws::{
-    a_label_has_one_reading, a_label_has_one_verdict, a_message_has_one_list_of_labels,
-};
+pub use laws::a_label_has_one_verdict;
 pub use nonces::MAX_MOMENT;
 pub use outcome::Verdict;
-pub use place::{DigestReason, Place};
-pub use read::read_label;
-pub use rule::Rule;
+pub use signatures::{
+    DigestReason, LabelFault, LabelRead, Labels, Place, Rule, a_label_has_one_reading,
+    a_message_has_one_list_of_labels, labels_of, read_label,
+};
 
 #[cfg(test)]
 mod tests;

@@ -1,8 +1,7 @@
 //! The verdict on a label.
 
-use crate::place::Place;
-use crate::rule::Rule;
 use sfv_text::Text;
+use signatures::{Place, Rule};
 
 /// The verdict on a label (RFC 9421 section 3.2).
 #[derive(Debug, Drop)]

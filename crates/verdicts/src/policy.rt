@@ -6,18 +6,16 @@ ghost use Rattle.msg_body.specs.Views.{message_of};
 ghost use Rattle.nonces.specs.declared.limits.TheConstants.{MAX_KEYID_BYTES};
 ghost use Rattle.policy_rules.specs.Parameters.{keyid_of};
 ghost use Rattle.policy_rules.specs.PolicyRules.{policy_check, IsAt, AcceptsByPolicy, HasRoom};
-ghost use Rattle.verdicts.specs.tools.Answered.{Explains};
+ghost use Rattle.signatures.specs.tools.Answered.{Explains};
 ghost use Rattle.verdicts.specs.tools.Judged.{policy_label_fault, FailsByCheck, FailsByRoom};
 
-use crate::label::LabelFault;
-use crate::place::Place;
-use crate::rule::Rule;
 use component_ids::SigParams;
 use conf::Policy;
 use framing::is_request;
 use msg_body::MessageView;
 use nonces::{NonceBook, Steps};
 use policy_rules::{PolicyFault, has_room, judge_policy};
+use signatures::{LabelFault, Place, Rule};
 use std::alloc::Global;
 use std::sync::ledger::Ledger;
 

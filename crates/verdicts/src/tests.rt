@@ -2,7 +2,7 @@ ghost use Rattle.std.specs.Prelude.{◌≡◌, ◌<◌};
 
 use super::*;
 use crate::Place as Where;
-use component_ids::{BadReason, ComponentId};
+use component_ids::ComponentId;
 use component_values::Context;
 use conf::{Conf, read_conf};
 use msg_body::{Expect, MessageRead, MessageView, read_message};
@@ -18,8 +18,6 @@ use std::test::Fail;
 #[derive(Clone, Copy)]
 enum At<'a> {
     Nowhere,
-    Index(usize),
-    Item(usize, BadReason),
     Name(&'a [u8]),
     // A component by its name and how many parameters it has.
     Id(&'a [u8], usize),
@@ -50,8 +48,6 @@ fn is_component(id: &ComponentId, name: &[u8], params: usize) -> bool {
 fn is_at(place: &Where, at: At<'_>) -> bool {
     match (place, at) {
         (Where::None, At::Nowhere) => true,
-        (Where::Index(index), At::Index(at)) => *index == at,
-        (Where::Component(index, reason), At::Item(at, why)) => *index == at && *reason == why,
         (Where::Name(name), At::Name(at)) => name.bytes() == at,
         (Where::Identifier(id), At::Id(name, params)) => is_component(id, name, params),
         _ => false,
@@ -74,161 +70,6 @@ fn view_of(alloc: Global, bytes: &[u8]) -> Result<MessageView<'_>, Fail> {
         MessageRead::Whole(view, _) => Ok(view),
         MessageRead::Partial => Err(Fail::from("no message")),
     }
-}
-
-fn check_labels(
-    rt: &impl Abort,
-    alloc: Global,
-    lines: &[u8],
-    labels: &[&[u8]],
-) -> Result<(), Fail> {
-    let text = text_of(alloc, lines)?;
-    let view = view_of(alloc, text.bytes())?;
-    let found = labels_of(alloc, &view)?;
-    assert_eq!(rt; found.len(), labels.len(), "{lines:?}");
-    for (label, wanted) in found.iter().zip(labels) {
-        assert_eq!(rt; label.bytes(), *wanted, "{lines:?}");
-    }
-    Ok(())
-}
-
-#[test]
-fn labels_are_the_keys_in_order(rt: HostRuntime) -> Result<(), Fail> {
-    let alloc = rt.alloc();
-    check_labels(&rt, alloc, b"", &[])?;
-    check_labels(&rt, alloc, b"Signature: a=:AAAA:\r\n", &[])?;
-    check_labels(&rt, alloc, b"Signature-Input: a=(\r\n", &[])?;
-    check_labels(&rt, alloc, b"Signature-Input:\r\n", &[])?;
-    check_labels(
-        &rt,
-        alloc,
-        b"Signature-Input: b=(), a=1\r\nsignature-input: c;x, b=2\r\n",
-        &[b"b", b"a", b"c"],
-    )
-}
-
-fn check_reading(rt: &impl Abort, alloc: Global, case: &Case<'_>) -> Result<(), Fail> {
-    let text = text_of(alloc, case.lines)?;
-    let view = view_of(alloc, text.bytes())?;
-    match read_label(alloc, &view, case.label) {
-        Ok(_) => Err(Fail::from("read")),
-        Err(LabelFault::Memory) => Err(Fail::from("out of memory")),
-        Err(LabelFault::Rule(rule, place)) => {
-            let lines = case.lines;
-            assert_eq!(rt; rule, case.rule, "{lines:?}");
-            assert!(rt; is_at(&place, case.at), "{lines:?}");
-            Ok(())
-        }
-    }
-}
-
-fn check_readings(rt: &impl Abort, alloc: Global, cases: &[Case<'_>]) -> Result<(), Fail> {
-    for case in cases {
-        check_reading(rt, alloc, case)?;
-    }
-    Ok(())
-}
-
-#[test]
-fn fields_that_say_nothing_of_the_label(rt: HostRuntime) -> Result<(), Fail> {
-    let asked = Case {
-        lines: b"Signature-Input:\r\nSignature: s=:AAAA:\r\n",
-        label: b"-",
-        rule: Rule::LabelNotInInput,
-        at: At::Nowhere,
-    };
-    let cases = [
-        fails(b"", Rule::InputAbsent, At::Nowhere),
-        fails(b"Signature: s=:AAAA:\r\n", Rule::InputAbsent, At::Nowhere),
-        fails(
-            b"Signature-Input: s=(\r\n",
-            Rule::InputMalformed,
-            At::Nowhere,
-        ),
-        fails(
-            b"Signature-Input: s=@1\r\nSignature: s=:AAAA:\r\n",
-            Rule::InputMalformed,
-            At::Nowhere,
-        ),
-        fails(
-            b"Signature-Input: t=()\r\n",
-            Rule::SignatureAbsent,
-            At::Nowhere,
-        ),
-        fails(
-            b"Signature-Input: t=()\r\nSignature: s=:\r\n",
-            Rule::SignatureMalformed,
-            At::Nowhere,
-        ),
-        fails(
-            b"Signature-Input: t=()\r\nSignature: t=:AAAA:\r\n",
-            Rule::LabelNotInInput,
-            At::Nowhere,
-        ),
-        asked,
-        fails(
-            b"Signature-Input: s=1\r\nSignature: t=:AAAA:\r\n",
-            Rule::LabelNotInSignature,
-            At::Nowhere,
-        ),
-    ];
-    check_readings(&rt, rt.alloc(), &cases)
-}
-
-#[test]
-fn members_that_are_no_signature(rt: HostRuntime) -> Result<(), Fail> {
-    let cases = [
-        fails(
-            b"Signature-Input: s\r\nSignature: s=1\r\n",
-            Rule::InputNotList,
-            At::Nowhere,
-        ),
-        fails(
-            b"Signature-Input: s=(1)\r\nSignature: s=(:AAAA:)\r\n",
-            Rule::SignatureNotBytes,
-            At::Nowhere,
-        ),
-        fails(
-            b"Signature-Input: s=(\"a\" \"a\" 1)\r\nSignature: s=:AAAA:\r\n",
-            Rule::ComponentBad,
-            At::Item(2, BadReason::NotAString),
-        ),
-        fails(
-            b"Signature-Input: s=(\"@x\");alg=1\r\nSignature: s=:AAAA:\r\n",
-            Rule::ComponentBad,
-            At::Item(0, BadReason::Name),
-        ),
-        fails(
-            b"Signature-Input: s=(\"b\" \"a\" \"b\");alg=1\r\nSignature: s=:AAAA:\r\n",
-            Rule::ComponentRepeated,
-            At::Index(2),
-        ),
-        fails(
-            b"Signature-Input: s=();alg=\"x\";keyid=k;created=?1\r\nSignature: s=:AAAA:\r\n",
-            Rule::ParameterBad,
-            At::Name(b"keyid"),
-        ),
-    ];
-    check_readings(&rt, rt.alloc(), &cases)
-}
-
-#[test]
-fn a_signature_is_read(rt: HostRuntime) -> Result<(), Fail> {
-    let alloc = rt.alloc();
-    let text = text_of(
-        alloc,
-        b"Signature-Input: t=1\r\n\
-        Signature-Input: s=(\"host\" \"date\";bs);alg=\"x\";a=1\r\n\
-        Signature: s=:AAEC:;b=2, t\r\n",
-    )?;
-    let view = view_of(alloc, text.bytes())?;
-    let Ok(read) = read_label(alloc, &view, b"s") else {
-        return Err(Fail::from("not read"));
-    };
-    assert_eq!(&rt; read.tag.bytes(), b"\0\x01\x02".as_slice());
-    assert_eq!(&rt; read.params.ids.len(), 2);
-    assert_eq!(&rt; read.params.params.len(), 2);
-    Ok(())
 }
 
 // The key of RFC 9421 appendix B.1.5.

@@ -22,17 +22,18 @@ use Rattle.content_digest.specs.declared.fault.DigestFault.{DigestFault}
 use Rattle.content_digest.specs.declared.fault.DigestFault.TheVariants as digest
 use Rattle.msg_body.specs.Views.{message_content}
 use Rattle.verdicts.specs.ContentDigest.{digest_text, LacksDigest}
-use Rattle.verdicts.specs.declared.place.DigestReason.{DigestReason}
-use Rattle.verdicts.specs.declared.place.DigestReason.TheVariants.{Malformed, NoneKnown, Mismatch}
-use Rattle.verdicts.specs.declared.label.LabelFault.{LabelFault}
-use Rattle.verdicts.specs.declared.label.LabelFault.TheVariants.{Memory, Rule as Refused}
-use Rattle.verdicts.specs.declared.place.Place.{Place}
-use Rattle.verdicts.specs.declared.place.Place.TheVariants.{None as Nowhere, Name, Identifier, Digest as DigestPlace}
-use Rattle.verdicts.specs.declared.rule.Rule.{Rule}
-use Rattle.verdicts.specs.declared.rule.Rule.TheVariants.{AlgRefused, AlgUnknown, KeyidAbsent, KeyUnknown, ComponentRequired, CreatedAbsent, CreatedAhead, TooOld, ExpiresAbsent, Expired, TagWrong, NonceAbsent, NonceRepeated, NonceLong, Absent, Ambiguous, Underivable, Unreadable, NotAscii, MacMismatch, Digest, NoncesFull}
-use Rattle.verdicts.specs.Rules.{Verification, supported_algorithm, refused_algorithms, Fails, IsFirstFailure}
+use Rattle.signatures.specs.declared.place.DigestReason.{DigestReason}
+use Rattle.signatures.specs.declared.place.DigestReason.TheVariants.{Malformed, NoneKnown, Mismatch}
+use Rattle.signatures.specs.declared.label.LabelFault.{LabelFault}
+use Rattle.signatures.specs.declared.label.LabelFault.TheVariants.{Memory, Rule as Refused}
+use Rattle.signatures.specs.declared.place.Place.{Place}
+use Rattle.signatures.specs.declared.place.Place.TheVariants.{None as Nowhere, Name, Identifier, Digest as DigestPlace}
+use Rattle.signatures.specs.declared.rule.Rule.{Rule}
+use Rattle.signatures.specs.declared.rule.Rule.TheVariants.{AlgRefused, AlgUnknown, KeyidAbsent, KeyUnknown, ComponentRequired, CreatedAbsent, CreatedAhead, TooOld, ExpiresAbsent, Expired, TagWrong, NonceAbsent, NonceRepeated, NonceLong, Absent, Ambiguous, Underivable, Unreadable, NotAscii, MacMismatch, Digest, NoncesFull}
+use Rattle.signatures.specs.Rules.{IsFirstFailure}
+use Rattle.verdicts.specs.Rules.{Verification, supported_algorithm, refused_algorithms, Fails}
 use Rattle.verdicts.specs.Verdicts.{Accepts, is_place_in_range}
-use Rattle.verdicts.specs.tools.Answered.{Explains}
+use Rattle.signatures.specs.tools.Answered.{Explains}
 
 -- rule 13 or 14 fails
 abbrev pub FailsByAlgorithm : SigParams → Rule → Place → Type 0

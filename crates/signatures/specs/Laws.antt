@@ -1,0 +1,68 @@
+-- Laws of signatures and their labels.
+use Rattle.std.specs.Prelude.{◌≡◌, ◌⊎◌, ◌≤◌, ℕ, IsTrue, List}
+use Rattle.msg_body.specs.Messages.{Message}
+use Rattle.component_ids.specs.SignatureParams.{are_sig_params_in_range}
+use Rattle.component_ids.specs.declared.params.SigParams.{SigParams}
+use Rattle.signatures.specs.declared.place.Place.{Place}
+use Rattle.signatures.specs.declared.rule.Rule.{Rule}
+use Rattle.signatures.specs.Signatures.{HasSignature, AreLabels}
+use Rattle.signatures.specs.Rules.{FailsToRead, IsLabelUnread}
+use Rattle.signatures.specs.Words.{rule_number}
+
+-- a message has a list of labels
+abbrev pub HasLabels : Type 0
+HasLabels = (message : Message) → (labels : List (List ℕ)) × AreLabels message labels
+
+-- it has one
+abbrev pub HasOneListOfLabels : Type 0
+HasOneListOfLabels =
+    (message : Message) (labels others : List (List ℕ))
+    → AreLabels message labels → AreLabels message others → labels ≡ others
+
+-- a message has a signature of the label, or a first rule fails
+abbrev pub HasSignatureOrNot : Type 0
+HasSignatureOrNot =
+    (message : Message) (label : List ℕ)
+    → ((params : SigParams) × (tag : List ℕ) × HasSignature message label params tag)
+    ⊎ ((rule : Rule) × (place : Place) × IsLabelUnread message label rule place)
+
+-- it has one signature of the label
+abbrev pub HasOneSignature : Type 0
+HasOneSignature =
+    (message : Message) (label : List ℕ) (params others : SigParams) (tag other : List ℕ)
+    → HasSignature message label params tag → HasSignature message label others other
+    → (params ≡ others) × (tag ≡ other)
+
+-- one rule is the first that fails, with one place
+abbrev pub IsUnreadByOneRule : Type 0
+IsUnreadByOneRule =
+    (message : Message) (label : List ℕ) (rule other : Rule) (place another : Place)
+    → IsLabelUnread message label rule place → IsLabelUnread message label other another
+    → (rule ≡ other) × (place ≡ another)
+
+-- where it has a signature of the label, no rule fails
+abbrev pub HasNoFailureWhereRead : Type 0
+HasNoFailureWhereRead =
+    (message : Message) (label : List ℕ) (params : SigParams) (tag : List ℕ) (rule : Rule)
+    (place : Place) → HasSignature message label params tag
+    → ¬ FailsToRead message label rule place
+
+-- the rules of reading are those up to 12
+abbrev pub IsUnreadByRulesTo12 : Type 0
+IsUnreadByRulesTo12 =
+    (message : Message) (label : List ℕ) (rule : Rule) (place : Place)
+    → FailsToRead message label rule place → rule_number rule ≤ 12
+
+-- its signature parameters can stand in a structured field
+abbrev pub IsSignatureInRange : Type 0
+IsSignatureInRange =
+    (message : Message) (label : List ℕ) (params : SigParams) (tag : List ℕ)
+    → HasSignature message label params tag → IsTrue (are_sig_params_in_range params)
+
+-- no two rules have one number
+abbrev pub HasItsOwnNumber : Type 0
+HasItsOwnNumber = (rule other : Rule) → rule_number rule ≡ rule_number other → rule ≡ other
+
+-- the numbers are those from 1 to 34
+abbrev pub HasNumber : Type 0
+HasNumber = (rule : Rule) → (1 ≤ rule_number rule) × (rule_number rule ≤ 34)

@@ -1,0 +1,5 @@
+pub mod Signatures
+pub mod Rules
+pub mod Words
+pub mod Laws
+pub mod tools

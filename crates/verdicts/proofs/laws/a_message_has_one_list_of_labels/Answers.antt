@@ -1,5 +1,0 @@
-use Rattle.verdicts.proofs.Reading.{has_labels, has_one_list_of_labels}
-use Rattle.verdicts.proofs.laws.a_message_has_one_list_of_labels.Goals as goal
-
-pub returns : goal.returns
-returns c = record { some = has_labels; one = has_one_list_of_labels }
