@@ -1,22 +1,16 @@
 -- Of what is judged in layers, one outcome comes.
 use Rattle.std.proofs.Common.{◌≡◌, inl, inr, sym, ap, subst, ◌∙◌, Result, Ok, Err}
-use Rattle.hms.specs.Layers.{ReadsThen}
-use Rattle.hms.specs.declared.outcome.Outcome.{Outcome}
-use Rattle.hms.specs.declared.outcome.Outcome.TheVariants.{Refused}
+use Rattle.commands.specs.Layers.{ReadsThen, IsDecisive}
+use Rattle.commands.specs.declared.outcome.Outcome.{Outcome}
+use Rattle.commands.specs.declared.outcome.Outcome.TheVariants.{Refused}
 use Rattle.output_lines.specs.declared.refusal.Refusal.{Refusal}
-use Rattle.hms.specs.declared.stop.Stop.{Stop}
-use Rattle.hms.specs.declared.stop.Stop.TheVariants.{Memory, ReadFault, Refused as IsRefused}
-use Rattle.hms.specs.tools.Stops.{IfRefused, IfOutcome, IsRefusalFor}
+use Rattle.commands.specs.declared.stop.Stop.{Stop}
+use Rattle.commands.specs.declared.stop.Stop.TheVariants.{Memory, ReadFault, Refused as IsRefused}
+use Rattle.commands.specs.Stops.{IfOutcome}
 
 -- at most one outcome
 abbrev pub HasOne : (Outcome → Type 0) → Type 0
 HasOne P = (one other : Outcome) → P one → P other → one ≡ other
-
--- what is read is one value and has no cause, and the causes are one
-pub record IsDecisive {V C : Type 0} (Reads : V → Type 0) (Causes : C → Type 0) : Type 0 where
-  pub value : (v w : V) → Reads v → Reads w → v ≡ w
-  pub cause : (c d : C) → Causes c → Causes d → c ≡ d
-  pub either : (v : V) (c : C) → Reads v → Causes c → ⊥
 
 pub one_of_layers : {V C : Type 0} (Reads : V → Type 0) (Causes : C → Type 0) (refusal_of : C → Refusal) (Then : V → Outcome → Type 0)
     → IsDecisive Reads Causes → ((v : V) → Reads v → HasOne (Then v)) → HasOne (ReadsThen Reads Causes refusal_of Then)
@@ -27,14 +21,7 @@ one_of_layers Reads Causes refusal_of Then d then one other (inr a) (inl b) = ab
 one_of_layers {V} {C} Reads Causes refusal_of Then d then one other (inr a) (inr b) =
     a.2 ∙ (ap (λ (c : C). Refused (refusal_of c)) (d.cause a.0 b.0 a.1 b.1) ∙ sym b.2)
 
--- a stop while a value is read comes to its refusal
-pub stopped : {V C : Type 0} (Reads : V → Type 0) (Causes : C → Type 0) (refusal_of : C → Refusal) (Then : V → Outcome → Type 0) (stop : Stop)
-    → IfRefused stop (IsRefusalFor Causes refusal_of) → IfOutcome (Err stop) (ReadsThen Reads Causes refusal_of Then)
-stopped Reads Causes refusal_of Then Memory is = tt
-stopped Reads Causes refusal_of Then ReadFault is = absurd is
-stopped Reads Causes refusal_of Then (IsRefused refusal) is = inr (is.0, is.1, ap (λ (r : Refusal). Refused r) is.2)
-
--- and else what comes after it
+-- a run comes to what follows from its outcome
 pub went_on : {P Q : Outcome → Type 0} → ((outcome : Outcome) → P outcome → Q outcome) → (result : Result Outcome Stop) → IfOutcome result P → IfOutcome result Q
 went_on f (Ok outcome) p = f outcome p
 went_on f (Err Memory) p = tt

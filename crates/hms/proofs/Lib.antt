@@ -1,11 +1,5 @@
-pub mod ConfFiles
-pub mod Decided
-pub mod Lacking
+pub mod CommandLaws
 pub mod Layers
-pub mod LowerConf
-pub mod LowerLaws
 pub mod OneReport
 pub mod Reports
 pub mod Sources
-pub mod Stopping
-pub mod VerdictLines

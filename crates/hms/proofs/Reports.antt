@@ -1,26 +1,26 @@
 -- The outcome of arguments, files and an input.
 use Rattle.std.proofs.Common.{◌≡◌, inl, inr, ℕ, Bool, true, false, List, [], Option, Some, None, Result, Err, refl, sym, ap, subst}
 use Rattle.std.specs.Prelude.{IfSome, IfNone, option_map}
+use Rattle.std.specs.FinMap as map
 use Rattle.std.specs.Io.KnownBytes.{Appends}
 use Rattle.hms_io.specs.Files.{FileMap}
 use Rattle.hms_io.specs.declared.status.Status.{Status}
 use Rattle.hms_io.specs.declared.status.Status.TheVariants.{Done as Success, NotOk as Failure, BadArguments, BadInput, ReadFault, WriteFault, OutOfMemory, BadConf, LimitPassed, FileMissing}
 use Rattle.command_line.specs.Command.{CommandLine, IsCommand, NoCommand, conf_of}
 use Rattle.conf.specs.Configuration.{Configuration}
-use Rattle.hms.specs.Configured.{IsConfigured, IsConfRefused}
+use Rattle.commands.specs.Configured.{IsConfigured, IsConfRefused, HasFiles}
 use Rattle.output_lines.specs.Laws.{IsOfRefusal}
 use Rattle.output_lines.specs.Refusal.{refusal_status}
 use Rattle.output_lines.proofs.Statuses.{status_of_refusal}
-use Rattle.hms.specs.Outcome.{status_of, output_of}
-use Rattle.hms.specs.Report.{ReportsInput, Reports, HasFiles, HasInput, Leaves, HasReport, AppendsPrefix, Ends}
+use Rattle.commands.specs.Outcome.{status_of, output_of}
+use Rattle.hms.specs.Report.{ReportsInput, Reports, HasInput, Leaves, HasReport, AppendsPrefix, Ends}
 use Rattle.output_lines.specs.declared.refusal.Refusal.{Refusal}
 use Rattle.output_lines.specs.declared.refusal.Refusal.TheVariants.{Arguments, Conf}
-use Rattle.hms.specs.declared.outcome.Outcome.{Outcome}
-use Rattle.hms.specs.declared.outcome.Outcome.TheVariants.{Done, NotOk, Refused}
-use Rattle.hms.specs.declared.stop.Stop.{Stop}
-use Rattle.hms.specs.declared.stop.Stop.TheVariants.{Memory, ReadFault as ReadFailed, Refused as IsRefused}
-use Rattle.hms.specs.tools.Stops.{IfStopped, IfOutcome, IsRefusalFor}
-use Rattle.hms.proofs.ConfFiles.{some_files, with_fact}
+use Rattle.commands.specs.declared.outcome.Outcome.{Outcome}
+use Rattle.commands.specs.declared.outcome.Outcome.TheVariants.{Done, NotOk, Refused}
+use Rattle.commands.specs.declared.stop.Stop.{Stop}
+use Rattle.commands.specs.declared.stop.Stop.TheVariants.{Memory, ReadFault as ReadFailed, Refused as IsRefused}
+use Rattle.commands.specs.Stops.{IfStopped, IfOutcome, IsRefusalFor}
 use Rattle.hms.proofs.Layers.{went_on}
 
 -- ---- the layers over the input
@@ -30,26 +30,38 @@ some_input : (before : Option (List ℕ)) → (input : List ℕ) × IfSome befor
 some_input None = ([], tt)
 some_input (Some bytes) = (bytes, refl)
 
+-- some files, which are those of the shelf where they are known
+some_files : (shelf : Option FileMap) → (files : FileMap) × IfSome shelf (λ known. known ≡ files)
+some_files None = (map.empty, tt)
+some_files (Some files) = (files, refl)
+
 pub no_command : (arguments : List (List ℕ)) (shelf : Option FileMap) (before : Option (List ℕ)) → NoCommand arguments
     → HasReport arguments shelf before before (Refused Arguments)
 no_command arguments shelf before none =
+    let files = some_files shelf in
     let input = some_input before in
-    with_fact shelf (λ _. Unit {0}) (λ files. HasInput (Reports arguments files) before before (Refused Arguments))
-    (λ files _. record { input = input.0; known = input.1; reports = inr (tt, none, refl); leaves = refl })
-    (some_files shelf)
+    record {
+      files = files.0;
+      known_files = files.1;
+      holds = record { input = input.0; known = input.1; reports = inr (tt, none, refl); leaves = refl };
+    }
 
 module _ (arguments : List (List ℕ)) (command : CommandLine) (is : IsCommand arguments command) (shelf : Option FileMap) (before now : Option (List ℕ)) where
   conf_refused : (refusal : Refusal) → now ≡ before → HasFiles shelf (λ files. IsRefusalFor (IsConfRefused files (conf_of command)) Conf refusal)
       → HasReport arguments shelf before now (Refused refusal)
   conf_refused refusal same has =
       let input = some_input before in
-      with_fact shelf (λ files. IsRefusalFor (IsConfRefused files (conf_of command)) Conf refusal) (λ files. HasInput (Reports arguments files) before now (Refused refusal))
-      (λ files cause. record {
-        input = input.0;
-        known = input.1;
-        reports = inl (command, is, inr (cause.0, cause.1, ap (λ (r : Refusal). Refused r) cause.2));
-        leaves = subst (λ (r : Refusal). Leaves before now (Refused r)) (sym cause.2) same;
-      }) has
+      let cause = has.holds in
+      record {
+        files = has.files;
+        known_files = has.known_files;
+        holds = record {
+          input = input.0;
+          known = input.1;
+          reports = inl (command, is, inr (cause.0, cause.1, ap (λ (r : Refusal). Refused r) cause.2));
+          leaves = subst (λ (r : Refusal). Leaves before now (Refused r)) (sym cause.2) same;
+        };
+      }
 
   -- a stop while the configuration is read
   pub conf_stopped : (name : Option (List ℕ)) (stop : Stop) → name ≡ conf_of command → now ≡ before
@@ -65,13 +77,16 @@ module _ (arguments : List (List ℕ)) (command : CommandLine) (is : IsCommand a
       → HasFiles shelf (λ files. IsConfigured files name conf) → IfOutcome result (HasInput (ReportsInput command conf) before now)
       → IfOutcome result (HasReport arguments shelf before now)
   conf_read name conf result named has =
-      went_on (λ outcome reported. with_fact shelf (λ files. IsConfigured files name conf) (λ files. HasInput (Reports arguments files) before now outcome)
-      (λ files configured. record {
-        input = reported.input;
-        known = reported.known;
-        reports = inl (command, is, inl (conf, subst (λ (n : Option (List ℕ)). IsConfigured files n conf) named configured, reported.reports));
-        leaves = reported.leaves;
-      }) has) result
+      went_on (λ outcome reported. record {
+        files = has.files;
+        known_files = has.known_files;
+        holds = record {
+          input = reported.input;
+          known = reported.known;
+          reports = inl (command, is, inl (conf, subst (λ (n : Option (List ℕ)). IsConfigured has.files n conf) named has.holds, reported.reports));
+          leaves = reported.leaves;
+        };
+      }) result
 
 -- where no file is named, nothing is asked of the shelf
 pub none_named : {X : Type 0} (f : X → List ℕ) (name : Option X) (P : Type 0) → option_map f name ≡ None → IfNone name P → P

@@ -11,18 +11,18 @@ use Rattle.command_line.specs.Command.{CommandLine, Base, Verify}
 use Rattle.msg_body.specs.Messages.{Message}
 use Rattle.conf.specs.Configuration.{Configuration}
 use Rattle.verdicts.specs.declared.outcome.Verdict.{Verdict}
-use Rattle.hms.specs.Messages.{IsInputRefused}
-use Rattle.hms.specs.Verify.{is_accepted, verdicts_outcome}
+use Rattle.commands.specs.Messages.{IsInputRefused}
+use Rattle.commands.specs.Verify.{is_accepted, verdicts_outcome}
 use Rattle.hms.specs.Report.{ReportsCommand, ReportsInput, HasInput, Leaves}
 use Rattle.output_lines.specs.declared.refusal.TheConstants.{MAX_INPUT_BYTES}
 use Rattle.output_lines.specs.declared.refusal.Refusal.TheVariants.{Input}
 use Rattle.output_lines.specs.declared.refusal.InputRefusal.{InputRefusal}
 use Rattle.output_lines.specs.declared.refusal.InputRefusal.TheVariants.{TooLong, Message as NoMessage}
-use Rattle.hms.specs.declared.outcome.Outcome.{Outcome}
-use Rattle.hms.specs.declared.outcome.Outcome.TheVariants.{Refused}
-use Rattle.hms.specs.declared.stop.Stop.{Stop}
-use Rattle.hms.specs.declared.stop.Stop.TheVariants.{Memory, ReadFault, Refused as IsRefused}
-use Rattle.hms.specs.tools.Stops.{IfOutcome, ReadsNothing, CountsStop, stop_of_fill}
+use Rattle.commands.specs.declared.outcome.Outcome.{Outcome}
+use Rattle.commands.specs.declared.outcome.Outcome.TheVariants.{Refused}
+use Rattle.commands.specs.declared.stop.Stop.{Stop}
+use Rattle.commands.specs.declared.stop.Stop.TheVariants.{Memory, ReadFault, Refused as IsRefused}
+use Rattle.commands.specs.Stops.{IfOutcome, ReadsNothing, CountsStop, stop_of_fill}
 use Rattle.hms.proofs.Layers.{went_on}
 
 -- some input, the known bytes where they are known, that is longer than n

@@ -2,7 +2,7 @@
 use Rattle.std.specs.Prelude.{◌≡◌, ℕ, List}
 use Rattle.hms_io.specs.Files.{FileMap}
 use Rattle.hms.specs.Report.{Reports}
-use Rattle.hms.specs.declared.outcome.Outcome.{Outcome}
+use Rattle.commands.specs.declared.outcome.Outcome.{Outcome}
 
 -- the arguments, the files and the input have one outcome
 abbrev pub HasOneReport : Type 0

@@ -1,10 +1,3 @@
-pub mod Base
-pub mod Configured
-pub mod Covered
 pub mod Laws
-pub mod Layers
-pub mod Messages
-pub mod Outcome
 pub mod Report
-pub mod Verify
 pub mod tools

@@ -9,17 +9,17 @@ use Rattle.hms_io.specs.declared.status.Status.TheVariants.{ReadFault, WriteFaul
 use Rattle.command_line.specs.Command.{CommandLine, Base, Verify, IsCommand, NoCommand, conf_of}
 use Rattle.msg_body.specs.Messages.{Message}
 use Rattle.conf.specs.Configuration.{Configuration}
-use Rattle.hms.specs.Base.{ReportsBase}
-use Rattle.hms.specs.Configured.{IsConfigured, IsConfRefused}
-use Rattle.hms.specs.Layers.{ReadsThen}
-use Rattle.hms.specs.Messages.{IsInputMessage, IsInputRefused}
-use Rattle.hms.specs.Outcome.{status_of, output_of}
-use Rattle.hms.specs.Verify.{ReportsVerdicts}
+use Rattle.commands.specs.Base.{ReportsBase}
+use Rattle.commands.specs.Configured.{IsConfigured, IsConfRefused, HasFiles}
+use Rattle.commands.specs.Layers.{ReadsThen}
+use Rattle.commands.specs.Messages.{IsInputMessage, IsInputRefused}
+use Rattle.commands.specs.Outcome.{status_of, output_of}
+use Rattle.commands.specs.Verify.{ReportsVerdicts}
 use Rattle.output_lines.specs.declared.refusal.TheConstants.{MAX_INPUT_BYTES}
 use Rattle.output_lines.specs.declared.refusal.Refusal.TheVariants.{Arguments, Conf, Input}
 use Rattle.output_lines.specs.declared.refusal.InputRefusal.TheVariants.{TooLong}
-use Rattle.hms.specs.declared.outcome.Outcome.{Outcome}
-use Rattle.hms.specs.declared.outcome.Outcome.TheVariants.{Refused}
+use Rattle.commands.specs.declared.outcome.Outcome.{Outcome}
+use Rattle.commands.specs.declared.outcome.Outcome.TheVariants.{Refused}
 
 -- what a command comes to over its configuration and its message
 abbrev pub ReportsCommand : CommandLine → Configuration → Message → Outcome → Type 0
@@ -52,12 +52,6 @@ Leaves before now (Refused Arguments) = now ≡ before
 Leaves before now (Refused (Conf refusal)) = now ≡ before
 Leaves before now (Refused (Input TooLong)) = LosesPrefix before now (MAX_INPUT_BYTES + 1)
 Leaves before now outcome = IfSome before (λ _. now ≡ Some [])
-
--- the fact holds of some files, which are those of the shelf where they are known
-pub record HasFiles (shelf : Option FileMap) (P : FileMap → Type 0) : Type 0 where
-  pub files : FileMap
-  pub known_files : IfSome shelf (λ known. known ≡ files)
-  pub holds : P files
 
 -- Some input has the outcome. Where the bytes of the source are known, they are that input.
 pub record HasInput (R : List ℕ → Outcome → Type 0) (before now : Option (List ℕ))

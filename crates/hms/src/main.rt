@@ -9,15 +9,8 @@
 //! ```
 #![tactic(auto)]
 
-mod base;
-mod configured;
-mod covered;
 mod laws;
-mod message;
-mod outcome;
 mod run;
-mod stop;
-mod verify;
 
 use command_line::after_name;
 use hms_io::{DirShelf, Status, StdSink, StdSource};

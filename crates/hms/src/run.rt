@@ -7,16 +7,12 @@ ghost use Rattle.command_line.specs.Command.{NoCommand, IsTimely, line_of};
 ghost use Rattle.conf.specs.ConfMeaning.{meaning};
 ghost use Rattle.hms.specs.Report.{ReportsCommand, ReportsInput, HasReport, HasInput, Ends, CountsFaults, CountsReads, NamesNoFile};
 ghost use Rattle.output_lines.specs.declared.refusal.Refusal.TheVariants.{Arguments};
-ghost use Rattle.hms.specs.declared.stop.Stop.TheVariants.{Refused};
-ghost use Rattle.hms.specs.tools.Stops.{IfOutcome, ReadsNothing, CountsStop, CountsOne};
+ghost use Rattle.commands.specs.declared.stop.Stop.TheVariants.{Refused};
+ghost use Rattle.commands.specs.Stops.{IfOutcome, ReadsNothing, CountsStop};
+ghost use Rattle.hms.specs.tools.Counts.{CountsOne};
 
-use crate::base::write_base;
-use crate::configured::read_configuration;
-use crate::message::read_input;
-use crate::outcome::Outcome;
-use crate::stop::Stop;
-use crate::verify::verify;
 use command_line::{Command, read_words};
+use commands::{Outcome, Stop, read_configuration, read_input, write_base, write_verdicts};
 use conf::Conf;
 use hms_io::{Failed, Shelf, Sink, Source, Status, fill, put_all};
 use msg_body::MessageView;
@@ -37,7 +33,7 @@ fn over_message(
 {
     match command {
         Command::Base { params, .. } => write_base(alloc, conf, params.as_bytes(), message),
-        Command::Verify { now, label, .. } => Ok(verify(alloc, conf, now, label, message)?),
+        Command::Verify { now, label, .. } => Ok(write_verdicts(alloc, conf, now, label, message)?),
     }
 }
 

@@ -1,0 +1,128 @@
+-- What is read at each layer is one value, or has one cause to be refused.
+use Rattle.std.proofs.Common.{◌≡◌, ℕ, Some, List, refl, sym, ap, subst, ◌∙◌, arith}
+use Rattle.std.specs.List.{slice_get}
+use Rattle.byte_grammar.specs.FaultOffset.{IsFaultOffset}
+use Rattle.byte_grammar.proofs.Indices.{some_and_parts}
+use Rattle.byte_grammar.proofs.OffsetLaws.{one_offset}
+use Rattle.sfv_text.specs.declared.value.InnerList.{InnerList}
+use Rattle.sfv_read.specs.Reads.{ReadsInner}
+use Rattle.sfv_read.specs.Fault.{BeginsItemKind}
+use Rattle.component_ids.proofs.FaultLaws.{one_fault}
+use Rattle.component_ids.specs.Causes.{IsIdFault}
+use Rattle.component_ids.specs.Identifiers.{id_text}
+use Rattle.component_ids.specs.SignatureParams.{list_of}
+use Rattle.component_ids.specs.declared.fault.IdFault.{IdFault}
+use Rattle.component_ids.specs.declared.id.ComponentId.{ComponentId}
+use Rattle.component_ids.specs.declared.params.SigParams.{SigParams}
+use Rattle.component_values.specs.Context.{MessageContext}
+use Rattle.component_values.specs.Values.{HaveValues}
+use Rattle.component_values.proofs.FirstLacks.{have_one_list, first_lack_is_one, none_lacks}
+use Rattle.msg_body.specs.Messages.{Message}
+use Rattle.msg_body.specs.declared.error.MessageFault.{MessageFault}
+use Rattle.commands.specs.Base.{HasIdFault, AreParamsRefused, IsValueLacking}
+use Rattle.commands.specs.Covered.{ReadsParams}
+use Rattle.commands.specs.Laws.{IsInputDecided, AreParamsDecided, AreValuesDecided}
+use Rattle.commands.specs.Messages.{IsInputMessage, IsInputRefused}
+use Rattle.output_lines.specs.declared.refusal.InputRefusal.{InputRefusal}
+use Rattle.output_lines.specs.declared.refusal.InputRefusal.TheVariants.{TooLong, Message as NoMessage}
+use Rattle.output_lines.specs.declared.refusal.CommandRefusal.{CommandRefusal}
+use Rattle.output_lines.specs.declared.refusal.CommandRefusal.TheVariants.{Syntax, ItemKind, Ids, Lacks}
+use Rattle.commands.proofs.LowerLaws.{one_list, no_fault, one_params, one_text, one_message_fault, text_no_fault}
+
+-- ---- the input
+
+input_cause : (input : List ℕ) (c d : InputRefusal) → IsInputRefused input c → IsInputRefused input d → c ≡ d
+input_cause input TooLong TooLong a b = refl
+input_cause input TooLong (NoMessage g) a b = absurd (omega (arith, a, b.0))
+input_cause input (NoMessage f) TooLong a b = absurd (omega (arith, a.0, b))
+input_cause input (NoMessage f) (NoMessage g) a b = ap (λ (h : MessageFault). NoMessage h) (one_message_fault input f g a.1 b.1)
+
+input_either : (input : List ℕ) (message : Message) (c : InputRefusal) → IsInputMessage input message → IsInputRefused input c → ⊥
+input_either input message TooLong is c = absurd (omega (arith, is.0, c))
+input_either input message (NoMessage f) is c = text_no_fault input message f is.1 c.1
+
+pub input_decided : IsInputDecided
+input_decided input = record {
+  value = λ a b is also. one_text input a b is.1 also.1;
+  cause = input_cause input;
+  either = input_either input;
+}
+
+-- ---- PARAMS
+
+one_sig : (params : List ℕ) (a b : SigParams) → ReadsParams params a → ReadsParams params b → a ≡ b
+one_sig params a b one other = one_params a b one.is other.is (one_list params (list_of a) (list_of b) one.reads other.reads)
+
+one_id_fault : (params : List ℕ) (f g : IdFault) → HasIdFault params f → HasIdFault params g → f ≡ g
+one_id_fault params f g a b =
+    let lists : a.list ≡ b.list = one_list params a.list b.list a.reads b.reads in
+    one_fault b.list f g (subst (λ (list : InnerList). IsIdFault list f) lists a.is) b.is
+
+-- at the offset of a fault an item of another kind begins or not
+one_kind : (params : List ℕ) (i j : ℕ) → IsFaultOffset ReadsInner params i × ¬ BeginsItemKind ReadsInner params i
+    → IsFaultOffset ReadsInner params j × BeginsItemKind ReadsInner params j → ⊥
+one_kind params i j a b =
+    a.1 (subst (λ (k : ℕ). BeginsItemKind ReadsInner params k) (one_offset ReadsInner params j i b.0 a.0) b.1)
+
+params_cause : (params : List ℕ) (c d : CommandRefusal) → AreParamsRefused params c → AreParamsRefused params d → c ≡ d
+params_cause params (Syntax i) (Syntax j) a b = ap Syntax (one_offset ReadsInner params i j a.0 b.0)
+params_cause params (Syntax i) (ItemKind j) a b = absurd (one_kind params i j a b)
+params_cause params (Syntax i) (Ids g) a b = absurd (a.0.none b.list b.reads)
+params_cause params (Syntax i) (Lacks m k) a b = absurd b
+params_cause params (ItemKind i) (Syntax j) a b = absurd (one_kind params j i b a)
+params_cause params (ItemKind i) (ItemKind j) a b = ap ItemKind (one_offset ReadsInner params i j a.0 b.0)
+params_cause params (ItemKind i) (Ids g) a b = absurd (a.0.none b.list b.reads)
+params_cause params (ItemKind i) (Lacks m k) a b = absurd b
+params_cause params (Ids f) (Syntax j) a b = absurd (b.0.none a.list a.reads)
+params_cause params (Ids f) (ItemKind j) a b = absurd (b.0.none a.list a.reads)
+params_cause params (Ids f) (Ids g) a b = ap (λ (h : IdFault). Ids h) (one_id_fault params f g a b)
+params_cause params (Ids f) (Lacks m k) a b = absurd b
+params_cause params (Lacks l i) d a b = absurd a
+
+params_either : (params : List ℕ) (sig : SigParams) (c : CommandRefusal) → ReadsParams params sig → AreParamsRefused params c → ⊥
+params_either params sig (Syntax i) reads c = c.0.none (list_of sig) reads.reads
+params_either params sig (ItemKind i) reads c = c.0.none (list_of sig) reads.reads
+params_either params sig (Ids f) reads c = no_fault sig c.list f reads.is (one_list params (list_of sig) c.list reads.reads c.reads) c.is
+params_either params sig (Lacks l i) reads c = c
+
+pub params_decided : AreParamsDecided
+params_decided params = record {
+  value = one_sig params;
+  cause = params_cause params;
+  either = params_either params;
+}
+
+-- ---- the values of components
+
+some_is : {X : Type 0} (x y : X) → Some x ≡ Some y → x ≡ y
+some_is x y e = cc
+
+values_cause : (context : MessageContext) (ids : List ComponentId) (c d : CommandRefusal) → IsValueLacking context ids c → IsValueLacking context ids d → c ≡ d
+values_cause context ids (Syntax i) d a b = absurd a
+values_cause context ids (ItemKind i) d a b = absurd a
+values_cause context ids (Ids f) d a b = absurd a
+values_cause context ids (Lacks l i) (Syntax j) a b = absurd b
+values_cause context ids (Lacks l i) (ItemKind j) a b = absurd b
+values_cause context ids (Lacks l i) (Ids g) a b = absurd b
+values_cause context ids (Lacks l i) (Lacks m k) a b =
+    let same = first_lack_is_one context ids a.0 b.0 l m a.1 b.1 in
+    let one = some_and_parts (λ (lacking : ComponentId). i ≡ id_text lacking) (slice_get ids a.0) a.2 in
+    let two = some_and_parts (λ (lacking : ComponentId). k ≡ id_text lacking) (slice_get ids b.0) b.2 in
+    let at : slice_get ids a.0 ≡ slice_get ids b.0 = ap (λ (n : ℕ). slice_get ids n) same.0 in
+    let lacking : one.0 ≡ two.0 = some_is one.0 two.0 (sym one.1 ∙ (at ∙ two.1)) in
+    let texts : i ≡ k = one.2 ∙ (ap id_text lacking ∙ sym two.2) in
+    λ t. Lacks (same.1 t) (texts t)
+
+values_either : (context : MessageContext) (ids : List ComponentId) (values : List (List ℕ)) (c : CommandRefusal)
+    → HaveValues context ids values → IsValueLacking context ids c → ⊥
+values_either context ids values (Syntax i) have c = c
+values_either context ids values (ItemKind i) have c = c
+values_either context ids values (Ids f) have c = c
+values_either context ids values (Lacks l i) have c = none_lacks context ids values c.0 l have c.1
+
+pub values_decided : AreValuesDecided
+values_decided context ids = record {
+  value = have_one_list context ids;
+  cause = values_cause context ids;
+  either = values_either context ids;
+}

@@ -1,0 +1,9 @@
+pub mod ConfFiles
+pub mod Decided
+pub mod DecidedConf
+pub mod Lacking
+pub mod LowerConf
+pub mod LowerLaws
+pub mod OneOutcome
+pub mod Stopping
+pub mod VerdictLines

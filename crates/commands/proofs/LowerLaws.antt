@@ -1,0 +1,65 @@
+-- Laws of the crates below, in the form that the proofs here use.
+use Rattle.std.proofs.Common.{◌≡◌, ℕ, false, List, length, refl, sym, ap, subst, ◌∙◌, arith}
+use Rattle.sfv_text.specs.declared.value.InnerList.{InnerList}
+use Rattle.sfv_read.specs.Reads.{ReadsInner}
+use Rattle.sfv_read.proofs.Readings.{inner_has_one_value}
+use Rattle.std.proofs.lemmas.List.{take_all}
+use Rattle.msg_body.specs.Messages.{Message, Spells, SpellsMessage}
+use Rattle.msg_body.specs.declared.error.MessageFault.TheVariants.{Refused, Truncated, Trailing}
+use Rattle.msg_body.specs.declared.expect.Expect.TheVariants.{Any}
+use Rattle.msg_body.proofs.OneMessages.{one_message_at_law, one_message_fault_law, no_fault_at_message_law, no_message_answer_yet_law}
+use Rattle.msg_body.specs.declared.error.MessageFault.{MessageFault}
+use Rattle.commands.specs.Messages.{IsMessageFault}
+use Rattle.component_ids.specs.Causes.{IsIdFault}
+use Rattle.component_ids.specs.SignatureParams.{IsSigParams, list_of}
+use Rattle.component_ids.specs.declared.fault.IdFault.{IdFault}
+use Rattle.component_ids.specs.declared.params.SigParams.{SigParams}
+use Rattle.component_ids.proofs.FaultLaws.{not_both, one_value}
+
+-- PARAMS read as one list
+pub one_list : (params : List ℕ) (a b : InnerList) → ReadsInner params a → ReadsInner params b → a ≡ b
+one_list = inner_has_one_value
+
+-- a list that is signature parameters has no fault
+pub no_fault : (sig : SigParams) (list : InnerList) (f : IdFault) → IsSigParams sig → list_of sig ≡ list → IsIdFault list f → ⊥
+no_fault sig list f is same fault = not_both list sig f (is, same) fault
+
+-- a list is one value of signature parameters
+pub one_params : (a b : SigParams) → IsSigParams a → IsSigParams b → list_of a ≡ list_of b → a ≡ b
+one_params a b is_a is_b same = one_value (list_of b) a b (is_a, same) (is_b, refl)
+
+-- a whole input, as its first bytes
+at_length : (input : List ℕ) (message : Message) → Spells false message input → SpellsMessage false message (length input) input
+at_length input message spelled = record {
+  within = omega arith;
+  spells = subst (λ (bytes : List ℕ). Spells false message bytes) (sym (take_all (length input) input (omega arith))) spelled;
+  all = λ _. refl;
+}
+
+-- an input is the text of one message
+pub one_text : (input : List ℕ) (a b : Message) → Spells false a input → Spells false b input → a ≡ b
+one_text input a b one other =
+    (one_message_at_law false input a b (length input) (length input) (at_length input a one) (at_length input b other)).0
+
+-- an input that isn't one whole message has one fault
+pub one_message_fault : (input : List ℕ) (f g : MessageFault) → IsMessageFault input f → IsMessageFault input g → f ≡ g
+one_message_fault input (Refused e) (Refused d) a b = ap Refused (one_message_fault_law Any false input e d a b)
+one_message_fault input (Refused e) (Truncated n) a b = absurd ((no_message_answer_yet_law Any false input b.1).0 e a)
+one_message_fault input (Refused e) (Trailing o) a b = absurd (no_fault_at_message_law Any false input b.message o e b.spells refl a)
+one_message_fault input (Truncated n) (Refused e) a b = absurd ((no_message_answer_yet_law Any false input a.1).0 e b)
+one_message_fault input (Truncated n) (Truncated m) a b = ap Truncated (a.0 ∙ sym b.0)
+one_message_fault input (Truncated n) (Trailing o) a b = absurd ((no_message_answer_yet_law Any false input a.1).1 b.message o refl b.spells)
+one_message_fault input (Trailing o) (Refused e) a b = absurd (no_fault_at_message_law Any false input a.message o e a.spells refl b)
+one_message_fault input (Trailing o) (Truncated n) a b = absurd ((no_message_answer_yet_law Any false input b.1).1 a.message o refl a.spells)
+one_message_fault input (Trailing o) (Trailing p) a b = ap Trailing (one_message_at_law false input a.message b.message o p a.spells b.spells).1
+
+-- and one that is has none
+pub text_no_fault : (input : List ℕ) (message : Message) (f : MessageFault) → Spells false message input → IsMessageFault input f → ⊥
+text_no_fault input message (Refused e) spelled fault =
+    no_fault_at_message_law Any false input message (length input) e (at_length input message spelled) refl fault
+text_no_fault input message (Truncated n) spelled fault =
+    (no_message_answer_yet_law Any false input fault.1).1 message (length input) refl (at_length input message spelled)
+text_no_fault input message (Trailing o) spelled fault =
+    let used : length input ≡ o = (one_message_at_law false input message fault.message (length input) o (at_length input message spelled) fault.spells).1 in
+    let more = fault.more in
+    absurd (omega (arith, used, more))

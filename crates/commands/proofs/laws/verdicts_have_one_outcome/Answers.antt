@@ -1,0 +1,5 @@
+use Rattle.commands.proofs.OneOutcome.{verdicts_law}
+use Rattle.commands.proofs.laws.verdicts_have_one_outcome.Goals as goal
+
+pub returns : goal.returns
+returns c = verdicts_law

@@ -1,0 +1,10 @@
+pub mod Base
+pub mod Configured
+pub mod Covered
+pub mod Laws
+pub mod Layers
+pub mod Messages
+pub mod Outcome
+pub mod Stops
+pub mod Verify
+pub mod tools

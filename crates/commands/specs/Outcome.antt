@@ -1,0 +1,17 @@
+-- What a run comes to: its status and its whole output.
+use Rattle.std.specs.Prelude.{ℕ, List}
+use Rattle.hms_io.specs.declared.status.Status.{Status}
+use Rattle.hms_io.specs.declared.status.Status.TheVariants.{Done as Success, NotOk as Failure}
+use Rattle.output_lines.specs.Refusal.{refusal_line, refusal_status}
+use Rattle.commands.specs.declared.outcome.Outcome.{Outcome}
+use Rattle.commands.specs.declared.outcome.Outcome.TheVariants.{Done, NotOk, Refused}
+
+abbrev pub status_of : Outcome → Status
+status_of (Done text) = Success
+status_of (NotOk text) = Failure
+status_of (Refused refusal) = refusal_status refusal
+
+abbrev pub output_of : Outcome → List ℕ
+output_of (Done text) = text
+output_of (NotOk text) = text
+output_of (Refused refusal) = refusal_line refusal

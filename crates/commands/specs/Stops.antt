@@ -1,0 +1,98 @@
+-- What ends a run before it is done, and for which error of the layers below.
+use Rattle.std.specs.Prelude.{◌≡◌, ℕ, Result, Ok, Err}
+use Rattle.sfv_read.specs.declared.error.SfError.{SfError}
+use Rattle.sfv_read.specs.declared.error.SfError.TheVariants.{Memory as NoErrorMemory, Syntax as BadSyntax, ItemKind as OtherKind}
+use Rattle.component_ids.specs.declared.fault.IdFault.{IdFault}
+use Rattle.component_ids.specs.declared.fault.IdFault.TheVariants.{Memory as NoFaultMemory, TooMany, BadComponent, Repeated, BadParameter}
+use Rattle.hms_io.specs.Cause.{Rose}
+use Rattle.hms_io.specs.declared.read_write.FillError.{FillError}
+use Rattle.hms_io.specs.declared.read_write.FillError.TheVariants.{Memory as NoFillMemory, Failed, TooLong as Longer}
+use Rattle.hms_io.specs.declared.whole_file.FileError.{FileError}
+use Rattle.hms_io.specs.declared.whole_file.FileError.TheVariants.{Memory as NoFileMemory, Failed as FetchFailed, TooLong as LongerFile, Missing as NoFile}
+use Rattle.msg_body.specs.declared.error.MessageError.{MessageError}
+use Rattle.msg_body.specs.declared.error.MessageError.TheVariants as message
+use Rattle.msg_body.specs.declared.error.MessageFault.{MessageFault}
+use Rattle.msg_body.specs.declared.error.MessageFault.TheVariants as fault
+use Rattle.conf.specs.declared.fault.ConfFault.{ConfFault}
+use Rattle.conf.specs.declared.fault.ConfFault.TheVariants as conf
+use Rattle.output_lines.specs.declared.refusal.Refusal.{Refusal}
+use Rattle.output_lines.specs.declared.refusal.Refusal.TheVariants.{Conf, Input, Command}
+use Rattle.output_lines.specs.declared.refusal.ConfRefusal.TheVariants.{Missing as ConfMissing, TooLong as ConfTooLong, Fault as ConfFaulty}
+use Rattle.output_lines.specs.declared.refusal.InputRefusal.TheVariants.{TooLong, Message as NoMessage}
+use Rattle.output_lines.specs.declared.refusal.CommandRefusal.TheVariants.{Syntax, ItemKind, Ids}
+use Rattle.commands.specs.declared.outcome.Outcome.{Outcome}
+use Rattle.commands.specs.declared.outcome.Outcome.TheVariants.{Refused as IsRefused}
+use Rattle.commands.specs.declared.stop.Stop.{Stop}
+use Rattle.commands.specs.declared.stop.Stop.TheVariants.{Memory, ReadFault, Refused}
+
+abbrev pub stop_of_error : SfError → Stop
+stop_of_error NoErrorMemory = Memory
+stop_of_error (BadSyntax offset) = Refused (Command (Syntax offset))
+stop_of_error (OtherKind offset) = Refused (Command (ItemKind offset))
+
+abbrev pub stop_of_fault : IdFault → Stop
+stop_of_fault NoFaultMemory = Memory
+stop_of_fault TooMany = Refused (Command (Ids TooMany))
+stop_of_fault (BadComponent index reason) = Refused (Command (Ids (BadComponent index reason)))
+stop_of_fault (Repeated index) = Refused (Command (Ids (Repeated index)))
+stop_of_fault (BadParameter key) = Refused (Command (Ids (BadParameter key)))
+
+abbrev pub stop_of_fill : FillError → Stop
+stop_of_fill NoFillMemory = Memory
+stop_of_fill Failed = ReadFault
+stop_of_fill Longer = Refused (Input TooLong)
+
+abbrev pub stop_for : MessageFault → Stop
+stop_for fault = Refused (Input (NoMessage fault))
+
+abbrev pub stop_of_message : MessageError → Stop
+stop_of_message message.Memory = Memory
+stop_of_message error = stop_for (fault.Refused error)
+
+abbrev pub stop_of_file : FileError → Stop
+stop_of_file NoFileMemory = Memory
+stop_of_file FetchFailed = ReadFault
+stop_of_file LongerFile = Refused (Conf ConfTooLong)
+stop_of_file NoFile = Refused (Conf ConfMissing)
+
+abbrev pub stop_of_conf : ConfFault → Stop
+stop_of_conf conf.Memory = Memory
+stop_of_conf fault = Refused (Conf (ConfFaulty fault))
+
+-- a run is stopped by a refusal of which this holds, or for another reason
+abbrev pub IfStopped : Stop → (Refusal → Type 0) → Type 0
+IfStopped Memory P = Unit {0}
+IfStopped ReadFault P = Unit {0}
+IfStopped (Refused refusal) P = P refusal
+
+-- where nothing is read, a run is stopped by such a refusal, or out of memory
+abbrev pub IfRefused : Stop → (Refusal → Type 0) → Type 0
+IfRefused Memory P = Unit {0}
+IfRefused ReadFault P = ⊥
+IfRefused (Refused refusal) P = P refusal
+
+-- the refusal is that of a cause
+abbrev pub IsRefusalFor : {C : Type 0} → (C → Type 0) → (C → Refusal) → Refusal → Type 0
+IsRefusalFor {C} Causes refusal_of refusal =
+    (cause : C) × Causes cause × (refusal ≡ refusal_of cause)
+
+-- where a run comes to an outcome, this holds of it
+abbrev pub IfOutcome : Result Outcome Stop → (Outcome → Type 0) → Type 0
+IfOutcome (Ok outcome) P = P outcome
+IfOutcome (Err Memory) P = Unit {0}
+IfOutcome (Err ReadFault) P = Unit {0}
+IfOutcome (Err (Refused refusal)) P = P (IsRefused refusal)
+
+-- nothing was read
+abbrev pub ReadsNothing : Result Outcome Stop → Type 0
+ReadsNothing (Ok outcome) = Unit {0}
+ReadsNothing (Err Memory) = Unit {0}
+ReadsNothing (Err ReadFault) = ⊥
+ReadsNothing (Err (Refused refusal)) = Unit {0}
+
+-- only a failed read raises the count of faults
+abbrev pub CountsStop : {T : Type 0} → ℕ → ℕ → Result T Stop → Type 0
+CountsStop before now (Ok value) = now ≡ before
+CountsStop before now (Err Memory) = now ≡ before
+CountsStop before now (Err ReadFault) = Rose before now
+CountsStop before now (Err (Refused refusal)) = now ≡ before

@@ -1,0 +1,73 @@
+//! The command `base`: the signature base of a message (RFC 9421 section 2.5).
+
+ghost use Rattle.std.specs.Prelude.{◌≡◌, length, IsTrue};
+ghost use Rattle.std.specs.List.{list_all};
+ghost use Rattle.component_ids.specs.Identifiers.{is_id_in_range};
+ghost use Rattle.component_ids.specs.SignatureParams.{are_sig_params_in_range};
+ghost use Rattle.msg_body.specs.Views.{message_of};
+ghost use Rattle.conf.specs.ConfMeaning.{meaning};
+ghost use Rattle.commands.specs.Base.{ReportsBase, ReportsValues};
+ghost use Rattle.commands.specs.tools.Prepared.{LiesIn, SaysFault};
+ghost use Rattle.commands.specs.Stops.{IfOutcome, ReadsNothing};
+
+use crate::covered::read_signature_params;
+use crate::outcome::Outcome;
+use crate::stop::Stop;
+use component_ids::{ComponentId, SigParams, print_id};
+use component_values::{Context, ValueFault, prepare};
+use conf::Conf;
+use msg_body::MessageView;
+use output_lines::{CommandRefusal, Refusal};
+use sig_base::base_bytes;
+use std::alloc::Global;
+
+/// What stops a run over components that aren't prepared.
+fn stop_for_fault(alloc: Global, ids: &[ComponentId], fault: ValueFault) -> Stop
+    requires in_range { IsTrue (list_all is_id_in_range ids.now) }
+    requires there { LiesIn (length ids.now) fault }
+    ensures { SaysFault ids.now fault result }
+{
+    match fault {
+        ValueFault::Memory => Stop::Memory,
+        ValueFault::Lacks(index, lack) => match print_id(alloc, &ids[index]) {
+            Ok(id) => Stop::Refused(Refusal::Command(CommandRefusal::Lacks(lack, id))),
+            Err(_memory) => Stop::Memory,
+        },
+    }
+}
+
+/// The signature base of the message over these components.
+fn base_of(
+    alloc: Global,
+    conf: &Conf,
+    sig: &SigParams,
+    message: &MessageView<'_>,
+) -> Result<Outcome, Stop>
+    requires { IsTrue (are_sig_params_in_range sig.now) }
+    ensures report { IfOutcome result
+        (ReportsValues (meaning conf.now) (message_of message.now) sig.now) }
+    ensures reads_nothing { ReadsNothing result }
+{
+    let context = Context::of_message(message, conf.scheme(), conf.types());
+    match prepare(alloc, &context, sig) {
+        Ok(prepared) => Ok(Outcome::Done(base_bytes(alloc, &prepared)?)),
+        Err(fault) => Err(stop_for_fault(alloc, sig.ids.as_slice(), fault)),
+    }
+}
+
+/// The signature base of the message over the components that PARAMS cover. They are an Inner List,
+/// as a member of a `Signature-Input` field is (RFC 9421 section 4.1). No related request is known,
+/// so a component of one (section 2.4) lacks its value.
+pub fn write_base(
+    alloc: Global,
+    conf: &Conf,
+    params: &[u8],
+    message: &MessageView<'_>,
+) -> Result<Outcome, Stop>
+    ensures report { IfOutcome result
+        (ReportsBase params.now (meaning conf.now) (message_of message.now)) }
+    ensures reads_nothing { ReadsNothing result }
+{
+    let sig = read_signature_params(alloc, params)?;
+    base_of(alloc, conf, &sig, message)
+}

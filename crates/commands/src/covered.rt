@@ -1,0 +1,24 @@
+//! The components that PARAMS cover.
+
+ghost use Rattle.std.specs.Prelude.{IsTrue, IfOk, IfErr};
+ghost use Rattle.component_ids.specs.SignatureParams.{are_sig_params_in_range};
+ghost use Rattle.commands.specs.Covered.{ReadsParams};
+ghost use Rattle.commands.specs.Base.{AreParamsRefused};
+ghost use Rattle.output_lines.specs.declared.refusal.Refusal.TheVariants.{Command};
+ghost use Rattle.commands.specs.Stops.{IfRefused, IsRefusalFor};
+
+use crate::stop::Stop;
+use component_ids::{SigParams, read_params};
+use sfv_read::read_inner;
+use std::alloc::Global;
+
+/// Reads PARAMS as signature parameters.
+pub fn read_signature_params(alloc: Global, params: &[u8]) -> Result<SigParams, Stop>
+    ensures ok { IfOk result (λ sig. ReadsParams params.now sig) }
+    ensures in_range { IfOk result (λ sig. IsTrue (are_sig_params_in_range sig)) }
+    ensures refused { IfErr result (λ stop.
+        IfRefused stop (IsRefusalFor (AreParamsRefused params.now) Command)) }
+{
+    let list = read_inner(alloc, params)?;
+    Ok(read_params(alloc, &list)?)
+}

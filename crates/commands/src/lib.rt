@@ -1,0 +1,32 @@
+//! The commands of `hms` over a configuration and a message: the signature base that `base` writes
+//! (RFC 9421 section 2.5), and the verdicts that `verify` writes (section 3.2). Before them come the
+//! configuration, in a file or none, and the input, which is to be one whole message.
+//!
+//! ```text
+//! let conf = read_configuration(alloc, Some("hms.toml"), &mut shelf)?;
+//! let message = read_input(alloc, input)?;
+//! let outcome = write_base(alloc, &conf, b"(\"date\")", &message)?;
+//! outcome.status()             // Status::Done
+//! outcome.into_output(alloc)?  // the line of `date`, and that of the signature parameters
+//! ```
+#![tactic(auto)]
+
+mod base;
+mod configured;
+mod covered;
+mod laws;
+mod message;
+mod outcome;
+mod stop;
+mod verify;
+
+pub use base::write_base;
+pub use configured::read_configuration;
+pub use laws::{each_layer_is_decided, verdicts_have_one_outcome};
+pub use message::read_input;
+pub use outcome::Outcome;
+pub use stop::Stop;
+pub use verify::write_verdicts;
+
+#[cfg(test)]
+mod tests;

@@ -1,0 +1,128 @@
+//! The command `verify`: the verdicts on a message's labels (RFC 9421 section 3.2).
+
+ghost use Rattle.std.specs.Prelude.{◌≡◌, ◌≤◌, ◌<◌, [], ◌∷◌, None, option_map, IfOk};
+ghost use Rattle.msg_body.specs.Views.{message_of};
+ghost use Rattle.conf.specs.ConfMeaning.{meaning};
+ghost use Rattle.verdicts.specs.Verdicts.{verification_of};
+ghost use Rattle.commands.specs.Verify.{AreAsked, ReportsVerdicts};
+ghost use Rattle.commands.specs.tools.Verdicts.{WritesVerdict, ReportsLabels};
+
+use crate::outcome::Outcome;
+use component_values::Context;
+use conf::Conf;
+use msg_body::MessageView;
+use nonces::Steps;
+use output_lines::append_verdict_line;
+use sfv_text::{Memory, Text};
+use std::alloc::Global;
+use std::marker::Brand;
+use std::sync::ledger::{Blank, Ledger};
+use verdicts::{Labels, MAX_MOMENT, Verdict, labels_of, verdict};
+
+/// Judges the label and adds its line. It answers whether the label is accepted.
+fn write_line<L: Ledger>(
+    alloc: Global,
+    context: &Context<'_, '_>,
+    label: &[u8],
+    conf: &Conf,
+    now: u64,
+    lines: &mut Text,
+    steps: &mut Steps<L>,
+) -> Result<bool, Memory>
+    requires { now ≤ MAX_MOMENT }
+    ensures { IfOk result (WritesVerdict
+        (verification_of context.now label.now (meaning conf.now) now None)
+        label.now lines.old lines.new) }
+{
+    let verdict = verdict(alloc, context, label, conf, now, None, steps)?;
+    append_verdict_line(alloc, label, &verdict, lines)?;
+    Ok(match verdict {
+        Verdict::Ok { .. } => true,
+        Verdict::Rule { .. } => false,
+    })
+}
+
+/// The lines of the labels, in order. Steps are counted and the count is let go.
+fn write_lines<L: Ledger>(
+    alloc: Global,
+    conf: &Conf,
+    now: u64,
+    message: &MessageView<'_>,
+    labels: &[Text],
+    blank: Blank,
+) -> Result<Outcome, Memory>
+    requires now { now ≤ MAX_MOMENT }
+    requires name { blank.name ≡ L.name }
+    requires parts { blank.parts ≡ L.parts }
+    requires some { 0 < blank.parts }
+    ensures { IfOk result
+        (ReportsLabels (meaning conf.now) now (message_of message.now) labels.now) }
+{
+    let mut steps: Steps<L> = Steps::new(blank);
+    let context = Context::of_message(message, conf.scheme(), conf.types());
+    let mut lines = Text::new(alloc);
+    let mut all_accepted = true;
+    for label in labels {
+        let is_accepted = write_line(
+            alloc,
+            &context,
+            label.bytes(),
+            conf,
+            now,
+            &mut lines,
+            &mut steps,
+        )?;
+        all_accepted &= is_accepted;
+    }
+    Ok(if all_accepted {
+        Outcome::Done(lines)
+    } else {
+        Outcome::NotOk(lines)
+    })
+}
+
+/// A list of one label.
+fn one_label(alloc: Global, label: &[u8]) -> Result<Labels, Memory>
+    ensures { IfOk result (λ labels. labels ≡ label.now ∷ []) }
+{
+    let mut labels = Labels::new(alloc);
+    labels.push(Text::from_bytes(alloc, label)?)?;
+    Ok(labels)
+}
+
+/// The labels that are asked for.
+fn asked_labels(
+    alloc: Global,
+    label: Option<&str>,
+    message: &MessageView<'_>,
+) -> Result<Labels, Memory>
+    ensures { IfOk result
+        (AreAsked (option_map (λ word. word.now) label.entry) (message_of message.now)) }
+{
+    if let Some(label) = label {
+        return one_label(alloc, label.as_bytes());
+    }
+    let labels = labels_of(alloc, message)?;
+    if labels.is_empty() {
+        return one_label(alloc, b"-");
+    }
+    Ok(labels)
+}
+
+/// The lines of the verdicts on the labels that are asked for: on the given one, whether or not the
+/// message has it, or else on each that the message has, and on `-` where it has none. The moment
+/// is in seconds since the epoch. No nonce is remembered.
+pub fn write_verdicts(
+    alloc: Global,
+    conf: &Conf,
+    now: u64,
+    label: Option<&str>,
+    message: &MessageView<'_>,
+) -> Result<Outcome, Memory>
+    requires { now ≤ MAX_MOMENT }
+    ensures { IfOk result (ReportsVerdicts (option_map (λ word. word.now) label.entry)
+        now (meaning conf.now) (message_of message.now)) }
+{
+    let labels = asked_labels(alloc, label, message)?;
+    write_lines::<Brand>(alloc, conf, now, message, labels.as_slice(), Blank::new(1))
+}
