@@ -1,6 +1,6 @@
 //! The commands of `hms` over a configuration and a message: the signature base that `base` writes
-//! (RFC 9421 section 2.5), and the verdicts that `verify` writes (section 3.2). Before them come the
-//! configuration, in a file or none, and the input, which is to be one whole message.
+//! (RFC 9421 section 2.5), and the verdicts that `verify` writes (section 3.2). Before them come
+//! the configuration, in a file or none, and the input, which is to be one whole message.
 //!
 //! ```text
 //! let conf = read_configuration(alloc, Some("hms.toml"), &mut shelf)?;
