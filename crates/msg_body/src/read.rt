@@ -2,6 +2,7 @@
 
 ghost use Rattle.std.specs.Prelude.{◌≡◌, ◌≢◌, ℕ, ◌≤◌, length, Ok, IsTrue};
 ghost use Rattle.byte_grammar.specs.Causes.{AnswersWhere};
+ghost use Rattle.msg_head.specs.Heads.{IsUnfinished};
 ghost use Rattle.msg_body.specs.declared.limits.TheConstants.{MAX_MESSAGE_BYTES};
 ghost use Rattle.msg_body.specs.Messages.{Message, SpellsMessage, is_expected};
 ghost use Rattle.msg_body.specs.Views.{IsMessageViewOf};
@@ -34,7 +35,8 @@ fn judge<'m>(
     to_head: bool,
 ) -> Result<MessageRead<'m>, MessageError>
     requires { length bytes.now ≤ MAX_MESSAGE_BYTES }
-    ensures { ExplainsMessage expect to_head bytes.now result }
+    ensures explains { ExplainsMessage expect to_head bytes.now result }
+    ensures unfinished_head { IsUnfinished bytes.now → result ≡ Ok MessageRead.Partial }
 {
     let (head, start) = match read_head(alloc, bytes)? {
         HeadRead::Whole(head, start) => (head, start),
@@ -74,6 +76,7 @@ pub fn read_message<'m>(
         → IsMessageUnfinished expect to_head bytes.now }
     ensures unfinished { IsMessageUnfinished expect to_head bytes.now
         → IsPartialUnlessMemory result }
+    ensures unfinished_head { IsUnfinished bytes.now → result ≡ Ok MessageRead.Partial }
 
     // The fault whose cause holds is answered, and no other.
     ensures fault { (fault : MessageError) → fault ≢ MessageError.Memory
