@@ -26,7 +26,7 @@ fn status_of(
 }
 
 // Runs the words over a shelf whose file `c` is the configuration, and compares what came out. The
-// input comes in pieces, and the output goes in pieces.
+// input comes in pieces, longer ones of a long input, and the output goes in pieces.
 pub fn assert_run(
     rt: &(impl Abort + AllocGlobal),
     words: &[&str],
@@ -38,7 +38,7 @@ pub fn assert_run(
     let alloc = rt.alloc();
     let mut shelf = MemShelf::new(alloc, &[])?;
     shelf.put("c", conf)?;
-    let mut source = MemSource::new(alloc, input, 50, &[])?;
+    let mut source = MemSource::new(alloc, input, 50 + input.len() / 1_000, &[])?;
     let mut sink = MemSink::new(alloc, 100_000, 7, &[])?;
     let ended = status_of(alloc, words, &mut shelf, &mut source, &mut sink)?;
     assert_eq!(rt; sink.taken(), output, "at {words:?}");
@@ -397,7 +397,9 @@ fn refusals_are_judged_in_their_order(rt: HostRuntime) -> Result<(), Fail> {
     let base = ["base", "(", "--conf", "c"];
     assert_conf_refused(&rt, &base, bad, Status::BadConf, cause)?;
     let age = b"[policy]\nmax-age = 0";
-    assert_conf_refused(&rt, &VERIFY, age, Status::BadConf, b"conf 5 policy.max-age")
+    assert_conf_refused(&rt, &VERIFY, age, Status::BadConf, b"conf 5 policy.max-age")?;
+    let other = b"[policy]\nmaxage = 5";
+    assert_conf_refused(&rt, &VERIFY, other, Status::BadConf, b"conf 3 policy")
 }
 
 #[test]
