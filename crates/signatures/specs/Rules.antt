@@ -2,7 +2,7 @@
 -- its row holds. These are the rows of rules 1 to 12, by which a label is read (RFC 9421 sections
 -- 2.3, 4.1 and 4.2). A row that speaks of what an earlier failure leaves undefined holds only where
 -- the earlier rule doesn't fail.
-use Rattle.std.specs.Prelude.{◌≡◌, ℕ, Option, None, List, []}
+use Rattle.std.specs.Prelude.{◌≡◌, ℕ, None, List}
 use Rattle.byte_grammar.specs.Causes.{IsFirst}
 use Rattle.sfv_text.specs.Keys.{value_of}
 use Rattle.sfv_text.specs.Parts.{byte_sequence_in}

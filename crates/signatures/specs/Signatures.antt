@@ -1,5 +1,5 @@
 -- The signatures of a message, by their labels (RFC 9421 sections 4.1 and 4.2).
-use Rattle.std.specs.Prelude.{◌≡◌, ◌⊎◌, ℕ, IsTrue, Option, Some, None, List, [], map, codes}
+use Rattle.std.specs.Prelude.{◌≡◌, ◌⊎◌, ℕ, IsTrue, Some, List, [], map, codes}
 use Rattle.sfv_text.specs.Parts.{byte_sequence_in}
 use Rattle.sfv_text.specs.Keys.{value_of}
 use Rattle.sfv_text.specs.declared.pair.Pair.{Pair}

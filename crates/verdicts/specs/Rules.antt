@@ -5,7 +5,6 @@ use Rattle.std.specs.Prelude.{◌≡◌, ℕ, Bool, IsTrue, IsFalse, Option, Som
 use Rattle.std.specs.FinMap as map
 use Rattle.sfv_text.specs.Strict.{string_text}
 use Rattle.framing.specs.Framings.{is_request}
-use Rattle.msg_body.specs.Messages.{Message}
 use Rattle.msg_body.specs.Views.{message_content}
 use Rattle.component_ids.specs.Table.{is_listed}
 use Rattle.component_ids.specs.declared.params.SigParams.{SigParams}
