@@ -1,5 +1,5 @@
 -- Rules 1 to 12: the signature of a label.
-use Rattle.std.proofs.Common.{◌≡◌, ◌⊎◌, ◌<◌, ◌≤◌, ◌+◌, lit<, lit≤, ℕ, zero, suc, nat_lt, true, Option, Some, None, Result, Ok, Err, List, [], map, refl, sym, ap, subst, ◌∙◌, arith, inl, inr}
+use Rattle.std.proofs.Common.{◌≡◌, ◌⊎◌, ◌<◌, ◌+◌, lit<, lit≤, ℕ, zero, suc, nat_lt, true, Option, Some, None, Result, Ok, Err, List, [], map, refl, sym, ap, subst, ◌∙◌, arith, inl, inr}
 use Rattle.std.proofs.lemmas.Bool.Decides.{nat_tests}
 use Rattle.std.proofs.lemmas.Bool.{cases_Bool, cases_order, false≢true}
 use Rattle.sfv_text.specs.Keys.{value_of}
