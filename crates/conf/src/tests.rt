@@ -57,10 +57,10 @@ fn sign_of(conf: &Conf) -> Result<&SignConf, Fail> {
     }
 }
 
-fn tag_of(tag: &Option<Text>) -> Option<&[u8]> {
+fn is_tag(tag: &Option<Text>, bytes: &[u8]) -> bool {
     match tag {
-        Some(text) => Some(text.bytes()),
-        None => None,
+        Some(text) => text.bytes() == bytes,
+        None => false,
     }
 }
 
@@ -147,7 +147,7 @@ digest = \"sha-512\"",
     check_names(&rt, &sign.components_response, &[b"@status"]);
     assert_eq!(rt; sign.expires_after, Some(86_400));
     assert!(rt; sign.alg);
-    assert_eq!(rt; tag_of(&sign.tag), Some(b"".as_slice()));
+    assert!(rt; is_tag(&sign.tag, b""));
     assert_eq!(rt; sign.digest, SignDigest::Sha512);
     Ok(())
 }
@@ -196,7 +196,7 @@ digest = \"content\"",
     assert!(rt; policy.expires);
     assert_eq!(rt; policy.nonce, NonceUse::Check);
     assert_eq!(rt; policy.nonces, 1);
-    assert_eq!(rt; tag_of(&policy.tag), Some(b" ~".as_slice()));
+    assert!(rt; is_tag(&policy.tag, b" ~"));
     assert_eq!(rt; policy.digest, DigestUse::Content);
     Ok(())
 }
@@ -221,7 +221,7 @@ digest = \"always\"",
     assert!(rt; !policy.expires);
     assert_eq!(rt; policy.nonce, NonceUse::Require);
     assert_eq!(rt; policy.nonces, 65_536);
-    assert_eq!(rt; tag_of(&policy.tag), Some(b"".as_slice()));
+    assert!(rt; is_tag(&policy.tag, b""));
     assert_eq!(rt; policy.digest, DigestUse::Always);
     Ok(())
 }
