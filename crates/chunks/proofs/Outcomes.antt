@@ -9,7 +9,7 @@ use Rattle.chunks.specs.declared.error.ChunkError.TheVariants.{Memory, TooLong, 
 use Rattle.chunks.specs.Chunks.{Chunks, SpellsChunks}
 use Rattle.chunks.specs.Causes.{IsContentTooLong, IsBadChunk, IsChunksCause, IsChunksError, AreChunksUnfinished, chunks_order}
 use Rattle.chunks.specs.Views.{chunks_of}
-use Rattle.chunks.specs.Outcome.{IsChunksUnlessMemory, IsPartialUnlessMemory}
+use Rattle.chunks.specs.Outcome.{IsChunksUnlessMemory, AnswersUnlessMemory}
 use Rattle.chunks.specs.tools.Judged.{ExplainsChunks}
 use Rattle.chunks.proofs.ChunkLaws.{one_chunks, no_fault_at_chunks, no_answer_yet, one_fault}
 
@@ -34,7 +34,7 @@ found_is bytes (Err Memory) x cs used s = refl
 found_is bytes (Err TooLong) x cs used s = absurd (no_fault_at_chunks bytes cs used TooLong s (x (λ e. cc)))
 found_is bytes (Err (Bad offset)) x cs used s = absurd (no_fault_at_chunks bytes cs used (Bad offset) s (x (λ e. cc)))
 
-pub unfinished_is : (bytes : List ℕ) (result : Result ChunksRead ChunkError) → ExplainsChunks bytes result → AreChunksUnfinished bytes → IsPartialUnlessMemory result
+pub unfinished_is : (bytes : List ℕ) (result : Result ChunksRead ChunkError) → ExplainsChunks bytes result → AreChunksUnfinished bytes → AnswersUnlessMemory Memory result Partial
 unfinished_is bytes (Ok (Whole view count)) x u = absurd ((no_answer_yet bytes u).1 (chunks_of view) count x.spells)
 unfinished_is bytes (Ok Partial) x u = inl refl
 unfinished_is bytes (Err Memory) x u = inr refl

@@ -19,6 +19,6 @@ IsChunksUnlessMemory (Ok (Whole view count)) cs used = (chunks_of view ≡ cs) �
 IsChunksUnlessMemory (Ok Partial) cs used = ⊥
 IsChunksUnlessMemory (Err error) cs used = error ≡ Memory
 
--- the answer is that more bytes are wanted, or out of memory
-abbrev pub IsPartialUnlessMemory : Result ChunksRead ChunkError → Type 0
-IsPartialUnlessMemory result = (result ≡ Ok Partial) ⊎ (result ≡ Err Memory)
+-- the answer is this value, or out of memory
+abbrev pub AnswersUnlessMemory : {T F : Type 0} → F → Result T F → T → Type 0
+AnswersUnlessMemory memory result value = (result ≡ Ok value) ⊎ (result ≡ Err memory)

@@ -5,7 +5,7 @@ ghost use Rattle.byte_grammar.specs.Causes.{AnswersWhere};
 ghost use Rattle.chunks.specs.Chunks.{Chunks, SpellsChunks};
 ghost use Rattle.chunks.specs.Causes.{IsChunksError, AreChunksUnfinished};
 ghost use Rattle.chunks.specs.Views.{IsChunksViewOf};
-ghost use Rattle.chunks.specs.Outcome.{IfWholeChunks, IsChunksUnlessMemory, IsPartialUnlessMemory};
+ghost use Rattle.chunks.specs.Outcome.{IfWholeChunks, IsChunksUnlessMemory, AnswersUnlessMemory};
 ghost use Rattle.chunks.specs.tools.Judged.{IsFound, IsStop, ExplainsChunks};
 
 use crate::error::ChunkError;
@@ -145,7 +145,8 @@ pub fn read_chunks<'m>(alloc: Global, bytes: &'m [u8]) -> Result<ChunksRead<'m>,
     ensures found { (cs : Chunks) (used : ℕ) → SpellsChunks cs used bytes.now
         → IsChunksUnlessMemory result cs used }
     ensures partial { result ≡ Ok ChunksRead.Partial → AreChunksUnfinished bytes.now }
-    ensures unfinished { AreChunksUnfinished bytes.now → IsPartialUnlessMemory result }
+    ensures unfinished { AreChunksUnfinished bytes.now
+        → AnswersUnlessMemory ChunkError.Memory result ChunksRead.Partial }
 
     // The first fault whose cause holds is answered, and no other.
     ensures fault { (fault : ChunkError) → fault ≢ ChunkError.Memory

@@ -54,24 +54,26 @@ fn expected(rows: &[Swap], place: usize, byte: u8, others: Answer) -> Answer {
     others
 }
 
-#[test]
-fn each_byte_at_each_place_has_its_answer(rt: HostRuntime) -> Result<(), Fail> {
-    let others = [
-        Bad(0),
-        Bad(1),
-        Whole(13),
-        Bad(4),
-        Bad(4),
-        Whole(13),
-        Whole(13),
-        Whole(13),
-        Bad(8),
-        Bad(9),
-        Bad(10),
-        Bad(11),
-        Bad(12),
-    ];
-    let rows = [
+// The answer where a byte that no row has stands at the place, place by place.
+const OTHERS: [Answer; 13] = [
+    Bad(0),
+    Bad(1),
+    Whole(13),
+    Bad(4),
+    Bad(4),
+    Whole(13),
+    Whole(13),
+    Whole(13),
+    Bad(8),
+    Bad(9),
+    Bad(10),
+    Bad(11),
+    Bad(12),
+];
+
+// The bytes that have an answer of their own at their place in the small text.
+fn swaps_of_small() -> [Swap; 24] {
+    [
         // another size: where its data ends, CRLF stands, or it doesn't, or it isn't there yet
         swap_of(0, b"0", Whole(5)),
         swap_of(0, b"1", Bad(6)),
@@ -100,8 +102,13 @@ fn each_byte_at_each_place_has_its_answer(rt: HostRuntime) -> Result<(), Fail> {
         swap_of(11, HEX, Bad(12)),
         swap_of(11, b"; \t", Bad(12)),
         swap_of(12, b"\n", Whole(13)),
-    ];
-    for (place, answer) in others.iter().enumerate() {
+    ]
+}
+
+#[test]
+fn each_byte_at_each_place_has_its_answer(rt: HostRuntime) -> Result<(), Fail> {
+    let rows = swaps_of_small();
+    for (place, answer) in OTHERS.iter().enumerate() {
         for byte in 0..=255u8 {
             let mut text = SMALL;
             if let Some(there) = text.get_mut(place) {

@@ -6,7 +6,8 @@ use Rattle.std.proofs.lemmas.Bool.{cases_Bool, false≢true}
 use Rattle.std.proofs.lemmas.Bool.Decides.{nat_tests}
 use Rattle.sfv_text.specs.Range.{is_string_byte}
 use Rattle.toml.specs.Data.{Data, Members, string, integer, as_str}
-use Rattle.conf_table.specs.declared.limits.TheConstants.{DEFAULT_MAX_AGE, DEFAULT_SKEW, MAX_AGE, MAX_NONCES, MAX_SKEW, MAX_WINDOW}
+use Rattle.nonces.specs.declared.limits.TheConstants.{MAX_WINDOW}
+use Rattle.conf_table.specs.declared.limits.TheConstants.{DEFAULT_MAX_AGE, DEFAULT_SKEW, MAX_AGE, MAX_NONCES, MAX_SKEW}
 use Rattle.conf_table.specs.declared.table.Place.TheVariants as place
 use Rattle.conf_table.specs.declared.table.Rule.{Rule}
 use Rattle.conf_table.specs.declared.table.Rule.TheVariants as rule

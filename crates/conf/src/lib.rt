@@ -25,12 +25,10 @@ mod sections;
 
 pub use conf::Conf;
 pub use conf_sections::{DigestUse, NonceUse, Policy, SignConf, SignDigest};
-pub use conf_table::{
-    MAX_AGE, MAX_EXPIRES_AFTER, MAX_KEY_BYTES, MAX_KEYID_BYTES, MAX_NONCES, MAX_SKEW, MAX_WINDOW,
-    is_keyid,
-};
+pub use conf_table::{MAX_AGE, MAX_EXPIRES_AFTER, MAX_KEY_BYTES, MAX_NONCES, MAX_SKEW, is_keyid};
 pub use fault::ConfFault;
 pub use laws::a_text_is_one_configuration;
+pub use nonces::{MAX_KEYID_BYTES, MAX_WINDOW};
 pub use read::{empty_conf, read_conf};
 
 #[cfg(test)]

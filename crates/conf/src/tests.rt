@@ -11,29 +11,34 @@ const SHARED_TEXT: &str =
 
 const SHARED_BEGIN: [u8; 4] = [0xBB, 0x3B, 0xC9, 0x7C];
 
-// The number and the path of the fault for which the text is refused; 0 where it isn't.
-fn check_refused(rt: &impl Abort, alloc: Global, text: &[u8], number: u8, path: &[u8]) {
+// Whether the fault has the number and the path of the line, as in `5 keys`.
+fn is_fault(fault: &ConfFault, line: &[u8]) -> bool {
+    let Some(digit) = line.first() else {
+        return false;
+    };
+    digit.wrapping_sub(b'0') == fault.number()
+        && line.get(2..).unwrap_or(b"") == fault.path().unwrap_or(b"")
+}
+
+// Whether the text is refused for the fault of the line, or taken where the line is empty.
+fn is_answered(alloc: Global, text: &[u8], line: &[u8]) -> bool {
     match read_conf(alloc, text) {
-        Ok(_) => assert_eq!(rt; 0, number, "{text:?}"),
-        Err(fault) => {
-            assert_eq!(rt; fault.number(), number, "{text:?}");
-            assert_eq!(rt; fault.path().unwrap_or(b""), path, "{text:?}");
-        }
+        Ok(_) => line.is_empty(),
+        Err(fault) => is_fault(&fault, line),
     }
 }
 
 // Texts that are refused alike.
 #[derive(Clone, Copy)]
 struct Case<'a> {
-    number: u8,
-    path: &'a [u8],
+    fault: &'a [u8],
     texts: &'a [&'a [u8]],
 }
 
 fn check_cases(rt: &impl Abort, alloc: Global, cases: &[Case<'_>]) {
     for case in cases {
         for text in case.texts {
-            check_refused(rt, alloc, *text, case.number, case.path);
+            assert!(rt; is_answered(alloc, *text, case.fault), "{text:?}");
         }
     }
 }
@@ -49,6 +54,13 @@ fn sign_of(conf: &Conf) -> Result<&SignConf, Fail> {
     match conf.sign() {
         Some(sign) => Ok(sign),
         None => Err(Fail::from("no table sign")),
+    }
+}
+
+fn is_tag(tag: &Option<Text>, bytes: &[u8]) -> bool {
+    match tag {
+        Some(text) => text.bytes() == bytes,
+        None => false,
     }
 }
 
@@ -135,7 +147,7 @@ digest = \"sha-512\"",
     check_names(&rt, &sign.components_response, &[b"@status"]);
     assert_eq!(rt; sign.expires_after, Some(86_400));
     assert!(rt; sign.alg);
-    assert!(rt; sign.tag.as_ref().is_some_and(|tag| tag.bytes().is_empty()));
+    assert!(rt; is_tag(&sign.tag, b""));
     assert_eq!(rt; sign.digest, SignDigest::Sha512);
     Ok(())
 }
@@ -184,12 +196,7 @@ digest = \"content\"",
     assert!(rt; policy.expires);
     assert_eq!(rt; policy.nonce, NonceUse::Check);
     assert_eq!(rt; policy.nonces, 1);
-    assert!(rt;
-        policy
-            .tag
-            .as_ref()
-            .is_some_and(|tag| tag.bytes() == b" ~".as_slice())
-    );
+    assert!(rt; is_tag(&policy.tag, b" ~"));
     assert_eq!(rt; policy.digest, DigestUse::Content);
     Ok(())
 }
@@ -214,30 +221,29 @@ digest = \"always\"",
     assert!(rt; !policy.expires);
     assert_eq!(rt; policy.nonce, NonceUse::Require);
     assert_eq!(rt; policy.nonces, 65_536);
-    assert!(rt;
-        policy
-            .tag
-            .as_ref()
-            .is_some_and(|tag| tag.bytes().is_empty())
-    );
+    assert!(rt; is_tag(&policy.tag, b""));
     assert_eq!(rt; policy.digest, DigestUse::Always);
-    check_refused(
-        &rt,
-        alloc,
-        b"[policy]\nmax-age = 1\nnonce = \"ignore\"\ndigest = \"ignore\"",
-        0,
-        b"",
-    );
-    check_refused(&rt, alloc, b"policy.max-age = 86280", 0, b"");
-    check_refused(&rt, alloc, b"policy.skew = 3600", 0, b"");
+    Ok(())
+}
+
+#[test]
+fn values_at_the_ends_are_taken(rt: HostRuntime) -> Result<(), Fail> {
+    let taken = Case {
+        fault: b"",
+        texts: &[
+            b"[policy]\nmax-age = 1\nnonce = \"ignore\"\ndigest = \"ignore\"",
+            b"policy.max-age = 86280",
+            b"policy.skew = 3600",
+        ],
+    };
+    check_cases(&rt, rt.alloc(), &[taken]);
     Ok(())
 }
 
 // A refusal of each number with each path.
 const REFUSALS: [Case<'static>; 37] = [
     Case {
-        number: 2,
-        path: b"",
+        fault: b"2",
         texts: &[
             b"a",
             b"keys = 1\nkeys = 1",
@@ -246,23 +252,19 @@ const REFUSALS: [Case<'static>; 37] = [
         ],
     },
     Case {
-        number: 3,
-        path: b"top",
+        fault: b"3 top",
         texts: &[b"a = 1", b"policies = 1", b"[gateway]", b"Keys = 1"],
     },
     Case {
-        number: 3,
-        path: b"policy",
+        fault: b"3 policy",
         texts: &[b"policy.maxage = 5", b"[policy]\nlabel = \"a\""],
     },
     Case {
-        number: 3,
-        path: b"sign",
+        fault: b"3 sign",
         texts: &[b"sign.a = 1", b"[sign]\nalg.b = 1\nlabels = 1"],
     },
     Case {
-        number: 4,
-        path: b"keys",
+        fault: b"4 keys",
         texts: &[
             b"keys = 1",
             b"[keys]\na = 1",
@@ -270,73 +272,59 @@ const REFUSALS: [Case<'static>; 37] = [
         ],
     },
     Case {
-        number: 4,
-        path: b"policy",
+        fault: b"4 policy",
         texts: &[b"policy = 1", b"[[policy]]"],
     },
     Case {
-        number: 4,
-        path: b"policy.expires",
+        fault: b"4 policy.expires",
         texts: &[b"policy.expires = true"],
     },
     Case {
-        number: 4,
-        path: b"policy.max-age",
+        fault: b"4 policy.max-age",
         texts: &[b"policy.max-age = \"1\"", b"policy.max-age = 1.0"],
     },
     Case {
-        number: 4,
-        path: b"policy.nonces",
+        fault: b"4 policy.nonces",
         texts: &[b"policy.nonces = true"],
     },
     Case {
-        number: 4,
-        path: b"policy.require-request",
+        fault: b"4 policy.require-request",
         texts: &[b"policy.require-request = []"],
     },
     Case {
-        number: 4,
-        path: b"policy.tag",
+        fault: b"4 policy.tag",
         texts: &[b"policy.tag = 1"],
     },
     Case {
-        number: 4,
-        path: b"scheme",
+        fault: b"4 scheme",
         texts: &[b"scheme = 1"],
     },
     Case {
-        number: 4,
-        path: b"sign",
+        fault: b"4 sign",
         texts: &[b"sign = 1", b"[[sign]]"],
     },
     Case {
-        number: 4,
-        path: b"sign.alg",
+        fault: b"4 sign.alg",
         texts: &[b"sign.alg = 1"],
     },
     Case {
-        number: 4,
-        path: b"sign.components-request",
+        fault: b"4 sign.components-request",
         texts: &[b"sign.components-request = []"],
     },
     Case {
-        number: 4,
-        path: b"sign.expires-after",
+        fault: b"4 sign.expires-after",
         texts: &[b"sign.expires-after = 1.0"],
     },
     Case {
-        number: 4,
-        path: b"types",
+        fault: b"4 types",
         texts: &[b"types = \"list\"", b"[types]\na = 1"],
     },
     Case {
-        number: 4,
-        path: b"version",
+        fault: b"4 version",
         texts: &[b"version = 1.0", b"version = \"1\""],
     },
     Case {
-        number: 5,
-        path: b"keys",
+        fault: b"5 keys",
         texts: &[
             b"[keys]\n\"\" = \"AAAA\"",
             b"[keys]\n\"\\u007F\" = \"AAAA\"",
@@ -344,18 +332,15 @@ const REFUSALS: [Case<'static>; 37] = [
         ],
     },
     Case {
-        number: 5,
-        path: b"policy.digest",
+        fault: b"5 policy.digest",
         texts: &[b"policy.digest = \"never\""],
     },
     Case {
-        number: 5,
-        path: b"policy.expires",
+        fault: b"5 policy.expires",
         texts: &[b"policy.expires = \"ignore\""],
     },
     Case {
-        number: 5,
-        path: b"policy.max-age",
+        fault: b"5 policy.max-age",
         texts: &[
             b"policy.max-age = 0",
             b"policy.max-age = -1",
@@ -370,18 +355,15 @@ const REFUSALS: [Case<'static>; 37] = [
         ],
     },
     Case {
-        number: 5,
-        path: b"policy.nonce",
+        fault: b"5 policy.nonce",
         texts: &[b"policy.nonce = \"content\""],
     },
     Case {
-        number: 5,
-        path: b"policy.nonces",
+        fault: b"5 policy.nonces",
         texts: &[b"policy.nonces = 0", b"policy.nonces = 65537"],
     },
     Case {
-        number: 5,
-        path: b"policy.skew",
+        fault: b"5 policy.skew",
         texts: &[
             b"policy.skew = -1",
             b"policy.skew = 3601",
@@ -390,23 +372,19 @@ const REFUSALS: [Case<'static>; 37] = [
         ],
     },
     Case {
-        number: 5,
-        path: b"policy.tag",
+        fault: b"5 policy.tag",
         texts: &[b"policy.tag = \"\\u007F\"", b"policy.tag = \"\\n\""],
     },
     Case {
-        number: 5,
-        path: b"scheme",
+        fault: b"5 scheme",
         texts: &[b"scheme = \"ftp\"", b"scheme = \"\"", b"scheme = \"HTTP\""],
     },
     Case {
-        number: 5,
-        path: b"sign.digest",
+        fault: b"5 sign.digest",
         texts: &[b"sign.digest = \"sha\""],
     },
     Case {
-        number: 5,
-        path: b"sign.expires-after",
+        fault: b"5 sign.expires-after",
         texts: &[
             b"sign.expires-after = 0",
             b"sign.expires-after = -1",
@@ -414,16 +392,14 @@ const REFUSALS: [Case<'static>; 37] = [
         ],
     },
     Case {
-        number: 5,
-        path: b"sign.keyid",
+        fault: b"5 sign.keyid",
         texts: &[
             b"sign.keyid = \"a\"",
             b"keys.b = \"AAAA\"\nsign.keyid = \"a\"",
         ],
     },
     Case {
-        number: 5,
-        path: b"sign.label",
+        fault: b"5 sign.label",
         texts: &[
             b"sign.label = \"\"",
             b"sign.label = \"A\"",
@@ -431,8 +407,7 @@ const REFUSALS: [Case<'static>; 37] = [
         ],
     },
     Case {
-        number: 5,
-        path: b"types",
+        fault: b"5 types",
         texts: &[
             b"types.A = \"list\"",
             b"types.\"\" = \"list\"",
@@ -442,13 +417,11 @@ const REFUSALS: [Case<'static>; 37] = [
         ],
     },
     Case {
-        number: 5,
-        path: b"version",
+        fault: b"5 version",
         texts: &[b"version = 0", b"version = 2", b"version = -1"],
     },
     Case {
-        number: 6,
-        path: b"keys",
+        fault: b"6 keys",
         texts: &[
             b"keys.a = \"\"",
             b"keys.a = \"AA\"",
@@ -458,8 +431,7 @@ const REFUSALS: [Case<'static>; 37] = [
         ],
     },
     Case {
-        number: 7,
-        path: b"policy.require-request",
+        fault: b"7 policy.require-request",
         texts: &[
             b"policy.require-request = \"();a\"",
             b"policy.require-request = ''",
@@ -467,8 +439,7 @@ const REFUSALS: [Case<'static>; 37] = [
         ],
     },
     Case {
-        number: 7,
-        path: b"sign.components-request",
+        fault: b"7 sign.components-request",
         texts: &[
             b"sign.components-request = \"();a\"",
             b"sign.components-request = \"\"",
@@ -476,8 +447,7 @@ const REFUSALS: [Case<'static>; 37] = [
         ],
     },
     Case {
-        number: 9,
-        path: b"sign.keyid",
+        fault: b"9 sign.keyid",
         texts: &[b"[sign]", b"sign.label = \"a\""],
     },
 ];
@@ -491,71 +461,58 @@ fn each_fault_has_its_number_and_path(rt: HostRuntime) -> Result<(), Fail> {
 // Two faults at once, of which the lesser is answered: by the number, and then by the path.
 const TWO_FAULTS: [Case<'static>; 13] = [
     Case {
-        number: 3,
-        path: b"sign",
+        fault: b"3 sign",
         texts: &[b"a = 1\nsign.a = 1"],
     },
     Case {
-        number: 3,
-        path: b"top",
+        fault: b"3 top",
         texts: &[b"keys = 1\nzz = 1"],
     },
     Case {
-        number: 3,
-        path: b"policy",
+        fault: b"3 policy",
         texts: &[b"a = 1\nsign.a = 1\npolicy.a = 1"],
     },
     Case {
-        number: 4,
-        path: b"keys",
+        fault: b"4 keys",
         texts: &[b"version = \"\"\nscheme = 1\nkeys = 1"],
     },
     Case {
-        number: 4,
-        path: b"policy.skew",
+        fault: b"4 policy.skew",
         texts: &[b"[policy]\nmax-age = 100000\nskew = \"\""],
     },
     Case {
-        number: 4,
-        path: b"version",
+        fault: b"4 version",
         texts: &[b"version = 1.0\nscheme = \"\""],
     },
     Case {
-        number: 5,
-        path: b"scheme",
+        fault: b"5 scheme",
         texts: &[b"version = 2\nscheme = \"\""],
     },
     Case {
-        number: 5,
-        path: b"version",
+        fault: b"5 version",
         texts: &[b"version = 2\nkeys.a = \"\""],
     },
     Case {
-        number: 6,
-        path: b"keys",
+        fault: b"6 keys",
         texts: &[b"keys.a = \"\"\n[sign]\ncomponents-request = \"\""],
     },
     Case {
-        number: 7,
-        path: b"policy.require-response",
+        fault: b"7 policy.require-response",
         texts: &[
             b"sign.components-request = \"\"\npolicy.require-response = \"\"",
             b"[sign]\n[policy]\nrequire-response = \"\"",
         ],
     },
     Case {
-        number: 7,
-        path: b"sign.components-response",
+        fault: b"7 sign.components-response",
         texts: &[b"sign.components-response = \"\""],
     },
     Case {
-        number: 9,
-        path: b"sign.keyid",
+        fault: b"9 sign.keyid",
         texts: &[b"[policy]\n[sign]"],
     },
     Case {
-        number: 9,
-        path: b"sign.label",
+        fault: b"9 sign.label",
         texts: &[b"keys.a = \"AAAA\"\nsign.keyid = \"a\""],
     },
 ];
@@ -584,7 +541,7 @@ fn a_key_has_at_most_1024_bytes(rt: HostRuntime) -> Result<(), Fail> {
     let conf = read(alloc, longest.bytes())?;
     assert_eq!(rt; conf.key(b"a").unwrap_or(b"").len(), MAX_KEY_BYTES);
     let longer = key_conf(alloc, 341, "AAA=")?;
-    check_refused(&rt, alloc, longer.bytes(), 6, b"keys");
+    assert!(rt; is_answered(alloc, longer.bytes(), b"6 keys"));
     Ok(())
 }
 
@@ -602,9 +559,9 @@ fn keyid_conf(alloc: Global, length: usize) -> Result<Text, Fail> {
 fn a_keyid_has_at_most_64_bytes(rt: HostRuntime) -> Result<(), Fail> {
     let alloc = rt.alloc();
     let longest = keyid_conf(alloc, MAX_KEYID_BYTES)?;
-    check_refused(&rt, alloc, longest.bytes(), 0, b"");
+    assert!(rt; is_answered(alloc, longest.bytes(), b""));
     let longer = keyid_conf(alloc, MAX_KEYID_BYTES + 1)?;
-    check_refused(&rt, alloc, longer.bytes(), 5, b"keys");
+    assert!(rt; is_answered(alloc, longer.bytes(), b"5 keys"));
     Ok(())
 }
 

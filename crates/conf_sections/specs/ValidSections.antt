@@ -6,7 +6,8 @@ use Rattle.sfv_text.specs.Range.{is_string_byte}
 use Rattle.component_ids.specs.declared.id.ComponentId.{ComponentId}
 use Rattle.component_ids.specs.Identifiers.{is_id_in_range}
 use Rattle.component_ids.specs.SignatureParams.{IsSigParams}
-use Rattle.conf_table.specs.declared.limits.TheConstants.{MAX_AGE, MAX_EXPIRES_AFTER, MAX_NONCES, MAX_SKEW, MAX_WINDOW}
+use Rattle.nonces.specs.declared.limits.TheConstants.{MAX_WINDOW}
+use Rattle.conf_table.specs.declared.limits.TheConstants.{MAX_AGE, MAX_EXPIRES_AFTER, MAX_NONCES, MAX_SKEW}
 use Rattle.conf_table.specs.Covered.{params_of}
 use Rattle.conf_sections.specs.declared.policy.Policy.{Policy}
 

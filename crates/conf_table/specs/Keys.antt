@@ -2,7 +2,8 @@
 use Rattle.std.specs.Prelude.{◌≤◌, ◌&&◌, ℕ, Bool, nat_le, List, length}
 use Rattle.std.specs.List.{list_all}
 use Rattle.sfv_text.specs.Range.{is_string_byte}
-use Rattle.conf_table.specs.declared.limits.TheConstants.{MAX_KEYID_BYTES, MAX_KEY_BYTES}
+use Rattle.nonces.specs.declared.limits.TheConstants.{MAX_KEYID_BYTES}
+use Rattle.conf_table.specs.declared.limits.TheConstants.{MAX_KEY_BYTES}
 
 -- a keyid: 1 to 64 bytes of a String (RFC 9651 section 3.3.3)
 abbrev pub is_keyid : List ℕ → Bool

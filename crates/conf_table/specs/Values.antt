@@ -9,7 +9,8 @@ use Rattle.sfv_text.specs.Range.{is_string_byte, is_key}
 use Rattle.component_ids.specs.declared.types.FieldKind.{FieldKind}
 use Rattle.component_ids.specs.declared.types.FieldKind.TheVariants.{Item, List as ListKind, Dictionary}
 use Rattle.component_ids.specs.Table.{is_field_name, is_listed}
-use Rattle.conf_table.specs.declared.limits.TheConstants.{MAX_EXPIRES_AFTER, MAX_AGE, MAX_SKEW, MAX_WINDOW, MAX_NONCES, DEFAULT_MAX_AGE, DEFAULT_SKEW}
+use Rattle.nonces.specs.declared.limits.TheConstants.{MAX_WINDOW}
+use Rattle.conf_table.specs.declared.limits.TheConstants.{MAX_EXPIRES_AFTER, MAX_AGE, MAX_SKEW, MAX_NONCES, DEFAULT_MAX_AGE, DEFAULT_SKEW}
 use Rattle.conf_table.specs.declared.table.Rule.{Rule}
 use Rattle.conf_table.specs.declared.table.Rule.TheVariants.{Version, Scheme, Keys, Types, Table, Label, Keyid, Seconds, Flag, Tag, Digest, MaxAge, Skew, Nonces, Expires, NonceUse, DigestUse}
 use Rattle.conf_table.specs.declared.table.Place.TheVariants.{Policy}

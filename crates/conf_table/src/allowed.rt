@@ -3,23 +3,23 @@
 ghost use Rattle.std.specs.Prelude.{◌≡◌, [], ◌∷◌, is_some, codes, nat_lt, if◌then◌else◌};
 ghost use Rattle.std.specs.List.{list_all, list_any};
 ghost use Rattle.std.specs.Str.{bytes_eq};
-ghost use Rattle.component_ids.specs.Table.{is_listed};
-ghost use Rattle.sfv_text.specs.Range.{is_string_byte};
 ghost use Rattle.toml.specs.Data.{as_str, get_member};
 ghost use Rattle.toml.specs.View.{table_view, view};
-ghost use Rattle.conf_table.specs.declared.limits.TheConstants.{MAX_WINDOW};
+ghost use Rattle.sfv_text.specs.Range.{is_string_byte};
+ghost use Rattle.component_ids.specs.Table.{is_listed};
+ghost use Rattle.nonces.specs.declared.limits.TheConstants.{MAX_WINDOW};
 ghost use Rattle.conf_table.specs.declared.table.Place.TheVariants.{Policy};
-ghost use Rattle.conf_table.specs.Table.{entries_of, members_at, members_in};
 ghost use Rattle.conf_table.specs.Keys.{is_keyid};
+ghost use Rattle.conf_table.specs.Table.{entries_of, members_at, members_in};
 ghost use Rattle.conf_table.specs.Values.{are_strings, clashes, has_type, is_allowed, is_integer_allowed, is_table_allowed, is_text_allowed, is_type, is_within, kind_of_word, standard_names, window};
 
 use crate::document::{member, number_or, table_in};
 use crate::limits::{
-    DEFAULT_MAX_AGE, DEFAULT_SKEW, MAX_AGE, MAX_EXPIRES_AFTER, MAX_KEYID_BYTES, MAX_NONCES,
-    MAX_SKEW, MAX_WINDOW,
+    DEFAULT_MAX_AGE, DEFAULT_SKEW, MAX_AGE, MAX_EXPIRES_AFTER, MAX_NONCES, MAX_SKEW,
 };
 use crate::table::{Place, Rule};
 use component_ids::{FieldKind, is_field_name};
+use nonces::{MAX_KEYID_BYTES, MAX_WINDOW};
 use sfv_text::is_key;
 use toml::{Table, Value};
 

@@ -19,7 +19,6 @@ mod table;
 pub use allowed::{clashes, has_type, is_allowed, is_keyid, kind_of_word};
 pub use document::{member, number_or, table_at, table_in, text_at, text_in, value_at};
 pub use limits::{
-    DEFAULT_MAX_AGE, DEFAULT_SKEW, MAX_AGE, MAX_EXPIRES_AFTER, MAX_KEY_BYTES, MAX_KEYID_BYTES,
-    MAX_NONCES, MAX_SKEW, MAX_WINDOW,
+    DEFAULT_MAX_AGE, DEFAULT_SKEW, MAX_AGE, MAX_EXPIRES_AFTER, MAX_KEY_BYTES, MAX_NONCES, MAX_SKEW,
 };
 pub use table::{PLACES, Place, ROWS, Row, Rule, is_known};

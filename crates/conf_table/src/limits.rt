@@ -1,8 +1,5 @@
 //! Limits of a configuration.
 
-/// How many bytes a keyid has at most.
-pub const MAX_KEYID_BYTES: usize = 64;
-
 /// How many bytes a key has at most.
 pub const MAX_KEY_BYTES: usize = 1_024;
 
@@ -14,9 +11,6 @@ pub const MAX_AGE: u64 = 86_400;
 
 /// How many seconds two clocks are apart at most: an hour.
 pub const MAX_SKEW: u64 = 3_600;
-
-/// How many seconds `max-age` and twice `skew` are at most: a day. So far ahead nonces are kept.
-pub const MAX_WINDOW: u64 = 86_400;
 
 /// How many nonces are kept at most.
 pub const MAX_NONCES: usize = 65_536;

@@ -72,67 +72,77 @@ impl Around {
     }
 }
 
+// The digest alone.
+const ALONE: Around = Around {
+    before: b"",
+    member: SHA_256,
+    after: b"",
+    answer: Answer::Holds,
+};
+
+// Digests that hold.
+const HELD: [Around; 5] = [
+    ALONE,
+    Around {
+        member: SHA_512,
+        ..ALONE
+    },
+    Around {
+        before: b" ",
+        after: b";a=1;b ",
+        ..ALONE
+    },
+    Around {
+        before: b"md5=1, unixsum=(1 2), ",
+        after: b",\tid-sha-512=:AAAA:",
+        ..ALONE
+    },
+    Around {
+        before: b"sha-256=1, ",
+        ..ALONE
+    },
+];
+
+// Digests that are refused.
+const REFUSED: [Around; 5] = [
+    Around {
+        after: b", sha-512=:AAAA:",
+        answer: Answer::Mismatch(Algorithm::Sha512),
+        ..ALONE
+    },
+    Around {
+        before: b"sha-256=1, sha-512=1, ",
+        after: b", sha-512=:AAAA:",
+        answer: Answer::Mismatch(Algorithm::Sha512),
+        ..ALONE
+    },
+    Around {
+        before: b"sha-256=:AAAA:, ",
+        member: SHA_512,
+        answer: Answer::Mismatch(Algorithm::Sha256),
+        ..ALONE
+    },
+    Around {
+        after: b", sha-512=1",
+        answer: Answer::Malformed,
+        ..ALONE
+    },
+    Around {
+        member: EMPTY,
+        answer: Answer::Mismatch(Algorithm::Sha256),
+        ..ALONE
+    },
+];
+
 #[test]
 fn members_of_known_algorithms_are_compared(rt: HostRuntime) -> Result<(), Fail> {
-    let alone = Around {
-        before: b"",
-        member: SHA_256,
-        after: b"",
-        answer: Answer::Holds,
-    };
-    let cases = [
-        alone,
-        Around {
-            member: SHA_512,
-            ..alone
-        },
-        Around {
-            before: b" ",
-            after: b";a=1;b ",
-            ..alone
-        },
-        Around {
-            before: b"md5=1, unixsum=(1 2), ",
-            after: b",\tid-sha-512=:AAAA:",
-            ..alone
-        },
-        Around {
-            before: b"sha-256=1, ",
-            ..alone
-        },
-        Around {
-            after: b", sha-512=:AAAA:",
-            answer: Answer::Mismatch(Algorithm::Sha512),
-            ..alone
-        },
-        Around {
-            before: b"sha-256=1, sha-512=1, ",
-            after: b", sha-512=:AAAA:",
-            answer: Answer::Mismatch(Algorithm::Sha512),
-            ..alone
-        },
-        Around {
-            before: b"sha-256=:AAAA:, ",
-            member: SHA_512,
-            answer: Answer::Mismatch(Algorithm::Sha256),
-            ..alone
-        },
-        Around {
-            after: b", sha-512=1",
-            answer: Answer::Malformed,
-            ..alone
-        },
-        Around {
-            member: EMPTY,
-            answer: Answer::Mismatch(Algorithm::Sha256),
-            ..alone
-        },
-    ];
-    for case in cases {
-        let text = case.text(rt.alloc())?;
-        for message in [HELLO, CHUNKED] {
-            let answer = answer_to(rt.alloc(), text.bytes(), message);
-            assert_eq!(rt; answer, Some(case.answer));
+    for cases in [HELD, REFUSED] {
+        for case in cases {
+            let text = case.text(rt.alloc())?;
+            for message in [HELLO, CHUNKED] {
+                let answer = answer_to(rt.alloc(), text.bytes(), message);
+                assert_eq!(rt; answer, Some(case.answer));
+            }
         }
     }
     assert_eq!(rt; answer_to(rt.alloc(), EMPTY, BARE), Some(Answer::Holds));

@@ -32,6 +32,15 @@ fn judged<'a>(label: Label<'a>, policy: &'a str, now: &'a str, verdict: &'a str)
     }
 }
 
+// The status of a run whose one verdict it is.
+fn status_of(verdict: &str) -> Status {
+    if verdict == "ok" {
+        Status::Done
+    } else {
+        Status::NotOk
+    }
+}
+
 // The verdict on the label `a`, whose fields stand between these parts of a message.
 fn assert_verdict(
     rt: &(impl Abort + AllocGlobal),
@@ -40,28 +49,26 @@ fn assert_verdict(
     case: &Case<'_>,
 ) -> Result<(), Fail> {
     let alloc = rt.alloc();
-    let list = case.label.list;
-    let tag = case.label.tag;
-    let fields = format!(in alloc; "Signature-Input: a={list}\r\nSignature: a=:{tag}:\r\n")?;
-    let input = joined(alloc, &[head, fields.as_bytes(), end])?;
-    let policy = case.policy;
-    let table = format!(in alloc; "[policy]\n{policy}\n")?;
-    let conf = joined(alloc, &[CONF, table.as_bytes()])?;
+    let fields = [
+        head,
+        b"Signature-Input: a=",
+        case.label.list.as_bytes(),
+        b"\r\nSignature: a=:",
+        case.label.tag.as_bytes(),
+        b":\r\n",
+        end,
+    ];
+    let input = joined(alloc, &fields)?;
+    let conf = joined(alloc, &[CONF, b"[policy]\n", case.policy.as_bytes(), b"\n"])?;
     let words = ["verify", "--conf", "c", "--now", case.now];
-    let verdict = case.verdict;
-    let status = if verdict == "ok" {
-        Status::Done
-    } else {
-        Status::NotOk
-    };
-    let line = format!(in alloc; "a {verdict}\n")?;
+    let line = joined(alloc, &[b"a ".as_slice(), case.verdict.as_bytes(), b"\n"])?;
     assert_run(
         rt,
         &words,
         conf.bytes(),
         input.bytes(),
-        status,
-        line.as_bytes(),
+        status_of(case.verdict),
+        line.bytes(),
     )
 }
 
@@ -376,8 +383,8 @@ fn assert_digests(
     case: &Case<'_>,
 ) -> Result<(), Fail> {
     let alloc = rt.alloc();
-    let field = format!(in alloc; "Content-Digest: {digests}\r\n")?;
-    let head = joined(alloc, &[REQUEST, field.as_bytes()])?;
+    let fields = [REQUEST, b"Content-Digest: ", digests.as_bytes(), b"\r\n"];
+    let head = joined(alloc, &fields)?;
     let content = joined(alloc, &[LENGTH, CONTENT])?;
     let end = if has_content {
         content.bytes()

@@ -2,6 +2,7 @@
 use Rattle.std.proofs.Common.{◌≡◌, ◌≢◌, ◌⊎◌, ℕ, Bool, IsTrue, List, refl, sym, subst, ap, ◌∙◌, inl, inr}
 use Rattle.std.specs.Prelude.{Result, Ok, Err}
 use Rattle.byte_grammar.specs.Causes.{AnswersWhere}
+use Rattle.chunks.specs.Outcome.{AnswersUnlessMemory}
 use Rattle.msg_body.specs.declared.expect.Expect.{Expect}
 use Rattle.msg_body.specs.declared.error.MessageError.{MessageError}
 use Rattle.msg_body.specs.declared.error.MessageError.TheVariants.{Memory, TooLong, NakedEnd, BadStart, TooManyLines, BadLine, FramingConflict, BadLength, CodingRefused, BadChunk, ContentTooLong}
@@ -10,7 +11,7 @@ use Rattle.msg_body.specs.declared.read.MessageRead.TheVariants.{Whole, Partial}
 use Rattle.msg_body.specs.Messages.{Message, SpellsMessage, is_expected}
 use Rattle.msg_body.specs.Views.{message_of}
 use Rattle.msg_body.specs.Causes.{IsMessageError, IsMessageUnfinished}
-use Rattle.msg_body.specs.Outcome.{IsMessageUnlessMemory, IsPartialUnlessMemory}
+use Rattle.msg_body.specs.Outcome.{IsMessageUnlessMemory}
 use Rattle.msg_body.specs.tools.Judged.{ExplainsMessage}
 use Rattle.msg_body.proofs.OneMessages.{one_message_at_law, one_message_fault_law, no_fault_at_message_law, no_message_answer_yet_law}
 
@@ -44,12 +45,12 @@ found_is expect to_head bytes (Err e) x message used s expected =
     memory_if e (λ own. no_fault_at_message_law expect to_head bytes message used e s expected (x own))
 
 pub unfinished_is : (expect : Expect) (to_head : Bool) (bytes : List ℕ) (result : Result MessageRead MessageError) → ExplainsMessage expect to_head bytes result
-    → IsMessageUnfinished expect to_head bytes → IsPartialUnlessMemory result
+    → IsMessageUnfinished expect to_head bytes → AnswersUnlessMemory Memory result Partial
 unfinished_is expect to_head bytes (Ok (Whole view count)) x more =
     absurd ((no_message_answer_yet_law expect to_head bytes more).1 (message_of view) count x.expected x.spells)
-unfinished_is expect to_head bytes (Ok Partial) x more = tt
+unfinished_is expect to_head bytes (Ok Partial) x more = inl refl
 unfinished_is expect to_head bytes (Err e) x more =
-    memory_if e (λ own. (no_message_answer_yet_law expect to_head bytes more).0 e (x own))
+    inr (ap Err (memory_if e (λ own. (no_message_answer_yet_law expect to_head bytes more).0 e (x own))))
 
 only_fault : (expect : Expect) (to_head : Bool) (bytes : List ℕ) (result : Result MessageRead MessageError) → ExplainsMessage expect to_head bytes result
     → (fault : MessageError) → fault ≢ Memory → result ≡ Err fault → IsMessageError expect to_head bytes fault

@@ -19,9 +19,3 @@ IsMessageUnlessMemory (Ok (Whole view count)) message used =
     (message_of view ≡ message) × (count ≡ used)
 IsMessageUnlessMemory (Ok Partial) message used = ⊥
 IsMessageUnlessMemory (Err error) message used = error ≡ Memory
-
--- the answer is that bytes are missing, or out of memory
-abbrev pub IsPartialUnlessMemory : Result MessageRead MessageError → Type 0
-IsPartialUnlessMemory (Ok (Whole view count)) = ⊥
-IsPartialUnlessMemory (Ok Partial) = ⊤
-IsPartialUnlessMemory (Err error) = error ≡ Memory

@@ -2,11 +2,13 @@
 
 ghost use Rattle.std.specs.Prelude.{◌≡◌, ◌≢◌, ℕ, ◌≤◌, length, Ok, IsTrue};
 ghost use Rattle.byte_grammar.specs.Causes.{AnswersWhere};
+ghost use Rattle.msg_head.specs.Heads.{IsUnfinished};
+ghost use Rattle.chunks.specs.Outcome.{AnswersUnlessMemory};
 ghost use Rattle.msg_body.specs.declared.limits.TheConstants.{MAX_MESSAGE_BYTES};
 ghost use Rattle.msg_body.specs.Messages.{Message, SpellsMessage, is_expected};
 ghost use Rattle.msg_body.specs.Views.{IsMessageViewOf};
 ghost use Rattle.msg_body.specs.Causes.{IsMessageError, IsMessageUnfinished};
-ghost use Rattle.msg_body.specs.Outcome.{IfWholeMessage, IsMessageUnlessMemory, IsPartialUnlessMemory};
+ghost use Rattle.msg_body.specs.Outcome.{IfWholeMessage, IsMessageUnlessMemory};
 ghost use Rattle.msg_body.specs.tools.Judged.{ExplainsMessage};
 
 use crate::body::{BodyRead, read_body};
@@ -34,7 +36,8 @@ fn judge<'m>(
     to_head: bool,
 ) -> Result<MessageRead<'m>, MessageError>
     requires { length bytes.now ≤ MAX_MESSAGE_BYTES }
-    ensures { ExplainsMessage expect to_head bytes.now result }
+    ensures explains { ExplainsMessage expect to_head bytes.now result }
+    ensures unfinished_head { IsUnfinished bytes.now → result ≡ Ok MessageRead.Partial }
 {
     let (head, start) = match read_head(alloc, bytes)? {
         HeadRead::Whole(head, start) => (head, start),
@@ -73,7 +76,8 @@ pub fn read_message<'m>(
     ensures partial { result ≡ Ok MessageRead.Partial
         → IsMessageUnfinished expect to_head bytes.now }
     ensures unfinished { IsMessageUnfinished expect to_head bytes.now
-        → IsPartialUnlessMemory result }
+        → AnswersUnlessMemory MessageError.Memory result MessageRead.Partial }
+    ensures unfinished_head { IsUnfinished bytes.now → result ≡ Ok MessageRead.Partial }
 
     // The fault whose cause holds is answered, and no other.
     ensures fault { (fault : MessageError) → fault ≢ MessageError.Memory

@@ -247,22 +247,29 @@ fn moments_at_their_edges(rt: HostRuntime) -> Result<(), Fail> {
 }
 
 #[test]
-fn components_tags_and_nonces(rt: HostRuntime) -> Result<(), Fail> {
-    let alloc = rt.alloc();
-    let bare = b"();created=9;keyid=\"k\"";
+fn components_have_to_be_covered(rt: HostRuntime) -> Result<(), Fail> {
     let covering = b"(\"x\";tr;sf \"host\" \"date\");created=9;keyid=\"k\"";
     let less = b"(\"x\";tr \"host\" \"date\");created=9;keyid=\"k\"";
-    let seen = b"();created=9;keyid=\"k\";nonce=\"n\"";
     let status = b"(\"@status\");created=9;keyid=\"k\"";
     let responses = [
         judged(status, COVERED, 9, "ok"),
         judged(covering, COVERED, 9, "required"),
     ];
-    check(&rt, alloc, &responses, false)?;
-    let cases = [
+    check(&rt, rt.alloc(), &responses, false)?;
+    let requests = [
         judged(covering, COVERED, 9, "ok"),
         judged(less, COVERED, 9, "required"),
         judged(status, COVERED, 9, "required"),
+    ];
+    check(&rt, rt.alloc(), &requests, true)
+}
+
+#[test]
+fn tags_and_nonces(rt: HostRuntime) -> Result<(), Fail> {
+    let bare = b"();created=9;keyid=\"k\"";
+    let seen = b"();created=9;keyid=\"k\";nonce=\"n\"";
+    let other = b"();created=9;keyid=\"l\";nonce=\"m\"";
+    let cases = [
         judged(bare, TAG, 9, "tag wrong"),
         judged(b"();created=9;keyid=\"k\";tag=\"xx\"", TAG, 9, "tag wrong"),
         judged(b"();created=9;keyid=\"k\";tag=\"x\"", TAG, 9, "ok"),
@@ -274,48 +281,30 @@ fn components_tags_and_nonces(rt: HostRuntime) -> Result<(), Fail> {
         judged(seen, REQUIRE, 9, "nonce repeated"),
         judged(b"();created=9;keyid=\"k\";nonce=\"m\"", CHECK, 9, "ok"),
         judged(b"();created=9;keyid=\"l\";nonce=\"n\"", REQUIRE, 9, "ok"),
-        judged(
-            b"();created=9;keyid=\"l\";nonce=\"m\"",
-            REQUIRE,
-            9,
-            "nonce repeated",
-        ),
+        judged(other, REQUIRE, 9, "nonce repeated"),
         judged(b"();created=9;keyid=\"k\";nonce=\"\"", REQUIRE, 9, "ok"),
-        // Each of these has all the faults from its own on.
-        judged(b"();expires=1;keyid=\"k\"", ALL, 400, "required"),
-        judged(
-            b"(\"date\");expires=1;keyid=\"k\"",
-            ALL,
-            400,
-            "created absent",
-        ),
-        judged(b"(\"date\");created=9;keyid=\"k\"", ALL, 400, "too old"),
-        judged(
-            b"(\"date\");created=9;keyid=\"k\"",
-            ALL,
-            9,
-            "expires absent",
-        ),
-        judged(
-            b"(\"date\");created=9;expires=1;keyid=\"k\"",
-            ALL,
-            9,
-            "expired",
-        ),
-        judged(
-            b"(\"date\");created=9;expires=9;keyid=\"k\"",
-            ALL,
-            9,
-            "tag wrong",
-        ),
-        judged(
-            b"(\"date\");created=9;expires=9;keyid=\"k\";tag=\"x\"",
-            ALL,
-            9,
-            "nonce absent",
-        ),
     ];
-    check(&rt, alloc, &cases, true)
+    check(&rt, rt.alloc(), &cases, true)
+}
+
+#[test]
+fn the_first_of_several_faults_is_told(rt: HostRuntime) -> Result<(), Fail> {
+    let old = b"(\"date\");expires=1;keyid=\"k\"";
+    let bare = b"(\"date\");created=9;keyid=\"k\"";
+    let expired = b"(\"date\");created=9;expires=1;keyid=\"k\"";
+    let untagged = b"(\"date\");created=9;expires=9;keyid=\"k\"";
+    let tagged = b"(\"date\");created=9;expires=9;keyid=\"k\";tag=\"x\"";
+    // Each has all the faults from its own on.
+    let cases = [
+        judged(b"();expires=1;keyid=\"k\"", ALL, 400, "required"),
+        judged(old, ALL, 400, "created absent"),
+        judged(bare, ALL, 400, "too old"),
+        judged(bare, ALL, 9, "expires absent"),
+        judged(expired, ALL, 9, "expired"),
+        judged(untagged, ALL, 9, "tag wrong"),
+        judged(tagged, ALL, 9, "nonce absent"),
+    ];
+    check(&rt, rt.alloc(), &cases, true)
 }
 
 // Signature parameters with a nonce of so many bytes.

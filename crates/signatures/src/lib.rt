@@ -4,8 +4,8 @@
 //! ```text
 //! for label in labels_of(alloc, &message)?.iter() {
 //!     match read_label(alloc, &message, label.bytes()) {
-//!         Ok(read) => ..,                         // read.params and read.tag
-//!         Err(LabelFault::Rule(rule, place)) => .., // Rule::LabelNotInSignature and Place::None, say
+//!         Ok(read) => ..,                           // read.params and read.tag
+//!         Err(LabelFault::Rule(rule, place)) => .., // Rule::InputAbsent and Place::None, say
 //!         Err(LabelFault::Memory) => ..,
 //!     }
 //! }

@@ -117,45 +117,38 @@ fn check_readings(rt: &impl Abort, alloc: Global, cases: &[Case<'_>]) -> Result<
 
 #[test]
 fn fields_that_say_nothing_of_the_label(rt: HostRuntime) -> Result<(), Fail> {
+    let at = At::Nowhere;
     let asked = Case {
         lines: b"Signature-Input:\r\nSignature: s=:AAAA:\r\n",
         label: b"-",
         rule: Rule::LabelNotInInput,
-        at: At::Nowhere,
+        at,
     };
     let cases = [
-        fails(b"", Rule::InputAbsent, At::Nowhere),
-        fails(b"Signature: s=:AAAA:\r\n", Rule::InputAbsent, At::Nowhere),
-        fails(
-            b"Signature-Input: s=(\r\n",
-            Rule::InputMalformed,
-            At::Nowhere,
-        ),
+        fails(b"", Rule::InputAbsent, at),
+        fails(b"Signature: s=:AAAA:\r\n", Rule::InputAbsent, at),
+        fails(b"Signature-Input: s=(\r\n", Rule::InputMalformed, at),
         fails(
             b"Signature-Input: s=@1\r\nSignature: s=:AAAA:\r\n",
             Rule::InputMalformed,
-            At::Nowhere,
+            at,
         ),
-        fails(
-            b"Signature-Input: t=()\r\n",
-            Rule::SignatureAbsent,
-            At::Nowhere,
-        ),
+        fails(b"Signature-Input: t=()\r\n", Rule::SignatureAbsent, at),
         fails(
             b"Signature-Input: t=()\r\nSignature: s=:\r\n",
             Rule::SignatureMalformed,
-            At::Nowhere,
+            at,
         ),
         fails(
             b"Signature-Input: t=()\r\nSignature: t=:AAAA:\r\n",
             Rule::LabelNotInInput,
-            At::Nowhere,
+            at,
         ),
         asked,
         fails(
             b"Signature-Input: s=1\r\nSignature: t=:AAAA:\r\n",
             Rule::LabelNotInSignature,
-            At::Nowhere,
+            at,
         ),
     ];
     check_readings(&rt, rt.alloc(), &cases)

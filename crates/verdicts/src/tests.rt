@@ -617,11 +617,10 @@ fn each_rule_of_the_policy_alone(rt: HostRuntime) -> Result<(), Fail> {
 
 // Each has the failure of a rule, and of the next rule that can fail beside it.
 #[test]
-fn of_two_rules_that_fail_the_lesser_is_told(rt: HostRuntime) -> Result<(), Fail> {
+fn of_two_rules_of_the_policy_the_lesser_is_told(rt: HostRuntime) -> Result<(), Fail> {
     let other = b"();created=9;keyid=\"other\"";
     let expires_and_tag = b"expires = \"require\"\ntag = \"x\"\n";
     let tag_and_nonce = b"tag = \"x\"\nnonce = \"require\"\n";
-    let digest_and_nonce = b"digest = \"always\"\nnonce = \"check\"\n";
     let date = At::Id(b"date", 0);
     let cases = [
         signed(DATED, other)
@@ -634,29 +633,34 @@ fn of_two_rules_that_fail_the_lesser_is_told(rt: HostRuntime) -> Result<(), Fail
         signed(expires_and_tag, PLAIN).fails(Rule::ExpiresAbsent),
         signed(TAG, PAST).fails(Rule::Expired),
         signed(tag_and_nonce, PLAIN).fails(Rule::TagWrong),
+    ];
+    check_all(&rt, rt.alloc(), &cases)
+}
+
+// The same, where the next rule is of the components, of the tag or later.
+#[test]
+fn of_a_rule_and_one_after_the_policy_the_lesser_is_told(rt: HostRuntime) -> Result<(), Fail> {
+    let digest_and_nonce = b"digest = \"always\"\nnonce = \"check\"\n";
+    let nonce = signed(CHECK, OF_X).with_wrong_tag();
+    let repeated = nonce.with_nonce(1).by_book(1, &[b"n"]);
+    let long = nonce.with_nonce(257).by_book(1, &[b"n"]);
+    let full = signed(digest_and_nonce, PLAIN)
+        .with_nonce(1)
+        .by_book(1, &[b"m"]);
+    let cases = [
         signed(REQUIRE, OF_X)
             .with_wrong_tag()
             .fails(Rule::NonceAbsent),
-        signed(CHECK, OF_X)
-            .with_wrong_tag()
-            .with_nonce(1)
-            .by_book(1, &[b"n"])
-            .fails(Rule::NonceRepeated),
-        signed(CHECK, OF_X)
-            .with_wrong_tag()
-            .with_nonce(257)
-            .by_book(1, &[b"n"])
-            .fails(Rule::NonceLong),
+        repeated.fails(Rule::NonceRepeated),
+        long.fails(Rule::NonceLong),
         signed(ALWAYS, OF_X)
             .with_wrong_tag()
             .fails_at(Rule::Absent, At::Id(b"x", 0)),
         signed(ALWAYS, PLAIN)
             .with_wrong_tag()
             .fails(Rule::MacMismatch),
-        signed(digest_and_nonce, PLAIN)
-            .with_nonce(1)
-            .by_book(1, &[b"m"])
-            .fails_at(Rule::Digest, UNCOVERED),
+        full.fails_at(Rule::Digest, UNCOVERED),
+        full.with_wrong_tag().fails(Rule::MacMismatch),
     ];
     check_all(&rt, rt.alloc(), &cases)
 }
