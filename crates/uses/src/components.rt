@@ -1,0 +1,1 @@
+// Tests of derived_values and component_values.

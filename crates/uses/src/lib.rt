@@ -1,0 +1,36 @@
+//! The crates below the program as their users call them. Each function is the example of a crate's
+//! documentation, and calls each of its calls that takes memory, with ample memory. Beside them stand
+//! vectors from outside (RFC 4231, RFC 9421, RFC 9530, RFC 9651) and what no run of the program shows.
+//! There is nothing here but tests: what a user of the program sees is a case of cases/.
+#![tactic(auto)]
+
+#[cfg(test)]
+mod authorities;
+#[cfg(test)]
+mod bases;
+#[cfg(test)]
+mod bodies;
+#[cfg(test)]
+mod books;
+#[cfg(test)]
+mod components;
+#[cfg(test)]
+mod configurations;
+#[cfg(test)]
+mod devices;
+#[cfg(test)]
+mod digests;
+#[cfg(test)]
+mod heads;
+#[cfg(test)]
+mod identifiers;
+#[cfg(test)]
+mod macs;
+#[cfg(test)]
+mod readers;
+#[cfg(test)]
+mod refusals;
+#[cfg(test)]
+mod values;
+#[cfg(test)]
+mod verdict_labels;

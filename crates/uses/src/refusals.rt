@@ -1,0 +1,1 @@
+// Tests of output_lines and commands.
