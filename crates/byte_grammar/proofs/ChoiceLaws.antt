@@ -5,7 +5,7 @@ use Rattle.std.specs.List.{list_all, list_any}
 use Rattle.byte_grammar.specs.Language.{starts_in, Begins, IsRun}
 use Rattle.byte_grammar.specs.tools.Languages.{Among, Optional}
 use Rattle.byte_grammar.specs.Walk.{◌>>=◌}
-use Rattle.byte_classes.specs.Classes.{is_one_of}
+use Rattle.byte_grammar.specs.Classes.{is_one_of}
 use Rattle.byte_grammar.specs.tools.Walks.{left, Next, kind_read, first_kind, pick_read, optional_if, optional_read, choose_read}
 use Rattle.byte_grammar.proofs.Laws.{Meets, left_less, bind_ok, bind_err, and_is, not_err, as_prefix, ok_is, meets_same}
 

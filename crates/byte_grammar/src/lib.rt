@@ -1,11 +1,14 @@
-//! Readers of texts from left to right that name the exact offset of a fault, and the laws of the
-//! texts that they read.
+//! Classes of bytes, readers of texts from left to right that name the exact offset of a fault, and
+//! the laws of the texts that they read.
+//!
+//! A class of bytes is what the formats of HTTP call DIGIT, ALPHA, VCHAR, tchar and OWS.
 //!
 //! A reader takes a text's prefix and gives a value with the bytes after it, or says how many bytes
 //! were left where it stopped. Counted from the end, a part's fault is the fault of the whole, so
 //! it is handed on as it is.
 //!
 //! ```text
+//! is_tchar(b'!') // true
 //! read_run(Class::Digit, 1, 2, b"123;") // Ok((b"12", b"3;"))
 //! read_word(Class::Alpha, Class::Tchar, b"a1;") // Ok((b"a1", b";"))
 //! read_byte(Byte(b';'), b"a1") // Err(Left(2))
@@ -45,9 +48,8 @@
 //!   (`some_and`, `some_and_at`, `some_and_parts`).
 #![tactic(auto)]
 
+mod class;
 mod readers;
 
+pub use class::{Byte, ByteClass, Class, is_blank, is_tchar};
 pub use readers::{Left, read_all, read_byte, read_run, read_word, starts_with};
-
-#[cfg(test)]
-mod tests;

@@ -6,7 +6,7 @@ ghost use Rattle.byte_grammar.specs.Language.{starts_in, AreBytesOf, IsWord};
 ghost use Rattle.byte_grammar.specs.Gives.{Gives};
 ghost use Rattle.byte_grammar.specs.Walk.{byte_read, run_length, run_read, all_read, word_read};
 
-use byte_classes::ByteClass;
+use crate::class::ByteClass;
 
 /// A reader stopped with so many bytes left.
 #[derive(Clone, Copy, Debug, PartialEq, Eq)]

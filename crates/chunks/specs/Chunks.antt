@@ -3,7 +3,7 @@ use Rattle.std.specs.Prelude.{◌≡◌, ◌⊎◌, ℕ, ◌<◌, ◌≤◌, Boo
 use Rattle.std.specs.List.{All, list_all, flat_map}
 use Rattle.std.specs.Char.{is_ascii_hexdigit}
 use Rattle.std.specs.Str.Parse.{digits_value}
-use Rattle.byte_classes.specs.Classes.{is_one_of}
+use Rattle.byte_grammar.specs.Classes.{is_one_of}
 use Rattle.byte_grammar.specs.Language.{starts_in, AreBytesOf}
 use Rattle.chunks.specs.declared.limits.TheConstants.{MAX_SIZE_DIGITS, MAX_EXTENSION_BYTES, MAX_CONTENT_BYTES}
 

@@ -1,6 +1,6 @@
 //! The classes of the bytes of a chunk line.
 
-use byte_classes::ByteClass;
+use byte_grammar::ByteClass;
 
 /// A hexadecimal digit of either case: HEXDIG of RFC 5234 appendix B.1, and a to f.
 #[derive(Clone, Copy)]

@@ -10,8 +10,7 @@ ghost use Rattle.chunks.specs.tools.ChunkWalk.{crlf_read, extension_read, line_r
 
 use crate::classes::{ExtensionByte, ExtensionStart, HexDigit};
 use crate::limits::{MAX_EXTENSION_BYTES, MAX_SIZE_DIGITS};
-use byte_classes::Byte;
-use byte_grammar::{Left, read_byte, read_run, starts_with};
+use byte_grammar::{Byte, Left, read_byte, read_run, starts_with};
 
 /// A chunk line as it is written, without its CRLF, and the size that it says.
 #[derive(Clone, Copy)]

@@ -51,7 +51,7 @@ impl<'v, 'm> ChunkPieces<'v, 'm> {
 impl<'v, 'm> Iterator for ChunkPieces<'v, 'm> {
     ghost use Rattle.std.specs.Prelude.{length};
     ghost use Rattle.std.specs.Iterator.{at_most};
-    ghost use Rattle.line_values.specs.Pieces.{YieldsPiece};
+    ghost use Rattle.byte_grammar.specs.Pieces.{YieldsPiece};
     ghost use Rattle.chunks.specs.Chunks.{data_of};
 
     type Item = &'m [u8];

@@ -8,7 +8,7 @@ use Rattle.std.proofs.lemmas.Bool.{and_parts}
 use Rattle.std.proofs.lemmas.Bool.Decides.{nat_tests}
 use Rattle.std.proofs.lemmas.Str.{digit_value_digit}
 use Rattle.std.proofs.lemmas.Str.Parse.{IsNumeralModel, without_leading_plus_none, digits_value_short}
-use Rattle.byte_classes.specs.Classes.{is_digit}
+use Rattle.byte_grammar.specs.Classes.{is_digit}
 use Rattle.command_line.specs.Options.{is_moment}
 
 digit_below : (c : ℕ) → is_digit c ≡ true → digit_value c < 10

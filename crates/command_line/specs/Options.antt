@@ -2,7 +2,7 @@
 use Rattle.std.specs.Prelude.{◌≡◌, ℕ, Bool, false, ◌&&◌, nat_lt, nat_le, List, [], ◌∷◌, length, codes, if◌then◌else◌, IsTrue}
 use Rattle.std.specs.List.{flat_map, list_all, list_any}
 use Rattle.std.specs.Str.{bytes_eq}
-use Rattle.byte_classes.specs.Classes.{is_digit}
+use Rattle.byte_grammar.specs.Classes.{is_digit}
 use Rattle.sfv_text.specs.Classes.{is_key}
 use Rattle.sfv_text.specs.Keys.{have_distinct_keys}
 use Rattle.sfv_text.specs.declared.pair.Pair.{Pair}

@@ -4,7 +4,7 @@ ghost use Rattle.std.specs.Prelude.{◌≡◌, ◌<◌, ◌^◌, ◌↔◌, ◌|
 ghost use Rattle.std.specs.Str.{bytes_eq};
 ghost use Rattle.std.specs.Str.Parse.{digits_value};
 ghost use Rattle.std.specs.List.{list_all};
-ghost use Rattle.byte_classes.specs.Classes.{is_digit};
+ghost use Rattle.byte_grammar.specs.Classes.{is_digit};
 ghost use Rattle.sfv_text.specs.Keys.{value_of};
 ghost use Rattle.sfv_text.specs.declared.pair.Pair.{Pair};
 ghost use Rattle.command_line.specs.Options.{is_moment, may_have, takes, words_of, AreOptions};

@@ -4,7 +4,7 @@ use Rattle.std.specs.Char.{is_ascii_uppercase}
 use Rattle.std.specs.List.{list_all, list_any}
 use Rattle.std.specs.Str.{bytes_eq}
 use Rattle.sfv_text.specs.Keys.{value_of}
-use Rattle.byte_classes.specs.Classes.{is_tchar}
+use Rattle.byte_grammar.specs.Classes.{is_tchar}
 use Rattle.sfv_text.specs.declared.pair.Pair.{Pair}
 use Rattle.sfv_text.specs.declared.value.BareItem.{BareItem}
 use Rattle.sfv_text.specs.declared.value.BareItem.TheVariants.{Integer, Str, Bool as Boolean}

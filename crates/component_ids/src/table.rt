@@ -8,7 +8,7 @@ ghost use Rattle.component_ids.specs.Reasons.{applies, reasons};
 ghost use Rattle.component_ids.specs.tools.Rows.{row_keys};
 
 use crate::fault::BadReason;
-use byte_classes::is_tchar;
+use byte_grammar::is_tchar;
 use sfv_text::{BareItem, Pair, Params};
 
 /// A row of the table: which parameters go with a name.

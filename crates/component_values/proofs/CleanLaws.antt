@@ -7,7 +7,7 @@ use Rattle.std.proofs.lemmas.Bool.{cases_Bool, and_parts, and_from}
 use Rattle.std.proofs.lemmas.Bool.Decides.{nat_tests}
 use Rattle.std.proofs.lemmas.List.Elements.{All-head, All-tail}
 use Rattle.std.proofs.lemmas.List.Folds.{list_all-map}
-use Rattle.byte_classes.specs.Classes.{is_blank}
+use Rattle.byte_grammar.specs.Classes.{is_blank}
 use Rattle.sfv_text.specs.Keys.{have_distinct_keys, has_key, value_of}
 use Rattle.sfv_text.specs.Range.{is_string_byte, is_byte, is_key, is_member_in_range, is_dict_member_in_range, is_item_in_range, is_list_in_range, is_dict_in_range}
 use Rattle.sfv_text.specs.Strict.{item_text, list_text, dict_text, member_text, bytes_text}
@@ -33,9 +33,9 @@ use Rattle.framing.specs.declared.kind.Framing.TheVariants as framing
 use Rattle.framing.specs.Framings.{is_request, content_length_of}
 use Rattle.msg_body.specs.Bodies.{Body, plain, chunked, IsBodyOf, body_text, trailers_in}
 use Rattle.msg_body.specs.Messages.{Message}
-use Rattle.line_values.specs.Names.{has_name}
+use Rattle.msg_head.specs.Names.{has_name}
 use Rattle.msg_body.specs.Views.{lines_on}
-use Rattle.line_values.specs.Values.{is_end, without_first_blanks, without_blanks, has_bytes, texts_of, value, values, combined_value, is_there}
+use Rattle.msg_head.specs.Values.{is_end, without_first_blanks, without_blanks, has_bytes, texts_of, value, values, combined_value, is_there}
 use Rattle.component_ids.specs.Table.{is_field_name, has_param}
 use Rattle.component_ids.specs.Types.{kind_in}
 use Rattle.component_ids.specs.declared.types.FieldKind.{FieldKind}

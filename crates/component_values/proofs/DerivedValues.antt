@@ -8,7 +8,7 @@ use Rattle.std.specs.Str.{byte, str_to_ascii_lowercase}
 use Rattle.std.proofs.lemmas.Bool.{cases_Bool, and_parts, or_cases}
 use Rattle.std.proofs.lemmas.Bool.Decides.{nat_tests}
 use Rattle.std.proofs.lemmas.List.Folds.{list_all-map}
-use Rattle.byte_classes.specs.Classes.{is_visible, is_tchar, is_digit, is_one_of}
+use Rattle.byte_grammar.specs.Classes.{is_visible, is_tchar, is_digit, is_one_of}
 use Rattle.byte_grammar.proofs.ChoiceLaws.{of_each}
 use Rattle.byte_grammar.proofs.ListLaws.{all_joined, all_implied}
 use Rattle.sfv_text.specs.Range.{is_string_byte}

@@ -13,7 +13,7 @@ use Rattle.msg_head.specs.declared.error.Side.TheVariants.{Header}
 use Rattle.msg_head.specs.Lines.{FieldLine}
 use Rattle.msg_body.specs.Messages.{Message}
 use Rattle.msg_body.specs.Views.{lines_on}
-use Rattle.line_values.specs.Values.{values, combined_value, is_there}
+use Rattle.msg_head.specs.Values.{values, combined_value, is_there}
 use Rattle.component_ids.specs.Table.{is_field_name, has_param}
 use Rattle.component_ids.specs.Types.{kind_in}
 use Rattle.component_ids.specs.declared.types.FieldKind.{FieldKind}

@@ -6,8 +6,8 @@ use Rattle.std.proofs.lemmas.List.{map-append}
 use Rattle.std.proofs.lemmas.List.Elements.{filter-append}
 use Rattle.sfv_text.specs.Strict.{bytes_text}
 use Rattle.msg_head.specs.Lines.{FieldLine}
-use Rattle.line_values.specs.Names.{has_name}
-use Rattle.line_values.specs.Values.{value, values}
+use Rattle.msg_head.specs.Names.{has_name}
+use Rattle.msg_head.specs.Values.{value, values}
 use Rattle.component_values.specs.Values.{byte_sequences}
 
 -- where no text stands, no value was added yet

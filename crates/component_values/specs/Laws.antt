@@ -2,7 +2,7 @@
 use Rattle.std.specs.Prelude.{◌≡◌, ◌⊎◌, ℕ, Bool, ◌&&◌, not, IsTrue, IfSome, List, codes}
 use Rattle.std.specs.Char.{is_ascii}
 use Rattle.std.specs.List.{list_all}
-use Rattle.byte_classes.specs.Classes.{is_one_of}
+use Rattle.byte_grammar.specs.Classes.{is_one_of}
 use Rattle.sfv_text.specs.Classes.{is_byte}
 use Rattle.msg_body.specs.Messages.{Message, Spells}
 use Rattle.component_ids.specs.declared.id.ComponentId.{ComponentId}

@@ -3,13 +3,12 @@
 ghost use Rattle.std.specs.Prelude.{◌≡◌, ◌++◌, ◌∷◌, [], ℕ, List, IfOk, OnOk};
 ghost use Rattle.std.specs.Char.{is_ascii};
 ghost use Rattle.std.specs.List.{list_all};
-ghost use Rattle.line_values.specs.Values.{value, values, combined_value, is_there};
+ghost use Rattle.msg_head.specs.Values.{value, values, combined_value, is_there};
 ghost use Rattle.component_values.specs.Values.{byte_sequences};
 ghost use Rattle.component_values.specs.tools.Rows.{field_lines, kept_text};
 
 use crate::strict::append_byte_sequence;
 use field_values::{combined_pieces, count_lines};
-use line_values::{is_named, line_pieces};
 use msg_body::MessageView;
 use msg_head::{LineView, Side};
 use sfv_text::{Absorb, Memory, Text};
@@ -79,7 +78,7 @@ fn line_text(alloc: Global, line: LineView<'_>) -> Result<Text, Memory>
     ensures { IfOk result (λ text. text ≡ value line.entry.raw.now) }
 {
     let mut text = Text::new(alloc);
-    for piece in line_pieces(line) {
+    for piece in line.value_pieces() {
         text.append(piece)?;
     }
     Ok(text)
@@ -105,7 +104,7 @@ pub(crate) fn byte_sequences(alloc: Global, field: NamedLines<'_, '_>) -> Result
 {
     let mut text = Text::new(alloc);
     for line in field.message.lines(field.side) {
-        if is_named(line, field.name) {
+        if line.is_named(field.name) {
             let value = line_text(alloc, line)?;
             add_byte_sequence(alloc, value.bytes(), &mut text)?;
         }

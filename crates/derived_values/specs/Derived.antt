@@ -9,7 +9,7 @@ use Rattle.sfv_text.specs.declared.pair.Pair.{Pair}
 use Rattle.sfv_text.specs.declared.value.BareItem.{BareItem}
 use Rattle.msg_head.specs.Lines.{FieldLine}
 use Rattle.msg_head.specs.Starts.{StartLine, request, status}
-use Rattle.line_values.specs.Values.{values}
+use Rattle.msg_head.specs.Values.{values}
 use Rattle.component_ids.specs.declared.scheme.Scheme.{Scheme}
 use Rattle.component_ids.specs.declared.scheme.Scheme.TheVariants.{Http, Https}
 use Rattle.targets.specs.Targets.{TargetParts, SpellsTarget, has_path, path_of, query_of, query_text}

@@ -4,7 +4,7 @@ ghost use Rattle.std.specs.Prelude.{◌≡◌, ℕ, Option, option_map, unwrap_o
 ghost use Rattle.std.specs.Str.{str_to_ascii_lowercase};
 ghost use Rattle.msg_head.specs.declared.error.Side.{Side};
 ghost use Rattle.msg_body.specs.Views.{message_of, lines_on};
-ghost use Rattle.line_values.specs.Values.{values};
+ghost use Rattle.msg_head.specs.Values.{values};
 ghost use Rattle.targets.specs.Targets.{has_path, path_of, query_of, query_text};
 ghost use Rattle.targets.specs.Authorities.{authority_text};
 ghost use Rattle.targets.specs.Views.{parts_of, authority_parts};
@@ -12,7 +12,6 @@ ghost use Rattle.derived_values.specs.Derived.{derived_of, target_name_of, schem
 ghost use Rattle.derived_values.specs.Answers.{AnswersRow};
 ghost use Rattle.derived_values.specs.tools.Requests.{request_parts};
 
-use crate::combined::combined_text;
 use crate::lack::{Lack, NoValue};
 use component_ids::{ComponentId, Scheme};
 use field_values::count_lines;

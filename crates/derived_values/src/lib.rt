@@ -7,10 +7,8 @@
 //! ```
 #![tactic(auto)]
 
-mod combined;
 mod derived;
 mod lack;
 
-pub use combined::combined_text;
 pub use derived::{DerivedName, TargetName, derived_value};
 pub use lack::{Lack, NoValue};

@@ -4,8 +4,8 @@ use Rattle.std.proofs.lemmas.Bool.{cases_Bool}
 use Rattle.std.proofs.lemmas.List.{take_all}
 use Rattle.std.proofs.lemmas.Bool.Decides.{nat_tests}
 use Rattle.msg_head.specs.Lines.{FieldLine}
-use Rattle.line_values.specs.Names.{has_name}
-use Rattle.line_values.specs.Values.{values, is_there}
+use Rattle.msg_head.specs.Names.{has_name}
+use Rattle.msg_head.specs.Values.{values, is_there}
 
 positive : (n : ℕ) → true ≡ nat_lt 0 (suc n)
 positive n = let t : nat_lt 0 (suc n) ≡ true = grind (arith, nat_tests) in sym t

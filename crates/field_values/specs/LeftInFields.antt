@@ -2,10 +2,10 @@
 use Rattle.std.specs.Prelude.{ℕ, ◌+◌, ◌*◌, List, [], ◌∷◌, ◌++◌, if◌then◌else◌, length, filter, codes}
 use Rattle.std.specs.List.{flat_map}
 use Rattle.msg_head.specs.Lines.{FieldLine}
-use Rattle.line_values.specs.Names.{has_name}
+use Rattle.msg_head.specs.Names.{has_name}
 use Rattle.field_values.specs.declared.combined.Combined.{Combined}
-use Rattle.line_values.specs.Values.{values, combined_value}
-use Rattle.line_values.specs.LeftInLines.{value_left, pieces_bound}
+use Rattle.msg_head.specs.Values.{values, combined_value}
+use Rattle.msg_head.specs.LeftInLines.{value_left, pieces_bound}
 
 -- a comma, a space and the value
 abbrev pub after_comma : List ℕ → List ℕ

@@ -1,3 +1,3 @@
 pub mod LeftInFields
 pub mod tools
-pub use Rattle.line_values.specs.Values
+pub use Rattle.msg_head.specs.Values

@@ -1,9 +1,8 @@
 //! The values of a field's lines, joined.
 
 use crate::lines::next_named;
-use line_values::{Pieces, line_pieces};
 use msg_body::{MessageView, SideLines};
-use msg_head::Side;
+use msg_head::{Pieces, Side};
 
 /// The pieces of a field's combined value that are left.
 #[derive(Debug, Drop)]
@@ -19,7 +18,7 @@ pub struct Combined<'a, 'm> {
 
 impl<'a, 'm> Iterator for Combined<'a, 'm> {
     ghost use Rattle.std.specs.Iterator.{at_most};
-    ghost use Rattle.line_values.specs.Pieces.{YieldsPiece};
+    ghost use Rattle.byte_grammar.specs.Pieces.{YieldsPiece};
     ghost use Rattle.field_values.specs.LeftInFields.{combined_left, combined_bound};
 
     type Item = &'m [u8];
@@ -33,7 +32,7 @@ impl<'a, 'm> Iterator for Combined<'a, 'm> {
             return Some(piece);
         }
         let line = next_named(&mut self.lines, self.name)?;
-        self.current = line_pieces(line);
+        self.current = line.value_pieces();
         if self.is_started {
             return Some(b", ");
         }
@@ -45,7 +44,7 @@ impl<'a, 'm> Iterator for Combined<'a, 'm> {
 impl<'a, 'm> Combined<'a, 'm> {
     ghost use Rattle.std.specs.Prelude.{◌≡◌};
     ghost use Rattle.msg_body.specs.Views.{message_of, lines_on};
-    ghost use Rattle.line_values.specs.Values.{combined_value};
+    ghost use Rattle.msg_head.specs.Values.{combined_value};
     ghost use Rattle.field_values.specs.LeftInFields.{combined_left};
 
     /// All pieces of the combined value.

@@ -1,13 +1,21 @@
-//! The value of a field.
+//! The values of a field: of one line, and of all lines of a name together.
 
 ghost use Rattle.std.specs.Prelude.{◌≡◌};
 ghost use Rattle.msg_body.specs.Views.{message_of, lines_on};
-ghost use Rattle.line_values.specs.Values.{combined_value};
+ghost use Rattle.msg_head.specs.Values.{value, combined_value};
+ghost use Rattle.msg_head.specs.LeftInLines.{value_left};
 ghost use Rattle.field_values.specs.LeftInFields.{combined_left};
 
 use crate::combined::Combined;
 use msg_body::MessageView;
-use msg_head::Side;
+use msg_head::{LineView, Pieces, Side};
+
+/// The pieces of the line's value (RFC 9421 section 2.1), borrowed from its message.
+pub fn line_pieces<'m>(line: LineView<'m>) -> Pieces<'m>
+    ensures { value_left result ≡ value line.entry.raw.now }
+{
+    line.value_pieces()
+}
 
 /// The pieces of the combined value of the side's lines that have the name, which is in lower case.
 pub fn combined_pieces<'a, 'm>(

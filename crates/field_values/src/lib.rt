@@ -12,10 +12,12 @@
 mod combined;
 mod field;
 mod lines;
+mod text;
 
 pub use combined::Combined;
-pub use field::combined_pieces;
+pub use field::{combined_pieces, line_pieces};
 pub use lines::count_lines;
+pub use text::combined_text;
 
 #[cfg(test)]
 mod tests;

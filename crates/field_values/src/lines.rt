@@ -2,12 +2,11 @@
 
 ghost use Rattle.std.specs.Prelude.{◌≡◌, ◌<◌, [], ◌∷◌, length, filter, nat_lt, slice_index_or, IfSome, IfNone};
 ghost use Rattle.msg_head.specs.Views.{field_line_of};
-ghost use Rattle.line_values.specs.Names.{has_name};
+ghost use Rattle.msg_head.specs.Names.{has_name};
 ghost use Rattle.msg_body.specs.Views.{message_of, lines_on};
-ghost use Rattle.line_values.specs.Values.{values, is_there};
+ghost use Rattle.msg_head.specs.Values.{values, is_there};
 ghost use Rattle.field_values.specs.tools.Walks.{no_line};
 
-use line_values::is_named;
 use msg_body::{MessageView, SideLines};
 use msg_head::{LineView, Side};
 
@@ -18,7 +17,7 @@ pub(crate) fn next_named<'m>(lines: &mut SideLines<'_, 'm>, name: &[u8]) -> Opti
     ensures none { IfNone result (filter (has_name name.now) lines.old ≡ []) }
 {
     while let Some(line) = lines.next() {
-        if is_named(line, name) {
+        if line.is_named(name) {
             return Some(line);
         }
     }
@@ -32,7 +31,7 @@ fn has_name_at(view: &MessageView<'_>, side: Side, index: usize, name: &[u8]) ->
     ensures { result ≡ has_name name.now
         (slice_index_or (lines_on side (message_of view.now)) index no_line) }
 {
-    is_named(view.line(side, index), name)
+    view.line(side, index).is_named(name)
 }
 
 /// How many field lines of the side have the name, which is in lower case.

@@ -10,7 +10,7 @@ use Rattle.std.proofs.lemmas.Str.{digit_value_digit}
 use Rattle.std.proofs.lemmas.Str.Parse.{IsNumeralModel, digits_value_short}
 use Rattle.std.proofs.lemmas.List.Folds.{list_all-append}
 use Rattle.std.proofs.Math.Seq.{split_at}
-use Rattle.byte_classes.specs.Classes.{is_digit}
+use Rattle.byte_grammar.specs.Classes.{is_digit}
 use Rattle.framing.specs.declared.length.Digits.{Digits}
 use Rattle.framing.specs.declared.limits.TheConstants.{MAX_LENGTH_DIGITS}
 use Rattle.framing.specs.Framings.{is_length, are_accepted_lengths, first_length, lengths_of}

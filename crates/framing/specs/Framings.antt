@@ -3,11 +3,11 @@ use Rattle.std.specs.Prelude.{ℕ, Bool, true, false, IsTrue, IsFalse, ◌&&◌,
 use Rattle.std.specs.List.{list_all}
 use Rattle.std.specs.Str.{byte, bytes_eq, str_to_ascii_lowercase}
 use Rattle.std.specs.Str.Parse.{digits_value}
-use Rattle.byte_classes.specs.Classes.{is_digit}
+use Rattle.byte_grammar.specs.Classes.{is_digit}
 use Rattle.byte_grammar.specs.Language.{starts_in}
 use Rattle.msg_head.specs.Starts.{StartLine, request, status}
 use Rattle.msg_head.specs.Heads.{Head}
-use Rattle.line_values.specs.Values.{values}
+use Rattle.msg_head.specs.Values.{values}
 use Rattle.framing.specs.declared.kind.Framing.{Framing}
 use Rattle.framing.specs.declared.kind.Framing.TheVariants.{None, Length, Chunked, ToEnd}
 use Rattle.framing.specs.declared.limits.TheConstants.{MAX_LENGTH_DIGITS}

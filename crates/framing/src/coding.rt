@@ -2,12 +2,11 @@
 
 ghost use Rattle.std.specs.Prelude.{◌≡◌, ◌≢◌, ◌++◌, ℕ, List, IfSome, IfNone};
 ghost use Rattle.std.specs.Str.{str_to_ascii_lowercase};
-ghost use Rattle.line_values.specs.Values.{value};
+ghost use Rattle.msg_head.specs.Values.{value};
 ghost use Rattle.framing.specs.Framings.{is_chunked, are_accepted_codings};
 ghost use Rattle.framing.specs.tools.NamedLines.{HaveValues};
 
 use crate::named::NamedLines;
-use line_values::line_pieces;
 use msg_head::LineView;
 
 // What comes after the piece, where the text begins with it, in which case doesn't count.
@@ -29,7 +28,7 @@ fn is_chunked(line: LineView<'_>) -> bool
     ensures { result ≡ is_chunked (value line.entry.raw.now) }
 {
     let mut left = b"chunked".as_slice();
-    for piece in line_pieces(line) {
+    for piece in line.value_pieces() {
         let Some(rest) = rest_after(piece, left) else {
             return false;
         };

@@ -4,8 +4,7 @@ ghost use Rattle.std.specs.Prelude.{◌≡◌};
 ghost use Rattle.msg_head.specs.Views.{start_line_of};
 ghost use Rattle.framing.specs.Framings.{is_request, version_of, has_no_content, is_code_without_content};
 
-use byte_classes::Byte;
-use byte_grammar::starts_with;
+use byte_grammar::{Byte, starts_with};
 use msg_head::Start;
 
 /// What says where the content of a message ends (RFC 9112 section 6.3).

@@ -2,14 +2,13 @@
 
 ghost use Rattle.std.specs.Prelude.{◌≡◌, ◌++◌, ◌∷◌, [], ℕ, List, IsTrue, IsFalse, IfSome, IfNone};
 ghost use Rattle.std.specs.Str.Parse.{digits_value};
-ghost use Rattle.line_values.specs.Values.{value};
+ghost use Rattle.msg_head.specs.Values.{value};
 ghost use Rattle.framing.specs.Framings.{is_length, are_accepted_lengths, first_length};
 ghost use Rattle.framing.specs.tools.Digits.{AreDigitsOf, BeginsNoLength};
 ghost use Rattle.framing.specs.tools.NamedLines.{HaveValues};
 
 use crate::limits::MAX_LENGTH_DIGITS;
 use crate::named::NamedLines;
-use line_values::line_pieces;
 use msg_head::LineView;
 
 // Digits that were read.
@@ -63,7 +62,7 @@ fn digits_of(line: LineView<'_>) -> Option<Digits>
         count: 0,
         number: 0,
     };
-    for piece in line_pieces(line) {
+    for piece in line.value_pieces() {
         digits = digits.with_piece(piece)?;
     }
     Some(digits)

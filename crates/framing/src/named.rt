@@ -2,12 +2,11 @@
 
 ghost use Rattle.std.specs.Prelude.{◌≡◌, ℕ, List, ◌∷◌, [], filter, IfSome, IfNone};
 ghost use Rattle.msg_head.specs.Views.{field_line_of, lines_of};
-ghost use Rattle.line_values.specs.Names.{has_name};
-ghost use Rattle.line_values.specs.Values.{values};
+ghost use Rattle.msg_head.specs.Names.{has_name};
+ghost use Rattle.msg_head.specs.Values.{values};
 ghost use Rattle.framing.specs.Framings.{are_some};
 ghost use Rattle.framing.specs.tools.NamedLines.{HaveValues};
 
-use line_values::is_named;
 use msg_head::{FieldLines, HeadView, LineView};
 
 /// The field lines of a head that have a name.
@@ -28,7 +27,7 @@ fn next_named<'m>(lines: &mut FieldLines<'_, 'm>, name: &[u8]) -> Option<LineVie
     ensures none { IfNone result (filter (has_name name.now) lines.old ≡ []) }
 {
     while let Some(line) = lines.next() {
-        if is_named(line, name) {
+        if line.is_named(name) {
             return Some(line);
         }
     }

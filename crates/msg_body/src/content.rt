@@ -14,7 +14,7 @@ pub enum ContentPieces<'a, 'm> {
 
 impl<'a, 'm> Iterator for ContentPieces<'a, 'm> {
     ghost use Rattle.std.specs.Iterator.{at_most};
-    ghost use Rattle.line_values.specs.Pieces.{YieldsPiece};
+    ghost use Rattle.byte_grammar.specs.Pieces.{YieldsPiece};
     ghost use Rattle.msg_body.specs.Content.{content_left, content_bound};
 
     type Item = &'m [u8];

@@ -342,7 +342,7 @@ fn told_of(place: usize, byte: u8, own: bool) -> Told {
         5 => Told::Whole,
         8 => digit.map_or(Told::Chunk(8), |size| LAST_SIZES[size % 16]),
         9 if digit.is_some() || matches!(byte, b';' | b' ' | b'\t') => Told::Chunk(10),
-        11 if byte_classes::is_tchar(byte) => Told::Whole,
+        11 if byte_grammar::is_tchar(byte) => Told::Whole,
         13..=14 if !is_end => Told::Whole,
         _ if own => Told::Whole,
         0..=10 => Told::Chunk(place),

@@ -6,7 +6,7 @@ use Rattle.std.proofs.lemmas.Bool.{and_parts, and_from, cases_Bool, or_cases, eq
 use Rattle.std.proofs.lemmas.List.{take-append-drop, length-take-le}
 use Rattle.std.proofs.lemmas.List.Elements.{All-nil, All-cons, All-head, All-tail}
 use Rattle.std.proofs.lemmas.List.Folds.{list_all-append}
-use Rattle.byte_classes.specs.Classes.{is_blank, is_tchar, is_visible}
+use Rattle.byte_grammar.specs.Classes.{is_blank, is_tchar, is_visible}
 use Rattle.byte_grammar.specs.Language.{starts_in}
 use Rattle.msg_head.specs.RawValues.{RawPieces, are_pieces, is_fold, is_line_byte, fold_text}
 use Rattle.msg_head.specs.Lines.{FieldLine, IsLine, line_text}

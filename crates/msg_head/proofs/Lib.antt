@@ -22,3 +22,7 @@ pub mod Outcomes
 pub mod TrailerCuts
 pub mod TrailerFaults
 pub mod TrailerAnswers
+mod Bytes
+mod Lowered
+mod TextLaws
+mod Unfolded

@@ -3,7 +3,7 @@ use Rattle.std.proofs.Common.{◌≡◌, ℕ, ◌<◌, Bool, true, false, not, n
 use Rattle.std.specs.List.{list_all, flat_map}
 use Rattle.std.proofs.lemmas.Bool.{and_parts, ltb-true, false≢true}
 use Rattle.std.proofs.lemmas.List.{append_cancel_left}
-use Rattle.byte_classes.specs.Classes.{is_blank}
+use Rattle.byte_grammar.specs.Classes.{is_blank}
 use Rattle.byte_grammar.specs.Language.{starts_in}
 use Rattle.msg_head.specs.RawValues.{RawPieces, is_line_byte, pieces_text}
 use Rattle.msg_head.specs.Cuts.{AreLinesOf, IsCut, cut_text, is_cut, begins_anew}

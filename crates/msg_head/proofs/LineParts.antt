@@ -3,7 +3,7 @@ use Rattle.std.proofs.Common.{◌≡◌, ℕ, ◌<◌, true, nat_lt, List, [], �
 use Rattle.std.specs.List.{list_all, flat_map}
 use Rattle.std.proofs.lemmas.Bool.{and_parts, and_from, lt-ltb}
 use Rattle.std.proofs.lemmas.List.Folds.{list_all-append}
-use Rattle.byte_classes.specs.Classes.{is_tchar}
+use Rattle.byte_grammar.specs.Classes.{is_tchar}
 use Rattle.msg_head.specs.RawValues.{RawPieces, are_pieces, is_fold, is_line_byte, pieces_text, fold_text}
 use Rattle.msg_head.specs.Lines.{FieldLine, line_text}
 use Rattle.msg_head.specs.Cuts.{MakesLine, MakesNoLine}

@@ -3,7 +3,7 @@ use Rattle.std.proofs.Common.{◌≡◌, ℕ, true, false, List, [], ◌∷◌, 
 use Rattle.std.specs.List.{list_all, flat_map}
 use Rattle.std.proofs.lemmas.Bool.{and_parts, false≢true}
 use Rattle.std.proofs.lemmas.List.{append_cancel_left}
-use Rattle.byte_classes.specs.Classes.{is_blank}
+use Rattle.byte_grammar.specs.Classes.{is_blank}
 use Rattle.byte_grammar.specs.Language.{starts_in}
 use Rattle.msg_head.specs.RawValues.{RawPieces, is_fold, is_line_byte, fold_text, pieces_text}
 use Rattle.msg_head.specs.tools.Texts.{BeginsWithPieces}

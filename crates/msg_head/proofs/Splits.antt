@@ -4,7 +4,7 @@ use Rattle.std.specs.List.{list_all}
 use Rattle.std.proofs.Math.Seq.{take-append_seam, drop-append_seam}
 use Rattle.std.proofs.lemmas.Bool.{and_parts, and_from, or_cases, eqb-true, false≢true}
 use Rattle.std.proofs.lemmas.List.{append_cancel_left}
-use Rattle.byte_classes.specs.Classes.{is_blank}
+use Rattle.byte_grammar.specs.Classes.{is_blank}
 use Rattle.byte_grammar.specs.Language.{starts_in}
 use Rattle.memchr.specs.Find.{IsFirstByte, is_byte3}
 use Rattle.msg_head.specs.RawValues.{RawPieces, is_fold, is_line_byte, pieces_text}

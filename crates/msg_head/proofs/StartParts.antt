@@ -4,7 +4,7 @@ use Rattle.std.specs.List.{list_all}
 use Rattle.std.proofs.lemmas.Bool.{and_parts, or_cases, ltb-true, false≢true}
 use Rattle.std.proofs.lemmas.List.{append_cancel_left}
 use Rattle.std.proofs.lemmas.Slice.Eq.{bytes_eq-Decides}
-use Rattle.byte_classes.specs.Classes.{is_tchar, is_visible}
+use Rattle.byte_grammar.specs.Classes.{is_tchar, is_visible}
 use Rattle.msg_head.specs.Starts.{RequestLine, IsRequestLine, is_version, request_text}
 use Rattle.msg_head.specs.tools.Prefixes.{StandsBefore, NoneStandsBefore, BeginsWithNoRequest}
 use Rattle.msg_head.proofs.Prefixes.{one_before, one_prefix}

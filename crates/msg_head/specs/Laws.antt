@@ -1,6 +1,8 @@
--- Laws of heads and of trailer sections.
+-- Laws of heads, of trailer sections and of values.
 use Rattle.std.specs.Prelude.{◌≡◌, ◌≢◌, ◌⊎◌, ◌↔◌, ℕ, ◌<◌, List, ◌++◌, length, take, codes}
 use Rattle.msg_head.specs.Cuts.{IsSection}
+use Rattle.msg_head.specs.RawValues.{IsRaw}
+use Rattle.msg_head.specs.Values.{IsLineValue, value}
 use Rattle.msg_head.specs.Heads.{Head, IsHead, IsHeadText, SpellsHead, IsUnfinished, head_text}
 use Rattle.msg_head.specs.Causes.{IsHeadError}
 use Rattle.msg_head.specs.Lines.{FieldLine}
@@ -94,3 +96,9 @@ NoTrailerAnswerYet =
     (bytes : List ℕ) → IsTrailerUnfinished bytes →
     ((fault : HeadError) → ¬ IsTrailerError bytes fault)
     × ((lines : List FieldLine) (used : ℕ) → ¬ SpellsTrailer lines used bytes)
+
+-- ---- values
+
+-- A line's raw value has one value, the one that is computed.
+abbrev pub RawHasOneValue : Type 0
+RawHasOneValue = (raw text : List ℕ) → IsRaw raw → (IsLineValue raw text) ↔ (text ≡ value raw)

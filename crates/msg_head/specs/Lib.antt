@@ -1,5 +1,8 @@
 pub mod RawValues
 pub mod Lines
+pub mod Names
+pub mod Values
+pub mod LeftInLines
 pub mod Starts
 pub mod Cuts
 pub mod Heads
@@ -12,4 +15,4 @@ pub mod Outcome
 pub mod TrailerViews
 pub mod TrailerOutcome
 pub mod tools
-pub use Rattle.byte_classes.specs.Classes
+pub use Rattle.byte_grammar.specs.Classes

@@ -1,7 +1,7 @@
 -- Field lines: RFC 9112 section 5.
 use Rattle.std.specs.Prelude.{ℕ, IsTrue, List, ◌∷◌, ◌++◌, codes}
 use Rattle.std.specs.Str.{byte}
-use Rattle.byte_classes.specs.Classes.{is_token}
+use Rattle.byte_grammar.specs.Classes.{is_token}
 use Rattle.msg_head.specs.RawValues.{IsRaw}
 
 -- the name as it is written, and the raw value: all that stands between the colon and the line's

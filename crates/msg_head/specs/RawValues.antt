@@ -1,7 +1,7 @@
 -- Raw values of field lines, folds and all: RFC 9110 section 5.5, RFC 9112 section 5.2.
 use Rattle.std.specs.Prelude.{◌≡◌, ℕ, Bool, IsTrue, ◌&&◌, not, List, ◌++◌, codes}
 use Rattle.std.specs.List.{list_all, flat_map}
-use Rattle.byte_classes.specs.Classes.{is_blank, is_one_of}
+use Rattle.byte_grammar.specs.Classes.{is_blank, is_one_of}
 use Rattle.byte_grammar.specs.Language.{starts_in}
 
 -- A byte of a line. RFC 9110 has VCHAR, SP, HTAB and obs-text in a raw value, and RFC 9112 has the

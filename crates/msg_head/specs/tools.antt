@@ -3,3 +3,4 @@ pub mod Prefixes
 pub mod Sections
 pub mod Judged
 pub mod TrailerJudged
+pub mod Walks

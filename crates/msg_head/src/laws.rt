@@ -1,6 +1,6 @@
-//! Laws of heads and of trailer sections.
+//! Laws of heads, of trailer sections and of values.
 
-ghost use Rattle.msg_head.specs.Laws.{OneHead, OneHeadOfText, NoHeadInPrefix, EndsAtFirstEnd, OneHeadFault, NoFaultAtHead, NoHeadAnswerYet, OneTrailer, TrailerSectionIs, TrailerEndsAtFirstEnd, OneTrailerFault, NoFaultAtTrailer, NoTrailerAnswerYet};
+ghost use Rattle.msg_head.specs.Laws.{OneHead, OneHeadOfText, NoHeadInPrefix, EndsAtFirstEnd, OneHeadFault, NoFaultAtHead, NoHeadAnswerYet, OneTrailer, TrailerSectionIs, TrailerEndsAtFirstEnd, OneTrailerFault, NoFaultAtTrailer, NoTrailerAnswerYet, RawHasOneValue};
 
 /// The laws of heads: bytes begin with at most one head, a text is that of at most one head, no
 /// head's text is a proper prefix of another's, and a head ends at the first CRLF CRLF.
@@ -29,4 +29,10 @@ pub fn trailers_have_one_answer()
     ensures fault { OneTrailerFault }
     ensures trailer { NoFaultAtTrailer }
     ensures unfinished { NoTrailerAnswerYet }
+{}
+
+/// The law of values: a line's raw value has one value, which is the texts of its pieces without
+/// the blanks at their ends, those that are not empty, joined by one space.
+pub fn value_laws()
+    ensures value { RawHasOneValue }
 {}

@@ -1,8 +1,10 @@
 //! Heads of HTTP/1.1 messages: a start line and field lines (RFC 9112). Trailer sections too: field
-//! lines after chunked content.
+//! lines after chunked content. And of each field line its name and its value (RFC 9110 section 5.1,
+//! RFC 9421 section 2.1).
 //!
 //! A head is read from the start of the bytes that hold it, and the view of it borrows them. Raw
-//! values keep their obsolete line folding.
+//! values keep their obsolete line folding. The value of a line comes as borrowed pieces: its raw value
+//! without the blanks at its ends, each run of blanks and obsolete folds in it replaced by one space.
 //!
 //! ```text
 //! let bytes = b"GET / HTTP/1.1\r\nHost: example.com\r\n\r\n";
@@ -13,25 +15,30 @@
 //! ```
 #![tactic(auto)]
 
+mod blanks;
 mod error;
 mod field_lines;
 mod head;
 mod laws;
 mod limits;
 mod line;
+mod name;
+mod pieces;
 mod raw;
 mod section;
 mod slices;
 mod start;
 mod trailer;
+mod value;
 mod view;
 
 pub use error::{HeadError, Side};
 pub use field_lines::FieldLines;
 pub use head::{HeadRead, read_head};
-pub use laws::{head_laws, heads_have_one_answer, trailers_have_one_answer};
+pub use laws::{head_laws, heads_have_one_answer, trailers_have_one_answer, value_laws};
 pub use limits::{MAX_HEAD_BYTES, MAX_HEAD_LINES};
 pub use line::{LineSpan, LineView};
+pub use pieces::Pieces;
 pub use start::Start;
 pub use trailer::{TrailerRead, TrailerView, read_trailer};
 pub use view::HeadView;

@@ -1,7 +1,7 @@
 //! Field lines.
 
 ghost use Rattle.std.specs.Prelude.{◌≡◌, ◌+◌, ◌<◌, ◌≤◌, ◌^◌, ℕ, List, length, IsTrue, IsSomeAnd, IfSome, IfOk, IfErr, MatchOption};
-ghost use Rattle.byte_classes.specs.Classes.{is_blank};
+ghost use Rattle.byte_grammar.specs.Classes.{is_blank};
 ghost use Rattle.byte_grammar.specs.Language.{starts_in};
 ghost use Rattle.msg_head.specs.RawValues.{RawPieces, pieces_text};
 ghost use Rattle.msg_head.specs.Cuts.{AreLinesOf, MakesNoLine};
@@ -14,7 +14,7 @@ use crate::error::{HeadError, Side};
 use crate::limits::MAX_HEAD_LINES;
 use crate::raw::NameByte;
 use crate::slices::{begins_with_crlf, prefix_before, rest_after, rest_from};
-use byte_classes::is_blank;
+use byte_grammar::is_blank;
 use memchr::memchr3;
 use std::alloc::Global;
 

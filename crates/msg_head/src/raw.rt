@@ -1,6 +1,6 @@
 //! The bytes of lines.
 
-use byte_classes::{ByteClass, is_tchar};
+use byte_grammar::{ByteClass, is_tchar};
 
 /// The class of the bytes that a line may have between its ends.
 #[derive(Clone, Copy, Debug, PartialEq, Eq)]
@@ -21,7 +21,7 @@ impl ByteClass for LineByte {
 pub(crate) struct NameByte;
 
 impl ByteClass for NameByte {
-    ghost use Rattle.byte_classes.specs.Classes.{is_tchar};
+    ghost use Rattle.byte_grammar.specs.Classes.{is_tchar};
 
     ghost members = { λ _ c. is_tchar c };
 

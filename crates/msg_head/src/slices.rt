@@ -6,8 +6,7 @@ ghost use Rattle.std.specs.Str.{byte};
 ghost use Rattle.msg_head.specs.tools.Texts.{BeginsWithCrlf};
 ghost use Rattle.msg_head.specs.tools.Prefixes.{StandsBefore, NoneStandsBefore};
 
-use byte_classes::ByteClass;
-use byte_grammar::read_all;
+use byte_grammar::{ByteClass, read_all};
 
 /// The first bytes, so many, or all where there are fewer.
 pub(crate) fn prefix_of(bytes: &[u8], count: usize) -> &[u8]

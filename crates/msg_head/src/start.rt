@@ -7,7 +7,7 @@ ghost use Rattle.msg_head.specs.tools.Prefixes.{BeginsWithStart, BeginsWithNoSta
 
 use crate::raw::{LineByte, NameByte};
 use crate::slices::{allows_all, prefix_before, prefix_before_crlf};
-use byte_classes::Class;
+use byte_grammar::Class;
 
 /// A start line, borrowed from the bytes of its message (RFC 9112 section 2.1).
 #[derive(Clone, Copy, Debug)]

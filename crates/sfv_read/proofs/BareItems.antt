@@ -10,7 +10,7 @@ use Rattle.byte_grammar.specs.tools.Walks.{Next}
 use Rattle.sfv_read.specs.BareItem.{IsString, IsBoolean, IsBareItem, IsByteSequence}
 use Rattle.sfv_read.specs.tools.BareWalk.{kind_of_bare_item, boolean_read, bare_item_by, bare_item_read}
 use Rattle.sfv_text.specs.Range.{is_token_first, is_token_rest}
-use Rattle.byte_classes.specs.Classes.{is_digit, is_space}
+use Rattle.byte_grammar.specs.Classes.{is_digit, is_space}
 use Rattle.sfv_read.specs.Class.{is_bit, is_minus, is_dot, is_quote, is_question}
 use Rattle.sfv_text.specs.declared.value.BareItem.{BareItem}
 use Rattle.sfv_text.specs.declared.value.BareItem.TheVariants.{Integer, Decimal, Str, Token, Bytes, Bool as Boolean}

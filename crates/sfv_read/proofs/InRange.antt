@@ -17,7 +17,7 @@ use Rattle.sfv_text.specs.declared.pair.Pair.{Pair}
 use Rattle.sfv_text.specs.Keys.{have_distinct_keys, put}
 use Rattle.sfv_text.specs.Range.{is_word, is_token_first, is_token_rest, is_key_first, is_key_rest, is_number_in_range, is_bare_in_range, is_param_in_range, are_params_in_range, is_item_in_range, is_inner_in_range, is_member_in_range, is_list_in_range, is_dict_member_in_range, is_dict_in_range}
 use Rattle.sfv_text.proofs.PutLaws.{put_distinct, put_kept}
-use Rattle.byte_classes.specs.Classes.{is_digit}
+use Rattle.byte_grammar.specs.Classes.{is_digit}
 use Rattle.std.specs.Str.Parse.{digits_value, digits_value_after}
 use Rattle.sfv_read.specs.BareItem.{with_sign, IsInteger, IsDecimal, IsBareItem}
 use Rattle.sfv_read.specs.Item.{IsValue, IsParameter, AreParameters, put_pair, distinct_pairs, IsItem}

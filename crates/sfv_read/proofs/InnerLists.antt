@@ -6,7 +6,7 @@ use Rattle.std.proofs.lemmas.List.Folds.{list_all-append}
 use Rattle.byte_grammar.specs.Language.{Each, IsFurther, Padded}
 use Rattle.byte_grammar.specs.tools.Languages.{Then, Turns, Mapped, IsByte, IsAll}
 use Rattle.byte_grammar.specs.Walk.{◌>>=◌}
-use Rattle.byte_classes.specs.Classes.{is_one_of, is_space}
+use Rattle.byte_grammar.specs.Classes.{is_one_of, is_space}
 use Rattle.byte_grammar.specs.tools.Walks.{Next, with_turns, turns_read, padded_read}
 use Rattle.sfv_read.specs.Class.{is_open, is_close}
 use Rattle.sfv_read.specs.Inner.{AreSpaces, AreItems, IsInner}

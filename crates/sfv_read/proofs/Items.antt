@@ -5,7 +5,7 @@ use Rattle.std.proofs.lemmas.Bool.{eqb-true}
 use Rattle.byte_grammar.specs.Language.{IsWord, Padded}
 use Rattle.byte_grammar.specs.tools.Languages.{Then, Mapped, Optional, IsByte, IsAll}
 use Rattle.byte_grammar.specs.Walk.{◌>>=◌}
-use Rattle.byte_classes.specs.Classes.{is_one_of, is_space}
+use Rattle.byte_grammar.specs.Classes.{is_one_of, is_space}
 use Rattle.byte_grammar.specs.tools.Walks.{Next, with_turns, turns_read, padded_read}
 use Rattle.sfv_read.specs.BareItem.{IsBareItem}
 use Rattle.sfv_read.specs.tools.BareWalk.{kind_of_bare_item}

@@ -5,7 +5,7 @@ use Rattle.std.proofs.lemmas.List.{append-nil}
 use Rattle.byte_grammar.specs.Language.{after_all}
 use Rattle.byte_grammar.specs.tools.Languages.{Then, Mapped, Optional}
 use Rattle.byte_grammar.specs.Walk.{◌>>=◌}
-use Rattle.byte_classes.specs.Classes.{is_one_of, is_blank}
+use Rattle.byte_grammar.specs.Classes.{is_one_of, is_blank}
 use Rattle.byte_grammar.specs.tools.Walks.{Next, with_turns, turns_read}
 use Rattle.sfv_read.specs.tools.BareWalk.{kind_of_bare_item}
 use Rattle.sfv_text.specs.Range.{is_key_first, is_key_rest}

@@ -5,7 +5,7 @@ use Rattle.std.proofs.lemmas.Bool.{ltb-false, ltb-true, eqb-true}
 use Rattle.byte_grammar.specs.Language.{IsRun}
 use Rattle.byte_grammar.specs.tools.Languages.{Then, Optional, Mapped}
 use Rattle.byte_grammar.specs.Walk.{◌>>=◌, run_read}
-use Rattle.byte_classes.specs.Classes.{is_one_of, is_digit}
+use Rattle.byte_grammar.specs.Classes.{is_one_of, is_digit}
 use Rattle.byte_grammar.specs.tools.Walks.{Next, optional_read}
 use Rattle.sfv_read.specs.BareItem.{IsInteger, IsDecimal}
 use Rattle.sfv_read.specs.tools.BareWalk.{number_of, part_read, fraction_read, number_read}

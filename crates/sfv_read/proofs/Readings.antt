@@ -2,7 +2,7 @@
 use Rattle.std.proofs.Common.{ℕ, Bool, List, [], ◌∷◌, ◌++◌, take, Result, Ok, Err, sym, subst, ◌∙◌}
 use Rattle.std.specs.Prelude.{IfOk, IfErr, IsTrue}
 use Rattle.byte_grammar.specs.tools.Walks.{whole_read, padded_read}
-use Rattle.byte_classes.specs.Classes.{is_space}
+use Rattle.byte_grammar.specs.Classes.{is_space}
 use Rattle.byte_grammar.specs.FaultOffset.{IsFaultOffset}
 use Rattle.byte_grammar.proofs.Laws.{ok_is}
 use Rattle.byte_grammar.proofs.Whole.{Judges, judges, one_value}

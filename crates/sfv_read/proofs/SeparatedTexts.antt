@@ -7,7 +7,7 @@ use Rattle.byte_grammar.specs.Language.{Each, IsFurther}
 use Rattle.byte_grammar.specs.tools.Languages.{Then, Turns, Mapped, Optional, IsByte, IsAll}
 use Rattle.byte_grammar.specs.Walk.{◌>>=◌}
 use Rattle.byte_grammar.specs.tools.Walks.{Next, with_turns, turns_read, with_state}
-use Rattle.byte_classes.specs.Classes.{is_space, is_blank}
+use Rattle.byte_grammar.specs.Classes.{is_space, is_blank}
 use Rattle.sfv_read.specs.Class.{is_comma}
 use Rattle.sfv_read.specs.Member.{IsComma, AreMembers}
 use Rattle.sfv_read.specs.tools.MemberWalk.{further_read, next_member_read, members_read, members_or_none, some_members_read, separated_read}

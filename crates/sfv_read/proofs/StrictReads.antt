@@ -21,7 +21,7 @@ use Rattle.sfv_text.specs.Keys.{has_key, have_distinct_keys, put}
 use Rattle.sfv_text.specs.Range.{is_word, is_token_first, is_token_rest, is_key_first, is_key_rest, is_key, is_number_in_range, is_bare_in_range, is_param_in_range, are_params_in_range, is_item_in_range, is_inner_in_range, is_member_in_range, is_list_in_range, is_dict_member_in_range, is_dict_in_range}
 use Rattle.sfv_text.specs.Strict.{sign_text, integer_text, fraction_text, decimal_text, bare_text, param_value_text, param_text, params_text, item_text, inner_text, member_text, list_text, dict_item_text, dict_value_text, dict_member_text, dict_text}
 use Rattle.sfv_text.proofs.PutLaws.{bytes_eq-sym, distinct_parts, put_new}
-use Rattle.byte_classes.specs.Classes.{is_digit, is_space}
+use Rattle.byte_grammar.specs.Classes.{is_digit, is_space}
 use Rattle.sfv_read.specs.Class.{is_minus}
 use Rattle.std.specs.Str.Parse.{digits_value, digits_value_after}
 use Rattle.sfv_read.specs.BareItem.{with_sign, IsInteger, IsDecimal, IsBareItem}

@@ -10,7 +10,7 @@ use Rattle.sfv_text.specs.declared.value.BareItem.{BareItem}
 use Rattle.sfv_text.specs.declared.value.BareItem.TheVariants.{Integer, Decimal, Str, Token, Bytes, Bool as Boolean}
 use Rattle.sfv_text.specs.Range.{is_byte, is_string_byte, is_token_first, is_token_rest}
 use Rattle.sfv_text.specs.Strict.{string_text, bool_text}
-use Rattle.byte_classes.specs.Classes.{is_digit}
+use Rattle.byte_grammar.specs.Classes.{is_digit}
 use Rattle.sfv_read.specs.Class.{is_minus}
 
 -- negative where a sign stands

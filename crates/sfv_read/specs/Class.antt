@@ -1,7 +1,7 @@
 -- Classes of bytes in structured fields (RFC 9651 section 3).
 use Rattle.std.specs.Prelude.{ℕ, Bool, ◌&&◌, ◌||◌, ◌==◌, not}
 use Rattle.std.specs.Str.{byte}
-use Rattle.byte_classes.specs.Classes.{is_digit, is_alpha}
+use Rattle.byte_grammar.specs.Classes.{is_digit, is_alpha}
 use Rattle.sfv_text.specs.Range.{is_string_byte, is_key_first, is_key_rest, is_token_first, is_token_rest}
 use Rattle.sfv_read.specs.declared.class.SfClass.{SfClass}
 use Rattle.sfv_read.specs.declared.class.SfClass.TheVariants.{Escapable, Unescaped, KeyFirst, KeyRest, TokenFirst, TokenRest, Bit, Base64, Marker}

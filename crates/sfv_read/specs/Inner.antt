@@ -7,7 +7,7 @@ use Rattle.sfv_text.specs.declared.value.BareItem.{BareItem}
 use Rattle.sfv_text.specs.declared.value.Item.{Item}
 use Rattle.sfv_text.specs.declared.value.InnerList.{InnerList}
 use Rattle.sfv_text.specs.declared.pair.Pair.{Pair}
-use Rattle.byte_classes.specs.Classes.{is_space}
+use Rattle.byte_grammar.specs.Classes.{is_space}
 use Rattle.sfv_read.specs.Item.{IsItem, AreParameters, distinct_pairs}
 
 -- SP, one or more

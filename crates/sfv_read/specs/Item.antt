@@ -9,7 +9,7 @@ use Rattle.sfv_text.specs.declared.value.Item.{Item}
 use Rattle.sfv_text.specs.declared.pair.Pair.{Pair}
 use Rattle.sfv_text.specs.Keys.{put}
 use Rattle.sfv_text.specs.Range.{is_key_first, is_key_rest}
-use Rattle.byte_classes.specs.Classes.{is_space}
+use Rattle.byte_grammar.specs.Classes.{is_space}
 use Rattle.sfv_read.specs.BareItem.{IsBareItem}
 
 -- a lower-case letter or `*`, and then lower-case letters, digits, `_`, `-`, `.` or `*`

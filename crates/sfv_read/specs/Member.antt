@@ -9,7 +9,7 @@ use Rattle.sfv_text.specs.declared.value.Item.{Item}
 use Rattle.sfv_text.specs.declared.value.Member.{Member}
 use Rattle.sfv_text.specs.declared.value.Member.TheVariants.{Item as ItemMember, InnerList as InnerMember}
 use Rattle.sfv_text.specs.declared.pair.Pair.{Pair}
-use Rattle.byte_classes.specs.Classes.{is_space, is_blank}
+use Rattle.byte_grammar.specs.Classes.{is_space, is_blank}
 use Rattle.sfv_read.specs.Item.{IsItem, IsKey, AreParameters, distinct_pairs}
 use Rattle.sfv_read.specs.Inner.{IsInner}
 

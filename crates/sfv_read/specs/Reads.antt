@@ -6,7 +6,7 @@ use Rattle.sfv_text.specs.declared.value.Item.{Item}
 use Rattle.sfv_text.specs.declared.value.InnerList.{InnerList}
 use Rattle.sfv_text.specs.declared.value.Member.{Member}
 use Rattle.sfv_text.specs.declared.pair.Pair.{Pair}
-use Rattle.byte_classes.specs.Classes.{is_space}
+use Rattle.byte_grammar.specs.Classes.{is_space}
 use Rattle.sfv_read.specs.Item.{IsItem, distinct_pairs}
 use Rattle.sfv_read.specs.Inner.{IsInner}
 use Rattle.sfv_read.specs.Member.{IsMember, IsDictMember, AreMembers}

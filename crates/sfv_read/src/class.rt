@@ -2,7 +2,7 @@
 
 ghost use Rattle.sfv_read.specs.Class.{members};
 
-use byte_classes::{ByteClass, Class, is_tchar};
+use byte_grammar::{ByteClass, Class, is_tchar};
 
 /// The classes of bytes that structured fields have of their own (RFC 9651 section 3).
 #[derive(Clone, Copy)]

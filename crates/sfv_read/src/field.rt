@@ -2,7 +2,7 @@
 
 ghost use Rattle.std.specs.Prelude.{◌≡◌, ◌≤◌, ◌↔◌, ◌++◌, ℕ, List as Listed, Result, length, IfOk, IfErr, IsTrue, codes};
 ghost use Rattle.byte_grammar.specs.tools.Walks.{left, unread, whole_read, padded_read};
-ghost use Rattle.byte_classes.specs.Classes.{is_space};
+ghost use Rattle.byte_grammar.specs.Classes.{is_space};
 ghost use Rattle.sfv_read.specs.declared.error.PartError.TheVariants.{Memory};
 ghost use Rattle.sfv_read.specs.tools.Answers.{IsFaultAt, Answers};
 ghost use Rattle.sfv_read.specs.tools.Gives.{GivesUnlessMemory, IfMemory};
@@ -15,7 +15,7 @@ use crate::error::{PartError, SfError};
 use crate::inner::read_inner_list_text;
 use crate::params::read_item_text;
 use crate::separated::read_separated;
-use byte_classes::Byte;
+use byte_grammar::Byte;
 use byte_grammar::{read_all, starts_with};
 use sfv_text::{Dict, InnerList, Item, List, Text};
 use std::alloc::Global;

@@ -4,12 +4,12 @@ ghost use Rattle.std.specs.Prelude.{◌≡◌, ◌≤◌, ◌<◌, ◌+◌, ◌-
 ghost use Rattle.std.specs.List.{list_all};
 ghost use Rattle.byte_grammar.specs.Gives.{Gives};
 ghost use Rattle.byte_grammar.specs.Language.{AreBytesOf};
-ghost use Rattle.byte_classes.specs.Classes.{is_digit};
+ghost use Rattle.byte_grammar.specs.Classes.{is_digit};
 ghost use Rattle.std.specs.Str.Parse.{digits_value, digits_value_after};
 ghost use Rattle.sfv_read.specs.BareItem.{with_sign};
 ghost use Rattle.sfv_read.specs.tools.BareWalk.{fraction_read, part_read, number_read};
 
-use byte_classes::{Byte, Class};
+use byte_grammar::{Byte, Class};
 use byte_grammar::{Left, read_byte, read_run, starts_with};
 use sfv_text::BareItem;
 

@@ -20,7 +20,7 @@ use Rattle.sfv_text.specs.declared.value.InnerList.{InnerList}
 use Rattle.sfv_text.specs.declared.value.Member.{Member}
 use Rattle.sfv_text.specs.declared.value.Member.TheVariants.{Item as ItemMember, InnerList as InnerMember}
 use Rattle.sfv_text.specs.Keys.{have_distinct_keys}
-use Rattle.byte_classes.specs.Classes.{is_one_of, is_tchar}
+use Rattle.byte_grammar.specs.Classes.{is_one_of, is_tchar}
 use Rattle.sfv_text.specs.Range.{is_string_byte, is_byte, is_token_first, is_token_rest, is_key_first, is_key_rest, is_word, is_sf_token, is_key, is_number_in_range, is_bare_in_range, is_param_in_range, are_params_in_range, is_item_in_range, is_inner_in_range, is_member_in_range, is_list_in_range, is_dict_member_in_range, is_dict_in_range}
 use Rattle.sfv_text.specs.Strict.{sign_text, integer_text, fraction_text, decimal_text, character_text, string_text, bytes_text, bare_text, param_value_text, param_text, params_text, item_text, inner_text, member_text, list_text, dict_item_text, dict_value_text, dict_member_text, dict_text}
 

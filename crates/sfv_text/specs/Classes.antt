@@ -3,7 +3,7 @@ use Rattle.std.specs.Prelude.{ℕ, ◌^◌, Bool, false, ◌&&◌, ◌||◌, ◌
 use Rattle.std.specs.Str.{byte}
 use Rattle.std.specs.Char.{is_ascii_alphabetic, is_ascii_digit, is_ascii_lowercase}
 use Rattle.std.specs.List.{list_all}
-use Rattle.byte_classes.specs.Classes.{is_one_of, is_tchar}
+use Rattle.byte_grammar.specs.Classes.{is_one_of, is_tchar}
 
 -- a String's characters (RFC 9651 section 3.3.3)
 abbrev pub is_string_byte : ℕ → Bool

@@ -12,7 +12,7 @@ use Rattle.sfv_text.specs.declared.value.Member.TheVariants.{InnerList as InnerM
 use Rattle.sfv_read.proofs.InRange.{dict_read_in_range}
 use Rattle.msg_head.specs.declared.error.Side.TheVariants.{Header}
 use Rattle.msg_body.specs.Views.{lines_on}
-use Rattle.line_values.specs.Values.{combined_value}
+use Rattle.msg_head.specs.Values.{combined_value}
 use Rattle.component_ids.specs.Identifiers.{item_of}
 use Rattle.component_ids.specs.SignatureParams.{list_of}
 use Rattle.signatures.specs.Signatures.{input_name}

@@ -16,7 +16,7 @@ use Rattle.sfv_read.proofs.Readings.{dict_has_one_value, dict_is_decided}
 use Rattle.msg_head.specs.declared.error.Side.TheVariants.{Header}
 use Rattle.msg_body.specs.Messages.{Message}
 use Rattle.msg_body.specs.Views.{lines_on}
-use Rattle.line_values.specs.Values.{combined_value, is_there}
+use Rattle.msg_head.specs.Values.{combined_value, is_there}
 use Rattle.byte_grammar.specs.Causes.{AnswersWhere}
 use Rattle.component_ids.specs.Causes.{IsCause, IsIdFault, id_order}
 use Rattle.component_ids.specs.SignatureParams.{IsParamsOf, list_of}

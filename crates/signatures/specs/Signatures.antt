@@ -9,7 +9,7 @@ use Rattle.sfv_read.specs.Reads.{ReadsDict}
 use Rattle.msg_head.specs.declared.error.Side.TheVariants.{Header}
 use Rattle.msg_body.specs.Messages.{Message}
 use Rattle.msg_body.specs.Views.{lines_on}
-use Rattle.line_values.specs.Values.{combined_value, is_there}
+use Rattle.msg_head.specs.Values.{combined_value, is_there}
 use Rattle.component_ids.specs.declared.params.SigParams.{SigParams}
 use Rattle.component_ids.specs.SignatureParams.{IsSigParams, list_of}
 

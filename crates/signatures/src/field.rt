@@ -8,8 +8,7 @@ ghost use Rattle.signatures.specs.tools.Answered.{ExplainsField, label_fault_of}
 use crate::label::LabelFault;
 use crate::place::Place;
 use crate::rule::Rule;
-use derived_values::combined_text;
-use field_values::count_lines;
+use field_values::{combined_text, count_lines};
 use msg_body::MessageView;
 use msg_head::Side;
 use sfv_read::{SfError, read_dict};

@@ -4,7 +4,7 @@ use Rattle.std.specs.List.{list_all}
 use Rattle.std.proofs.Math.Seq.{take-append_seam}
 use Rattle.std.proofs.lemmas.Bool.{and_parts, false≢true}
 use Rattle.std.proofs.lemmas.List.{take-append-drop}
-use Rattle.byte_classes.specs.Classes.{is_digit}
+use Rattle.byte_grammar.specs.Classes.{is_digit}
 use Rattle.byte_grammar.specs.Language.{starts_in}
 use Rattle.targets.specs.UriBytes.{is_host_byte, is_literal_byte}
 use Rattle.targets.specs.Authorities.{IsAuthority, authority_text, kept_port, is_reg_name, port_text}

@@ -5,7 +5,7 @@ use Rattle.std.specs.Str.{bytes_eq}
 use Rattle.std.proofs.lemmas.Bool.{and_parts, and_from, cases_Bool, cases_eq, lt-ltb}
 use Rattle.std.proofs.lemmas.Bool.Decides.{not_from_Decides}
 use Rattle.std.proofs.lemmas.Slice.Eq.{bytes_eq-Decides}
-use Rattle.byte_classes.specs.Classes.{is_alpha, is_digit}
+use Rattle.byte_grammar.specs.Classes.{is_alpha, is_digit}
 use Rattle.byte_grammar.specs.Language.{starts_in}
 use Rattle.targets.specs.declared.target.Form.TheVariants.{Origin, Absolute, Authority, Asterisk}
 use Rattle.targets.specs.UriBytes.{is_scheme_byte, is_authority_byte, is_path_byte, is_query_byte, is_host_byte, is_literal_byte}

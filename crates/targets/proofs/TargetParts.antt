@@ -3,7 +3,7 @@ use Rattle.std.proofs.Common.{◌≡◌, ◌≢◌, inl, inr, ℕ, true, false, 
 use Rattle.std.specs.List.{list_all}
 use Rattle.std.proofs.lemmas.Bool.{and_parts, cases_Bool, eqb-true, false≢true}
 use Rattle.std.proofs.lemmas.List.{append_cancel_left}
-use Rattle.byte_classes.specs.Classes.{is_alpha}
+use Rattle.byte_grammar.specs.Classes.{is_alpha}
 use Rattle.byte_grammar.specs.Language.{starts_in, IsWord}
 use Rattle.targets.specs.UriBytes.{is_scheme_byte, is_authority_byte, is_path_byte, is_query_byte}
 use Rattle.targets.specs.Targets.{TargetParts, is_scheme, is_path, is_absolute_path, query_text, IsOriginForm, IsAbsoluteForm, IsAuthorityForm, IsAsteriskForm, IsOtherForm, SpellsTarget}

@@ -6,7 +6,7 @@ use Rattle.std.specs.Str.{str_to_ascii_lowercase}
 use Rattle.std.proofs.lemmas.Bool.{and_parts, cases_Bool, or_cases, eqb-true}
 use Rattle.std.proofs.lemmas.Bool.Decides.{nat_tests}
 use Rattle.std.proofs.lemmas.List.Folds.{list_all-map}
-use Rattle.byte_classes.specs.Classes.{is_visible, is_digit}
+use Rattle.byte_grammar.specs.Classes.{is_visible, is_digit}
 use Rattle.byte_grammar.proofs.ChoiceLaws.{of_each}
 use Rattle.byte_grammar.proofs.ListLaws.{all_joined, all_parts, all_implied}
 use Rattle.targets.specs.UriBytes.{is_host_byte, is_literal_byte, is_unreserved_or_delim}

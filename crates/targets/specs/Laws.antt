@@ -1,7 +1,7 @@
 -- Laws of targets and authorities.
 use Rattle.std.specs.Prelude.{◌≡◌, ◌⊎◌, ℕ, IsTrue, List, Option, IfSome}
 use Rattle.std.specs.List.{list_all}
-use Rattle.byte_classes.specs.Classes.{is_visible}
+use Rattle.byte_grammar.specs.Classes.{is_visible}
 use Rattle.targets.specs.Targets.{TargetParts, SpellsTarget}
 use Rattle.targets.specs.Authorities.{IsAuthority, IsAuthorityValue}
 

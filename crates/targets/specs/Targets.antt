@@ -2,7 +2,7 @@
 use Rattle.std.specs.Prelude.{◌≡◌, ◌≢◌, ◌⊎◌, ℕ, Bool, true, false, IsTrue, ◌&&◌, ◌==◌, List, [], ◌∷◌, ◌++◌, length, codes, Option, Some, None, IfSome, if◌then◌else◌}
 use Rattle.std.specs.List.{list_all}
 use Rattle.std.specs.Str.{byte}
-use Rattle.byte_classes.specs.Classes.{is_alpha}
+use Rattle.byte_grammar.specs.Classes.{is_alpha}
 use Rattle.byte_grammar.specs.Language.{starts_in}
 use Rattle.targets.specs.declared.target.Form.{Form}
 use Rattle.targets.specs.declared.target.Form.TheVariants.{Origin, Absolute, Authority, Asterisk}

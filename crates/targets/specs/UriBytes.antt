@@ -2,7 +2,7 @@
 use Rattle.std.specs.Prelude.{ℕ, Bool, ◌||◌, ◌==◌, not, codes}
 use Rattle.std.specs.Char.{is_ascii_alphanumeric}
 use Rattle.std.specs.Str.{byte}
-use Rattle.byte_classes.specs.Classes.{is_one_of}
+use Rattle.byte_grammar.specs.Classes.{is_one_of}
 use Rattle.targets.specs.declared.uri_byte.UriByte.{UriByte}
 use Rattle.targets.specs.declared.uri_byte.UriByte.TheVariants.{Scheme, Authority, Path, Query, Host, Literal}
 

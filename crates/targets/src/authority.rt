@@ -9,7 +9,7 @@ ghost use Rattle.targets.specs.tools.Parts.{BeginsWithHost, BeginsWithRegName, B
 
 use crate::parts::{read_marked, rest_after};
 use crate::uri_byte::UriByte;
-use byte_classes::Class;
+use byte_grammar::Class;
 use byte_grammar::read_all;
 use sfv_text::Absorb;
 

@@ -4,7 +4,7 @@ ghost use Rattle.std.specs.Prelude.{◌≡◌, ◌≢◌, ◌++◌, ℕ, List, O
 ghost use Rattle.std.specs.List.{list_all};
 ghost use Rattle.targets.specs.tools.Parts.{IsMarked};
 
-use byte_classes::ByteClass;
+use byte_grammar::ByteClass;
 
 /// Whether each of the bytes is of the class.
 pub(crate) fn allows_all<C: ByteClass>(class: C, bytes: &[u8]) -> bool

@@ -3,7 +3,7 @@
 ghost use Rattle.std.specs.Prelude.{◌≡◌};
 ghost use Rattle.targets.specs.UriBytes.{members, is_unreserved_or_delim};
 
-use byte_classes::ByteClass;
+use byte_grammar::ByteClass;
 
 /// The classes of bytes of which the parts of a URI are made (RFC 3986 section 3).
 #[derive(Clone, Copy)]

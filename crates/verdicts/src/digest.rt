@@ -11,7 +11,7 @@ ghost use Rattle.verdicts.specs.tools.Judged.{digest_label_fault, FailsByField, 
 use component_ids::{ComponentId, SigParams};
 use conf::DigestUse;
 use content_digest::{DigestFault, check_digest};
-use derived_values::combined_text;
+use field_values::combined_text;
 use msg_body::MessageView;
 use msg_head::Side;
 use sfv_text::{BareItem, Pair, Params};

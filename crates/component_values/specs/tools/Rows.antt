@@ -2,7 +2,7 @@
 use Rattle.std.specs.Prelude.{⊤, ℕ, List, Result, Ok, Err}
 use Rattle.msg_head.specs.Lines.{FieldLine}
 use Rattle.msg_body.specs.Views.{message_of, lines_on}
-use Rattle.line_values.specs.Values.{combined_value}
+use Rattle.msg_head.specs.Values.{combined_value}
 use Rattle.derived_values.specs.declared.lack.Lack.{Lack}
 use Rattle.derived_values.specs.declared.lack.NoValue.{NoValue}
 use Rattle.derived_values.specs.declared.lack.NoValue.TheVariants.{Memory, Lacks}

@@ -2,7 +2,7 @@
 use Rattle.std.specs.Prelude.{◌≡◌, ℕ, ◌≤◌, IsTrue, IsFalse, List, ◌++◌, length}
 use Rattle.std.specs.List.{list_all}
 use Rattle.std.specs.Str.Parse.{digits_value}
-use Rattle.byte_classes.specs.Classes.{is_digit}
+use Rattle.byte_grammar.specs.Classes.{is_digit}
 use Rattle.framing.specs.declared.length.Digits.{Digits}
 use Rattle.framing.specs.declared.limits.TheConstants.{MAX_LENGTH_DIGITS}
 use Rattle.framing.specs.Framings.{is_length}

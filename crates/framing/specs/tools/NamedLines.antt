@@ -1,6 +1,6 @@
 -- The lines of a name, as the code keeps them. No public clause cites this module.
 use Rattle.std.specs.Prelude.{◌≡◌, ℕ, List, [], ◌∷◌}
-use Rattle.line_values.specs.Values.{value}
+use Rattle.msg_head.specs.Values.{value}
 use Rattle.framing.specs.declared.named.NamedLines.{NamedLines}
 use Rattle.framing.specs.declared.named.NamedLines.TheVariants.{None, One, Many}
 

@@ -10,7 +10,7 @@ use Rattle.sfv_read.specs.declared.bare.BareKind.TheVariants.{Number as NumberKi
 use Rattle.sfv_read.specs.declared.string.CharKind.{CharKind}
 use Rattle.sfv_read.specs.declared.string.CharKind.TheVariants.{Finish, Escape, Plain}
 use Rattle.sfv_text.specs.Range.{is_token_first, is_token_rest}
-use Rattle.byte_classes.specs.Classes.{is_digit}
+use Rattle.byte_grammar.specs.Classes.{is_digit}
 use Rattle.sfv_read.specs.Class.{is_minus, is_dot, is_quote, is_backslash, is_unescaped, is_escapable, is_question, is_bit, is_colon, is_equals, is_base64}
 use Rattle.std.specs.Str.Parse.{digits_value}
 use Rattle.sfv_read.specs.BareItem.{with_sign}

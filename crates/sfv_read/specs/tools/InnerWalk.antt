@@ -6,7 +6,7 @@ use Rattle.sfv_text.specs.declared.value.BareItem.{BareItem}
 use Rattle.sfv_text.specs.declared.value.Item.{Item}
 use Rattle.sfv_text.specs.declared.value.InnerList.{InnerList}
 use Rattle.sfv_text.specs.declared.pair.Pair.{Pair}
-use Rattle.byte_classes.specs.Classes.{is_space}
+use Rattle.byte_grammar.specs.Classes.{is_space}
 use Rattle.sfv_read.specs.Class.{is_open, is_close}
 use Rattle.sfv_read.specs.tools.ItemWalk.{item_read, parameters_read}
 

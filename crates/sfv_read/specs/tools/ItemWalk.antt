@@ -7,7 +7,7 @@ use Rattle.sfv_text.specs.declared.value.BareItem.TheVariants.{Bool as Boolean}
 use Rattle.sfv_text.specs.declared.value.Item.{Item}
 use Rattle.sfv_text.specs.declared.pair.Pair.{Pair}
 use Rattle.sfv_text.specs.Range.{is_key_first, is_key_rest}
-use Rattle.byte_classes.specs.Classes.{is_space}
+use Rattle.byte_grammar.specs.Classes.{is_space}
 use Rattle.sfv_read.specs.Class.{is_semicolon, is_equals}
 use Rattle.sfv_read.specs.Item.{distinct_pairs}
 use Rattle.sfv_read.specs.tools.BareWalk.{bare_item_read}

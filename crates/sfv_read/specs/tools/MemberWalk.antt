@@ -5,7 +5,7 @@ use Rattle.byte_grammar.specs.tools.Walks.{optional_read, choose_read, turns_rea
 use Rattle.sfv_text.specs.declared.value.Member.{Member}
 use Rattle.sfv_text.specs.declared.value.Member.TheVariants.{Item as ItemMember, InnerList as InnerMember}
 use Rattle.sfv_text.specs.declared.pair.Pair.{Pair}
-use Rattle.byte_classes.specs.Classes.{is_space, is_blank}
+use Rattle.byte_grammar.specs.Classes.{is_space, is_blank}
 use Rattle.sfv_read.specs.Class.{is_open, is_comma, is_equals}
 use Rattle.sfv_read.specs.Item.{put_pair}
 use Rattle.sfv_read.specs.Member.{true_item}

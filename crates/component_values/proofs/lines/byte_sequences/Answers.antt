@@ -1,6 +1,6 @@
 use Rattle.std.proofs.Common.{[], ◌∷◌, ◌++◌, sym, ap, ◌∙◌, append_assoc}
 use Rattle.msg_head.specs.Views.{field_line_of}
-use Rattle.line_values.specs.Values.{values}
+use Rattle.msg_head.specs.Values.{values}
 use Rattle.component_values.specs.Values.{byte_sequences}
 use Rattle.component_values.proofs.Sequences.{values_named, values_other}
 use Rattle.component_values.proofs.lines.byte_sequences.Goals as goal

@@ -1,6 +1,6 @@
 use Rattle.std.proofs.Common.{◌≡◌, List, ◌++◌}
 use Rattle.msg_head.specs.Lines.{FieldLine}
-use Rattle.line_values.specs.Values.{values}
+use Rattle.msg_head.specs.Values.{values}
 use Rattle.component_values.specs.Values.{byte_sequences}
 use Rattle.component_values.specs.tools.Rows.{field_lines}
 use Rattle.component_values.proofs.lines.byte_sequences.Given as goal

@@ -1,6 +1,6 @@
 use Rattle.std.proofs.Common.{◌≡◌, ℕ, List, ◌++◌}
 use Rattle.field_values.specs.LeftInFields.{combined_left}
-use Rattle.line_values.specs.Values.{combined_value}
+use Rattle.msg_head.specs.Values.{combined_value}
 use Rattle.component_values.specs.tools.Rows.{field_lines}
 use Rattle.component_values.proofs.lines.feed_combined.Given as goal
 

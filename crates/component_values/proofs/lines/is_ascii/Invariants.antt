@@ -2,7 +2,7 @@ use Rattle.std.proofs.Common.{◌≡◌, List, ℕ, ◌++◌, true}
 use Rattle.std.specs.Char.{is_ascii}
 use Rattle.std.specs.List.{list_all}
 use Rattle.field_values.specs.LeftInFields.{combined_left}
-use Rattle.line_values.specs.Values.{combined_value}
+use Rattle.msg_head.specs.Values.{combined_value}
 use Rattle.component_values.specs.tools.Rows.{field_lines}
 use Rattle.component_values.proofs.lines.is_ascii.Given as goal
 

@@ -1,6 +1,6 @@
 use Rattle.std.proofs.Common.{◌≡◌, ◌++◌}
-use Rattle.line_values.specs.LeftInLines.{value_left}
-use Rattle.line_values.specs.Values.{value}
+use Rattle.msg_head.specs.LeftInLines.{value_left}
+use Rattle.msg_head.specs.Values.{value}
 use Rattle.component_values.proofs.lines.line_text.Given as goal
 
 abbrev pub invariant-loop-piece : goal.invariant-loop-piece

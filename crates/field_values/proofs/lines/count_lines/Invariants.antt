@@ -1,6 +1,6 @@
 use Rattle.std.proofs.Common.{◌≡◌, ◌≤◌, length, take}
 use Rattle.msg_body.specs.Views.{message_of, lines_on}
-use Rattle.line_values.specs.Values.{values}
+use Rattle.msg_head.specs.Values.{values}
 use Rattle.field_values.proofs.lines.count_lines.Given as goal
 
 abbrev pub invariant-loop-index : goal.invariant-loop-index

@@ -1,8 +1,8 @@
 use Rattle.std.proofs.Common.{[], ◌++◌, sym, ap, ◌∙◌, append_assoc}
 use Rattle.std.specs.Prelude.{codes}
 use Rattle.std.specs.Str.{str_to_ascii_lowercase}
-use Rattle.line_values.specs.LeftInLines.{value_left}
-use Rattle.line_values.specs.Values.{value}
+use Rattle.msg_head.specs.LeftInLines.{value_left}
+use Rattle.msg_head.specs.Values.{value}
 use Rattle.framing.proofs.Codings.{taken_more, not_chunked, is_chunked_where}
 use Rattle.framing.proofs.coding.is_chunked.Goals as goal
 

@@ -1,8 +1,8 @@
 use Rattle.std.proofs.Common.{◌≡◌, ℕ, List, ◌++◌}
 use Rattle.std.specs.Prelude.{codes}
 use Rattle.std.specs.Str.{str_to_ascii_lowercase}
-use Rattle.line_values.specs.LeftInLines.{value_left}
-use Rattle.line_values.specs.Values.{value}
+use Rattle.msg_head.specs.LeftInLines.{value_left}
+use Rattle.msg_head.specs.Values.{value}
 use Rattle.framing.proofs.coding.is_chunked.Given as goal
 
 abbrev pub invariant-loop-piece : goal.invariant-loop-piece

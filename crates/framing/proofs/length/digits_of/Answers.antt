@@ -1,5 +1,5 @@
 use Rattle.std.proofs.Common.{◌++◌, sym, ap, ◌∙◌, append_assoc}
-use Rattle.line_values.specs.LeftInLines.{value_left}
+use Rattle.msg_head.specs.LeftInLines.{value_left}
 use Rattle.framing.specs.Framings.{is_length}
 use Rattle.framing.proofs.length.digits_of.Goals as goal
 

@@ -1,6 +1,6 @@
 use Rattle.std.proofs.Common.{◌≡◌, ℕ, List, ◌++◌}
-use Rattle.line_values.specs.LeftInLines.{value_left}
-use Rattle.line_values.specs.Values.{value}
+use Rattle.msg_head.specs.LeftInLines.{value_left}
+use Rattle.msg_head.specs.Values.{value}
 use Rattle.framing.specs.tools.Digits.{AreDigitsOf}
 use Rattle.framing.proofs.length.digits_of.Given as goal
 

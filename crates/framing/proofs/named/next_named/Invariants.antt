@@ -1,6 +1,6 @@
 use Rattle.std.proofs.Common.{◌≡◌, length}
 use Rattle.std.specs.Prelude.{filter}
-use Rattle.line_values.specs.Names.{has_name}
+use Rattle.msg_head.specs.Names.{has_name}
 use Rattle.framing.proofs.named.next_named.Given as goal
 
 abbrev pub invariant-loop-line : goal.invariant-loop-line

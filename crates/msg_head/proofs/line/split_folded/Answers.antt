@@ -1,6 +1,6 @@
 use Rattle.std.proofs.Common.{◌≡◌, ℕ, List, length, sym, subst, ap, ◌∙◌, arith}
 use Rattle.std.proofs.lemmas.List.{length-drop}
-use Rattle.byte_classes.specs.Classes.{is_blank}
+use Rattle.byte_grammar.specs.Classes.{is_blank}
 use Rattle.byte_grammar.specs.Language.{starts_in}
 use Rattle.msg_head.specs.tools.Texts.{BeginsWithPieces}
 use Rattle.std.proofs.lemmas.Bool.{and_parts}

@@ -2,7 +2,7 @@ use Rattle.std.proofs.Common.{◌≡◌, true, ◌∙◌}
 use Rattle.std.proofs.lemmas.Result.{err_from_is_err_and}
 use Rattle.msg_head.specs.declared.error.Side.TheVariants.{Header}
 use Rattle.msg_body.specs.Views.{message_of, lines_on}
-use Rattle.line_values.specs.Values.{is_there}
+use Rattle.msg_head.specs.Values.{is_there}
 use Rattle.signatures.proofs.Reading.{positive, unread_field}
 use Rattle.signatures.proofs.field.header_dict.Goals as goal
 

@@ -1,7 +1,7 @@
 use Rattle.std.proofs.Common.{◌∷◌, sym, ap, ◌∙◌, map}
 use Rattle.msg_head.specs.Lines.{FieldLine}
 use Rattle.msg_head.specs.Views.{field_line_of}
-use Rattle.line_values.specs.Values.{value, values}
+use Rattle.msg_head.specs.Values.{value, values}
 use Rattle.framing.proofs.named.NamedLines.find.Goals as goal
 
 pub returns-in-Some-next_named : goal.returns-in-Some-next_named

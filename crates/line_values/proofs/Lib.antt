@@ -1,4 +1,0 @@
-mod Bytes
-mod Lowered
-mod TextLaws
-mod Unfolded

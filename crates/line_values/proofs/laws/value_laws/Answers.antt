@@ -1,5 +1,0 @@
-use Rattle.line_values.proofs.Unfolded.{raw_has_one_value}
-use Rattle.line_values.proofs.laws.value_laws.Goals as goal
-
-pub returns : goal.returns
-returns c = record { value = raw_has_one_value }
