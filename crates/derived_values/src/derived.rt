@@ -14,7 +14,7 @@ ghost use Rattle.derived_values.specs.tools.Requests.{request_parts};
 
 use crate::lack::{Lack, NoValue};
 use component_ids::{ComponentId, Scheme};
-use field_values::count_lines;
+use field_values::{combined_text, count_lines};
 use msg_body::MessageView;
 use msg_head::{Side, Start};
 use sfv_text::{BareItem, Memory, Params, Text};
