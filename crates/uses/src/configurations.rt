@@ -1,5 +1,5 @@
-//! Of `conf` and `conf_sections`: what a configuration says that no command shows yet, keys that are
-//! added to it, and lists of covered components.
+//! Of `conf` and `conf_sections`: what a configuration says that no command shows yet, keys that
+//! are added to it, and lists of covered components.
 
 use component_ids::{Ids, Scheme};
 use conf::{SignConf, SignDigest, empty_conf, read_conf};
