@@ -2,10 +2,12 @@
 //! to verify a signature or to make one. A configuration is a TOML document.
 //!
 //! ```text
-//! let conf = read_conf(alloc, b"[keys]\n\"k\" = \"AAAA\"")?;
-//! conf.key(b"k")           // Some(b"\0\0\0")
-//! conf.scheme()            // Scheme::Https
-//! read_conf(alloc, b"a=1") // Err(ConfFault::UnknownKey), whose path is `top`
+//! let conf = read_conf(alloc, b"[keys]\n\"k\" = \"AAEC\"")?;
+//! conf.key(b"k")                // Some([0, 1, 2])
+//! let mut conf = empty_conf(alloc)?;
+//! conf.scheme()                 // Scheme::Https
+//! conf.add_key(b"a", b"1")?;
+//! conf.key(b"a")                // Some(b"1")
 //! ```
 #![tactic(auto)]
 
@@ -30,6 +32,3 @@ pub use fault::ConfFault;
 pub use laws::a_text_is_one_configuration;
 pub use nonces::{MAX_KEYID_BYTES, MAX_WINDOW};
 pub use read::{empty_conf, read_conf};
-
-#[cfg(test)]
-mod tests;

@@ -2,11 +2,11 @@
 //! what stands for them in memory and over std.
 //!
 //! ```text
-//! let mut source = MemSource::new(alloc, b"abc", 2, &[])?;
-//! let text = fill(alloc, &mut source, 3)?; // two bytes, one byte, and the end: "abc"
-//! let mut sink = MemSink::new(alloc, 8, 1, &[])?;
-//! put_all(&mut sink, text.bytes())?;       // three calls of one byte
-//! sink.taken()                             // b"abc"
+//! let mut source = MemSource::new(alloc, b"GET /a HTTP/1.1", 1, &[])?;
+//! let text = fill(alloc, &mut source, 15)?; // 15 calls of one byte, and the end
+//! let mut sink = MemSink::new(alloc, 20, 2, &[7])?;
+//! put_all(&mut sink, text.bytes())          // Err(Failed): calls of two bytes, and call 7 fails
+//! sink.taken()                              // b"GET /a HTTP/1."
 //! ```
 #![tactic(auto)]
 
@@ -38,6 +38,3 @@ pub use status::Status;
 pub use std_sink::StdSink;
 pub use std_source::StdSource;
 pub use whole_file::{FileError, take_file};
-
-#[cfg(test)]
-mod tests;
