@@ -3,7 +3,7 @@
 //!
 //! ```text
 //! is_tchar(b'!')            // true
-//! Class::Blank.allows(b' ') // true
+//! Class::Blank.allows(b'!') // false
 //! Byte(b';').allows(b';')   // true
 //! ```
 #![tactic(auto)]
@@ -11,6 +11,3 @@
 mod class;
 
 pub use class::{Byte, ByteClass, Class, is_blank, is_tchar};
-
-#[cfg(test)]
-mod tests;
