@@ -32,6 +32,7 @@ fn a_target_is_cut_and_its_authority_fed(rt: HostRuntime) -> Result<(), Fail> {
     assert_eq!(rt; path_of(&target), Some(b"/".as_slice()));
     assert_eq!(rt; query_of(&target), Some(Some(b"a=1+2".as_slice())));
     let authority = authority_of(b"EXAMPLE.com:80", b"http").ok_or("no authority")?;
+    assert!(rt; authority.port.is_none());
     let mut fed = Fed {
         text: Text::new(rt.alloc()),
         failed: false,

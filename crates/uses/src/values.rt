@@ -5,8 +5,8 @@ ghost use Rattle.sfv_text.specs.declared.value.BareItem.TheVariants.{Integer};
 
 use sfv_read::read_item;
 use sfv_text::{
-    BareItem, Dict, InnerList, Item, Items, List, Member, Params, Text, print_dict, print_inner,
-    print_item, print_list,
+    BareItem, Dict, InnerList, Item, Items, List, Member, Memory, Params, Text, print_dict,
+    print_inner, print_item, print_list,
 };
 use std::alloc::Global;
 use std::test::Fail;
@@ -58,6 +58,13 @@ fn members_are_pushed_and_put(rt: HostRuntime) -> Result<(), Fail> {
         Member::Item(plain_item(alloc, 2)),
     )?;
     assert_eq!(rt; print_dict(alloc, &dict)?.bytes(), b"a=2".as_slice());
+    Ok(())
+}
+
+#[test]
+fn out_of_memory_says_so(rt: HostRuntime) -> Result<(), Fail> {
+    let line = format!(in rt.alloc(); "{}", Memory)?;
+    assert_eq!(rt; line.as_str(), "out of memory");
     Ok(())
 }
 
