@@ -12,6 +12,8 @@
 //! read_run(Class::Digit, 1, 2, b"123;") // Ok((b"12", b"3;"))
 //! read_word(Class::Alpha, Class::Tchar, b"a1;") // Ok((b"a1", b";"))
 //! read_byte(Byte(b';'), b"a1") // Err(Left(2))
+//! read_all(Class::Visible, b"a b") // (b"a", b" b")
+//! starts_with(Class::Digit, b"1") // true
 //! ```
 //!
 //! `specs/` has the texts of a language, the offset of a fault, causes that are judged in an order,

@@ -4,10 +4,12 @@
 //! ```text
 //! let list = read_inner(alloc, br#"("@method" "date");created=1"#)?;
 //! let params = read_params(alloc, &list)?;
-//! params.ids.len()                     // 2
+//! params.ids.len()                      // 2
 //! print_params(alloc, &params)?.bytes() // ("@method" "date");created=1
-//! let types = Types::standard(alloc)?;
-//! types.kind_of(b"signature")          // Some(FieldKind::Dictionary)
+//! let mut types = Types::standard(alloc)?;
+//! types.add(b"age", FieldKind::Item)?;
+//! types.kind_of(b"age")                 // Some(FieldKind::Item)
+//! types.kind_of(b"content-digest")      // Some(FieldKind::Dictionary)
 //! ```
 #![tactic(auto)]
 
@@ -31,6 +33,3 @@ pub use same::same_id;
 pub use scheme::Scheme;
 pub use table::{has_param, is_field_name};
 pub use types::{FieldKind, Types};
-
-#[cfg(test)]
-mod tests;

@@ -5,9 +5,10 @@
 //! some text that is read. Dates and Display Strings aren't read, and have a fault of their own.
 //!
 //! ```text
-//! read_item(rt.alloc(), br#"a;b="c""#)  // the Token a with the parameter b
-//! read_inner(rt.alloc(), b"(a b")       // Err(SfError::Syntax(4))
-//! read_dict(rt.alloc(), b"a=@1")        // Err(SfError::ItemKind(2))
+//! read_item(alloc, b" 1 ")         // the Integer 1
+//! read_dict(alloc, b"a=1, b, a=2") // the members a=2 and b
+//! read_inner(alloc, b"(a b")       // Err(SfError::Syntax(4))
+//! read_list(alloc, b"a, %")        // Err(SfError::ItemKind(3))
 //! ```
 #![tactic(auto)]
 
@@ -31,6 +32,3 @@ pub use laws::{
     strict_texts_read_back, values_read_are_in_range,
 };
 pub use read::{read_dict, read_inner, read_item, read_list};
-
-#[cfg(test)]
-mod tests;

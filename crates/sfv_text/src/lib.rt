@@ -4,8 +4,12 @@
 //! ```text
 //! let mut params = Params::new(alloc);
 //! params.put(Text::from_bytes(alloc, b"a")?, BareItem::Integer(1))?;
-//! let bare = BareItem::Token(Text::from_bytes(alloc, b"abc")?);
-//! print_item(alloc, &Item { bare, params })?.bytes() // abc;a=1
+//! params.put(Text::from_bytes(alloc, b"c")?, BareItem::Bool(true))?;
+//! let mut token = Text::new(alloc);
+//! token.append(b"ab")?;
+//! token.append(b"c")?;
+//! let bare = BareItem::Token(token);
+//! print_item(alloc, &Item { bare, params })?.bytes() // abc;a=1;c
 //! ```
 #![tactic(auto)]
 
@@ -31,6 +35,3 @@ pub use print::{print_dict, print_inner, print_item, print_list};
 pub use sequence::Sequence;
 pub use text::Text;
 pub use value::{BareItem, Dict, InnerList, Item, Items, List, Member, Params};
-
-#[cfg(test)]
-mod tests;

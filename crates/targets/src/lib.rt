@@ -8,7 +8,7 @@
 //! let target = cut_target(b"GET", b"http://EXAMPLE.com:80?a=1+2")?; // form is Form::Absolute
 //! path_of(&target)  // Some(b"/")
 //! query_of(&target) // Some(Some(b"a=1+2"))
-//! let authority = authority_of(target.authority?, target.scheme?)?;
+//! let authority = authority_of(b"EXAMPLE.com:80", b"http")?;
 //! authority.port    // None, since 80 is the default port of http
 //! authority.feed(&mut hasher);       // feeds example.com
 //! query_param(alloc, b"a=1+2", b"a") // Ok(ParamFound::One(..)), of `1%202`
@@ -26,8 +26,3 @@ pub use authority::{Authority, authority_of};
 pub use laws::{target_laws, targets_are_decided, values_are_visible};
 pub use query::{ParamFound, encoded_texts_are_printable, query_param};
 pub use target::{Form, Target, cut_target, path_of, query_of};
-
-#[cfg(test)]
-mod query_tests;
-#[cfg(test)]
-mod tests;

@@ -1,1 +1,232 @@
-// Tests of sfv_read.
+// Tests of sfv_read, and of the readers of bytes that it stands on.
+
+use SfError::{ItemKind, Syntax};
+use byte_classes::{Byte, ByteClass, Class, is_tchar};
+use byte_grammar::{Left, read_all, read_byte, read_run, read_word, starts_with};
+use sfv_read::{SfError, read_dict, read_inner, read_item, read_list};
+use sfv_text::{Text, print_dict, print_inner, print_item, print_list};
+use std::alloc::Global;
+
+// The example of byte_grammar and of byte_classes.
+#[test]
+fn bytes_of_a_class_are_read(rt: HostRuntime) {
+    assert!(rt; is_tchar(b'!') && !Class::Blank.allows(b'!') && Byte(b';').allows(b';'));
+    assert!(rt; starts_with(Class::Digit, b"1"));
+    assert_eq!(rt; read_byte(Byte(b';'), b"a1"), Err(Left(2)));
+    assert_eq!(rt;
+        read_run(Class::Digit, 1, 2, b"123;"),
+        Ok((b"12".as_slice(), b"3;".as_slice()))
+    );
+    assert_eq!(rt;
+        read_word(Class::Alpha, Class::Tchar, b"a1;"),
+        Ok((b"a1".as_slice(), b";".as_slice()))
+    );
+    assert_eq!(rt;
+        read_all(Class::Visible, b"a b"),
+        (b"a".as_slice(), b" b".as_slice())
+    );
+}
+
+#[derive(Clone, Copy)]
+enum Kind {
+    Item,
+    Inner,
+    List,
+    Dict,
+}
+
+// The strict text of what is read.
+fn strict_text(kind: Kind, alloc: Global, text: &[u8]) -> Result<Text, SfError> {
+    let printed = match kind {
+        Kind::Item => print_item(alloc, &read_item(alloc, text)?),
+        Kind::Inner => print_inner(alloc, &read_inner(alloc, text)?),
+        Kind::List => print_list(alloc, &read_list(alloc, text)?),
+        Kind::Dict => print_dict(alloc, &read_dict(alloc, text)?),
+    };
+    match printed {
+        Ok(text) => Ok(text),
+        Err(_) => Err(SfError::Memory),
+    }
+}
+
+// A text, and the strict text of its value.
+#[derive(Clone, Copy)]
+struct Reads {
+    kind: Kind,
+    text: &'static [u8],
+    strict: &'static [u8],
+}
+
+// Texts with blanks at their ends, which a field's value never has, and a repeated key. With the
+// faults of `(a b` and `a, %` below, the example of sfv_read.
+const READS: [Reads; 7] = [
+    Reads {
+        kind: Kind::Item,
+        text: b" 1 ",
+        strict: b"1",
+    },
+    Reads {
+        kind: Kind::Inner,
+        text: b" (  ) ",
+        strict: b"()",
+    },
+    Reads {
+        kind: Kind::List,
+        text: b"  ",
+        strict: b"",
+    },
+    Reads {
+        kind: Kind::List,
+        text: b" a ,\t b\t ",
+        strict: b"a, b",
+    },
+    Reads {
+        kind: Kind::Dict,
+        text: b" ",
+        strict: b"",
+    },
+    Reads {
+        kind: Kind::Dict,
+        text: b"a=1, b, a=2",
+        strict: b"a=2, b",
+    },
+    Reads {
+        kind: Kind::Dict,
+        text: b"a=?1;x,b;x=1\t",
+        strict: b"a;x, b;x=1",
+    },
+];
+
+fn is_read(alloc: Global, row: &Reads) -> bool {
+    match strict_text(row.kind, alloc, row.text) {
+        Ok(text) => text.bytes() == row.strict,
+        Err(_) => false,
+    }
+}
+
+#[test]
+fn texts_read_as_their_values(rt: HostRuntime) {
+    for row in &READS {
+        assert!(rt; is_read(rt.alloc(), row), "{:?}", row.text);
+    }
+}
+
+// Texts that aren't read, and why.
+#[derive(Clone, Copy)]
+struct Refuses {
+    kind: Kind,
+    fault: SfError,
+    texts: &'static [&'static [u8]],
+}
+
+// RFC 9651 section 3. No line of the program has an offset in a List or a Dictionary.
+const REFUSES: [Refuses; 18] = [
+    Refuses {
+        kind: Kind::Item,
+        fault: Syntax(0),
+        texts: &[b"", b"\t1"],
+    },
+    Refuses {
+        kind: Kind::Item,
+        fault: Syntax(1),
+        texts: &[b"1\t", b"1,2", b"a\x80"],
+    },
+    Refuses {
+        kind: Kind::Item,
+        fault: Syntax(2),
+        texts: &[b"  ", b"1 \t", b"1 2"],
+    },
+    Refuses {
+        kind: Kind::Item,
+        fault: Syntax(3),
+        texts: &[b":AB:"],
+    },
+    Refuses {
+        kind: Kind::Item,
+        fault: Syntax(5),
+        texts: &[b"1.2345"],
+    },
+    Refuses {
+        kind: Kind::Item,
+        fault: Syntax(9),
+        texts: &[b"abcdefgh @1", b"abcdefgh %"],
+    },
+    Refuses {
+        kind: Kind::Item,
+        fault: ItemKind(0),
+        texts: &[b"@1", br#"%"a""#],
+    },
+    Refuses {
+        kind: Kind::Item,
+        fault: ItemKind(5),
+        texts: &[b" a;b=@1"],
+    },
+    Refuses {
+        kind: Kind::Inner,
+        fault: Syntax(4),
+        texts: &[b"(a b"],
+    },
+    Refuses {
+        kind: Kind::List,
+        fault: Syntax(0),
+        texts: &[b"\ta", b",a"],
+    },
+    Refuses {
+        kind: Kind::List,
+        fault: Syntax(1),
+        texts: &[b" \t"],
+    },
+    Refuses {
+        kind: Kind::List,
+        fault: Syntax(2),
+        texts: &[b"a,", b"a,,b", b"a b", b"a ;b", b"a @"],
+    },
+    Refuses {
+        kind: Kind::List,
+        fault: ItemKind(3),
+        texts: &[b"a, %", b"a,\t@"],
+    },
+    Refuses {
+        kind: Kind::Dict,
+        fault: Syntax(0),
+        texts: &[b"A=1", br#""a"=1"#, b"@a"],
+    },
+    Refuses {
+        kind: Kind::Dict,
+        fault: Syntax(2),
+        texts: &[b"a=", b"a =1", b"a= 1"],
+    },
+    Refuses {
+        kind: Kind::Dict,
+        fault: Syntax(4),
+        texts: &[b"a=1,", b"a=1,,b", b"a=1 b=2", b"a=1;A"],
+    },
+    Refuses {
+        kind: Kind::Dict,
+        fault: ItemKind(3),
+        texts: &[b"a=(@"],
+    },
+    Refuses {
+        kind: Kind::Dict,
+        fault: ItemKind(4),
+        texts: &[b"a;b=%"],
+    },
+];
+
+fn are_refused(alloc: Global, row: &Refuses) -> bool {
+    for text in row.texts {
+        match strict_text(row.kind, alloc, text) {
+            Ok(_) => return false,
+            Err(fault) if fault == row.fault => {}
+            Err(_) => return false,
+        }
+    }
+    true
+}
+
+#[test]
+fn texts_are_refused_at_the_exact_offset(rt: HostRuntime) {
+    for row in &REFUSES {
+        assert!(rt; are_refused(rt.alloc(), row), "{:?}", row.fault);
+    }
+}
