@@ -4,9 +4,10 @@
 //! as is wanted, without memory.
 //!
 //! ```text
-//! let context = Context::of_message(&message, Scheme::Https, &types);
-//! let prepared = prepare(alloc, &context, &params)?; // Err(Lacks(0, Lack::Absent)), say
-//! prepared.feed(0, &mut hasher);                     // the first component's value
+//! // over a response and the request that it answers, params being `("@status" "@path";req)`
+//! let prepared = prepare(alloc, &context, &params)?; // or the first component that lacks a value
+//! prepared.feed(0, &mut hasher);                     // 503
+//! prepared.feed(1, &mut hasher);                     // /foo
 //! ```
 #![tactic(auto)]
 
@@ -25,8 +26,3 @@ pub use derived_values::Lack;
 pub use fault::ValueFault;
 pub use laws::{components_have_one_answer, signatures_have_one_answer};
 pub use prepared::Prepared;
-
-#[cfg(test)]
-mod derived_tests;
-#[cfg(test)]
-mod tests;

@@ -17,6 +17,3 @@ mod tag;
 
 pub use mac::Hmac;
 pub use tag::same_tag;
-
-#[cfg(test)]
-mod tests;

@@ -4,9 +4,10 @@
 //! ```text
 //! let mut book = NonceBook::open(alloc, 1_024, 300, now)?;
 //! book.advance(now, &mut steps);
-//! if !book.find(keyid, nonce, &mut steps) {
-//!     book.record(keyid, nonce, created + 300, &mut steps)?;
+//! if book.find(keyid, nonce, &mut steps) {
+//!     return Seen;
 //! }
+//! book.record(keyid, nonce, until, &mut steps)?;
 //! ```
 #![tactic(auto)]
 
@@ -23,6 +24,3 @@ pub use full::Full;
 pub use laws::{same_entries_are_alike, same_entries_are_an_equivalence};
 pub use limits::{MAX_ENTRIES, MAX_KEYID_BYTES, MAX_MOMENT, MAX_NONCE_BYTES, MAX_WINDOW};
 pub use steps::Steps;
-
-#[cfg(test)]
-mod tests;

@@ -11,6 +11,3 @@ mod base;
 mod buffer;
 
 pub use base::{base_bytes, feed_base};
-
-#[cfg(test)]
-mod tests;
