@@ -1,13 +1,14 @@
 // Tests of sfv_read, and of the readers of bytes that it stands on.
 
 use SfError::{ItemKind, Syntax};
-use byte_classes::{Byte, ByteClass, Class, is_tchar};
-use byte_grammar::{Left, read_all, read_byte, read_run, read_word, starts_with};
+use byte_grammar::{
+    Byte, ByteClass, Class, Left, is_tchar, read_all, read_byte, read_run, read_word, starts_with,
+};
 use sfv_read::{SfError, read_dict, read_inner, read_item, read_list};
 use sfv_text::{Text, print_dict, print_inner, print_item, print_list};
 use std::alloc::Global;
 
-// The example of byte_grammar and of byte_classes.
+// The example of byte_grammar and of byte_grammar.
 #[test]
 fn bytes_of_a_class_are_read(rt: HostRuntime) {
     assert!(rt; is_tchar(b'!') && !Class::Blank.allows(b'!') && Byte(b';').allows(b';'));
