@@ -3,11 +3,9 @@
 //! 7.2).
 //!
 //! ```text
-//! // Created at 1000, where a signature is taken for 300 seconds and clocks are 60 apart.
-//! judge_policy(alloc, &params, &policy, true, keyid, 1300, None, &mut steps) // Ok(())
-//! judge_policy(alloc, &params, &policy, true, keyid, 1301, None, &mut steps) // TooOld
-//! judge_policy(alloc, &params, &policy, true, keyid, 939, None, &mut steps)  // CreatedAhead
-//! has_room(&params, &policy, Some(&book)) // whether the nonce could be remembered
+//! // Of a request's signature that was created at 1618884473 and is taken for 300 seconds.
+//! judge_policy(alloc, params, policy, true, keyid, 1_618_884_773, None, &mut steps) // Ok(())
+//! judge_policy(alloc, params, policy, true, keyid, 1_618_884_774, None, &mut steps) // TooOld
 //! ```
 #![tactic(auto)]
 
@@ -24,6 +22,3 @@ pub use judge::judge_policy;
 pub use laws::a_policy_has_one_answer;
 pub use nonce::has_room;
 pub use params::{integer_param, string_param};
-
-#[cfg(test)]
-mod tests;

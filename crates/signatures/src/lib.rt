@@ -2,13 +2,9 @@
 //! label, or the first of rules 1 to 12 that fails. The numbers and the words of all rules.
 //!
 //! ```text
-//! for label in labels_of(alloc, &message)?.iter() {
-//!     match read_label(alloc, &message, label.bytes()) {
-//!         Ok(read) => ..,                           // read.params and read.tag
-//!         Err(LabelFault::Rule(rule, place)) => .., // Rule::InputAbsent and Place::None, say
-//!         Err(LabelFault::Memory) => ..,
-//!     }
-//! }
+//! // Of a request with the signature of RFC 9421 appendix B.2.5 under the label `s`.
+//! labels_of(alloc, view)?                                         // `s` alone
+//! let LabelRead { params, tag } = read_label(alloc, view, b"s")?; // three components, 32 bytes
 //! ```
 #![tactic(auto)]
 
@@ -28,6 +24,3 @@ pub use laws::{
 pub use place::{DigestReason, Place};
 pub use read::read_label;
 pub use rule::Rule;
-
-#[cfg(test)]
-mod tests;

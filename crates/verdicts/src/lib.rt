@@ -2,11 +2,10 @@
 //! fails.
 //!
 //! ```text
-//! for label in labels_of(alloc, &message)?.iter() {
-//!     match verdict(alloc, &context, label.bytes(), &conf, now, None, &mut steps)? {
-//!         Verdict::Ok { keyid } => ..,           // the tag is right, under this key
-//!         Verdict::Rule { number, place } => .., // Rule::KeyUnknown and Place::None, say
-//!     }
+//! let now = book.moment();
+//! match verdict(alloc, &context, b"s", conf, now, Some(&book), steps)? {
+//!     Verdict::Ok { keyid } => ..,           // the tag is right, under this key
+//!     Verdict::Rule { number, place } => .., // Rule::NonceRepeated and Place::None, say
 //! }
 //! ```
 #![tactic(auto)]
@@ -25,6 +24,3 @@ pub use signatures::{
     DigestReason, LabelFault, LabelRead, Labels, Place, Rule, a_label_has_one_reading,
     a_message_has_one_list_of_labels, labels_of, read_label,
 };
-
-#[cfg(test)]
-mod tests;
