@@ -32,13 +32,33 @@ const WITH_NONCE: &[u8] = b"GET /foo HTTP/1.1\r\n\
     keyid=\"test-shared-secret\";nonce=\"n\"\r\n\
     Signature: s=:LJN2pAW/z3pLCH9p++Ubl7Ry7ePHbayYjLaOhlpyQME=:\r\n\r\n";
 
+// With another tag.
+const WRONG: &[u8] = b"GET /foo HTTP/1.1\r\n\
+    Host: example.com\r\n\
+    Date: Tue, 20 Apr 2021 02:07:55 GMT\r\n\
+    Content-Type: application/json\r\n\
+    Signature-Input: s=(\"date\" \"@authority\" \"content-type\");created=1618884473;\
+    keyid=\"test-shared-secret\";nonce=\"n\"\r\n\
+    Signature: s=:AAAA:\r\n\r\n";
+
+// With the right tag and content whose digest isn't covered.
+const WITH_CONTENT: &[u8] = b"GET /foo HTTP/1.1\r\n\
+    Host: example.com\r\n\
+    Date: Tue, 20 Apr 2021 02:07:55 GMT\r\n\
+    Content-Type: application/json\r\n\
+    Content-Length: 2\r\n\
+    Signature-Input: s=(\"date\" \"@authority\" \"content-type\");created=1618884473;\
+    keyid=\"test-shared-secret\";nonce=\"n\"\r\n\
+    Signature: s=:LJN2pAW/z3pLCH9p++Ubl7Ry7ePHbayYjLaOhlpyQME=:\r\n\r\n{}";
+
 const CREATED: u64 = 1_618_884_473;
 
-// The key of RFC 9421 appendix B.1.5, for signatures with a nonce that are at most 300 seconds old.
+// The key of RFC 9421 appendix B.1.5, for signatures with a nonce that are at most 300 seconds old
+// and cover the digest of content.
 const CONF: &[u8] = b"[keys]\n\
     \"test-shared-secret\" = \
     \"uzvJfB4u3N0Jy4T7NZ75MDVcr8zSTInedJtkgcu46YW4XByzNJjxBdtjUkdJPBtbmHhIDi6pcl8jsasjlTMtDQ==\"\n\
-    [policy]\nmax-age = 300\nnonce = \"require\"\n";
+    [policy]\nmax-age = 300\nnonce = \"require\"\ndigest = \"content\"\n";
 
 // A book of one entry, which holds this nonce until the signature's moment, and the rule that fails
 // at that moment or a second later.
@@ -50,7 +70,7 @@ struct Row {
     rule: Option<Rule>,
 }
 
-const ROWS: [Row; 5] = [
+const ROWS: [Row; 9] = [
     Row {
         message: STANDARD,
         held: b"m",
@@ -81,6 +101,30 @@ const ROWS: [Row; 5] = [
         is_later: true,
         rule: None,
     },
+    Row {
+        message: WRONG,
+        held: b"n",
+        is_later: false,
+        rule: Some(Rule::NonceRepeated),
+    },
+    Row {
+        message: WRONG,
+        held: b"m",
+        is_later: false,
+        rule: Some(Rule::MacMismatch),
+    },
+    Row {
+        message: WITH_CONTENT,
+        held: b"n",
+        is_later: false,
+        rule: Some(Rule::NonceRepeated),
+    },
+    Row {
+        message: WITH_CONTENT,
+        held: b"m",
+        is_later: false,
+        rule: Some(Rule::Digest),
+    },
 ];
 
 fn view_of(alloc: Global, bytes: &[u8]) -> Result<MessageView<'_>, Fail> {
@@ -93,18 +137,20 @@ fn view_of(alloc: Global, bytes: &[u8]) -> Result<MessageView<'_>, Fail> {
     }
 }
 
-// The rule that fails of the label `s`, by the row's book.
+// The rule that fails of the label `s`, by a book that holds this nonce until the first moment.
 fn rule_of<L: Ledger>(
     alloc: Global,
     conf: &Conf,
-    row: Row,
+    message: &[u8],
+    held: &[u8; 1],
+    is_later: bool,
     steps: &mut Steps<L>,
 ) -> Result<Option<Rule>, Fail> {
-    let view = view_of(alloc, row.message)?;
+    let view = view_of(alloc, message)?;
     let context = Context::of_message(&view, conf.scheme(), conf.types());
     let mut book = NonceBook::open(alloc, 1, 300, CREATED)?;
-    let _ = book.record(b"test-shared-secret", row.held, CREATED, steps);
-    if row.is_later {
+    let _ = book.record(b"test-shared-secret", held, CREATED, steps);
+    if is_later {
         book.advance(CREATED + 1, steps);
     }
     let now = book.moment();
@@ -122,7 +168,15 @@ fn rows_hold<L: Ledger>(alloc: Global, blank: Blank) -> Result<bool, Fail>
     let mut steps: Steps<L> = Steps::new(blank);
     let conf = read_conf(alloc, CONF)?;
     for row in &ROWS {
-        if rule_of(alloc, &conf, *row, &mut steps)? != row.rule {
+        let rule = rule_of(
+            alloc,
+            &conf,
+            row.message,
+            row.held,
+            row.is_later,
+            &mut steps,
+        )?;
+        if rule != row.rule {
             return Ok(false);
         }
     }
