@@ -16,6 +16,3 @@ mod lines;
 pub use combined::Combined;
 pub use field::combined_pieces;
 pub use lines::count_lines;
-
-#[cfg(test)]
-mod tests;

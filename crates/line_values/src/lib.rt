@@ -21,6 +21,3 @@ pub use laws::value_laws;
 pub use name::is_named;
 pub use pieces::Pieces;
 pub use value::line_pieces;
-
-#[cfg(test)]
-mod tests;

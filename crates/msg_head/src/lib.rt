@@ -35,6 +35,3 @@ pub use line::{LineSpan, LineView};
 pub use start::Start;
 pub use trailer::{TrailerRead, TrailerView, read_trailer};
 pub use view::HeadView;
-
-#[cfg(test)]
-mod tests;
