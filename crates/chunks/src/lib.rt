@@ -28,6 +28,3 @@ pub use limits::{MAX_CONTENT_BYTES, MAX_EXTENSION_BYTES, MAX_SIZE_DIGITS};
 pub use pieces::ChunkPieces;
 pub use read::{ChunksRead, read_chunks};
 pub use view::{ChunkSpan, ChunksView};
-
-#[cfg(test)]
-mod tests;

@@ -27,6 +27,3 @@ pub use check::check_digest;
 pub use fault::DigestFault;
 pub use laws::digest_laws;
 pub use make::make_digest;
-
-#[cfg(test)]
-mod tests;

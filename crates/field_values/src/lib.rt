@@ -18,6 +18,3 @@ pub use combined::Combined;
 pub use field::{combined_pieces, line_pieces};
 pub use lines::count_lines;
 pub use text::combined_text;
-
-#[cfg(test)]
-mod tests;

@@ -28,6 +28,3 @@ pub use kind::{Framing, is_request};
 pub use laws::framing_laws;
 pub use limits::MAX_LENGTH_DIGITS;
 pub use read::{Framed, read_framing};
-
-#[cfg(test)]
-mod tests;

@@ -7,7 +7,7 @@
 //! ```text
 //! let bytes = b"POST / HTTP/1.1\r\nTransfer-Encoding: chunked\r\n\r\n3\r\nabc\r\n0\r\nA: b\r\n\r\n";
 //! match read_message(alloc, bytes, Expect::Request, false)? {
-//!     MessageRead::Whole(message, used) => { .. } // used is 67
+//!     MessageRead::Whole(message, used) => { .. } // used is 66
 //!     MessageRead::Partial => { .. }              // more bytes are wanted
 //! }
 //! for piece in message.content_pieces() { .. }    // b"abc"
@@ -33,6 +33,3 @@ pub use limits::MAX_MESSAGE_BYTES;
 pub use read::{MessageRead, read_message};
 pub use side_lines::SideLines;
 pub use view::MessageView;
-
-#[cfg(test)]
-mod tests;

@@ -42,6 +42,3 @@ pub use pieces::Pieces;
 pub use start::Start;
 pub use trailer::{TrailerRead, TrailerView, read_trailer};
 pub use view::HeadView;
-
-#[cfg(test)]
-mod tests;

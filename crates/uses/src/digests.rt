@@ -1,1 +1,155 @@
 // Tests of content_digest.
+
+use crate::heads::prints;
+use content_digest::{Algorithm, DigestFault, check_digest, make_digest};
+use msg_body::{Expect, MAX_MESSAGE_BYTES, MessageRead, MessageView, read_message};
+use std::alloc::Global;
+use std::test::Fail;
+
+// Requests with the content of RFC 9421 appendix B.2, `{"hello": "world"}`.
+const HELLO: &[u8] = b"POST / HTTP/1.1\r\nContent-Length: 18\r\n\r\n{\"hello\": \"world\"}";
+
+const CHUNKED: &[u8] = b"POST / HTTP/1.1\r\nTransfer-Encoding: chunked\r\n\r\n\
+    5\r\n{\"hel\r\nD;a=b\r\nlo\": \"world\"}\r\n0\r\nA: b\r\n\r\n";
+
+// The content of RFC 9530 section 2, whose last byte is LF.
+const WITH_LF: &[u8] = b"POST / HTTP/1.1\r\nContent-Length: 19\r\n\r\n{\"hello\": \"world\"}\n";
+
+// A request without content.
+const BARE: &[u8] = b"GET / HTTP/1.1\r\n\r\n";
+
+// A message, an algorithm, and the digest of the content by it.
+#[derive(Clone, Copy)]
+struct Made {
+    message: &'static [u8],
+    algorithm: Algorithm,
+    text: &'static [u8],
+}
+
+// RFC 9421 appendix B.2, RFC 9530 section 2 and appendix B.
+const MADE: [Made; 7] = [
+    Made {
+        message: HELLO,
+        algorithm: Algorithm::Sha256,
+        text: b"sha-256=:X48E9qOokqqrvdts8nOJRJN3OWDUoyWxBf7kbu9DBPE=:",
+    },
+    Made {
+        message: HELLO,
+        algorithm: Algorithm::Sha512,
+        text: b"sha-512=:WZDPaVn/7XgHaAy8pmojAkGWoRx2UFChF41A2svX+TaPm\
+            +AbwAgBWnrIiYllu7BNNyealdVLvRwEmTHWXvJwew==:",
+    },
+    Made {
+        message: CHUNKED,
+        algorithm: Algorithm::Sha256,
+        text: b"sha-256=:X48E9qOokqqrvdts8nOJRJN3OWDUoyWxBf7kbu9DBPE=:",
+    },
+    Made {
+        message: CHUNKED,
+        algorithm: Algorithm::Sha512,
+        text: b"sha-512=:WZDPaVn/7XgHaAy8pmojAkGWoRx2UFChF41A2svX+TaPm\
+            +AbwAgBWnrIiYllu7BNNyealdVLvRwEmTHWXvJwew==:",
+    },
+    Made {
+        message: WITH_LF,
+        algorithm: Algorithm::Sha256,
+        text: b"sha-256=:RK/0qy18MlBSVnWgjwz6lZEWjP/lF5HF9bvEF8FabDg=:",
+    },
+    Made {
+        message: WITH_LF,
+        algorithm: Algorithm::Sha512,
+        text: b"sha-512=:YMAam51Jz/jOATT6/zvHrLVgOYTGFy1d6GJiOHTohq4yP\
+            +pgk4vf2aCsyRZOtw8MjkM7iw7yZ/WkppmM44T3qg==:",
+    },
+    Made {
+        message: BARE,
+        algorithm: Algorithm::Sha256,
+        text: b"sha-256=:47DEQpj8HBSa+/TImW+5JCeuQeRkm5NMpJWZG3hSuFU=:",
+    },
+];
+
+// The message that the bytes are; None where they are none.
+fn view_of(alloc: Global, bytes: &[u8]) -> Option<MessageView<'_>> {
+    if bytes.len() > MAX_MESSAGE_BYTES {
+        return None;
+    }
+    match read_message(alloc, bytes, Expect::Any, false) {
+        Ok(MessageRead::Whole(view, _)) => Some(view),
+        Ok(MessageRead::Partial) => None,
+        Err(_) => None,
+    }
+}
+
+// Whether the digest is made, and agrees with the content.
+fn is_made(alloc: Global, row: &Made) -> bool {
+    let Some(view) = view_of(alloc, row.message) else {
+        return false;
+    };
+    let is_right = match make_digest(alloc, row.algorithm, &view) {
+        Ok(text) => text.bytes() == row.text,
+        Err(_) => false,
+    };
+    is_right && check_digest(alloc, row.text, &view).is_ok()
+}
+
+// The example of content_digest.
+#[test]
+fn digests_are_made_and_agree(rt: HostRuntime) {
+    for row in &MADE {
+        assert!(rt; is_made(rt.alloc(), row));
+    }
+}
+
+// Whether the fault has the three bytes that the text holds, and the digest of the content, which
+// begins with these bytes.
+fn is_mismatch(fault: &DigestFault, start: &[u8]) -> bool {
+    match fault {
+        DigestFault::Mismatch {
+            algorithm,
+            kept,
+            computed,
+        } => {
+            *algorithm == Algorithm::Sha256
+                && kept.bytes() == b"\0\0\0".as_slice()
+                && computed.bytes().len() == 32
+                && computed.bytes().starts_with(start)
+        }
+        _ => false,
+    }
+}
+
+// Digests, and what is printed of their fault.
+const FAULTS: [(&'static [u8], &'static str); 4] = [
+    (
+        b"sha-256=1",
+        "the digests are no Dictionary of Byte Sequences",
+    ),
+    (b"md5=:AAAA:", "no digest is by a known algorithm"),
+    (
+        b"sha-256=::",
+        "the sha-256 digest is not that of the content",
+    ),
+    (
+        b"sha-512=::",
+        "the sha-512 digest is not that of the content",
+    ),
+];
+
+// A verdict prints neither the two digests nor the fault's text.
+#[test]
+fn a_fault_has_both_digests_and_a_text(rt: HostRuntime) -> Result<(), Fail> {
+    let Some(view) = view_of(rt.alloc(), CHUNKED) else {
+        return Err("no message".into());
+    };
+    let Err(fault) = check_digest(rt.alloc(), b"sha-256=:AAAA:", &view) else {
+        return Err("no fault".into());
+    };
+    assert!(rt; is_mismatch(&fault, b"\x5f\x8f\x04\xf6\xa3\xa8\x92\xaa"));
+    for (text, line) in &FAULTS {
+        let Err(fault) = check_digest(rt.alloc(), *text, &view) else {
+            return Err("no fault".into());
+        };
+        assert!(rt; prints(rt.alloc(), &fault, *line));
+    }
+    Ok(())
+}
