@@ -385,7 +385,7 @@ const REFUSED_COMMANDS: [Refused; 15] = [
     },
 ];
 
-const REFUSED_INPUTS: [Refused; 13] = [
+const REFUSED_INPUTS: [Refused; 11] = [
     Refused {
         params: "()",
         input: &[b"GET  / HTTP/1.1\r\n\r\n"],
@@ -455,18 +455,6 @@ Date: Tue, 20 Apr 2021 02:07:55 GMT\r\nCont",
         status: Status::LimitPassed,
         cause: "input content 8388608",
     },
-    Refused {
-        params: "()",
-        input: &[REQUEST, LENGTH, INPUT, SIGNATURE, CONTENT, b"x"],
-        status: Status::BadInput,
-        cause: "input trailing 344",
-    },
-    Refused {
-        params: "(",
-        input: &[b""],
-        status: Status::BadInput,
-        cause: "input truncated 0",
-    },
 ];
 
 #[test]
@@ -485,7 +473,8 @@ fn refusals_of_inputs(rt: HostRuntime) -> Result<(), Fail> {
     Ok(())
 }
 
-// The verdicts on the labels of a message at a moment, by the key of the standard and a policy.
+// The verdicts on the labels of a message at a moment, by the key of the standard and a policy, or
+// why the message is refused.
 struct Verdicts {
     policy: &'static [u8],
     now: &'static str,
@@ -521,12 +510,14 @@ const END: &[u8] = b"\r\n";
 const CUT_SIGNATURE: &[u8] =
     b"Signature: sig-b25=:pxcQw6G3AjtMBQjwo8XzkZf/bws5LelbaMk5rGIGtA==:\r\n";
 
-// A label whose tag is wrong: the lines before and after its parameter `created`.
-const UNTRUE: &[u8] = b"GET / HTTP/1.1\r\nSignature: a=:AAAA:\r\nSignature-Input: a=();created=";
+// A label whose tag is wrong: the parts around its moment, and what comes after its key.
+const UNTRUE: &[u8] = b"GET / HTTP/1.1\r\nSignature-Input: a=();created=";
 
-const KEYID: &[u8] = b";keyid=\"test-shared-secret\"\r\n\r\n";
+const KEYID: &[u8] = b";keyid=\"test-shared-secret\"";
 
-const VERDICTS: [Verdicts; 15] = [
+const WRONG: &[u8] = b"\r\nSignature: a=:AAAA:\r\n\r\n";
+
+const VERDICTS: [Verdicts; 17] = [
     Verdicts {
         policy: b"",
         now: MOMENT,
@@ -579,42 +570,42 @@ const VERDICTS: [Verdicts; 15] = [
     Verdicts {
         policy: b"",
         now: "100",
-        message: &[UNTRUE, b"100;alg=\"ed25519\"", KEYID],
+        message: &[UNTRUE, b"100", KEYID, b";alg=\"ed25519\"", WRONG],
         status: Status::NotOk,
         lines: b"a rule 13 alg-refused ed25519\n",
     },
     Verdicts {
         policy: b"",
         now: "100",
-        message: &[UNTRUE, b"100;alg=\"x\"", KEYID],
+        message: &[UNTRUE, b"100", KEYID, b";alg=\"x\"", WRONG],
         status: Status::NotOk,
         lines: b"a rule 14 alg-unknown \"x\"\n",
     },
     Verdicts {
         policy: b"",
         now: "1000",
-        message: &[UNTRUE, b"1060", KEYID],
+        message: &[UNTRUE, b"1060", KEYID, WRONG],
         status: Status::NotOk,
         lines: b"a rule 32 mac-mismatch\n",
     },
     Verdicts {
         policy: b"",
         now: "1000",
-        message: &[UNTRUE, b"1061", KEYID],
+        message: &[UNTRUE, b"1061", KEYID, WRONG],
         status: Status::NotOk,
         lines: b"a rule 19 created-ahead\n",
     },
     Verdicts {
         policy: b"",
         now: "1000",
-        message: &[UNTRUE, b"700", KEYID],
+        message: &[UNTRUE, b"700", KEYID, WRONG],
         status: Status::NotOk,
         lines: b"a rule 32 mac-mismatch\n",
     },
     Verdicts {
         policy: b"",
         now: "1000",
-        message: &[UNTRUE, b"699", KEYID],
+        message: &[UNTRUE, b"699", KEYID, WRONG],
         status: Status::NotOk,
         lines: b"a rule 20 too-old\n",
     },
@@ -622,9 +613,10 @@ const VERDICTS: [Verdicts; 15] = [
         policy: b"",
         now: "100",
         message: &[
-            b"GET /?a=1&a=2 HTTP/1.1\r\nSignature: a=:AAAA:\r\n\
+            b"GET /?a=1&a=2 HTTP/1.1\r\n\
 Signature-Input: a=(\"@query-param\";name=\"a\");created=100",
             KEYID,
+            WRONG,
         ],
         status: Status::NotOk,
         lines: b"a rule 28 ambiguous \"@query-param\";name=\"a\"\n",
@@ -635,6 +627,20 @@ Signature-Input: a=(\"@query-param\";name=\"a\");created=100",
         message: &[BARE, INPUT, SIGNATURE, END],
         status: Status::NotOk,
         lines: b"sig-b25 rule 24 nonce-absent\n",
+    },
+    Verdicts {
+        policy: b"",
+        now: "1",
+        message: &[],
+        status: Status::BadInput,
+        lines: b"refused input truncated 0\n",
+    },
+    Verdicts {
+        policy: b"",
+        now: "1",
+        message: &[REQUEST, LENGTH, INPUT, SIGNATURE, CONTENT, b"x"],
+        status: Status::BadInput,
+        lines: b"refused input trailing 344\n",
     },
 ];
 
