@@ -19,10 +19,6 @@ use std::io::ErrorKind;
 use std::process::ExitCode;
 
 #[cfg(test)]
-mod message_tests;
-#[cfg(test)]
-mod policy_tests;
-#[cfg(test)]
 mod tests;
 
 /// The arguments of the process, the program's name among them.
