@@ -19,6 +19,8 @@ use std::io::ErrorKind;
 use std::process::ExitCode;
 
 #[cfg(test)]
+mod device_tests;
+#[cfg(test)]
 mod tests;
 
 /// The arguments of the process, the program's name among them.
