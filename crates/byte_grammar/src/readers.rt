@@ -71,6 +71,8 @@ pub fn read_run<C: ByteClass>(
     ensures left { IfErr result (λ e. (e.0 ≤ length bytes.now) × (length bytes.now < e.0 + least)) }
     ensures few { IfErr result (λ e. IsTrue
         (list_all (C.members class) (take (length bytes.now - e.0) bytes.now))) }
+    ensures stops { IfErr result (λ e. (length bytes.now ≡ e.0 + most)
+        ⊎ (starts_in (C.members class) (drop (length bytes.now - e.0) bytes.now) ≡ false)) }
 {
     let n = count(class, most, bytes);
     if n < least {

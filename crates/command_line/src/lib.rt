@@ -12,6 +12,3 @@ mod options;
 pub use command::{Command, after_name, read_words};
 pub use laws::arguments_have_one_command;
 pub use options::MAX_MOMENT_DIGITS;
-
-#[cfg(test)]
-mod tests;

@@ -5,9 +5,9 @@
 //! ```text
 //! let conf = read_configuration(alloc, Some("hms.toml"), &mut shelf)?;
 //! let message = read_input(alloc, input)?;
-//! let outcome = write_base(alloc, &conf, b"(\"date\")", &message)?;
+//! let outcome = write_base(alloc, &conf, b"(\"@authority\")", &message)?;
 //! outcome.status()             // Status::Done
-//! outcome.into_output(alloc)?  // the line of `date`, and that of the signature parameters
+//! outcome.into_output(alloc)?  // the line of `@authority`, and that of the signature parameters
 //! ```
 #![tactic(auto)]
 
@@ -27,6 +27,3 @@ pub use message::read_input;
 pub use outcome::Outcome;
 pub use stop::Stop;
 pub use verify::write_verdicts;
-
-#[cfg(test)]
-mod tests;

@@ -4,8 +4,6 @@
 //! // over `GET http://EXAMPLE.com:80?a=1 HTTP/1.1`
 //! derived_value(alloc, &message, Scheme::Https, &authority)? // example.com
 //! derived_value(alloc, &message, Scheme::Https, &status)     // Err(NoValue::Lacks(..))
-//! // over the lines `Via: 1.1 a` and `Via: 1.1 b`
-//! combined_text(alloc, &message, Side::Header, b"via")?      // 1.1 a, 1.1 b
 //! ```
 #![tactic(auto)]
 

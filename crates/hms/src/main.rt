@@ -19,9 +19,7 @@ use std::io::ErrorKind;
 use std::process::ExitCode;
 
 #[cfg(test)]
-mod message_tests;
-#[cfg(test)]
-mod policy_tests;
+mod device_tests;
 #[cfg(test)]
 mod tests;
 

@@ -1,49 +1,17 @@
+// The program over devices in memory. What a user sees beside this is a case of cases/.
+
 use crate::run::run;
 use hms_io::{MemShelf, MemSink, MemSource, Status};
 use sfv_text::{Memory, Text};
-use std::alloc::{AllocError, AllocGlobal, Global};
-use std::process::Abort;
+use std::alloc::{AllocError, Global};
 use std::test::Fail;
 
-fn arguments_of(alloc: Global, words: &[&str]) -> Result<Vec<String>, AllocError> {
+pub fn arguments_of(alloc: Global, words: &[&str]) -> Result<Vec<String>, AllocError> {
     let mut all = Vec::new(alloc);
     for word in words {
         all.push(String::from_str(alloc, *word)?)?;
     }
     Ok(all)
-}
-
-// Runs the words over this shelf, source and sink.
-fn status_of(
-    alloc: Global,
-    words: &[&str],
-    shelf: &mut MemShelf,
-    source: &mut MemSource,
-    sink: &mut MemSink,
-) -> Result<Status, Memory> {
-    let arguments = arguments_of(alloc, words)?;
-    Ok(run(alloc, arguments.as_slice(), shelf, source, sink))
-}
-
-// Runs the words over a shelf whose file `c` is the configuration, and compares what came out. The
-// input comes in pieces, longer ones of a long input, and the output goes in pieces.
-pub fn assert_run(
-    rt: &(impl Abort + AllocGlobal),
-    words: &[&str],
-    conf: &[u8],
-    input: &[u8],
-    status: Status,
-    output: &[u8],
-) -> Result<(), Fail> {
-    let alloc = rt.alloc();
-    let mut shelf = MemShelf::new(alloc, &[])?;
-    shelf.put("c", conf)?;
-    let mut source = MemSource::new(alloc, input, 50 + input.len() / 1_000, &[])?;
-    let mut sink = MemSink::new(alloc, 100_000, 7, &[])?;
-    let ended = status_of(alloc, words, &mut shelf, &mut source, &mut sink)?;
-    assert_eq!(rt; sink.taken(), output, "at {words:?}");
-    assert_eq!(rt; ended, status, "at {words:?}");
-    Ok(())
 }
 
 // The texts one after another.
@@ -55,250 +23,64 @@ pub fn joined(alloc: Global, texts: &[&[u8]]) -> Result<Text, Memory> {
     Ok(all)
 }
 
-// The text between others.
-pub fn between(alloc: Global, before: &[u8], text: &[u8], after: &[u8]) -> Result<Text, Memory> {
-    joined(alloc, &[before, text, after])
-}
-
-// PARAMS are refused over the message by the line of this cause.
-pub fn assert_refused(
-    rt: &(impl Abort + AllocGlobal),
-    input: &[u8],
-    params: &str,
-    cause: &[u8],
-) -> Result<(), Fail> {
-    let line = between(rt.alloc(), b"refused command ", cause, b"\n")?;
-    let words = ["base", params];
-    assert_run(rt, &words, b"", input, Status::BadInput, line.bytes())
-}
-
-// The input is refused by the line of this cause, whatever PARAMS are: it is judged first.
-pub fn assert_input_refused(
-    rt: &(impl Abort + AllocGlobal),
-    input: &[u8],
-    status: Status,
-    cause: &[u8],
-) -> Result<(), Fail> {
-    let line = between(rt.alloc(), b"refused input ", cause, b"\n")?;
-    assert_run(rt, &["base", "("], b"", input, status, line.bytes())
-}
-
-// Each component has the value under the configuration.
-pub fn assert_values(
-    rt: &(impl Abort + AllocGlobal),
+// Whether the words come to the status and the output, over a shelf whose file `c` is the
+// configuration. Input and output are the parts one after another, and go in pieces of other sizes.
+pub fn comes_to(
+    alloc: Global,
+    words: &[&str],
     conf: &[u8],
-    input: &[u8],
-    values: &[(&str, &[u8])],
-) -> Result<(), Fail> {
-    let alloc = rt.alloc();
-    for (id, value) in values {
-        let params = format!(in alloc; "({id})")?;
-        let line = between(alloc, id.as_bytes(), b": ", *value)?;
-        let text = format!(in alloc; "\n\"@signature-params\": {params}")?;
-        let base = between(alloc, line.bytes(), text.as_bytes(), b"")?;
-        let words = ["base", params.as_str(), "--conf", "c"];
-        assert_run(rt, &words, conf, input, Status::Done, base.bytes())?;
-    }
-    Ok(())
-}
-
-const FIELDS: &[u8] = b"GET http://EXAMPLE.com:80?x=1+2 HTTP/1.1\r\n\
-Cache-Control: max-age=60\r\n\
-Host: other\r\n\
-X-Obs-Fold: Obsolete\r\n    line folding.\r\n\
-cache-control:\t   must-revalidate \t\r\n\
-Example-Dict: a=1, d\r\n\
-X-B: value, with, lots\r\n\
-X-B: of, commas\r\n\
-X-E:\r\n\
-X-E:\r\n\
-X: \xC3\xA9\r\n\
-Accept-Signature:  a=(),   b=1.50\r\n\r\n";
-
-#[test]
-fn values_of_components(rt: HostRuntime) -> Result<(), Fail> {
-    let both_lines = b":dmFsdWUsIHdpdGgsIGxvdHM=:, :b2YsIGNvbW1hcw==:";
-    let joined = b"max-age=60, must-revalidate".as_slice();
-    let values = [
-        (r#""cache-control""#, joined),
-        (r#""x-obs-fold""#, b"Obsolete line folding."),
-        (r#""example-dict";key="d""#, b"?1"),
-        (r#""x-b";bs"#, both_lines),
-        (r#""x-e""#, b", "),
-        (r#""x";bs"#, b":w6k=:"),
-        (r#""accept-signature";sf"#, b"a=(), b=1.5"),
-        (r#""@method""#, b"GET"),
-        (r#""@authority""#, b"example.com"),
-        (r#""@scheme""#, b"http"),
-        (r#""@path""#, b"/"),
-        (r#""@query""#, b"?x=1+2"),
-        (r#""@target-uri""#, b"http://example.com/?x=1+2"),
-        (r#""@request-target""#, b"http://EXAMPLE.com:80?x=1+2"),
-        (r#""@query-param";name="x""#, b"1%202"),
-    ];
-    assert_values(&rt, b"", FIELDS, &values)
-}
-
-const ORIGIN: &[u8] = b"POST /?a=1&a=2 HTTP/1.1\r\n\
-Host: EXAMPLE.com:443\r\n\
-Example-Dict:  a=1,    b=2;x=1;y=2,   c=(a   b   c)\r\n\
-X-List: a , b;q=1.50\r\n\
-X-Item: \"hi\";  q=?1\r\n\r\n";
-
-// The key of RFC 9421 appendix B.1.5, and three structured fields.
-pub const CONF: &[u8] = b"[keys]\n\
-\"test-shared-secret\" = \"uzvJfB4u3N0Jy4T7NZ75MDVcr8zSTInedJtkgcu46YW4XByzNJjxBdtjUkdJPBtbmHhI\
-Di6pcl8jsasjlTMtDQ==\"\n\
-[types]\n\
-example-dict = \"dictionary\"\n\
-x-list = \"list\"\n\
-x-item = \"item\"\n";
-
-#[test]
-fn values_by_a_configuration(rt: HostRuntime) -> Result<(), Fail> {
-    let alloc = rt.alloc();
-    let plain = b"a=1,    b=2;x=1;y=2,   c=(a   b   c)".as_slice();
-    let values = [
-        (r#""example-dict""#, plain),
-        (r#""example-dict";sf"#, b"a=1, b=2;x=1;y=2, c=(a b c)"),
-        (r#""x-list";sf"#, b"a, b;q=1.5"),
-        (r#""x-item";sf"#, br#""hi";q"#),
-        (r#""@authority""#, b"example.com"),
-        (r#""@target-uri""#, b"https://example.com/?a=1&a=2"),
-    ];
-    assert_values(&rt, CONF, ORIGIN, &values)?;
-    let authority = r#""@authority""#;
-    let http = b"scheme = \"http\"";
-    let values = [(authority, b"example.com:443".as_slice())];
-    assert_values(&rt, http, ORIGIN, &values)?;
-    let port = b"GET / HTTP/1.1\r\nHost: example.com:080\r\n\r\n";
-    let values = [(authority, b"example.com:080".as_slice())];
-    assert_values(&rt, http, port, &values)
-}
-
-#[test]
-fn components_that_lack_a_value(rt: HostRuntime) -> Result<(), Fail> {
-    let alloc = rt.alloc();
-    let lacks = [
-        (r#"("x-b";tr)"#, br#"absent "x-b";tr"#.as_slice()),
-        (
-            r#"("example-dict";key="e")"#,
-            br#"absent "example-dict";key="e""#,
-        ),
-        (r#"("x-e" "x" "y")"#, br#"not-ascii "x""#),
-        (r#"("x-b";sf)"#, br#"unreadable "x-b";sf"#),
-        (r#"("x-b" "x-c");created=1"#, br#"absent "x-c""#),
-        (r#"("@status")"#, br#"underivable "@status""#),
-        (r#"("x-b";req)"#, br#"underivable "x-b";req"#),
-    ];
-    for (params, cause) in &lacks {
-        assert_refused(&rt, FIELDS, *params, *cause)?;
-    }
-    let twice = r#"("@query-param";name="a")"#;
-    let cause = br#"ambiguous "@query-param";name="a""#;
-    assert_refused(&rt, ORIGIN, twice, cause)?;
-    let user = b"GET / HTTP/1.1\r\nHost: u@example.com\r\n\r\n";
-    let cause = br#"underivable "@authority""#;
-    assert_refused(&rt, user, r#"("@authority")"#, cause)
+    input: &[&[u8]],
+    status: Status,
+    output: &[&[u8]],
+) -> Result<bool, Memory> {
+    let input = joined(alloc, input)?;
+    let output = joined(alloc, output)?;
+    let arguments = arguments_of(alloc, words)?;
+    let mut shelf = MemShelf::new(alloc, &[])?;
+    shelf.put("c", conf)?;
+    let mut source = MemSource::new(alloc, input.bytes(), 50 + input.bytes().len() / 1_000, &[])?;
+    let mut sink = MemSink::new(alloc, 100_000, 7, &[])?;
+    let ended = run(
+        alloc,
+        arguments.as_slice(),
+        &mut shelf,
+        &mut source,
+        &mut sink,
+    );
+    Ok(ended == status && sink.taken() == output.bytes())
 }
 
 const DATED: &[u8] = b"GET / HTTP/1.1\r\nDate: Tue, 20 Apr 2021 02:07:55 GMT\r\n\r\n";
 
-#[test]
-fn last_line_is_the_strict_text(rt: HostRuntime) -> Result<(), Fail> {
-    let alloc = rt.alloc();
-    let texts = [
-        ("()", b"()".as_slice()),
-        ("();created=1", b"();created=1"),
-        (" (   );a;  b=?0;c=1.50;a=:YQ: ", b"();a=:YQ==:;b=?0;c=1.5"),
-    ];
-    for (params, strict) in &texts {
-        let base = between(alloc, b"\"@signature-params\": ", *strict, b"")?;
-        let words = ["base", *params];
-        assert_run(&rt, &words, b"", DATED, Status::Done, base.bytes())?;
-    }
-    Ok(())
-}
+const FIELDS: &[u8] = b"GET / HTTP/1.1\r\n\
+Cache-Control: max-age=60\r\n\
+X-Obs-Fold-Header: Obsolete\r\n    line folding.\r\n\
+Cache-Control:    must-revalidate\r\n\
+Example-Dict: a=1, d\r\n\
+X-B: value, with, lots\r\n\
+X-B: of, commas\r\n\
+X: \xC3\xA9\r\n\
+Accept-Signature:  a=(),   b=1.50\r\n\r\n";
 
-#[test]
-fn covered_components_are_refused_by_their_cause(rt: HostRuntime) -> Result<(), Fail> {
-    let causes = [
-        ("(", b"params-syntax 1".as_slice()),
-        (r#"("date")x"#, b"params-syntax 8"),
-        ("(@1)", b"params-kind 1"),
-        ("();a=%", b"params-kind 5"),
-        ("(date)", b"component-bad 0 not-a-string"),
-        (r#"("date" "Date")"#, b"component-bad 1 name"),
-        (r#"("date";name="a")"#, b"component-bad 0 parameter-unknown"),
-        (r#"("date";sf=1)"#, b"component-bad 0 parameter-type"),
-        (r#"("date";sf;bs)"#, b"component-bad 0 parameters-clash"),
-        (r#"("@query-param")"#, b"component-bad 0 name-missing"),
-        (r#"("a";sf;tr "a";tr;sf)"#, b"component-repeated 1"),
-        (r#"("a");expires=1.5;created="1""#, b"parameter-bad expires"),
-    ];
-    for (params, cause) in &causes {
-        assert_refused(&rt, DATED, *params, *cause)?;
-    }
-    Ok(())
-}
+const STRUCTURED: &[u8] = b"GET / HTTP/1.1\r\n\
+Example-Dict:  a=1,    b=2;x=1;y=2,   c=(a   b   c)\r\n\
+X-List: a , b;q=1.50\r\n\
+X-Item: \"hi\";  q=?1\r\n\r\n";
 
-#[test]
-fn inputs_that_are_no_message(rt: HostRuntime) -> Result<(), Fail> {
-    let causes = [
-        (b"".as_slice(), b"truncated 0".as_slice()),
-        (b"GET / HTTP/1.1\r\n\r\nx", b"trailing 18"),
-        (b"GET  / HTTP/1.1\r\n\r\n", b"start-line"),
-        (b"GET / HTTP/1.1\r\nA: b\0\r\n\r\n", b"naked-end 20"),
-        (b"GET / HTTP/1.1\r\nA: b\r\nC\r\n\r\n", b"head-line 1"),
-    ];
-    for (input, cause) in &causes {
-        assert_input_refused(&rt, *input, Status::BadInput, *cause)?;
-    }
-    Ok(())
-}
+const PAIRS: &[u8] = b"GET /parameters?var=this%20is%20a%20big%0Amultiline%20value\
+&bar=with+plus+whitespace&fa%C3%A7ade%22%3A%20=something HTTP/1.1\r\n\r\n";
 
-#[test]
-fn longest_head_and_one_byte_more(rt: HostRuntime) -> Result<(), Fail> {
-    let alloc = rt.alloc();
-    let letters = vec![in alloc; b'a'; 65_514]?;
-    let start = b"GET / HTTP/1.1\r\nX:";
-    let longest = between(alloc, start, letters.as_slice(), b"\r\n\r\n")?;
-    let longer = between(alloc, start, letters.as_slice(), b"a\r\n\r\n")?;
-    assert_eq!(rt; longest.bytes().len(), 65_536);
-    let values = [(r#""x""#, letters.as_slice())];
-    assert_values(&rt, b"", longest.bytes(), &values)?;
-    let cause = b"head-bytes 65536";
-    assert_input_refused(&rt, longer.bytes(), Status::LimitPassed, cause)
-}
+const PORT: &[u8] = b"GET / HTTP/1.1\r\nHost: EXAMPLE.com:443\r\n\r\n";
 
-#[test]
-fn most_field_lines_and_one_more(rt: HostRuntime) -> Result<(), Fail> {
-    let alloc = rt.alloc();
-    let mut lines = Vec::new(alloc);
-    for _ in 0..255 {
-        lines.extend_from_slice(b"a:\r\n")?;
-    }
-    let start = b"GET / HTTP/1.1\r\n";
-    let most = between(alloc, start, lines.as_slice(), b"b:1\r\n\r\n")?;
-    let more = between(alloc, start, lines.as_slice(), b"b:1\r\na:\r\n\r\n")?;
-    let values = [(r#""b""#, b"1".as_slice())];
-    assert_values(&rt, b"", most.bytes(), &values)?;
-    let cause = b"head-lines 256";
-    assert_input_refused(&rt, more.bytes(), Status::LimitPassed, cause)
-}
+const ABSOLUTE: &[u8] = b"GET http://EXAMPLE.com HTTP/1.1\r\nHost: other\r\n\r\n";
 
-#[test]
-fn input_past_its_limit(rt: HostRuntime) -> Result<(), Fail> {
-    let alloc = rt.alloc();
-    let mut input = vec![in alloc; b'a'; 16_777_216]?;
-    let cause = b"head-bytes 65536";
-    assert_input_refused(&rt, input.as_slice(), Status::LimitPassed, cause)?;
-    input.push(b'a')?;
-    let cause = b"bytes 16777216";
-    assert_input_refused(&rt, input.as_slice(), Status::LimitPassed, cause)
-}
+const ASTERISK: &[u8] = b"OPTIONS * HTTP/1.1\r\nHost: h\r\n\r\n";
 
-pub const VERIFY: [&str; 5] = ["verify", "--conf", "c", "--now", "1618884473"];
+const NO_CONTENT: &[u8] = b"HTTP/1.1 204\r\n\r\n";
+
+const CHUNKED: &[u8] = b"POST / HTTP/1.1\r\nTransfer-Encoding: chunked\r\n\r\n";
+
+const TRAILER: &[u8] = b"0\r\nX-T: v\r\n\r\n";
 
 // The request of RFC 9421 appendix B.2 without its Content-Digest: lines, its length, the rest.
 pub const REQUEST: &[u8] = b"POST /foo?param=Value&Pet=dog HTTP/1.1\r\n\
@@ -317,132 +99,627 @@ pub const INPUT: &[u8] = b"Signature-Input: sig-b25=(\"date\" \"@authority\" \"c
 pub const SIGNATURE: &[u8] =
     b"Signature: sig-b25=:pxcQw6G3AjtMBQjwo8XzkZf/bws5LelbaMk5rGIGtE8=:\r\n";
 
+// The key of RFC 9421 appendix B.1.5, and three structured fields.
+pub const CONF: &[u8] = b"[keys]\n\
+\"test-shared-secret\" = \"uzvJfB4u3N0Jy4T7NZ75MDVcr8zSTInedJtkgcu46YW4XByzNJjxBdtjUkdJPBtbmHhI\
+Di6pcl8jsasjlTMtDQ==\"\n\
+[types]\n\
+example-dict = \"dictionary\"\n\
+x-list = \"list\"\n\
+x-item = \"item\"\n";
+
+const HTTP: &[u8] = b"scheme = \"http\"";
+
+// The signature base of a message: the lines of its components. PARAMS are in strict text.
+struct Base {
+    message: &'static [&'static [u8]],
+    conf: &'static [u8],
+    params: &'static str,
+    lines: &'static [u8],
+}
+
+fn has_base(alloc: Global, base: &Base) -> Result<bool, Memory> {
+    let output = [
+        base.lines,
+        b"\"@signature-params\": ",
+        base.params.as_bytes(),
+    ];
+    let words = ["base", base.params, "--conf", "c"];
+    comes_to(
+        alloc,
+        &words,
+        base.conf,
+        base.message,
+        Status::Done,
+        &output,
+    )
+}
+
+const BASES: [Base; 18] = [
+    Base {
+        message: &[DATED],
+        conf: b"",
+        params: r#"("date")"#,
+        lines: b"\"date\": Tue, 20 Apr 2021 02:07:55 GMT\n",
+    },
+    Base {
+        message: &[DATED],
+        conf: b"",
+        params: r#"("date");created=1"#,
+        lines: b"\"date\": Tue, 20 Apr 2021 02:07:55 GMT\n",
+    },
+    Base {
+        message: &[DATED],
+        conf: b"",
+        params: "()",
+        lines: b"",
+    },
+    Base {
+        message: &[REQUEST, LENGTH, CONTENT],
+        conf: b"",
+        params: r#"("date" "@authority")"#,
+        lines: b"\"date\": Tue, 20 Apr 2021 02:07:55 GMT\n\"@authority\": example.com\n",
+    },
+    Base {
+        message: &[FIELDS],
+        conf: b"",
+        params: r#"("cache-control" "x-obs-fold-header" "example-dict";key="d")"#,
+        lines: br#""cache-control": max-age=60, must-revalidate
+"x-obs-fold-header": Obsolete line folding.
+"example-dict";key="d": ?1
+"#,
+    },
+    Base {
+        message: &[FIELDS],
+        conf: b"",
+        params: r#"("x-b";bs "x";bs "accept-signature";sf)"#,
+        lines: br#""x-b";bs: :dmFsdWUsIHdpdGgsIGxvdHM=:, :b2YsIGNvbW1hcw==:
+"x";bs: :w6k=:
+"accept-signature";sf: a=(), b=1.5
+"#,
+    },
+    Base {
+        message: &[STRUCTURED],
+        conf: CONF,
+        params: r#"("example-dict" "example-dict";sf "x-list";sf "x-item";sf)"#,
+        lines: br#""example-dict": a=1,    b=2;x=1;y=2,   c=(a   b   c)
+"example-dict";sf: a=1, b=2;x=1;y=2, c=(a b c)
+"x-list";sf: a, b;q=1.5
+"x-item";sf: "hi";q
+"#,
+    },
+    Base {
+        message: &[PAIRS],
+        conf: b"",
+        params: r#"("@query-param";name="var" "@query-param";name="bar")"#,
+        lines: br#""@query-param";name="var": this%20is%20a%20big%0Amultiline%20value
+"@query-param";name="bar": with%20plus%20whitespace
+"#,
+    },
+    Base {
+        message: &[PAIRS],
+        conf: b"",
+        params: r#"("@query-param";name="fa%C3%A7ade%22%3A%20")"#,
+        lines: br#""@query-param";name="fa%C3%A7ade%22%3A%20": something
+"#,
+    },
+    Base {
+        message: &[PORT],
+        conf: b"",
+        params: r#"("@authority")"#,
+        lines: b"\"@authority\": example.com\n",
+    },
+    Base {
+        message: &[PORT],
+        conf: HTTP,
+        params: r#"("@authority")"#,
+        lines: b"\"@authority\": example.com:443\n",
+    },
+    Base {
+        message: &[b"GET / HTTP/1.1\r\nHost: example.com:080\r\n\r\n"],
+        conf: HTTP,
+        params: r#"("@authority")"#,
+        lines: b"\"@authority\": example.com:080\n",
+    },
+    Base {
+        message: &[b"GET /p HTTP/1.1\r\nHost: h\r\n\r\n"],
+        conf: b"",
+        params: r#"("@query" "@target-uri")"#,
+        lines: b"\"@query\": ?\n\"@target-uri\": https://h/p\n",
+    },
+    Base {
+        message: &[b"GET /p? HTTP/1.1\r\nHost: h\r\n\r\n"],
+        conf: b"",
+        params: r#"("@query" "@target-uri")"#,
+        lines: b"\"@query\": ?\n\"@target-uri\": https://h/p?\n",
+    },
+    Base {
+        message: &[ABSOLUTE],
+        conf: b"",
+        params: r#"("@authority" "@scheme" "@path" "@query" "@target-uri" "@request-target")"#,
+        lines: br#""@authority": example.com
+"@scheme": http
+"@path": /
+"@query": ?
+"@target-uri": http://example.com/
+"@request-target": http://EXAMPLE.com
+"#,
+    },
+    Base {
+        message: &[ASTERISK],
+        conf: b"",
+        params: r#"("@authority")"#,
+        lines: b"\"@authority\": h\n",
+    },
+    Base {
+        message: &[NO_CONTENT],
+        conf: b"",
+        params: r#"("@status")"#,
+        lines: b"\"@status\": 204\n",
+    },
+    Base {
+        message: &[CHUNKED, TRAILER],
+        conf: b"",
+        params: r#"("x-t";tr)"#,
+        lines: b"\"x-t\";tr: v\n",
+    },
+];
+
 #[test]
-fn signature_of_the_standard_is_accepted(rt: HostRuntime) -> Result<(), Fail> {
-    let signed = joined(rt.alloc(), &[REQUEST, LENGTH, INPUT, SIGNATURE, CONTENT])?;
-    let input = signed.bytes();
-    assert_eq!(rt; input.len(), 344);
-    assert_run(&rt, &VERIFY, CONF, input, Status::Done, b"sig-b25 ok\n")?;
-    let other = ["verify", "--now", "0", "--label", "z", "--conf", "c"];
-    let line = b"z rule 5 label-not-in-input\n";
-    assert_run(&rt, &other, CONF, input, Status::NotOk, line)
+fn signature_bases(rt: HostRuntime) -> Result<(), Fail> {
+    for base in &BASES {
+        assert!(rt; has_base(rt.alloc(), base)?, "at {}", base.params);
+    }
+    Ok(())
 }
 
-// The message of these parts is answered by the lines, not all of them `ok`.
-fn assert_not_ok(
-    rt: &(impl Abort + AllocGlobal),
-    parts: &[&[u8]],
-    lines: &[u8],
-) -> Result<(), Fail> {
-    let text = joined(rt.alloc(), parts)?;
-    assert_run(rt, &VERIFY, CONF, text.bytes(), Status::NotOk, lines)
-}
-
-#[test]
-fn signatures_that_are_not_ok(rt: HostRuntime) -> Result<(), Fail> {
-    let cut = b"Signature: sig-b25=:pxcQw6G3AjtMBQjwo8XzkZf/bws5LelbaMk5rGIGtA==:\r\n";
-    let parts = [REQUEST, LENGTH, INPUT, cut, CONTENT];
-    assert_not_ok(&rt, &parts, b"sig-b25 rule 32 mac-mismatch\n")?;
-    let parts = [REQUEST, LENGTH, INPUT, CONTENT];
-    assert_not_ok(&rt, &parts, b"sig-b25 rule 3 signature-absent\n")?;
-    assert_not_ok(&rt, &[REQUEST, LENGTH, CONTENT], b"- rule 1 input-absent\n")?;
-    let twice = b"Signature-Input: z=()\r\n\
-Signature: sig-b25=:pxcQw6G3AjtMBQjwo8XzkZf/bws5LelbaMk5rGIGtE8=:\r\n";
-    let lines = b"sig-b25 ok\nz rule 6 label-not-in-signature\n";
-    assert_not_ok(&rt, &[REQUEST, LENGTH, INPUT, twice, CONTENT], lines)
-}
-
-#[test]
-fn labels_are_told_by_their_first_failing_rule(rt: HostRuntime) -> Result<(), Fail> {
-    let start = b"GET / HTTP/1.1\r\nSignature: a=:AAAA:, b=:AA==:, c=:AA==:, d=:AA==:\r\n";
-    let fields = b"Signature-Input: a=();keyid=\"test-shared-secret\";alg=\"ed25519\"\r\n";
-    let end = b"\r\n".as_slice();
-    let line = b"a rule 13 alg-refused ed25519\n";
-    assert_not_ok(&rt, &[start, fields, end], line)?;
-    let fields = b"Signature-Input: a=();keyid=\"test-shared-secret\";alg=\"x\"\r\n";
-    let line = b"a rule 14 alg-unknown \"x\"\n";
-    assert_not_ok(&rt, &[start, fields, end], line)?;
-    let fields = b"Signature-Input: \
-d=(\"x\");created=1618884473;keyid=\"test-shared-secret\", c=(\"X\"), \
-b=(\"x\" \"x\"), a=();tag=1\r\n";
-    let lines = b"d rule 27 absent \"x\"\n\
-c rule 10 component-bad 0 name\n\
-b rule 11 component-repeated 1\n\
-a rule 12 parameter-bad tag\n";
-    assert_not_ok(&rt, &[start, fields, end], lines)?;
-    assert_not_ok(&rt, &[start, end], b"- rule 1 input-absent\n")
-}
-
-// The words are refused over this configuration, and no input, by the line of this cause.
-fn assert_conf_refused(
-    rt: &(impl Abort + AllocGlobal),
-    words: &[&str],
-    conf: &[u8],
+// Why `base` is refused, over no configuration.
+struct Refused {
+    params: &'static str,
+    input: &'static [&'static [u8]],
     status: Status,
-    cause: &[u8],
-) -> Result<(), Fail> {
-    let line = between(rt.alloc(), b"refused ", cause, b"\n")?;
-    assert_run(rt, words, conf, b"", status, line.bytes())
+    cause: &'static str,
 }
+
+fn is_refused(alloc: Global, row: &Refused) -> Result<bool, Memory> {
+    let output = [b"refused ".as_slice(), row.cause.as_bytes(), b"\n"];
+    comes_to(
+        alloc,
+        &["base", row.params],
+        b"",
+        row.input,
+        row.status,
+        &output,
+    )
+}
+
+const REFUSED_COMMANDS: [Refused; 15] = [
+    Refused {
+        params: r#"("x")"#,
+        input: &[DATED],
+        status: Status::BadInput,
+        cause: r#"command absent "x""#,
+    },
+    Refused {
+        params: "(@1)",
+        input: &[DATED],
+        status: Status::BadInput,
+        cause: "command params-kind 1",
+    },
+    Refused {
+        params: "(",
+        input: &[DATED],
+        status: Status::BadInput,
+        cause: "command params-syntax 1",
+    },
+    Refused {
+        params: r#"("a";sf;tr "a";tr;sf)"#,
+        input: &[DATED],
+        status: Status::BadInput,
+        cause: "command component-repeated 1",
+    },
+    Refused {
+        params: r#"("date";sf)"#,
+        input: &[DATED],
+        status: Status::BadInput,
+        cause: r#"command unreadable "date";sf"#,
+    },
+    Refused {
+        params: r#"("date";req)"#,
+        input: &[DATED],
+        status: Status::BadInput,
+        cause: r#"command underivable "date";req"#,
+    },
+    Refused {
+        params: r#"("@authority")"#,
+        input: &[DATED],
+        status: Status::BadInput,
+        cause: r#"command absent "@authority""#,
+    },
+    Refused {
+        params: r#"("@authority")"#,
+        input: &[b"GET / HTTP/1.1\r\nHost: h\r\nHost: h\r\n\r\n"],
+        status: Status::BadInput,
+        cause: r#"command ambiguous "@authority""#,
+    },
+    Refused {
+        params: r#"("@authority")"#,
+        input: &[b"GET / HTTP/1.1\r\nHost: u@example.com\r\n\r\n"],
+        status: Status::BadInput,
+        cause: r#"command underivable "@authority""#,
+    },
+    Refused {
+        params: r#"("@path")"#,
+        input: &[ASTERISK],
+        status: Status::BadInput,
+        cause: r#"command underivable "@path""#,
+    },
+    Refused {
+        params: r#"("@query-param";name="a")"#,
+        input: &[b"GET /?a=1&a=2 HTTP/1.1\r\n\r\n"],
+        status: Status::BadInput,
+        cause: r#"command ambiguous "@query-param";name="a""#,
+    },
+    Refused {
+        params: r#"("example-dict";key="e")"#,
+        input: &[FIELDS],
+        status: Status::BadInput,
+        cause: r#"command absent "example-dict";key="e""#,
+    },
+    Refused {
+        params: r#"("x")"#,
+        input: &[FIELDS],
+        status: Status::BadInput,
+        cause: r#"command not-ascii "x""#,
+    },
+    Refused {
+        params: r#"("@status" "@method")"#,
+        input: &[NO_CONTENT],
+        status: Status::BadInput,
+        cause: r#"command underivable "@method""#,
+    },
+    Refused {
+        params: r#"("x-t")"#,
+        input: &[CHUNKED, TRAILER],
+        status: Status::BadInput,
+        cause: r#"command absent "x-t""#,
+    },
+];
+
+const REFUSED_INPUTS: [Refused; 11] = [
+    Refused {
+        params: "()",
+        input: &[b"GET  / HTTP/1.1\r\n\r\n"],
+        status: Status::BadInput,
+        cause: "input start-line",
+    },
+    Refused {
+        params: "()",
+        input: &[b"GET / HTTP/1.1\r\nA : b\r\n\r\n"],
+        status: Status::BadInput,
+        cause: "input head-line 0",
+    },
+    Refused {
+        params: "()",
+        input: &[b"GET / HTTP/1.1\nA: b\r\n\r\n"],
+        status: Status::BadInput,
+        cause: "input naked-end 14",
+    },
+    Refused {
+        params: "()",
+        input: &[
+            b"POST /foo?param=Value&Pet=dog HTTP/1.1\r\nHost: example.com\r\n\
+Date: Tue, 20 Apr 2021 02:07:55 GMT\r\nCont",
+        ],
+        status: Status::BadInput,
+        cause: "input truncated 100",
+    },
+    Refused {
+        params: "()",
+        input: &[REQUEST, LENGTH, b"\r\n{\"hello\": "],
+        status: Status::BadInput,
+        cause: "input truncated 160",
+    },
+    Refused {
+        params: "()",
+        input: &[REQUEST, b"Content-Length: 18, 18\r\n", CONTENT],
+        status: Status::BadInput,
+        cause: "input length",
+    },
+    Refused {
+        params: "()",
+        input: &[REQUEST, b"Transfer-Encoding: gzip\r\n", CONTENT],
+        status: Status::BadInput,
+        cause: "input coding",
+    },
+    Refused {
+        params: "()",
+        input: &[REQUEST, LENGTH, b"Transfer-Encoding: chunked\r\n", CONTENT],
+        status: Status::BadInput,
+        cause: "input framing",
+    },
+    Refused {
+        params: "()",
+        input: &[CHUNKED, b"G\r\n"],
+        status: Status::BadInput,
+        cause: "input chunk 47",
+    },
+    Refused {
+        params: "()",
+        input: &[CHUNKED, b"00000000000000000\r\n"],
+        status: Status::BadInput,
+        cause: "input chunk 63",
+    },
+    Refused {
+        params: "()",
+        input: &[CHUNKED, b"800001\r\n"],
+        status: Status::LimitPassed,
+        cause: "input content 8388608",
+    },
+];
 
 #[test]
-fn refusals_are_judged_in_their_order(rt: HostRuntime) -> Result<(), Fail> {
-    let bad = b"keys = 1";
-    let twice = ["verify", "--conf", "c", "--now", "1", "--now", "2"];
-    assert_conf_refused(&rt, &twice, bad, Status::BadArguments, b"words")?;
-    let other = ["verify", "--conf", "d", "--now", "1"];
-    assert_conf_refused(&rt, &other, bad, Status::FileMissing, b"conf missing")?;
-    let cause = b"conf 4 keys";
-    assert_conf_refused(&rt, &VERIFY, bad, Status::BadConf, cause)?;
-    let base = ["base", "(", "--conf", "c"];
-    assert_conf_refused(&rt, &base, bad, Status::BadConf, cause)?;
-    let age = b"[policy]\nmax-age = 0";
-    assert_conf_refused(&rt, &VERIFY, age, Status::BadConf, b"conf 5 policy.max-age")?;
-    let other = b"[policy]\nmaxage = 5";
-    assert_conf_refused(&rt, &VERIFY, other, Status::BadConf, b"conf 3 policy")
-}
-
-#[test]
-fn longest_configuration_and_one_byte_more(rt: HostRuntime) -> Result<(), Fail> {
-    let mut lines = vec![in rt.alloc(); b'\n'; 65_536]?;
-    let cause = b"input truncated 0";
-    assert_conf_refused(&rt, &VERIFY, &lines, Status::BadInput, cause)?;
-    lines.push(b'\n')?;
-    let cause = b"conf bytes 65536";
-    assert_conf_refused(&rt, &VERIFY, &lines, Status::LimitPassed, cause)
-}
-
-// The words, over an input in pieces of 20 bytes, end so where these calls of the shelf, the source
-// and the sink fail.
-fn assert_fault(
-    rt: &(impl Abort + AllocGlobal),
-    words: &[&str],
-    fails: [&[u64]; 3],
-    status: Status,
-    taken: &[u8],
-) -> Result<(), Fail> {
-    let alloc = rt.alloc();
-    let input = joined(alloc, &[REQUEST, LENGTH, INPUT, SIGNATURE, CONTENT])?;
-    let mut shelf = MemShelf::new(alloc, fails[0])?;
-    shelf.put("c", CONF)?;
-    let mut source = MemSource::new(alloc, input.bytes(), 20, fails[1])?;
-    let mut sink = MemSink::new(alloc, 8, 3, fails[2])?;
-    let ended = status_of(alloc, words, &mut shelf, &mut source, &mut sink)?;
-    assert_eq!(rt; ended, status, "at {fails:?}");
-    assert_eq!(rt; sink.taken(), taken, "at {fails:?}");
+fn refusals_of_components(rt: HostRuntime) -> Result<(), Fail> {
+    for row in &REFUSED_COMMANDS {
+        assert!(rt; is_refused(rt.alloc(), row)?, "at {}", row.params);
+    }
     Ok(())
 }
 
 #[test]
-fn each_failing_call_has_its_status(rt: HostRuntime) -> Result<(), Fail> {
-    let base = ["base", r#"("date")"#];
-    assert_fault(&rt, &VERIFY, [&[0], &[], &[]], Status::ReadFault, b"")?;
-    assert_fault(&rt, &VERIFY, [&[], &[0], &[]], Status::ReadFault, b"")?;
-    assert_fault(&rt, &base, [&[0], &[3], &[]], Status::ReadFault, b"")?;
-    assert_fault(&rt, &base, [&[], &[], &[0]], Status::WriteFault, b"")?;
-    let sig = b"sig";
-    assert_fault(&rt, &VERIFY, [&[], &[], &[1]], Status::WriteFault, sig)?;
-    // the sink is full
-    let full = br#""date": "#;
-    assert_fault(&rt, &base, [&[0], &[], &[]], Status::WriteFault, full)
+fn refusals_of_inputs(rt: HostRuntime) -> Result<(), Fail> {
+    for row in &REFUSED_INPUTS {
+        assert!(rt; is_refused(rt.alloc(), row)?, "at {}", row.cause);
+    }
+    Ok(())
+}
+
+// The verdicts on the labels of a message at a moment, by the key of the standard and a policy, or
+// why the message is refused.
+struct Verdicts {
+    policy: &'static [u8],
+    now: &'static str,
+    message: &'static [&'static [u8]],
+    status: Status,
+    lines: &'static [u8],
+}
+
+fn has_verdicts(alloc: Global, row: &Verdicts) -> Result<bool, Memory> {
+    let conf = joined(alloc, &[CONF, row.policy])?;
+    let words = ["verify", "--conf", "c", "--now", row.now];
+    comes_to(
+        alloc,
+        &words,
+        conf.bytes(),
+        row.message,
+        row.status,
+        &[row.lines],
+    )
+}
+
+const MOMENT: &str = "1618884473";
+
+// The lines of a request without content that the standard's signature is right for.
+const BARE: &[u8] = b"GET /foo HTTP/1.1\r\n\
+Host: example.com\r\n\
+Date: Tue, 20 Apr 2021 02:07:55 GMT\r\n\
+Content-Type: application/json\r\n";
+
+const END: &[u8] = b"\r\n";
+
+// The first 31 bytes of the tag.
+const CUT_SIGNATURE: &[u8] =
+    b"Signature: sig-b25=:pxcQw6G3AjtMBQjwo8XzkZf/bws5LelbaMk5rGIGtA==:\r\n";
+
+// A label whose tag is wrong: the parts around its moment, and what comes after its key.
+const UNTRUE: &[u8] = b"GET / HTTP/1.1\r\nSignature-Input: a=();created=";
+
+const KEYID: &[u8] = b";keyid=\"test-shared-secret\"";
+
+const WRONG: &[u8] = b"\r\nSignature: a=:AAAA:\r\n\r\n";
+
+const VERDICTS: [Verdicts; 17] = [
+    Verdicts {
+        policy: b"",
+        now: MOMENT,
+        message: &[REQUEST, LENGTH, INPUT, SIGNATURE, CONTENT],
+        status: Status::Done,
+        lines: b"sig-b25 ok\n",
+    },
+    Verdicts {
+        policy: b"",
+        now: MOMENT,
+        message: &[BARE, INPUT, SIGNATURE, END],
+        status: Status::Done,
+        lines: b"sig-b25 ok\n",
+    },
+    Verdicts {
+        policy: b"",
+        now: MOMENT,
+        message: &[REQUEST, LENGTH, INPUT, CUT_SIGNATURE, CONTENT],
+        status: Status::NotOk,
+        lines: b"sig-b25 rule 32 mac-mismatch\n",
+    },
+    Verdicts {
+        policy: b"",
+        now: MOMENT,
+        message: &[BARE, INPUT, CUT_SIGNATURE, END],
+        status: Status::NotOk,
+        lines: b"sig-b25 rule 32 mac-mismatch\n",
+    },
+    Verdicts {
+        policy: b"",
+        now: MOMENT,
+        message: &[BARE, INPUT, END],
+        status: Status::NotOk,
+        lines: b"sig-b25 rule 3 signature-absent\n",
+    },
+    Verdicts {
+        policy: b"",
+        now: "1",
+        message: &[REQUEST, LENGTH, CONTENT],
+        status: Status::NotOk,
+        lines: b"- rule 1 input-absent\n",
+    },
+    Verdicts {
+        policy: b"",
+        now: MOMENT,
+        message: &[BARE, b"Signature-Input: a=(\r\n", SIGNATURE, END],
+        status: Status::NotOk,
+        lines: b"- rule 2 input-malformed\n",
+    },
+    Verdicts {
+        policy: b"",
+        now: "100",
+        message: &[UNTRUE, b"100", KEYID, b";alg=\"ed25519\"", WRONG],
+        status: Status::NotOk,
+        lines: b"a rule 13 alg-refused ed25519\n",
+    },
+    Verdicts {
+        policy: b"",
+        now: "100",
+        message: &[UNTRUE, b"100", KEYID, b";alg=\"x\"", WRONG],
+        status: Status::NotOk,
+        lines: b"a rule 14 alg-unknown \"x\"\n",
+    },
+    Verdicts {
+        policy: b"",
+        now: "1000",
+        message: &[UNTRUE, b"1060", KEYID, WRONG],
+        status: Status::NotOk,
+        lines: b"a rule 32 mac-mismatch\n",
+    },
+    Verdicts {
+        policy: b"",
+        now: "1000",
+        message: &[UNTRUE, b"1061", KEYID, WRONG],
+        status: Status::NotOk,
+        lines: b"a rule 19 created-ahead\n",
+    },
+    Verdicts {
+        policy: b"",
+        now: "1000",
+        message: &[UNTRUE, b"700", KEYID, WRONG],
+        status: Status::NotOk,
+        lines: b"a rule 32 mac-mismatch\n",
+    },
+    Verdicts {
+        policy: b"",
+        now: "1000",
+        message: &[UNTRUE, b"699", KEYID, WRONG],
+        status: Status::NotOk,
+        lines: b"a rule 20 too-old\n",
+    },
+    Verdicts {
+        policy: b"",
+        now: "100",
+        message: &[
+            b"GET /?a=1&a=2 HTTP/1.1\r\n\
+Signature-Input: a=(\"@query-param\";name=\"a\");created=100",
+            KEYID,
+            WRONG,
+        ],
+        status: Status::NotOk,
+        lines: b"a rule 28 ambiguous \"@query-param\";name=\"a\"\n",
+    },
+    Verdicts {
+        policy: b"[policy]\nnonce = \"require\"",
+        now: MOMENT,
+        message: &[BARE, INPUT, SIGNATURE, END],
+        status: Status::NotOk,
+        lines: b"sig-b25 rule 24 nonce-absent\n",
+    },
+    Verdicts {
+        policy: b"",
+        now: "1",
+        message: &[],
+        status: Status::BadInput,
+        lines: b"refused input truncated 0\n",
+    },
+    Verdicts {
+        policy: b"",
+        now: "1",
+        message: &[REQUEST, LENGTH, INPUT, SIGNATURE, CONTENT, b"x"],
+        status: Status::BadInput,
+        lines: b"refused input trailing 344\n",
+    },
+];
+
+#[test]
+fn verdicts_on_labels(rt: HostRuntime) -> Result<(), Fail> {
+    for row in &VERDICTS {
+        assert!(rt; has_verdicts(rt.alloc(), row)?, "at {:?}", row.lines);
+    }
+    Ok(())
+}
+
+// Words that come to one line, over the file `c` and a message with odd labels.
+struct Line {
+    words: &'static [&'static str],
+    conf: &'static [u8],
+    status: Status,
+    line: &'static [u8],
+}
+
+const ODD: &[u8] = b"GET / HTTP/1.1\r\nSignature-Input: a=()\r\nSignature: a=1\r\n\r\n";
+
+const LINES: [Line; 8] = [
+    Line {
+        words: &["verify", "--conf", "c", "--now", "1", "--label", "a"],
+        conf: CONF,
+        status: Status::NotOk,
+        line: b"a rule 8 signature-not-bytes\n",
+    },
+    Line {
+        words: &["verify", "--label", "z", "--now", "1", "--conf", "c"],
+        conf: CONF,
+        status: Status::NotOk,
+        line: b"z rule 5 label-not-in-input\n",
+    },
+    Line {
+        words: &["verify", "--conf", "c", "--now", "1", "--now", "2"],
+        conf: b"keys = 1",
+        status: Status::BadArguments,
+        line: b"refused words\n",
+    },
+    Line {
+        words: &["verify", "--conf", "d", "--now", "1"],
+        conf: b"keys = 1",
+        status: Status::FileMissing,
+        line: b"refused conf missing\n",
+    },
+    Line {
+        words: &["verify", "--conf", "c", "--now", "1"],
+        conf: b"keys = 1",
+        status: Status::BadConf,
+        line: b"refused conf 4 keys\n",
+    },
+    Line {
+        words: &["base", "(", "--conf", "c"],
+        conf: b"keys = 1",
+        status: Status::BadConf,
+        line: b"refused conf 4 keys\n",
+    },
+    Line {
+        words: &["verify", "--conf", "c", "--now", "1"],
+        conf: b"[policy]\nmax-age = 0",
+        status: Status::BadConf,
+        line: b"refused conf 5 policy.max-age\n",
+    },
+    Line {
+        words: &["verify", "--conf", "c", "--now", "1"],
+        conf: b"[policy]\nmaxage = 5",
+        status: Status::BadConf,
+        line: b"refused conf 3 policy\n",
+    },
+];
+
+#[test]
+fn words_that_come_to_one_line(rt: HostRuntime) -> Result<(), Fail> {
+    for row in &LINES {
+        let alloc = rt.alloc();
+        let is_so = comes_to(alloc, row.words, row.conf, &[ODD], row.status, &[row.line])?;
+        assert!(rt; is_so, "at {:?}", row.words);
+    }
+    Ok(())
 }

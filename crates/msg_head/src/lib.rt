@@ -1,10 +1,11 @@
 //! Heads of HTTP/1.1 messages: a start line and field lines (RFC 9112). Trailer sections too: field
-//! lines after chunked content. And of each field line its name and its value (RFC 9110 section 5.1,
-//! RFC 9421 section 2.1).
+//! lines after chunked content. And of each field line its name and its value (RFC 9110 section
+//! 5.1, RFC 9421 section 2.1).
 //!
 //! A head is read from the start of the bytes that hold it, and the view of it borrows them. Raw
-//! values keep their obsolete line folding. The value of a line comes as borrowed pieces: its raw value
-//! without the blanks at its ends, each run of blanks and obsolete folds in it replaced by one space.
+//! values keep their obsolete line folding. The value of a line comes as borrowed pieces: its raw
+//! value without the blanks at its ends, each run of blanks and obsolete folds in it replaced by
+//! one space.
 //!
 //! ```text
 //! let bytes = b"GET / HTTP/1.1\r\nHost: example.com\r\n\r\n";

@@ -2,7 +2,9 @@
 //! the status that a refusal gives.
 //!
 //! ```text
-//! append_verdict_line(alloc, b"sig1", &verdict, &mut lines)?; // adds `sig1 ok` and LF, say
+//! let verdict = Verdict::Rule { number: Rule::ComponentRepeated, place: Place::Index(1) };
+//! append_verdict_line(alloc, b"sig1", &verdict, &mut lines)?;
+//! // adds `sig1 rule 11 component-repeated 1` and LF
 //! let refusal = Refusal::Input(InputRefusal::Message(MessageFault::Truncated(0)));
 //! refusal.line(alloc)? // `refused input truncated 0` and LF
 //! refusal.status()     // Status::BadInput
@@ -20,6 +22,3 @@ pub use refusal::{
     CommandRefusal, ConfRefusal, InputRefusal, MAX_CONF_BYTES, MAX_INPUT_BYTES, Refusal,
 };
 pub use verdict_line::append_verdict_line;
-
-#[cfg(test)]
-mod tests;

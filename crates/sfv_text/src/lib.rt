@@ -5,10 +5,7 @@
 //! let mut params = Params::new(alloc);
 //! params.put(Text::from_bytes(alloc, b"a")?, BareItem::Integer(1))?;
 //! params.put(Text::from_bytes(alloc, b"c")?, BareItem::Bool(true))?;
-//! let mut token = Text::new(alloc);
-//! token.append(b"ab")?;
-//! token.append(b"c")?;
-//! let bare = BareItem::Token(token);
+//! let bare = BareItem::Token(Text::from_bytes(alloc, b"abc")?);
 //! print_item(alloc, &Item { bare, params })?.bytes() // abc;a=1;c
 //! ```
 #![tactic(auto)]

@@ -8,19 +8,21 @@ use std::test::Fail;
 
 // The signature parameters and the signature base of RFC 9421 section 2.4.
 const PARAMS: &[u8] = b"(\"@status\" \"content-digest\" \"content-type\" \"@authority\";req \
-\"@method\";req \"@path\";req \"content-digest\";req);created=1618884479;keyid=\"test-key-ecc-p256\"";
+\"@method\";req \"@path\";req \"content-digest\";req);\
+created=1618884479;keyid=\"test-key-ecc-p256\"";
 
 const BASE: &[u8] = b"\"@status\": 503\n\
-\"content-digest\": sha-512=:0Y6iCBzGg5rZtoXS95Ijz03mslf6KAMCloESHObfwnHJDbkkWWQz6PhhU9kxsTbARtY2PTBO\
-zq24uJFpHsMuAg==:\n\
+\"content-digest\": sha-512=:0Y6iCBzGg5rZtoXS95Ijz03mslf6KAMCloESHObfwnHJDbkkWWQz6PhhU9kxsTbARt\
+Y2PTBOzq24uJFpHsMuAg==:\n\
 \"content-type\": application/json\n\
 \"@authority\";req: example.com\n\
 \"@method\";req: POST\n\
 \"@path\";req: /foo\n\
-\"content-digest\";req: sha-512=:WZDPaVn/7XgHaAy8pmojAkGWoRx2UFChF41A2svX+TaPm+AbwAgBWnrIiYllu7BNNyea\
-ldVLvRwEmTHWXvJwew==:\n\
+\"content-digest\";req: sha-512=:WZDPaVn/7XgHaAy8pmojAkGWoRx2UFChF41A2svX+TaPm+AbwAgBWnrIiYllu7B\
+NNyealdVLvRwEmTHWXvJwew==:\n\
 \"@signature-params\": (\"@status\" \"content-digest\" \"content-type\" \"@authority\";req \
-\"@method\";req \"@path\";req \"content-digest\";req);created=1618884479;keyid=\"test-key-ecc-p256\"";
+\"@method\";req \"@path\";req \"content-digest\";req);\
+created=1618884479;keyid=\"test-key-ecc-p256\"";
 
 #[test]
 fn the_base_of_a_response_is_that_of_the_rfc(rt: HostRuntime) -> Result<(), Fail> {

@@ -5,7 +5,8 @@ ghost use Rattle.component_ids.specs.SignatureParams.{are_sig_params_in_range};
 
 use component_ids::{ComponentId, Scheme, SigParams, Types, read_params};
 use component_values::{Context, Prepared, prepare};
-use derived_values::{combined_text, derived_value};
+use derived_values::derived_value;
+use field_values::combined_text;
 use msg_body::{Expect, MessageRead, MessageView, read_message};
 use msg_head::Side;
 use sfv_read::read_inner;

@@ -1,7 +1,6 @@
-// Tests of msg_head, line_values and field_values.
+// Tests of msg_head and field_values.
 
-use field_values::{combined_pieces, count_lines};
-use line_values::{is_named, line_pieces};
+use field_values::{combined_pieces, count_lines, line_pieces};
 use msg_body::{Expect, MessageRead, read_message};
 use msg_head::{
     FieldLines, HeadError, HeadRead, LineView, Side, Start, TrailerRead, read_head, read_trailer,
@@ -106,15 +105,15 @@ fn a_status_line_and_folds_are_read(rt: HostRuntime) -> Result<(), Fail> {
     Ok(())
 }
 
-// The examples of line_values and field_values.
+// The examples of a line's name and of field_values.
 #[test]
 fn values_come_in_pieces(rt: HostRuntime) -> Result<(), Fail> {
     let line = LineView {
         name: b"X",
         raw: b" a\r\n  b ",
     };
-    assert!(rt; is_named(line, b"x") && !is_named(line, b"X"));
-    assert!(rt; are_pieces(line_pieces(line), b"a b"));
+    assert!(rt; line.is_named(b"x") && !line.is_named(b"X"));
+    assert!(rt; are_pieces(line.value_pieces(), b"a b") && are_pieces(line_pieces(line), b"a b"));
     let bytes = b"GET / HTTP/1.1\r\nX: a\r\n  b \r\nx: c\r\n\r\n";
     let MessageRead::Whole(view, _) = read_message(rt.alloc(), bytes, Expect::Any, false)? else {
         return Err("no message".into());

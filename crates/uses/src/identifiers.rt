@@ -2,7 +2,7 @@
 
 use component_ids::{ComponentId, FieldKind, Types, print_id, print_params, read_params};
 use sfv_read::read_inner;
-use sfv_text::{Params, Text};
+use sfv_text::{BareItem, Params, Text};
 use std::test::Fail;
 
 // The example of component_ids.
@@ -23,12 +23,17 @@ fn signature_parameters_are_read_copied_and_printed(rt: HostRuntime) -> Result<(
 #[test]
 fn an_identifier_is_copied_and_printed(rt: HostRuntime) -> Result<(), Fail> {
     let alloc = rt.alloc();
-    let id = ComponentId {
-        name: Text::from_bytes(alloc, b"date")?,
+    let mut id = ComponentId {
+        name: Text::from_bytes(alloc, b"a")?,
         params: Params::new(alloc),
     };
+    let value = BareItem::Str(Text::from_bytes(alloc, b"b")?);
+    id.params.put(Text::from_bytes(alloc, b"key")?, value)?;
     let copy = id.copy(alloc)?;
-    assert_eq!(rt; print_id(alloc, &copy)?.bytes(), br#""date""#.as_slice());
+    assert_eq!(rt;
+        print_id(alloc, &copy)?.bytes(),
+        br#""a";key="b""#.as_slice()
+    );
     Ok(())
 }
 

@@ -214,20 +214,21 @@ const REFUSES: [Refuses; 18] = [
     },
 ];
 
-fn are_refused(alloc: Global, row: &Refuses) -> bool {
-    for text in row.texts {
-        match strict_text(row.kind, alloc, text) {
-            Ok(_) => return false,
-            Err(fault) if fault == row.fault => {}
-            Err(_) => return false,
-        }
+fn is_refused(kind: Kind, alloc: Global, text: &[u8], fault: SfError) -> bool {
+    match strict_text(kind, alloc, text) {
+        Ok(_) => false,
+        Err(found) => found == fault,
     }
-    true
 }
 
 #[test]
 fn texts_are_refused_at_the_exact_offset(rt: HostRuntime) {
     for row in &REFUSES {
-        assert!(rt; are_refused(rt.alloc(), row), "{:?}", row.fault);
+        for text in row.texts {
+            assert!(rt;
+                is_refused(row.kind, rt.alloc(), text, row.fault),
+                "{text:?}"
+            );
+        }
     }
 }

@@ -1,7 +1,6 @@
 // Tests of sfv_text.
 
 ghost use Rattle.std.specs.Prelude.{◌≡◌, []};
-ghost use Rattle.sfv_text.specs.declared.value.BareItem.TheVariants.{Integer};
 
 use sfv_read::read_item;
 use sfv_text::{
@@ -15,26 +14,28 @@ use std::test::Fail;
 #[test]
 fn an_item_is_built_copied_and_printed(rt: HostRuntime) -> Result<(), Fail> {
     let alloc = rt.alloc();
-    let mut token = Text::new(alloc);
-    token.append(b"ab")?;
-    token.append(b"c")?;
     let mut params = Params::new(alloc);
     params.put(Text::from_bytes(alloc, b"a")?, BareItem::Integer(1))?;
     params.put(Text::from_bytes(alloc, b"c")?, BareItem::Bool(true))?;
-    let bare = BareItem::Token(token);
+    let bare = BareItem::Token(Text::from_bytes(alloc, b"abc")?);
     let item = Item { bare, params };
-    let text = b"abc;a=1;c".as_slice();
-    assert_eq!(rt; print_item(alloc, &item)?.bytes(), text);
-    assert_eq!(rt; print_item(alloc, &item.copy(alloc)?)?.bytes(), text);
+    let mut text = Text::new(alloc);
+    text.append(b"abc;a=1")?;
+    text.append(b";c")?;
+    assert_eq!(rt; print_item(alloc, &item)?.bytes(), text.bytes());
+    assert_eq!(rt;
+        print_item(alloc, &item.copy(alloc)?)?.bytes(),
+        text.bytes()
+    );
     Ok(())
 }
 
 // An Item without parameters.
-fn plain_item(alloc: Global, value: i64) -> Item
-    ensures { result ≡ record { bare = Integer value; params = [] } }
+fn plain_item(alloc: Global, bare: BareItem) -> Item
+    ensures { result ≡ record { bare = bare; params = [] } }
 {
     Item {
-        bare: BareItem::Integer(value),
+        bare,
         params: Params::new(alloc),
     }
 }
@@ -42,22 +43,19 @@ fn plain_item(alloc: Global, value: i64) -> Item
 #[test]
 fn members_are_pushed_and_put(rt: HostRuntime) -> Result<(), Fail> {
     let alloc = rt.alloc();
-    let mut items = Items::new(alloc);
-    items.push(plain_item(alloc, 1))?;
-    let inner = InnerList {
-        items,
+    let mut inner = InnerList {
+        items: Items::new(alloc),
         params: Params::new(alloc),
     };
+    inner.items.push(plain_item(alloc, BareItem::Integer(1)))?;
     assert_eq!(rt; print_inner(alloc, &inner)?.bytes(), b"(1)".as_slice());
     let mut list = List::new(alloc);
-    list.push(Member::InnerList(inner))?;
-    assert_eq!(rt; print_list(alloc, &list)?.bytes(), b"(1)".as_slice());
+    list.push(Member::Item(plain_item(alloc, BareItem::Bool(true))))?;
+    assert_eq!(rt; print_list(alloc, &list)?.bytes(), b"?1".as_slice());
     let mut dict = Dict::new(alloc);
-    dict.put(
-        Text::from_bytes(alloc, b"a")?,
-        Member::Item(plain_item(alloc, 2)),
-    )?;
-    assert_eq!(rt; print_dict(alloc, &dict)?.bytes(), b"a=2".as_slice());
+    let member = Member::Item(plain_item(alloc, BareItem::Bool(true)));
+    dict.put(Text::from_bytes(alloc, b"a")?, member)?;
+    assert_eq!(rt; print_dict(alloc, &dict)?.bytes(), b"a".as_slice());
     Ok(())
 }
 
