@@ -1,5 +1,6 @@
 pub mod Chunks
 pub mod Causes
+pub mod Words
 pub mod Views
 pub mod Outcome
 pub mod Laws

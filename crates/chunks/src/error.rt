@@ -1,5 +1,6 @@
 //! Why chunks aren't read.
 
+use crate::limits::MAX_CONTENT_BYTES;
 use std::alloc::{AllocError, AllocFailed};
 use std::error::Error;
 use std::fmt;
@@ -17,12 +18,18 @@ pub enum ChunkError {
     Bad(usize),
 }
 
+/// The word that output has for it, with the limit that is passed, or where it is.
 impl fmt::Display for ChunkError {
+    ghost use Rattle.std.specs.Prelude.{Some};
+    ghost use Rattle.chunks.specs.Words.{chunk_error_text};
+
+    ghost output = { λ error. Some (chunk_error_text error) };
+
     fn fmt<W: fmt::Write>(&self, f: &mut fmt::Formatter<W>) -> fmt::Result {
         match self {
             ChunkError::Memory => f.write_str("out of memory"),
-            ChunkError::TooLong => f.write_str("the content is too long"),
-            ChunkError::Bad(offset) => write!(f, "no chunk has the byte at offset {}", offset),
+            ChunkError::TooLong => write!(f, "content {MAX_CONTENT_BYTES}"),
+            ChunkError::Bad(offset) => write!(f, "chunk {offset}"),
         }
     }
 }

@@ -18,12 +18,18 @@ pub enum FramingError {
     CodingRefused,
 }
 
+/// The word that output has for it.
 impl fmt::Display for FramingError {
+    ghost use Rattle.std.specs.Prelude.{Some};
+    ghost use Rattle.framing.specs.Words.{framing_error_text};
+
+    ghost output = { λ error. Some (framing_error_text error) };
+
     fn fmt<W: fmt::Write>(&self, f: &mut fmt::Formatter<W>) -> fmt::Result {
         f.write_str(match self {
-            FramingError::Conflict => "the content has both a length and a transfer coding",
-            FramingError::BadLength => "the length of the content is no length",
-            FramingError::CodingRefused => "the transfer coding is not chunked alone, in HTTP/1.1",
+            FramingError::Conflict => "framing",
+            FramingError::BadLength => "length",
+            FramingError::CodingRefused => "coding",
         })
     }
 }

@@ -6,3 +6,4 @@ mod OneBodies
 pub mod OneMessages
 mod Outcomes
 mod Readings
+pub mod EachAnswers

@@ -153,10 +153,10 @@ body_unfinished expect to_head bytes view start framed j more = inr (record {
   );
 })
 
-all_of : (bytes : List ℕ) (start count : ℕ) → start ≤ length bytes → count ≡ length (drop start bytes) → start + count ≡ length bytes
+pub all_of : (bytes : List ℕ) (start count : ℕ) → start ≤ length bytes → count ≡ length (drop start bytes) → start + count ≡ length bytes
 all_of bytes start count within e = omega (arith, within, e, length-drop start bytes)
 
-text_short : (bytes text : List ℕ) (n : ℕ) → n ≤ length bytes → take n bytes ≡ text → length bytes ≤ MAX_MESSAGE_BYTES → length text ≤ MAX_MESSAGE_BYTES
+pub text_short : (bytes text : List ℕ) (n : ℕ) → n ≤ length bytes → take n bytes ≡ text → length bytes ≤ MAX_MESSAGE_BYTES → length text ≤ MAX_MESSAGE_BYTES
 text_short bytes text n within is short =
     let sized : n ≡ length text = sym (length-take-le n bytes within) ∙ ap (length {A = ℕ}) is in
     omega (arith, sized, within, short)

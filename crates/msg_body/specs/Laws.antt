@@ -1,7 +1,8 @@
 -- Laws of messages, for one value of `to_head`.
-use Rattle.std.specs.Prelude.{◌≡◌, ℕ, ◌<◌, Bool, List, length, take, IsTrue}
+use Rattle.std.specs.Prelude.{◌≡◌, ◌⊎◌, ℕ, ◌<◌, ◌≤◌, Bool, List, length, take, IsTrue}
 use Rattle.framing.specs.declared.kind.Framing.TheVariants.{ToEnd}
 use Rattle.msg_body.specs.declared.expect.Expect.{Expect}
+use Rattle.msg_body.specs.declared.limits.TheConstants.{MAX_MESSAGE_BYTES}
 use Rattle.msg_body.specs.declared.error.MessageError.{MessageError}
 use Rattle.msg_body.specs.Causes.{IsMessageError, IsMessageUnfinished}
 use Rattle.msg_body.specs.Messages.{Message, Spells, SpellsMessage, is_expected}
@@ -26,6 +27,16 @@ OneMessageAt =
     (to_head : Bool) (bytes : List ℕ) (one other : Message) (n m : ℕ) →
     SpellsMessage to_head one n bytes → SpellsMessage to_head other m bytes →
     (one ≡ other) × (n ≡ m)
+
+-- No more bytes than a message may have begin with a message of the expected kind, or have a fault,
+-- or the end of a message may still come.
+abbrev pub EachHasAMessageAnswer : Type 0
+EachHasAMessageAnswer =
+    (expect : Expect) (to_head : Bool) (bytes : List ℕ) → length bytes ≤ MAX_MESSAGE_BYTES →
+    ((message : Message) × (used : ℕ) × SpellsMessage to_head message used bytes
+    × IsTrue (is_expected expect message.head.start))
+    ⊎ ((fault : MessageError) × IsMessageError expect to_head bytes fault)
+    ⊎ IsMessageUnfinished expect to_head bytes
 
 -- Bytes have at most one fault.
 abbrev pub OneMessageFault : Type 0

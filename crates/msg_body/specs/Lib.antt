@@ -3,6 +3,7 @@ pub mod Messages
 pub mod Views
 pub mod Content
 pub mod Errors
+pub mod Words
 pub mod Causes
 pub mod Outcome
 pub mod Laws

@@ -50,7 +50,13 @@ pub enum MessageFault {
     Trailing(usize),
 }
 
+/// The word that output has for it, with the limit that is passed, or where it is.
 impl fmt::Display for MessageError {
+    ghost use Rattle.std.specs.Prelude.{Some};
+    ghost use Rattle.msg_body.specs.Words.{message_error_text};
+
+    ghost output = { λ error. Some (message_error_text error) };
+
     fn fmt<W: fmt::Write>(&self, f: &mut fmt::Formatter<W>) -> fmt::Result {
         match *self {
             MessageError::Memory => HeadError::Memory.fmt(f),
@@ -70,16 +76,18 @@ impl fmt::Display for MessageError {
 
 impl Error for MessageError {}
 
+/// The word that output has for it, with the limit that is passed, or where it is.
 impl fmt::Display for MessageFault {
+    ghost use Rattle.std.specs.Prelude.{Some};
+    ghost use Rattle.msg_body.specs.Words.{message_fault_text};
+
+    ghost output = { λ fault. Some (message_fault_text fault) };
+
     fn fmt<W: fmt::Write>(&self, f: &mut fmt::Formatter<W>) -> fmt::Result {
         match self {
             MessageFault::Refused(error) => error.fmt(f),
-            MessageFault::Truncated(count) => {
-                write!(f, "the message is cut off after {} bytes", count)
-            }
-            MessageFault::Trailing(offset) => {
-                write!(f, "bytes come after the message, from offset {} on", offset)
-            }
+            MessageFault::Truncated(count) => write!(f, "truncated {count}"),
+            MessageFault::Trailing(offset) => write!(f, "trailing {offset}"),
         }
     }
 }

@@ -1,6 +1,6 @@
 //! Laws of messages.
 
-ghost use Rattle.msg_body.specs.Laws.{OneMessage, NoMessageInPrefix, OneMessageAt, OneMessageFault, NoFaultAtMessage, NoMessageAnswerYet};
+ghost use Rattle.msg_body.specs.Laws.{OneMessage, NoMessageInPrefix, OneMessageAt, EachHasAMessageAnswer, OneMessageFault, NoFaultAtMessage, NoMessageAnswerYet};
 
 /// The laws of messages: bytes spell at most one message, and where a proper prefix of a message's
 /// bytes spells one too, the content of both goes to the end.
@@ -9,10 +9,11 @@ pub fn message_laws()
     ensures prefix { NoMessageInPrefix }
 {}
 
-/// Out of memory aside, the answer to bytes is one: they begin with a message of one length, or its
-/// end may still come, or they have one fault.
+/// Out of memory aside, the answer to no more bytes than a message may have is one: they begin with
+/// a message of one length, or its end may still come, or they have one fault.
 pub fn messages_have_one_answer()
     ensures at { OneMessageAt }
+    ensures some { EachHasAMessageAnswer }
     ensures fault { OneMessageFault }
     ensures message { NoFaultAtMessage }
     ensures unfinished { NoMessageAnswerYet }

@@ -22,6 +22,8 @@ pub mod Outcomes
 pub mod TrailerCuts
 pub mod TrailerFaults
 pub mod TrailerAnswers
+pub mod Deciding
+pub mod EachAnswers
 mod Bytes
 mod Lowered
 mod TextLaws

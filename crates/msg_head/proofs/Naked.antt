@@ -121,7 +121,7 @@ none_in_clean text at clean n =
 abbrev is_end : ℕ → Bool
 is_end c = is_byte3 0 13 10 c
 
-not_end : (c : ℕ) → (is_end c ≡ true → ⊥) → is_line_byte c ≡ true
+pub not_end : (c : ℕ) → (is_end c ≡ true → ⊥) → is_line_byte c ≡ true
 not_end c none = line_byte_of (λ x. not (is_end x)) c refl refl refl (elim (cases_Bool (is_end c)) [ inl e ↦ absurd (none e) | inr e ↦ ap not e ])
 
 pub all_plain : (xs : List ℕ) → ((k : ℕ) → k < length xs → is_end (get_or xs k 0) ≡ true → ⊥) → list_all is_line_byte xs ≡ true
@@ -155,7 +155,7 @@ split_at (x ∷ xs) (suc n) low none is =
 
 -- ---- the walk over the pieces
 
-scan_more : (text left after : List ℕ) (n : ℕ) → IsCleanUpTo text left → (s : SplitAt left n) → drop n left ≡ 13 ∷ 10 ∷ after → IsCleanUpTo text after
+pub scan_more : (text left after : List ℕ) (n : ℕ) → IsCleanUpTo text left → (s : SplitAt left n) → drop n left ≡ 13 ∷ 10 ∷ after → IsCleanUpTo text after
 scan_more text left after n w s there =
     let ends : s.c ∷ s.after ≡ 13 ∷ 10 ∷ after =
     sym (drop-append_seam s.piece (s.c ∷ s.after)) ∙ ap (λ k. drop k (s.piece ++ s.c ∷ s.after)) s.count ∙ ap (λ (x : List ℕ). drop n x) (sym s.joined) ∙ there in

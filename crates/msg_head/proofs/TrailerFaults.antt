@@ -59,7 +59,7 @@ one_trailer_fault bytes fault other first second = first_is_one head_order (IsTr
 -- ---- where causes don't hold
 
 -- the section is there, and short enough
-record Sectioned (bytes section : List ℕ) : Type 0 where
+pub record Sectioned (bytes section : List ℕ) : Type 0 where
   pub is : IsTrailerSection bytes section
   pub clean : IsClean section
   pub short : length section ≤ MAX_HEAD_BYTES
@@ -102,7 +102,7 @@ late bytes section lines s cut few Memory low h = h
 pub trailer_too_long : (bytes : List ℕ) → IsTrailerTooLong bytes → IsTrailerError bytes (TooLong Trailer)
 trailer_too_long bytes long = record { holds = long; none_before = λ other low h. omega (arith, low) }
 
-first_naked : (bytes section : List ℕ) (at : ℕ) → IsTrailerSection bytes section → length section ≤ MAX_HEAD_BYTES → IsFirstNakedEnd section at → IsTrailerError bytes (NakedEnd at)
+pub first_naked : (bytes section : List ℕ) (at : ℕ) → IsTrailerSection bytes section → length section ≤ MAX_HEAD_BYTES → IsFirstNakedEnd section at → IsTrailerError bytes (NakedEnd at)
 first_naked bytes section at is short first = record {
   holds = record { section = section; is = is; first = first };
   none_before = none;
@@ -120,7 +120,7 @@ first_naked bytes section at is short first = record {
 header : Header ≡ Trailer → ⊥
 header e = absurd cc
 
-section_fault : (bytes section : List ℕ) (fault : HeadError) → Sectioned bytes section → IsTrailerSectionFault section fault → fault ≢ Memory → IsTrailerError bytes fault
+pub section_fault : (bytes section : List ℕ) (fault : HeadError) → Sectioned bytes section → IsTrailerSectionFault section fault → fault ≢ Memory → IsTrailerError bytes fault
 section_fault bytes section (TooManyLines Trailer) s f own =
     record { holds = record { lines = f.0; cut = lines_cut_from bytes section f.0 s.is f.1; are = f.2.1 }; none_before = early bytes section s }
 section_fault bytes section (BadLine Trailer at) s f own =

@@ -35,6 +35,14 @@ EndsAtFirstEnd =
     (bytes : List ℕ) (head : Head) (used : ℕ) →
     SpellsHead head used bytes → IsSection bytes (take used bytes)
 
+-- Bytes begin with a head, or have a fault, or the end of a head may still come.
+abbrev pub EachHasAHeadAnswer : Type 0
+EachHasAHeadAnswer =
+    (bytes : List ℕ) →
+    ((head : Head) × (used : ℕ) × SpellsHead head used bytes)
+    ⊎ ((fault : HeadError) × IsHeadError bytes fault)
+    ⊎ IsUnfinished bytes
+
 -- Bytes have at most one fault.
 abbrev pub OneHeadFault : Type 0
 OneHeadFault =
@@ -76,6 +84,14 @@ abbrev pub TrailerEndsAtFirstEnd : Type 0
 TrailerEndsAtFirstEnd =
     (bytes : List ℕ) (lines : List FieldLine) (used : ℕ) →
     SpellsTrailer lines used bytes → IsTrailerSection bytes (take used bytes)
+
+-- Bytes begin with a trailer section, or have a fault as one, or its end may still come.
+abbrev pub EachHasATrailerAnswer : Type 0
+EachHasATrailerAnswer =
+    (bytes : List ℕ) →
+    ((lines : List FieldLine) × (used : ℕ) × SpellsTrailer lines used bytes)
+    ⊎ ((fault : HeadError) × IsTrailerError bytes fault)
+    ⊎ IsTrailerUnfinished bytes
 
 -- Bytes have at most one fault as a trailer section.
 abbrev pub OneTrailerFault : Type 0

@@ -7,6 +7,7 @@ pub mod Starts
 pub mod Cuts
 pub mod Heads
 pub mod Causes
+pub mod Words
 pub mod Trailers
 pub mod TrailerCauses
 pub mod Laws

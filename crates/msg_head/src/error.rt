@@ -1,5 +1,6 @@
 //! Why a head or a trailer section isn't read.
 
+use crate::limits::{MAX_HEAD_BYTES, MAX_HEAD_LINES};
 use std::alloc::{AllocError, AllocFailed};
 use std::error::Error;
 use std::fmt;
@@ -32,28 +33,36 @@ pub enum HeadError {
     BadLine(Side, usize),
 }
 
-impl Side {
-    fn name(self) -> &'static str {
-        match self {
-            Side::Header => "header",
+/// How output calls the side.
+impl fmt::Display for Side {
+    ghost use Rattle.std.specs.Prelude.{Some};
+    ghost use Rattle.msg_head.specs.Words.{side_text};
+
+    ghost output = { λ side. Some (side_text side) };
+
+    fn fmt<W: fmt::Write>(&self, f: &mut fmt::Formatter<W>) -> fmt::Result {
+        f.write_str(match self {
+            Side::Header => "head",
             Side::Trailer => "trailer",
-        }
+        })
     }
 }
 
+/// The word that output has for it, with the limit that is passed, or where it is.
 impl fmt::Display for HeadError {
+    ghost use Rattle.std.specs.Prelude.{Some};
+    ghost use Rattle.msg_head.specs.Words.{head_error_text};
+
+    ghost output = { λ error. Some (head_error_text error) };
+
     fn fmt<W: fmt::Write>(&self, f: &mut fmt::Formatter<W>) -> fmt::Result {
         match self {
             HeadError::Memory => f.write_str("out of memory"),
-            HeadError::TooLong(side) => write!(f, "the {} is too long", side.name()),
-            HeadError::NakedEnd(offset) => {
-                write!(f, "NUL or half of a line's end stands at offset {}", offset)
-            }
-            HeadError::BadStart => f.write_str("the first line is no start line"),
-            HeadError::TooManyLines(side) => { write!(f, "the {} has too many lines", side.name()) }
-            HeadError::BadLine(side, index) => {
-                write!(f, "line {} of the {} is no field line", index, side.name())
-            }
+            HeadError::TooLong(side) => write!(f, "{side}-bytes {MAX_HEAD_BYTES}"),
+            HeadError::NakedEnd(offset) => write!(f, "naked-end {offset}"),
+            HeadError::BadStart => f.write_str("start-line"),
+            HeadError::TooManyLines(side) => write!(f, "{side}-lines {MAX_HEAD_LINES}"),
+            HeadError::BadLine(side, index) => write!(f, "{side}-line {index}"),
         }
     }
 }

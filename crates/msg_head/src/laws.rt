@@ -1,6 +1,6 @@
 //! Laws of heads, of trailer sections and of values.
 
-ghost use Rattle.msg_head.specs.Laws.{OneHead, OneHeadOfText, NoHeadInPrefix, EndsAtFirstEnd, OneHeadFault, NoFaultAtHead, NoHeadAnswerYet, OneTrailer, TrailerSectionIs, TrailerEndsAtFirstEnd, OneTrailerFault, NoFaultAtTrailer, NoTrailerAnswerYet, RawHasOneValue};
+ghost use Rattle.msg_head.specs.Laws.{OneHead, OneHeadOfText, NoHeadInPrefix, EndsAtFirstEnd, EachHasAHeadAnswer, OneHeadFault, NoFaultAtHead, NoHeadAnswerYet, OneTrailer, TrailerSectionIs, TrailerEndsAtFirstEnd, EachHasATrailerAnswer, OneTrailerFault, NoFaultAtTrailer, NoTrailerAnswerYet, RawHasOneValue};
 
 /// The laws of heads: bytes begin with at most one head, a text is that of at most one head, no
 /// head's text is a proper prefix of another's, and a head ends at the first CRLF CRLF.
@@ -14,6 +14,7 @@ pub fn head_laws()
 /// Out of memory aside, the answer to bytes is one: they begin with a head, or its end may still
 /// come, or they have one fault.
 pub fn heads_have_one_answer()
+    ensures some { EachHasAHeadAnswer }
     ensures fault { OneHeadFault }
     ensures head { NoFaultAtHead }
     ensures unfinished { NoHeadAnswerYet }
@@ -26,6 +27,7 @@ pub fn trailers_have_one_answer()
     ensures one { OneTrailer }
     ensures section { TrailerSectionIs }
     ensures end { TrailerEndsAtFirstEnd }
+    ensures some { EachHasATrailerAnswer }
     ensures fault { OneTrailerFault }
     ensures trailer { NoFaultAtTrailer }
     ensures unfinished { NoTrailerAnswerYet }

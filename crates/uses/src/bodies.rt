@@ -312,23 +312,14 @@ fn chunks_hold_content(rt: HostRuntime) {
 
 const CHUNK_ERRORS: [(ChunkError, &'static str); 3] = [
     (ChunkError::Memory, "out of memory"),
-    (ChunkError::TooLong, "the content is too long"),
-    (ChunkError::Bad(7), "no chunk has the byte at offset 7"),
+    (ChunkError::TooLong, "content 8388608"),
+    (ChunkError::Bad(7), "chunk 7"),
 ];
 
 const FRAMING_ERRORS: [(FramingError, &'static str); 3] = [
-    (
-        FramingError::Conflict,
-        "the content has both a length and a transfer coding",
-    ),
-    (
-        FramingError::BadLength,
-        "the length of the content is no length",
-    ),
-    (
-        FramingError::CodingRefused,
-        "the transfer coding is not chunked alone, in HTTP/1.1",
-    ),
+    (FramingError::Conflict, "framing"),
+    (FramingError::BadLength, "length"),
+    (FramingError::CodingRefused, "coding"),
 ];
 
 #[test]
@@ -340,7 +331,7 @@ fn faults_of_bodies_are_printed(rt: HostRuntime) {
         assert!(rt; prints(rt.alloc(), error, *text));
     }
     let line = MessageError::BadLine(Side::Trailer, 3);
-    assert!(rt; prints(rt.alloc(), &line, "line 3 of the trailer is no field line"));
+    assert!(rt; prints(rt.alloc(), &line, "trailer-line 3"));
     let cut = MessageFault::Truncated(5);
-    assert!(rt; prints(rt.alloc(), &cut, "the message is cut off after 5 bytes"));
+    assert!(rt; prints(rt.alloc(), &cut, "truncated 5"));
 }

@@ -127,5 +127,5 @@ fn values_come_in_pieces(rt: HostRuntime) -> Result<(), Fail> {
 fn faults_of_heads_are_printed(rt: HostRuntime) {
     assert!(rt; prints(rt.alloc(), &HeadError::Memory, "out of memory"));
     let line = HeadError::BadLine(Side::Header, 3);
-    assert!(rt; prints(rt.alloc(), &line, "line 3 of the header is no field line"));
+    assert!(rt; prints(rt.alloc(), &line, "head-line 3"));
 }

@@ -1,4 +1,4 @@
--- Parts that bytes begin with, and what else is told of bytes. No public clause cites this module.
+-- Parts that bytes begin with, and what else is known of bytes. No public clause cites this module.
 use Rattle.std.specs.Prelude.{◌≡◌, ◌⊎◌, ℕ, ◌+◌, List, drop}
 use Rattle.msg_body.specs.Causes.{After}
 
@@ -12,6 +12,11 @@ pub record IsDecided {V F : Type 0} (IsPart : V → ℕ → Type 0) (IsFault : F
   pub no_fault : (part : V) (n : ℕ) (fault : F) → IsPart part n → ¬ IsFault fault
   pub open_fault : (fault : F) → IsOpen → ¬ IsFault fault
   pub open_part : (part : V) (n : ℕ) → IsOpen → ¬ IsPart part n
+
+-- the bytes begin with a part, or have a fault, or more bytes may come
+abbrev pub HasAnswer : {V F : Type 0} → (V → ℕ → Type 0) → (F → Type 0) → Type 0 → Type 0
+HasAnswer {V} {F} IsPart IsFault IsOpen =
+    ((part : V) × (n : ℕ) × IsPart part n) ⊎ ((fault : F) × IsFault fault) ⊎ IsOpen
 
 -- the fault of a part, in the terms of the whole
 abbrev pub IsFaultAs : {F G : Type 0} → (F → G) → (F → Type 0) → G → Type 0
