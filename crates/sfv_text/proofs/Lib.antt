@@ -2,3 +2,5 @@ pub mod EqualityLaws
 pub mod Groups
 pub mod Printable
 pub mod PutLaws
+pub mod IndexLaws
+pub mod MapLaws

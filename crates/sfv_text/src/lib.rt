@@ -10,6 +10,7 @@
 #![tactic(auto)]
 
 mod absorb;
+mod index;
 mod key;
 mod laws;
 mod memory;
