@@ -3,4 +3,3 @@ pub mod Groups
 pub mod Printable
 pub mod PutLaws
 pub mod IndexLaws
-pub mod MapLaws

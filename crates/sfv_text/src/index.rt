@@ -24,7 +24,7 @@ pub struct KeyIndex {
 impl Model for KeyIndex {
     ghost use Rattle.std.specs.FinMap as map;
     ghost use Rattle.sfv_text.specs.tools.Index.{Places, places_code};
-    ghost use Rattle.sfv_text.specs.tools.ByBytes.{by_bytes};
+    ghost use Rattle.byte_grammar.specs.tools.ByBytes.{by_bytes};
 
     ghost Value = { Places };
 

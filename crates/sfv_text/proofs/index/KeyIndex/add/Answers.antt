@@ -1,7 +1,7 @@
 use Rattle.std.proofs.Common.{◌≡◌, ap, ◌∙◌}
 use Rattle.std.specs.FinMap as map
-use Rattle.sfv_text.specs.tools.ByBytes.{by_bytes}
-use Rattle.sfv_text.proofs.MapLaws.{inserted}
+use Rattle.byte_grammar.specs.tools.ByBytes.{by_bytes}
+use Rattle.byte_grammar.proofs.MapLaws.{inserted}
 use Rattle.sfv_text.proofs.index.KeyIndex.add.Goals as goal
 
 pub returns-clause-ok : goal.returns-clause-ok

@@ -1,6 +1,6 @@
 use Rattle.std.proofs.Common.{ap, ◌∙◌}
 use Rattle.std.specs.FinMap as map
-use Rattle.sfv_text.proofs.MapLaws.{looked_up}
+use Rattle.byte_grammar.proofs.MapLaws.{looked_up}
 use Rattle.sfv_text.proofs.index.KeyIndex.place_of.Goals as goal
 
 pub returns : goal.returns

@@ -6,7 +6,7 @@ use Rattle.std.specs.FinMap as map
 use Rattle.std.specs.FinMap.Entries.{put, by_order, find-put}
 use Rattle.std.specs.Map.{lookup}
 use Rattle.std.specs.Ordering.{is_eq, nat_cmp, match_ordering}
-use Rattle.sfv_text.specs.tools.ByBytes.{by_bytes}
+use Rattle.byte_grammar.specs.tools.ByBytes.{by_bytes}
 
 abbrev Key : Type 0
 Key = Vec ℕ Global
