@@ -10,3 +10,4 @@ pub mod Indices
 pub mod CauseLaws
 pub mod OffsetLaws
 pub mod ListLaws
+pub mod MapLaws

@@ -2,7 +2,7 @@ use Rattle.std.proofs.Common.{◌∙◌}
 use Rattle.std.specs.Slice.Iter.{chunks_rest}
 use Rattle.base64.specs.Engines.{standard}
 use Rattle.sfv_text.proofs.Groups.{group_more, group_end}
-use Rattle.sfv_text.proofs.print_bare.write_base64.Goals as goal
+use Rattle.sfv_text.proofs.bare.write_base64.Goals as goal
 
 pub loop-group-preserved : goal.loop-group-preserved
 loop-group-preserved c =

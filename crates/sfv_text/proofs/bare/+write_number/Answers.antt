@@ -1,7 +1,7 @@
 use Rattle.std.proofs.Common.{arith, append_assoc, ◌≡◌, ◌++◌, ◌∷◌, [], ◌/◌, ◌%◌, ◌+◌}
 use Rattle.std.specs.Fmt.{decimal}
 use Rattle.std.proofs.lemmas.Fmt.{decimal_step}
-use Rattle.sfv_text.proofs.print_bare.+write_number.Goals as goal
+use Rattle.sfv_text.proofs.bare.+write_number.Goals as goal
 
 pub returns-then-value-ge10 : goal.returns-then-value-ge10
 returns-then-value-ge10 t c =
