@@ -14,7 +14,8 @@ use msg_head::{LineView, Side};
 pub(crate) fn next_named<'m>(lines: &mut SideLines<'_, 'm>, name: &[u8]) -> Option<LineView<'m>>
     ensures some { IfSome result (λ line. filter (has_name name.now) lines.old
         ≡ field_line_of line ∷ filter (has_name name.now) lines.new) }
-    ensures none { IfNone result (filter (has_name name.now) lines.old ≡ []) }
+    ensures none { IfNone result ((filter (has_name name.now) lines.old ≡ [])
+        × (lines.new ≡ [])) }
 {
     while let Some(line) = lines.next() {
         if line.is_named(name) {

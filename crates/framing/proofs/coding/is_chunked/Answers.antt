@@ -9,7 +9,7 @@ use Rattle.framing.proofs.coding.is_chunked.Goals as goal
 pub loop-piece-init : goal.loop-piece-init
 loop-piece-init c = (
   [],
-  ap value_left c.into_iter-piece-iterator.ensures.into_iter_gives ∙ c.line_pieces-piece-items.ensures.value,
+  ap value_left c.into_iter-piece-iterator.ensures.into_iter_gives ∙ c.value_pieces-piece-items.ensures.value,
   ap str_to_ascii_lowercase c.as_slice-left.ensures,
 )
 
@@ -30,4 +30,4 @@ loop-piece-preserved c =
 pub returns : goal.returns
 returns c =
     let done = c.loop-piece.invariant.0 in
-    c.is_empty.ensures ∙ is_chunked_where done c.loop-piece.left.now (value c.args.line.raw.now) (ap (λ t. done ++ t) (sym c.in-None.ensures.steps) ∙ c.loop-piece.invariant.1) c.loop-piece.invariant.2
+    c.is_empty.ensures ∙ is_chunked_where done c.loop-piece.left.now (value c.args.line.raw.now) (ap (λ t. done ++ t) (sym c.in-None.ensures.steps.0) ∙ c.loop-piece.invariant.1) c.loop-piece.invariant.2
