@@ -1,5 +1,6 @@
 -- What is in range is so in its parts, and what is read of a label is in range.
-use Rattle.std.proofs.Common.{◌≡◌, Bool, true, ◌&&◌, List, [], ◌∷◌, ℕ, Some, sym, ap, ◌∙◌, inl, inr}
+use Rattle.std.proofs.Common.{◌≡◌, Bool, true, ◌&&◌, List, [], ◌∷◌, ℕ, Some, Result, Ok, Err, sym, ap, ◌∙◌, inl, inr}
+use Rattle.std.specs.Prelude.{IfOk}
 use Rattle.std.specs.List.{list_all}
 use Rattle.std.proofs.lemmas.Bool.{cases_Bool, and_parts}
 use Rattle.std.proofs.lemmas.List.Folds.{list_all-map}
@@ -11,12 +12,16 @@ use Rattle.sfv_text.specs.declared.value.Member.{Member}
 use Rattle.sfv_text.specs.declared.value.Member.TheVariants.{InnerList as InnerMember}
 use Rattle.sfv_read.proofs.InRange.{dict_read_in_range}
 use Rattle.msg_head.specs.declared.error.Side.TheVariants.{Header}
+use Rattle.msg_body.specs.Messages.{Message}
 use Rattle.msg_body.specs.Views.{lines_on}
 use Rattle.msg_head.specs.Values.{combined_value}
 use Rattle.component_ids.specs.Identifiers.{item_of}
-use Rattle.component_ids.specs.SignatureParams.{list_of}
+use Rattle.component_ids.specs.SignatureParams.{list_of, are_sig_params_in_range}
 use Rattle.signatures.specs.Signatures.{input_name}
 use Rattle.signatures.specs.Laws.{IsSignatureInRange}
+use Rattle.signatures.specs.declared.label.LabelFault.{LabelFault}
+use Rattle.signatures.specs.declared.label.LabelRead.{LabelRead}
+use Rattle.signatures.specs.tools.Answered.{ExplainsLabel}
 
 -- the value of a key stands in a pair, and that pair passes a test that each pair passes
 value_passes : {V : Type 0} (test : Pair V → Bool) (pairs : List (Pair V)) (key : List ℕ) (value : V) → list_all test pairs ≡ true → value_of pairs key ≡ Some value
@@ -41,3 +46,8 @@ is_signature_in_range message label params tag has =
     let fits = dict_read_in_range (combined_value (lines_on Header message) input_name) dict has.input.has.reads in
     ap (λ (b : Bool). b && are_params_in_range params.params) (sym (list_all-map is_item_in_range item_of params.ids))
     ∙ inner_in_range dict label (list_of params) fits has.input.member_is
+
+pub read_in_range : (message : Message) (label : List ℕ) (result : Result LabelRead LabelFault) → ExplainsLabel message label result
+    → IfOk result (λ read. are_sig_params_in_range read.params ≡ true)
+read_in_range message label (Ok read) x = is_signature_in_range message label read.params read.tag x
+read_in_range message label (Err fault) x = tt

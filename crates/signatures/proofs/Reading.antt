@@ -1,5 +1,6 @@
 -- Rules 1 to 12: the signature of a label.
 use Rattle.std.proofs.Common.{◌≡◌, ◌⊎◌, ◌<◌, ◌+◌, lit<, lit≤, ℕ, zero, suc, nat_lt, true, Option, Some, None, Result, Ok, Err, List, [], map, refl, sym, ap, subst, ◌∙◌, arith, inl, inr}
+use Rattle.std.specs.Prelude.{IfOk}
 use Rattle.std.proofs.lemmas.Bool.Decides.{nat_tests}
 use Rattle.std.proofs.lemmas.Bool.{cases_Bool, cases_order, false≢true}
 use Rattle.sfv_text.specs.Keys.{value_of}
@@ -8,10 +9,7 @@ use Rattle.sfv_text.specs.declared.value.Item.{Item}
 use Rattle.sfv_text.specs.declared.value.InnerList.{InnerList}
 use Rattle.sfv_text.specs.declared.value.Member.{Member}
 use Rattle.sfv_text.specs.declared.value.Member.TheVariants.{Item as ItemMember, InnerList as InnerMember}
-use Rattle.sfv_read.specs.Fault.{IsRead}
 use Rattle.sfv_read.specs.Reads.{ReadsDict}
-use Rattle.sfv_read.specs.declared.error.SfError.{SfError}
-use Rattle.sfv_read.specs.declared.error.SfError.TheVariants as sf
 use Rattle.sfv_read.proofs.Readings.{dict_has_one_value, dict_is_decided}
 use Rattle.msg_head.specs.declared.error.Side.TheVariants.{Header}
 use Rattle.msg_body.specs.Messages.{Message}
@@ -26,8 +24,8 @@ use Rattle.component_ids.specs.declared.fault.IdFault.TheVariants.{Memory, TooMa
 use Rattle.component_ids.specs.declared.params.SigParams.{SigParams}
 use Rattle.component_ids.proofs.FaultLaws.{one_value, one_fault, not_both}
 use Rattle.component_ids.proofs.Judged.{has_answer}
-use Rattle.signatures.specs.declared.field.FieldFault.{FieldFault}
-use Rattle.signatures.specs.declared.field.FieldFault.TheVariants as field
+use Rattle.signatures.specs.declared.field.DictField.{DictField}
+use Rattle.signatures.specs.declared.field.DictField.TheVariants as field
 use Rattle.signatures.specs.declared.label.LabelFault.{LabelFault}
 use Rattle.signatures.specs.declared.label.LabelFault.TheVariants as label_fault
 use Rattle.signatures.specs.declared.label.LabelRead.{LabelRead}
@@ -36,11 +34,12 @@ use Rattle.signatures.specs.declared.place.Place.TheVariants.{None as Nowhere, I
 use Rattle.signatures.specs.declared.rule.Rule.{Rule}
 use Rattle.signatures.specs.declared.rule.Rule.TheVariants.{InputAbsent, InputMalformed, SignatureAbsent, SignatureMalformed, LabelNotInInput, LabelNotInSignature, InputNotList, SignatureNotBytes, ComponentsMany, ComponentBad, ComponentRepeated, ParameterBad}
 use Rattle.sfv_text.specs.Parts.{byte_sequence_in}
-use Rattle.signatures.specs.Signatures.{input_name, signature_name, HasField, HasDict, HasMember, HasSignature}
+use Rattle.signatures.specs.Fields.{IsFieldOf}
+use Rattle.signatures.specs.Signatures.{input_name, signature_name, HasField, HasDict, HasMember, HasSignature, AreLabels}
 use Rattle.signatures.specs.Rules.{ListHasCause, FailsToRead, IsLabelUnread}
 use Rattle.signatures.specs.Words.{rule_number}
 use Rattle.signatures.specs.Laws.{HasLabels, HasOneListOfLabels, HasSignatureOrNot, HasOneSignature, IsUnreadByOneRule, HasNoFailureWhereRead, IsUnreadByRulesTo12}
-use Rattle.signatures.specs.tools.Answered.{SaysRule, ExplainsField, ExplainsLabel, field_fault_of, label_fault_of, id_fault_of}
+use Rattle.signatures.specs.tools.Answered.{SaysRule, ExplainsLabel, id_fault_of}
 use Rattle.signatures.proofs.Numbers.{has_its_own_number, has_number}
 
 -- ---- what is there is there once
@@ -197,17 +196,19 @@ module _ (message : Message) (label : List ℕ) where
         (none_below_12 (is.none_before TooMany (lit< tt)) (λ j r. is.none_before (BadComponent j r) (lit< tt)) (λ j. is.none_before (Repeated j) (lit< tt)))
         (key, refl, (list, has, is.holds))
 
-  -- the fault of a field is that of the label
-  pub input_fails : (fault : FieldFault) → ExplainsField message input_name (Err fault) → SaysRule (IsLabelUnread message label) (label_fault_of fault InputAbsent InputMalformed)
-  input_fails field.Memory x = tt
-  input_fails field.Absent x = first_failure InputAbsent Nowhere none_below_one (refl, x)
-  input_fails field.Malformed x = first_failure InputMalformed Nowhere (none_below_2 x.0) (refl, x.0, x.1)
+  -- why a field is no Dictionary is why the label isn't read
+  pub no_input : ¬ HasField message input_name → IsLabelUnread message label InputAbsent Nowhere
+  no_input none = first_failure InputAbsent Nowhere none_below_one (refl, none)
 
-  pub signature_fails : (input : List (Pair Member)) → HasDict message input_name input → (fault : FieldFault) → ExplainsField message signature_name (Err fault)
-      → SaysRule (IsLabelUnread message label) (label_fault_of fault SignatureAbsent SignatureMalformed)
-  signature_fails input has field.Memory x = tt
-  signature_fails input has field.Absent x = first_failure SignatureAbsent Nowhere (none_below_3 input has) (refl, x)
-  signature_fails input has field.Malformed x = first_failure SignatureMalformed Nowhere (none_below_4 input has x.0) (refl, x.0, x.1)
+  pub bad_input : HasField message input_name × ((dict : List (Pair Member)) → ¬ HasDict message input_name dict) → IsLabelUnread message label InputMalformed Nowhere
+  bad_input x = first_failure InputMalformed Nowhere (none_below_2 x.0) (refl, x.0, x.1)
+
+  pub no_signature : (input : List (Pair Member)) → HasDict message input_name input → ¬ HasField message signature_name → IsLabelUnread message label SignatureAbsent Nowhere
+  no_signature input has none = first_failure SignatureAbsent Nowhere (none_below_3 input has) (refl, none)
+
+  pub bad_signature : (input : List (Pair Member)) → HasDict message input_name input
+      → HasField message signature_name × ((dict : List (Pair Member)) → ¬ HasDict message signature_name dict) → IsLabelUnread message label SignatureMalformed Nowhere
+  bad_signature input has x = first_failure SignatureMalformed Nowhere (none_below_4 input has x.0) (refl, x.0, x.1)
 
   module _ (input signature : List (Pair Member)) (has : HasDict message input_name input) (also : HasDict message signature_name signature) where
     pub not_in_input : value_of input label ≡ None → IsLabelUnread message label LabelNotInInput Nowhere
@@ -361,17 +362,13 @@ says_rule : (message : Message) (label : List ℕ) (fault : LabelFault) → ¬ (
 says_rule message label label_fault.Memory known says = absurd (known refl)
 says_rule message label (label_fault.Rule rule place) known says = inr (rule, place, says)
 
--- a field that is a Dictionary, or why it is none
-abbrev DictAnswer : Message → List ℕ → Type 0
-DictAnswer message name = ((dict : List (Pair Member)) × HasDict message name dict)
-    ⊎ ((fault : FieldFault) × ¬ (fault ≡ field.Memory) × ExplainsField message name (Err fault))
-
-dict_or_fault : (message : Message) (name : List ℕ) → DictAnswer message name
-dict_or_fault message name = elim (cases_Bool (is_there (lines_on Header message) name)) [
-  | inr none ↦ inr (field.Absent, (λ e. absurd cc), (λ there. false≢true (sym none ∙ there)))
+-- each field is a Dictionary, or none for one reason
+has_field : (message : Message) (name : List ℕ) → (field : DictField) × IsFieldOf message name field
+has_field message name = elim (cases_Bool (is_there (lines_on Header message) name)) [
+  | inr none ↦ (field.Absent, λ there. false≢true (sym none ∙ there))
   | inl there ↦ elim (dict_is_decided (combined_value (lines_on Header message) name)) [
-    | inl reads ↦ inl (reads.0, record { there = there; reads = reads.1 })
-    | inr unread ↦ inr (field.Malformed, (λ e. absurd cc), (there, (λ dict has. unread dict has.reads)))
+    | inl reads ↦ (field.Dict reads.0, record { there = there; reads = reads.1 })
+    | inr unread ↦ (field.Malformed, (there, (λ dict has. unread dict has.reads)))
   ]
 ]
 
@@ -403,45 +400,29 @@ module _ (message : Message) (label : List ℕ) (input signature : List (Pair Me
   by_members (Some covered) None is there = inr (LabelNotInSignature, Nowhere, not_in_signature message label input signature has also covered is there)
   by_members (Some covered) (Some member) is there = by_covered covered member is there
 
-by_signature : (message : Message) (label : List ℕ) (input : List (Pair Member)) → HasDict message input_name input → DictAnswer message signature_name → Answer message label
-by_signature message label input has (inl signature) = by_members message label input signature.0 has signature.1 (value_of input label) (value_of signature.0 label) refl refl
-by_signature message label input has (inr none) =
-    says_rule message label (label_fault_of none.0 SignatureAbsent SignatureMalformed) (known none.0 none.1) (signature_fails message label input has none.0 none.2)
-  where
-    known : (f : FieldFault) → ¬ (f ≡ field.Memory) → ¬ (label_fault_of f SignatureAbsent SignatureMalformed ≡ label_fault.Memory)
-    known field.Memory not_memory e = not_memory refl
-    known field.Absent not_memory e = absurd cc
-    known field.Malformed not_memory e = absurd cc
+by_signature : (message : Message) (label : List ℕ) (input : List (Pair Member)) → HasDict message input_name input → (f : DictField) → IsFieldOf message signature_name f → Answer message label
+by_signature message label input has (field.Dict signature) also = by_members message label input signature has also (value_of input label) (value_of signature label) refl refl
+by_signature message label input has field.Absent none = inr (SignatureAbsent, Nowhere, no_signature message label input has none)
+by_signature message label input has field.Malformed bad = inr (SignatureMalformed, Nowhere, bad_signature message label input has bad)
 
-by_input : (message : Message) (label : List ℕ) → DictAnswer message input_name → Answer message label
-by_input message label (inl input) = by_signature message label input.0 input.1 (dict_or_fault message signature_name)
-by_input message label (inr none) =
-    says_rule message label (label_fault_of none.0 InputAbsent InputMalformed) (known none.0 none.1) (input_fails message label none.0 none.2)
-  where
-    known : (f : FieldFault) → ¬ (f ≡ field.Memory) → ¬ (label_fault_of f InputAbsent InputMalformed ≡ label_fault.Memory)
-    known field.Memory not_memory e = not_memory refl
-    known field.Absent not_memory e = absurd cc
-    known field.Malformed not_memory e = absurd cc
+by_input : (message : Message) (label : List ℕ) → (f : DictField) → IsFieldOf message input_name f → Answer message label
+by_input message label (field.Dict input) has = let also = has_field message signature_name in by_signature message label input has also.0 also.1
+by_input message label field.Absent none = inr (InputAbsent, Nowhere, no_input message label none)
+by_input message label field.Malformed bad = inr (InputMalformed, Nowhere, bad_input message label bad)
 
 pub has_signature_or_not : HasSignatureOrNot
-has_signature_or_not message label = by_input message label (dict_or_fault message input_name)
+has_signature_or_not message label = let input = has_field message input_name in by_input message label input.0 input.1
 
 -- ---- what the parts of the reader answer
-
-abbrev failed : {V : Type 0} → SfError → Result V SfError
-failed error = Err error
 
 pub positive : (n : ℕ) → ¬ (n ≡ 0) → nat_lt 0 n ≡ true
 positive zero some = absurd (some refl)
 positive (suc n) some = grind (arith, nat_tests)
 
 -- a text that isn't read is no Dictionary
-pub unread_field : (message : Message) (name text : List ℕ) (error : SfError) → HasField message name → text ≡ combined_value (lines_on Header message) name
-    → ((dict : List (Pair Member)) → ReadsDict text dict → IsRead (failed {V = List (Pair Member)} error) dict)
-    → ExplainsField message name (Err (field_fault_of error))
-unread_field message name text sf.Memory there is none = tt
-unread_field message name text (sf.Syntax offset) there is none = (there, λ dict has. none dict (subst (λ (t : List ℕ). ReadsDict t dict) (sym is) has.reads))
-unread_field message name text (sf.ItemKind offset) there is none = (there, λ dict has. none dict (subst (λ (t : List ℕ). ReadsDict t dict) (sym is) has.reads))
+pub unread_field : (message : Message) (name text : List ℕ) → HasField message name → text ≡ combined_value (lines_on Header message) name
+    → ((dict : List (Pair Member)) → ¬ ReadsDict text dict) → IsFieldOf message name field.Malformed
+unread_field message name text there is none = (there, λ dict has. none dict (subst (λ (t : List ℕ). ReadsDict t dict) (sym is) has.reads))
 
 -- what isn't read as signature parameters has a fault
 abbrev not_params : IdFault → Result SigParams IdFault
@@ -463,6 +444,11 @@ params_fail message label list (BadParameter key) answers says = says (BadParame
 
 -- ---- what the reader answers
 
+pub is_read_so : (message : Message) (label : List ℕ) (result : Result LabelRead LabelFault) → ExplainsLabel message label result
+    → IfOk result (λ read. HasSignature message label read.params read.tag)
+is_read_so message label (Ok read) x = x
+is_read_so message label (Err fault) x = tt
+
 pub answers_where : (message : Message) (label : List ℕ) (result : Result LabelRead LabelFault) → ExplainsLabel message label result
     → (rule : Rule) (place : Place) → AnswersWhere label_fault.Memory result (label_fault.Rule rule place) (IsLabelUnread message label rule place)
 answers_where message label (Ok read) x rule place = record {
@@ -479,17 +465,13 @@ answers_where message label (Err (label_fault.Rule at here)) x rule place = reco
 
 -- ---- labels
 
+pub are_labels : (message : Message) (f : DictField) → IsFieldOf message input_name f → (labels : List (List ℕ)) × AreLabels message labels
+are_labels message (field.Dict dict) has = (map (λ (member : Pair Member). member.key) dict, inl (dict, has, refl))
+are_labels message field.Absent none = ([], inr ((λ dict has. none has.there), refl))
+are_labels message field.Malformed bad = ([], inr (bad.1, refl))
+
 pub has_labels : HasLabels
-has_labels message = elim (dict_or_fault message input_name) [
-  | inl dict ↦ (map (λ (member : Pair Member). member.key) dict.0, inl (dict.0, dict.1, refl))
-  | inr none ↦ ([], inr (no_dict message none.0 none.1 none.2, refl))
-]
-  where
-    no_dict : (message : Message) (fault : FieldFault) → ¬ (fault ≡ field.Memory) → ExplainsField message input_name (Err fault)
-        → (dict : List (Pair Member)) → ¬ HasDict message input_name dict
-    no_dict message field.Memory known x dict has = known refl
-    no_dict message field.Absent known x dict has = x has.there
-    no_dict message field.Malformed known x dict has = x.1 dict has
+has_labels message = let input = has_field message input_name in are_labels message input.0 input.1
 
 pub has_one_list_of_labels : HasOneListOfLabels
 has_one_list_of_labels message labels others (inl a) (inl b) =

@@ -1,4 +1,5 @@
 pub mod Signatures
+pub mod Fields
 pub mod Rules
 pub mod Words
 pub mod Laws

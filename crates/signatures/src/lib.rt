@@ -5,10 +5,13 @@
 //! // Of a request with the signature of RFC 9421 appendix B.2.5 under the label `s`.
 //! labels_of(alloc, view)?                                         // `s` alone
 //! let LabelRead { params, tag } = read_label(alloc, view, b"s")?; // three components, 32 bytes
+//! let fields = SignatureFields::read(alloc, view)?;               // read once for all labels
+//! fields.label(alloc, b"s")?                                      // the same of it
 //! ```
 #![tactic(auto)]
 
 mod field;
+mod fields;
 mod label;
 mod labels;
 mod laws;
@@ -16,11 +19,10 @@ mod place;
 mod read;
 mod rule;
 
+pub use fields::{SignatureFields, labels_of, read_label};
 pub use label::{LabelFault, LabelRead, Labels};
-pub use labels::labels_of;
 pub use laws::{
     a_label_has_one_reading, a_message_has_one_list_of_labels, a_rule_has_its_own_number,
 };
 pub use place::{DigestReason, Place};
-pub use read::read_label;
 pub use rule::Rule;

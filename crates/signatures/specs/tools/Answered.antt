@@ -1,14 +1,8 @@
 -- What the parts of the code answer. No public clause cites this module.
 use Rattle.std.specs.Prelude.{⊤, ℕ, List, Result, Ok, Err}
-use Rattle.sfv_text.specs.declared.pair.Pair.{Pair}
-use Rattle.sfv_text.specs.declared.value.Member.{Member}
-use Rattle.sfv_read.specs.declared.error.SfError.{SfError}
-use Rattle.sfv_read.specs.declared.error.SfError.TheVariants as sf
 use Rattle.msg_body.specs.Messages.{Message}
 use Rattle.component_ids.specs.declared.fault.IdFault.{IdFault}
 use Rattle.component_ids.specs.declared.fault.IdFault.TheVariants as id
-use Rattle.signatures.specs.declared.field.FieldFault.{FieldFault}
-use Rattle.signatures.specs.declared.field.FieldFault.TheVariants as field
 use Rattle.signatures.specs.declared.label.LabelFault.{LabelFault}
 use Rattle.signatures.specs.declared.label.LabelFault.TheVariants as label
 use Rattle.signatures.specs.declared.label.LabelRead.{LabelRead}
@@ -16,28 +10,8 @@ use Rattle.signatures.specs.declared.place.Place.{Place}
 use Rattle.signatures.specs.declared.place.Place.TheVariants.{None as Nowhere, Index, Component, Name}
 use Rattle.signatures.specs.declared.rule.Rule.{Rule}
 use Rattle.signatures.specs.declared.rule.Rule.TheVariants.{ComponentsMany, ComponentBad, ComponentRepeated, ParameterBad}
-use Rattle.signatures.specs.Signatures.{HasField, HasDict, HasSignature}
+use Rattle.signatures.specs.Signatures.{HasSignature}
 use Rattle.signatures.specs.Rules.{IsLabelUnread}
-
--- why a field whose combined value isn't read is no Dictionary
-abbrev pub field_fault_of : SfError → FieldFault
-field_fault_of sf.Memory = field.Memory
-field_fault_of (sf.Syntax offset) = field.Malformed
-field_fault_of (sf.ItemKind offset) = field.Malformed
-
--- what an answer says of the field
-abbrev pub ExplainsField : Message → List ℕ → Result (List (Pair Member)) FieldFault → Type 0
-ExplainsField message name (Ok dict) = HasDict message name dict
-ExplainsField message name (Err field.Memory) = ⊤
-ExplainsField message name (Err field.Absent) = ¬ HasField message name
-ExplainsField message name (Err field.Malformed) =
-    HasField message name × ((dict : List (Pair Member)) → ¬ HasDict message name dict)
-
--- the fault of the label, by the two rules of its field
-abbrev pub label_fault_of : FieldFault → Rule → Rule → LabelFault
-label_fault_of field.Memory none unread = label.Memory
-label_fault_of field.Absent none unread = label.Rule none Nowhere
-label_fault_of field.Malformed none unread = label.Rule unread Nowhere
 
 -- the fault of the label, by that of its Inner List
 abbrev pub id_fault_of : IdFault → LabelFault
