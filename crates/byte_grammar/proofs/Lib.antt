@@ -11,3 +11,4 @@ pub mod CauseLaws
 pub mod AnswerLaws
 pub mod OffsetLaws
 pub mod ListLaws
+pub mod MapLaws

@@ -1,3 +1,4 @@
 pub mod Languages
 pub mod Walks
 pub mod Determined
+pub mod ByBytes

@@ -50,10 +50,14 @@
 //! - `Indices`: what holds at an index (`all_at`, `slice_get_take`), the first element that fails
 //!   (`find_failed`, `find_none`, `none_fails`), and the facts of a value that is there
 //!   (`some_and`, `some_and_at`, `some_and_parts`).
+//! - `MapLaws`: a map whose keys are owned bytes is a finite map of those bytes (`inserted`,
+//!   `looked_up`).
 #![tactic(auto)]
 
 mod class;
 mod readers;
+mod texts;
 
 pub use class::{Byte, ByteClass, Class, is_blank, is_tchar};
 pub use readers::{Left, read_all, read_byte, read_run, read_word, starts_with};
+pub use texts::is_listed;

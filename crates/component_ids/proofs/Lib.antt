@@ -3,4 +3,3 @@ pub mod RepeatedLaws
 pub mod FaultLaws
 pub mod AnswerLaws
 pub mod Judged
-pub mod KindLaws

@@ -2,13 +2,12 @@
 
 ghost use Rattle.std.specs.Prelude.{◌≡◌, ◌||◌, not, IfNone, Some, None, option_map, codes};
 ghost use Rattle.std.specs.List.{find, list_all, list_any};
-ghost use Rattle.std.specs.Str.{bytes_eq};
 ghost use Rattle.component_ids.specs.Table.{is_true, is_string, is_listed, is_name_byte, is_field_name, request_names, keys_of, has_value_type, has_param, have_clash, has_needed};
 ghost use Rattle.component_ids.specs.Reasons.{applies, reasons};
 ghost use Rattle.component_ids.specs.tools.Rows.{row_keys};
 
 use crate::fault::BadReason;
-use byte_grammar::is_tchar;
+use byte_grammar::{is_listed, is_tchar};
 use sfv_text::{BareItem, Pair, Params};
 
 /// A row of the table: which parameters go with a name.
@@ -42,13 +41,6 @@ pub fn is_field_name(name: &[u8]) -> bool
     ensures { result ≡ is_field_name name.now }
 {
     !name.is_empty() && are_name_bytes(name)
-}
-
-/// Whether the text is one of the texts.
-fn is_listed(texts: &[&[u8]], text: &[u8]) -> bool
-    ensures { result ≡ list_any (λ t. bytes_eq text.now t.now) texts.now }
-{
-    texts.iter().any(|other| text == *other)
 }
 
 /// The derived components of a request without a parameter of their own.

@@ -31,13 +31,14 @@ pub struct Types {
 impl Model for Types {
     ghost use Rattle.std.specs.FinMap as map;
     ghost use Rattle.component_ids.specs.Types.{KindMap};
-    ghost use Rattle.component_ids.specs.tools.Kinds.{kinds_code, by_name};
+    ghost use Rattle.component_ids.specs.tools.Kinds.{kinds_code};
+    ghost use Rattle.byte_grammar.specs.tools.ByBytes.{by_bytes};
 
     ghost Value = { KindMap };
 
     ghost coded = { kinds_code };
 
-    ghost view = { λ t. map.from_entries (by_name t.kinds.entries) };
+    ghost view = { λ t. map.from_entries (by_bytes t.kinds.entries) };
 }
 
 impl Types {

@@ -13,14 +13,9 @@ use Rattle.std.proofs.lemmas.Cmp.{nat_list_cmp_total}
 use Rattle.toml.specs.Data.{Data, Members, no_members, member, get_member}
 use Rattle.toml.specs.View.{members_view}
 use Rattle.toml.specs.declared.value.Value.{Value}
-use Rattle.conf_table.specs.Table.{entries_of}
+use Rattle.settings.proofs.Names.{name_cmp, same_name}
+use Rattle.conf.specs.Table.{entries_of}
 use Rattle.conf.specs.tools.Added.{Named, with_some, with_entry, all_added, HasDistinctNames}
-
-abbrev pub name_cmp : List ℕ → List ℕ → Ordering
-name_cmp = slice_cmp nat_cmp
-
-pub same_name : (a b : List ℕ) → name_cmp a b ≡ Equal → a ≡ b
-same_name a b e = map.slice_cmp-IsAntisymmetric map.nat_cmp-IsAntisymmetric a b e
 
 -- ---- the pairs of a table that is ordered
 

@@ -19,20 +19,21 @@ use Rattle.component_ids.proofs.FaultLaws as list_faults
 use Rattle.component_ids.proofs.Judged as list_answers
 use Rattle.toml.specs.Data.{Data, Members, string, table, as_bool, as_str, get_member}
 use Rattle.toml.specs.Parse.{parse_document}
-use Rattle.conf_table.specs.declared.limits.TheConstants.{DEFAULT_MAX_AGE, DEFAULT_SKEW, MAX_NONCES}
-use Rattle.conf_table.specs.declared.table.Place.TheVariants as place
-use Rattle.conf_table.specs.declared.table.Rule.TheVariants as rule
-use Rattle.conf_table.specs.Covered.{IsCovered, params_of}
-use Rattle.conf_table.specs.Rows.{fails, is_ill_typed, is_out_of_range}
-use Rattle.conf_table.specs.Table.{Row, rows, places, place_path, entries_of, has_place, has_unknown, is_missing, members_at, members_in, row_value}
-use Rattle.conf_table.specs.Values.{has_type, is_type, number_or}
-use Rattle.conf_sections.specs.declared.policy.Policy.{Policy}
-use Rattle.conf_sections.specs.declared.sign_conf.SignConf.{SignConf}
-use Rattle.conf_sections.specs.Sections.{AreComponents, HasSign, IsPolicy, IsSignConf, digest_of, digest_use_of, is_required, nonce_use_of, seconds_of}
+use Rattle.nonces.specs.declared.limits.TheConstants.{MAX_ENTRIES}
+use Rattle.settings.specs.declared.limits.TheConstants.{DEFAULT_MAX_AGE, DEFAULT_SKEW}
+use Rattle.conf.specs.declared.table.TableName.TheVariants as place
+use Rattle.conf.specs.declared.table.ValueRule.TheVariants as rule
+use Rattle.settings.specs.Covered.{IsCoveredList, params_of}
+use Rattle.conf.specs.Rows.{fails, is_ill_typed, is_out_of_range}
+use Rattle.conf.specs.Table.{Row, rows, places, place_path, entries_of, has_place, has_unknown, is_missing, members_at, members_in, row_value}
+use Rattle.conf.specs.Values.{has_type, is_type, number_or}
+use Rattle.settings.specs.declared.policy.Policy.{Policy}
+use Rattle.settings.specs.declared.sign_conf.SignConf.{SignConf}
+use Rattle.conf.specs.Sections.{AreComponents, HasSign, IsPolicy, IsSignConf, digest_of, digest_use_of, is_required, nonce_use_of, seconds_of}
 use Rattle.conf.specs.declared.fault.ConfFault.{ConfFault}
 use Rattle.conf.specs.declared.fault.ConfFault.TheVariants as fault
 use Rattle.conf.specs.declared.lists.Lists.{Lists}
-use Rattle.conf.specs.Configuration.{Configuration}
+use Rattle.settings.specs.Configuration.{Configuration}
 use Rattle.conf.specs.Meaning.{AreKeys, AreTypes, Configures, HasKey, IsDocument, told_scheme}
 use Rattle.conf.specs.Paths.{HoldsAtPath, HoldsOfNone, IsLeast}
 use Rattle.conf.specs.Refusals.{HasBadKeyText, IsBadKeyText, IsBadList, IsConfFault, IsLeastRow}
@@ -129,14 +130,14 @@ bad_keys value bad = absurd bad.1
 -- ---- covered lists
 
 covered_by : (text : List ℕ) (list : InnerList) (ids : List ComponentId) (params : List (Pair BareItem)) → ReadsInner text list
-    → IsParamsOf list (record { ids = ids; params = params }) → ((ids : List ComponentId) × IsCovered text ids) ⊎ ((ids : List ComponentId) → ¬ IsCovered text ids)
+    → IsParamsOf list (record { ids = ids; params = params }) → ((ids : List ComponentId) × IsCoveredList text ids) ⊎ ((ids : List ComponentId) → ¬ IsCoveredList text ids)
 covered_by text list ids [] reads is = inl (ids, record { reads = rw is.1 reads; components = is.0 })
 covered_by text list ids (p ∷ params) reads is = inr (λ others covered.
     let same : list_of (params_of others) ≡ list = inner_has_one_value text _ _ covered.reads reads in
     let none : [] ≡ p ∷ params = ap (λ (l : InnerList). l.params) (same ∙ sym is.1) in
     absurd cc)
 
-covered_or_not : (text : List ℕ) → ((ids : List ComponentId) × IsCovered text ids) ⊎ ((ids : List ComponentId) → ¬ IsCovered text ids)
+covered_or_not : (text : List ℕ) → ((ids : List ComponentId) × IsCoveredList text ids) ⊎ ((ids : List ComponentId) → ¬ IsCoveredList text ids)
 covered_or_not text = elim (inner_is_decided text) [
   | inr none ↦ inr (λ ids covered. none (list_of (params_of ids)) covered.reads)
   | inl list ↦ elim (list_answers.has_answer list.0) [
@@ -165,7 +166,7 @@ has_policy pairs request response first second = (
     require_response = response;
     expires = is_required (get_member (codes "expires") pairs);
     nonce = nonce_use_of (get_member (codes "nonce") pairs);
-    nonces = number_or MAX_NONCES (get_member (codes "nonces") pairs);
+    nonces = number_or MAX_ENTRIES (get_member (codes "nonces") pairs);
     tag = option_and_then as_str (get_member (codes "tag") pairs);
     digest = digest_use_of (get_member (codes "digest") pairs);
   },

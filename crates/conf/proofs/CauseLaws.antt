@@ -6,13 +6,13 @@ use Rattle.byte_grammar.proofs.CauseLaws.{first_is_one}
 use Rattle.toml.specs.Data.{Data, Members, string, table, get_member}
 use Rattle.conf.specs.declared.fault.ConfFault.{ConfFault}
 use Rattle.conf.specs.declared.fault.ConfFault.TheVariants.{Memory, NotToml, UnknownKey, WrongType, OutOfRange, BadKeyText, BadComponents, Missing}
-use Rattle.conf_sections.specs.declared.sign_conf.SignConf.{SignConf}
-use Rattle.conf_table.specs.declared.table.Rule.TheVariants as rule
-use Rattle.conf_sections.specs.Sections.{HasSign}
-use Rattle.conf.specs.Configuration.{Configuration}
+use Rattle.settings.specs.declared.sign_conf.SignConf.{SignConf}
+use Rattle.conf.specs.declared.table.ValueRule.TheVariants as rule
+use Rattle.conf.specs.Sections.{HasSign}
+use Rattle.settings.specs.Configuration.{Configuration}
 use Rattle.conf.specs.Meaning.{Configures, HasKey, IsConfiguration, IsDocument}
 use Rattle.conf.specs.Refusals.{HasBadKeyText, IsBadKeyText, IsBadList, IsConfCause, IsCauseIn, IsConfFault, fault_number}
-use Rattle.conf_table.specs.Table.{members_in, row_value, rows}
+use Rattle.conf.specs.Table.{members_in, row_value, rows}
 use Rattle.conf.specs.Paths.{HoldsOfNone}
 use Rattle.conf.proofs.JudgedLaws.{known_clear, typed_clear, allowed_clear, keys_clear, lists_clear, complete_clear}
 use Rattle.conf.proofs.LeastLaws.{least_once}

@@ -7,16 +7,17 @@ use Rattle.std.proofs.lemmas.Bool.Decides.{nat_tests}
 use Rattle.component_ids.specs.Types.{KindMap}
 use Rattle.component_ids.specs.declared.scheme.Scheme.{Scheme}
 use Rattle.toml.specs.Data.{Data, Members, string, integer, table, as_str, get_member}
-use Rattle.conf_sections.specs.declared.sign_conf.SignConf.{SignConf}
-use Rattle.conf_table.specs.declared.table.Place.TheVariants.{Sign}
-use Rattle.conf_table.specs.declared.table.Rule.TheVariants as rule
-use Rattle.conf.specs.Keys.{KeyMap}
-use Rattle.conf_sections.specs.Sections.{HasSign, IsSignConf, seconds_of}
-use Rattle.conf.specs.Meaning.{AreKeys}
-use Rattle.conf_table.specs.Rows.{fails}
-use Rattle.conf_sections.specs.ValidSections.{AreValidComponents, AreValidSeconds}
-use Rattle.conf.specs.Valid.{IsValid, IsValidSign}
-use Rattle.conf_table.specs.Values.{is_allowed}
+use Rattle.settings.specs.declared.sign_conf.SignConf.{SignConf}
+use Rattle.conf.specs.declared.table.TableName.TheVariants.{Sign}
+use Rattle.conf.specs.declared.table.ValueRule.TheVariants as rule
+use Rattle.settings.specs.Keys.{KeyMap}
+use Rattle.conf.specs.Sections.{HasSign, IsSignConf, seconds_of}
+use Rattle.settings.specs.Configuration.{Configuration}
+use Rattle.conf.specs.Meaning.{AreKeys, IsConfiguration}
+use Rattle.conf.specs.Rows.{fails}
+use Rattle.settings.specs.ValidSections.{AreValidComponents, AreValidSeconds}
+use Rattle.settings.specs.Valid.{IsValid, IsValidSign}
+use Rattle.conf.specs.Values.{is_allowed}
 use Rattle.conf.specs.tools.Judged.{IsJudged}
 use Rattle.conf.specs.declared.sections.Sections.{Sections}
 use Rattle.conf.specs.tools.SectionReads.{AreSections, value_of}
@@ -71,3 +72,7 @@ is_valid document judged scheme keys types sections are say = record {
   policy = valid_policy document sections.policy judged say.policy say.require_request say.require_response;
   sign = valid_signs document judged keys are sections.sign say.sign say.request say.response;
 }
+
+-- what a document says of a configuration it says of an equal one
+pub same_says : (document : Members) (conf other : Configuration) → conf ≡ other → IsConfiguration document other → IsConfiguration document conf
+same_says document conf other same says = rw same says

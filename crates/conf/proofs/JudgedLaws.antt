@@ -4,17 +4,17 @@ use Rattle.std.proofs.lemmas.Bool.{cases_order}
 use Rattle.toml.specs.Data.{Members}
 use Rattle.conf.specs.declared.fault.ConfFault.{ConfFault}
 use Rattle.conf.specs.declared.fault.ConfFault.TheVariants as fault
-use Rattle.conf.specs.declared.judge.Refusal.{Refusal}
-use Rattle.conf.specs.declared.judge.Refusal.TheVariants.{WrongType, OutOfRange, Missing}
-use Rattle.conf_table.specs.Table.{Row, rows, places, place_path, row_value, has_unknown, is_missing}
+use Rattle.conf.specs.declared.judge.RowFault.{RowFault}
+use Rattle.conf.specs.declared.judge.RowFault.TheVariants.{WrongType, OutOfRange, Missing}
+use Rattle.conf.specs.Table.{Row, rows, places, place_path, row_value, has_unknown, is_missing}
 use Rattle.conf.specs.Paths.{HoldsOfNone}
-use Rattle.conf_table.specs.Rows.{is_ill_typed, is_out_of_range}
+use Rattle.conf.specs.Rows.{is_ill_typed, is_out_of_range}
 use Rattle.conf.specs.Refusals.{IsCauseIn, IsLeastRow, HasBadKeyText, IsBadList, fault_number}
 use Rattle.conf.specs.tools.Judged.{fault_of, is_refused, refusal_number, IsCauseNumbered, IsClearBelow, IsFirstIn, IsJudged}
 use Rattle.conf.proofs.LeastLaws.{none_at}
 
 -- a refusal is a cause of its number
-pub refused_is : (refusal : Refusal) (document : Members) (path : List ℕ) → IsLeastRow (λ row. IsTrue (is_refused refusal document row)) path
+pub refused_is : (refusal : RowFault) (document : Members) (path : List ℕ) → IsLeastRow (λ row. IsTrue (is_refused refusal document row)) path
     → IsCauseNumbered (refusal_number refusal) document (fault_of refusal path)
 refused_is WrongType document path least = (refl, least)
 refused_is OutOfRange document path least = (refl, least)

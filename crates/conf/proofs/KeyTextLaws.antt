@@ -11,18 +11,19 @@ use Rattle.std.proofs.lemmas.Bool.{cases_Bool, false≢true}
 use Rattle.toml.specs.Data.{Data, Members, no_members, member, string, table, as_str, get_member}
 use Rattle.conf.specs.declared.fault.ConfFault.{ConfFault}
 use Rattle.conf.specs.declared.fault.ConfFault.TheVariants as fault
-use Rattle.conf_table.specs.declared.table.Rule.TheVariants as rule
-use Rattle.conf.specs.Keys.{KeyMap}
+use Rattle.conf.specs.declared.table.ValueRule.TheVariants as rule
+use Rattle.settings.specs.Keys.{KeyMap}
 use Rattle.conf.specs.Meaning.{AreKeys, HasKey}
 use Rattle.conf.specs.Refusals.{IsBadKeyText, HasBadKeyText}
-use Rattle.conf_table.specs.Rows.{fails}
-use Rattle.conf_table.specs.Table.{entries_of, members_in}
-use Rattle.conf_table.specs.Keys.{IsHmacKey, is_keyid}
-use Rattle.conf_table.specs.Values.{has_type, is_allowed, are_strings}
+use Rattle.conf.specs.Rows.{fails}
+use Rattle.conf.specs.Table.{entries_of, members_in}
+use Rattle.settings.specs.Keys.{IsHmacKey, is_keyid}
+use Rattle.conf.specs.Values.{has_type, is_allowed, are_strings}
 use Rattle.conf.specs.tools.Added.{all_added, key_in, spells_key, spell_keys, HasDistinctNames}
 use Rattle.conf.specs.tools.Judged.{IsClearBelow, IsFirstIn, IsJudged}
 use Rattle.conf.specs.tools.KeyFaults.{IsKeysFault}
-use Rattle.conf.proofs.AddedLaws.{get_added, entry_passes, name_cmp, or_else, same_name}
+use Rattle.settings.proofs.Names.{name_cmp, same_name}
+use Rattle.conf.proofs.AddedLaws.{get_added, entry_passes, or_else}
 use Rattle.conf.proofs.JudgedLaws.{first_is, below_keys, clear_more, keys_clear}
 use Rattle.conf.proofs.KeyLaws.{key_is, key_spelled}
 use Rattle.conf.proofs.RowFacts.{keys_typed, keys_allowed, keys_least, texts_fine}
@@ -135,10 +136,10 @@ keyid_of : (pairs : Members) (keyid key : List ℕ) (value : Option Data) → ge
 keyid_of pairs keyid key None is names has = absurd cc
 keyid_of pairs keyid key (Some value) is names has = entry_passes (λ e. is_keyid e.0) pairs keyid value names is
 
-key_of : (value : Option Data) (key : List ℕ) → HasKey value (Some key) → IsHmacKey key
-key_of None key has = absurd cc
-key_of (Some (string text)) key has = has.is_key
-key_of (Some value) key has = absurd has
+decode_key : (value : Option Data) (key : List ℕ) → HasKey value (Some key) → IsHmacKey key
+decode_key None key has = absurd cc
+decode_key (Some (string text)) key has = has.is_key
+decode_key (Some value) key has = absurd has
 
 pub valid_keyids : (document : Members) → IsJudged document → (keys : KeyMap) → AreKeys (keys_of_document document) keys
     → (keyid key : List ℕ) → map.get keys keyid ≡ Some key → IsTrue (is_keyid keyid)
@@ -146,7 +147,7 @@ valid_keyids document judged keys are keyid key there =
     keyid_of (keys_of_document document) keyid key (get_member keyid (keys_of_document document)) refl (are_named document (get_member (codes "keys") document) (keys_allowed document judged)) (rw there at (are keyid))
 
 pub valid_keys : (document : Members) (keys : KeyMap) → AreKeys (keys_of_document document) keys → (keyid key : List ℕ) → map.get keys keyid ≡ Some key → IsHmacKey key
-valid_keys document keys are keyid key there = key_of (get_member keyid (keys_of_document document)) key (rw there at (are keyid))
+valid_keys document keys are keyid key there = decode_key (get_member keyid (keys_of_document document)) key (rw there at (are keyid))
 
 -- a keyid that the document has has a key
 pub key_is_there : (value : Option Data) (key : Option (List ℕ)) → is_some value ≡ true → HasKey value key → is_some key ≡ true

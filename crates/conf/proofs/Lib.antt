@@ -1,15 +1,14 @@
-mod KeyEntryLaws
 mod LeastLaws
 mod RowLaws
 mod JudgedLaws
 mod KeyLaws
 mod AddedLaws
-mod ValidLaws
 mod ListLaws
 mod RowFacts
 mod SectionLaws
 mod PolicyLaws
 mod KeyTextLaws
+mod StandardNames
 mod TypeLaws
 mod ConfLaws
 pub mod CauseLaws

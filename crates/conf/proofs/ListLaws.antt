@@ -6,18 +6,19 @@ use Rattle.component_ids.specs.declared.params.SigParams.{SigParams}
 use Rattle.component_ids.specs.SignatureParams.{list_of}
 use Rattle.component_ids.proofs.FaultLaws.{one_value}
 use Rattle.toml.specs.Data.{Data, string}
-use Rattle.conf_table.specs.declared.table.Rule.TheVariants as rule
-use Rattle.conf_table.specs.Covered.{IsCovered, params_of}
-use Rattle.conf_table.specs.Rows.{fails}
-use Rattle.conf_table.specs.Values.{has_type}
-use Rattle.conf_sections.specs.Sections.{AreComponents}
-use Rattle.conf_sections.specs.ValidSections.{AreValidComponents}
+use Rattle.conf.specs.declared.table.ValueRule.TheVariants as rule
+use Rattle.settings.specs.Covered.{IsCoveredList, params_of}
+use Rattle.conf.specs.Rows.{fails}
+use Rattle.conf.specs.Values.{has_type}
+use Rattle.conf.specs.Sections.{AreComponents}
+use Rattle.settings.proofs.StandardLaws.{none_valid}
+use Rattle.settings.specs.ValidSections.{AreValidComponents}
 use Rattle.conf.specs.Refusals.{IsBadList}
 use Rattle.conf.specs.tools.SectionReads.{IsToldList}
 
 -- ---- the components that a value tells
 
-one_list : (text : List ℕ) (ids other : List ComponentId) → IsCovered text ids → IsCovered text other → ids ≡ other
+one_list : (text : List ℕ) (ids other : List ComponentId) → IsCoveredList text ids → IsCoveredList text other → ids ≡ other
 one_list text ids other first second =
     let same = inner_has_one_value text (list_of (params_of ids)) (list_of (params_of other)) first.reads second.reads in
     let is : params_of ids ≡ params_of other = one_value (list_of (params_of other)) (params_of ids) (params_of other) (first.components, same) (second.components, refl) in
@@ -38,12 +39,6 @@ not_bad value ids are bad = bad
 pub told_not_bad : (value : Option Data) (ids : List ComponentId) → IsToldList value ids → IsBadList rule.Components value → ⊥
 told_not_bad (Some (string text)) ids told bad = bad ids told.covered
 told_not_bad value ids told bad = bad
-
-pub none_valid : AreValidComponents []
-none_valid = record {
-  components = record { few = omega arith; each = refl; distinct = λ i j d lt more. absurd (omega arith); typed = refl };
-  in_range = refl;
-}
 
 told_valid : (value : Option Data) (ids : List ComponentId) → IsToldList value ids → AreValidComponents ids
 told_valid (Some (string text)) ids told = record { components = told.covered.components; in_range = told.in_range }

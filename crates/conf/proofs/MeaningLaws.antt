@@ -4,14 +4,14 @@ use Rattle.std.specs.FinMap as map
 use Rattle.std.proofs.lemmas.Cmp.{nat_list_cmp_total}
 use Rattle.component_ids.specs.Types.{KindMap}
 use Rattle.toml.specs.Data.{Data, Members, string, table, get_member}
-use Rattle.conf_table.specs.declared.table.Place.TheVariants as place
-use Rattle.conf_table.specs.Table.{members_at, members_in}
-use Rattle.conf_table.specs.Values.{IsKeyText}
-use Rattle.conf_sections.specs.declared.policy.Policy.{Policy}
-use Rattle.conf_sections.specs.declared.sign_conf.SignConf.{SignConf}
-use Rattle.conf_sections.specs.Sections.{HasSign, IsPolicy, IsSignConf}
-use Rattle.conf.specs.Configuration.{Configuration}
-use Rattle.conf.specs.Keys.{KeyMap}
+use Rattle.conf.specs.declared.table.TableName.TheVariants as place
+use Rattle.conf.specs.Table.{members_at, members_in}
+use Rattle.conf.specs.Values.{IsKeyText}
+use Rattle.settings.specs.declared.policy.Policy.{Policy}
+use Rattle.settings.specs.declared.sign_conf.SignConf.{SignConf}
+use Rattle.conf.specs.Sections.{HasSign, IsPolicy, IsSignConf}
+use Rattle.settings.specs.Configuration.{Configuration}
+use Rattle.settings.specs.Keys.{KeyMap}
 use Rattle.conf.specs.Meaning.{AreKeys, AreTypes, Configures, HasKey, IsConfiguration}
 use Rattle.conf.proofs.CauseLaws.{one_document}
 use Rattle.conf.proofs.KeyLaws.{key_is}

@@ -7,22 +7,23 @@ use Rattle.std.proofs.lemmas.Bool.Decides.{nat_tests}
 use Rattle.sfv_text.specs.Range.{is_string_byte}
 use Rattle.toml.specs.Data.{Data, Members, string, integer, as_str}
 use Rattle.nonces.specs.declared.limits.TheConstants.{MAX_WINDOW}
-use Rattle.conf_table.specs.declared.limits.TheConstants.{DEFAULT_MAX_AGE, DEFAULT_SKEW, MAX_AGE, MAX_NONCES, MAX_SKEW}
-use Rattle.conf_table.specs.declared.table.Place.TheVariants as place
-use Rattle.conf_table.specs.declared.table.Rule.{Rule}
-use Rattle.conf_table.specs.declared.table.Rule.TheVariants as rule
-use Rattle.conf_table.specs.Rows.{fails}
-use Rattle.conf_table.specs.Table.{members_at}
-use Rattle.conf_table.specs.Values.{is_allowed, is_within, number_or, window}
-use Rattle.conf_sections.specs.declared.policy.Policy.{Policy}
-use Rattle.conf_sections.specs.Sections.{IsPolicy}
-use Rattle.conf_sections.specs.ValidSections.{AreValidComponents, IsValidPolicy}
+use Rattle.nonces.specs.declared.limits.TheConstants.{MAX_ENTRIES}
+use Rattle.settings.specs.declared.limits.TheConstants.{DEFAULT_MAX_AGE, DEFAULT_SKEW, MAX_AGE, MAX_SKEW}
+use Rattle.conf.specs.declared.table.TableName.TheVariants as place
+use Rattle.conf.specs.declared.table.ValueRule.{ValueRule}
+use Rattle.conf.specs.declared.table.ValueRule.TheVariants as rule
+use Rattle.conf.specs.Rows.{fails}
+use Rattle.conf.specs.Table.{members_at}
+use Rattle.conf.specs.Values.{is_allowed, is_within, number_or, window}
+use Rattle.settings.specs.declared.policy.Policy.{Policy}
+use Rattle.conf.specs.Sections.{IsPolicy}
+use Rattle.settings.specs.ValidSections.{AreValidComponents, IsValidPolicy}
 use Rattle.conf.specs.tools.Judged.{IsJudged}
 use Rattle.conf.specs.tools.SectionReads.{value_of}
 use Rattle.conf.proofs.RowFacts.{passes, max_age_allowed, none_clash, nonces_allowed, policy_tag_allowed, skew_allowed}
 
 -- the number of a key is in the key's range, where what holds without it is
-number_within : (document : Members) (r : Rule) (least most other : ℕ) (value : Option Data) → ((z : ℤ) → is_allowed document r (integer z) ≡ is_within least most z)
+number_within : (document : Members) (r : ValueRule) (least most other : ℕ) (value : Option Data) → ((z : ℤ) → is_allowed document r (integer z) ≡ is_within least most z)
     → least ≤ other → other ≤ most → (IsTrue (fails (is_allowed document r) value) → ⊥) → (least ≤ number_or other value) × (number_or other value ≤ most)
 number_within document r least most other (Some (integer (pos n))) same low high never =
     let within : is_within least most (pos n) ≡ true = sym (same (pos n)) ∙ passes (is_allowed document r) (Some (integer (pos n))) (integer (pos n)) never refl in
@@ -50,7 +51,7 @@ pub valid_policy : (document : Members) (policy : Policy) → IsJudged document 
 valid_policy document policy judged says request response =
     let max_age = number_within document rule.MaxAge 1 MAX_AGE DEFAULT_MAX_AGE (value_of document place.Policy (codes "max-age")) (λ z. refl) (omega arith) (omega arith) (max_age_allowed document judged) in
     let skew = number_within document rule.Skew 0 MAX_SKEW DEFAULT_SKEW (value_of document place.Policy (codes "skew")) (λ z. refl) (omega arith) (omega arith) (skew_allowed document judged) in
-    let nonces = number_within document rule.Nonces 1 MAX_NONCES MAX_NONCES (value_of document place.Policy (codes "nonces")) (λ z. refl) (omega arith) (omega arith) (nonces_allowed document judged) in
+    let nonces = number_within document rule.Nonces 1 MAX_ENTRIES MAX_ENTRIES (value_of document place.Policy (codes "nonces")) (λ z. refl) (omega arith) (omega arith) (nonces_allowed document judged) in
     record {
       least_age = rw says.max_age max_age.0;
       most_age = rw says.max_age max_age.1;

@@ -2,11 +2,11 @@
 use Rattle.std.proofs.Common.{◌≡◌, ◌⊎◌, ◌<◌, ℕ, Result, Ok, Err, IfOk, IfErr, MatchResult, List, refl, ap, arith, inl, inr}
 use Rattle.byte_grammar.specs.Causes.{AnswersWhere, IsFirst}
 use Rattle.toml.specs.Data.{Members}
-use Rattle.conf.specs.declared.conf.Conf.{Conf}
+use Rattle.settings.specs.declared.conf.Conf.{Conf}
 use Rattle.conf.specs.declared.fault.ConfFault.{ConfFault}
 use Rattle.conf.specs.declared.fault.ConfFault.TheVariants.{Memory, NotToml, UnknownKey, WrongType, OutOfRange, BadKeyText, BadComponents, Missing}
-use Rattle.conf.specs.ConfMeaning.{meaning}
-use Rattle.conf.specs.Configuration.{Configuration}
+use Rattle.settings.specs.ConfMeaning.{meaning}
+use Rattle.settings.specs.Configuration.{Configuration}
 use Rattle.conf.specs.Meaning.{Configures, IsConfiguration, IsDocument}
 use Rattle.conf.specs.Refusals.{IsConfCause, IsCauseIn, IsConfFault, fault_number}
 use Rattle.conf.specs.tools.Explained.{Explains}

@@ -5,13 +5,13 @@ use Rattle.std.specs.List.{filter, find}
 use Rattle.std.specs.Str.{bytes_eq}
 use Rattle.std.proofs.lemmas.Bool.{cases_Bool, false≢true}
 use Rattle.toml.specs.Data.{Data, Members, get_member}
-use Rattle.conf_table.specs.declared.table.Place.{Place}
-use Rattle.conf_table.specs.declared.table.Place.TheVariants.{Policy, Sign}
-use Rattle.conf_table.specs.declared.table.Rule.{Rule}
-use Rattle.conf_table.specs.declared.table.Rule.TheVariants as rule
-use Rattle.conf_table.specs.Rows.{fails, is_ill_typed, is_out_of_range}
-use Rattle.conf_table.specs.Table.{Row, rows, at_policy, at_sign, at_top, row_value, has_place, is_missing}
-use Rattle.conf_table.specs.Values.{clashes, has_type, is_allowed}
+use Rattle.conf.specs.declared.table.TableName.{TableName}
+use Rattle.conf.specs.declared.table.TableName.TheVariants.{Policy, Sign}
+use Rattle.conf.specs.declared.table.ValueRule.{ValueRule}
+use Rattle.conf.specs.declared.table.ValueRule.TheVariants as rule
+use Rattle.conf.specs.Rows.{fails, is_ill_typed, is_out_of_range}
+use Rattle.conf.specs.Table.{Row, rows, at_policy, at_sign, at_top, row_value, has_place, is_missing}
+use Rattle.conf.specs.Values.{clashes, has_type, is_allowed}
 use Rattle.conf.specs.declared.lists.Lists.{Lists}
 use Rattle.conf.specs.Paths.{HoldsOfNone}
 use Rattle.conf.specs.Refusals.{HasBadKeyText, IsBadList, IsLeastRow}
@@ -160,11 +160,11 @@ label_there document complete has = there (has_place document Sign) (value_of do
 
 -- ---- key texts
 
-abbrev is_keys : Rule → Bool
+abbrev is_keys : ValueRule → Bool
 is_keys rule.Keys = true
 is_keys other = false
 
-only_keys : (r : Rule) (value : Option Data) → HasBadKeyText r value → is_keys r ≡ true
+only_keys : (r : ValueRule) (value : Option Data) → HasBadKeyText r value → is_keys r ≡ true
 only_keys rule.Keys value bad = refl
 only_keys r value bad = absurd bad
 
@@ -180,11 +180,11 @@ keys_least document bad =
 
 -- ---- lists
 
-abbrev is_list : Rule → Bool
+abbrev is_list : ValueRule → Bool
 is_list rule.Components = true
 is_list other = false
 
-only_lists : (r : Rule) (value : Option Data) → IsBadList r value → is_list r ≡ true
+only_lists : (r : ValueRule) (value : Option Data) → IsBadList r value → is_list r ≡ true
 only_lists rule.Components value bad = refl
 only_lists r value bad = absurd bad
 
@@ -201,7 +201,7 @@ bad_is_least : (document : Members) (before : List Row) (row : Row) (after : Lis
 bad_is_least document before row after all none bad =
     rw (← all) (least_at (λ (r : Row). r.path) (IsBadRow document) before row after (rw all rows_ascend) (none_of_lists document before none) bad)
 
-abbrev IsBad : Members → Place → List ℕ → Type 0
+abbrev IsBad : Members → TableName → List ℕ → Type 0
 IsBad document place name = IsBadList rule.Components (value_of document place name)
 
 pub lists_fine_by : (document : Members) → (IsBad document Policy (codes "require-request") → ⊥) → (IsBad document Policy (codes "require-response") → ⊥)

@@ -1,6 +1,6 @@
 -- The paths of the table ascend.
 use Rattle.std.proofs.Common.{◌≡◌, true, refl}
-use Rattle.conf_table.specs.Table.{Row, rows, places, place_path}
+use Rattle.conf.specs.Table.{Row, rows, places, place_path}
 use Rattle.conf.proofs.LeastLaws.{ascends}
 
 pub rows_ascend : ascends (λ (row : Row). row.path) rows ≡ true

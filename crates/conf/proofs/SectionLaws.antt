@@ -3,14 +3,14 @@ use Rattle.std.proofs.Common.{◌≡◌, ◌⊎◌, ℕ, true, List, Option, Som
 use Rattle.std.specs.Prelude.{option_and_then, is_some}
 use Rattle.std.proofs.lemmas.Bool.{false≢true}
 use Rattle.toml.specs.Data.{Data, Members, no_members, string, table, as_str, get_member}
-use Rattle.conf_table.specs.declared.table.Place.TheVariants as place
-use Rattle.conf_table.specs.declared.table.Rule.TheVariants as rule
-use Rattle.conf_table.specs.Rows.{fails}
-use Rattle.conf_table.specs.Table.{rows, has_place, is_missing, members_at, row_value}
-use Rattle.conf_table.specs.Values.{has_type}
-use Rattle.conf_sections.specs.declared.policy.Policy.{Policy}
-use Rattle.conf_sections.specs.declared.sign_conf.SignConf.{SignConf}
-use Rattle.conf_sections.specs.Sections.{HasSign, IsPolicy, IsSignConf, LacksName}
+use Rattle.conf.specs.declared.table.TableName.TheVariants as place
+use Rattle.conf.specs.declared.table.ValueRule.TheVariants as rule
+use Rattle.conf.specs.Rows.{fails}
+use Rattle.conf.specs.Table.{rows, has_place, is_missing, members_at, row_value}
+use Rattle.conf.specs.Values.{has_type}
+use Rattle.settings.specs.declared.policy.Policy.{Policy}
+use Rattle.settings.specs.declared.sign_conf.SignConf.{SignConf}
+use Rattle.conf.specs.Sections.{HasSign, IsPolicy, IsSignConf, LacksName}
 use Rattle.conf.specs.declared.fault.ConfFault.{ConfFault}
 use Rattle.conf.specs.declared.fault.ConfFault.TheVariants as fault
 use Rattle.conf.specs.declared.lists.Lists.{Lists}

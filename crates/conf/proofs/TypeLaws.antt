@@ -6,14 +6,15 @@ use Rattle.std.specs.Str.{bytes_eq}
 use Rattle.std.proofs.lemmas.Bool.{and_parts, cases_Bool, false≢true}
 use Rattle.std.proofs.lemmas.Slice.Eq.{bytes_eq-Decides}
 use Rattle.toml.specs.Data.{Data, Members, string, table, as_str, get_member}
-use Rattle.component_ids.specs.Table.{is_field_name, is_listed}
+use Rattle.component_ids.specs.Table.{is_field_name}
 use Rattle.component_ids.specs.Types.{KindMap, kind_in, standard_types}
 use Rattle.component_ids.specs.declared.types.FieldKind.{FieldKind}
-use Rattle.conf_table.specs.declared.table.Rule.TheVariants as rule
+use Rattle.conf.specs.declared.table.ValueRule.TheVariants as rule
+use Rattle.settings.specs.Words.{kind_of_word}
 use Rattle.conf.specs.Meaning.{AreTypes, told_kind}
-use Rattle.conf_table.specs.Rows.{fails}
-use Rattle.conf_table.specs.Table.{entries_of, members_in}
-use Rattle.conf_table.specs.Values.{is_allowed, is_type, kind_of_word, standard_names}
+use Rattle.conf.specs.Rows.{fails}
+use Rattle.conf.specs.Table.{entries_of, members_in}
+use Rattle.conf.specs.Values.{is_allowed, is_standard_field, is_type}
 use Rattle.conf.specs.tools.Added.{all_added, kind_told, HasDistinctNames}
 use Rattle.conf.specs.tools.Judged.{IsJudged}
 use Rattle.conf.proofs.AddedLaws.{get_added, entry_passes, or_else}
@@ -38,7 +39,7 @@ is_kind false word is = is
 
 told_is : (name : List ℕ) (value : Data) (known : Option FieldKind) → is_type name value ≡ true → or_else (kind_told value) known ≡ told_kind (Some value) known
 told_is name (string word) known is =
-    of_some (kind_of_word word) known (is_kind (is_listed standard_names name) word (and_parts (is_field_name name) (if is_listed standard_names name then bytes_eq word (codes "dictionary") else is_some (kind_of_word word)) is).1)
+    of_some (kind_of_word word) known (is_kind (is_standard_field name) word (and_parts (is_field_name name) (if is_standard_field name then bytes_eq word (codes "dictionary") else is_some (kind_of_word word)) is).1)
   where
     of_some : (o known : Option FieldKind) → is_some o ≡ true → or_else o known ≡ o
     of_some None known there = absurd (false≢true there)
@@ -47,7 +48,7 @@ told_is name value known is = refl
 
 pub kind_read : (name : List ℕ) (value : Data) → is_some (as_str value) ≡ true → is_type name value ≡ true → is_some (kind_told value) ≡ true
 kind_read name (string word) text is =
-    is_kind (is_listed standard_names name) word (and_parts (is_field_name name) (if is_listed standard_names name then bytes_eq word (codes "dictionary") else is_some (kind_of_word word)) is).1
+    is_kind (is_standard_field name) word (and_parts (is_field_name name) (if is_standard_field name then bytes_eq word (codes "dictionary") else is_some (kind_of_word word)) is).1
 kind_read name value text is = absurd (false≢true text)
 
 pub kind_at : (pairs : Members) (name : List ℕ) (known : Option FieldKind) (value : Option Data) → get_member name pairs ≡ value

@@ -1,7 +1,7 @@
 -- Laws of texts that are read as configurations.
 use Rattle.std.specs.Prelude.{◌≡◌, ◌⊎◌, ℕ, List}
 use Rattle.conf.specs.declared.fault.ConfFault.{ConfFault}
-use Rattle.conf.specs.Configuration.{Configuration}
+use Rattle.settings.specs.Configuration.{Configuration}
 use Rattle.conf.specs.Meaning.{Configures}
 use Rattle.conf.specs.Refusals.{IsConfFault}
 

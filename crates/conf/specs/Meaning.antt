@@ -1,20 +1,20 @@
 -- What the text of a configuration says.
-use Rattle.std.specs.Prelude.{◌≡◌, ℕ, Option, Some, None, IsSomeAnd, IsTrue, IsUtf8, List, codes, if◌then◌else◌}
+use Rattle.std.specs.Prelude.{◌≡◌, ℕ, Option, Some, None, IsSomeAnd, IsTrue, IsUtf8, List, codes, unwrap_or}
 use Rattle.std.specs.FinMap as map
-use Rattle.std.specs.Str.{bytes_eq}
 use Rattle.toml.specs.Data.{Data, Members, string, get_member}
 use Rattle.toml.specs.Parse.{parse_document}
 use Rattle.component_ids.specs.Types.{KindMap, kind_in, standard_types}
 use Rattle.component_ids.specs.declared.types.FieldKind.{FieldKind}
 use Rattle.component_ids.specs.declared.scheme.Scheme.{Scheme}
-use Rattle.component_ids.specs.declared.scheme.Scheme.TheVariants.{Http, Https}
-use Rattle.conf_table.specs.declared.table.Place.TheVariants.{Policy}
-use Rattle.conf_table.specs.Table.{rows, places, members_at, members_in, has_unknown, is_missing}
-use Rattle.conf_table.specs.Values.{IsKeyText, kind_of_word}
-use Rattle.conf_table.specs.Rows.{is_ill_typed, is_out_of_range}
-use Rattle.conf_sections.specs.Sections.{HasSign, IsPolicy}
-use Rattle.conf.specs.Configuration.{Configuration}
-use Rattle.conf.specs.Keys.{KeyMap}
+use Rattle.component_ids.specs.declared.scheme.Scheme.TheVariants.{Https}
+use Rattle.conf.specs.declared.table.TableName.TheVariants.{Policy}
+use Rattle.conf.specs.Table.{rows, places, members_at, members_in, has_unknown, is_missing}
+use Rattle.settings.specs.Words.{kind_of_word, scheme_of_word}
+use Rattle.conf.specs.Values.{IsKeyText}
+use Rattle.conf.specs.Rows.{is_ill_typed, is_out_of_range}
+use Rattle.conf.specs.Sections.{HasSign, IsPolicy}
+use Rattle.settings.specs.Configuration.{Configuration}
+use Rattle.settings.specs.Keys.{KeyMap}
 use Rattle.conf.specs.Paths.{HoldsOfNone}
 
 -- the text is UTF-8, and TOML reads this document in it
@@ -25,7 +25,7 @@ IsDocument text document = IsUtf8 text × (parse_document text ≡ Some document
 
 -- `https` where nothing is said
 abbrev pub told_scheme : Option Data → Scheme
-told_scheme (Some (string text)) = if bytes_eq text (codes "http") then Http else Https
+told_scheme (Some (string word)) = unwrap_or (scheme_of_word word) Https
 told_scheme value = Https
 
 -- the key that a keyid has: the one of the text, or none

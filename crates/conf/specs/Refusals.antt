@@ -5,13 +5,13 @@ use Rattle.component_ids.specs.declared.id.ComponentId.{ComponentId}
 use Rattle.toml.specs.Data.{Data, Members, string, table, get_member}
 use Rattle.conf.specs.declared.fault.ConfFault.{ConfFault}
 use Rattle.conf.specs.declared.fault.ConfFault.TheVariants.{Memory, NotToml, UnknownKey, WrongType, OutOfRange, BadKeyText, BadComponents, Missing}
-use Rattle.conf_table.specs.declared.table.Rule.{Rule}
-use Rattle.conf_table.specs.declared.table.Rule.TheVariants.{Keys, Components}
-use Rattle.conf_table.specs.Table.{Row, rows, places, place_path, row_value, has_unknown, is_missing}
-use Rattle.conf_table.specs.Covered.{IsCovered}
-use Rattle.conf_table.specs.Values.{IsKeyText}
+use Rattle.conf.specs.declared.table.ValueRule.{ValueRule}
+use Rattle.conf.specs.declared.table.ValueRule.TheVariants.{Keys, Components}
+use Rattle.conf.specs.Table.{Row, rows, places, place_path, row_value, has_unknown, is_missing}
+use Rattle.settings.specs.Covered.{IsCoveredList}
+use Rattle.conf.specs.Values.{IsKeyText}
 use Rattle.conf.specs.Paths.{HoldsAtPath, IsLeast}
-use Rattle.conf_table.specs.Rows.{is_ill_typed, is_out_of_range}
+use Rattle.conf.specs.Rows.{is_ill_typed, is_out_of_range}
 use Rattle.conf.specs.Meaning.{IsDocument}
 
 -- the path is the least of a key of which the fact holds
@@ -24,14 +24,14 @@ IsBadKeyText (Some (string text)) = (key : List ℕ) → ¬ IsKeyText text key
 IsBadKeyText value = ⊥
 
 -- some keyid has a text that is no key's
-abbrev pub HasBadKeyText : Rule → Option Data → Type 0
+abbrev pub HasBadKeyText : ValueRule → Option Data → Type 0
 HasBadKeyText Keys (Some (table pairs)) =
     (keyid : List ℕ) × IsBadKeyText (get_member keyid pairs)
 HasBadKeyText rule value = ⊥
 
 -- a covered list that is none
-abbrev pub IsBadList : Rule → Option Data → Type 0
-IsBadList Components (Some (string text)) = (ids : List ComponentId) → ¬ IsCovered text ids
+abbrev pub IsBadList : ValueRule → Option Data → Type 0
+IsBadList Components (Some (string text)) = (ids : List ComponentId) → ¬ IsCoveredList text ids
 IsBadList rule value = ⊥
 
 -- the fact for which the fault is answered, of a document

@@ -1,5 +1,6 @@
 pub mod Judged
-pub mod KeyEntries
+pub mod TableRows
+pub mod Views
 pub mod Added
 pub mod KeyFaults
 pub mod SectionReads

@@ -5,35 +5,35 @@ ghost use Rattle.std.specs.List.{list_any};
 ghost use Rattle.toml.specs.View.{table_view, view};
 ghost use Rattle.conf.specs.Paths.{HoldsAtPath, HoldsOfNone, IsLeast};
 ghost use Rattle.conf.specs.Refusals.{IsLeastRow};
-ghost use Rattle.conf_table.specs.Table.{entries_of, has_place, has_unknown, is_known, is_missing, place_path, places, row_value, rows};
-ghost use Rattle.conf_table.specs.Values.{is_allowed};
-ghost use Rattle.conf_table.specs.Rows.{fails, is_ill_typed, is_out_of_range};
+ghost use Rattle.conf.specs.Table.{entries_of, has_place, has_unknown, is_table_key, is_missing, place_path, places, row_value, rows};
+ghost use Rattle.conf.specs.Values.{is_allowed};
+ghost use Rattle.conf.specs.Rows.{fails, is_ill_typed, is_out_of_range};
 ghost use Rattle.conf.specs.tools.Judged.{fault_of, first_path, first_place, is_refused, refusal_number, IsJudged, IsFirstIn, IsCauseNumbered};
-ghost use Rattle.conf_table.specs.TableRows.{row_of};
+ghost use Rattle.conf.specs.tools.TableRows.{row_of};
 
+use crate::allowed::{clashes, has_type, is_allowed};
 use crate::fault::ConfFault;
-use conf_table::{
-    PLACES, Place, ROWS, Row, clashes, has_type, is_allowed, is_known, table_at, table_in, value_at,
-};
+use crate::members::{table_at, table_in, value_at};
+use crate::table::{PLACES, ROWS, Row, TableName, is_table_key};
 use sfv_text::Text;
 use std::alloc::Global;
 use toml::Table;
 
 // ---- keys that are unknown
 
-fn has_unknown_in(table: &Table, place: Place) -> bool
+fn has_unknown_in(table: &Table, place: TableName) -> bool
     ensures { result
-        ≡ list_any (λ entry. not (is_known place entry.0)) (entries_of (table_view table.now)) }
+        ≡ list_any (λ entry. not (is_table_key place entry.0)) (entries_of (table_view table.now)) }
 {
     for (name, _) in table.iter() {
-        if !is_known(place, name.as_str()) {
+        if !is_table_key(place, name.as_str()) {
             return true;
         }
     }
     false
 }
 
-fn has_unknown(document: &Table, place: Place) -> bool
+fn has_unknown(document: &Table, place: TableName) -> bool
     ensures { result ≡ has_unknown (table_view document.now) place }
 {
     match table_at(document, place) {
@@ -43,7 +43,7 @@ fn has_unknown(document: &Table, place: Place) -> bool
 }
 
 /// The path of the first of the places that has an unknown key.
-fn first_unknown(document: &Table, places: &[Place]) -> Option<&'static str>
+fn first_unknown(document: &Table, places: &[TableName]) -> Option<&'static str>
     ensures { option_copied result
         ≡ first_place (has_unknown (table_view document.now)) places.now }
 {
@@ -70,20 +70,20 @@ fn judge_keys(alloc: Global, document: &Table) -> Result<(), ConfFault>
 
 /// What is judged of each key.
 #[derive(Clone, Copy)]
-pub(crate) enum Refusal {
+pub(crate) enum RowFault {
     WrongType,
     OutOfRange,
     Missing,
 }
 
-impl Refusal {
+impl RowFault {
     fn fault(self, path: Text) -> ConfFault
         ensures { result ≡ fault_of self path }
     {
         match self {
-            Refusal::WrongType => ConfFault::WrongType(path),
-            Refusal::OutOfRange => ConfFault::OutOfRange(path),
-            Refusal::Missing => ConfFault::Missing(path),
+            RowFault::WrongType => ConfFault::WrongType(path),
+            RowFault::OutOfRange => ConfFault::OutOfRange(path),
+            RowFault::Missing => ConfFault::Missing(path),
         }
     }
 }
@@ -113,13 +113,13 @@ fn is_out_of_range(document: &Table, row: &Row) -> bool
     clashes(document, row.rule) || has_refused_value(document, row)
 }
 
-fn has_place(document: &Table, place: Place) -> bool
+fn has_place(document: &Table, place: TableName) -> bool
     ensures { result ≡ has_place (table_view document.now) place }
 {
     match place {
-        Place::Top => true,
-        Place::Policy => table_in(document, "policy").is_some(),
-        Place::Sign => table_in(document, "sign").is_some(),
+        TableName::Top => true,
+        TableName::Policy => table_in(document, "policy").is_some(),
+        TableName::Sign => table_in(document, "sign").is_some(),
     }
 }
 
@@ -131,18 +131,18 @@ fn is_missing(document: &Table, row: &Row) -> bool
         && value_at(document, row.place, row.key).is_none()
 }
 
-fn is_refused(refusal: Refusal, document: &Table, row: &Row) -> bool
+fn is_refused(refusal: RowFault, document: &Table, row: &Row) -> bool
     ensures { result ≡ is_refused refusal (table_view document.now) (row_of row.now) }
 {
     match refusal {
-        Refusal::WrongType => is_ill_typed(document, row),
-        Refusal::OutOfRange => is_out_of_range(document, row),
-        Refusal::Missing => is_missing(document, row),
+        RowFault::WrongType => is_ill_typed(document, row),
+        RowFault::OutOfRange => is_out_of_range(document, row),
+        RowFault::Missing => is_missing(document, row),
     }
 }
 
 /// The path of the first of the rows that is refused.
-fn first_refused(refusal: Refusal, document: &Table, rows: &[Row]) -> Option<&'static str>
+fn first_refused(refusal: RowFault, document: &Table, rows: &[Row]) -> Option<&'static str>
     ensures { option_copied result
         ≡ first_path (is_refused refusal (table_view document.now)) (map row_of rows.now) }
 {
@@ -155,7 +155,11 @@ fn first_refused(refusal: Refusal, document: &Table, rows: &[Row]) -> Option<&'s
 }
 
 /// Judges each key for the same fault.
-pub(crate) fn judge_rows(alloc: Global, refusal: Refusal, document: &Table) -> Result<(), ConfFault>
+pub(crate) fn judge_rows(
+    alloc: Global,
+    refusal: RowFault,
+    document: &Table,
+) -> Result<(), ConfFault>
     ensures ok { OnOk result
         (HoldsOfNone (λ row. IsTrue (is_refused refusal (table_view document.now) row)) rows) }
     ensures err { IfErr result
@@ -173,6 +177,6 @@ pub(crate) fn judge_document(alloc: Global, document: &Table) -> Result<(), Conf
     ensures err { IfErr result (IsFirstIn (table_view document.now)) }
 {
     judge_keys(alloc, document)?;
-    judge_rows(alloc, Refusal::WrongType, document)?;
-    judge_rows(alloc, Refusal::OutOfRange, document)
+    judge_rows(alloc, RowFault::WrongType, document)?;
+    judge_rows(alloc, RowFault::OutOfRange, document)
 }

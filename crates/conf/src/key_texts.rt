@@ -4,15 +4,15 @@ ghost use Rattle.std.specs.Prelude.{◌≡◌, IfErr, IfOk, OnErr, OnOk, option_
 ghost use Rattle.std.specs.FinMap as map;
 ghost use Rattle.toml.specs.Data.{string, get_member};
 ghost use Rattle.toml.specs.View.{table_view, view};
-ghost use Rattle.conf_table.specs.Table.{members_in};
+ghost use Rattle.conf.specs.Table.{members_in};
 ghost use Rattle.conf.specs.tools.Added.{all_added, is_key_length, key_in, spell_keys, spells_key, with_entry, HasDistinctNames};
 ghost use Rattle.conf.specs.tools.KeyFaults.{IsKeyFault, IsKeysFault};
 
 use crate::fault::ConfFault;
-use crate::keys::Keys;
+use crate::members::table_in;
 use base64::DecodeAllocError;
 use base64::engine::general_purpose::STANDARD;
-use conf_table::{MAX_KEY_BYTES, table_in};
+use settings::{Keys, MAX_KEY_BYTES};
 use sfv_text::{Memory, Text};
 use std::alloc::Global;
 use toml::{Table, Value};
@@ -24,7 +24,7 @@ fn is_key_length(bytes: &[u8]) -> bool
 }
 
 /// The key that the text spells, where it is one (RFC 4648 section 4).
-fn key_of(alloc: Global, text: &[u8]) -> Result<Option<Vec<u8>>, Memory>
+fn decode_key(alloc: Global, text: &[u8]) -> Result<Option<Vec<u8>>, Memory>
     ensures { IfOk result (λ o. option_map (λ v. v.items) o ≡ key_in (string text.now)) }
 {
     match STANDARD.decode(alloc, text) {
@@ -49,7 +49,7 @@ fn add_entry(alloc: Global, keys: &mut Keys, keyid: &str, value: &Value) -> Resu
     let Some(text) = value.as_str() else {
         return Ok(());
     };
-    match key_of(alloc, text.as_bytes())? {
+    match decode_key(alloc, text.as_bytes())? {
         None => Err(ConfFault::BadKeyText(Text::from_bytes(alloc, b"keys")?)),
         Some(key) => Ok(keys.add(keyid.as_bytes(), key.as_slice())?),
     }

@@ -4,11 +4,12 @@ ghost use Rattle.std.specs.Prelude.{◌≡◌, IfOk, OnOk, codes};
 ghost use Rattle.toml.specs.Data.{get_member};
 ghost use Rattle.toml.specs.View.{table_view, view};
 ghost use Rattle.component_ids.specs.Types.{standard_types};
-ghost use Rattle.conf_table.specs.Table.{members_in};
+ghost use Rattle.conf.specs.Table.{members_in};
 ghost use Rattle.conf.specs.tools.Added.{all_added, kind_told, with_entry, HasDistinctNames};
 
+use crate::members::table_in;
 use component_ids::{FieldKind, Types};
-use conf_table::{kind_of_word, table_in};
+use settings::kind_of_word;
 use sfv_text::Memory;
 use std::alloc::Global;
 use toml::{Table, Value};

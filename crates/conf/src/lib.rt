@@ -1,5 +1,5 @@
-//! Configurations of HTTP Message Signatures (RFC 9421): what no message tells, and has to be known
-//! to verify a signature or to make one. A configuration is a TOML document.
+//! Configurations of HTTP Message Signatures (RFC 9421) as TOML documents. What a configuration is,
+//! whatever its text, is told by `settings`, whose types have their names here too.
 //!
 //! ```text
 //! let conf = read_conf(alloc, b"[keys]\n\"k\" = \"AAEC\"")?;
@@ -11,24 +11,27 @@
 //! ```
 #![tactic(auto)]
 
-mod calls;
-mod conf;
+mod allowed;
 mod document;
 mod fault;
 mod judge;
 mod key_texts;
-mod keys;
 mod kinds;
 mod laws;
 mod lists;
+mod members;
+mod policy_reader;
 mod read;
 mod scheme;
 mod sections;
+mod sign_reader;
+mod table;
+mod values;
 
-pub use conf::Conf;
-pub use conf_sections::{DigestUse, NonceUse, Policy, SignConf, SignDigest};
-pub use conf_table::{MAX_AGE, MAX_EXPIRES_AFTER, MAX_KEY_BYTES, MAX_NONCES, MAX_SKEW, is_keyid};
 pub use fault::ConfFault;
 pub use laws::a_text_is_one_configuration;
-pub use nonces::{MAX_KEYID_BYTES, MAX_WINDOW};
 pub use read::{empty_conf, read_conf};
+pub use settings::{
+    Conf, DigestUse, MAX_AGE, MAX_ENTRIES, MAX_EXPIRES_AFTER, MAX_KEY_BYTES, MAX_KEYID_BYTES,
+    MAX_SKEW, MAX_WINDOW, NonceUse, Policy, SignConf, SignDigest, is_keyid,
+};

@@ -6,9 +6,10 @@ ghost use Rattle.conf.specs.tools.Judged.{IsCauseNumbered};
 ghost use Rattle.conf.specs.tools.SectionReads.{AreLists, IsListFault, IsToldList, value_of};
 
 use crate::fault::ConfFault;
+use crate::members::text_at;
+use crate::table::TableName;
 use component_ids::Ids;
-use conf_sections::read_covered;
-use conf_table::{Place, text_at};
+use settings::read_covered;
 use sfv_text::Text;
 use std::alloc::Global;
 use toml::Table;
@@ -26,7 +27,7 @@ pub(crate) struct Lists {
 fn read_components(
     alloc: Global,
     document: &Table,
-    place: Place,
+    place: TableName,
     name: &str,
     path: &str,
 ) -> Result<Ids, ConfFault>
@@ -52,28 +53,28 @@ pub(crate) fn read_lists(alloc: Global, document: &Table) -> Result<Lists, ConfF
     let require_request = read_components(
         alloc,
         document,
-        Place::Policy,
+        TableName::Policy,
         "require-request",
         "policy.require-request",
     )?;
     let require_response = read_components(
         alloc,
         document,
-        Place::Policy,
+        TableName::Policy,
         "require-response",
         "policy.require-response",
     )?;
     let components_request = read_components(
         alloc,
         document,
-        Place::Sign,
+        TableName::Sign,
         "components-request",
         "sign.components-request",
     )?;
     let components_response = read_components(
         alloc,
         document,
-        Place::Sign,
+        TableName::Sign,
         "components-response",
         "sign.components-response",
     )?;

@@ -3,24 +3,21 @@
 ghost use Rattle.std.specs.Prelude.{◌≡◌, [], IfOk, IfErr, MatchResult};
 ghost use Rattle.byte_grammar.specs.Causes.{AnswersWhere};
 ghost use Rattle.conf.specs.declared.fault.ConfFault.{ConfFault};
-ghost use Rattle.conf.specs.Configuration.{Configuration};
+ghost use Rattle.settings.specs.Configuration.{Configuration};
 ghost use Rattle.conf.specs.Meaning.{Configures, IsConfiguration};
 ghost use Rattle.conf.specs.Refusals.{IsConfFault};
 ghost use Rattle.toml.specs.View.{table_view};
 ghost use Rattle.conf.specs.tools.Judged.{IsFirstIn};
-ghost use Rattle.conf.specs.ConfMeaning.{meaning};
+ghost use Rattle.settings.specs.ConfMeaning.{meaning};
 
-use crate::conf::Conf;
 use crate::document::read_document;
 use crate::fault::ConfFault;
 use crate::judge::judge_document;
 use crate::key_texts::read_keys;
-use crate::keys::Keys;
 use crate::kinds::read_types;
 use crate::scheme::scheme_in;
 use crate::sections::{Sections, read_sections};
-use component_ids::{Scheme, Types};
-use conf_sections::Policy;
+use settings::Conf;
 use sfv_text::Memory;
 use std::alloc::Global;
 use toml::Table;
@@ -34,13 +31,7 @@ fn conf_of(alloc: Global, document: &Table) -> Result<Conf, ConfFault>
     let keys = read_keys(alloc, document)?;
     let Sections { policy, sign } = read_sections(alloc, document)?;
     let types = read_types(alloc, document)?;
-    Ok(Conf {
-        scheme: scheme_in(document),
-        keys,
-        types,
-        policy,
-        sign,
-    })
+    Ok(Conf::new(scheme_in(document), keys, types, policy, sign))
 }
 
 /// Reads the text of a configuration.
@@ -64,11 +55,5 @@ pub fn read_conf(alloc: Global, text: &[u8]) -> Result<Conf, ConfFault>
 pub fn empty_conf(alloc: Global) -> Result<Conf, Memory>
     ensures { IfOk result (λ conf. Configures [] (meaning conf)) }
 {
-    Ok(Conf {
-        scheme: Scheme::Https,
-        keys: Keys::new(alloc),
-        types: Types::standard(alloc)?,
-        policy: Policy::standard(alloc),
-        sign: None,
-    })
+    Conf::standard(alloc)
 }

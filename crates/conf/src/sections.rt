@@ -6,9 +6,11 @@ ghost use Rattle.conf.specs.tools.Judged.{IsClearBelow, IsFirstIn, IsJudged};
 ghost use Rattle.conf.specs.tools.SectionReads.{AreSections};
 
 use crate::fault::ConfFault;
-use crate::judge::{Refusal, judge_rows};
+use crate::judge::{RowFault, judge_rows};
 use crate::lists::{Lists, read_lists};
-use conf_sections::{Policy, SignConf, policy_of, sign_of};
+use crate::policy_reader::policy_of;
+use crate::sign_reader::sign_of;
+use settings::{Policy, SignConf};
 use std::alloc::Global;
 use toml::Table;
 
@@ -32,7 +34,7 @@ pub(crate) fn read_sections(alloc: Global, document: &Table) -> Result<Sections,
         components_request,
         components_response,
     } = read_lists(alloc, document)?;
-    judge_rows(alloc, Refusal::Missing, document)?;
+    judge_rows(alloc, RowFault::Missing, document)?;
     let policy = policy_of(alloc, document, require_request, require_response)?;
     let sign = sign_of(alloc, document, components_request, components_response)?;
     Ok(Sections { policy, sign })

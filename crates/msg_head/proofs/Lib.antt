@@ -12,6 +12,7 @@ pub mod Naked
 pub mod Ends
 pub mod HeadParts
 pub mod OneHeads
+mod OnePiece
 pub mod Sectioning
 pub mod CleanTexts
 pub mod Grouping

@@ -1,10 +1,13 @@
 //! The value of a line.
 
-ghost use Rattle.std.specs.Prelude.{◌≡◌, ◌*◌, length};
+ghost use Rattle.std.specs.Prelude.{◌≡◌, ◌*◌, length, IsFalse, IfSome, IfNone};
+ghost use Rattle.std.specs.List.{list_all};
+ghost use Rattle.byte_grammar.specs.Classes.{is_visible};
 ghost use Rattle.msg_head.specs.RawValues.{IsRaw};
 ghost use Rattle.msg_head.specs.Values.{IsLineValue, value};
 ghost use Rattle.msg_head.specs.LeftInLines.{value_left, pieces_bound};
 
+use crate::blanks::{skip_gap, split_text};
 use crate::line::LineView;
 use crate::pieces::Pieces;
 
@@ -20,5 +23,21 @@ impl<'m> LineView<'m> {
             left: self.raw,
             is_due: false,
         }
+    }
+
+    /// The line's value where it stands in the message as it is. None where a fold stands within
+    /// it, for which the value has a space (RFC 9112 section 5.2).
+    pub fn whole_value(self) -> Option<&'m [u8]>
+        ensures some { IfSome result (λ text. text.now ≡ value self.entry.raw.now) }
+        ensures none { IfNone result (IsFalse (list_all is_visible (value self.entry.raw.now))) }
+    {
+        let Some(left) = skip_gap(self.raw) else {
+            return Some(b"");
+        };
+        let (text, rest) = split_text(left);
+        if let Some(_) = skip_gap(rest) {
+            return None;
+        }
+        Some(text)
     }
 }

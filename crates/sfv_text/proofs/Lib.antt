@@ -2,3 +2,4 @@ pub mod EqualityLaws
 pub mod Groups
 pub mod Printable
 pub mod PutLaws
+pub mod IndexLaws

@@ -228,12 +228,12 @@ inner_is inner h =
     let p = and_parts (list_all is_item_in_range inner.items) (are_params_in_range inner.params) h in
     joined (join_by item_text (codes " ") inner.items) (41 ∷ params_text inner.params) (separated item_text (codes " ") is_item_in_range refl item_is inner.items p.0) (params inner.params p.1)
 
-member : (m : Member) → is_member_in_range m ≡ true → IsPrintable (member_text m)
-member (ItemMember item) h = item_is item h
-member (InnerMember inner) h = inner_is inner h
+pub member_is : (m : Member) → is_member_in_range m ≡ true → IsPrintable (member_text m)
+member_is (ItemMember item) h = item_is item h
+member_is (InnerMember inner) h = inner_is inner h
 
 pub list_is : (members : List Member) → is_list_in_range members ≡ true → IsPrintable (list_text members)
-list_is members h = separated member_text (codes ", ") is_member_in_range refl member members h
+list_is members h = separated member_text (codes ", ") is_member_in_range refl member_is members h
 
 entry_item : (bare : BareItem) (ps : List (Pair BareItem)) → is_bare_in_range bare ≡ true → IsPrintable (params_text ps) → IsPrintable (dict_item_text bare ps)
 entry_item (Integer z) ps h p = joined (bare_text (Integer z)) (params_text ps) (bare_is (Integer z) h) p

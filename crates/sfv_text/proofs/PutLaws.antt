@@ -26,7 +26,7 @@ distinct_parts p ps d =
     let h = and_parts (not (list_any (has_key p.key) ps)) (have_distinct_keys ps) d in
     (not_false (list_any (has_key p.key) ps) h.0, h.1)
 
-or_false : (a b : Bool) → (a || b) ≡ false → (a ≡ false) × (b ≡ false)
+pub or_false : (a b : Bool) → (a || b) ≡ false → (a ≡ false) × (b ≡ false)
 or_false true b h = absurd (false≢true (sym h))
 or_false false b h = (refl, h)
 
@@ -73,7 +73,7 @@ within p (x ∷ xs) h = elim (cases_Bool (p x)) [
 ]
 
 -- no pair has the key where none is found
-none_found : {X : Type 0} (p : X → Bool) (xs : List X) → position p xs ≡ None → list_any p xs ≡ false
+pub none_found : {X : Type 0} (p : X → Bool) (xs : List X) → position p xs ≡ None → list_any p xs ≡ false
 none_found p xs none = elim (cases_Bool (list_any p xs)) [
   | inl h ↦ let lt : nat_lt (position_or_len p xs) (length xs) ≡ true = lt-ltb (position_or_len p xs) (length xs) (within p xs h) in let found = rw lt at none in absurd cc
   | inr n ↦ n

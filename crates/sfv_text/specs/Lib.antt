@@ -6,3 +6,4 @@ pub mod Parts
 pub mod Range
 pub mod Strict
 pub mod Values
+pub mod tools

@@ -1,9 +1,14 @@
 -- What bare items and members hold, by their type (RFC 9651 section 3.3).
-use Rattle.std.specs.Prelude.{ℕ, Option, Some, None, List}
+use Rattle.std.specs.Prelude.{ℕ, ℤ, Option, Some, None, List}
 use Rattle.sfv_text.specs.declared.value.BareItem.{BareItem}
-use Rattle.sfv_text.specs.declared.value.BareItem.TheVariants.{Str, Bytes}
+use Rattle.sfv_text.specs.declared.value.BareItem.TheVariants.{Integer, Str, Bytes}
 use Rattle.sfv_text.specs.declared.value.Member.{Member}
 use Rattle.sfv_text.specs.declared.value.Member.TheVariants.{Item as ItemMember, InnerList as InnerMember}
+
+-- the number of an Integer
+abbrev pub integer_in : BareItem → Option ℤ
+integer_in (Integer z) = Some z
+integer_in bare = None
 
 -- the characters of a String
 abbrev pub string_in : BareItem → Option (List ℕ)

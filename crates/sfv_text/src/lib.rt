@@ -11,13 +11,14 @@
 #![tactic(auto)]
 
 mod absorb;
+mod bare;
+mod index;
 mod key;
 mod laws;
 mod memory;
 mod pair;
 mod pairs;
 mod print;
-mod print_bare;
 mod sequence;
 mod text;
 mod value;
@@ -28,7 +29,7 @@ pub use laws::{equality_is_tested, keys_stay_distinct, strict_texts_are_printabl
 pub use memory::Memory;
 pub use pair::Pair;
 pub use pairs::Pairs;
-pub use print::{print_dict, print_inner, print_item, print_list};
+pub use print::{print_bare, print_dict, print_inner, print_item, print_list, print_member};
 pub use sequence::Sequence;
 pub use text::Text;
 pub use value::{BareItem, Dict, InnerList, Item, Items, List, Member, Params};

@@ -1,10 +1,12 @@
 //! Lists of pairs with distinct keys.
 
 ghost use Rattle.std.specs.Prelude.{◌≡◌, ◌<◌, ◌↔◌, true, false, [], Some, IfSome, IfNone, length, slice_get, option_copied, IsTrue, OnOk, OnErr};
-ghost use Rattle.std.specs.List.{find, list_any, position};
+ghost use Rattle.std.specs.List.{find, list_any};
 ghost use Rattle.std.specs.Slice.Iter.{iter_rest};
 ghost use Rattle.sfv_text.specs.Keys.{put, has_key, have_distinct_keys, value_of};
+ghost use Rattle.sfv_text.specs.tools.Index.{Indexes};
 
+use crate::index::{KeyIndex, index_new, place_of};
 use crate::memory::Memory;
 use crate::pair::Pair;
 use crate::text::Text;
@@ -17,32 +19,34 @@ use std::slice::Iter;
 #[derive(Debug, Drop)]
 pub struct Pairs<V> {
     pairs: Vec<Pair<V>>,
+    /// The place of each key, from a number of pairs on; without it all pairs are looked through.
+    index: Option<KeyIndex>,
 }
 
 impl<V> Model for Pairs<V> {
     ghost use Rattle.std.specs.Prelude.{IsTrue, List};
     ghost use Rattle.sfv_text.specs.declared.pair.Pair.{Pair};
     ghost use Rattle.sfv_text.specs.Keys.{have_distinct_keys};
+    ghost use Rattle.sfv_text.specs.tools.Index.{Indexes};
 
     ghost Value = { List (Pair V) };
 
     ghost view = { λ p. p.pairs.items };
 
-    ghost invariant = { λ p. IsTrue (have_distinct_keys p.pairs.items) };
-}
-
-/// The index of the first pair of the key.
-fn index_of<V>(pairs: &[Pair<V>], key: &[u8]) -> Option<usize>
-    ensures { result ≡ position (has_key key.now) pairs.now }
-{
-    pairs.iter().position(|pair| pair.key.bytes() == key)
+    ghost invariant = { λ p. IsTrue (have_distinct_keys p.pairs.items)
+        × Indexes p.index p.pairs.items };
 }
 
 /// The first pair of the key.
-fn pair_of<'a, V>(pairs: &'a [Pair<V>], key: &[u8]) -> Option<&'a Pair<V>>
+#[tactic(auto, using(crate::proofs::IndexLaws::found_at, crate::proofs::IndexLaws::none_at))]
+fn pair_of<'a, V>(index: &Option<KeyIndex>, pairs: &'a [Pair<V>], key: &[u8]) -> Option<&'a Pair<V>>
+    requires { Indexes index.now pairs.now }
     ensures { option_copied result ≡ find (has_key key.now) pairs.now }
 {
-    pairs.iter().find(|pair| pair.key.bytes() == key)
+    match place_of(index, pairs, key) {
+        Some(place) => Some(&pairs[place]),
+        None => None,
+    }
 }
 
 impl<V: Drop> Pairs<V> {
@@ -52,6 +56,7 @@ impl<V: Drop> Pairs<V> {
     {
         Pairs {
             pairs: Vec::new(alloc),
+            index: None,
         }
     }
 
@@ -59,7 +64,7 @@ impl<V: Drop> Pairs<V> {
         requires { IsTrue (have_distinct_keys pairs.items) }
         ensures { result ≡ pairs.items }
     {
-        Pairs { pairs }
+        Pairs { pairs, index: None }
     }
 
     /// How many pairs it has.
@@ -88,7 +93,7 @@ impl<V: Drop> Pairs<V> {
     pub fn find(&self, key: &[u8]) -> Option<&V>
         ensures { option_copied result ≡ value_of self.now key.now }
     {
-        pair_of(self.pairs.as_slice(), key).map(|pair| &pair.value)
+        pair_of(&self.index, self.pairs.as_slice(), key).map(|pair| &pair.value)
     }
 
     /// The pairs one by one, in order.
@@ -108,15 +113,20 @@ impl<V: Drop> Pairs<V> {
 
     /// Replaces the value of the key where it stands, or adds the pair at the end. Out of memory,
     /// the key and the value are dropped.
-    #[tactic(auto, using(crate::proofs::PutLaws::none_has, crate::proofs::PutLaws::put_new, crate::proofs::PutLaws::put_found, crate::proofs::PutLaws::put_found_distinct, crate::proofs::PutLaws::put_new_distinct))]
+    #[tactic(auto, using(crate::proofs::PutLaws::none_has, crate::proofs::PutLaws::put_new, crate::proofs::PutLaws::put_found, crate::proofs::PutLaws::put_found_distinct, crate::proofs::PutLaws::put_new_distinct, crate::proofs::IndexLaws::same_places))]
     pub fn put(&mut self, key: Text, value: V) -> Result<(), Memory>
         ensures ok { OnOk result (self.new ≡ put self.old key value) }
         ensures err { OnErr result (self.new ≡ self.old) }
         ensures new_key { OnErr result (list_any (has_key key) self.old ≡ false) }
     {
-        match index_of(self.pairs.as_slice(), key.bytes()) {
-            Some(index) => self.pairs[index] = Pair { key, value },
-            None => self.pairs.push(Pair { key, value })?,
+        match place_of(&self.index, self.pairs.as_slice(), key.bytes()) {
+            Some(place) => self.pairs[place] = Pair { key, value },
+            None => {
+                self.pairs.reserve(1)?;
+                let alloc = *self.pairs.allocator();
+                index_new(alloc, &mut self.index, self.pairs.as_slice(), key.bytes())?;
+                self.pairs.push(Pair { key, value })?;
+            }
         }
         Ok(())
     }

@@ -2,12 +2,12 @@
 
 ghost use Rattle.std.specs.Prelude.{◌≡◌, ◌++◌, IsTrue, IfOk, OnOk};
 ghost use Rattle.std.specs.List.{list_all, join_by};
-ghost use Rattle.sfv_text.specs.Range.{is_item_in_range, is_inner_in_range, is_list_in_range, is_dict_in_range, is_string_byte};
-ghost use Rattle.sfv_text.specs.Strict.{param_value_text, params_text, item_text, inner_text, list_text, dict_item_text, dict_value_text, dict_text};
+ghost use Rattle.sfv_text.specs.Range.{is_bare_in_range, is_item_in_range, is_inner_in_range, is_member_in_range, is_list_in_range, is_dict_in_range, is_string_byte};
+ghost use Rattle.sfv_text.specs.Strict.{bare_text, param_value_text, params_text, item_text, inner_text, member_text, list_text, dict_item_text, dict_value_text, dict_text};
 
+use crate::bare::write_bare;
 use crate::memory::Memory;
 use crate::pair::Pair;
-use crate::print_bare::write_bare;
 use crate::text::Text;
 use crate::value::{BareItem, Dict, InnerList, Item, List, Member, Params};
 use std::alloc::Global;
@@ -17,6 +17,18 @@ const BETWEEN_ITEMS: &[u8] = b" ";
 
 /// Stands between two members of a List or a Dictionary.
 const BETWEEN_MEMBERS: &[u8] = b", ";
+
+/// The strict text of a bare item (RFC 9651 section 4.1.3.1).
+#[tactic(auto, using(crate::proofs::Printable::bare_is))]
+pub fn print_bare(alloc: Global, value: &BareItem) -> Result<Text, Memory>
+    requires { IsTrue (is_bare_in_range value.now) }
+    ensures is { IfOk result (λ text. text ≡ bare_text value.now) }
+    ensures printable { IfOk result (λ text. IsTrue (list_all is_string_byte text)) }
+{
+    let mut text = Text::new(alloc);
+    write_bare(value, &mut text)?;
+    Ok(text)
+}
 
 /// The strict text of an Item.
 #[tactic(auto, using(crate::proofs::Printable::item_is))]
@@ -35,6 +47,18 @@ pub fn print_item(alloc: Global, value: &Item) -> Result<Text, Memory>
 pub fn print_inner(alloc: Global, value: &InnerList) -> Result<Text, Memory>
     requires { IsTrue (is_inner_in_range value.now) }
     ensures is { IfOk result (λ text. text ≡ inner_text value.now) }
+    ensures printable { IfOk result (λ text. IsTrue (list_all is_string_byte text)) }
+{
+    let mut text = Text::new(alloc);
+    value.write(&mut text)?;
+    Ok(text)
+}
+
+/// The strict text of a member of a List, which is that of an Item or of an Inner List.
+#[tactic(auto, using(crate::proofs::Printable::member_is))]
+pub fn print_member(alloc: Global, value: &Member) -> Result<Text, Memory>
+    requires { IsTrue (is_member_in_range value.now) }
+    ensures is { IfOk result (λ text. text ≡ member_text value.now) }
     ensures printable { IfOk result (λ text. IsTrue (list_all is_string_byte text)) }
 {
     let mut text = Text::new(alloc);

@@ -1,8 +1,9 @@
 //! The values of structured fields (RFC 9651 section 3).
 
-ghost use Rattle.std.specs.Prelude.{◌≡◌, ◌≤◌, ◌↔◌, ◌⊎◌, length, option_map, IsTrue, IfOk, IfErr};
+ghost use Rattle.std.specs.Prelude.{◌≡◌, ◌≤◌, ◌↔◌, ◌⊎◌, length, option_map, option_and_then, IsTrue, IfOk, IfErr};
 ghost use Rattle.sfv_text.specs.Equality.{is_equal_bare, is_equal_param};
-ghost use Rattle.sfv_text.specs.Parts.{byte_sequence_in};
+ghost use Rattle.sfv_text.specs.Keys.{value_of};
+ghost use Rattle.sfv_text.specs.Parts.{byte_sequence_in, integer_in, string_in};
 ghost use Rattle.sfv_text.specs.Values.{own_bytes};
 
 use crate::memory::Memory;
@@ -101,6 +102,27 @@ impl Pairs<BareItem> {
             copies.push(copy_of_param(alloc, param)?)?;
         }
         Ok(Pairs::from_vec(copies))
+    }
+
+    /// The characters of the parameter of the key, where it is a String (RFC 9651 section 3.3.3).
+    pub fn string(&self, key: &[u8]) -> Option<&Text>
+        ensures { option_map (λ text. text.now) result
+            ≡ option_and_then string_in (value_of self.now key.now) }
+    {
+        match self.find(key) {
+            Some(BareItem::Str(text)) => Some(text),
+            _ => None,
+        }
+    }
+
+    /// The number of the parameter of the key, where it is an Integer (RFC 9651 section 3.3.1).
+    pub fn integer(&self, key: &[u8]) -> Option<i64>
+        ensures { result ≡ option_and_then integer_in (value_of self.now key.now) }
+    {
+        match self.find(key) {
+            Some(BareItem::Integer(number)) => Some(*number),
+            _ => None,
+        }
     }
 }
 

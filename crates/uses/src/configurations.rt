@@ -1,9 +1,9 @@
-//! Of `conf` and `conf_sections`: what a configuration says that no command shows yet, keys that
+//! Of `conf` and `settings`: what a configuration says that no command shows yet, keys that
 //! are added to it, and lists of covered components.
 
 use component_ids::{Ids, Scheme};
 use conf::{SignConf, SignDigest, empty_conf, read_conf};
-use conf_sections::read_covered;
+use settings::read_covered;
 use sfv_text::{Memory, Text};
 use std::alloc::Global;
 use std::test::Fail;

@@ -1,15 +1,11 @@
--- The entries of a map of kinds under the bytes of their names, and the code of such a map.
+-- The code of a map of kinds by the bytes of names.
 -- No public clause cites this module.
-use Rattle.std.specs.Prelude.{◌≡◌, ℕ, zero, suc, List, map, Vec, refl}
+use Rattle.std.specs.Prelude.{◌≡◌, ℕ, zero, suc, refl}
 use Rattle.std.specs.FinMap as finite
 use Rattle.std.specs.Coded.{Coded, code_by, coded_list, coded_ℕ}
-use Rattle.std.specs.declared.alloc.Global.{Global}
 use Rattle.component_ids.specs.declared.types.FieldKind.{FieldKind}
 use Rattle.component_ids.specs.declared.types.FieldKind.TheVariants.{Item, List as ListKind, Dictionary}
 use Rattle.component_ids.specs.Types.{KindMap}
-
-abbrev pub by_name : List (Vec ℕ Global × FieldKind) → List (List ℕ × FieldKind)
-by_name entries = map (λ e. (e.0.items, e.1)) entries
 
 -- a kind as a number
 abbrev number_of : FieldKind → ℕ

@@ -10,9 +10,9 @@ use Rattle.base64.specs.Engines.{standard}
 use Rattle.base64.specs.GeneralPurpose.{decode_of, encode_of}
 use Rattle.toml.specs.Data.{Data, Members, no_members, member, string, get_member}
 use Rattle.component_ids.specs.declared.types.FieldKind.{FieldKind}
-use Rattle.conf_table.specs.declared.limits.TheConstants.{MAX_KEY_BYTES}
-use Rattle.conf_table.specs.Table.{entries_of}
-use Rattle.conf_table.specs.Values.{kind_of_word}
+use Rattle.settings.specs.declared.limits.TheConstants.{MAX_KEY_BYTES}
+use Rattle.conf.specs.Table.{entries_of}
+use Rattle.settings.specs.Words.{kind_of_word}
 
 abbrev pub Named : Type 0 → Type 0
 Named X = map.FinMap (slice_cmp nat_cmp) X

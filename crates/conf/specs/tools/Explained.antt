@@ -1,9 +1,9 @@
 -- What the reader answers of a text. No public clause cites this module.
 use Rattle.std.specs.Prelude.{◌≡◌, ◌⊎◌, ℕ, Result, Ok, Err, List}
-use Rattle.conf.specs.declared.conf.Conf.{Conf}
+use Rattle.settings.specs.declared.conf.Conf.{Conf}
 use Rattle.conf.specs.declared.fault.ConfFault.{ConfFault}
 use Rattle.conf.specs.declared.fault.ConfFault.TheVariants.{Memory}
-use Rattle.conf.specs.ConfMeaning.{meaning}
+use Rattle.settings.specs.ConfMeaning.{meaning}
 use Rattle.conf.specs.Meaning.{Configures}
 use Rattle.conf.specs.Refusals.{IsConfFault}
 

@@ -5,12 +5,12 @@ use Rattle.byte_grammar.specs.Causes.{IsFirst}
 use Rattle.toml.specs.Data.{Members}
 use Rattle.conf.specs.declared.fault.ConfFault.{ConfFault}
 use Rattle.conf.specs.declared.fault.ConfFault.TheVariants as fault
-use Rattle.conf.specs.declared.judge.Refusal.{Refusal}
-use Rattle.conf.specs.declared.judge.Refusal.TheVariants.{WrongType, OutOfRange, Missing}
-use Rattle.conf_table.specs.declared.table.Place.{Place}
-use Rattle.conf_table.specs.Table.{Row, rows, places, place_path, has_unknown, is_missing}
+use Rattle.conf.specs.declared.judge.RowFault.{RowFault}
+use Rattle.conf.specs.declared.judge.RowFault.TheVariants.{WrongType, OutOfRange, Missing}
+use Rattle.conf.specs.declared.table.TableName.{TableName}
+use Rattle.conf.specs.Table.{Row, rows, places, place_path, has_unknown, is_missing}
 use Rattle.conf.specs.Paths.{HoldsOfNone}
-use Rattle.conf_table.specs.Rows.{is_ill_typed, is_out_of_range}
+use Rattle.conf.specs.Rows.{is_ill_typed, is_out_of_range}
 use Rattle.conf.specs.Meaning.{IsDocument}
 use Rattle.conf.specs.Refusals.{IsCauseIn, fault_number}
 
@@ -21,17 +21,17 @@ IsNotToml text fault.NotToml = (document : Members) → ¬ IsDocument text docum
 IsNotToml text fault = ⊥
 
 -- the fault that a refusal is at a path
-abbrev pub fault_of : Refusal → List ℕ → ConfFault
+abbrev pub fault_of : RowFault → List ℕ → ConfFault
 fault_of WrongType path = fault.WrongType path
 fault_of OutOfRange path = fault.OutOfRange path
 fault_of Missing path = fault.Missing path
 
-abbrev pub refusal_number : Refusal → ℕ
+abbrev pub refusal_number : RowFault → ℕ
 refusal_number WrongType = 4
 refusal_number OutOfRange = 5
 refusal_number Missing = 9
 
-abbrev pub is_refused : Refusal → Members → Row → Bool
+abbrev pub is_refused : RowFault → Members → Row → Bool
 is_refused WrongType document row = is_ill_typed document row
 is_refused OutOfRange document row = is_out_of_range document row
 is_refused Missing document row = is_missing document row
@@ -41,7 +41,7 @@ abbrev pub first_path : (Row → Bool) → List Row → Option (List ℕ)
 first_path test rows = option_map (λ row. row.path) (find test rows)
 
 -- the path of the first place that passes the test
-abbrev pub first_place : (Place → Bool) → List Place → Option (List ℕ)
+abbrev pub first_place : (TableName → Bool) → List TableName → Option (List ℕ)
 first_place test places = option_map place_path (find test places)
 
 -- a fault of the number whose cause holds, or out of memory

@@ -3,13 +3,13 @@ use Rattle.std.specs.Prelude.{◌≡◌, ℕ, Option, Some, IsTrue, List, [], co
 use Rattle.std.specs.Option.{ForSome}
 use Rattle.toml.specs.Data.{Data, Members, string, get_member}
 use Rattle.component_ids.specs.declared.id.ComponentId.{ComponentId}
-use Rattle.conf_table.specs.declared.table.Place.{Place}
-use Rattle.conf_table.specs.declared.table.Place.TheVariants.{Policy, Sign}
-use Rattle.conf_table.specs.declared.table.Rule.TheVariants as rule
-use Rattle.conf_table.specs.Table.{rows, row_value, members_at, is_missing}
-use Rattle.conf_sections.specs.ReadList.{IsReadList}
-use Rattle.conf_sections.specs.Sections.{HasSign, IsPolicy}
-use Rattle.conf_sections.specs.ValidSections.{AreValidComponents}
+use Rattle.conf.specs.declared.table.TableName.{TableName}
+use Rattle.conf.specs.declared.table.TableName.TheVariants.{Policy, Sign}
+use Rattle.conf.specs.declared.table.ValueRule.TheVariants as rule
+use Rattle.conf.specs.Table.{rows, row_value, members_at, is_missing}
+use Rattle.settings.specs.ReadList.{IsReadList}
+use Rattle.conf.specs.Sections.{HasSign, IsPolicy}
+use Rattle.settings.specs.ValidSections.{AreValidComponents}
 use Rattle.conf.specs.declared.fault.ConfFault.{ConfFault}
 use Rattle.conf.specs.declared.fault.ConfFault.TheVariants as fault
 use Rattle.conf.specs.declared.lists.Lists.{Lists}
@@ -18,7 +18,7 @@ use Rattle.conf.specs.Paths.{HoldsOfNone}
 use Rattle.conf.specs.Refusals.{IsBadList}
 
 -- the value at the place under the name
-abbrev pub value_of : Members → Place → List ℕ → Option Data
+abbrev pub value_of : Members → TableName → List ℕ → Option Data
 value_of document place name = get_member name (members_at document place)
 
 -- the components that a value tells

@@ -1,6 +1,6 @@
 use Rattle.std.proofs.Common.{◌≡◌, drop}
 use Rattle.toml.specs.View.{table_view}
-use Rattle.conf_table.specs.Table.{has_unknown}
+use Rattle.conf.specs.Table.{has_unknown}
 use Rattle.conf.specs.tools.Judged.{first_place}
 use Rattle.conf.proofs.judge.first_unknown.Given as goal
 

@@ -1,6 +1,6 @@
 use Rattle.std.proofs.Common.{◌≡◌, Some, List, ℕ, refl, ap, ◌∙◌}
 use Rattle.toml.specs.View.{table_view}
-use Rattle.conf_table.specs.Table.{has_unknown, places, place_path}
+use Rattle.conf.specs.Table.{has_unknown, places, place_path}
 use Rattle.conf.proofs.LeastLaws.{found_none, found_least}
 use Rattle.conf.proofs.RowLaws.{places_ascend}
 use Rattle.conf.proofs.judge.judge_keys.Goals as goal

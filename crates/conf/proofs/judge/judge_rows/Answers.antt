@@ -1,6 +1,6 @@
 use Rattle.std.proofs.Common.{◌≡◌, Some, List, ℕ, ap, ◌∙◌}
 use Rattle.toml.specs.View.{table_view}
-use Rattle.conf_table.specs.Table.{Row, rows}
+use Rattle.conf.specs.Table.{Row, rows}
 use Rattle.conf.specs.tools.Judged.{is_refused}
 use Rattle.conf.proofs.LeastLaws.{found_none, found_least}
 use Rattle.conf.proofs.RowLaws.{rows_ascend}

@@ -1,6 +1,7 @@
 use Rattle.std.proofs.lemmas.Result.{err_from_is_err_and}
 use Rattle.toml.specs.View.{table_view}
-use Rattle.conf.proofs.ConfLaws.{is_valid}
+use Rattle.settings.specs.ConfMeaning.{meaning}
+use Rattle.conf.proofs.ConfLaws.{is_valid, same_says}
 use Rattle.conf.proofs.KeyTextLaws.{are_keys, below_lists, keys_fault}
 use Rattle.conf.proofs.TypeLaws.{have_types}
 use Rattle.conf.proofs.read.conf_of.Goals as goal
@@ -15,18 +16,18 @@ returns-in_err-policy-clause-err c =
     let p = err_from_is_err_and c.from_residual-in_err-policy.result c.from_residual-in_err-policy.ensures.1 in
     rw (p.1, p.2) (c.in_err-policy.ensures.err (below_lists (table_view c.args.document.now) c.in_ok-judge_document.ensures.ok c.in_ok-keys.ensures.spell))
 
-pub invariant_of-result : goal.invariant_of-result
-invariant_of-result c =
+pub new-requires : goal.new-requires
+new-requires c =
     let document = table_view c.args.document.now in
     let judged = c.in_ok-judge_document.ensures.ok in
     let keys = are_keys document judged c.in_ok-keys.ensures.spell c.in_ok-keys.ensures.distinct c.in_ok-keys.keys c.in_ok-keys.ensures.ok in
-    record { valid = is_valid document judged c.scheme_in.result c.in_ok-keys.keys c.in_ok-types.types c.in_ok-policy.field-0 keys c.in_ok-policy.ensures.ok }
+    is_valid document judged c.scheme_in.result c.in_ok-keys.keys c.in_ok-types.types c.in_ok-policy.field-0 keys c.in_ok-policy.ensures.ok
 
 pub returns-clause-ok : goal.returns-clause-ok
 returns-clause-ok c =
     let document = table_view c.args.document.now in
     let judged = c.in_ok-judge_document.ensures.ok in
-    record {
+    same_says document (meaning c.new.result) _ c.new.ensures (record {
       known = judged.known;
       typed = judged.typed;
       allowed = judged.allowed;
@@ -36,4 +37,4 @@ returns-clause-ok c =
       types = have_types document judged c.in_ok-types.ensures.distinct c.in_ok-types.types c.in_ok-types.ensures.ok;
       policy = c.in_ok-policy.ensures.ok.policy;
       sign = c.in_ok-policy.ensures.ok.sign;
-    }
+    })

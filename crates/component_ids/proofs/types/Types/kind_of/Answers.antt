@@ -1,6 +1,6 @@
 use Rattle.std.proofs.Common.{ap, ◌∙◌}
 use Rattle.component_ids.specs.Types.{kind_in}
-use Rattle.component_ids.proofs.KindLaws.{looked_up}
+use Rattle.byte_grammar.proofs.MapLaws.{looked_up}
 use Rattle.component_ids.proofs.types.Types.kind_of.Goals as goal
 
 pub returns : goal.returns

@@ -1,0 +1,91 @@
+-- What the tables of a configuration say.
+use Rattle.std.specs.Prelude.{◌≡◌, ◌⊎◌, ℕ, pos, Bool, false, Option, Some, None, IsSomeAnd, option_and_then, unwrap_or, List, [], codes}
+use Rattle.toml.specs.Data.{Data, Members, string, integer, table, as_str, as_bool, get_member}
+use Rattle.component_ids.specs.declared.id.ComponentId.{ComponentId}
+use Rattle.nonces.specs.declared.limits.TheConstants.{MAX_ENTRIES}
+use Rattle.settings.specs.declared.limits.TheConstants.{DEFAULT_MAX_AGE, DEFAULT_SKEW}
+use Rattle.settings.specs.Covered.{IsCoveredList}
+use Rattle.settings.specs.Words.{digest_use_of_word, expires_of_word, nonce_use_of_word, sign_digest_of_word}
+use Rattle.conf.specs.Values.{number_or}
+use Rattle.settings.specs.declared.policy.Policy.{Policy}
+use Rattle.settings.specs.declared.policy.NonceUse.{NonceUse}
+use Rattle.settings.specs.declared.policy.NonceUse.TheVariants as nonce
+use Rattle.settings.specs.declared.policy.DigestUse.{DigestUse}
+use Rattle.settings.specs.declared.policy.DigestUse.TheVariants as digest
+use Rattle.settings.specs.declared.sign_conf.SignConf.{SignConf}
+use Rattle.settings.specs.declared.sign_conf.SignDigest.{SignDigest}
+use Rattle.settings.specs.declared.sign_conf.SignDigest.TheVariants.{No}
+
+-- ---- the values of keys
+
+-- no components where nothing is said
+abbrev pub AreComponents : Option Data → List ComponentId → Type 0
+AreComponents None ids = ids ≡ []
+AreComponents (Some (string text)) ids = IsCoveredList text ids
+AreComponents (Some value) ids = ⊥
+
+-- seconds, or none where nothing is said
+abbrev pub seconds_of : Option Data → Option ℕ
+seconds_of (Some (integer (pos n))) = Some n
+seconds_of value = None
+
+-- none where nothing is said
+abbrev pub digest_of : Option Data → SignDigest
+digest_of (Some (string word)) = unwrap_or (sign_digest_of_word word) No
+digest_of value = No
+
+-- not where nothing is said
+abbrev pub is_required : Option Data → Bool
+is_required (Some (string word)) = unwrap_or (expires_of_word word) false
+is_required value = false
+
+-- ignored where nothing is said
+abbrev pub nonce_use_of : Option Data → NonceUse
+nonce_use_of (Some (string word)) = unwrap_or (nonce_use_of_word word) nonce.Ignore
+nonce_use_of value = nonce.Ignore
+
+-- ignored where nothing is said
+abbrev pub digest_use_of : Option Data → DigestUse
+digest_use_of (Some (string word)) = unwrap_or (digest_use_of_word word) digest.Ignore
+digest_use_of value = digest.Ignore
+
+-- ---- tables
+
+-- what the table `policy` says; where there is none, its pairs are none
+pub record IsPolicy (pairs : Members) (policy : Policy) : Type 0 where
+  pub max_age : policy.max_age ≡ number_or DEFAULT_MAX_AGE (get_member (codes "max-age") pairs)
+  pub skew : policy.skew ≡ number_or DEFAULT_SKEW (get_member (codes "skew") pairs)
+  pub require_request :
+      AreComponents (get_member (codes "require-request") pairs) policy.require_request
+  pub require_response :
+      AreComponents (get_member (codes "require-response") pairs) policy.require_response
+  pub expires : policy.expires ≡ is_required (get_member (codes "expires") pairs)
+  pub nonce : policy.nonce ≡ nonce_use_of (get_member (codes "nonce") pairs)
+  pub nonces : policy.nonces ≡ number_or MAX_ENTRIES (get_member (codes "nonces") pairs)
+  pub tag : policy.tag ≡ option_and_then as_str (get_member (codes "tag") pairs)
+  pub digest : policy.digest ≡ digest_use_of (get_member (codes "digest") pairs)
+
+-- what the table `sign` says
+pub record IsSignConf (pairs : Members) (sign : SignConf) : Type 0 where
+  pub label : get_member (codes "label") pairs ≡ Some (string sign.label)
+  pub keyid : get_member (codes "keyid") pairs ≡ Some (string sign.keyid)
+  pub components_request :
+      AreComponents (get_member (codes "components-request") pairs) sign.components_request
+  pub components_response :
+      AreComponents (get_member (codes "components-response") pairs) sign.components_response
+  pub expires_after : sign.expires_after ≡ seconds_of (get_member (codes "expires-after") pairs)
+  pub alg : sign.alg ≡ unwrap_or (option_and_then as_bool (get_member (codes "alg") pairs)) false
+  pub tag : sign.tag ≡ option_and_then as_str (get_member (codes "tag") pairs)
+  pub digest : sign.digest ≡ digest_of (get_member (codes "digest") pairs)
+
+-- a table, or nothing where there is none
+abbrev pub HasSign : Option Data → Option SignConf → Type 0
+HasSign None sign = sign ≡ None
+HasSign (Some (table pairs)) sign = IsSomeAnd sign (IsSignConf pairs)
+HasSign (Some value) sign = ⊥
+
+-- the table `sign` has no text for its label, or none for its keyid
+abbrev pub LacksName : Members → Type 0
+LacksName pairs =
+    (option_and_then as_str (get_member (codes "label") pairs) ≡ None)
+    ⊎ (option_and_then as_str (get_member (codes "keyid") pairs) ≡ None)

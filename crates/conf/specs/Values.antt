@@ -1,0 +1,117 @@
+-- The values that the keys of a configuration take.
+use Rattle.std.specs.Prelude.{◌≡◌, ◌+◌, ◌*◌, ℕ, ℤ, pos, negsuc, Bool, true, false, ◌&&◌, nat_le, nat_lt, Option, Some, None, is_some, List, [], ◌∷◌, codes, if◌then◌else◌}
+use Rattle.std.specs.List.{list_all}
+use Rattle.std.specs.Str.{bytes_eq}
+use Rattle.base64.specs.Engines.{standard}
+use Rattle.base64.specs.GeneralPurpose.{encode_of, IsBytes}
+use Rattle.toml.specs.Data.{Data, Members, string, integer, table, as_str, as_integer, as_bool, as_table, get_member}
+use Rattle.sfv_text.specs.Range.{is_string_byte, is_key}
+use Rattle.component_ids.specs.Table.{is_field_name}
+use Rattle.component_ids.specs.Types.{kind_in, standard_types}
+use Rattle.nonces.specs.declared.limits.TheConstants.{MAX_ENTRIES, MAX_WINDOW}
+use Rattle.settings.specs.declared.limits.TheConstants.{MAX_EXPIRES_AFTER, MAX_AGE, MAX_SKEW, DEFAULT_MAX_AGE, DEFAULT_SKEW}
+use Rattle.conf.specs.declared.table.ValueRule.{ValueRule}
+use Rattle.conf.specs.declared.table.ValueRule.TheVariants.{Version, Scheme, Keys, Types, Table, Label, Keyid, Seconds, Flag, Tag, Digest, MaxAge, Skew, Nonces, Expires, NonceUse, DigestUse}
+use Rattle.conf.specs.declared.table.TableName.TheVariants.{Policy}
+use Rattle.settings.specs.Keys.{IsHmacKey, is_keyid}
+use Rattle.settings.specs.Words.{digest_use_of_word, expires_of_word, kind_of_word, nonce_use_of_word, scheme_of_word, sign_digest_of_word}
+use Rattle.conf.specs.Table.{members_in, members_at, entries_of}
+
+-- ---- types
+
+abbrev pub are_strings : Data → Bool
+are_strings (table pairs) =
+    list_all (λ entry. is_some (as_str entry.1)) (entries_of pairs)
+are_strings value = false
+
+-- the value has the type that the rule asks for; what isn't named here is a string
+abbrev pub has_type : ValueRule → Data → Bool
+has_type Version value = is_some (as_integer value)
+has_type Seconds value = is_some (as_integer value)
+has_type MaxAge value = is_some (as_integer value)
+has_type Skew value = is_some (as_integer value)
+has_type Nonces value = is_some (as_integer value)
+has_type Flag value = is_some (as_bool value)
+has_type Table value = is_some (as_table value)
+has_type Keys value = are_strings value
+has_type Types value = are_strings value
+has_type rule value = is_some (as_str value)
+
+-- ---- ranges
+
+abbrev pub is_within : ℕ → ℕ → ℤ → Bool
+is_within least most (pos n) = nat_le least n && nat_le n most
+is_within least most (negsuc n) = false
+
+-- the field is structured by its own standard
+abbrev pub is_standard_field : List ℕ → Bool
+is_standard_field name = is_some (kind_in standard_types name)
+
+-- the field of that name, in lower case, may be told to be of that kind: those that are
+-- Dictionaries by their standards are told nothing else
+abbrev pub is_type : List ℕ → Data → Bool
+is_type name (string word) =
+    is_field_name name
+    && (if is_standard_field name then bytes_eq word (codes "dictionary")
+    else is_some (kind_of_word word))
+is_type name value = true
+
+abbrev pub is_text_allowed : Members → ValueRule → List ℕ → Bool
+is_text_allowed document Scheme text = is_some (scheme_of_word text)
+is_text_allowed document Label text = is_key text
+is_text_allowed document Keyid text =
+    is_some (get_member text (members_in (get_member (codes "keys") document)))
+is_text_allowed document Tag text = list_all is_string_byte text
+is_text_allowed document Digest text = is_some (sign_digest_of_word text)
+is_text_allowed document Expires text = is_some (expires_of_word text)
+is_text_allowed document NonceUse text = is_some (nonce_use_of_word text)
+is_text_allowed document DigestUse text = is_some (digest_use_of_word text)
+is_text_allowed document rule text = true
+
+abbrev pub is_integer_allowed : ValueRule → ℤ → Bool
+is_integer_allowed Version z = is_within 1 1 z
+is_integer_allowed Seconds z = is_within 1 MAX_EXPIRES_AFTER z
+is_integer_allowed MaxAge z = is_within 1 MAX_AGE z
+is_integer_allowed Skew z = is_within 0 MAX_SKEW z
+is_integer_allowed Nonces z = is_within 1 MAX_ENTRIES z
+is_integer_allowed rule z = true
+
+abbrev pub is_table_allowed : ValueRule → Members → Bool
+is_table_allowed Keys pairs = list_all (λ entry. is_keyid entry.0) (entries_of pairs)
+is_table_allowed Types pairs = list_all (λ entry. is_type entry.0 entry.1) (entries_of pairs)
+is_table_allowed rule pairs = true
+
+-- the value is one that the rule allows in this document; of a value of another type nothing is
+-- asked here
+abbrev pub is_allowed : Members → ValueRule → Data → Bool
+is_allowed document rule (string text) = is_text_allowed document rule text
+is_allowed document rule (integer z) = is_integer_allowed rule z
+is_allowed document rule (table pairs) = is_table_allowed rule pairs
+is_allowed document rule value = true
+
+-- ---- values that don't go together
+
+-- the number that is told, or else the other; a negative one, which no key takes, counts as 0
+abbrev pub number_or : ℕ → Option Data → ℕ
+number_or other (Some (integer (pos n))) = n
+number_or other (Some (integer (negsuc n))) = 0
+number_or other value = other
+
+-- how many seconds ahead a nonce may be kept: `max-age`, with the skew of the two clocks twice
+abbrev pub window : Members → ℕ
+window policy =
+    number_or DEFAULT_MAX_AGE (get_member (codes "max-age") policy)
+    + 2 * number_or DEFAULT_SKEW (get_member (codes "skew") policy)
+
+-- the window is longer than a day, by what is told or by what holds where nothing is
+abbrev pub clashes : Members → ValueRule → Bool
+clashes document MaxAge = nat_lt MAX_WINDOW (window (members_at document Policy))
+clashes document rule = false
+
+-- ---- texts that stand for something else
+
+-- the text is the key in base64 with its padding (RFC 4648 section 4)
+pub record IsKeyText (text key : List ℕ) : Type 0 where
+  pub bytes : IsBytes key
+  pub spelled : text ≡ encode_of standard key
+  pub is_key : IsHmacKey key

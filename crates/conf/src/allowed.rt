@@ -1,0 +1,222 @@
+//! Which values a key takes.
+
+ghost use Rattle.std.specs.Prelude.{◌≡◌, is_some, codes, nat_lt, if◌then◌else◌};
+ghost use Rattle.std.specs.List.{list_all, list_any};
+ghost use Rattle.std.specs.Str.{bytes_eq};
+ghost use Rattle.toml.specs.Data.{as_str, get_member};
+ghost use Rattle.toml.specs.View.{table_view, view};
+ghost use Rattle.nonces.specs.declared.limits.TheConstants.{MAX_WINDOW};
+ghost use Rattle.settings.specs.Keys.{is_keyid};
+ghost use Rattle.settings.specs.Words.{kind_of_word};
+ghost use Rattle.conf.specs.declared.table.TableName.TheVariants.{Policy};
+ghost use Rattle.conf.specs.Table.{entries_of, members_at, members_in};
+ghost use Rattle.conf.specs.Values.{are_strings, clashes, has_type, is_allowed, is_integer_allowed, is_standard_field, is_table_allowed, is_text_allowed, is_type, is_within, window};
+
+use crate::members::{member, number_or, table_in};
+use crate::table::{TableName, ValueRule};
+use component_ids::is_field_name;
+use settings::{
+    DEFAULT_MAX_AGE, DEFAULT_SKEW, DigestUse, MAX_AGE, MAX_ENTRIES, MAX_EXPIRES_AFTER, MAX_SKEW,
+    MAX_WINDOW, NonceUse, SignDigest, are_string_bytes, expires_of_word, is_keyid, kind_of_word,
+    scheme_of_word,
+};
+use sfv_text::is_key;
+use toml::{Table, Value};
+
+// ---- types
+
+fn are_strings_in(table: &Table) -> bool
+    ensures { result
+        ≡ list_all (λ entry. is_some (as_str entry.1)) (entries_of (table_view table.now)) }
+{
+    for (_, value) in table.iter() {
+        if !value.is_str() {
+            return false;
+        }
+    }
+    true
+}
+
+fn are_strings(value: &Value) -> bool
+    ensures { result ≡ are_strings (view value.now) }
+{
+    match value.as_table() {
+        None => false,
+        Some(table) => are_strings_in(table),
+    }
+}
+
+/// Whether the value has the type that the rule asks for.
+pub(crate) fn has_type(rule: ValueRule, value: &Value) -> bool
+    ensures { result ≡ has_type rule (view value.now) }
+{
+    match rule {
+        ValueRule::Version
+        | ValueRule::Seconds
+        | ValueRule::MaxAge
+        | ValueRule::Skew
+        | ValueRule::Nonces => { value.is_integer() }
+        ValueRule::Flag => value.is_bool(),
+        ValueRule::Table => value.is_table(),
+        ValueRule::Keys | ValueRule::Types => are_strings(value),
+        _ => value.is_str(),
+    }
+}
+
+// ---- texts
+
+fn is_listed(texts: &[&[u8]], text: &[u8]) -> bool
+    ensures { result ≡ list_any (λ t. bytes_eq text.now t.now) texts.now }
+{
+    texts.iter().any(|other| text == *other)
+}
+
+/// Whether `keys` has the keyid.
+fn is_keyid_of(document: &Table, keyid: &str) -> bool
+    ensures { result ≡ is_some
+        (get_member keyid.now (members_in (get_member (codes "keys") (table_view document.now)))) }
+{
+    match table_in(document, "keys") {
+        None => false,
+        Some(keys) => member(keys, keyid).is_some(),
+    }
+}
+
+fn is_text_allowed(document: &Table, rule: ValueRule, text: &str) -> bool
+    ensures { result ≡ is_text_allowed (table_view document.now) rule text.now }
+{
+    match rule {
+        ValueRule::Scheme => scheme_of_word(text.as_bytes()).is_some(),
+        ValueRule::Label => is_key(text.as_bytes()),
+        ValueRule::Keyid => is_keyid_of(document, text),
+        ValueRule::Tag => are_string_bytes(text.as_bytes()),
+        ValueRule::Digest => SignDigest::of_word(text.as_bytes()).is_some(),
+        ValueRule::Expires => expires_of_word(text.as_bytes()).is_some(),
+        ValueRule::NonceUse => NonceUse::of_word(text.as_bytes()).is_some(),
+        ValueRule::DigestUse => DigestUse::of_word(text.as_bytes()).is_some(),
+        _ => true,
+    }
+}
+
+// ---- tables
+
+const STANDARD_NAMES: [&[u8]; 4] = [
+    b"signature-input",
+    b"signature",
+    b"accept-signature",
+    b"content-digest",
+];
+
+/// Whether the field is structured by its own standard, as `Types::standard` has it.
+fn is_standard_field(name: &[u8]) -> bool
+    ensures { result ≡ is_standard_field name.now }
+{
+    is_listed(&STANDARD_NAMES, name)
+}
+
+fn is_kind_for(name: &[u8], word: &[u8]) -> bool
+    ensures { result ≡ (if is_standard_field name.now
+        then bytes_eq word.now (codes "dictionary") else is_some (kind_of_word word.now)) }
+{
+    if is_standard_field(name) {
+        word == b"dictionary".as_slice()
+    } else {
+        kind_of_word(word).is_some()
+    }
+}
+
+fn is_type(name: &[u8], value: &Value) -> bool
+    ensures { result ≡ is_type name.now (view value.now) }
+{
+    match value.as_str() {
+        None => true,
+        Some(word) => is_field_name(name) && is_kind_for(name, word.as_bytes()),
+    }
+}
+
+fn are_keyids(table: &Table) -> bool
+    ensures { result ≡ list_all (λ entry. is_keyid entry.0) (entries_of (table_view table.now)) }
+{
+    for (keyid, _) in table.iter() {
+        if !is_keyid(keyid.as_bytes()) {
+            return false;
+        }
+    }
+    true
+}
+
+fn are_types(table: &Table) -> bool
+    ensures { result
+        ≡ list_all (λ entry. is_type entry.0 entry.1) (entries_of (table_view table.now)) }
+{
+    for (name, value) in table.iter() {
+        if !is_type(name.as_bytes(), value) {
+            return false;
+        }
+    }
+    true
+}
+
+// ---- values
+
+fn is_within(least: u64, most: u64, number: i64) -> bool
+    ensures { result ≡ is_within least most number }
+{
+    number >= 0 && least <= number as u64 && number as u64 <= most
+}
+
+fn is_integer_allowed(rule: ValueRule, number: i64) -> bool
+    ensures { result ≡ is_integer_allowed rule number }
+{
+    match rule {
+        ValueRule::Version => is_within(1, 1, number),
+        ValueRule::Seconds => is_within(1, MAX_EXPIRES_AFTER, number),
+        ValueRule::MaxAge => is_within(1, MAX_AGE, number),
+        ValueRule::Skew => is_within(0, MAX_SKEW, number),
+        ValueRule::Nonces => is_within(1, MAX_ENTRIES as u64, number),
+        _ => true,
+    }
+}
+
+fn is_table_allowed(rule: ValueRule, table: &Table) -> bool
+    ensures { result ≡ is_table_allowed rule (table_view table.now) }
+{
+    match rule {
+        ValueRule::Keys => are_keyids(table),
+        ValueRule::Types => are_types(table),
+        _ => true,
+    }
+}
+
+/// Whether the value is one that the rule allows in this document, or of another type.
+pub(crate) fn is_allowed(document: &Table, rule: ValueRule, value: &Value) -> bool
+    ensures { result ≡ is_allowed (table_view document.now) rule (view value.now) }
+{
+    match value {
+        Value::String(text) => is_text_allowed(document, rule, text.as_str()),
+        Value::Integer(number) => is_integer_allowed(rule, *number),
+        Value::Table(table) => is_table_allowed(rule, table),
+        _ => true,
+    }
+}
+
+// ---- values that don't go together
+
+fn has_long_window(document: &Table) -> bool
+    ensures { result ≡ nat_lt MAX_WINDOW (window (members_at (table_view document.now) Policy)) }
+{
+    let max_age = number_or(document, TableName::Policy, "max-age", DEFAULT_MAX_AGE);
+    let skew = number_or(document, TableName::Policy, "skew", DEFAULT_SKEW);
+    max_age.saturating_add(skew.saturating_mul(2)) > MAX_WINDOW
+}
+
+/// Whether the values of several keys don't go together, of which the rule's key is the first:
+/// whether `max-age` and twice `skew` are more than `MAX_WINDOW`.
+pub(crate) fn clashes(document: &Table, rule: ValueRule) -> bool
+    ensures { result ≡ clashes (table_view document.now) rule }
+{
+    match rule {
+        ValueRule::MaxAge => has_long_window(document),
+        _ => false,
+    }
+}

@@ -1,0 +1,44 @@
+//! How signatures are judged, as a document says it.
+
+ghost use Rattle.std.specs.Prelude.{IfOk, codes};
+ghost use Rattle.toml.specs.Data.{get_member};
+ghost use Rattle.toml.specs.View.{table_view};
+ghost use Rattle.conf.specs.declared.table.TableName.TheVariants as place;
+ghost use Rattle.conf.specs.Table.{members_at};
+ghost use Rattle.conf.specs.Sections.{AreComponents, IsPolicy};
+
+use crate::members::number_or;
+use crate::table::TableName;
+use crate::values::{digest_use_in, nonce_use_in, read_tag, requires_expires};
+use component_ids::Ids;
+use settings::{DEFAULT_MAX_AGE, DEFAULT_SKEW, MAX_ENTRIES, Policy};
+use sfv_text::Memory;
+use std::alloc::Global;
+use toml::Table;
+
+/// What the table `policy` of the document says, with the components that it tells; without the
+/// table, what holds where nothing is said.
+pub(crate) fn policy_of(
+    alloc: Global,
+    document: &Table,
+    request: Ids,
+    response: Ids,
+) -> Result<Policy, Memory>
+    requires request { AreComponents (get_member (codes "require-request")
+        (members_at (table_view document.now) place.Policy)) request }
+    requires response { AreComponents (get_member (codes "require-response")
+        (members_at (table_view document.now) place.Policy)) response }
+    ensures { IfOk result (IsPolicy (members_at (table_view document.now) place.Policy)) }
+{
+    Ok(Policy {
+        max_age: number_or(document, TableName::Policy, "max-age", DEFAULT_MAX_AGE),
+        skew: number_or(document, TableName::Policy, "skew", DEFAULT_SKEW),
+        require_request: request,
+        require_response: response,
+        expires: requires_expires(document),
+        nonce: nonce_use_in(document),
+        nonces: number_or(document, TableName::Policy, "nonces", MAX_ENTRIES as u64) as usize,
+        tag: read_tag(alloc, document, TableName::Policy)?,
+        digest: digest_use_in(document),
+    })
+}

@@ -1,0 +1,103 @@
+//! What the values of the tables say, with what holds where nothing is said.
+
+ghost use Rattle.std.specs.Prelude.{◌≡◌, false, codes, option_and_then, unwrap_or, IfOk};
+ghost use Rattle.toml.specs.Data.{as_bool, as_str, get_member};
+ghost use Rattle.toml.specs.View.{table_view};
+ghost use Rattle.conf.specs.declared.table.TableName.TheVariants.{Policy, Sign};
+ghost use Rattle.conf.specs.Table.{members_at};
+ghost use Rattle.conf.specs.Sections.{digest_of, digest_use_of, is_required, nonce_use_of, seconds_of};
+
+use crate::members::{text_at, value_at};
+use crate::table::TableName;
+use settings::{DigestUse, NonceUse, SignDigest, expires_of_word};
+use sfv_text::{Memory, Text};
+use std::alloc::Global;
+use toml::Table;
+
+/// The tag that is told at the place.
+pub(crate) fn read_tag(
+    alloc: Global,
+    document: &Table,
+    place: TableName,
+) -> Result<Option<Text>, Memory>
+    ensures { IfOk result (λ tag. tag ≡ option_and_then as_str
+        (get_member (codes "tag") (members_at (table_view document.now) place))) }
+{
+    match text_at(document, place, "tag") {
+        None => Ok(None),
+        Some(tag) => Ok(Some(Text::from_bytes(alloc, tag.as_bytes())?)),
+    }
+}
+
+// ---- the table `policy`
+
+/// Whether `policy` requires the parameter `expires`.
+pub(crate) fn requires_expires(document: &Table) -> bool
+    ensures { result ≡ is_required
+        (get_member (codes "expires") (members_at (table_view document.now) Policy)) }
+{
+    match text_at(document, TableName::Policy, "expires") {
+        None => false,
+        Some(word) => expires_of_word(word.as_bytes()).unwrap_or(false),
+    }
+}
+
+/// What `policy` asks of the parameter `nonce`.
+pub(crate) fn nonce_use_in(document: &Table) -> NonceUse
+    ensures { result ≡ nonce_use_of
+        (get_member (codes "nonce") (members_at (table_view document.now) Policy)) }
+{
+    match text_at(document, TableName::Policy, "nonce") {
+        None => NonceUse::Ignore,
+        Some(word) => NonceUse::of_word(word.as_bytes()).unwrap_or(NonceUse::Ignore),
+    }
+}
+
+/// When `policy` asks for a digest of the content.
+pub(crate) fn digest_use_in(document: &Table) -> DigestUse
+    ensures { result ≡ digest_use_of
+        (get_member (codes "digest") (members_at (table_view document.now) Policy)) }
+{
+    match text_at(document, TableName::Policy, "digest") {
+        None => DigestUse::Ignore,
+        Some(word) => DigestUse::of_word(word.as_bytes()).unwrap_or(DigestUse::Ignore),
+    }
+}
+
+// ---- the table `sign`
+
+/// The digest that `sign` asks for.
+pub(crate) fn digest_in(document: &Table) -> SignDigest
+    ensures { result ≡ digest_of
+        (get_member (codes "digest") (members_at (table_view document.now) Sign)) }
+{
+    match text_at(document, TableName::Sign, "digest") {
+        None => SignDigest::No,
+        Some(word) => SignDigest::of_word(word.as_bytes()).unwrap_or(SignDigest::No),
+    }
+}
+
+/// After how many seconds a signature expires.
+pub(crate) fn seconds_in(document: &Table) -> Option<u64>
+    ensures { result ≡ seconds_of
+        (get_member (codes "expires-after") (members_at (table_view document.now) Sign)) }
+{
+    let Some(value) = value_at(document, TableName::Sign, "expires-after") else {
+        return None;
+    };
+    match value.as_integer() {
+        Some(number) if number >= 0 => Some(number as u64),
+        _ => None,
+    }
+}
+
+/// Whether the parameter `alg` is given.
+pub(crate) fn has_alg(document: &Table) -> bool
+    ensures { result ≡ unwrap_or (option_and_then as_bool
+        (get_member (codes "alg") (members_at (table_view document.now) Sign))) false }
+{
+    match value_at(document, TableName::Sign, "alg") {
+        None => false,
+        Some(value) => value.as_bool().unwrap_or(false),
+    }
+}

@@ -1,0 +1,5 @@
+mod Covers
+mod KeyEntryLaws
+pub mod Names
+mod ValidLaws
+pub mod StandardLaws

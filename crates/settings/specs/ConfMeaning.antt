@@ -1,0 +1,13 @@
+-- The configuration that a value of the code is.
+use Rattle.settings.specs.declared.conf.Conf.{Conf}
+use Rattle.settings.specs.Configuration.{Configuration}
+
+abbrev pub meaning : Conf → Configuration
+meaning conf =
+    record {
+      scheme = conf.scheme;
+      keys = conf.keys;
+      types = conf.types;
+      policy = conf.policy;
+      sign = conf.sign;
+    }

@@ -1,0 +1,10 @@
+pub mod Keys
+pub mod Covered
+pub mod ReadList
+pub mod Words
+pub mod ValidSections
+pub mod Configuration
+pub mod Valid
+pub mod ConfMeaning
+pub mod Standard
+pub mod tools

@@ -1,0 +1,34 @@
+-- What holds of every policy, and of what messages are signed by.
+use Rattle.std.specs.Prelude.{◌≤◌, ◌+◌, ◌*◌, ℕ, IsTrue, List}
+use Rattle.std.specs.Option.{ForSome}
+use Rattle.std.specs.List.{list_all}
+use Rattle.sfv_text.specs.Range.{is_string_byte}
+use Rattle.component_ids.specs.declared.id.ComponentId.{ComponentId}
+use Rattle.component_ids.specs.Identifiers.{is_id_in_range}
+use Rattle.component_ids.specs.SignatureParams.{IsSigParams}
+use Rattle.nonces.specs.declared.limits.TheConstants.{MAX_ENTRIES, MAX_WINDOW}
+use Rattle.settings.specs.declared.limits.TheConstants.{MAX_AGE, MAX_EXPIRES_AFTER, MAX_SKEW}
+use Rattle.settings.specs.Covered.{params_of}
+use Rattle.settings.specs.declared.policy.Policy.{Policy}
+
+-- components that signature parameters can cover, with values that a structured field can hold
+pub record AreValidComponents (ids : List ComponentId) : Type 0 where
+  pub components : IsSigParams (params_of ids)
+  pub in_range : IsTrue (list_all is_id_in_range ids)
+
+-- from 1 second to a day
+pub record AreValidSeconds (seconds : ℕ) : Type 0 where
+  pub some : 1 ≤ seconds
+  pub few : seconds ≤ MAX_EXPIRES_AFTER
+
+-- seconds and nonces are in their ranges, and the window of nonces is at most a day
+pub record IsValidPolicy (policy : Policy) : Type 0 where
+  pub least_age : 1 ≤ policy.max_age
+  pub most_age : policy.max_age ≤ MAX_AGE
+  pub most_skew : policy.skew ≤ MAX_SKEW
+  pub window : policy.max_age + 2 * policy.skew ≤ MAX_WINDOW
+  pub require_request : AreValidComponents policy.require_request
+  pub require_response : AreValidComponents policy.require_response
+  pub least_nonces : 1 ≤ policy.nonces
+  pub most_nonces : policy.nonces ≤ MAX_ENTRIES
+  pub tag : ForSome policy.tag (λ tag. IsTrue (list_all is_string_byte tag))

@@ -1,0 +1,12 @@
+-- The entries of a map of keys under the bytes of their keyids. No public clause cites this module.
+use Rattle.std.specs.Prelude.{ℕ, List, map, Vec}
+use Rattle.std.specs.FinMap as finite
+use Rattle.std.specs.Coded.{Coded, coded_list, coded_ℕ}
+use Rattle.std.specs.declared.alloc.Global.{Global}
+use Rattle.settings.specs.Keys.{KeyMap}
+
+abbrev pub by_keyid : List (Vec ℕ Global × Vec ℕ Global) → List (List ℕ × List ℕ)
+by_keyid entries = map (λ e. (e.0.items, e.1.items)) entries
+
+abbrev pub keys_code : Coded KeyMap
+keys_code = finite.code (coded_list coded_ℕ) (coded_list coded_ℕ)

@@ -1,0 +1,115 @@
+//! What a configuration is asked for.
+
+ghost use Rattle.std.specs.Prelude.{◌≡◌, None, IfOk, IfSome, OnOk, OnErr, IsTrue, option_copied};
+ghost use Rattle.std.specs.FinMap as map;
+ghost use Rattle.settings.specs.ConfMeaning.{meaning};
+ghost use Rattle.settings.specs.Keys.{IsHmacKey, is_keyid};
+ghost use Rattle.settings.specs.Standard.{standard_configuration};
+ghost use Rattle.settings.specs.Valid.{IsValid, IsValidSign};
+ghost use Rattle.settings.specs.ValidSections.{IsValidPolicy};
+
+use crate::conf::Conf;
+use crate::keys::Keys;
+use crate::policy::Policy;
+use crate::sign_conf::SignConf;
+use component_ids::{Scheme, Types};
+use sfv_text::Memory;
+use std::alloc::Global;
+
+impl Conf {
+    /// The configuration of these parts.
+    pub fn new(
+        scheme: Scheme,
+        keys: Keys,
+        types: Types,
+        policy: Policy,
+        sign: Option<SignConf>,
+    ) -> Conf
+        requires { IsValid (record {
+          scheme = scheme;
+          keys = keys;
+          types = types;
+          policy = policy;
+          sign = sign;
+        }) }
+        ensures { meaning result ≡ record {
+          scheme = scheme;
+          keys = keys;
+          types = types;
+          policy = policy;
+          sign = sign;
+        } }
+    {
+        Conf {
+            scheme,
+            keys,
+            types,
+            policy,
+            sign,
+        }
+    }
+
+    /// The configuration where nothing is said: `https`, no keys, the standard types and policy.
+    pub fn standard(alloc: Global) -> Result<Conf, Memory>
+        ensures { IfOk result (λ conf. meaning conf ≡ standard_configuration) }
+    {
+        let types = Types::standard(alloc)?;
+        let policy = Policy::standard(alloc);
+        Ok(Conf::new(Scheme::Https, Keys::new(alloc), types, policy, None))
+    }
+
+    /// The scheme of requests that don't tell it (RFC 9421 section 2.2.4).
+    pub fn scheme(&self) -> Scheme
+        ensures { result ≡ (meaning self.now).scheme }
+    {
+        self.scheme
+    }
+
+    /// Which fields are structured, and how (RFC 9421 section 2.1.1).
+    pub fn types(&self) -> &Types
+        ensures { result.now ≡ (meaning self.now).types }
+    {
+        &self.types
+    }
+
+    /// How signatures are judged.
+    pub fn policy(&self) -> &Policy
+        ensures is { result.now ≡ (meaning self.now).policy }
+        ensures valid { IsValidPolicy result.now }
+    {
+        &self.policy
+    }
+
+    /// How messages are signed, where it is configured.
+    pub fn sign(&self) -> Option<&SignConf>
+        ensures is { option_copied result ≡ (meaning self.now).sign }
+        ensures valid { IfSome result (λ sign. IsValidSign (meaning self.now).keys sign.now) }
+    {
+        self.sign.as_ref()
+    }
+
+    /// The key of the keyid, where it has one. It takes no memory.
+    pub fn key(&self, keyid: &[u8]) -> Option<&[u8]>
+        ensures is { option_copied result ≡ map.get (meaning self.now).keys keyid.now }
+        ensures valid { IfSome result (λ key. IsHmacKey key.now) }
+        ensures keyid { IfSome result (λ _. IsTrue (is_keyid keyid.now)) }
+    {
+        self.keys.get(keyid)
+    }
+
+    /// Adds the key of a keyid that has none.
+    pub fn add_key(&mut self, keyid: &[u8], key: &[u8]) -> Result<(), Memory>
+        requires keyid { IsTrue (is_keyid keyid.now) }
+        requires new { map.get (meaning self.old).keys keyid.now ≡ None }
+        requires key { IsHmacKey key.now }
+        ensures keys { OnOk result ((meaning self.new).keys
+            ≡ map.insert (meaning self.old).keys keyid.now key.now) }
+        ensures err { OnErr result ((meaning self.new).keys ≡ (meaning self.old).keys) }
+        ensures scheme { (meaning self.new).scheme ≡ (meaning self.old).scheme }
+        ensures types { (meaning self.new).types ≡ (meaning self.old).types }
+        ensures policy { (meaning self.new).policy ≡ (meaning self.old).policy }
+        ensures sign { (meaning self.new).sign ≡ (meaning self.old).sign }
+    {
+        self.keys.add(keyid, key)
+    }
+}

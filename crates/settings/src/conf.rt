@@ -1,0 +1,31 @@
+//! Configurations.
+
+ghost use Rattle.settings.specs.Valid.{IsValid};
+
+use crate::keys::Keys;
+use crate::policy::Policy;
+use crate::sign_conf::SignConf;
+use component_ids::{Scheme, Types};
+
+/// A configuration: what no message tells, and has to be known to verify or to sign one.
+///
+/// Its keyids have 1 to `MAX_KEYID_BYTES` printable bytes of ASCII, its keys 1 to `MAX_KEY_BYTES`
+/// bytes. How signatures are judged and messages are signed is valid: `max-age` and twice `skew`
+/// are at most `MAX_WINDOW`, `sign.keyid` has a key, and so on.
+///
+/// It has no `Debug`, since that would print its keys.
+#[derive(Drop)]
+pub struct Conf {
+    pub(crate) scheme: Scheme,
+    pub(crate) keys: Keys,
+    pub(crate) types: Types,
+    pub(crate) policy: Policy,
+    pub(crate) sign: Option<SignConf>,
+    ghost valid: { IsValid (record {
+      scheme = scheme;
+      keys = keys;
+      types = types;
+      policy = policy;
+      sign = sign;
+    }) },
+}

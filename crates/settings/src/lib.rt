@@ -1,0 +1,34 @@
+//! What a configuration of HTTP Message Signatures is (RFC 9421): what no message tells, and has to
+//! be known to verify a signature or to make one. How a text says it is no matter of this crate.
+//!
+//! ```text
+//! let mut conf = Conf::standard(alloc)?;
+//! conf.scheme()                 // Scheme::Https
+//! conf.add_key(b"a", b"1")?;
+//! conf.key(b"a")                // Some(b"1")
+//! NonceUse::of_word(b"check")   // Some(NonceUse::Check)
+//! read_covered(alloc, b"(\"date\" \"@authority\")")? // Some, or None for no list
+//! ```
+#![tactic(auto)]
+
+mod calls;
+mod conf;
+mod covered;
+mod keyid;
+mod keys;
+mod limits;
+mod policy;
+mod sign_conf;
+mod words;
+
+pub use conf::Conf;
+pub use covered::read_covered;
+pub use keyid::{are_string_bytes, is_keyid};
+pub use keys::Keys;
+pub use limits::{
+    DEFAULT_MAX_AGE, DEFAULT_SKEW, MAX_AGE, MAX_EXPIRES_AFTER, MAX_KEY_BYTES, MAX_SKEW,
+};
+pub use nonces::{MAX_ENTRIES, MAX_KEYID_BYTES, MAX_WINDOW};
+pub use policy::{DigestUse, NonceUse, Policy};
+pub use sign_conf::{SignConf, SignDigest};
+pub use words::{expires_of_word, kind_of_word, scheme_of_word};
