@@ -8,6 +8,7 @@ pub mod Whole
 pub mod Words
 pub mod Indices
 pub mod CauseLaws
+pub mod AnswerLaws
 pub mod OffsetLaws
 pub mod ListLaws
 pub mod MapLaws

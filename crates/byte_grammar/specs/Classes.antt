@@ -1,10 +1,10 @@
 -- Classes of bytes that several formats share.
-use Rattle.std.specs.Prelude.{ℕ, Bool, ◌&&◌, ◌||◌, ◌==◌, nat_lt, List, length, codes}
+use Rattle.std.specs.Prelude.{ℕ, Bool, ◌&&◌, ◌||◌, ◌==◌, not, nat_lt, List, length, codes}
 use Rattle.std.specs.Char.{is_ascii_alphabetic, is_ascii_alphanumeric, is_ascii_digit, is_ascii_graphic}
 use Rattle.std.specs.List.{list_all, list_any}
 use Rattle.std.specs.Str.{byte}
 use Rattle.byte_grammar.specs.declared.class.Class.{Class}
-use Rattle.byte_grammar.specs.declared.class.Class.TheVariants.{Digit, Alpha, Tchar, Blank, Visible}
+use Rattle.byte_grammar.specs.declared.class.Class.TheVariants.{Digit, Alpha, Tchar, Blank, Visible, LineByte}
 
 -- one of these bytes
 abbrev pub is_one_of : List ℕ → ℕ → Bool
@@ -38,6 +38,11 @@ is_tchar c = is_ascii_alphanumeric c || is_one_of (codes "!#$%&'*+-.^_`|~") c
 abbrev pub is_token : List ℕ → Bool
 is_token text = nat_lt 0 (length text) && list_all is_tchar text
 
+-- any byte but NUL, CR and LF, which a line may have between its ends (RFC 9110 section 5.5, RFC
+-- 9112 section 2.2)
+abbrev pub is_line_byte : ℕ → Bool
+is_line_byte c = not (is_one_of (codes "\0\r\n") c)
+
 -- the bytes of a class
 abbrev pub members : Class → ℕ → Bool
 members Digit c = is_digit c
@@ -45,3 +50,4 @@ members Alpha c = is_alpha c
 members Tchar c = is_tchar c
 members Blank c = is_blank c
 members Visible c = is_visible c
+members LineByte c = is_line_byte c

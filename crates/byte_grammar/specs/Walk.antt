@@ -18,7 +18,7 @@ unfoldable pub byte_read : (ℕ → Bool) → Reader ℕ
 byte_read class [] = Err 0
 byte_read class (c ∷ rest) = byte_if (class c) c rest
 
--- how many bytes of a class stand first, at most so many
+-- how many bytes of a class are first, at most so many
 unfoldable pub run_length : (ℕ → Bool) → ℕ → List ℕ → ℕ
 run_length class zero bytes = 0
 run_length class (suc n) [] = 0

@@ -40,6 +40,8 @@ pub enum Class {
     Blank,
     /// VCHAR, any visible byte of ASCII: RFC 5234 appendix B.1.
     Visible,
+    /// Any byte but NUL, CR and LF: RFC 9110 section 5.5.
+    LineByte,
 }
 
 impl ByteClass for Class {
@@ -54,11 +56,12 @@ impl ByteClass for Class {
             Class::Tchar => is_tchar(byte),
             Class::Blank => is_blank(byte),
             Class::Visible => byte.is_ascii_graphic(),
+            Class::LineByte => !matches!(byte, b'\0' | b'\r' | b'\n'),
         }
     }
 }
 
-// Each tchar stands at its own place, and a comma, which is none, at every other place.
+// Each tchar is at its own place, and a comma, which is none, at every other place.
 static TCHARS: [u8; 256] = *b"\
     ,,,,,,,,,,,,,,,,,,,,,,,,,,,,,,,,\
     ,!,#$%&',,*+,-.,0123456789,,,,,,\

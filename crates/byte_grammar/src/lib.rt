@@ -17,7 +17,7 @@
 //! ```
 //!
 //! `specs/` has the texts of a language, the offset of a fault, causes that are judged in an order,
-//! and the readers over lists that the code is compared with. The laws that other crates cite stand
+//! and the readers over lists that the code is compared with. The laws that other crates cite are
 //! in `proofs/`:
 //!
 //! - `Laws`: a reader meets a language (`Meets`) where its parts do: one after another
@@ -37,10 +37,12 @@
 //!   `state_cons`).
 //! - `Whole`: a reader of whole texts, after which nothing comes (`Nothing`), judges the language
 //!   and the offset of each fault (`Judges`, `judges`), of texts with bytes of a class at both ends
-//!   too (`meets_padded`); of what is judged so a text has one value (`one_value`).
+//!   too (`meets_padded`); of what is judged in this way a text has one value (`one_value`).
 //! - `OffsetLaws`: of one language and text two fault offsets are one (`one_offset`); a prefix of
 //!   what begins a text begins it too (`begins_shorter`).
 //! - `CauseLaws`: of causes that are judged in an order at most one is the first (`first_is_one`).
+//! - `AnswerLaws`: where there is at most one fault, each is answered exactly where it is one, out
+//!   of memory aside (`answers_where` over `NamesFault`, `memory_if`, `err_of`).
 //! - `ListLaws`: a test that each element passes, of lists that are joined, or parts of one
 //!   (`all_joined`, `all_parts`, `all_reverse`, `all_filter`), of another test (`all_implied`,
 //!   `all_both`), of the lists of each element (`all_flat`, `all_separated`), and of the parts

@@ -33,7 +33,7 @@ pub fn read_byte<C: ByteClass>(class: C, bytes: &[u8]) -> Result<(u8, &[u8]), Le
     }
 }
 
-/// How many bytes of the class stand first, at most so many.
+/// How many bytes of the class are first, at most so many.
 fn count<C: ByteClass>(class: C, most: usize, bytes: &[u8]) -> usize
     ensures value { result ≡ run_length (C.members class) most bytes.now }
     ensures within { result ≤ length bytes.now }
@@ -93,7 +93,7 @@ pub fn read_all<C: ByteClass>(class: C, bytes: &[u8]) -> (&[u8], &[u8])
     bytes.split_at(count(class, bytes.len(), bytes))
 }
 
-/// Whether a byte of the class stands first.
+/// Whether a byte of the class is first.
 pub fn starts_with<C: ByteClass>(class: C, bytes: &[u8]) -> bool
     ensures test { result ≡ starts_in (C.members class) bytes.now }
     ensures some { IsTrue result → 1 ≤ length bytes.now }

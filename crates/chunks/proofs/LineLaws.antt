@@ -5,6 +5,7 @@ use Rattle.std.proofs.lemmas.Bool.{eqb-true, ltb-false, ltb-true, le-ltb}
 use Rattle.std.specs.Char.{is_ascii_hexdigit}
 use Rattle.std.specs.Str.{byte}
 use Rattle.std.specs.Str.Parse.{digits_value}
+use Rattle.byte_grammar.specs.Classes.{is_line_byte}
 use Rattle.byte_grammar.specs.Language.{Begins, IsRun, starts_in}
 use Rattle.byte_grammar.specs.tools.Languages.{Then, Mapped, IsByte}
 use Rattle.byte_grammar.specs.Walk.{cut_at, run_length, run_read}
@@ -13,7 +14,7 @@ use Rattle.byte_grammar.proofs.Laws.{Meets, meets_then, meets_map, meets_same, a
 use Rattle.byte_grammar.proofs.LeafLaws.{meets_byte, meets_run}
 use Rattle.byte_grammar.proofs.ChoiceLaws.{of_each}
 use Rattle.chunks.specs.declared.limits.TheConstants.{MAX_SIZE_DIGITS, MAX_EXTENSION_BYTES}
-use Rattle.chunks.specs.Chunks.{IsChunkLine, IsExtension, begins_extension, is_extension_byte}
+use Rattle.chunks.specs.Chunks.{IsChunkLine, IsExtension, begins_extension}
 use Rattle.chunks.specs.tools.ChunkWalk.{crlf_read, extension_read, line_read, bytes_read, data_read}
 use Rattle.chunks.specs.tools.Turns.{Anything, IsCrlf, IsExtensionText, IsLineText, IsBytes, IsDataText}
 
@@ -50,10 +51,10 @@ run_ok : (class : ℕ → Bool) (most : ℕ) (bytes : List ℕ) → run_read cla
 unfolding run_read
 run_ok class most bytes = ap (λ (b : Bool). cond b (Err (length bytes - run_length class most bytes)) (cut_at (run_length class most bytes) bytes)) (le-ltb (run_length class most bytes) 0 (omega arith))
 
-run_of : (b : Bool) → Meets (IsRun is_extension_byte 0 (cond b MAX_EXTENSION_BYTES 0)) (λ _ c. not (is_extension_byte c)) (run_read is_extension_byte 0 (cond b MAX_EXTENSION_BYTES 0))
-run_of b = meets_run is_extension_byte 0 (cond b MAX_EXTENSION_BYTES 0) (byte "a") (omega arith) refl
+run_of : (b : Bool) → Meets (IsRun is_line_byte 0 (cond b MAX_EXTENSION_BYTES 0)) (λ _ c. not (is_line_byte c)) (run_read is_line_byte 0 (cond b MAX_EXTENSION_BYTES 0))
+run_of b = meets_run is_line_byte 0 (cond b MAX_EXTENSION_BYTES 0) (byte "a") (omega arith) refl
 
-extension_ok : (b : Bool) (bytes x v rest : List ℕ) → starts_in begins_extension bytes ≡ b → bytes ≡ x ++ rest → IsRun is_extension_byte 0 (cond b MAX_EXTENSION_BYTES 0) x v → IsExtension v
+extension_ok : (b : Bool) (bytes x v rest : List ℕ) → starts_in begins_extension bytes ≡ b → bytes ≡ x ++ rest → IsRun is_line_byte 0 (cond b MAX_EXTENSION_BYTES 0) x v → IsExtension v
 extension_ok true bytes [] v rest is e run = record { begins = inl (sym run.same); clean = run.passes; short = run.most }
 extension_ok true bytes (c ∷ x) v rest is e run =
     let first : starts_in begins_extension (c ∷ x) ≡ true = ap (starts_in begins_extension) (sym e) ∙ is in
@@ -75,11 +76,11 @@ no_start : (r : List ℕ) → Next (λ c. c == byte "\r") r → starts_in begins
 no_start [] after = refl
 no_start (c ∷ r) after = at_cr begins_extension false refl c after
 
-ends_run : (r : List ℕ) → Next (λ c. c == byte "\r") r → Next (λ c. not (is_extension_byte c)) r
-ends_run r after = next_more (λ c. c == byte "\r") (λ c. not (is_extension_byte c)) (at_cr (λ c. not (is_extension_byte c)) true refl) r after
+ends_run : (r : List ℕ) → Next (λ c. c == byte "\r") r → Next (λ c. not (is_line_byte c)) r
+ends_run r after = next_more (λ c. c == byte "\r") (λ c. not (is_line_byte c)) (at_cr (λ c. not (is_line_byte c)) true refl) r after
 
 run_at : Bool → List ℕ → Type 0
-run_at b v = IsRun is_extension_byte 0 (cond b MAX_EXTENSION_BYTES 0) v v
+run_at b v = IsRun is_line_byte 0 (cond b MAX_EXTENSION_BYTES 0) v v
 
 pub meets_extension : Meets IsExtensionText (λ _ c. c == byte "\r") extension_read
 unfolding extension_read
@@ -91,14 +92,14 @@ meets_extension = record { ok = ok; err = err; only = only; far = far }
         (s.0, s.1, (s.2.same, extension_ok (starts_in begins_extension bytes) bytes s.0 v rest refl s.1 s.2))
 
     err : (bytes : List ℕ) (n : ℕ) → extension_read bytes ≡ Err n → (x rest : List ℕ) × (bytes ≡ x ++ rest) × (length rest ≡ n) × Begins IsExtensionText x
-    err bytes n e = absurd (not_err _ _ (sym (run_ok is_extension_byte (cond (starts_in begins_extension bytes) MAX_EXTENSION_BYTES 0) bytes) ∙ e))
+    err bytes n e = absurd (not_err _ _ (sym (run_ok is_line_byte (cond (starts_in begins_extension bytes) MAX_EXTENSION_BYTES 0) bytes) ∙ e))
 
     read_only : (v r : List ℕ) → IsExtension v → Next (λ c. c == byte "\r") r → extension_read (v ++ r) ≡ Ok (v, r)
     read_only [] r h after =
-        ap (λ (b : Bool). run_read is_extension_byte 0 (cond b MAX_EXTENSION_BYTES 0) r) (no_start r after)
+        ap (λ (b : Bool). run_read is_line_byte 0 (cond b MAX_EXTENSION_BYTES 0) r) (no_start r after)
         ∙ (run_of false).only [] r [] (record { same = refl; passes = refl; least = omega arith; most = omega arith }) (ends_run r after)
     read_only (c ∷ v) r h after =
-        ap (λ (b : Bool). run_read is_extension_byte 0 (cond b MAX_EXTENSION_BYTES 0) (c ∷ v ++ r)) (first_begins c v h.begins)
+        ap (λ (b : Bool). run_read is_line_byte 0 (cond b MAX_EXTENSION_BYTES 0) (c ∷ v ++ r)) (first_begins c v h.begins)
         ∙ (run_of true).only (c ∷ v) r (c ∷ v) (record { same = refl; passes = h.clean; least = omega arith; most = h.short }) (ends_run r after)
 
     only : (x r v : List ℕ) → IsExtensionText x v → Next (λ c. c == byte "\r") r → extension_read (x ++ r) ≡ Ok (v, r)
@@ -107,7 +108,7 @@ meets_extension = record { ok = ok; err = err; only = only; far = far }
     read_far : (x more r : List ℕ) → IsExtension (x ++ more) → left (extension_read (x ++ r)) ≤ length r
     read_far [] more r h = left_less (run_of (starts_in begins_extension r)) r
     read_far (c ∷ x) more r h =
-        subst (λ (b : Bool). left (run_read is_extension_byte 0 (cond b MAX_EXTENSION_BYTES 0) (c ∷ x ++ r)) ≤ length r)
+        subst (λ (b : Bool). left (run_read is_line_byte 0 (cond b MAX_EXTENSION_BYTES 0) (c ∷ x ++ r)) ≤ length r)
         (sym (first_begins c (x ++ more) h.begins))
         ((run_of true).far (c ∷ x) more r (c ∷ x ++ more) (record { same = refl; passes = h.clean; least = omega arith; most = h.short }))
 

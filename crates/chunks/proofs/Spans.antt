@@ -5,7 +5,7 @@ use Rattle.std.proofs.lemmas.List.Elements.{All-head, All-tail}
 use Rattle.std.proofs.lemmas.Bool.{le-leb}
 use Rattle.std.specs.List.{All, list_all, flat_map, slice_range}
 use Rattle.chunks.specs.Chunks.{Chunk, IsChunkLine, IsChunk, chunk_text}
-use Rattle.chunks.specs.Views.{chunk_at, lies_in, FollowEachOther}
+use Rattle.chunks.specs.Views.{chunk_at, chunks_lie_in, ChunksFollow}
 use Rattle.chunks.specs.tools.Turns.{span_of, spans_of}
 
 -- what stands between two offsets
@@ -53,7 +53,7 @@ spans_more (d ∷ chunks) c from =
 pub line_some : (line : List ℕ) (size : ℕ) → IsChunkLine line size → 0 < length line
 line_some line size is = omega (arith, ap (λ (y : List ℕ). length y) is.joined, length-append is.digits is.extension, is.are_digits.least)
 
-pub spans_follow : (chunks : List Chunk) (from to : ℕ) → All IsChunk chunks → from + length (flat_map chunk_text chunks) ≡ to → FollowEachOther from (spans_of from chunks) to
+pub spans_follow : (chunks : List Chunk) (from to : ℕ) → All IsChunk chunks → from + length (flat_map chunk_text chunks) ≡ to → ChunksFollow from (spans_of from chunks) to
 spans_follow [] from to all e = omega arith
 spans_follow (c ∷ chunks) from to all e =
     let is = All-head IsChunk c chunks all in
@@ -64,7 +64,7 @@ spans_follow (c ∷ chunks) from to all e =
       rw (sym next) (spans_follow chunks (from + length (chunk_text c)) to (All-tail IsChunk c chunks all) (omega (arith, length-append (chunk_text c) (flat_map chunk_text chunks), e))),
     )
 
-pub spans_lie : (chunks : List Chunk) (from count : ℕ) → from + length (flat_map chunk_text chunks) ≤ count → list_all (lies_in count) (spans_of from chunks) ≡ true
+pub spans_lie : (chunks : List Chunk) (from count : ℕ) → from + length (flat_map chunk_text chunks) ≤ count → list_all (chunks_lie_in count) (spans_of from chunks) ≡ true
 spans_lie [] from count le = refl
 spans_lie (c ∷ chunks) from count le =
     let size = length-append (chunk_text c) (flat_map chunk_text chunks) in

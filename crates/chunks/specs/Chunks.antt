@@ -1,29 +1,28 @@
 -- The chunks of a chunked message: RFC 9112 section 7.1.
-use Rattle.std.specs.Prelude.{◌≡◌, ◌⊎◌, ℕ, ◌<◌, ◌≤◌, Bool, IsTrue, not, List, [], ◌++◌, length, take, codes}
+use Rattle.std.specs.Prelude.{◌≡◌, ◌⊎◌, ℕ, ◌<◌, ◌≤◌, Bool, IsTrue, List, [], ◌++◌, length, take, codes}
 use Rattle.std.specs.List.{All, list_all, flat_map}
 use Rattle.std.specs.Char.{is_ascii_hexdigit}
 use Rattle.std.specs.Str.Parse.{digits_value}
-use Rattle.byte_grammar.specs.Classes.{is_one_of}
+use Rattle.byte_grammar.specs.Classes.{is_one_of, is_line_byte}
 use Rattle.byte_grammar.specs.Language.{starts_in, AreBytesOf}
 use Rattle.chunks.specs.declared.limits.TheConstants.{MAX_SIZE_DIGITS, MAX_EXTENSION_BYTES, MAX_CONTENT_BYTES}
 
 -- ---- chunk lines
 
--- a chunk extension (RFC 9112 section 7.1.1) begins with `;`, SP or HTAB
+-- A chunk extension (RFC 9112 section 7.1.1) begins with `;`, SP or HTAB. The RFC has a blank there
+-- only before a `;`; here blanks alone are read too.
 abbrev pub begins_extension : ℕ → Bool
 begins_extension c = is_one_of (codes "; \t") c
 
--- its inner grammar isn't judged: any byte but NUL, CR and LF may stand in it
-abbrev pub is_extension_byte : ℕ → Bool
-is_extension_byte c = not (is_one_of (codes "\0\r\n") c)
-
--- an extension, or none
+-- An extension, or none. Its inner grammar isn't judged: any byte but NUL, CR and LF may be in it.
+-- The RFC sets no greatest length; here there is one.
 pub record IsExtension (text : List ℕ) : Type 0 where
   pub begins : (text ≡ []) ⊎ IsTrue (starts_in begins_extension text)
-  pub clean : IsTrue (list_all is_extension_byte text)
+  pub clean : IsTrue (list_all is_line_byte text)
   pub short : length text ≤ MAX_EXTENSION_BYTES
 
--- the hexadecimal digits of a size and an extension, without the CRLF after them
+-- The hexadecimal digits of a size and an extension, without the CRLF after them. RFC 9112 section
+-- 7.1 sets no greatest number of digits; here there is one.
 pub record IsChunkLine (line : List ℕ) (size : ℕ) : Type 0 where
   pub digits : List ℕ
   pub extension : List ℕ

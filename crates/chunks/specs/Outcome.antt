@@ -1,5 +1,5 @@
 -- What the reader of chunks answers.
-use Rattle.std.specs.Prelude.{◌≡◌, ◌⊎◌, ℕ, Result, Ok, Err, ⊤}
+use Rattle.std.specs.Prelude.{◌≡◌, ℕ, Result, Ok, Err, ⊤}
 use Rattle.chunks.specs.declared.read.ChunksRead.{ChunksRead}
 use Rattle.chunks.specs.declared.read.ChunksRead.TheVariants.{Whole, Partial}
 use Rattle.chunks.specs.declared.error.ChunkError.{ChunkError}
@@ -18,7 +18,3 @@ abbrev pub IsChunksUnlessMemory : Result ChunksRead ChunkError → Chunks → �
 IsChunksUnlessMemory (Ok (Whole view count)) cs used = (chunks_of view ≡ cs) × (count ≡ used)
 IsChunksUnlessMemory (Ok Partial) cs used = ⊥
 IsChunksUnlessMemory (Err error) cs used = error ≡ Memory
-
--- the answer is this value, or out of memory
-abbrev pub AnswersUnlessMemory : {T F : Type 0} → F → Result T F → T → Type 0
-AnswersUnlessMemory memory result value = (result ≡ Ok value) ⊎ (result ≡ Err memory)

@@ -4,7 +4,7 @@ use Rattle.std.specs.List.{slice_range}
 use Rattle.chunks.specs.declared.view.ChunkSpan.{ChunkSpan}
 use Rattle.chunks.specs.Chunks.{Chunk, Chunks, SpellsChunks}
 
--- the bytes that spell chunks, where the chunks stand in them, and where the last line begins
+-- the bytes that spell chunks, where the chunks are in them, and where the last line begins
 pub record ChunksParts : Type 0 where
   pub bytes : List ℕ
   pub spans : List ChunkSpan
@@ -25,22 +25,22 @@ chunks_of parts = record {
 }
 
 -- the offsets are in order, and lie in so many bytes
-abbrev pub lies_in : ℕ → ChunkSpan → Bool
-lies_in count span =
+abbrev pub chunks_lie_in : ℕ → ChunkSpan → Bool
+chunks_lie_in count span =
     nat_le span.line span.line_end
     && (nat_le (span.line_end + 2) span.end && nat_le span.end count)
 
--- From the one offset to the other chunks follow each other. After a chunk's line stands CRLF,
+-- From the one offset to the other chunks follow each other. After a chunk's line is CRLF,
 -- which is two bytes, and after its data too.
-abbrev pub FollowEachOther : ℕ → List ChunkSpan → ℕ → Type 0
-FollowEachOther from [] to = from ≡ to
-FollowEachOther from (span ∷ spans) to =
+abbrev pub ChunksFollow : ℕ → List ChunkSpan → ℕ → Type 0
+ChunksFollow from [] to = from ≡ to
+ChunksFollow from (span ∷ spans) to =
     (span.line ≡ from) × (span.line < span.line_end) × (span.line_end + 2 < span.end)
-    × FollowEachOther (span.end + 2) spans to
+    × ChunksFollow (span.end + 2) spans to
 
 -- the chunks, the last line and its CRLF fill the bytes
-pub record Fills (parts : ChunksParts) : Type 0 where
-  pub chunks : FollowEachOther 0 parts.spans parts.last
+pub record ChunksFill (parts : ChunksParts) : Type 0 where
+  pub chunks : ChunksFollow 0 parts.spans parts.last
   pub last : parts.last + 2 < length parts.bytes
 
 -- the view is that of the chunks which the first bytes, so many, spell
@@ -48,4 +48,4 @@ pub record IsChunksViewOf (bytes : List ℕ) (parts : ChunksParts) (used : ℕ) 
   pub within : used ≤ length bytes
   pub bytes_are : parts.bytes ≡ take used bytes
   pub spells : SpellsChunks (chunks_of parts) used bytes
-  pub fills : Fills parts
+  pub fills : ChunksFill parts

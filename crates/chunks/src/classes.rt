@@ -2,17 +2,13 @@
 
 use byte_grammar::ByteClass;
 
-/// A hexadecimal digit of either case: HEXDIG of RFC 5234 appendix B.1, and a to f.
+/// HEXDIG (RFC 5234 appendix B.1), whose letters match in either case.
 #[derive(Clone, Copy)]
 pub(crate) struct HexDigit;
 
 /// A byte with which an extension begins.
 #[derive(Clone, Copy)]
 pub(crate) struct ExtensionStart;
-
-/// A byte of an extension.
-#[derive(Clone, Copy)]
-pub(crate) struct ExtensionByte;
 
 impl ByteClass for HexDigit {
     ghost use Rattle.std.specs.Char.{is_ascii_hexdigit};
@@ -31,15 +27,5 @@ impl ByteClass for ExtensionStart {
 
     fn allows(self, byte: u8) -> bool {
         matches!(byte, b';' | b' ' | b'\t')
-    }
-}
-
-impl ByteClass for ExtensionByte {
-    ghost use Rattle.chunks.specs.Chunks.{is_extension_byte};
-
-    ghost members = { λ _ c. is_extension_byte c };
-
-    fn allows(self, byte: u8) -> bool {
-        !matches!(byte, b'\0' | b'\r' | b'\n')
     }
 }

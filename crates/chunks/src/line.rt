@@ -8,9 +8,9 @@ ghost use Rattle.byte_grammar.specs.Language.{AreBytesOf};
 ghost use Rattle.chunks.specs.declared.limits.TheConstants.{MAX_SIZE_DIGITS};
 ghost use Rattle.chunks.specs.tools.ChunkWalk.{crlf_read, extension_read, line_read, bytes_read, data_read};
 
-use crate::classes::{ExtensionByte, ExtensionStart, HexDigit};
+use crate::classes::{ExtensionStart, HexDigit};
 use crate::limits::{MAX_EXTENSION_BYTES, MAX_SIZE_DIGITS};
-use byte_grammar::{Byte, Left, read_byte, read_run, starts_with};
+use byte_grammar::{Byte, Class, Left, read_byte, read_run, starts_with};
 
 /// A chunk line as it is written, without its CRLF, and the size that it says.
 #[derive(Clone, Copy)]
@@ -45,9 +45,9 @@ fn read_extension(bytes: &[u8]) -> Result<(&[u8], &[u8]), Left>
     ensures joined { IfOk result (λ x. bytes.now ≡ x.0.now ++ x.1.now) }
 {
     if starts_with(ExtensionStart, bytes) {
-        read_run(ExtensionByte, 0, MAX_EXTENSION_BYTES, bytes)
+        read_run(Class::LineByte, 0, MAX_EXTENSION_BYTES, bytes)
     } else {
-        read_run(ExtensionByte, 0, 0, bytes)
+        read_run(Class::LineByte, 0, 0, bytes)
     }
 }
 

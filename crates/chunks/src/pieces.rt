@@ -1,7 +1,7 @@
 //! The content of chunks, piece by piece.
 
 ghost use Rattle.std.specs.Prelude.{◌≡◌, length, IsTrue};
-ghost use Rattle.chunks.specs.Views.{chunk_at, lies_in};
+ghost use Rattle.chunks.specs.Views.{chunk_at, chunks_lie_in};
 
 use crate::view::ChunkSpan;
 use std::marker::Model;
@@ -17,18 +17,18 @@ impl<'v, 'm> Model for ChunkPieces<'v, 'm> {
     ghost use Rattle.std.specs.Prelude.{List, length, map, IsTrue};
     ghost use Rattle.std.specs.List.{list_all};
     ghost use Rattle.chunks.specs.Chunks.{Chunk};
-    ghost use Rattle.chunks.specs.Views.{chunk_at, lies_in};
+    ghost use Rattle.chunks.specs.Views.{chunk_at, chunks_lie_in};
 
     ghost Value = { List Chunk };
 
     ghost view = { λ p. map (chunk_at p.bytes.now) p.spans.now };
 
-    ghost invariant = { λ p. IsTrue (list_all (lies_in (length p.bytes.now)) p.spans.now) };
+    ghost invariant = { λ p. IsTrue (list_all (chunks_lie_in (length p.bytes.now)) p.spans.now) };
 }
 
 // The data of the chunk at these offsets.
 fn data_at<'m>(bytes: &'m [u8], span: ChunkSpan) -> &'m [u8]
-    requires { IsTrue (lies_in (length bytes.now) span) }
+    requires { IsTrue (chunks_lie_in (length bytes.now) span) }
     ensures { result.now ≡ (chunk_at bytes.now span).chunk_data }
 {
     &bytes[span.line_end + 2..span.end]
@@ -37,11 +37,11 @@ fn data_at<'m>(bytes: &'m [u8], span: ChunkSpan) -> &'m [u8]
 impl<'v, 'm> ChunkPieces<'v, 'm> {
     ghost use Rattle.std.specs.Prelude.{◌≡◌, length, map, IsTrue};
     ghost use Rattle.std.specs.List.{list_all};
-    ghost use Rattle.chunks.specs.Views.{chunk_at, lies_in};
+    ghost use Rattle.chunks.specs.Views.{chunk_at, chunks_lie_in};
 
-    /// The data of the chunks that stand at these offsets.
+    /// The data of the chunks that are at these offsets.
     pub(crate) fn new(bytes: &'m [u8], spans: &'v [ChunkSpan]) -> ChunkPieces<'v, 'm>
-        requires { IsTrue (list_all (lies_in (length bytes.now)) spans.now) }
+        requires { IsTrue (list_all (chunks_lie_in (length bytes.now)) spans.now) }
         ensures { result ≡ map (chunk_at bytes.now) spans.now }
     {
         ChunkPieces { bytes, spans }

@@ -1,11 +1,11 @@
 //! Reads chunks.
 
 ghost use Rattle.std.specs.Prelude.{◌≡◌, ◌≢◌, ℕ, Ok, Err, IfOk, IfErr};
-ghost use Rattle.byte_grammar.specs.Causes.{AnswersWhere};
+ghost use Rattle.byte_grammar.specs.Causes.{AnswersWhere, AnswersUnlessMemory};
 ghost use Rattle.chunks.specs.Chunks.{Chunks, SpellsChunks};
 ghost use Rattle.chunks.specs.Causes.{IsChunksError, AreChunksUnfinished};
 ghost use Rattle.chunks.specs.Views.{IsChunksViewOf};
-ghost use Rattle.chunks.specs.Outcome.{IfWholeChunks, IsChunksUnlessMemory, AnswersUnlessMemory};
+ghost use Rattle.chunks.specs.Outcome.{IfWholeChunks, IsChunksUnlessMemory};
 ghost use Rattle.chunks.specs.tools.Judged.{IsFound, IsStop, ExplainsChunks};
 
 use crate::error::ChunkError;
@@ -24,7 +24,7 @@ pub enum ChunksRead<'m> {
     Partial,
 }
 
-// Where the chunks stand that the bytes begin with.
+// Where the chunks are that the bytes begin with.
 #[derive(Debug, Drop)]
 struct Found {
     spans: Vec<ChunkSpan>,

@@ -3,13 +3,13 @@
 ghost use Rattle.std.specs.Prelude.{◌≡◌, ◌↔◌, [], length, IsTrue};
 ghost use Rattle.std.specs.List.{list_all};
 ghost use Rattle.chunks.specs.Chunks.{content_of};
-ghost use Rattle.chunks.specs.Views.{ChunksParts, chunks_of, lies_in};
+ghost use Rattle.chunks.specs.Views.{ChunksParts, chunks_of, chunks_lie_in};
 
 use crate::pieces::ChunkPieces;
 use std::marker::Model;
 
-/// Where a chunk stands, by offsets from where the chunks begin. After its line and after its data
-/// stands CRLF.
+/// Where a chunk is, by offsets from where the chunks begin. After its line and after its data
+/// is CRLF.
 #[derive(Clone, Copy, Debug, PartialEq, Eq)]
 pub struct ChunkSpan {
     /// Where its line begins.
@@ -36,14 +36,14 @@ impl<'m> Model for ChunksView<'m> {
     ghost use Rattle.std.specs.Prelude.{◌≡◌, length, IsTrue};
     ghost use Rattle.std.specs.List.{list_all};
     ghost use Rattle.chunks.specs.Chunks.{content_of};
-    ghost use Rattle.chunks.specs.Views.{ChunksParts, chunks_of, lies_in};
+    ghost use Rattle.chunks.specs.Views.{ChunksParts, chunks_of, chunks_lie_in};
 
     ghost Value = { ChunksParts };
 
     ghost view = { λ v. record { bytes = v.bytes.now; spans = v.spans.items; last = v.last } };
 
     ghost invariant = { λ v. record {
-      lie : IsTrue (list_all (lies_in (length v.bytes.now)) v.spans.items);
+      lie : IsTrue (list_all (chunks_lie_in (length v.bytes.now)) v.spans.items);
       counted : v.content ≡ length (content_of (chunks_of (record {
         bytes = v.bytes.now;
         spans = v.spans.items;
@@ -53,14 +53,14 @@ impl<'m> Model for ChunksView<'m> {
 }
 
 impl<'m> ChunksView<'m> {
-    /// The view of chunks that stand at these offsets.
+    /// The view of chunks that are at these offsets.
     pub(crate) fn new(
         bytes: &'m [u8],
         spans: Vec<ChunkSpan>,
         last: usize,
         content: usize,
     ) -> ChunksView<'m>
-        requires lie { IsTrue (list_all (lies_in (length bytes.now)) spans.items) }
+        requires lie { IsTrue (list_all (chunks_lie_in (length bytes.now)) spans.items) }
         requires counted { content ≡ length (content_of (chunks_of (record {
           bytes = bytes.now;
           spans = spans.items;

@@ -7,7 +7,7 @@ use Rattle.std.proofs.lemmas.Bool.{cases_Bool, and_parts, and_from}
 use Rattle.std.proofs.lemmas.Bool.Decides.{nat_tests}
 use Rattle.std.proofs.lemmas.List.Elements.{All-head, All-tail}
 use Rattle.std.proofs.lemmas.List.Folds.{list_all-map}
-use Rattle.byte_grammar.specs.Classes.{is_blank}
+use Rattle.byte_grammar.specs.Classes.{is_blank, is_line_byte}
 use Rattle.sfv_text.specs.Keys.{have_distinct_keys, has_key, value_of}
 use Rattle.sfv_text.specs.Range.{is_string_byte, is_byte, is_key, is_member_in_range, is_dict_member_in_range, is_item_in_range, is_list_in_range, is_dict_in_range}
 use Rattle.sfv_text.specs.Strict.{item_text, list_text, dict_text, member_text, bytes_text}
@@ -20,7 +20,7 @@ use Rattle.sfv_text.proofs.Printable.{bare_is, item_is, inner_is, list_is, dict_
 use Rattle.sfv_read.specs.Laws.{ReadsOnly}
 use Rattle.sfv_read.specs.Reads.{ReadsItem, ReadsList, ReadsDict}
 use Rattle.sfv_read.proofs.InRange.{item_read_in_range, list_read_in_range, dict_read_in_range}
-use Rattle.msg_head.specs.RawValues.{IsRaw, is_line_byte, is_fold, fold_text}
+use Rattle.msg_head.specs.RawValues.{IsRaw, is_continuation, continuation_text}
 use Rattle.msg_head.specs.Lines.{FieldLine, IsLine, line_text}
 use Rattle.msg_head.specs.Starts.{start_text}
 use Rattle.msg_head.specs.declared.error.Side.{Side}
@@ -115,15 +115,15 @@ no_end c is goes = grind (arith, nat_tests)
 line_without_nul : (text : List ℕ) → list_all is_line_byte text ≡ true → list_all (λ c. not (0 == c)) text ≡ true
 line_without_nul text is = all_implied is_line_byte (λ c. not (0 == c)) no_nul text is
 
-fold_without_nul : (fold : List ℕ) → is_fold fold ≡ true → list_all (λ c. not (0 == c)) (fold_text fold) ≡ true
+fold_without_nul : (fold : List ℕ) → is_continuation fold ≡ true → list_all (λ c. not (0 == c)) (continuation_text fold) ≡ true
 fold_without_nul fold is = line_without_nul fold (and_parts _ (list_all is_line_byte fold) is).1
 
 raw_bytes : (raw : List ℕ) → IsRaw raw → list_all is_byte raw ≡ true → list_all is_raw_byte raw ≡ true
 raw_bytes raw is bytes =
     let pieces = is.0 in
-    let both = and_parts (list_all is_line_byte pieces.first) (list_all is_fold pieces.folds) is.1 in
-    all_both is_byte (λ c. not (0 == c)) raw bytes (rw is.2 (all_joined (λ c. not (0 == c)) pieces.first (flat_map fold_text pieces.folds) (line_without_nul pieces.first both.0)
-    (all_flat (λ c. not (0 == c)) fold_text is_fold fold_without_nul pieces.folds both.1)))
+    let both = and_parts (list_all is_line_byte pieces.first) (list_all is_continuation pieces.continued) is.1 in
+    all_both is_byte (λ c. not (0 == c)) raw bytes (rw is.2 (all_joined (λ c. not (0 == c)) pieces.first (flat_map continuation_text pieces.continued) (line_without_nul pieces.first both.0)
+    (all_flat (λ c. not (0 == c)) continuation_text is_continuation fold_without_nul pieces.continued both.1)))
 
 unblanked : (text : List ℕ) → list_all is_text_byte text ≡ true → list_all is_text_byte (without_first_blanks text) ≡ true
 unblanked [] all = refl

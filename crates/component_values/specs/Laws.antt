@@ -1,8 +1,8 @@
 -- Laws of components and their values.
-use Rattle.std.specs.Prelude.{◌≡◌, ◌⊎◌, ℕ, Bool, ◌&&◌, not, IsTrue, IfSome, List, codes}
+use Rattle.std.specs.Prelude.{◌≡◌, ◌⊎◌, ℕ, Bool, ◌&&◌, IsTrue, IfSome, List}
 use Rattle.std.specs.Char.{is_ascii}
 use Rattle.std.specs.List.{list_all}
-use Rattle.byte_grammar.specs.Classes.{is_one_of}
+use Rattle.byte_grammar.specs.Classes.{is_line_byte}
 use Rattle.sfv_text.specs.Classes.{is_byte}
 use Rattle.msg_body.specs.Messages.{Message, Spells}
 use Rattle.component_ids.specs.declared.id.ComponentId.{ComponentId}
@@ -36,7 +36,7 @@ LacksNoValue =
 
 -- ASCII without NUL, CR and LF
 abbrev pub is_value_byte : ℕ → Bool
-is_value_byte c = is_ascii c && not (is_one_of (codes "\0\r\n") c)
+is_value_byte c = is_ascii c && is_line_byte c
 
 -- some bytes spell the message, which answers a HEAD request or doesn't
 pub record IsSpelled (message : Message) : Type 0 where

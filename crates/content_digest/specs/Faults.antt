@@ -28,7 +28,7 @@ pub record Differs (content : List ℕ) (member : Pair Member) (algorithm : Algo
   pub computed_is : computed ≡ digest_by algorithm content
   pub apart : kept ≢ computed
 
--- the first member that doesn't agree with the content differs so
+-- the first member that doesn't agree with the content differs in this way
 pub record IsMismatch (dict : List (Pair Member)) (content : List ℕ) (algorithm : Algorithm)
     (kept computed : List ℕ) : Type 0 where
   pub index : ℕ

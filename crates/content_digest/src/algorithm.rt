@@ -3,7 +3,7 @@
 ghost use Rattle.std.specs.Prelude.{◌≡◌};
 ghost use Rattle.content_digest.specs.Algorithms.{key_of, algorithm_of};
 
-/// A hash algorithm of the registry of RFC 9530 section 5. The others that stand there are
+/// A hash algorithm of the registry of RFC 9530 section 5. The others of the registry are
 /// deprecated (RFC 9530 section 7.2), and aren't known here.
 #[derive(Clone, Copy, Debug, PartialEq, Eq)]
 pub enum Algorithm {

@@ -1,14 +1,13 @@
 //! The values of a field's lines, joined.
 
-use crate::lines::next_named;
-use msg_body::{MessageView, SideLines};
-use msg_head::{Pieces, Side};
+use msg_body::MessageView;
+use msg_head::{FieldLines, Pieces, Side};
 
 /// The pieces of a field's combined value that are left.
 #[derive(Debug, Drop)]
 pub struct Combined<'a, 'm> {
     // The lines after the current one.
-    lines: SideLines<'a, 'm>,
+    lines: FieldLines<'a, 'm>,
     name: &'a [u8],
     // The current line's value.
     current: Pieces<'m>,
@@ -31,7 +30,7 @@ impl<'a, 'm> Iterator for Combined<'a, 'm> {
         if let Some(piece) = self.current.next() {
             return Some(piece);
         }
-        let line = next_named(&mut self.lines, self.name)?;
+        let line = self.lines.next_named(self.name)?;
         self.current = line.value_pieces();
         if self.is_started {
             return Some(b", ");

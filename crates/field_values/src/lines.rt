@@ -1,29 +1,13 @@
 //! The field lines of a name.
 
-ghost use Rattle.std.specs.Prelude.{◌≡◌, ◌<◌, [], ◌∷◌, length, filter, nat_lt, slice_index_or, IfSome, IfNone};
-ghost use Rattle.msg_head.specs.Views.{field_line_of};
+ghost use Rattle.std.specs.Prelude.{◌≡◌, ◌<◌, length, nat_lt, slice_index_or};
 ghost use Rattle.msg_head.specs.Names.{has_name};
 ghost use Rattle.msg_body.specs.Views.{message_of, lines_on};
 ghost use Rattle.msg_head.specs.Values.{values, is_there};
 ghost use Rattle.field_values.specs.tools.Walks.{no_line};
 
-use msg_body::{MessageView, SideLines};
-use msg_head::{LineView, Side};
-
-/// The next of these lines that has the name.
-pub(crate) fn next_named<'m>(lines: &mut SideLines<'_, 'm>, name: &[u8]) -> Option<LineView<'m>>
-    ensures some { IfSome result (λ line. filter (has_name name.now) lines.old
-        ≡ field_line_of line ∷ filter (has_name name.now) lines.new) }
-    ensures none { IfNone result ((filter (has_name name.now) lines.old ≡ [])
-        × (filter (has_name name.now) lines.new ≡ [])) }
-{
-    while let Some(line) = lines.next() {
-        if line.is_named(name) {
-            return Some(line);
-        }
-    }
-    None
-}
+use msg_body::MessageView;
+use msg_head::Side;
 
 // Whether the field line with that index on the side has the name.
 #[tactic(auto, using(std::proofs::lemmas::Option::get_or_from_slice_get))]

@@ -1,3 +1,4 @@
+mod ThereLaws
 mod Codings
 mod Digits
 pub mod FramingLaws

@@ -7,7 +7,7 @@ use Rattle.byte_grammar.specs.Classes.{is_digit}
 use Rattle.byte_grammar.specs.Language.{starts_in}
 use Rattle.msg_head.specs.Starts.{StartLine, request, status}
 use Rattle.msg_head.specs.Heads.{Head}
-use Rattle.msg_head.specs.Values.{values}
+use Rattle.msg_head.specs.Values.{values, is_there}
 use Rattle.framing.specs.declared.kind.Framing.{Framing}
 use Rattle.framing.specs.declared.kind.Framing.TheVariants.{None, Length, Chunked, ToEnd}
 use Rattle.framing.specs.declared.limits.TheConstants.{MAX_LENGTH_DIGITS}
@@ -29,8 +29,9 @@ abbrev pub is_code_without_content : List ℕ → Bool
 is_code_without_content code = starts_in (λ c. c == byte "1") code
     || (bytes_eq code (codes "204") || bytes_eq code (codes "304"))
 
--- the message is a response that has no content, whatever its lines say: its code has none, or it
--- answers a HEAD request (RFC 9112 section 6.3, number 1)
+-- The message is a response that has no content, whatever its lines say: its code has none, or it
+-- answers a HEAD request (RFC 9112 section 6.3, number 1). A 2xx response to CONNECT has none
+-- either (number 2); tunnels aren't read here, and it is framed as any other response.
 abbrev pub has_no_content : Bool → StartLine → Bool
 has_no_content to_head (request line) = false
 has_no_content to_head (status line) = to_head || is_code_without_content line.code
@@ -45,9 +46,13 @@ codings_of head = values head.lines (codes "transfer-encoding")
 abbrev pub lengths_of : Head → List (List ℕ)
 lengths_of head = values head.lines (codes "content-length")
 
--- there is a line at least
-abbrev pub are_some : List (List ℕ) → Bool
-are_some texts = nat_lt 0 (length texts)
+-- there is a Transfer-Encoding line
+abbrev pub has_codings : Head → Bool
+has_codings head = is_there head.lines (codes "transfer-encoding")
+
+-- there is a Content-Length line
+abbrev pub has_lengths : Head → Bool
+has_lengths head = is_there head.lines (codes "content-length")
 
 -- the one transfer coding that is read, in which case doesn't count (RFC 9112 section 7)
 abbrev pub is_chunked : List ℕ → Bool
@@ -76,7 +81,7 @@ are_accepted_lengths (text ∷ (other ∷ others)) = false
 -- There are lines of both. RFC 9112 section 6.3, number 3, lets a recipient read the chunks; here
 -- such a head is refused.
 abbrev pub is_conflict : Head → Bool
-is_conflict head = are_some (codings_of head) && are_some (lengths_of head)
+is_conflict head = has_codings head && has_lengths head
 
 -- the head says how its message's content ends, or that there is none
 pub record IsFramable (head : Head) : Type 0 where
@@ -99,7 +104,7 @@ framing_by to_head start has_codings has_lengths =
 -- the framing of the head's message, which answers a HEAD request or doesn't
 abbrev pub framing_of : Bool → Head → Framing
 framing_of to_head head =
-    framing_by to_head head.start (are_some (codings_of head)) (are_some (lengths_of head))
+    framing_by to_head head.start (has_codings head) (has_lengths head)
 
 -- the number that the first of these values spells, 0 where there is none
 abbrev pub first_length : List (List ℕ) → ℕ

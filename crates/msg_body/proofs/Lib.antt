@@ -1,5 +1,4 @@
 mod Decided
-mod Drops
 mod Joins
 mod Lower
 mod OneBodies

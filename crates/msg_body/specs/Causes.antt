@@ -60,14 +60,26 @@ IsBodyUnfinished Chunked count bytes =
 
 -- ---- the message
 
+-- the start line isn't of the kind that is expected
+abbrev pub IsOtherKind : Expect → MessageError → Head → Type 0
+IsOtherKind expect fault head = IsFalse (is_expected expect head.start) × (fault ≡ BadStart)
+
+-- why the head isn't framable
+abbrev pub IsErrorOfFraming : MessageError → Head → Type 0
+IsErrorOfFraming fault head =
+    (cause : FramingError) × IsFramingError head cause × (fault ≡ framing_error cause)
+
+-- why the body is refused, which the head frames
+abbrev pub IsErrorOfBody : Bool → MessageError → Head → ℕ → List ℕ → Type 0
+IsErrorOfBody to_head fault head start bytes = IsFramable head
+    × IsBodyError (framing_of to_head head) (content_length_of head) start fault bytes
+
 -- why a message with this head is refused, by the bytes after the head, which begin at the offset
 abbrev pub IsErrorAfterHead : Expect → Bool → MessageError → Head → ℕ → List ℕ → Type 0
 IsErrorAfterHead expect to_head fault head start bytes =
-    (IsFalse (is_expected expect head.start) × (fault ≡ BadStart))
+    IsOtherKind expect fault head
     ⊎ (IsTrue (is_expected expect head.start)
-    × (((cause : FramingError) × IsFramingError head cause × (fault ≡ framing_error cause))
-    ⊎ (IsFramable head
-    × IsBodyError (framing_of to_head head) (content_length_of head) start fault bytes)))
+    × (IsErrorOfFraming fault head ⊎ IsErrorOfBody to_head fault head start bytes))
 
 -- the fact for which the fault is answered; being out of memory has none
 abbrev pub IsMessageError : Expect → Bool → List ℕ → MessageError → Type 0
@@ -75,7 +87,7 @@ IsMessageError expect to_head bytes fault =
     ((cause : HeadError) × IsHeadError bytes cause × (fault ≡ error_of cause))
     ⊎ After SpellsHead (IsErrorAfterHead expect to_head fault) bytes
 
--- No fault stands in the bytes, and more are missing: the end of the head may still come, or the
+-- No fault is in the bytes, and more are missing: the end of the head may still come, or the
 -- head is whole, of the expected kind and framed, and its body's end may.
 abbrev pub IsMessageUnfinished : Expect → Bool → List ℕ → Type 0
 IsMessageUnfinished expect to_head bytes =

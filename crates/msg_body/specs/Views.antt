@@ -5,7 +5,7 @@ use Rattle.msg_head.specs.declared.error.Side.TheVariants.{Header, Trailer}
 use Rattle.msg_head.specs.Lines.{FieldLine}
 use Rattle.msg_head.specs.Views.{View, IsViewOf, head_of}
 use Rattle.msg_head.specs.TrailerViews.{TrailerParts, TrailerFills, trailer_lines_of}
-use Rattle.chunks.specs.Views.{ChunksParts, Fills, chunks_of}
+use Rattle.chunks.specs.Views.{ChunksParts, ChunksFill, chunks_of}
 use Rattle.framing.specs.declared.kind.Framing.{Framing}
 use Rattle.msg_body.specs.declared.expect.Expect.{Expect}
 use Rattle.msg_body.specs.Bodies.{Body, plain, chunked, content_in, trailers_in}
@@ -29,7 +29,7 @@ body_bytes (chunked_parts chunks trailer) = chunks.bytes ++ trailer.bytes
 -- chunks and field lines, with colons and line ends, fill their bytes
 abbrev pub BodyFills : BodyParts → Type 0
 BodyFills (plain_parts content) = ⊤
-BodyFills (chunked_parts chunks trailer) = Fills chunks × TrailerFills trailer
+BodyFills (chunked_parts chunks trailer) = ChunksFill chunks × TrailerFills trailer
 
 -- the view of a message's head, its framing, and the view of its body
 pub record MessageParts : Type 0 where

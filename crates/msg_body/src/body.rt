@@ -75,7 +75,7 @@ fn read_to_end<'m>(bytes: &'m [u8]) -> Result<BodyRead<'m>, MessageError>
     Ok(BodyRead::Whole(BodyView::Plain(bytes), bytes.len()))
 }
 
-/// The body that the bytes after a head begin with, so framed. They begin at that offset.
+/// The body of that framing that the bytes after a head begin with. They begin at that offset.
 pub(crate) fn read_body<'m>(
     alloc: Global,
     bytes: &'m [u8],

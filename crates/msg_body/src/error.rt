@@ -15,7 +15,7 @@ pub enum MessageError {
     Memory,
     /// As many bytes as the side may have are there, and its end isn't among them.
     TooLong(Side),
-    /// NUL, a CR without LF after it or an LF without CR before it stands at this offset, counted
+    /// NUL, a CR without LF after it or an LF without CR before it is at this offset, counted
     /// from the message's first byte.
     NakedEnd(usize),
     /// The first line is no start line, or one of the other kind than expected.
@@ -24,10 +24,11 @@ pub enum MessageError {
     TooManyLines(Side),
     /// The line with this index on its side is no field line. Those before it are.
     BadLine(Side, usize),
-    /// There are a `Content-Length` and a `Transfer-Encoding` line (RFC 9112 section 6.1).
+    /// There are a `Content-Length` and a `Transfer-Encoding` line (RFC 9112 section 6.3,
+    /// number 3).
     FramingConflict,
     /// There are several `Content-Length` lines, or the value of the one isn't 1 to 15 digits (RFC
-    /// 9112 section 6.2).
+    /// 9112 section 6.3, number 5).
     BadLength,
     /// There are several `Transfer-Encoding` lines, or one of another coding than `chunked`, or of
     /// another version than HTTP/1.1 (RFC 9112 sections 6.1 and 7).

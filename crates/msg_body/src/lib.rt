@@ -5,7 +5,8 @@
 //! up to the end. The view of a message borrows its bytes, and no content is copied.
 //!
 //! ```text
-//! let bytes = b"POST / HTTP/1.1\r\nTransfer-Encoding: chunked\r\n\r\n3\r\nabc\r\n0\r\nA: b\r\n\r\n";
+//! let bytes = b"POST / HTTP/1.1\r\nTransfer-Encoding: chunked\r\n\r\n\
+//!     3\r\nabc\r\n0\r\nA: b\r\n\r\n";
 //! match read_message(alloc, bytes, Expect::Request, false)? {
 //!     MessageRead::Whole(message, used) => { .. } // used is 66
 //!     MessageRead::Partial => { .. }              // more bytes are wanted
@@ -22,7 +23,6 @@ mod expect;
 mod laws;
 mod limits;
 mod read;
-mod side_lines;
 mod view;
 
 pub use content::ContentPieces;
@@ -31,5 +31,4 @@ pub use expect::Expect;
 pub use laws::{message_laws, messages_have_one_answer};
 pub use limits::MAX_MESSAGE_BYTES;
 pub use read::{MessageRead, read_message};
-pub use side_lines::SideLines;
 pub use view::MessageView;

@@ -1,9 +1,8 @@
 //! Reads a message.
 
 ghost use Rattle.std.specs.Prelude.{◌≡◌, ◌≢◌, ℕ, ◌≤◌, length, Ok, IsTrue};
-ghost use Rattle.byte_grammar.specs.Causes.{AnswersWhere};
+ghost use Rattle.byte_grammar.specs.Causes.{AnswersWhere, AnswersUnlessMemory};
 ghost use Rattle.msg_head.specs.Heads.{IsUnfinished};
-ghost use Rattle.chunks.specs.Outcome.{AnswersUnlessMemory};
 ghost use Rattle.msg_body.specs.declared.limits.TheConstants.{MAX_MESSAGE_BYTES};
 ghost use Rattle.msg_body.specs.Messages.{Message, SpellsMessage, is_expected};
 ghost use Rattle.msg_body.specs.Views.{IsMessageViewOf};

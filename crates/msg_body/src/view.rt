@@ -7,9 +7,8 @@ ghost use Rattle.msg_body.specs.Content.{body_parts, content_left};
 
 use crate::body::BodyView;
 use crate::content::ContentPieces;
-use crate::side_lines::SideLines;
 use framing::Framing;
-use msg_head::{HeadView, LineView, Side, Start};
+use msg_head::{FieldLines, HeadView, LineView, Side, Start};
 use std::marker::Model;
 
 /// A message, borrowed from its bytes. A contract sees it as the views of its head and its body and
@@ -93,10 +92,16 @@ impl<'m> MessageView<'m> {
     }
 
     /// The field lines of the side, in order.
-    pub fn lines(&self, side: Side) -> SideLines<'_, 'm>
+    pub fn lines(&self, side: Side) -> FieldLines<'_, 'm>
         ensures { result ≡ lines_on side (message_of self.now) }
     {
-        SideLines::new(self, side)
+        match side {
+            Side::Header => self.head.lines(),
+            Side::Trailer => match &self.body {
+                BodyView::Plain(_) => FieldLines::empty(),
+                BodyView::Chunked(_, trailer) => trailer.lines(),
+            },
+        }
     }
 
     /// How many bytes the content has, chunks taken off (RFC 9110 section 6.4).

@@ -4,8 +4,7 @@ use Rattle.std.specs.List.{list_all, flat_map}
 use Rattle.std.proofs.lemmas.Bool.{and_parts, and_from}
 use Rattle.std.proofs.lemmas.List.Folds.{list_all-append}
 use Rattle.std.proofs.lemmas.Grind.{flat_map-append}
-use Rattle.byte_grammar.specs.Classes.{is_tchar}
-use Rattle.msg_head.specs.RawValues.{is_line_byte}
+use Rattle.byte_grammar.specs.Classes.{is_tchar, is_line_byte}
 use Rattle.msg_head.specs.Cuts.{IsSection}
 use Rattle.msg_head.specs.Starts.{StartLine}
 use Rattle.msg_head.specs.tools.Texts.{IsClean, IsCleanUpTo, IsCleanUpToCrlf, ended}

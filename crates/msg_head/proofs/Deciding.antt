@@ -4,8 +4,8 @@ use Rattle.std.specs.List.{list_all}
 use Rattle.std.proofs.lemmas.Bool.{and_parts, and_from, cases_Bool, cases_eq, cases_lt, lt-ltb, ltb-true}
 use Rattle.std.proofs.lemmas.List.{append-nil}
 use Rattle.std.proofs.lemmas.List.Folds.{list_all-append}
-use Rattle.byte_grammar.specs.Classes.{is_tchar, is_visible, is_digit}
-use Rattle.msg_head.specs.RawValues.{RawPieces, are_pieces, is_line_byte, pieces_text}
+use Rattle.byte_grammar.specs.Classes.{is_tchar, is_visible, is_digit, is_line_byte}
+use Rattle.msg_head.specs.RawValues.{RawPieces, are_pieces, pieces_text}
 use Rattle.msg_head.specs.Lines.{FieldLine}
 use Rattle.msg_head.specs.Starts.{RequestLine, StatusLine, StartLine, request, status, is_version, is_code, reason_text}
 use Rattle.msg_head.specs.Cuts.{MakesLine, MakesNoLine, cut_text, is_cut}

@@ -7,12 +7,13 @@ use Rattle.std.proofs.lemmas.Bool.{and_parts, and_from, cases_Bool, cases_lt, fa
 use Rattle.std.proofs.lemmas.List.{length-drop, take-append-drop, nil_from_length}
 use Rattle.std.proofs.lemmas.List.Elements.{All-nil, All-cons}
 use Rattle.std.proofs.lemmas.Slice.Eq.{bytes_eq-Decides}
+use Rattle.byte_grammar.specs.Classes.{is_line_byte}
 use Rattle.memchr.specs.Find.{is_byte3}
 use Rattle.msg_head.specs.declared.limits.TheConstants.{MAX_HEAD_BYTES, MAX_HEAD_LINES}
 use Rattle.msg_head.specs.declared.error.Side.TheVariants.{Header, Trailer}
 use Rattle.msg_head.specs.declared.error.HeadError.{HeadError}
 use Rattle.msg_head.specs.declared.error.HeadError.TheVariants.{Memory, TooLong, NakedEnd, BadStart, TooManyLines, BadLine}
-use Rattle.msg_head.specs.RawValues.{RawPieces, is_line_byte}
+use Rattle.msg_head.specs.RawValues.{RawPieces}
 use Rattle.msg_head.specs.Lines.{FieldLine, IsLine, line_text}
 use Rattle.msg_head.specs.Starts.{StartLine, start_text}
 use Rattle.msg_head.specs.Cuts.{HasNoEnd, IsSection, IsFirstNakedEnd, AreLinesOf, cut_text, is_cut}

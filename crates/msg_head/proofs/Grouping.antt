@@ -5,9 +5,9 @@ use Rattle.std.proofs.lemmas.Bool.{and_parts, and_from, cases_Bool, lt-ltb}
 use Rattle.std.proofs.lemmas.List.{append-nil, append_cancel_left, append_cancel_right}
 use Rattle.std.proofs.lemmas.List.Folds.{list_all-append}
 use Rattle.std.proofs.lemmas.Grind.{flat_map-append}
-use Rattle.byte_grammar.specs.Classes.{is_blank}
+use Rattle.byte_grammar.specs.Classes.{is_blank, is_line_byte}
 use Rattle.byte_grammar.specs.Language.{starts_in}
-use Rattle.msg_head.specs.RawValues.{RawPieces, are_pieces, is_fold, is_line_byte}
+use Rattle.msg_head.specs.RawValues.{RawPieces, are_pieces, is_continuation}
 use Rattle.msg_head.specs.Starts.{StartLine}
 use Rattle.msg_head.specs.Cuts.{AreLinesOf, IsCut, MakesNoStart, cut_text, is_cut, begins_anew}
 use Rattle.msg_head.specs.tools.Texts.{ended}
@@ -31,7 +31,7 @@ one_more : (p : List ℕ) (ps : List (List ℕ)) → is_full p ≡ true → (lin
     → list_all begins_anew (drop 1 lines) ≡ true → Grouped (p ∷ ps)
 one_more p ps full [] text each ends =
     let both = and_parts (nat_lt 0 (length p)) (list_all is_line_byte p) full in
-    let own : RawPieces = record { first = p; folds = [] } in
+    let own : RawPieces = record { first = p; continued = [] } in
     record {
       lines = own ∷ [];
       text = append-nil (cut_text own) ∙ cut_ended own ∙ append-nil (ended p) ∙ sym (append-nil (ended p)) ∙ ap (λ (x : List ℕ). ended p ++ x) text;
@@ -41,20 +41,20 @@ one_more p ps full [] text each ends =
 one_more p ps full (l ∷ ls) text each ends =
     let both = and_parts (nat_lt 0 (length p)) (list_all is_line_byte p) full in
     let one = and_parts (nat_lt 0 (length l.first) && are_pieces l) _ each in
-    let are = and_parts (list_all is_line_byte l.first) (list_all is_fold l.folds) (and_parts (nat_lt 0 (length l.first)) (are_pieces l) one.0).1 in
+    let are = and_parts (list_all is_line_byte l.first) (list_all is_continuation l.continued) (and_parts (nat_lt 0 (length l.first)) (are_pieces l) one.0).1 in
     elim (cases_Bool (starts_in is_blank l.first)) [
       | inl blank ↦
-          let own : RawPieces = record { first = p; folds = l.first ∷ l.folds } in
-          let fold : is_fold l.first ≡ true = and_from (starts_in is_blank l.first) (list_all is_line_byte l.first) blank are.0 in
+          let own : RawPieces = record { first = p; continued = l.first ∷ l.continued } in
+          let fold : is_continuation l.first ≡ true = and_from (starts_in is_blank l.first) (list_all is_line_byte l.first) blank are.0 in
           let own_text : cut_text own ≡ ended p ++ cut_text l = cut_ended own ∙ ap (λ (x : List ℕ). ended p ++ x) (sym (cut_ended l)) in
           record {
             lines = own ∷ ls;
             text = ap (λ (x : List ℕ). x ++ flat_map cut_text ls) own_text ∙ append_assoc (ended p) (cut_text l) (flat_map cut_text ls) ∙ ap (λ (x : List ℕ). ended p ++ x) text;
-            each = and_from _ _ (and_from (nat_lt 0 (length p)) (are_pieces own) both.0 (and_from (list_all is_line_byte p) (list_all is_fold (l.first ∷ l.folds)) both.1 (and_from (is_fold l.first) (list_all is_fold l.folds) fold are.1))) one.1;
+            each = and_from _ _ (and_from (nat_lt 0 (length p)) (are_pieces own) both.0 (and_from (list_all is_line_byte p) (list_all is_continuation (l.first ∷ l.continued)) both.1 (and_from (is_continuation l.first) (list_all is_continuation l.continued) fold are.1))) one.1;
             ends = ends;
           }
       | inr plain ↦
-          let own : RawPieces = record { first = p; folds = [] } in
+          let own : RawPieces = record { first = p; continued = [] } in
           record {
             lines = own ∷ l ∷ ls;
             text = λ i. (cut_ended own ∙ append-nil (ended p)) i ++ text i;

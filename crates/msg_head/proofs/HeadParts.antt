@@ -6,9 +6,9 @@ use Rattle.std.proofs.lemmas.Bool.{and_parts, and_from, cases_Bool, or_cases, eq
 use Rattle.std.proofs.lemmas.List.{take-append-drop, length-take-le}
 use Rattle.std.proofs.lemmas.List.Elements.{All-nil, All-cons, All-head, All-tail}
 use Rattle.std.proofs.lemmas.List.Folds.{list_all-append}
-use Rattle.byte_grammar.specs.Classes.{is_blank, is_tchar, is_visible}
+use Rattle.byte_grammar.specs.Classes.{is_blank, is_tchar, is_visible, is_line_byte}
 use Rattle.byte_grammar.specs.Language.{starts_in}
-use Rattle.msg_head.specs.RawValues.{RawPieces, are_pieces, is_fold, is_line_byte, fold_text}
+use Rattle.msg_head.specs.RawValues.{RawPieces, are_pieces, is_continuation, continuation_text}
 use Rattle.msg_head.specs.Lines.{FieldLine, IsLine, line_text}
 use Rattle.msg_head.specs.Starts.{StartLine, request, status, IsStartLine, start_text, reason_text}
 use Rattle.msg_head.specs.Cuts.{IsCut, MakesLine, MakesNoStart, cut_text, is_cut, begins_anew}
@@ -81,15 +81,15 @@ pub line_cut : (line : FieldLine) → IsLine line → LineCut line
 line_cut line is =
     let raw = is.raw.0 in
     let first = line.name ++ 58 ∷ raw.first in
-    let folds = flat_map fold_text raw.folds in
-    let are = and_parts (list_all is_line_byte raw.first) (list_all is_fold raw.folds) is.raw.1 in
+    let folds = flat_map continuation_text raw.continued in
+    let are = and_parts (list_all is_line_byte raw.first) (list_all is_continuation raw.continued) is.raw.1 in
     let some = first_some line.name (58 ∷ raw.first) is.name in
     let clean : list_all is_line_byte first ≡ true =
     list_all-append is_line_byte line.name (58 ∷ raw.first)
     ∙ and_from (list_all is_line_byte line.name) (list_all is_line_byte raw.first) (line_bytes_of is_tchar line.name refl refl refl (and_parts (nat_lt 0 (length line.name)) (list_all is_tchar line.name) is.name).1) are.0 in
     record {
-      cut = record { first = first; folds = raw.folds };
-      is = and_from (nat_lt 0 (length first)) (list_all is_line_byte first && list_all is_fold raw.folds) some.0 (and_from (list_all is_line_byte first) (list_all is_fold raw.folds) clean are.1);
+      cut = record { first = first; continued = raw.continued };
+      is = and_from (nat_lt 0 (length first)) (list_all is_line_byte first && list_all is_continuation raw.continued) some.0 (and_from (list_all is_line_byte first) (list_all is_continuation raw.continued) clean are.1);
       ends = some.1;
       makes = record {
         is = is;

@@ -19,6 +19,7 @@ pub mod Grouping
 pub mod FaultLaws
 pub mod Wholes
 pub mod OneAnswer
+pub mod NameCounts
 pub mod Outcomes
 pub mod TrailerCuts
 pub mod TrailerFaults

@@ -2,7 +2,7 @@
 use Rattle.std.proofs.Common.{◌≡◌, ℕ, Bool, true, false, ◌==◌, List, [], ◌∷◌, refl, sym, inl, inr}
 use Rattle.std.specs.List.{list_all}
 use Rattle.std.proofs.lemmas.Bool.{and_parts, and_from, cases_Bool, eqb-true}
-use Rattle.msg_head.specs.RawValues.{is_line_byte}
+use Rattle.byte_grammar.specs.Classes.{is_line_byte}
 use Rattle.msg_head.proofs.Prefixes.{outside}
 
 -- a byte that passes a test which these three fail

@@ -3,9 +3,9 @@ use Rattle.std.proofs.Common.{◌≡◌, ℕ, ◌<◌, Bool, true, false, not, n
 use Rattle.std.specs.List.{list_all, flat_map}
 use Rattle.std.proofs.lemmas.Bool.{and_parts, ltb-true, false≢true}
 use Rattle.std.proofs.lemmas.List.{append_cancel_left}
-use Rattle.byte_grammar.specs.Classes.{is_blank}
+use Rattle.byte_grammar.specs.Classes.{is_blank, is_line_byte}
 use Rattle.byte_grammar.specs.Language.{starts_in}
-use Rattle.msg_head.specs.RawValues.{RawPieces, is_line_byte, pieces_text}
+use Rattle.msg_head.specs.RawValues.{RawPieces, pieces_text}
 use Rattle.msg_head.specs.Cuts.{AreLinesOf, IsCut, cut_text, is_cut, begins_anew}
 use Rattle.msg_head.specs.tools.Texts.{BeginsWithCut}
 use Rattle.msg_head.proofs.Prefixes.{outside, one_prefix}
@@ -45,7 +45,7 @@ more_ends [] more each ends = refl
 more_ends (l ∷ ls) more each ends =
     let some = (and_parts _ _ (and_parts _ _ each).0).0 in
     ap (starts_in is_blank) (opened_lines l ls more ∙ opened_pieces l (lines_text ls more))
-    ∙ first_blank l.first (13 ∷ 10 ∷ after_first l.folds (lines_text ls more)) some (and_parts _ _ ends).0
+    ∙ first_blank l.first (13 ∷ 10 ∷ after_first l.continued (lines_text ls more)) some (and_parts _ _ ends).0
 
 -- the first of the lines stands there
 pub line_first : (l : RawPieces) (ls : List RawPieces) (more text : List ℕ) → AreCut (l ∷ ls) → text ≡ lines_text (l ∷ ls) more → BeginsWithCut l (lines_text ls more) text
@@ -58,7 +58,7 @@ line_first l ls more text a e =
 
 -- a line doesn't begin with CR
 pub line_no_cr : (l : RawPieces) (more rest bytes : List ℕ) → BeginsWithCut l more bytes → bytes ≡ 13 ∷ rest → ⊥
-line_no_cr l more rest bytes b e = begins l.first (after_first l.folds more) b.some (and_parts _ _ b.begins.are).0 (sym (opened_pieces l more) ∙ sym b.begins.joined ∙ e)
+line_no_cr l more rest bytes b e = begins l.first (after_first l.continued more) b.some (and_parts _ _ b.begins.are).0 (sym (opened_pieces l more) ∙ sym b.begins.joined ∙ e)
   where
     begins : (first tail : List ℕ) → 0 < length first → list_all is_line_byte first ≡ true → first ++ 13 ∷ 10 ∷ tail ≡ 13 ∷ rest → ⊥
     begins [] tail some is e = omega (arith, some)

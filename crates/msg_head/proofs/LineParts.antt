@@ -3,8 +3,8 @@ use Rattle.std.proofs.Common.{◌≡◌, ℕ, ◌<◌, true, nat_lt, List, [], �
 use Rattle.std.specs.List.{list_all, flat_map}
 use Rattle.std.proofs.lemmas.Bool.{and_parts, and_from, lt-ltb}
 use Rattle.std.proofs.lemmas.List.Folds.{list_all-append}
-use Rattle.byte_grammar.specs.Classes.{is_tchar}
-use Rattle.msg_head.specs.RawValues.{RawPieces, are_pieces, is_fold, is_line_byte, pieces_text, fold_text}
+use Rattle.byte_grammar.specs.Classes.{is_tchar, is_line_byte}
+use Rattle.msg_head.specs.RawValues.{RawPieces, are_pieces, is_continuation, pieces_text, continuation_text}
 use Rattle.msg_head.specs.Lines.{FieldLine, line_text}
 use Rattle.msg_head.specs.Cuts.{MakesLine, MakesNoLine}
 use Rattle.msg_head.specs.tools.Texts.{BeginsWithPieces, BeginsWithCut}
@@ -69,12 +69,12 @@ pub record PartsOf (cut : RawPieces) (more name rest : List ℕ) : Type 0 where
 
 pub parts_of : (cut : RawPieces) (more bytes name rest : List ℕ) → BeginsWithCut cut more bytes → StandsBefore is_tchar (58 ∷ []) name rest bytes → 0 < length name → PartsOf cut more name rest
 parts_of cut more bytes name rest b n some =
-    let at = colon_in_first name rest cut.first (10 ∷ after_first cut.folds more) n.each (sym n.joined ∙ b.begins.joined ∙ opened_pieces cut more) in
-    let pieces : RawPieces = record { first = at.0; folds = cut.folds } in
-    let cut_are = and_parts (list_all is_line_byte cut.first) (list_all is_fold cut.folds) b.begins.are in
+    let at = colon_in_first name rest cut.first (10 ∷ after_first cut.continued more) n.each (sym n.joined ∙ b.begins.joined ∙ opened_pieces cut more) in
+    let pieces : RawPieces = record { first = at.0; continued = cut.continued } in
+    let cut_are = and_parts (list_all is_line_byte cut.first) (list_all is_continuation cut.continued) b.begins.are in
     let clean = and_parts (list_all is_line_byte name) (list_all is_line_byte (58 ∷ at.0)) (sym (list_all-append is_line_byte name (58 ∷ at.0)) ∙ ap (list_all is_line_byte) (sym at.1) ∙ cut_are.0) in
-    let are : are_pieces pieces ≡ true = and_from (list_all is_line_byte at.0) (list_all is_fold cut.folds) clean.1 cut_are.1 in
-    let folds = flat_map fold_text cut.folds in
+    let are : are_pieces pieces ≡ true = and_from (list_all is_line_byte at.0) (list_all is_continuation cut.continued) clean.1 cut_are.1 in
+    let folds = flat_map continuation_text cut.continued in
     record {
       pieces = pieces;
       begins = record { are = are; ends = b.begins.ends; joined = at.2 ∙ sym (opened_pieces pieces more) };

@@ -6,8 +6,8 @@ use Rattle.std.proofs.lemmas.Bool.{and_parts, and_from, cases_Bool, or_cases, eq
 use Rattle.std.proofs.lemmas.List.{append-nil}
 use Rattle.std.proofs.lemmas.List.Folds.{list_all-append}
 use Rattle.std.proofs.lemmas.Grind.{flat_map-append}
+use Rattle.byte_grammar.specs.Classes.{is_line_byte}
 use Rattle.memchr.specs.Find.{IsFirstByte, is_byte3}
-use Rattle.msg_head.specs.RawValues.{is_line_byte}
 use Rattle.msg_head.specs.Cuts.{IsNaked, IsNakedEnd, IsFirstNakedEnd}
 use Rattle.msg_head.specs.tools.Texts.{EndsWithLf, IsClean, IsCleanUpTo, ended}
 use Rattle.msg_head.proofs.Prefixes.{outside}

@@ -4,8 +4,8 @@ use Rattle.std.specs.List.{list_all}
 use Rattle.std.proofs.lemmas.Bool.{and_parts, and_from, cases_Bool, eqb-true, false≢true}
 use Rattle.std.proofs.lemmas.List.{append-nil, append_cancel_right, take-append-drop, length-take-le}
 use Rattle.std.proofs.lemmas.List.Folds.{list_all-append}
-use Rattle.byte_grammar.specs.Classes.{is_digit, is_tchar, is_visible}
-use Rattle.msg_head.specs.RawValues.{RawPieces, is_line_byte}
+use Rattle.byte_grammar.specs.Classes.{is_digit, is_tchar, is_visible, is_line_byte}
+use Rattle.msg_head.specs.RawValues.{RawPieces}
 use Rattle.msg_head.specs.Lines.{FieldLine}
 use Rattle.msg_head.specs.Starts.{StartLine, request, status, RequestLine, IsRequestLine, StatusLine, IsStatusLine, IsStartLine, start_text, reason_text, request_text, status_text}
 use Rattle.msg_head.specs.Cuts.{MakesLine}

@@ -2,6 +2,7 @@
 use Rattle.std.proofs.Common.{◌≢◌, ℕ, inl, inr, List, ◌∷◌, [], ◌++◌, sym, ◌∙◌, arith, append_assoc}
 use Rattle.std.specs.Prelude.{Result, Ok, Err}
 use Rattle.byte_grammar.specs.Causes.{AnswersWhere}
+use Rattle.byte_grammar.proofs.AnswerLaws.{NamesFault, memory_if, answers_where}
 use Rattle.msg_head.specs.declared.head.HeadRead.{HeadRead}
 use Rattle.msg_head.specs.declared.head.HeadRead.TheVariants.{Whole, Partial}
 use Rattle.msg_head.specs.declared.error.Side.TheVariants.{Header, Trailer}
@@ -21,7 +22,7 @@ use Rattle.msg_head.proofs.Sectioning.{cut_section}
 use Rattle.msg_head.proofs.OneHeads.{one_head_law}
 use Rattle.msg_head.proofs.FaultLaws.{one_fault, no_cause_spelled}
 use Rattle.msg_head.proofs.Wholes.{no_section, spelled_by}
-use Rattle.msg_head.proofs.OneAnswer.{NamesFault, memory_or_not, answers_where}
+use Rattle.msg_head.proofs.OneAnswer.{memory_or_not}
 
 pub ends_with_lf : (bytes section : List ℕ) → IsSection bytes section → EndsWithLf section
 ends_with_lf bytes section s = (s.before ++ 13 ∷ 10 ∷ 13 ∷ [], s.ends ∙ sym (append_assoc s.before (13 ∷ 10 ∷ 13 ∷ []) (10 ∷ [])))
@@ -56,18 +57,15 @@ pub found_is : (bytes : List ℕ) (result : Result HeadRead HeadError) → Expla
 found_is bytes (Ok (Whole view count)) x head used s =
     one_head_law bytes (head_of view) head count used (spelled_by bytes view count x) s
 found_is bytes (Ok Partial) x head used s = not_both bytes head used s x
-found_is bytes (Err fault) x head used s = elim (memory_or_not fault) [
-  | inl memory ↦ memory
-  | inr own ↦ absurd (no_cause_spelled bytes head used s fault (x own).holds)
-]
+found_is bytes (Err fault) x head used s = memory_if Memory memory_or_not fault (λ own. no_cause_spelled bytes head used s fault (x own).holds)
 
-named : (bytes : List ℕ) (result : Result HeadRead HeadError) → ExplainsHead bytes result → NamesFault (IsHeadError bytes) result
+named : (bytes : List ℕ) (result : Result HeadRead HeadError) → ExplainsHead bytes result → NamesFault Memory (IsHeadError bytes) result
 named bytes (Ok (Whole view count)) x = λ fault f. no_cause_spelled bytes (head_of view) count (spelled_by bytes view count x) fault f.holds
 named bytes (Ok Partial) x = λ fault f. no_cause_unfinished bytes x fault f.holds
 named bytes (Err fault) x = x
 
 pub fault_is : (bytes : List ℕ) (result : Result HeadRead HeadError) → ExplainsHead bytes result → (fault : HeadError) → fault ≢ Memory → AnswersWhere Memory result fault (IsHeadError bytes fault)
-fault_is bytes result x = answers_where (IsHeadError bytes) result (one_fault bytes) (named bytes result x)
+fault_is bytes result x = answers_where Memory memory_or_not (IsHeadError bytes) result (one_fault bytes) (named bytes result x)
 
 -- the laws of answers
 pub no_fault_at_head_law : NoFaultAtHead

@@ -5,9 +5,9 @@ use Rattle.std.proofs.lemmas.Bool.{and_parts, and_from, cases_lt, lt-ltb, false�
 use Rattle.std.proofs.lemmas.List.{append-nil, append_cancel_left}
 use Rattle.std.proofs.lemmas.List.Folds.{list_all-append}
 use Rattle.std.proofs.lemmas.Grind.{flat_map-append}
-use Rattle.byte_grammar.specs.Classes.{is_blank}
+use Rattle.byte_grammar.specs.Classes.{is_blank, is_line_byte}
 use Rattle.byte_grammar.specs.Language.{starts_in}
-use Rattle.msg_head.specs.RawValues.{RawPieces, are_pieces, is_fold, is_line_byte, fold_text}
+use Rattle.msg_head.specs.RawValues.{RawPieces, are_pieces, is_continuation, continuation_text}
 use Rattle.msg_head.specs.Cuts.{IsCut, IsSection, cut_text, is_cut}
 use Rattle.msg_head.specs.tools.Texts.{IsClean, ended}
 use Rattle.msg_head.proofs.Prefixes.{outside}
@@ -19,25 +19,25 @@ abbrev pub is_full : List ℕ → Bool
 is_full piece = nat_lt 0 (length piece) && list_all is_line_byte piece
 
 -- the text of pieces, each ended, as the text of the first one and its folds
-folds_ended : (folds : List (List ℕ)) → flat_map fold_text folds ++ 13 ∷ 10 ∷ [] ≡ 13 ∷ 10 ∷ flat_map ended folds
+folds_ended : (folds : List (List ℕ)) → flat_map continuation_text folds ++ 13 ∷ 10 ∷ [] ≡ 13 ∷ 10 ∷ flat_map ended folds
 folds_ended [] = refl
 folds_ended (f ∷ fs) =
-    ap (λ (s : List ℕ). 13 ∷ 10 ∷ s) (append_assoc f (flat_map fold_text fs) (13 ∷ 10 ∷ []) ∙ ap (λ (s : List ℕ). f ++ s) (folds_ended fs) ∙ sym (append_assoc f (13 ∷ 10 ∷ []) (flat_map ended fs)))
+    ap (λ (s : List ℕ). 13 ∷ 10 ∷ s) (append_assoc f (flat_map continuation_text fs) (13 ∷ 10 ∷ []) ∙ ap (λ (s : List ℕ). f ++ s) (folds_ended fs) ∙ sym (append_assoc f (13 ∷ 10 ∷ []) (flat_map ended fs)))
 
-pub cut_ended : (line : RawPieces) → cut_text line ≡ flat_map ended (line.first ∷ line.folds)
+pub cut_ended : (line : RawPieces) → cut_text line ≡ flat_map ended (line.first ∷ line.continued)
 cut_ended line =
-    append_assoc line.first (flat_map fold_text line.folds) (13 ∷ 10 ∷ [])
-    ∙ ap (λ (s : List ℕ). line.first ++ s) (folds_ended line.folds)
-    ∙ sym (append_assoc line.first (13 ∷ 10 ∷ []) (flat_map ended line.folds))
+    append_assoc line.first (flat_map continuation_text line.continued) (13 ∷ 10 ∷ [])
+    ∙ ap (λ (s : List ℕ). line.first ++ s) (folds_ended line.continued)
+    ∙ sym (append_assoc line.first (13 ∷ 10 ∷ []) (flat_map ended line.continued))
 
-full_fold : (f : List ℕ) → is_fold f ≡ true → is_full f ≡ true
+full_fold : (f : List ℕ) → is_continuation f ≡ true → is_full f ≡ true
 full_fold [] is = absurd (false≢true is)
 full_fold (c ∷ cs) is = and_from (nat_lt 0 (length (c ∷ cs))) (list_all is_line_byte (c ∷ cs)) (lt-ltb 0 (length (c ∷ cs)) (omega arith)) (and_parts (starts_in is_blank (c ∷ cs)) (list_all is_line_byte (c ∷ cs)) is).1
 
-full_folds : (fs : List (List ℕ)) → list_all is_fold fs ≡ true → list_all is_full fs ≡ true
+full_folds : (fs : List (List ℕ)) → list_all is_continuation fs ≡ true → list_all is_full fs ≡ true
 full_folds [] is = refl
 full_folds (f ∷ fs) is =
-    let both = and_parts (is_fold f) (list_all is_fold fs) is in
+    let both = and_parts (is_continuation f) (list_all is_continuation fs) is in
     and_from (is_full f) (list_all is_full fs) (full_fold f both.0) (full_folds fs both.1)
 
 -- all pieces of the lines
@@ -51,10 +51,10 @@ pieces_of [] each = record { pieces = []; text = refl; full = refl }
 pieces_of (l ∷ ls) each =
     let both = and_parts (nat_lt 0 (length l.first) && are_pieces l) _ each in
     let some = and_parts (nat_lt 0 (length l.first)) (are_pieces l) both.0 in
-    let are = and_parts (list_all is_line_byte l.first) (list_all is_fold l.folds) some.1 in
+    let are = and_parts (list_all is_line_byte l.first) (list_all is_continuation l.continued) some.1 in
     let others = pieces_of ls both.1 in
-    let own = l.first ∷ l.folds in
-    let own_full : list_all is_full own ≡ true = and_from (is_full l.first) (list_all is_full l.folds) (and_from (nat_lt 0 (length l.first)) (list_all is_line_byte l.first) some.0 are.0) (full_folds l.folds are.1) in
+    let own = l.first ∷ l.continued in
+    let own_full : list_all is_full own ≡ true = and_from (is_full l.first) (list_all is_full l.continued) (and_from (nat_lt 0 (length l.first)) (list_all is_line_byte l.first) some.0 are.0) (full_folds l.continued are.1) in
     record {
       pieces = own ++ others.pieces;
       text = (λ i. cut_ended l i ++ others.text i) ∙ sym (flat_map-append ended own others.pieces);

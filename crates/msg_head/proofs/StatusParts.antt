@@ -4,8 +4,7 @@ use Rattle.std.specs.List.{list_all}
 use Rattle.std.proofs.lemmas.Bool.{and_parts, and_from, false≢true}
 use Rattle.std.proofs.lemmas.List.{append-nil}
 use Rattle.std.proofs.lemmas.List.Folds.{list_all-append}
-use Rattle.byte_grammar.specs.Classes.{is_digit, is_visible}
-use Rattle.msg_head.specs.RawValues.{is_line_byte}
+use Rattle.byte_grammar.specs.Classes.{is_digit, is_visible, is_line_byte}
 use Rattle.msg_head.specs.Starts.{StatusLine, IsStatusLine, is_code, is_version, reason_text, status_text}
 use Rattle.msg_head.specs.tools.Prefixes.{StandsBefore, NoneStandsBefore, BeginsWithNoStatus, IsCodeAndReason, NoCodeAndReason}
 use Rattle.msg_head.proofs.Prefixes.{one_before}

@@ -5,6 +5,7 @@ use Rattle.std.specs.List.{flat_map}
 use Rattle.std.proofs.Math.Seq.{take-append_seam, take-append-add}
 use Rattle.std.proofs.lemmas.List.{length-map}
 use Rattle.byte_grammar.specs.Causes.{AnswersWhere}
+use Rattle.byte_grammar.proofs.AnswerLaws.{NamesFault, memory_if, answers_where}
 use Rattle.msg_head.specs.declared.limits.TheConstants.{MAX_HEAD_BYTES}
 use Rattle.msg_head.specs.declared.line.LineSpan.{LineSpan}
 use Rattle.msg_head.specs.declared.trailer.TrailerRead.{TrailerRead}
@@ -22,7 +23,7 @@ use Rattle.msg_head.specs.Laws.{NoFaultAtTrailer, NoTrailerAnswerYet}
 use Rattle.msg_head.specs.tools.Sections.{AreSpansOf}
 use Rattle.msg_head.specs.tools.TrailerJudged.{IsTrailerSectionView, ExplainsTrailer}
 use Rattle.msg_head.proofs.Wholes.{all_of, wider_section, section_short, own_section, none_of}
-use Rattle.msg_head.proofs.OneAnswer.{NamesFault, memory_or_not, answers_where}
+use Rattle.msg_head.proofs.OneAnswer.{memory_or_not}
 use Rattle.msg_head.proofs.TrailerCuts.{section_first, one_trailer_law}
 use Rattle.msg_head.proofs.TrailerFaults.{one_trailer_fault, no_cause_at_trailer, no_cause_yet, trailer_not_both}
 
@@ -97,19 +98,16 @@ pub trailer_found_is : (bytes : List ℕ) (result : Result TrailerRead HeadError
 trailer_found_is bytes (Ok (Whole view count)) x lines used s =
     one_trailer_law bytes (trailer_lines_of view) lines count used (trailer_spelled_by bytes view count x) s
 trailer_found_is bytes (Ok Partial) x lines used s = trailer_not_both bytes lines used s x
-trailer_found_is bytes (Err fault) x lines used s = elim (memory_or_not fault) [
-  | inl memory ↦ memory
-  | inr own ↦ absurd (no_cause_at_trailer bytes lines used s fault (x own).holds)
-]
+trailer_found_is bytes (Err fault) x lines used s = memory_if Memory memory_or_not fault (λ own. no_cause_at_trailer bytes lines used s fault (x own).holds)
 
-named : (bytes : List ℕ) (result : Result TrailerRead HeadError) → ExplainsTrailer bytes result → NamesFault (IsTrailerError bytes) result
+named : (bytes : List ℕ) (result : Result TrailerRead HeadError) → ExplainsTrailer bytes result → NamesFault Memory (IsTrailerError bytes) result
 named bytes (Ok (Whole view count)) x =
     λ fault f. no_cause_at_trailer bytes (trailer_lines_of view) count (trailer_spelled_by bytes view count x) fault f.holds
 named bytes (Ok Partial) x = λ fault f. no_cause_yet bytes x fault f.holds
 named bytes (Err fault) x = x
 
 pub trailer_fault_is : (bytes : List ℕ) (result : Result TrailerRead HeadError) → ExplainsTrailer bytes result → (fault : HeadError) → fault ≢ Memory → AnswersWhere Memory result fault (IsTrailerError bytes fault)
-trailer_fault_is bytes result x = answers_where (IsTrailerError bytes) result (one_trailer_fault bytes) (named bytes result x)
+trailer_fault_is bytes result x = answers_where Memory memory_or_not (IsTrailerError bytes) result (one_trailer_fault bytes) (named bytes result x)
 
 -- the laws of answers
 pub no_fault_at_trailer_law : NoFaultAtTrailer

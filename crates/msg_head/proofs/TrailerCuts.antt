@@ -3,7 +3,8 @@ use Rattle.std.proofs.Common.{◌≡◌, ℕ, true, List, [], ◌∷◌, ◌++�
 use Rattle.std.specs.List.{All, list_all, flat_map}
 use Rattle.std.proofs.lemmas.Bool.{and_parts}
 use Rattle.std.proofs.lemmas.List.{append_cancel_left, append_cancel_right, take-append-drop}
-use Rattle.msg_head.specs.RawValues.{RawPieces, is_line_byte}
+use Rattle.byte_grammar.specs.Classes.{is_line_byte}
+use Rattle.msg_head.specs.RawValues.{RawPieces}
 use Rattle.msg_head.specs.Lines.{FieldLine, IsLine, line_text}
 use Rattle.msg_head.specs.Cuts.{IsSection, AreLinesOf, IsCut}
 use Rattle.msg_head.specs.Trailers.{IsTrailerSection, SpellsTrailer, trailer_text}

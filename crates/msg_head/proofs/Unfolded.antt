@@ -5,9 +5,9 @@ use Rattle.std.specs.List.{list_all, flat_map, join_by}
 use Rattle.std.proofs.lemmas.Bool.{cases_Bool, false≢true, and_parts, and_from, or_cases, eqb-true}
 use Rattle.std.proofs.lemmas.List.{append-nil, reverse-append, reverse-reverse}
 use Rattle.std.proofs.lemmas.List.Folds.{list_all-append}
-use Rattle.byte_grammar.specs.Classes.{is_blank}
+use Rattle.byte_grammar.specs.Classes.{is_blank, is_line_byte}
 use Rattle.byte_grammar.specs.Language.{starts_in}
-use Rattle.msg_head.specs.RawValues.{RawPieces, is_line_byte, is_fold, are_pieces, fold_text, pieces_text}
+use Rattle.msg_head.specs.RawValues.{RawPieces, is_continuation, are_pieces, continuation_text, pieces_text}
 use Rattle.msg_head.specs.Values.{IsTrimmed, AreTrimmed, IsLineValue, is_end, without_first_blanks, without_blanks, has_bytes, texts_of, value}
 use Rattle.msg_head.specs.Laws.{RawHasOneValue}
 use Rattle.msg_head.proofs.TextLaws.{kept, after_line, Stops, line_then, texts_after, texts_end}
@@ -103,29 +103,29 @@ clean (c ∷ text) is =
 abbrev added : List ℕ → List (List ℕ) → List (List ℕ)
 added text texts = if has_bytes text then text ∷ texts else texts
 
-folds_stop : (folds : List (List ℕ)) → Stops (flat_map fold_text folds)
+folds_stop : (folds : List (List ℕ)) → Stops (flat_map continuation_text folds)
 folds_stop [] = inl refl
 folds_stop (fold ∷ folds) = inr refl
 
-texts_of_pieces : (first : List ℕ) (folds texts : _) → list_all is_line_byte first ≡ true → list_all is_fold folds ≡ true
-    → AreTrimmed (first ∷ folds) texts → texts_of (first ++ flat_map fold_text folds) ≡ filter has_bytes texts
+texts_of_pieces : (first : List ℕ) (folds texts : _) → list_all is_line_byte first ≡ true → list_all is_continuation folds ≡ true
+    → AreTrimmed (first ∷ folds) texts → texts_of (first ++ flat_map continuation_text folds) ≡ filter has_bytes texts
 texts_of_pieces first folds [] line all are = absurd are
 texts_of_pieces first [] (text ∷ []) line all are =
     ap kept (line_then first [] (clean first line) (inl refl)) ∙ ap (λ t. added t []) (text_is first text are.0)
 texts_of_pieces first [] (text ∷ other ∷ texts) line all are = absurd are.1
 texts_of_pieces first (fold ∷ folds) (text ∷ texts) line all are =
-    let both = and_parts (is_fold fold) (list_all is_fold folds) all in
+    let both = and_parts (is_continuation fold) (list_all is_continuation folds) all in
     let parts = and_parts (starts_in is_blank fold) (list_all is_line_byte fold) both.0 in
-    let rest = fold ++ flat_map fold_text folds in
+    let rest = fold ++ flat_map continuation_text folds in
     let more = texts_of_pieces fold folds texts parts.1 both.1 are.1 in
-    ap kept (line_then first (flat_map fold_text (fold ∷ folds)) (clean first line) (inr refl))
-    ∙ ap (λ t. added t (kept (after_line (flat_map fold_text (fold ∷ folds))))) (text_is first text are.0)
+    ap kept (line_then first (flat_map continuation_text (fold ∷ folds)) (clean first line) (inr refl))
+    ∙ ap (λ t. added t (kept (after_line (flat_map continuation_text (fold ∷ folds))))) (text_is first text are.0)
     ∙ ap (added text) (texts_after (13 ∷ 10 ∷ rest) (inr refl) ∙ texts_end 13 (10 ∷ rest) refl ∙ texts_end 10 rest refl ∙ more)
 
-texts_are : (pieces : RawPieces) (texts : List (List ℕ)) → are_pieces pieces ≡ true → AreTrimmed (pieces.first ∷ pieces.folds) texts → texts_of (pieces_text pieces) ≡ filter has_bytes texts
+texts_are : (pieces : RawPieces) (texts : List (List ℕ)) → are_pieces pieces ≡ true → AreTrimmed (pieces.first ∷ pieces.continued) texts → texts_of (pieces_text pieces) ≡ filter has_bytes texts
 texts_are pieces texts are is =
-    let both = and_parts (list_all is_line_byte pieces.first) (list_all is_fold pieces.folds) are in
-    texts_of_pieces pieces.first pieces.folds texts both.0 both.1 is
+    let both = and_parts (list_all is_line_byte pieces.first) (list_all is_continuation pieces.continued) are in
+    texts_of_pieces pieces.first pieces.continued texts both.0 both.1 is
 
 value_of_pieces : (pieces : RawPieces) → are_pieces pieces ≡ true → (text : List ℕ) → (IsLineValue (pieces_text pieces) text) ↔ (text ≡ value (pieces_text pieces))
 value_of_pieces pieces are text = (
@@ -134,9 +134,9 @@ value_of_pieces pieces are text = (
     pieces = pieces;
     are = are;
     joined = refl;
-    texts = map without_blanks (pieces.first ∷ pieces.folds);
-    texts_are = are_texts (pieces.first ∷ pieces.folds);
-    value_is = same ∙ ap (join_by (λ text. text) (codes " ")) (texts_are pieces (map without_blanks (pieces.first ∷ pieces.folds)) are (are_texts (pieces.first ∷ pieces.folds)));
+    texts = map without_blanks (pieces.first ∷ pieces.continued);
+    texts_are = are_texts (pieces.first ∷ pieces.continued);
+    value_is = same ∙ ap (join_by (λ text. text) (codes " ")) (texts_are pieces (map without_blanks (pieces.first ∷ pieces.continued)) are (are_texts (pieces.first ∷ pieces.continued)));
   },
 )
 

@@ -15,7 +15,7 @@ pub record IsTooLong (bytes : List ℕ) : Type 0 where
   pub long : MAX_HEAD_BYTES ≤ length bytes
   pub no_end : HasNoEnd (take MAX_HEAD_BYTES bytes)
 
--- the first byte of the head that is NUL or half of a line's end stands at the offset
+-- the first byte of the head that is NUL or half of a line's end is at the offset
 pub record HasNakedEnd (bytes : List ℕ) (offset : ℕ) : Type 0 where
   pub section : List ℕ
   pub is : IsSection bytes section

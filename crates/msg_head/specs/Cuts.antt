@@ -1,17 +1,17 @@
 -- Where a head ends, and its lines as they are cut, right or wrong: RFC 9112 sections 2.1, 2.2 and
--- 5.2. The lines of a trailer section are cut in the same way.
+-- 5.2, and of NUL RFC 9110 section 5.5. The lines of a trailer section are cut in the same way.
 use Rattle.std.specs.Prelude.{◌≡◌, ◌≢◌, ◌⊎◌, ℕ, ◌<◌, IsTrue, ◌&&◌, not, nat_lt, Bool, List, [], ◌∷◌, ◌++◌, length, drop, codes}
 use Rattle.std.specs.List.{list_all, flat_map}
 use Rattle.std.specs.Str.{byte}
-use Rattle.byte_grammar.specs.Classes.{is_blank}
+use Rattle.byte_grammar.specs.Classes.{is_blank, is_line_byte}
 use Rattle.byte_grammar.specs.Language.{starts_in}
-use Rattle.msg_head.specs.RawValues.{RawPieces, are_pieces, is_line_byte, pieces_text}
+use Rattle.msg_head.specs.RawValues.{RawPieces, are_pieces, pieces_text}
 use Rattle.msg_head.specs.Lines.{FieldLine, IsLine, line_text}
 use Rattle.msg_head.specs.Starts.{StartLine, IsStartLine, start_text}
 
 -- ---- where a head ends
 
--- CRLF CRLF stands nowhere in the bytes
+-- CRLF CRLF is nowhere in the bytes
 abbrev pub HasNoEnd : List ℕ → Type 0
 HasNoEnd bytes = (before after : List ℕ) → bytes ≢ before ++ (codes "\r\n\r\n" ++ after)
 
@@ -32,7 +32,7 @@ IsNaked before c after =
     ⊎ ((c ≡ byte "\r") × ((more : List ℕ) → after ≢ byte "\n" ∷ more))
     ⊎ ((c ≡ byte "\n") × ((less : List ℕ) → before ≢ less ++ byte "\r" ∷ []))
 
--- such a byte stands in the text at the offset
+-- such a byte is in the text at the offset
 pub record IsNakedEnd (text : List ℕ) (offset : ℕ) : Type 0 where
   pub before : List ℕ
   pub c : ℕ
@@ -67,7 +67,7 @@ pub record AreLinesOf (section : List ℕ) (lines : List RawPieces) : Type 0 whe
   pub ends : IsTrue (list_all begins_anew (drop 1 lines))
 
 -- The bytes begin with a line that ends at the first CRLF, further lines, and an empty line. No
--- NUL, CR or LF stands elsewhere in them.
+-- NUL, CR or LF is elsewhere in them.
 pub record IsCut (start : List ℕ) (lines : List RawPieces) (bytes : List ℕ) : Type 0 where
   pub section : List ℕ
   pub more : List ℕ

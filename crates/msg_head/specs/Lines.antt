@@ -4,7 +4,7 @@ use Rattle.std.specs.Str.{byte}
 use Rattle.byte_grammar.specs.Classes.{is_token}
 use Rattle.msg_head.specs.RawValues.{IsRaw}
 
--- the name as it is written, and the raw value: all that stands between the colon and the line's
+-- the name as it is written, and the raw value: all that is between the colon and the line's
 -- end, folds included
 pub record FieldLine : Type 0 where
   pub name : List ℕ

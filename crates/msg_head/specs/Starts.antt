@@ -2,8 +2,7 @@
 use Rattle.std.specs.Prelude.{ℕ, Bool, IsTrue, ◌&&◌, ◌||◌, ◌==◌, nat_lt, List, [], ◌∷◌, ◌++◌, length, codes, Option, Some, None, IfSome}
 use Rattle.std.specs.List.{list_all}
 use Rattle.std.specs.Str.{byte, bytes_eq}
-use Rattle.byte_grammar.specs.Classes.{is_token, is_visible, is_digit}
-use Rattle.msg_head.specs.RawValues.{is_line_byte}
+use Rattle.byte_grammar.specs.Classes.{is_token, is_visible, is_digit, is_line_byte}
 
 -- RFC 9112 section 3
 pub record RequestLine : Type 0 where

@@ -15,7 +15,7 @@ pub record IsTrailerTooLong (bytes : List ℕ) : Type 0 where
   pub long : MAX_HEAD_BYTES ≤ length bytes
   pub no_end : HasNoEnd (after_chunks (take MAX_HEAD_BYTES bytes))
 
--- the first byte of the section that is NUL or half of a line's end stands at the offset
+-- the first byte of the section that is NUL or half of a line's end is at the offset
 pub record HasTrailerNakedEnd (bytes : List ℕ) (offset : ℕ) : Type 0 where
   pub section : List ℕ
   pub is : IsTrailerSection bytes section

@@ -5,7 +5,7 @@ use Rattle.msg_head.specs.Lines.{FieldLine}
 use Rattle.msg_head.specs.Views.{line_at, FollowEachOther}
 use Rattle.msg_head.specs.Trailers.{IsTrailerText}
 
--- the bytes of a trailer section, and where its field lines stand in them
+-- the bytes of a trailer section, and where its field lines are in them
 pub record TrailerParts : Type 0 where
   pub bytes : List ℕ
   pub spans : List LineSpan

@@ -32,18 +32,19 @@ has_bytes text = nat_lt 0 (length text)
 
 -- The raw value is pieces joined by CRLF, and the value is their texts, those that are not empty,
 -- joined by SP. So the blanks at both ends of the raw value go, and each fold becomes one SP, with
--- the blanks around it and the folds that only blanks part from it.
+-- the blanks around it and the folds that only blanks part from it. RFC 9421 section 2.1 literally
+-- trims the ends first and replaces each fold by a SP of its own.
 pub record IsLineValue (raw text : List ℕ) : Type 0 where
   pub pieces : RawPieces
   pub are : IsTrue (are_pieces pieces)
   pub joined : raw ≡ pieces_text pieces
   pub texts : List (List ℕ)
-  pub texts_are : AreTrimmed (pieces.first ∷ pieces.folds) texts
+  pub texts_are : AreTrimmed (pieces.first ∷ pieces.continued) texts
   pub value_is : text ≡ join_by (λ t. t) (codes " ") (filter has_bytes texts)
 
 -- ---- the function that computes it, as the law RawHasOneValue says
 
--- CR or LF; in a raw value they stand as the CRLF of a fold alone
+-- CR or LF; in a raw value they are there as the CRLF of a fold alone
 abbrev pub is_end : ℕ → Bool
 is_end c = (c == byte "\r") || (c == byte "\n")
 
@@ -56,7 +57,7 @@ without_first_blanks (c ∷ rest) = if is_blank c then without_first_blanks rest
 abbrev pub without_blanks : List ℕ → List ℕ
 without_blanks text = reverse (without_first_blanks (reverse (without_first_blanks text)))
 
--- what stands between folds, without the blanks around these, where it is more than blanks
+-- what is between folds, without the blanks around these, where it is more than blanks
 abbrev pub texts_of : List ℕ → List (List ℕ)
 texts_of raw = filter has_bytes (map without_blanks (slice_split is_end raw))
 

@@ -9,7 +9,7 @@ use Rattle.msg_head.specs.Lines.{FieldLine}
 use Rattle.msg_head.specs.Starts.{StartLine, request, status, start_text}
 use Rattle.msg_head.specs.Heads.{Head, IsHeadText}
 
--- the bytes of a head, its start line, and where its field lines stand in the bytes
+-- the bytes of a head, its start line, and where its field lines are in the bytes
 pub record View : Type 0 where
   pub bytes : List ℕ
   pub start : StartLine
@@ -36,7 +36,7 @@ lies_in count span =
     nat_le span.name span.colon && (nat_lt span.colon span.end && nat_le span.end count)
 
 -- From the one offset to the other field lines follow each other. Between a name's end and the raw
--- value stands one byte, the colon, and after the raw value two, its CRLF.
+-- value is one byte, the colon, and after the raw value two, its CRLF.
 abbrev pub FollowEachOther : ℕ → List LineSpan → ℕ → Type 0
 FollowEachOther from [] to = from ≡ to
 FollowEachOther from (span ∷ spans) to =

@@ -56,7 +56,7 @@ fn split_at_end(bytes: &[u8]) -> (&[u8], &[u8])
     }
 }
 
-/// The text that stands first, and what comes after its line.
+/// The text that is first, and what comes after its line.
 pub(crate) fn split_text(bytes: &[u8]) -> (&[u8], &[u8])
     requires { IsTrue (starts_in is_solid bytes.now) }
     ensures texts { texts_of bytes.now ≡ result.0.now ∷ texts_of result.1.now }

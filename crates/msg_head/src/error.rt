@@ -5,7 +5,7 @@ use std::alloc::{AllocError, AllocFailed};
 use std::error::Error;
 use std::fmt;
 
-/// Where field lines stand in a message.
+/// Where field lines are in a message.
 #[derive(Clone, Copy, Debug, PartialEq, Eq)]
 pub enum Side {
     /// The header section, which ends the head (RFC 9112 section 2.1).
@@ -22,7 +22,7 @@ pub enum HeadError {
     Memory,
     /// As many bytes as the side may have are there, and its end isn't among them.
     TooLong(Side),
-    /// NUL, a CR without LF after it or an LF without CR before it stands at this offset from the
+    /// NUL, a CR without LF after it or an LF without CR before it is at this offset from the
     /// first byte that was given.
     NakedEnd(usize),
     /// The first line of a head is neither a request line nor a status line.

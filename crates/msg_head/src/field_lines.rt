@@ -24,16 +24,42 @@ impl<'h, 'm> Model for FieldLines<'h, 'm> {
 }
 
 impl<'h, 'm> FieldLines<'h, 'm> {
-    ghost use Rattle.std.specs.Prelude.{◌≡◌, length, map, IsTrue};
+    ghost use Rattle.std.specs.Prelude.{◌≡◌, [], ◌∷◌, length, map, filter, IsTrue, IfSome, IfNone};
     ghost use Rattle.std.specs.List.{list_all};
-    ghost use Rattle.msg_head.specs.Views.{line_at, lies_in};
+    ghost use Rattle.msg_head.specs.Names.{has_name};
+    ghost use Rattle.msg_head.specs.Views.{line_at, lies_in, field_line_of};
 
-    /// The field lines that stand at these offsets.
+    /// The field lines that are at these offsets.
     pub(crate) fn new(bytes: &'m [u8], spans: &'h [LineSpan]) -> FieldLines<'h, 'm>
         requires { IsTrue (list_all (lies_in (length bytes.now)) spans.now) }
         ensures { result ≡ map (line_at bytes.now) spans.now }
     {
         FieldLines { bytes, spans }
+    }
+
+    /// No field lines.
+    pub fn empty() -> FieldLines<'h, 'm>
+        ensures { result ≡ [] }
+    {
+        FieldLines {
+            bytes: &[],
+            spans: &[],
+        }
+    }
+
+    /// The next of these lines that has the name, which is in lower case.
+    pub fn next_named(&mut self, name: &[u8]) -> Option<LineView<'m>>
+        ensures some { IfSome result (λ line. filter (has_name name.now) self.old
+            ≡ field_line_of line ∷ filter (has_name name.now) self.new) }
+        ensures none { IfNone result (filter (has_name name.now) self.old ≡ []) }
+        ensures empty { IfNone result (self.new ≡ []) }
+    {
+        while let Some(line) = self.next() {
+            if line.is_named(name) {
+                return Some(line);
+            }
+        }
+        None
     }
 }
 

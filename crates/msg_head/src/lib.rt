@@ -25,7 +25,6 @@ mod limits;
 mod line;
 mod name;
 mod pieces;
-mod raw;
 mod section;
 mod slices;
 mod start;

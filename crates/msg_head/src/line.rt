@@ -12,13 +12,12 @@ ghost use Rattle.msg_head.specs.tools.Sections.{IsRestOf, AreSpansOf, IsLinesFau
 
 use crate::error::{HeadError, Side};
 use crate::limits::MAX_HEAD_LINES;
-use crate::raw::NameByte;
 use crate::slices::{begins_with_crlf, prefix_before, rest_after, rest_from};
-use byte_grammar::is_blank;
+use byte_grammar::{Class, is_blank};
 use memchr::memchr3;
 use std::alloc::Global;
 
-/// Where a field line stands in the bytes of its message, in offsets from their first.
+/// Where a field line is in the bytes of its message, in offsets from their first.
 #[derive(Clone, Copy, Debug, PartialEq, Eq)]
 pub struct LineSpan {
     /// The offset of the name's first byte.
@@ -34,11 +33,11 @@ pub struct LineSpan {
 pub struct LineView<'m> {
     /// The name as it is written, a token (RFC 9110 section 5.1).
     pub name: &'m [u8],
-    /// All that stands between the colon and the line's end, blanks and folds included.
+    /// All that is between the colon and the line's end, blanks and folds included.
     pub raw: &'m [u8],
 }
 
-/// The field line that stands at these offsets.
+/// The field line that is at these offsets.
 pub(crate) fn line_at<'m>(bytes: &'m [u8], span: LineSpan) -> LineView<'m>
     requires { IsTrue (lies_in (length bytes.now) span) }
     ensures { field_line_of result ≡ line_at bytes.now span }
@@ -49,7 +48,7 @@ pub(crate) fn line_at<'m>(bytes: &'m [u8], span: LineSpan) -> LineView<'m>
     }
 }
 
-// Whether a blank stands first.
+// Whether a blank is first.
 fn starts_with_blank(bytes: &[u8]) -> bool
     ensures { result ≡ starts_in is_blank bytes.now }
 {
@@ -60,7 +59,7 @@ fn starts_with_blank(bytes: &[u8]) -> bool
 }
 
 // What comes before the first CRLF that no blank follows, and what comes after it, where no NUL and
-// no half of a line's end stands before it.
+// no half of a line's end is before it.
 fn split_folded(text: &[u8]) -> Option<(&[u8], &[u8])>
     ensures sized { IfSome result
         (λ parts. length parts.0.now + 2 + length parts.1.now ≡ length text.now) }
@@ -89,7 +88,7 @@ fn read_line(bytes: &[u8]) -> Option<(LineView<'_>, &[u8])>
         → MatchOption result (MakesNoLine cut)
         (λ parts. ReadsLine cut more (field_line_of parts.0) parts.1.now) }
 {
-    let (name, after_name) = prefix_before(NameByte, b':', bytes)?;
+    let (name, after_name) = prefix_before(Class::Tchar, b':', bytes)?;
     if name.is_empty() {
         return None;
     }
@@ -97,7 +96,7 @@ fn read_line(bytes: &[u8]) -> Option<(LineView<'_>, &[u8])>
     Some((LineView { name, raw }, rest))
 }
 
-// Where the field line stands whose name begins at that offset.
+// Where the field line is whose name begins at that offset.
 fn span_at(offset: usize, line: LineView<'_>) -> LineSpan
     requires { offset + length line.name.now + 1 + length line.raw.now < 2 ^ 64 }
     ensures { result ≡ span_at offset (field_line_of line.entry) }
@@ -110,7 +109,7 @@ fn span_at(offset: usize, line: LineView<'_>) -> LineSpan
     }
 }
 
-// How many lines stand before the empty line, right or wrong.
+// How many lines are before the empty line, right or wrong.
 fn number_of_lines(text: &[u8]) -> usize
     ensures few { result ≤ length text.now }
     ensures there { (lines : List RawPieces) → AreLinesOf text.now lines → result ≡ length lines }
@@ -142,7 +141,7 @@ fn fault_from(side: Side, index: usize, left: &[u8]) -> HeadError
     }
 }
 
-/// Where the field lines stand that the rest of the bytes is, an empty line after them.
+/// Where the field lines are that the rest of the bytes is, an empty line after them.
 // Compiled by itself its loop is a fifth faster, since its variables keep to registers.
 #[inline(never)]
 pub(crate) fn read_lines(

@@ -30,7 +30,7 @@ pub(crate) fn trailer_section(bytes: &[u8]) -> Option<&[u8]>
     head_section(bytes)
 }
 
-/// Where the first NUL stands, or the first CR without LF after it or LF without CR before it.
+/// Where the first NUL is, or the first CR without LF after it or LF without CR before it.
 pub(crate) fn first_naked_end(section: &[u8]) -> Option<usize>
     requires { EndsWithLf section.now }
     ensures some { IfSome result (λ offset. IsFirstNakedEnd section.now offset) }

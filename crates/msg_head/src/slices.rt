@@ -53,7 +53,7 @@ pub(crate) fn allows_all<C: ByteClass>(class: C, bytes: &[u8]) -> bool
     bytes.iter().all(|byte| class.allows(*byte))
 }
 
-/// The bytes of the class that stand first, where such an end comes after them, and what comes
+/// The bytes of the class that are first, where such an end comes after them, and what comes
 /// after it.
 pub(crate) fn prefix_before<'m, C: ByteClass>(
     class: C,

@@ -5,7 +5,6 @@ ghost use Rattle.msg_head.specs.Starts.{is_version, is_code};
 ghost use Rattle.msg_head.specs.Views.{start_line_of};
 ghost use Rattle.msg_head.specs.tools.Prefixes.{BeginsWithStart, BeginsWithNoStart, BeginsWithRequest, BeginsWithNoRequest, BeginsWithStatus, BeginsWithNoStatus, IsCodeAndReason, NoCodeAndReason};
 
-use crate::raw::{LineByte, NameByte};
 use crate::slices::{allows_all, prefix_before, prefix_before_crlf};
 use byte_grammar::Class;
 
@@ -45,7 +44,7 @@ fn read_request(bytes: &[u8]) -> Option<(Start<'_>, &[u8])>
         (λ parts. BeginsWithRequest (start_line_of parts.0) parts.1.now bytes.now) }
     ensures none { IfNone result (BeginsWithNoRequest bytes.now) }
 {
-    let (method, after_method) = prefix_before(NameByte, b' ', bytes)?;
+    let (method, after_method) = prefix_before(Class::Tchar, b' ', bytes)?;
     if method.is_empty() {
         return None;
     }
@@ -102,7 +101,7 @@ fn read_status(bytes: &[u8]) -> Option<(Start<'_>, &[u8])>
     if !is_version(version) {
         return None;
     }
-    let (text, rest) = prefix_before_crlf(LineByte, after_version)?;
+    let (text, rest) = prefix_before_crlf(Class::LineByte, after_version)?;
     let (code, reason) = split_code(text)?;
     Some((
         Start::Status {

@@ -46,7 +46,7 @@ impl<'m> TrailerView<'m> {
     ghost use Rattle.msg_head.specs.Views.{lies_in, field_line_of};
     ghost use Rattle.msg_head.specs.TrailerViews.{trailer_lines_of};
 
-    // The view of a trailer section whose field lines stand at these offsets.
+    // The view of a trailer section whose field lines are at these offsets.
     fn new(bytes: &'m [u8], lines: Vec<LineSpan>) -> TrailerView<'m>
         requires { IsTrue (list_all (lies_in (length bytes.now)) lines.items) }
         ensures { result ≡ record { bytes = bytes.now; spans = lines.items } }
@@ -115,7 +115,7 @@ fn judge<'m>(alloc: Global, bytes: &'m [u8]) -> Result<TrailerRead<'m>, HeadErro
     }
 }
 
-/// Reads the trailer section that the bytes begin with, which stand right after the last chunk's
+/// Reads the trailer section that the bytes begin with, which are right after the last chunk's
 /// line (RFC 9112 section 7.1.2).
 ///
 /// The section is CRLF alone where the bytes begin with it; else it ends at the first CRLF CRLF. Of

@@ -35,7 +35,7 @@ impl<'m> Model for HeadView<'m> {
 }
 
 impl<'m> HeadView<'m> {
-    /// The view of a head whose field lines stand at these offsets.
+    /// The view of a head whose field lines are at these offsets.
     pub(crate) fn new(bytes: &'m [u8], start: Start<'m>, lines: Vec<LineSpan>) -> HeadView<'m>
         requires { IsTrue (list_all (lies_in (length bytes.now)) lines.items) }
         ensures { result ≡ record {

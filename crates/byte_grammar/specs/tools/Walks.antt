@@ -77,7 +77,7 @@ padded_read class p bytes = do
   e ← all_read class v.1
   Ok (v.0, e.1)
 
--- a value after which nothing stands
+-- a value after which nothing is
 abbrev pub value_at_end : {V : Type 0} → V → List ℕ → Result V ℕ
 value_at_end v [] = Ok v
 value_at_end v (c ∷ rest) = Err (length (c ∷ rest))

@@ -3,10 +3,11 @@ use Rattle.std.specs.Prelude.{ℕ, zero, suc, ◌==◌, nat_lt, List, ◌++◌, 
 use Rattle.std.specs.Char.{is_ascii_hexdigit}
 use Rattle.std.specs.Str.{byte}
 use Rattle.std.specs.Str.Parse.{digits_value}
+use Rattle.byte_grammar.specs.Classes.{is_line_byte}
 use Rattle.byte_grammar.specs.Language.{starts_in}
 use Rattle.byte_grammar.specs.Walk.{Reader, ◌>>=◌, byte_read, cut_at, run_read}
 use Rattle.chunks.specs.declared.limits.TheConstants.{MAX_SIZE_DIGITS, MAX_EXTENSION_BYTES}
-use Rattle.chunks.specs.Chunks.{Chunk, begins_extension, is_extension_byte}
+use Rattle.chunks.specs.Chunks.{Chunk, begins_extension}
 
 unfoldable pub crlf_read : Reader (List ℕ)
 crlf_read bytes = do
@@ -16,7 +17,7 @@ crlf_read bytes = do
 
 unfoldable pub extension_read : Reader (List ℕ)
 extension_read bytes =
-    run_read is_extension_byte 0
+    run_read is_line_byte 0
     (if starts_in begins_extension bytes then MAX_EXTENSION_BYTES else 0) bytes
 
 -- a chunk line as it is written, and its size

@@ -13,7 +13,7 @@ use Rattle.chunks.specs.declared.error.ChunkError.{ChunkError}
 use Rattle.chunks.specs.declared.error.ChunkError.TheVariants.{Memory}
 use Rattle.chunks.specs.Chunks.{Chunk, IsChunk, chunk_text, data_of, content_of}
 use Rattle.chunks.specs.Causes.{HasContentOver, IsContentTooLong, IsChunksError, AreChunksUnfinished}
-use Rattle.chunks.specs.Views.{ChunksParts, IsChunksViewOf, chunks_of, lies_in}
+use Rattle.chunks.specs.Views.{ChunksParts, IsChunksViewOf, chunks_of, chunks_lie_in}
 use Rattle.chunks.specs.tools.ChunkWalk.{turn_read}
 use Rattle.chunks.specs.tools.Turns.{spans_of}
 
@@ -24,7 +24,7 @@ parts_of bytes found =
 
 pub record IsFound (bytes : List ℕ) (found : Found) : Type 0 where
   pub view : IsChunksViewOf bytes (parts_of bytes found) found.used
-  pub lie : IsTrue (list_all (lies_in found.used) found.spans.items)
+  pub lie : IsTrue (list_all (chunks_lie_in found.used) found.spans.items)
   pub counted : found.content ≡ length (content_of (chunks_of (parts_of bytes found)))
 
 -- why none are found

@@ -35,7 +35,7 @@ pub record IsLateFault (start : List ℕ) (lines : List RawPieces) (fault : Head
   pub good : ¬ MakesNoStart start
   pub lines_are : IsLinesFault Header lines fault
 
--- why a clean section that is so cut is refused
+-- why a clean section that is cut in this way is refused
 abbrev pub IsCutFault : List ℕ → List RawPieces → HeadError → Type 0
 IsCutFault start lines BadStart = MakesNoStart start
 IsCutFault start lines fault = IsLateFault start lines fault

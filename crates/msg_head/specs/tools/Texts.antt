@@ -2,9 +2,9 @@
 use Rattle.std.specs.Prelude.{◌≡◌, ℕ, ◌<◌, IsTrue, IsFalse, ◌++◌, List, [], ◌∷◌, length, codes}
 use Rattle.std.specs.List.{list_all, flat_map}
 use Rattle.std.specs.Str.{byte}
-use Rattle.byte_grammar.specs.Classes.{is_blank}
+use Rattle.byte_grammar.specs.Classes.{is_blank, is_line_byte}
 use Rattle.byte_grammar.specs.Language.{starts_in}
-use Rattle.msg_head.specs.RawValues.{RawPieces, are_pieces, is_line_byte, pieces_text}
+use Rattle.msg_head.specs.RawValues.{RawPieces, are_pieces, pieces_text}
 
 abbrev pub EndsWithLf : List ℕ → Type 0
 EndsWithLf text = (before : List ℕ) × (text ≡ before ++ byte "\n" ∷ [])
@@ -22,7 +22,7 @@ pub record IsCleanUpTo (text left : List ℕ) : Type 0 where
   pub each : IsTrue (list_all (list_all is_line_byte) pieces)
   pub joined : text ≡ flat_map ended pieces ++ left
 
--- so it is up to a CRLF
+-- the text is that up to a CRLF
 abbrev pub IsCleanUpToCrlf : List ℕ → Type 0
 IsCleanUpToCrlf text = (left : List ℕ) × IsCleanUpTo text left × BeginsWithCrlf left
 

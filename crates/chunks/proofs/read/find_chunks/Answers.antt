@@ -1,9 +1,9 @@
 use Rattle.std.proofs.Common.{◌≡◌, ◌↔◌, ◌⊎◌, inl, inr, false, true, ℕ, ◌+◌, ◌-◌, ◌<◌, ◌≤◌, length, refl, sym, arith}
 use Rattle.std.proofs.lemmas.Bool.{cases_lt}
+use Rattle.byte_grammar.proofs.AnswerLaws.{err_of}
 use Rattle.chunks.specs.declared.read.Stop.TheVariants.{Left}
 use Rattle.chunks.specs.tools.Judged.{IsStop}
 use Rattle.chunks.proofs.Finding.{first_found, left_within, stopped_at_line, stopped_at_data, line_count, too_long, next_found, data_count, last_found}
-use Rattle.chunks.proofs.Outcomes.{err_of}
 use Rattle.chunks.proofs.read.find_chunks.Goals as goal
 
 -- a line that isn't the last one has a size

@@ -1,10 +1,10 @@
 use Rattle.std.proofs.Common.{sym, subst}
+use Rattle.byte_grammar.proofs.AnswerLaws.{err_of}
 use Rattle.msg_head.specs.Views.{View}
 use Rattle.msg_head.specs.tools.Judged.{IsSectionView, IsSectionFault}
 use Rattle.msg_head.proofs.CleanTexts.{clean_section}
 use Rattle.msg_head.proofs.Grouping.{section_cut, well_started, bad_start}
 use Rattle.msg_head.proofs.FaultLaws.{late_fault}
-use Rattle.msg_head.proofs.OneAnswer.{err_of}
 use Rattle.msg_head.proofs.Wholes.{section_view}
 use Rattle.msg_head.proofs.head.read_section.Goals as goal
 

@@ -31,7 +31,7 @@ returns-then-not-starts_with_blank-clause-there c pieces more b =
     let found = cr_found at.0 more c.folds.left.now c.memchr3.result at.1 c.memchr3.ensures in
     let same : c.in_ok-n.n ≡ length at.0.first = cc (found, c.in_ok-n.was) in
     let after = after_is at.0 more c.folds.left.now c.in_ok-after.after.now c.in_ok-n.n at.1 same (sym c.rest_from.ensures ∙ c.in_ok-after.ensures.some) in
-    let ends = after ∙ last_piece at.0.folds more (and_parts _ _ at.1.are).1 (ap (starts_in is_blank) (sym after) ∙ sym c.if-not-starts_with_blank.ensures) in
+    let ends = after ∙ last_piece at.0.continued more (and_parts _ _ at.1.are).1 (ap (starts_in is_blank) (sym after) ∙ sym c.if-not-starts_with_blank.ensures) in
     (pieces_are pieces more c.args.text.now c.in_ok-after.after.now b ends, ends)
 
 pub folds-preserved : goal.folds-preserved
@@ -45,6 +45,6 @@ folds-preserved c =
           let found = cr_found at.0 more c.folds.left.now c.memchr3.result at.1 c.memchr3.ensures in
           let same : c.in_ok-n.n ≡ length at.0.first = cc (found, c.in_ok-n.was) in
           let after = after_is at.0 more c.folds.left.now c.in_ok-after.after.now c.in_ok-n.n at.1 same (sym c.rest_from.ensures ∙ c.in_ok-after.ensures.some) in
-          let next = next_piece at.0.folds more (and_parts _ _ at.1.are).1 at.1.ends (ap (starts_in is_blank) (sym after) ∙ sym c.if-not-starts_with_blank.ensures) in
+          let next = next_piece at.0.continued more (and_parts _ _ at.1.are).1 at.1.ends (ap (starts_in is_blank) (sym after) ∙ sym c.if-not-starts_with_blank.ensures) in
           (next.0, subst (λ (s : List ℕ). BeginsWithPieces next.0 more s) (sym after) next.1);
     }

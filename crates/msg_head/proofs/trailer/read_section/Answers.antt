@@ -1,7 +1,7 @@
 use Rattle.std.proofs.Common.{sym, subst}
+use Rattle.byte_grammar.proofs.AnswerLaws.{err_of}
 use Rattle.msg_head.specs.TrailerViews.{TrailerParts}
 use Rattle.msg_head.specs.tools.TrailerJudged.{IsTrailerSectionView, IsTrailerSectionFault}
-use Rattle.msg_head.proofs.OneAnswer.{err_of}
 use Rattle.msg_head.proofs.TrailerCuts.{clean_trailer, trailer_lines}
 use Rattle.msg_head.proofs.TrailerAnswers.{trailer_view}
 use Rattle.msg_head.proofs.trailer.read_section.Goals as goal

@@ -1,14 +1,6 @@
-use Rattle.std.proofs.Common.{◌∷◌, sym, ap, ◌∙◌, map}
-use Rattle.msg_head.specs.Lines.{FieldLine}
-use Rattle.msg_head.specs.Views.{field_line_of}
-use Rattle.msg_head.specs.Values.{value, values}
+use Rattle.msg_head.specs.Views.{lines_of}
+use Rattle.framing.proofs.ThereLaws.{named_there}
 use Rattle.framing.proofs.named.NamedLines.find.Goals as goal
 
-pub returns-in-Some-next_named : goal.returns-in-Some-next_named
-returns-in-Some-next_named c = (
-  value c.in-Some.line.raw.now,
-  value c.in-Some-next_named.field-0.raw.now,
-  values c.next_named-2.new.lines c.args.name.now,
-  ap (λ lines. values lines c.args.name.now) (sym c.lines-lines.ensures)
-      ∙ ap (map (λ (line : FieldLine). value line.raw)) (c.in-Some.ensures.some ∙ ap (λ lines. field_line_of c.in-Some.line ∷ lines) c.in-Some-next_named.ensures.some),
-)
+pub returns-clause-there : goal.returns-clause-there
+returns-clause-there c = named_there c.among.result (lines_of c.args.head.now) c.args.name.now (rw c.lines.ensures at c.among.ensures)
