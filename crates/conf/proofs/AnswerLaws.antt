@@ -34,10 +34,10 @@ use Rattle.conf.specs.declared.fault.ConfFault.{ConfFault}
 use Rattle.conf.specs.declared.fault.ConfFault.TheVariants as fault
 use Rattle.conf.specs.declared.lists.Lists.{Lists}
 use Rattle.settings.specs.Configuration.{Configuration}
-use Rattle.conf.specs.Meaning.{AreKeys, AreTypes, Configures, HasKey, IsDocument, told_scheme}
+use Rattle.conf.specs.Meaning.{AreKeys, AreTypes, Configures, HasKey, IsDocument, configured_scheme}
 use Rattle.conf.specs.Paths.{HoldsAtPath, HoldsOfNone, IsLeast}
 use Rattle.conf.specs.Refusals.{HasBadKeyText, IsBadKeyText, IsBadList, IsConfFault, IsLeastRow}
-use Rattle.conf.specs.tools.Added.{key_in, kind_told, spells_key}
+use Rattle.conf.specs.tools.Added.{key_in, named_kind, spells_key}
 use Rattle.conf.specs.tools.Judged.{IsClearBelow, IsFirstIn, IsJudged}
 use Rattle.conf.specs.tools.SectionReads.{value_of}
 use Rattle.conf.proofs.AddedLaws.{AllRead, all_of, entry_passes, get_all, or_else}
@@ -230,14 +230,14 @@ has_sign document judged complete request response first second = elim (table_or
 
 -- ---- the types
 
-all_types : (document : Members) → IsJudged document → AreTypes (types_of_document document) (all_of kind_told standard_types (types_of_document document))
+all_types : (document : Members) → IsJudged document → AreTypes (types_of_document document) (all_of named_kind standard_types (types_of_document document))
 all_types document judged = λ name.
     let pairs = types_of_document document in
     let texts = are_texts (get_member (codes "types") document) (types_typed document judged) in
     let types = are_types document (get_member (codes "types") document) (types_allowed document judged) in
-    let read : AllRead kind_told (get_member name pairs) = λ value is.
+    let read : AllRead named_kind (get_member name pairs) = λ value is.
     kind_read name value (entry_passes (λ e. is_some (as_str e.1)) pairs name value texts is) (entry_passes (λ e. is_type e.0 e.1) pairs name value types is) in
-    get_all kind_told standard_types pairs name read
+    get_all named_kind standard_types pairs name read
     ∙ kind_at pairs name (kind_in standard_types name) (get_member name pairs) refl types
 
 -- ---- the answer
@@ -262,9 +262,9 @@ complete_answer text document is judged spell below lists said =
           let sign = has_sign document judged complete lists.components_request lists.components_response said.components_request said.components_response in
           inl (
             record {
-              scheme = told_scheme (get_member (codes "scheme") document);
+              scheme = configured_scheme (get_member (codes "scheme") document);
               keys = all_of key_in map.empty (keys_of_document document);
-              types = all_of kind_told standard_types (types_of_document document);
+              types = all_of named_kind standard_types (types_of_document document);
               policy = policy.0;
               sign = sign.0;
             },

@@ -136,10 +136,10 @@ keyid_of : (pairs : Members) (keyid key : List ℕ) (value : Option Data) → ge
 keyid_of pairs keyid key None is names has = absurd cc
 keyid_of pairs keyid key (Some value) is names has = entry_passes (λ e. is_keyid e.0) pairs keyid value names is
 
-decode_key : (value : Option Data) (key : List ℕ) → HasKey value (Some key) → IsHmacKey key
-decode_key None key has = absurd cc
-decode_key (Some (string text)) key has = has.is_key
-decode_key (Some value) key has = absurd has
+has_hmac_key : (value : Option Data) (key : List ℕ) → HasKey value (Some key) → IsHmacKey key
+has_hmac_key None key has = absurd cc
+has_hmac_key (Some (string text)) key has = has.is_key
+has_hmac_key (Some value) key has = absurd has
 
 pub valid_keyids : (document : Members) → IsJudged document → (keys : KeyMap) → AreKeys (keys_of_document document) keys
     → (keyid key : List ℕ) → map.get keys keyid ≡ Some key → IsTrue (is_keyid keyid)
@@ -147,7 +147,7 @@ valid_keyids document judged keys are keyid key there =
     keyid_of (keys_of_document document) keyid key (get_member keyid (keys_of_document document)) refl (are_named document (get_member (codes "keys") document) (keys_allowed document judged)) (rw there at (are keyid))
 
 pub valid_keys : (document : Members) (keys : KeyMap) → AreKeys (keys_of_document document) keys → (keyid key : List ℕ) → map.get keys keyid ≡ Some key → IsHmacKey key
-valid_keys document keys are keyid key there = decode_key (get_member keyid (keys_of_document document)) key (rw there at (are keyid))
+valid_keys document keys are keyid key there = has_hmac_key (get_member keyid (keys_of_document document)) key (rw there at (are keyid))
 
 -- a keyid that the document has has a key
 pub key_is_there : (value : Option Data) (key : Option (List ℕ)) → is_some value ≡ true → HasKey value key → is_some key ≡ true

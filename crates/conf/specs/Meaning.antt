@@ -24,9 +24,9 @@ IsDocument text document = IsUtf8 text × (parse_document text ≡ Some document
 -- ---- the values of keys
 
 -- `https` where nothing is said
-abbrev pub told_scheme : Option Data → Scheme
-told_scheme (Some (string word)) = unwrap_or (scheme_of_word word) Https
-told_scheme value = Https
+abbrev pub configured_scheme : Option Data → Scheme
+configured_scheme (Some (string word)) = unwrap_or (scheme_of_word word) Https
+configured_scheme value = Https
 
 -- the key that a keyid has: the one of the text, or none
 abbrev pub HasKey : Option Data → Option (List ℕ) → Type 0
@@ -39,15 +39,15 @@ abbrev pub AreKeys : Members → KeyMap → Type 0
 AreKeys pairs keys = (keyid : List ℕ) → HasKey (get_member keyid pairs) (map.get keys keyid)
 
 -- the kind that is told of a field, or else the one that is known without
-abbrev pub told_kind : Option Data → Option FieldKind → Option FieldKind
-told_kind (Some (string word)) known = kind_of_word word
-told_kind value known = known
+abbrev pub configured_kind : Option Data → Option FieldKind → Option FieldKind
+configured_kind (Some (string word)) known = kind_of_word word
+configured_kind value known = known
 
 -- each field has the kind that the table says, or else the standard one
 abbrev pub AreTypes : Members → KindMap → Type 0
 AreTypes pairs types =
     (name : List ℕ)
-    → kind_in types name ≡ told_kind (get_member name pairs) (kind_in standard_types name)
+    → kind_in types name ≡ configured_kind (get_member name pairs) (kind_in standard_types name)
 
 -- ---- configurations
 
@@ -58,7 +58,7 @@ pub record IsConfiguration (document : Members) (conf : Configuration) : Type 0 
   pub typed : HoldsOfNone (λ row. IsTrue (is_ill_typed document row)) rows
   pub allowed : HoldsOfNone (λ row. IsTrue (is_out_of_range document row)) rows
   pub complete : HoldsOfNone (λ row. IsTrue (is_missing document row)) rows
-  pub scheme : conf.scheme ≡ told_scheme (get_member (codes "scheme") document)
+  pub scheme : conf.scheme ≡ configured_scheme (get_member (codes "scheme") document)
   pub keys : AreKeys (members_in (get_member (codes "keys") document)) conf.keys
   pub types : AreTypes (members_in (get_member (codes "types") document)) conf.types
   pub policy : IsPolicy (members_at document Policy) conf.policy

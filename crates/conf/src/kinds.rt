@@ -5,7 +5,7 @@ ghost use Rattle.toml.specs.Data.{get_member};
 ghost use Rattle.toml.specs.View.{table_view, view};
 ghost use Rattle.component_ids.specs.Types.{standard_types};
 ghost use Rattle.conf.specs.Table.{members_in};
-ghost use Rattle.conf.specs.tools.Added.{all_added, kind_told, with_entry, HasDistinctNames};
+ghost use Rattle.conf.specs.tools.Added.{all_added, named_kind, with_entry, HasDistinctNames};
 
 use crate::members::table_in;
 use component_ids::{FieldKind, Types};
@@ -15,8 +15,8 @@ use std::alloc::Global;
 use toml::{Table, Value};
 
 /// The kind that the value names.
-fn kind_told(value: &Value) -> Option<FieldKind>
-    ensures { result ≡ kind_told (view value.now) }
+fn named_kind(value: &Value) -> Option<FieldKind>
+    ensures { result ≡ named_kind (view value.now) }
 {
     match value.as_str() {
         None => None,
@@ -26,9 +26,9 @@ fn kind_told(value: &Value) -> Option<FieldKind>
 
 /// Adds the kind of an entry, where it names one.
 fn add_entry(types: &mut Types, name: &str, value: &Value) -> Result<(), Memory>
-    ensures { OnOk result (types.new ≡ with_entry kind_told types.old name.now (view value.now)) }
+    ensures { OnOk result (types.new ≡ with_entry named_kind types.old name.now (view value.now)) }
 {
-    match kind_told(value) {
+    match named_kind(value) {
         None => Ok(()),
         Some(kind) => types.add(name.as_bytes(), kind),
     }
@@ -36,7 +36,7 @@ fn add_entry(types: &mut Types, name: &str, value: &Value) -> Result<(), Memory>
 
 fn types_in(alloc: Global, table: &Table) -> Result<Types, Memory>
     ensures ok { IfOk result
-        (λ types. types ≡ all_added kind_told standard_types (table_view table.now)) }
+        (λ types. types ≡ all_added named_kind standard_types (table_view table.now)) }
     ensures distinct { IfOk result (λ _. HasDistinctNames (table_view table.now)) }
 {
     let mut types = Types::standard(alloc)?;
@@ -48,7 +48,7 @@ fn types_in(alloc: Global, table: &Table) -> Result<Types, Memory>
 
 /// The standard types with those of the document.
 pub(crate) fn read_types(alloc: Global, document: &Table) -> Result<Types, Memory>
-    ensures ok { IfOk result (λ types. types ≡ all_added kind_told standard_types
+    ensures ok { IfOk result (λ types. types ≡ all_added named_kind standard_types
         (members_in (get_member (codes "types") (table_view document.now)))) }
     ensures distinct { IfOk result (λ _. HasDistinctNames
         (members_in (get_member (codes "types") (table_view document.now)))) }

@@ -22,7 +22,6 @@ mod lists;
 mod members;
 mod policy_reader;
 mod read;
-mod scheme;
 mod sections;
 mod sign_reader;
 mod table;

@@ -73,169 +73,73 @@ pub(crate) struct Row {
     pub(crate) required: bool,
 }
 
+/// A row by its path, its table, its name there and its rule; `required` where it has to be there.
+macro_rules! row {
+    ($path:literal, $place:ident, $key:literal, $rule:ident) => {
+        Row {
+            path: $path,
+            place: TableName::$place,
+            key: $key,
+            rule: ValueRule::$rule,
+            required: false,
+        }
+    };
+    ($path:literal, $place:ident, $key:literal, $rule:ident, required) => {
+        Row {
+            path: $path,
+            place: TableName::$place,
+            key: $key,
+            rule: ValueRule::$rule,
+            required: true,
+        }
+    };
+}
+
 /// The keys, in the order of their paths' bytes.
 pub(crate) const ROWS: [Row; 23] = [
-    Row {
-        path: "keys",
-        place: TableName::Top,
-        key: "keys",
-        rule: ValueRule::Keys,
-        required: false,
-    },
-    Row {
-        path: "policy",
-        place: TableName::Top,
-        key: "policy",
-        rule: ValueRule::Table,
-        required: false,
-    },
-    Row {
-        path: "policy.digest",
-        place: TableName::Policy,
-        key: "digest",
-        rule: ValueRule::DigestUse,
-        required: false,
-    },
-    Row {
-        path: "policy.expires",
-        place: TableName::Policy,
-        key: "expires",
-        rule: ValueRule::Expires,
-        required: false,
-    },
-    Row {
-        path: "policy.max-age",
-        place: TableName::Policy,
-        key: "max-age",
-        rule: ValueRule::MaxAge,
-        required: false,
-    },
-    Row {
-        path: "policy.nonce",
-        place: TableName::Policy,
-        key: "nonce",
-        rule: ValueRule::NonceUse,
-        required: false,
-    },
-    Row {
-        path: "policy.nonces",
-        place: TableName::Policy,
-        key: "nonces",
-        rule: ValueRule::Nonces,
-        required: false,
-    },
-    Row {
-        path: "policy.require-request",
-        place: TableName::Policy,
-        key: "require-request",
-        rule: ValueRule::Components,
-        required: false,
-    },
-    Row {
-        path: "policy.require-response",
-        place: TableName::Policy,
-        key: "require-response",
-        rule: ValueRule::Components,
-        required: false,
-    },
-    Row {
-        path: "policy.skew",
-        place: TableName::Policy,
-        key: "skew",
-        rule: ValueRule::Skew,
-        required: false,
-    },
-    Row {
-        path: "policy.tag",
-        place: TableName::Policy,
-        key: "tag",
-        rule: ValueRule::Tag,
-        required: false,
-    },
-    Row {
-        path: "scheme",
-        place: TableName::Top,
-        key: "scheme",
-        rule: ValueRule::Scheme,
-        required: false,
-    },
-    Row {
-        path: "sign",
-        place: TableName::Top,
-        key: "sign",
-        rule: ValueRule::Table,
-        required: false,
-    },
-    Row {
-        path: "sign.alg",
-        place: TableName::Sign,
-        key: "alg",
-        rule: ValueRule::Flag,
-        required: false,
-    },
-    Row {
-        path: "sign.components-request",
-        place: TableName::Sign,
-        key: "components-request",
-        rule: ValueRule::Components,
-        required: false,
-    },
-    Row {
-        path: "sign.components-response",
-        place: TableName::Sign,
-        key: "components-response",
-        rule: ValueRule::Components,
-        required: false,
-    },
-    Row {
-        path: "sign.digest",
-        place: TableName::Sign,
-        key: "digest",
-        rule: ValueRule::Digest,
-        required: false,
-    },
-    Row {
-        path: "sign.expires-after",
-        place: TableName::Sign,
-        key: "expires-after",
-        rule: ValueRule::Seconds,
-        required: false,
-    },
-    Row {
-        path: "sign.keyid",
-        place: TableName::Sign,
-        key: "keyid",
-        rule: ValueRule::Keyid,
-        required: true,
-    },
-    Row {
-        path: "sign.label",
-        place: TableName::Sign,
-        key: "label",
-        rule: ValueRule::Label,
-        required: true,
-    },
-    Row {
-        path: "sign.tag",
-        place: TableName::Sign,
-        key: "tag",
-        rule: ValueRule::Tag,
-        required: false,
-    },
-    Row {
-        path: "types",
-        place: TableName::Top,
-        key: "types",
-        rule: ValueRule::Types,
-        required: false,
-    },
-    Row {
-        path: "version",
-        place: TableName::Top,
-        key: "version",
-        rule: ValueRule::Version,
-        required: false,
-    },
+    row!("keys", Top, "keys", Keys),
+    row!("policy", Top, "policy", Table),
+    row!("policy.digest", Policy, "digest", DigestUse),
+    row!("policy.expires", Policy, "expires", Expires),
+    row!("policy.max-age", Policy, "max-age", MaxAge),
+    row!("policy.nonce", Policy, "nonce", NonceUse),
+    row!("policy.nonces", Policy, "nonces", Nonces),
+    row!(
+        "policy.require-request",
+        Policy,
+        "require-request",
+        Components
+    ),
+    row!(
+        "policy.require-response",
+        Policy,
+        "require-response",
+        Components
+    ),
+    row!("policy.skew", Policy, "skew", Skew),
+    row!("policy.tag", Policy, "tag", Tag),
+    row!("scheme", Top, "scheme", Scheme),
+    row!("sign", Top, "sign", Table),
+    row!("sign.alg", Sign, "alg", Flag),
+    row!(
+        "sign.components-request",
+        Sign,
+        "components-request",
+        Components
+    ),
+    row!(
+        "sign.components-response",
+        Sign,
+        "components-response",
+        Components
+    ),
+    row!("sign.digest", Sign, "digest", Digest),
+    row!("sign.expires-after", Sign, "expires-after", Seconds),
+    row!("sign.keyid", Sign, "keyid", Keyid, required),
+    row!("sign.label", Sign, "label", Label, required),
+    row!("sign.tag", Sign, "tag", Tag),
+    row!("types", Top, "types", Types),
+    row!("version", Top, "version", Version),
 ];
 
 /// The tables whose keys are fixed, in the order of their paths' bytes.

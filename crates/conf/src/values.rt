@@ -1,18 +1,30 @@
-//! What the values of the tables say, with what holds where nothing is said.
+//! What the values of a document say, with what holds where nothing is said.
 
 ghost use Rattle.std.specs.Prelude.{◌≡◌, false, codes, option_and_then, unwrap_or, IfOk};
 ghost use Rattle.toml.specs.Data.{as_bool, as_str, get_member};
 ghost use Rattle.toml.specs.View.{table_view};
 ghost use Rattle.conf.specs.declared.table.TableName.TheVariants.{Policy, Sign};
 ghost use Rattle.conf.specs.Table.{members_at};
+ghost use Rattle.conf.specs.Meaning.{configured_scheme};
 ghost use Rattle.conf.specs.Sections.{digest_of, digest_use_of, is_required, nonce_use_of, seconds_of};
 
-use crate::members::{text_at, value_at};
+use crate::members::{text_at, text_in, value_at};
 use crate::table::TableName;
-use settings::{DigestUse, NonceUse, SignDigest, expires_of_word};
+use component_ids::Scheme;
+use settings::{DigestUse, NonceUse, SignDigest, expires_of_word, scheme_of_word};
 use sfv_text::{Memory, Text};
 use std::alloc::Global;
 use toml::Table;
+
+/// The scheme of the document; `https` where it tells none.
+pub(crate) fn scheme_in(document: &Table) -> Scheme
+    ensures { result ≡ configured_scheme (get_member (codes "scheme") (table_view document.now)) }
+{
+    match text_in(document, "scheme") {
+        None => Scheme::Https,
+        Some(word) => scheme_of_word(word.as_bytes()).unwrap_or(Scheme::Https),
+    }
+}
 
 /// The tag that is told at the place.
 pub(crate) fn read_tag(

@@ -45,8 +45,8 @@ fn ids_of(alloc: Global, list: &InnerList) -> Result<Option<Ids>, Memory>
 /// The components that the text covers, where it is an Inner List of them without parameters of its
 /// own (RFC 9421 section 2.3).
 pub fn read_covered(alloc: Global, text: &[u8]) -> Result<Option<Ids>, Memory>
-    ensures { IfOk result (λ o. MatchOption o ((ids : List ComponentId) → ¬ IsCoveredList text.now ids)
-        (IsReadList text.now)) }
+    ensures { IfOk result (λ o. MatchOption o
+        ((ids : List ComponentId) → ¬ IsCoveredList text.now ids) (IsReadList text.now)) }
 {
     match read_inner(alloc, text) {
         Ok(list) => ids_of(alloc, &list),

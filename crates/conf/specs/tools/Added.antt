@@ -61,6 +61,6 @@ abbrev pub spell_keys : Members → Bool
 spell_keys pairs = list_all (λ entry. spells_key entry.1) (entries_of pairs)
 
 -- the kind that a value names
-abbrev pub kind_told : Data → Option FieldKind
-kind_told (string word) = kind_of_word word
-kind_told value = None
+abbrev pub named_kind : Data → Option FieldKind
+named_kind (string word) = kind_of_word word
+named_kind value = None
