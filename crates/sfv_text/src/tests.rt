@@ -1,8 +1,8 @@
 ghost use Rattle.std.specs.Prelude.{◌≡◌, []};
 
 use super::*;
-use crate::bare::write_bare;
 use crate::print::{Write, write_joined};
+use crate::print_bare::write_bare;
 use std::alloc::Global;
 use std::test::Fail;
 
