@@ -12,9 +12,9 @@ use Rattle.byte_grammar.specs.Causes.{AnswersWhere}
 use Rattle.byte_grammar.proofs.CauseLaws.{first_is_one}
 use Rattle.byte_grammar.proofs.Indices.{some_and, some_and_at}
 use Rattle.component_ids.specs.declared.id.ComponentId.{ComponentId}
-use Rattle.conf_sections.specs.declared.policy.Policy.{Policy}
-use Rattle.conf_sections.specs.declared.policy.NonceUse.{NonceUse}
-use Rattle.conf_sections.specs.declared.policy.NonceUse.TheVariants.{Ignore, Check, Require}
+use Rattle.settings.specs.declared.policy.Policy.{Policy}
+use Rattle.settings.specs.declared.policy.NonceUse.{NonceUse}
+use Rattle.settings.specs.declared.policy.NonceUse.TheVariants.{Ignore, Check, Require}
 use Rattle.nonces.specs.Books.{Book, Entry, IsBook, IsHeldAt, is_full, is_seen, live_entries}
 use Rattle.nonces.specs.declared.limits.TheConstants.{MAX_NONCE_BYTES}
 use Rattle.policy_rules.specs.declared.fault.PolicyFault.{PolicyFault}

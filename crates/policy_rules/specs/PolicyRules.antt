@@ -7,9 +7,9 @@ use Rattle.byte_grammar.specs.Causes.{IsFirst}
 use Rattle.component_ids.specs.declared.id.ComponentId.{ComponentId}
 use Rattle.component_ids.specs.declared.params.SigParams.{SigParams}
 use Rattle.component_ids.specs.Identifiers.{IsSameId}
-use Rattle.conf_sections.specs.declared.policy.Policy.{Policy}
-use Rattle.conf_sections.specs.declared.policy.NonceUse.{NonceUse}
-use Rattle.conf_sections.specs.declared.policy.NonceUse.TheVariants.{Ignore, Check, Require}
+use Rattle.settings.specs.declared.policy.Policy.{Policy}
+use Rattle.settings.specs.declared.policy.NonceUse.{NonceUse}
+use Rattle.settings.specs.declared.policy.NonceUse.TheVariants.{Ignore, Check, Require}
 use Rattle.nonces.specs.declared.limits.TheConstants.{MAX_NONCE_BYTES}
 use Rattle.nonces.specs.Books.{Book, is_seen, live_entries}
 use Rattle.policy_rules.specs.declared.fault.PolicyFault.{PolicyFault}

@@ -13,7 +13,7 @@ use crate::fault::PolicyFault;
 use crate::nonce::{judge_nonce, judge_tag};
 use crate::times::{judge_created, judge_expires};
 use component_ids::{ComponentId, SigParams};
-use conf_sections::Policy;
+use settings::Policy;
 use nonces::{NonceBook, Steps};
 use std::alloc::Global;
 use std::sync::ledger::Ledger;

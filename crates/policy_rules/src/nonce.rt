@@ -1,7 +1,7 @@
 //! The tag and the nonce of a signature.
 
 ghost use Rattle.std.specs.Prelude.{◌≡◌, ◌≤◌, ◌↔◌, ℕ, Bool, Some, length, IsTrue, IsFalse, option_copied};
-ghost use Rattle.conf_sections.specs.declared.policy.NonceUse.{NonceUse};
+ghost use Rattle.settings.specs.declared.policy.NonceUse.{NonceUse};
 ghost use Rattle.nonces.specs.declared.limits.TheConstants.{MAX_KEYID_BYTES};
 ghost use Rattle.policy_rules.specs.Parameters.{tag_of, nonce_of};
 ghost use Rattle.policy_rules.specs.PolicyRules.{policy_check, IsAt, asks_new, is_replay, is_full_at, HasRoom, LacksRoom};
@@ -10,7 +10,7 @@ ghost use Rattle.policy_rules.specs.tools.Judged.{Explains, FailsByTag, FailsByN
 use crate::fault::PolicyFault;
 use crate::params::string_param;
 use component_ids::SigParams;
-use conf_sections::{NonceUse, Policy};
+use settings::{NonceUse, Policy};
 use nonces::{MAX_KEYID_BYTES, MAX_NONCE_BYTES, NonceBook, Steps};
 use std::sync::ledger::Ledger;
 

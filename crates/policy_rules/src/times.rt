@@ -8,7 +8,7 @@ ghost use Rattle.policy_rules.specs.tools.Judged.{Explains, FailsByCreated, Fail
 use crate::fault::PolicyFault;
 use crate::params::integer_param;
 use component_ids::SigParams;
-use conf_sections::Policy;
+use settings::Policy;
 
 /// Whether it was created later than now, by more seconds than the skew.
 fn is_ahead(created: i64, now: u64, skew: u64) -> bool

@@ -22,7 +22,7 @@ use Rattle.component_values.specs.declared.prepared.Prepared.{Prepared}
 use Rattle.component_values.proofs.FirstLacks.{have_or_lack, have_one_list, first_lack_is_one, none_lacks}
 use Rattle.sig_base.specs.SignatureBase.{signature_base}
 use Rattle.hmac_sha256.specs.Hmac.{hmac}
-use Rattle.conf_sections.specs.ValidSections.{IsValidPolicy}
+use Rattle.settings.specs.ValidSections.{IsValidPolicy}
 use Rattle.policy_rules.specs.declared.fault.PolicyFault.{PolicyFault}
 use Rattle.policy_rules.specs.declared.fault.PolicyFault.TheVariants as policy
 use Rattle.policy_rules.specs.Parameters.{alg_of, keyid_of, nonce_of}

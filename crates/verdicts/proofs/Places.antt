@@ -14,8 +14,8 @@ use Rattle.component_ids.specs.declared.params.SigParams.{SigParams}
 use Rattle.derived_values.specs.declared.lack.Lack.{Lack}
 use Rattle.derived_values.specs.declared.lack.Lack.TheVariants as lack
 use Rattle.framing.specs.Framings.{is_request}
-use Rattle.conf_sections.specs.declared.policy.Policy.{Policy}
-use Rattle.conf_sections.specs.ValidSections.{IsValidPolicy}
+use Rattle.settings.specs.declared.policy.Policy.{Policy}
+use Rattle.settings.specs.ValidSections.{IsValidPolicy}
 use Rattle.policy_rules.specs.Parameters.{alg_of}
 use Rattle.policy_rules.specs.PolicyRules.{required_ids}
 use Rattle.signatures.specs.declared.place.Place.{Place}

@@ -10,8 +10,8 @@ use Rattle.sfv_text.specs.declared.pair.Pair.{Pair}
 use Rattle.sfv_text.specs.declared.value.BareItem.{BareItem}
 use Rattle.component_ids.specs.Table.{is_listed}
 use Rattle.component_ids.specs.declared.id.ComponentId.{ComponentId}
-use Rattle.conf_sections.specs.declared.policy.DigestUse.{DigestUse}
-use Rattle.conf_sections.specs.declared.policy.DigestUse.TheVariants.{Ignore, Content, Always}
+use Rattle.settings.specs.declared.policy.DigestUse.{DigestUse}
+use Rattle.settings.specs.declared.policy.DigestUse.TheVariants.{Ignore, Content, Always}
 use Rattle.content_digest.specs.Digests.{DigestHolds}
 use Rattle.content_digest.specs.Faults.{IsDigestFault}
 use Rattle.content_digest.specs.declared.fault.DigestFault.{DigestFault}

@@ -15,7 +15,7 @@ use Rattle.component_values.specs.Context.{MessageContext}
 use Rattle.component_values.specs.Values.{HaveValues, IsFirstLack}
 use Rattle.sig_base.specs.SignatureBase.{signature_base}
 use Rattle.hmac_sha256.specs.Hmac.{hmac}
-use Rattle.conf.specs.Configuration.{Configuration}
+use Rattle.settings.specs.Configuration.{Configuration}
 use Rattle.nonces.specs.Books.{Book}
 use Rattle.policy_rules.specs.declared.fault.PolicyFault.{PolicyFault}
 use Rattle.policy_rules.specs.declared.fault.PolicyFault.TheVariants as policy

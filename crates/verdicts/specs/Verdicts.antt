@@ -7,7 +7,7 @@ use Rattle.component_values.specs.Values.{HaveValues}
 use Rattle.component_values.specs.declared.context.Context.{Context}
 use Rattle.sig_base.specs.SignatureBase.{signature_base}
 use Rattle.hmac_sha256.specs.Hmac.{hmac}
-use Rattle.conf.specs.Configuration.{Configuration}
+use Rattle.settings.specs.Configuration.{Configuration}
 use Rattle.nonces.specs.Books.{Book}
 use Rattle.policy_rules.specs.Parameters.{alg_of, keyid_of}
 use Rattle.policy_rules.specs.PolicyRules.{AcceptsByPolicy, HasRoom}

@@ -9,7 +9,7 @@ ghost use Rattle.signatures.specs.tools.Answered.{Explains};
 ghost use Rattle.verdicts.specs.tools.Judged.{digest_label_fault, FailsByField, FailsByDigest};
 
 use component_ids::{ComponentId, SigParams};
-use conf::DigestUse;
+use settings::DigestUse;
 use content_digest::{DigestFault, check_digest};
 use field_values::combined_text;
 use msg_body::MessageView;

@@ -10,7 +10,7 @@ ghost use Rattle.signatures.specs.tools.Answered.{Explains};
 ghost use Rattle.verdicts.specs.tools.Judged.{policy_label_fault, FailsByCheck, FailsByRoom};
 
 use component_ids::SigParams;
-use conf::Policy;
+use settings::Policy;
 use framing::is_request;
 use msg_body::MessageView;
 use nonces::{NonceBook, Steps};

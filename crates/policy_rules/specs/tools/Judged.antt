@@ -3,9 +3,9 @@ use Rattle.std.specs.Prelude.{◌≡◌, ◌⊎◌, ◌≤◌, ◌<◌, ◌+◌,
 use Rattle.std.specs.List.{list_any}
 use Rattle.component_ids.specs.declared.id.ComponentId.{ComponentId}
 use Rattle.component_ids.specs.tools.SameTests.{is_same}
-use Rattle.conf_sections.specs.declared.policy.Policy.{Policy}
-use Rattle.conf_sections.specs.declared.policy.NonceUse.{NonceUse}
-use Rattle.conf_sections.specs.declared.policy.NonceUse.TheVariants.{Require}
+use Rattle.settings.specs.declared.policy.Policy.{Policy}
+use Rattle.settings.specs.declared.policy.NonceUse.{NonceUse}
+use Rattle.settings.specs.declared.policy.NonceUse.TheVariants.{Require}
 use Rattle.nonces.specs.declared.limits.TheConstants.{MAX_NONCE_BYTES}
 use Rattle.nonces.specs.Books.{Book}
 use Rattle.policy_rules.specs.declared.fault.PolicyFault.{PolicyFault}

@@ -1,7 +1,7 @@
 use Rattle.std.proofs.Common.{option_copied}
 use Rattle.std.proofs.lemmas.Result.{err_from_is_err_and}
 use Rattle.component_values.specs.Context.{context_of}
-use Rattle.conf.specs.ConfMeaning.{meaning}
+use Rattle.settings.specs.ConfMeaning.{meaning}
 use Rattle.framing.specs.Framings.{is_request}
 use Rattle.verdicts.specs.Rules.{key_in, check_of, asks_digest_of}
 use Rattle.verdicts.specs.Verdicts.{verification_of}
