@@ -1,6 +1,6 @@
 //! The value of a component, or how it lacks one.
 
-ghost use Rattle.std.specs.Prelude.{◌≡◌, Option, option_map, Ok, Err, MatchResult, codes};
+ghost use Rattle.std.specs.Prelude.{◌≡◌, Option, Ok, Err, MatchResult, codes};
 ghost use Rattle.framing.specs.Framings.{is_request};
 ghost use Rattle.msg_body.specs.Views.{message_of};
 ghost use Rattle.component_ids.specs.Table.{has_param};
@@ -18,18 +18,8 @@ use field_values::combined_text;
 use framing::is_request;
 use msg_body::MessageView;
 use msg_head::Side;
-use sfv_text::{BareItem, Params};
+use sfv_text::Params;
 use std::alloc::Global;
-
-/// The key that the parameter `key` names.
-fn member_key(params: &Params) -> Option<&[u8]>
-    ensures { option_map (λ key. key.now) result ≡ member_key params.now }
-{
-    match params.find(b"key") {
-        Some(BareItem::Str(text)) => Some(text.bytes()),
-        _ => None,
-    }
-}
 
 /// The value of a field that has lines, in the form that the parameters ask for.
 fn value_in_form<'a, 'm>(
@@ -45,9 +35,9 @@ fn value_in_form<'a, 'm>(
     if has_param(params, b"bs") {
         return Ok(Value::Text(byte_sequences(alloc, field)?));
     }
-    if let Some(key) = member_key(params) {
+    if let Some(key) = params.string(b"key") {
         let text = combined_text(alloc, field.message, field.side, field.name)?;
-        return Ok(Value::Text(member_value(alloc, kind, key, text.bytes())?));
+        return Ok(Value::Text(member_value(alloc, kind, key.bytes(), text.bytes())?));
     }
     if has_param(params, b"sf") {
         let text = combined_text(alloc, field.message, field.side, field.name)?;

@@ -1,8 +1,7 @@
 //! The strict texts of structured values.
 
-ghost use Rattle.std.specs.Prelude.{◌≡◌, ◌++◌, Option, Some, None, IsTrue, IfOk, OnOk};
-ghost use Rattle.sfv_text.specs.Range.{is_member_in_range};
-ghost use Rattle.sfv_text.specs.Strict.{item_text, list_text, dict_text, member_text, bytes_text};
+ghost use Rattle.std.specs.Prelude.{◌≡◌, ◌++◌, Option, Some, None, OnOk};
+ghost use Rattle.sfv_text.specs.Strict.{item_text, list_text, dict_text, bytes_text};
 ghost use Rattle.sfv_read.specs.Reads.{ReadsItem, ReadsList, ReadsDict};
 ghost use Rattle.component_values.specs.Values.{StrictRow, KindRow, MemberRow, KeyRow};
 ghost use Rattle.derived_values.specs.Answers.{AnswersRow};
@@ -11,7 +10,7 @@ use component_ids::FieldKind;
 use derived_values::{Lack, NoValue};
 use sfv_read::{read_dict, read_item, read_list};
 use sfv_text::{
-    BareItem, Item, Member, Memory, Params, Text, print_dict, print_inner, print_item, print_list,
+    BareItem, Memory, Text, print_bare, print_dict, print_item, print_list, print_member,
 };
 use std::alloc::Global;
 
@@ -23,11 +22,8 @@ pub(crate) fn append_byte_sequence(
 ) -> Result<(), Memory>
     ensures { OnOk result (text.new ≡ text.old ++ bytes_text bytes.now) }
 {
-    let item = Item {
-        bare: BareItem::Bytes(Text::from_bytes(alloc, bytes)?),
-        params: Params::new(alloc),
-    };
-    let printed = print_item(alloc, &item)?;
+    let bare = BareItem::Bytes(Text::from_bytes(alloc, bytes)?);
+    let printed = print_bare(alloc, &bare)?;
     text.append(printed.bytes())
 }
 
@@ -68,16 +64,6 @@ pub(crate) fn strict_value(
         Some(FieldKind::List) => strict_list(alloc, text),
         Some(FieldKind::Dictionary) => strict_dict(alloc, text),
         None => Err(NoValue::Lacks(Lack::Unreadable)),
-    }
-}
-
-fn print_member(alloc: Global, member: &Member) -> Result<Text, Memory>
-    requires { IsTrue (is_member_in_range member.now) }
-    ensures { IfOk result (λ text. text ≡ member_text member.now) }
-{
-    match member {
-        Member::Item(item) => print_item(alloc, item),
-        Member::InnerList(list) => print_inner(alloc, list),
     }
 }
 

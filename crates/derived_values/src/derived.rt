@@ -17,7 +17,7 @@ use component_ids::{ComponentId, Scheme};
 use field_values::{combined_text, count_lines};
 use msg_body::MessageView;
 use msg_head::{Side, Start};
-use sfv_text::{BareItem, Memory, Params, Text};
+use sfv_text::{Memory, Params, Text};
 use std::alloc::Global;
 use targets::{
     Authority, ParamFound, Target, authority_of, cut_target, path_of, query_of, query_param,
@@ -259,9 +259,9 @@ fn target_uri(alloc: Global, request: Request<'_, '_>, target: &Target<'_>) -> R
 fn param_name(params: &Params) -> &[u8]
     ensures { result.now ≡ param_name params.now }
 {
-    match params.find(b"name") {
-        Some(BareItem::Str(text)) => text.bytes(),
-        _ => b"",
+    match params.string(b"name") {
+        Some(text) => text.bytes(),
+        None => b"",
     }
 }
 
