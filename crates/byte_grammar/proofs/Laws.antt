@@ -6,7 +6,7 @@ use Rattle.byte_grammar.specs.tools.Languages.{Then, Mapped}
 use Rattle.byte_grammar.specs.Walk.{◌>>=◌}
 use Rattle.byte_grammar.specs.tools.Walks.{left, Next, then_read}
 
--- A reader reads a language: what it gives is spelled so, where it stops the text so far begins the
+-- A reader reads a language: what it gives is spelled in this way, where it stops the text so far begins the
 -- language, a text of the language is read where its value's followers come, and no prefix of the language
 -- stops it.
 pub record Meets {V : Type 0} (L : List ℕ → V → Type 0) (F : V → ℕ → Bool) (p : List ℕ → Result (V × List ℕ) ℕ) : Type 0 where

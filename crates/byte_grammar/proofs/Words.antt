@@ -2,7 +2,7 @@
 use Rattle.std.proofs.Common.{◌≡◌, ℕ, suc, ◌+◌, Bool, true, false, List, [], ◌∷◌, length, take, drop, Result, Ok, Err, refl, ap, arith}
 use Rattle.byte_grammar.specs.Walk.{byte_if, byte_read, run_length, all_read, word_read}
 
--- what the reader of one byte takes stands first
+-- what the reader of one byte takes is first
 pub byte_stands : (class : ℕ → Bool) (bytes : List ℕ) (c : ℕ) (rest : List ℕ) → byte_read class bytes ≡ Ok (c, rest) → bytes ≡ c ∷ rest
 unfolding byte_read
 byte_stands class [] c rest e = absurd cc

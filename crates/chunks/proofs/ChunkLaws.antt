@@ -20,7 +20,7 @@ use Rattle.chunks.proofs.TooLong.{within_room}
 
 -- ---- the reader, and prefixes
 
--- a text of chunks that stands first is read
+-- a text of chunks that is first is read
 pub prefix_read : (bytes : List ℕ) (cs : Chunks) (n : ℕ) → AreChunksText cs (take n bytes) → turns_read turn_read bytes ≡ Ok (cs.chunks, drop n bytes)
 prefix_read bytes cs n h = ap (turns_read turn_read) (sym (take-append-drop n bytes)) ∙ meets_chunks.only (take n bytes) (drop n bytes) cs.chunks (are_turns cs (take n bytes) h) (any_next (drop n bytes))
 
@@ -59,7 +59,7 @@ no_chunks_in_prefix bytes cs n b less h =
     let read : left (turns_read turn_read (bytes ++ [])) ≡ length (drop n bytes) = ap (λ (y : List ℕ). left (turns_read turn_read y)) (append-nil bytes) ∙ ap left (prefix_read bytes cs n h) in
     omega (arith, far, read, length-drop n bytes)
 
--- a bad byte doesn't stand behind the end of chunks, nor within them
+-- a bad byte isn't behind the end of chunks, nor within them
 pub no_bad_at_chunks : (bytes : List ℕ) (cs : Chunks) (n offset : ℕ) → AreChunksText cs (take n bytes) → IsBadChunk bytes offset → ⊥
 no_bad_at_chunks bytes cs n offset h bad = elim (cases_lt offset n) [
   | inl less ↦ bad.last (begins_take bytes (offset + 1) n (omega arith) (text_begins cs (take n bytes) h))

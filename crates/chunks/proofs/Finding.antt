@@ -87,7 +87,7 @@ module _ {bytes : List ℕ} {spans : List ChunkSpan} {left : List ℕ} {room : �
         let turn = turn_data_err left text after size n line some e in
         (loop_err turn_read chunk_loop f.done left (turns_read turn_read bytes) f.so_far n turn, λ t. no_turn room left text after size n line fits turn (f.long t))
 
-    -- what the line is, and what stands after it
+    -- what the line is, and what is after it
     line_parts : (left ≡ text ++ (codes "\r\n" ++ after)) × IsChunkLine text size
     line_parts =
         let s = meets_line.ok left (text, size) after line in

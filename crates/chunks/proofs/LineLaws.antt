@@ -61,7 +61,7 @@ extension_ok true bytes (c ∷ x) v rest is e run =
     record { begins = inr (subst (λ (y : List ℕ). starts_in begins_extension y ≡ true) run.same first); clean = run.passes; short = run.most }
 extension_ok false bytes x v rest is e run = record { begins = inl (nil_from_length v (omega (arith, run.most))); clean = run.passes; short = omega (arith, run.most) }
 
--- an extension that isn't empty begins so
+-- an extension that isn't empty begins in this way
 first_begins : (c : ℕ) (v : List ℕ) → ((c ∷ v) ≡ []) ⊎ (starts_in begins_extension (c ∷ v) ≡ true) → begins_extension c ≡ true
 first_begins c v (inl e) = absurd cc
 first_begins c v (inr e) = e

@@ -1,4 +1,4 @@
--- Offsets of chunks, and the chunks that stand there.
+-- Offsets of chunks, and the chunks that are there.
 use Rattle.std.proofs.Common.{◌≡◌, ℕ, ◌+◌, ◌-◌, ◌<◌, ◌≤◌, true, List, [], ◌∷◌, ◌++◌, length, map, take, drop, refl, sym, ap, ◌∙◌, append_assoc, arith, codes}
 use Rattle.std.proofs.lemmas.List.{length-append, take_at, drop_at}
 use Rattle.std.proofs.lemmas.List.Elements.{All-head, All-tail}
@@ -8,7 +8,7 @@ use Rattle.chunks.specs.Chunks.{Chunk, IsChunkLine, IsChunk, chunk_text}
 use Rattle.chunks.specs.Views.{chunk_at, chunks_lie_in, ChunksFollow}
 use Rattle.chunks.specs.tools.Turns.{span_of, spans_of}
 
--- what stands between two offsets
+-- what is between two offsets
 pub slice_at : (text before middle after : List ℕ) (from to : ℕ) → text ≡ before ++ (middle ++ after) → length before ≡ from → from + length middle ≡ to → slice_range text from to ≡ middle
 slice_at text before middle after from to e begin end =
     let count : length middle ≡ to - from = omega arith in
@@ -19,7 +19,7 @@ slice_at text before middle after from to e begin end =
 text_length : (c : Chunk) → length (chunk_text c) ≡ length c.line + 2 + length c.chunk_data + 2
 text_length c = omega (arith, length-append c.line (codes "\r\n" ++ (c.chunk_data ++ codes "\r\n")), length-append c.chunk_data (codes "\r\n"))
 
--- the chunk that stands there
+-- the chunk that is there
 chunk_is : (text before more : List ℕ) (c : Chunk) → text ≡ before ++ (chunk_text c ++ more) → chunk_at text (span_of (length before) c) ≡ c
 chunk_is text before more c e =
     let crlf : List ℕ = codes "\r\n" in

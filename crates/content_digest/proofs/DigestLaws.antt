@@ -95,7 +95,7 @@ mismatch_where content dict sound some =
       },
     )
 
--- a member that agrees stands before one that doesn't
+-- a member that agrees is before one that doesn't
 not_earlier : (content : List ℕ) (dict : List (Pair Member)) (algorithm : Algorithm) (kept computed : List ℕ) (i j : ℕ) → list_all (agrees content) (take j dict) ≡ true
     → IsSomeAnd (slice_get dict i) (λ member. Differs content member algorithm kept computed) → i < j → ⊥
 not_earlier content dict algorithm kept computed i j before there less =

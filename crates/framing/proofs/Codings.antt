@@ -16,7 +16,7 @@ lower_append a b = map-append to_ascii_lowercase a b
 lower_length : (a : List ℕ) → length (str_to_ascii_lowercase a) ≡ length a
 lower_length a = length-map a to_ascii_lowercase
 
--- texts of one length that stand first in one text are the same
+-- texts of one length that are first in one text are the same
 same_front : (a b x y : List ℕ) → a ++ x ≡ b ++ y → length a ≡ length b → a ≡ b
 same_front a b x y joined size =
     sym (take-append_seam a x) ∙ (ap (λ n. take n (a ++ x)) size ∙ (ap (take (length b)) joined ∙ take-append_seam b y))
@@ -51,7 +51,7 @@ taken_more done piece left rest word taken more =
     ∙ (append_assoc (str_to_ascii_lowercase done) (str_to_ascii_lowercase piece) (str_to_ascii_lowercase rest)
     ∙ (ap (λ t. str_to_ascii_lowercase done ++ t) (sym more) ∙ taken))
 
--- a piece stands in the text that stands not in the word
+-- a piece is in the text that isn't in the word
 pub not_chunked : (done piece left more text : List ℕ) → done ++ (piece ++ more) ≡ text → str_to_ascii_lowercase done ++ str_to_ascii_lowercase left ≡ codes "chunked"
     → ((rest : List ℕ) → str_to_ascii_lowercase left ≢ str_to_ascii_lowercase piece ++ rest) → is_chunked text ≡ false
 not_chunked done piece left more text joined taken none =

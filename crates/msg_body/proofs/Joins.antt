@@ -3,7 +3,7 @@ use Rattle.std.proofs.Common.{◌≡◌, ℕ, ◌+◌, ◌-◌, ◌≤◌, List,
 use Rattle.std.proofs.lemmas.List.{take-take, drop-take, length-take-le, length-drop}
 use Rattle.std.proofs.Math.Seq.{take-append_seam, drop-append_seam, take-add}
 
--- both parts stand where they are looked for
+-- both parts are where they are looked for
 pub record ArePartsOf (bytes first second : List ℕ) (used : ℕ) : Type 0 where
   pub rest : ℕ
   pub used_is : used ≡ length first + rest
@@ -25,7 +25,7 @@ parted bytes first second used within text =
       second_is = sym (drop-take (length first) (length second) bytes) ∙ ap (λ n. drop (length first) (take n bytes)) (sym sized) ∙ ap (drop (length first)) text ∙ drop-append_seam first second;
     }
 
--- and so they join
+-- and in this way they join
 pub joined : (bytes first second : List ℕ) (n m : ℕ) → take n bytes ≡ first → take m (drop n bytes) ≡ second → take (n + m) bytes ≡ first ++ second
 joined bytes first second n m a b = take-add n m bytes ∙ (λ i. a i ++ b i)
 

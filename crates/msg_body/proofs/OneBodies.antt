@@ -112,7 +112,7 @@ NextTrailer chunks used rest lines n = SpellsTrailer lines n rest
 abbrev pub body_in_chunks : Chunks × List FieldLine → Body
 body_in_chunks parts = chunked parts.0 parts.1
 
--- its parts stand one after the other
+-- its parts are one after the other
 chunked_made : (count : ℕ) (bytes : List ℕ) (body : Body) (n : ℕ) → SpellsBody Chunked count body n bytes
     → (parts : Chunks × List FieldLine) × AreParts SpellsChunks NextTrailer bytes parts n × (body ≡ body_in_chunks parts)
 chunked_made count bytes (plain content) n s = absurd s.is

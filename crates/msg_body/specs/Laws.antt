@@ -28,8 +28,8 @@ OneMessageAt =
     SpellsMessage to_head one n bytes → SpellsMessage to_head other m bytes →
     (one ≡ other) × (n ≡ m)
 
--- No more bytes than a message may have begin with a message of the expected kind, or have a fault,
--- or the end of a message may still come.
+-- Bytes that are no more than a message may have begin with a message of the expected kind, or have
+-- a fault, or the end of a message may still come.
 abbrev pub EachHasAMessageAnswer : Type 0
 EachHasAMessageAnswer =
     (expect : Expect) (to_head : Bool) (bytes : List ℕ) → length bytes ≤ MAX_MESSAGE_BYTES →

@@ -12,6 +12,7 @@ use Rattle.msg_body.specs.declared.error.MessageError.TheVariants.{Memory, TooLo
 use Rattle.msg_body.specs.declared.error.MessageFault.{MessageFault}
 use Rattle.msg_body.specs.declared.error.MessageFault.TheVariants.{Refused, Truncated, Trailing}
 
+-- the word of the error, which is that of the part's error
 abbrev pub message_error_text : MessageError → List ℕ
 message_error_text Memory = head_error_text head.Memory
 message_error_text (TooLong side) = head_error_text (head.TooLong side)
@@ -25,6 +26,7 @@ message_error_text CodingRefused = framing_error_text framing.CodingRefused
 message_error_text (BadChunk offset) = chunk_error_text (chunk.Bad offset)
 message_error_text ContentTooLong = chunk_error_text chunk.TooLong
 
+-- the word of the error, or how many bytes there are, or where further ones begin
 abbrev pub message_fault_text : MessageFault → List ℕ
 message_fault_text (Refused error) = message_error_text error
 message_fault_text (Truncated count) = codes "truncated " ++ decimal count

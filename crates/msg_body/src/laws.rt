@@ -9,8 +9,8 @@ pub fn message_laws()
     ensures prefix { NoMessageInPrefix }
 {}
 
-/// Out of memory aside, the answer to no more bytes than a message may have is one: they begin with
-/// a message of one length, or its end may still come, or they have one fault.
+/// Out of memory aside, the answer to bytes that are no more than a message may have is one: they
+/// begin with a message of one length, or its end may still come, or they have one fault.
 pub fn messages_have_one_answer()
     ensures at { OneMessageAt }
     ensures some { EachHasAMessageAnswer }

@@ -69,7 +69,7 @@ clean_whole section text rest is clean e c =
           ∙ sym (flat_map-append ended pieces ([] ∷ []));
     }
 
--- so a head is, after its start line
+-- in this way a head is clean, after its start line
 pub clean_section : (section rest : List ℕ) (start : StartLine) → IsSection section section → BeginsWithStart start rest section → IsCleanUpToCrlf rest → IsClean section
 clean_section section rest start is b c =
     let own = start_cut start b.is in

@@ -56,7 +56,7 @@ empty_section bytes b = subst (λ (x : List ℕ). IsTrailerSection x (take 2 x))
   first = λ one other e. nil_from_length other (omega (arith, ap (length {A = ℕ}) e, length-append one (codes "\r\n\r\n" ++ other)));
 })
 
--- where bytes don't begin with CRLF, each CRLF CRLF after the line's end stands in them
+-- where bytes don't begin with CRLF, each CRLF CRLF after the line's end is in them
 end_after : (bytes one other : List ℕ) → ((rest : List ℕ) → bytes ≢ 13 ∷ 10 ∷ rest) → 13 ∷ 10 ∷ bytes ≡ one ++ (codes "\r\n\r\n" ++ other) → (less : List ℕ) × (bytes ≡ less ++ (codes "\r\n\r\n" ++ other))
 end_after bytes [] other none e = absurd (none other cc)
 end_after bytes (c ∷ []) other none e = absurd cc
@@ -86,7 +86,7 @@ longer bytes (x ∷ y ∷ text) rest before s ends more e =
     let alone : text ≡ [] = s.first [] text (λ i. 13 ∷ 10 ∷ one i ∷ two i ∷ text) in
     omega (arith, ap (length {A = ℕ}) alone, ap (length {A = ℕ}) ends, length-append before (codes "\r\n\r\n"))
 
--- the section, by what stands before its last end
+-- the section, by what is before its last end
 section_by : (bytes section : List ℕ) (s : IsTrailerSection bytes section) (before : List ℕ) → 13 ∷ 10 ∷ section ≡ before ++ codes "\r\n\r\n" → ((rest : List ℕ) × (bytes ≡ 13 ∷ 10 ∷ rest) × (section ≡ codes "\r\n")) ⊎ (((rest : List ℕ) → bytes ≢ 13 ∷ 10 ∷ rest) × IsSection bytes section)
 section_by bytes section s [] e =
     let first = append_cancel_left (13 ∷ 10 ∷ []) bytes (section ++ s.more) s.joined in

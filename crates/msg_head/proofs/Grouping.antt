@@ -82,7 +82,7 @@ last_of p [] = record { others = []; last = p; are = refl }
 last_of p (q ∷ qs) =
     let l = last_of q qs in record { others = p ∷ l.others; last = l.last; are = ap (λ (x : List (List ℕ)). p ∷ x) l.are }
 
--- nothing stands after the last end
+-- nothing is after the last end
 last_empty : (others : List (List ℕ)) (last before : List ℕ) → list_all is_line_byte last ≡ true → flat_map ended (others ++ last ∷ []) ≡ before ++ 13 ∷ 10 ∷ 13 ∷ 10 ∷ [] → (last ≡ []) × (flat_map ended others ≡ before ++ 13 ∷ 10 ∷ [])
 last_empty others last before clean e =
     let made = flat_map ended others in

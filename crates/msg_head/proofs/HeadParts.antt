@@ -21,7 +21,7 @@ use Rattle.msg_head.proofs.Spans.{MakesSome}
 
 -- ---- start lines
 
--- the text before the start line's end, in which no end stands
+-- the text before the start line's end, in which no end is
 pub record StartCut (start : StartLine) : Type 0 where
   pub text : List ℕ
   pub is : start_text start ≡ text ++ 13 ∷ 10 ∷ []

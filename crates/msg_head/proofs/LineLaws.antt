@@ -47,7 +47,7 @@ more_ends (l ∷ ls) more each ends =
     ap (starts_in is_blank) (opened_lines l ls more ∙ opened_pieces l (lines_text ls more))
     ∙ first_blank l.first (13 ∷ 10 ∷ after_first l.continued (lines_text ls more)) some (and_parts _ _ ends).0
 
--- the first of the lines stands there
+-- the first of the lines is there
 pub line_first : (l : RawPieces) (ls : List RawPieces) (more text : List ℕ) → AreCut (l ∷ ls) → text ≡ lines_text (l ∷ ls) more → BeginsWithCut l (lines_text ls more) text
 line_first l ls more text a e =
     let p = and_parts _ _ (and_parts _ _ a.each).0 in

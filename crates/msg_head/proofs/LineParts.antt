@@ -17,7 +17,7 @@ pub opened_line : (line : FieldLine) (more : List ℕ) → line_text line ++ mor
 opened_line line more =
     append_assoc line.name (58 ∷ (line.raw ++ 13 ∷ 10 ∷ [])) more ∙ ap (λ (s : List ℕ). line.name ++ 58 ∷ s) (append_assoc line.raw (13 ∷ 10 ∷ []) more)
 
--- ---- what stands in bytes that begin with a line which is a field line
+-- ---- what is in bytes that begin with a line which is a field line
 
 made_bytes : (cut : RawPieces) (line : FieldLine) (more bytes : List ℕ) → BeginsWithCut cut more bytes → MakesLine cut line → bytes ≡ line.name ++ 58 ∷ (line.raw ++ 13 ∷ 10 ∷ more)
 made_bytes cut line more bytes b m =
@@ -34,7 +34,7 @@ raw_begins cut line more bytes name rest b m n = record {
       (one_before is_tchar 58 [] name line.name rest _ bytes refl n (name_stands cut line more bytes b m)).1 ∙ ap (λ (s : List ℕ). s ++ 13 ∷ 10 ∷ more) m.is.raw.2;
 }
 
--- ---- where no field line stands
+-- ---- where no field line is
 
 pub no_name : (cut : RawPieces) (more bytes : List ℕ) → BeginsWithCut cut more bytes → NoneStandsBefore is_tchar (58 ∷ []) bytes → MakesNoLine cut
 no_name cut more bytes b none line m = none line.name _ (name_stands cut line more bytes b m)
@@ -47,7 +47,7 @@ empty_name cut more bytes name rest b n empty line m =
 pub no_raw : (cut : RawPieces) (more bytes name rest : List ℕ) → BeginsWithCut cut more bytes → StandsBefore is_tchar (58 ∷ []) name rest bytes → ((pieces : RawPieces) (other : List ℕ) → ¬ BeginsWithPieces pieces other rest) → MakesNoLine cut
 no_raw cut more bytes name rest b n none line m = none m.is.raw.0 more (raw_begins cut line more bytes name rest b m n)
 
--- ---- where one stands
+-- ---- where one is
 
 colon_in_first : (name rest first tail : List ℕ) → list_all is_tchar name ≡ true → name ++ 58 ∷ rest ≡ first ++ 13 ∷ tail → (raw : List ℕ) × (first ≡ name ++ 58 ∷ raw) × (rest ≡ raw ++ 13 ∷ tail)
 colon_in_first [] rest [] tail each e = absurd cc

@@ -14,7 +14,7 @@ use Rattle.msg_head.proofs.Prefixes.{outside}
 use Rattle.msg_head.proofs.LineBytes.{line_byte_of}
 
 -- whether each CR and LF of the text is half of a CRLF, and no byte is NUL; the flag says that a CR
--- stands right before the text
+-- is right before the text
 abbrev pub is_paired : Bool → List ℕ → Bool
 is_paired false [] = true
 is_paired true [] = false
@@ -54,7 +54,7 @@ ends_cr false (c ∷ cs) h = elim (cases_Bool (c == 13)) [
 ]
 ends_cr true (c ∷ cs) h = ends_cr false cs (and_parts (c == 10) (is_paired false (cs ++ 13 ∷ [])) h).1
 
--- a byte is naked after a text before which CR stands, where the flag says so
+-- a byte is naked after a text before which CR is, where the flag says so
 abbrev NakedAfter : Bool → List ℕ → ℕ → List ℕ → Type 0
 NakedAfter s before c after =
     (c ≡ 0)
@@ -105,7 +105,7 @@ as_after before c after (inl nul) = inl nul
 as_after before c after (inr (inl half)) = inr (inl half)
 as_after before c after (inr (inr lf)) = inr (inr (lf.0, lf.1, λ on e. false≢true on))
 
--- no naked end stands in a paired text, whatever comes after it
+-- no naked end is in a paired text, whatever comes after it
 pub none_in : (done more : List ℕ) (at : ℕ) → is_paired false done ≡ true → at < length done → IsNakedEnd (done ++ more) at → ⊥
 none_in done more at h low n =
     no_naked_before false done more n.before n.c n.after h n.joined (omega (arith, low, n.stands)) (as_after n.before n.c n.after n.naked)

@@ -27,7 +27,7 @@ one_prefix test end (x ∷ xs) (y ∷ ys) more rest out f o e =
     let others = one_prefix test end xs ys more rest out (and_parts _ _ f).1 (and_parts _ _ o).1 left in
     (λ i. first i ∷ others.0 i, others.1)
 
--- and so are two before the same end, where its first byte is outside the class
+-- and two before the same end are one, where its first byte is outside the class
 pub one_before : (test : ℕ → Bool) (c : ℕ) (cs one other more rest bytes : List ℕ) → test c ≡ false → StandsBefore test (c ∷ cs) one more bytes → StandsBefore test (c ∷ cs) other rest bytes → (one ≡ other) × (more ≡ rest)
 one_before test c cs one other more rest bytes out a b =
     let same = one_prefix test c one other (cs ++ more) (cs ++ rest) out a.each b.each (sym a.joined ∙ b.joined) in
@@ -39,7 +39,7 @@ at_seam prefix end more bytes joined = ap (λ (s : List ℕ). get_or s (length p
 below_seam : (prefix : List ℕ) (end : ℕ) (more bytes : List ℕ) → bytes ≡ prefix ++ end ∷ more → length prefix < length bytes
 below_seam prefix end more bytes joined = omega (arith, ap (length {A = ℕ}) joined, length-append prefix (end ∷ more))
 
--- a byte that the search finds doesn't stand in the prefix
+-- a byte that the search finds isn't in the prefix
 not_before : (test search : ℕ → Bool) (end : ℕ) (prefix more bytes : List ℕ) (k : ℕ) → ((c : ℕ) → test c ≡ true → search c ≡ true → ⊥) → StandsBefore test (end ∷ []) prefix more bytes → search (get_or bytes k 0) ≡ true → k < length prefix → ⊥
 not_before test search end prefix more bytes k apart s here low =
     let inside : search (get_or prefix k 0) ≡ true = ap search (sym (get_or-append prefix (end ∷ more) 0 k low) ∙ sym (ap (λ (t : List ℕ). get_or t k 0) s.joined)) ∙ here in
@@ -61,7 +61,7 @@ first_end test search end prefix more bytes (Some k) is apart s h =
       ]
     ]
 
--- where a byte of the class doesn't stand first in the rest, the rest begins at the end
+-- where a byte of the class isn't first in the rest, the rest begins at the end
 pub at_end_of_prefix : (test : ℕ → Bool) (end : ℕ) (one other rest more : List ℕ) → test end ≡ false → list_all test one ≡ true → list_all test other ≡ true → starts_in test rest ≡ false → one ++ rest ≡ other ++ end ∷ more → rest ≡ end ∷ more
 at_end_of_prefix test end [] [] rest more out f o none e = e
 at_end_of_prefix test end [] (y ∷ ys) [] more out f o none e = absurd cc
@@ -73,7 +73,7 @@ at_end_of_prefix test end (x ∷ xs) (y ∷ ys) rest more out f o none e =
     let left : xs ++ rest ≡ ys ++ end ∷ more = cc in
     at_end_of_prefix test end xs ys rest more out (and_parts _ _ f).1 (and_parts _ _ o).1 none left
 
--- what is so of no answer, and of an answer, by cases
+-- what holds of no answer, and of an answer, by cases
 pub given_none : {X : Type 0} {P : Type 0} (found : Option X) → P → IfNone found P
 given_none None p = p
 given_none (Some x) p = tt

@@ -67,7 +67,7 @@ opened_ended : (p : List ℕ) (ps : List (List ℕ)) (rest : List ℕ) → flat_
 opened_ended p ps rest =
     append_assoc (ended p) (flat_map ended ps) rest ∙ append_assoc p (13 ∷ 10 ∷ []) (flat_map ended ps ++ rest)
 
--- what stands where a clean piece, CRLF and more are other bytes, CRLF CRLF and more
+-- what is where a clean piece, CRLF and more are other bytes, CRLF CRLF and more
 pub data Lies (p tail one other : List ℕ) : Type 0 where
   here : tail ≡ 13 ∷ 10 ∷ other → Lies p tail one other
   later : (left : List ℕ) → tail ≡ left ++ 13 ∷ 10 ∷ 13 ∷ 10 ∷ other → Lies p tail one other

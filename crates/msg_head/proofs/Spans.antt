@@ -34,7 +34,7 @@ read_begins cut more bytes rest line b r = record {
   joined = b.begins.joined ∙ sym (append_assoc (pieces_text cut) (13 ∷ 10 ∷ []) more) ∙ ap (λ (s : List ℕ). s ++ more) r.makes.text;
 }
 
--- the bytes from an offset on, where others stand there first
+-- the bytes from an offset on, where others are there first
 rest_at : (bytes one more : List ℕ) (at n : ℕ) → drop at bytes ≡ one ++ more → drop (at + length one + n) bytes ≡ drop n more
 rest_at bytes one more at n e =
     ap (λ k. drop k bytes) (omega arith)

@@ -35,7 +35,7 @@ apart_from_ends c is end = elim (or_cases ((c == 0) || (c == 13)) (c == 10) end)
 pub cr_found : (pieces : RawPieces) (more left : List ℕ) (found : Option ℕ) → BeginsWithPieces pieces more left → IsFirstByte (is_byte3 0 13 10) left found → found ≡ Some (length pieces.first)
 cr_found pieces more left found b h = first_end is_line_byte (is_byte3 0 13 10) 13 pieces.first (10 ∷ after_first pieces.continued more) left found refl apart_from_ends (first_stands pieces more left b) h
 
--- what stands there
+-- what is there
 pub at_cr : (pieces : RawPieces) (more left : List ℕ) (n : ℕ) → BeginsWithPieces pieces more left → n ≡ length pieces.first → drop n left ≡ 13 ∷ 10 ∷ after_first pieces.continued more
 at_cr pieces more left n b same =
     ap (λ k. drop k left) same ∙ ap (λ (s : List ℕ). drop (length pieces.first) s) (b.joined ∙ opened_pieces pieces more) ∙ drop-append_seam pieces.first (13 ∷ 10 ∷ after_first pieces.continued more)
@@ -43,7 +43,7 @@ at_cr pieces more left n b same =
 pub after_is : (pieces : RawPieces) (more left after : List ℕ) (n : ℕ) → BeginsWithPieces pieces more left → n ≡ length pieces.first → drop n left ≡ codes "\r\n" ++ after → after ≡ after_first pieces.continued more
 after_is pieces more left after n b same there = append_cancel_left (13 ∷ 10 ∷ []) _ _ (sym there ∙ at_cr pieces more left n b same)
 
--- no blank stands first after the last piece
+-- no blank is first after the last piece
 pub last_piece : (folds : List (List ℕ)) (more : List ℕ) → list_all is_continuation folds ≡ true → starts_in is_blank (after_first folds more) ≡ false → after_first folds more ≡ more
 last_piece [] more each none = refl
 last_piece (f ∷ fs) more each none = absurd (false≢true (sym none ∙ fold_starts f (13 ∷ 10 ∷ after_first fs more) (and_parts _ _ each).0))
@@ -57,7 +57,7 @@ next_piece (f ∷ fs) more each ends some =
     let others : RawPieces = record { first = f; continued = fs } in
     (others, record { are = and_from (list_all is_line_byte f) (list_all is_continuation fs) fold.1 all.1; ends = ends; joined = sym (opened_pieces others more) })
 
--- the pieces are what stands before the end
+-- the pieces are what is before the end
 pub pieces_are : (pieces : RawPieces) (more text after : List ℕ) → BeginsWithPieces pieces more text → after ≡ more → take (length text - (length after + 2)) text ≡ pieces_text pieces
 pieces_are pieces more text after b same =
     let size : length text - (length after + 2) ≡ length (pieces_text pieces) =

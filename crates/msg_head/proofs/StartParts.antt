@@ -41,14 +41,14 @@ one_request one other more rest a b e =
     let versions = one_prefix is_visible 13 one.version other.version (10 ∷ more) (10 ∷ rest) refl (version_visible one.version a.version) (version_visible other.version b.version) targets.1 in
     (λ i. record { method = methods.0 i; target = targets.0 i; version = versions.0 i }, append_cancel_left (10 ∷ []) more rest versions.1)
 
--- ---- what stands in bytes that begin with a request line
+-- ---- what is in bytes that begin with a request line
 
 -- the bytes begin with this request line
 record Begins (line : RequestLine) (more bytes : List ℕ) : Type 0 where
   pub is : IsRequestLine line
   pub joined : bytes ≡ request_text line ++ more
 
--- the method stands first
+-- the method is first
 method_stands : (line : RequestLine) (more bytes : List ℕ) → Begins line more bytes → StandsBefore is_tchar (32 ∷ []) line.method (line.target ++ 32 ∷ (line.version ++ 13 ∷ 10 ∷ more)) bytes
 method_stands line more bytes b = record { each = (and_parts _ _ b.is.method).1; joined = b.joined ∙ opened_request line more }
 
@@ -66,7 +66,7 @@ version_stands line more bytes method rest target last b m t = record {
   joined = (one_before is_visible 32 [] target line.target last _ rest refl t (target_stands line more bytes method rest b m)).1;
 }
 
--- ---- where no request line stands
+-- ---- where no request line is
 
 pub empty_not : (test : ℕ → Bool) (text : List ℕ) → (nat_lt 0 (length text) && list_all test text) ≡ true → length text ≡ 0 → ⊥
 empty_not test text is empty = omega (arith, ltb-true 0 (length text) (and_parts _ _ is).0, empty)

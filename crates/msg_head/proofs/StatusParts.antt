@@ -56,7 +56,7 @@ code_stands line more bytes version rest is joined v = record {
   joined = (one_before is_visible 32 [] version line.version rest _ bytes refl v (version_stands line more bytes is joined)).1;
 }
 
--- ---- where no status line stands
+-- ---- where no status line is
 
 pub no_version : (bytes : List ℕ) → NoneStandsBefore is_visible (32 ∷ []) bytes → BeginsWithNoStatus bytes
 no_version bytes none line more is joined = none line.version _ (version_stands line more bytes is joined)

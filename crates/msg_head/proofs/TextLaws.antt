@@ -119,7 +119,7 @@ some_text bytes solid =
     let text = reverse (without_first_blanks (reverse line.0)) in
     (text, texts_of line.1, (text_first line.0 line.1 bytes text line.2 solid (reverse-reverse (without_first_blanks (reverse line.0)))).0)
 
--- a space stands before a further text
+-- a space is before a further text
 pub space_first : (old bytes : List ℕ) → texts_of bytes ≡ texts_of old → starts_in is_solid bytes ≡ true
     → flat_map spaced (texts_of old) ≡ codes " " ++ join_by (λ text. text) (codes " ") (texts_of bytes)
 space_first old bytes same solid =

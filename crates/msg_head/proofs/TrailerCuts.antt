@@ -63,7 +63,7 @@ trailer_lines section is clean =
     let cut = section_cut (13 ∷ 10 ∷ section) (record { is = is; clean = clean_with section clean }) in
     (cut.lines, (lines_after (13 ∷ 10 ∷ section) cut [] section refl refl).rest_is)
 
--- the bytes are so cut
+-- the bytes are cut in this way
 pub lines_cut_from : (bytes section : List ℕ) (lines : List RawPieces) → IsTrailerSection bytes section → AreLinesOf section lines → IsCut [] lines (13 ∷ 10 ∷ bytes)
 lines_cut_from bytes section lines s are = record { section = section; more = s.more; clean = refl; joined = s.joined; lines_are = are }
 

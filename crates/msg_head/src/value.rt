@@ -25,8 +25,8 @@ impl<'m> LineView<'m> {
         }
     }
 
-    /// The line's value where it stands in the message as it is. None where a fold stands within
-    /// it, for which the value has a space (RFC 9112 section 5.2).
+    /// The line's value as it is in the message. None where a fold is within it, for which the
+    /// value has a space (RFC 9112 section 5.2).
     pub fn whole_value(self) -> Option<&'m [u8]>
         ensures some { IfSome result (λ text. text.now ≡ value self.entry.raw.now) }
         ensures none { IfNone result (IsFalse (list_all is_visible (value self.entry.raw.now))) }
