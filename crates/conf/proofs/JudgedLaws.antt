@@ -10,12 +10,12 @@ use Rattle.conf.specs.Table.{Row, rows, places, place_path, row_value, has_unkno
 use Rattle.conf.specs.Paths.{HoldsOfNone}
 use Rattle.conf.specs.Rows.{is_ill_typed, is_out_of_range}
 use Rattle.conf.specs.Refusals.{IsCauseIn, IsLeastRow, HasBadKeyText, IsBadList, fault_number}
-use Rattle.conf.specs.tools.Judged.{fault_of, is_refused, refusal_number, IsCauseNumbered, IsClearBelow, IsFirstIn, IsJudged}
+use Rattle.conf.specs.tools.Judged.{fault_of, is_refused, row_fault_number, IsCauseNumbered, IsClearBelow, IsFirstIn, IsJudged}
 use Rattle.conf.proofs.LeastLaws.{none_at}
 
--- a refusal is a cause of its number
-pub refused_is : (refusal : RowFault) (document : Members) (path : List ℕ) → IsLeastRow (λ row. IsTrue (is_refused refusal document row)) path
-    → IsCauseNumbered (refusal_number refusal) document (fault_of refusal path)
+-- the fault of a row is a cause of its number
+pub refused_is : (row_fault : RowFault) (document : Members) (path : List ℕ) → IsLeastRow (λ row. IsTrue (is_refused row_fault document row)) path
+    → IsCauseNumbered (row_fault_number row_fault) document (fault_of row_fault path)
 refused_is WrongType document path least = (refl, least)
 refused_is OutOfRange document path least = (refl, least)
 refused_is Missing document path least = (refl, least)

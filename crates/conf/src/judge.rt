@@ -8,7 +8,7 @@ ghost use Rattle.conf.specs.Refusals.{IsLeastRow};
 ghost use Rattle.conf.specs.Table.{entries_of, has_place, has_unknown, is_table_key, is_missing, place_path, places, row_value, rows};
 ghost use Rattle.conf.specs.Values.{is_allowed};
 ghost use Rattle.conf.specs.Rows.{fails, is_ill_typed, is_out_of_range};
-ghost use Rattle.conf.specs.tools.Judged.{fault_of, first_path, first_place, is_refused, refusal_number, IsJudged, IsFirstIn, IsCauseNumbered};
+ghost use Rattle.conf.specs.tools.Judged.{fault_of, first_path, first_place, is_refused, row_fault_number, IsJudged, IsFirstIn, IsCauseNumbered};
 ghost use Rattle.conf.specs.tools.TableRows.{row_of};
 
 use crate::allowed::{clashes, has_type, is_allowed};
@@ -68,7 +68,7 @@ fn judge_keys(alloc: Global, document: &Table) -> Result<(), ConfFault>
 
 // ---- values that are refused, and keys that are missing
 
-/// What is judged of each key.
+/// A fault of a key: what is judged of each row of the table.
 #[derive(Clone, Copy)]
 pub(crate) enum RowFault {
     WrongType,
@@ -77,7 +77,7 @@ pub(crate) enum RowFault {
 }
 
 impl RowFault {
-    fn fault(self, path: Text) -> ConfFault
+    fn fault_at(self, path: Text) -> ConfFault
         ensures { result ≡ fault_of self path }
     {
         match self {
@@ -131,10 +131,10 @@ fn is_missing(document: &Table, row: &Row) -> bool
         && value_at(document, row.place, row.key).is_none()
 }
 
-fn is_refused(refusal: RowFault, document: &Table, row: &Row) -> bool
-    ensures { result ≡ is_refused refusal (table_view document.now) (row_of row.now) }
+fn is_refused(row_fault: RowFault, document: &Table, row: &Row) -> bool
+    ensures { result ≡ is_refused row_fault (table_view document.now) (row_of row.now) }
 {
-    match refusal {
+    match row_fault {
         RowFault::WrongType => is_ill_typed(document, row),
         RowFault::OutOfRange => is_out_of_range(document, row),
         RowFault::Missing => is_missing(document, row),
@@ -142,12 +142,12 @@ fn is_refused(refusal: RowFault, document: &Table, row: &Row) -> bool
 }
 
 /// The path of the first of the rows that is refused.
-fn first_refused(refusal: RowFault, document: &Table, rows: &[Row]) -> Option<&'static str>
+fn first_refused(row_fault: RowFault, document: &Table, rows: &[Row]) -> Option<&'static str>
     ensures { option_copied result
-        ≡ first_path (is_refused refusal (table_view document.now)) (map row_of rows.now) }
+        ≡ first_path (is_refused row_fault (table_view document.now)) (map row_of rows.now) }
 {
     for row in rows {
-        if is_refused(refusal, document, row) {
+        if is_refused(row_fault, document, row) {
             return Some(row.path);
         }
     }
@@ -157,17 +157,17 @@ fn first_refused(refusal: RowFault, document: &Table, rows: &[Row]) -> Option<&'
 /// Judges each key for the same fault.
 pub(crate) fn judge_rows(
     alloc: Global,
-    refusal: RowFault,
+    row_fault: RowFault,
     document: &Table,
 ) -> Result<(), ConfFault>
     ensures ok { OnOk result
-        (HoldsOfNone (λ row. IsTrue (is_refused refusal (table_view document.now) row)) rows) }
+        (HoldsOfNone (λ row. IsTrue (is_refused row_fault (table_view document.now) row)) rows) }
     ensures err { IfErr result
-        (IsCauseNumbered (refusal_number refusal) (table_view document.now)) }
+        (IsCauseNumbered (row_fault_number row_fault) (table_view document.now)) }
 {
-    match first_refused(refusal, document, &ROWS) {
+    match first_refused(row_fault, document, &ROWS) {
         None => Ok(()),
-        Some(path) => Err(refusal.fault(Text::from_bytes(alloc, path.as_bytes())?)),
+        Some(path) => Err(row_fault.fault_at(Text::from_bytes(alloc, path.as_bytes())?)),
     }
 }
 

@@ -1,5 +1,6 @@
-//! Configurations of HTTP Message Signatures (RFC 9421) as TOML documents. What a configuration is,
-//! whatever its text, is told by `settings`, whose types have their names here too.
+//! Configurations of HTTP Message Signatures (RFC 9421) as TOML documents: what a text says, and
+//! why it is refused. The crate `settings` defines what a configuration is; its types have their
+//! names here too.
 //!
 //! ```text
 //! let conf = read_conf(alloc, b"[keys]\n\"k\" = \"AAEC\"")?;

@@ -1,5 +1,5 @@
-//! What a configuration of HTTP Message Signatures is (RFC 9421): what no message tells, and has to
-//! be known to verify a signature or to make one. How a text says it is no matter of this crate.
+//! What a configuration of HTTP Message Signatures is (RFC 9421): what no message says, and has to
+//! be known to verify a signature or to make one. How a text says it is the matter of `conf`.
 //!
 //! ```text
 //! let mut conf = Conf::standard(alloc)?;

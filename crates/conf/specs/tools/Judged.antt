@@ -20,16 +20,16 @@ IsNotToml text fault.Memory = ⊤
 IsNotToml text fault.NotToml = (document : Members) → ¬ IsDocument text document
 IsNotToml text fault = ⊥
 
--- the fault that a refusal is at a path
+-- the fault that it is at a path
 abbrev pub fault_of : RowFault → List ℕ → ConfFault
 fault_of WrongType path = fault.WrongType path
 fault_of OutOfRange path = fault.OutOfRange path
 fault_of Missing path = fault.Missing path
 
-abbrev pub refusal_number : RowFault → ℕ
-refusal_number WrongType = 4
-refusal_number OutOfRange = 5
-refusal_number Missing = 9
+abbrev pub row_fault_number : RowFault → ℕ
+row_fault_number WrongType = 4
+row_fault_number OutOfRange = 5
+row_fault_number Missing = 9
 
 abbrev pub is_refused : RowFault → Members → Row → Bool
 is_refused WrongType document row = is_ill_typed document row

@@ -1,4 +1,5 @@
--- The entries of a map of keys under the bytes of their keyids. No public clause cites this module.
+-- The entries of a map of keys under the bytes of their keyids. No public clause cites this module
+-- but the view of `Keys`.
 use Rattle.std.specs.Prelude.{ℕ, List, map, Vec}
 use Rattle.std.specs.FinMap as finite
 use Rattle.std.specs.Coded.{Coded, coded_list, coded_ℕ}
