@@ -16,5 +16,5 @@ mod text;
 
 pub use combined::Combined;
 pub use field::{combined_pieces, line_pieces};
-pub use lines::count_lines;
+pub use lines::{count_lines, next_named};
 pub use text::combined_text;

@@ -10,8 +10,8 @@ ghost use Rattle.field_values.specs.tools.Walks.{no_line};
 use msg_body::{MessageView, SideLines};
 use msg_head::{LineView, Side};
 
-/// The next of these lines that has the name.
-pub(crate) fn next_named<'m>(lines: &mut SideLines<'_, 'm>, name: &[u8]) -> Option<LineView<'m>>
+/// The next of these lines that has the name, which is in lower case.
+pub fn next_named<'m>(lines: &mut SideLines<'_, 'm>, name: &[u8]) -> Option<LineView<'m>>
     ensures some { IfSome result (λ line. filter (has_name name.now) lines.old
         ≡ field_line_of line ∷ filter (has_name name.now) lines.new) }
     ensures none { IfNone result ((filter (has_name name.now) lines.old ≡ [])
