@@ -1,4 +1,4 @@
--- Tests that compute whether identifiers are the same. No public clause cites this module.
+-- Tests that compute whether identifiers are the same (RFC 9421 section 2).
 use Rattle.std.specs.Prelude.{Bool, ◌&&◌, List}
 use Rattle.std.specs.List.{list_all, list_any}
 use Rattle.std.specs.Str.{bytes_eq}
@@ -15,6 +15,7 @@ is_among params param = list_any (is_equal_param param) params
 abbrev pub are_among : List (Pair BareItem) → List (Pair BareItem) → Bool
 are_among others params = list_all (is_among others) params
 
+-- the names agree, and each parameter of either is among those of the other
 abbrev pub is_same : ComponentId → ComponentId → Bool
 is_same a b =
     bytes_eq a.name b.name && (are_among b.params a.params && are_among a.params b.params)
