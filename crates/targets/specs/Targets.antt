@@ -24,7 +24,8 @@ abbrev pub is_scheme : List ℕ → Bool
 is_scheme [] = false
 is_scheme (c ∷ rest) = is_alpha c && list_all is_scheme_byte rest
 
--- absolute-path: a path that begins with `/` (RFC 9110 section 4.1); what a segment has isn't judged
+-- absolute-path: a path that begins with `/` (RFC 9110 section 4.1). What a segment has isn't
+-- judged.
 abbrev pub is_absolute_path : List ℕ → Bool
 is_absolute_path path = starts_in (λ c. c == byte "/") path && list_all is_path_byte path
 

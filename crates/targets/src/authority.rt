@@ -9,8 +9,7 @@ ghost use Rattle.targets.specs.tools.Parts.{BeginsWithHost, BeginsWithRegName, B
 use crate::feed::{feed_lowered, feed_marked};
 use crate::parts::{read_marked, rest_after};
 use crate::uri_byte::UriByte;
-use byte_grammar::Class;
-use byte_grammar::read_all;
+use byte_grammar::{Class, read_all};
 use sfv_text::Absorb;
 
 /// An authority without userinfo, borrowed from its text (RFC 3986 section 3.2).
