@@ -1,4 +1,4 @@
-//! The value of a component, or how it lacks one.
+//! How the value of a component is fed, or how it lacks one.
 
 ghost use Rattle.std.specs.Prelude.{◌≡◌, Option, option_map, Ok, Err, MatchResult, codes};
 ghost use Rattle.framing.specs.Framings.{is_request};
@@ -7,10 +7,11 @@ ghost use Rattle.component_ids.specs.Table.{has_param};
 ghost use Rattle.component_ids.specs.Types.{kind_in};
 ghost use Rattle.component_values.specs.Context.{context_of};
 ghost use Rattle.component_values.specs.Values.{FormRow, FieldRow, ComesTo, side_of, member_key, message_for, related_message};
-ghost use Rattle.component_values.specs.tools.Rows.{KeepsRow, field_lines};
+ghost use Rattle.component_values.specs.tools.Rows.{PlansRow, field_lines};
 
 use crate::context::Context;
-use crate::lines::{NamedLines, Value, byte_sequences, is_ascii, is_there};
+use crate::lines::{NamedLines, is_ascii, is_there};
+use crate::plan::Plan;
 use crate::strict::{member_value, strict_value};
 use component_ids::{ComponentId, FieldKind, has_param, is_field_name};
 use derived_values::{Lack, NoValue, derived_value};
@@ -31,48 +32,48 @@ fn member_key(params: &Params) -> Option<&[u8]>
     }
 }
 
-/// The value of a field that has lines, in the form that the parameters ask for.
-fn value_in_form<'a, 'm>(
+/// How the value of a field that has lines is fed, in the form that the parameters ask for.
+fn plan_in_form<'a, 'm>(
     alloc: Global,
     field: NamedLines<'a, 'm>,
     kind: Option<FieldKind>,
     params: &Params,
-) -> Result<Value<'a, 'm>, NoValue>
-    ensures { KeepsRow (FormRow (has_param params.now (codes "bs")) (member_key params.now)
+) -> Result<Plan<'a, 'm>, NoValue>
+    ensures { PlansRow (FormRow (has_param params.now (codes "bs")) (member_key params.now)
         (has_param params.now (codes "sf")) kind (field_lines field.entry) field.entry.name.now)
         result }
 {
     if has_param(params, b"bs") {
-        return Ok(Value::Text(byte_sequences(alloc, field)?));
+        return Ok(Plan::ByteSequences(field));
     }
     if let Some(key) = member_key(params) {
         let text = combined_text(alloc, field.message, field.side, field.name)?;
-        return Ok(Value::Text(member_value(alloc, kind, key, text.bytes())?));
+        return Ok(Plan::Text(member_value(alloc, kind, key, text.bytes())?));
     }
     if has_param(params, b"sf") {
         let text = combined_text(alloc, field.message, field.side, field.name)?;
-        return Ok(Value::Text(strict_value(alloc, kind, text.bytes())?));
+        return Ok(Plan::Text(strict_value(alloc, kind, text.bytes())?));
     }
     if !is_ascii(field) {
         return Err(NoValue::Lacks(Lack::NotAscii));
     }
-    Ok(Value::Lines(field))
+    Ok(Plan::Combined(field))
 }
 
-/// The value of a field.
-fn field_value<'a, 'm>(
+/// How the value of a field is fed.
+fn field_plan<'a, 'm>(
     alloc: Global,
     field: NamedLines<'a, 'm>,
     kind: Option<FieldKind>,
     params: &Params,
-) -> Result<Value<'a, 'm>, NoValue>
-    ensures { KeepsRow (FieldRow params.now kind (field_lines field.entry) field.entry.name.now)
+) -> Result<Plan<'a, 'm>, NoValue>
+    ensures { PlansRow (FieldRow params.now kind (field_lines field.entry) field.entry.name.now)
         result }
 {
     if !is_there(field) {
         return Err(NoValue::Lacks(Lack::Absent));
     }
-    value_in_form(alloc, field, kind, params)
+    plan_in_form(alloc, field, kind, params)
 }
 
 /// The side whose lines a component is drawn from.
@@ -117,18 +118,18 @@ fn message_for<'a, 'm>(
     }
 }
 
-/// The value of a component.
-pub(crate) fn component_value<'a, 'm>(
+/// How the value of a component is fed.
+pub(crate) fn component_plan<'a, 'm>(
     alloc: Global,
     context: &Context<'a, 'm>,
     id: &'a ComponentId,
-) -> Result<Value<'a, 'm>, NoValue>
-    ensures { KeepsRow (ComesTo (context_of context.now) id.now) result }
+) -> Result<Plan<'a, 'm>, NoValue>
+    ensures { PlansRow (ComesTo (context_of context.now) id.now) result }
 {
     let message = message_for(context, &id.params)?;
     if !is_field_name(id.name.bytes()) {
-        let text = derived_value(alloc, message, context.scheme, id)?;
-        return Ok(Value::Text(text));
+        let value = derived_value(alloc, message, context.scheme, id)?;
+        return Ok(Plan::Derived(value));
     }
     let field = NamedLines {
         message,
@@ -136,5 +137,5 @@ pub(crate) fn component_value<'a, 'm>(
         name: id.name.bytes(),
     };
     let kind = context.types.kind_of(id.name.bytes());
-    field_value(alloc, field, kind, &id.params)
+    field_plan(alloc, field, kind, &id.params)
 }

@@ -11,12 +11,14 @@
 //! ```
 #![tactic(auto)]
 
+mod byte_sequence;
 mod context;
 mod covered;
 mod fault;
 mod field;
 mod laws;
 mod lines;
+mod plan;
 mod prepared;
 mod strict;
 

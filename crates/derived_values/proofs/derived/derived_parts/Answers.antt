@@ -1,6 +1,6 @@
 use Rattle.std.proofs.Common.{◌≡◌, sym, ap, ◌∙◌}
 use Rattle.derived_values.specs.Derived.{derived_of}
-use Rattle.derived_values.proofs.derived.derived_value.Goals as goal
+use Rattle.derived_values.proofs.derived.derived_parts.Goals as goal
 
 pub returns-in-Request : goal.returns-in-Request
 returns-in-Request c =
