@@ -1,15 +1,15 @@
 //! How the value of a component is fed, or how it lacks one.
 
-ghost use Rattle.std.specs.Prelude.{◌≡◌, Option, option_map, Ok, Err, MatchResult, codes};
+ghost use Rattle.std.specs.Prelude.{◌≡◌, Ok, Err, MatchResult};
 ghost use Rattle.framing.specs.Framings.{is_request};
 ghost use Rattle.msg_body.specs.Views.{message_of};
-ghost use Rattle.component_ids.specs.Table.{has_param};
-ghost use Rattle.component_ids.specs.Types.{kind_in};
+ghost use Rattle.msg_head.specs.Values.{combined_value};
 ghost use Rattle.component_values.specs.Context.{context_of};
-ghost use Rattle.component_values.specs.Values.{FormRow, FieldRow, ComesTo, side_of, member_key, message_for, related_message};
-ghost use Rattle.component_values.specs.tools.Rows.{PlansRow, field_lines};
+ghost use Rattle.component_values.specs.Values.{plain_value, FormRow, FieldRow, ComesTo, side_of, message_for, related_message};
+ghost use Rattle.component_values.specs.tools.Rows.{PlansRow, field_lines, form_meant};
 
 use crate::context::Context;
+use crate::form::{Form, form_of};
 use crate::lines::{NamedLines, is_ascii, is_there};
 use crate::plan::Plan;
 use crate::strict::{member_value, strict_value};
@@ -19,45 +19,42 @@ use field_values::combined_text;
 use framing::is_request;
 use msg_body::MessageView;
 use msg_head::Side;
-use sfv_text::{BareItem, Params};
+use sfv_text::Params;
 use std::alloc::Global;
 
-/// The key that the parameter `key` names.
-fn member_key(params: &Params) -> Option<&[u8]>
-    ensures { option_map (λ key. key.now) result ≡ member_key params.now }
+/// The combined value itself, which has to be ASCII.
+fn plain_plan<'a, 'm>(field: NamedLines<'a, 'm>) -> Result<Plan<'a, 'm>, NoValue>
+    ensures { PlansRow (λ answer. answer ≡ plain_value
+        (combined_value (field_lines field.entry) field.entry.name.now)) result }
 {
-    match params.find(b"key") {
-        Some(BareItem::Str(text)) => Some(text.bytes()),
-        _ => None,
-    }
-}
-
-/// How the value of a field that has lines is fed, in the form that the parameters ask for.
-fn plan_in_form<'a, 'm>(
-    alloc: Global,
-    field: NamedLines<'a, 'm>,
-    kind: Option<FieldKind>,
-    params: &Params,
-) -> Result<Plan<'a, 'm>, NoValue>
-    ensures { PlansRow (FormRow (has_param params.now (codes "bs")) (member_key params.now)
-        (has_param params.now (codes "sf")) kind (field_lines field.entry) field.entry.name.now)
-        result }
-{
-    if has_param(params, b"bs") {
-        return Ok(Plan::ByteSequences(field));
-    }
-    if let Some(key) = member_key(params) {
-        let text = combined_text(alloc, field.message, field.side, field.name)?;
-        return Ok(Plan::Text(member_value(alloc, kind, key, text.bytes())?));
-    }
-    if has_param(params, b"sf") {
-        let text = combined_text(alloc, field.message, field.side, field.name)?;
-        return Ok(Plan::Text(strict_value(alloc, kind, text.bytes())?));
-    }
     if !is_ascii(field) {
         return Err(NoValue::Lacks(Lack::NotAscii));
     }
     Ok(Plan::Combined(field))
+}
+
+/// How the value of a field that has lines is fed, in the form that is asked for.
+fn plan_in_form<'a, 'm>(
+    alloc: Global,
+    field: NamedLines<'a, 'm>,
+    kind: Option<FieldKind>,
+    form: Form<'_>,
+) -> Result<Plan<'a, 'm>, NoValue>
+    ensures { PlansRow (FormRow (form_meant form.entry) kind (field_lines field.entry)
+        field.entry.name.now) result }
+{
+    match form {
+        Form::ByteSequences => Ok(Plan::ByteSequences(field)),
+        Form::Member(key) => {
+            let text = combined_text(alloc, field.message, field.side, field.name)?;
+            Ok(Plan::Text(member_value(alloc, kind, key, text.bytes())?))
+        }
+        Form::Strict => {
+            let text = combined_text(alloc, field.message, field.side, field.name)?;
+            Ok(Plan::Text(strict_value(alloc, kind, text.bytes())?))
+        }
+        Form::Plain => plain_plan(field),
+    }
 }
 
 /// How the value of a field is fed.
@@ -73,7 +70,7 @@ fn field_plan<'a, 'm>(
     if !is_there(field) {
         return Err(NoValue::Lacks(Lack::Absent));
     }
-    plan_in_form(alloc, field, kind, params)
+    plan_in_form(alloc, field, kind, form_of(params))
 }
 
 /// The side whose lines a component is drawn from.

@@ -16,6 +16,7 @@ mod context;
 mod covered;
 mod fault;
 mod field;
+mod form;
 mod laws;
 mod lines;
 mod plan;

@@ -10,6 +10,9 @@ use Rattle.derived_values.specs.declared.lack.NoValue.TheVariants.{Memory, Lacks
 use Rattle.component_values.specs.declared.fault.ValueFault.{ValueFault}
 use Rattle.component_values.specs.declared.fault.ValueFault.TheVariants as fault
 use Rattle.component_values.specs.declared.lines.NamedLines.{NamedLines}
+use Rattle.component_values.specs.Forms as spec
+use Rattle.component_values.specs.declared.form.Form.{Form}
+use Rattle.component_values.specs.declared.form.Form.TheVariants as form
 use Rattle.component_values.specs.declared.plan.Plan.{Plan}
 use Rattle.component_values.specs.declared.plan.Plan.TheVariants as plan
 
@@ -30,6 +33,13 @@ abbrev pub PlansRow : (Result (List ℕ) Lack → Type 0) → Result Plan NoValu
 PlansRow Row (Ok found) = Row (Ok (planned_text found))
 PlansRow Row (Err (Lacks lack)) = Row (Err lack)
 PlansRow Row (Err Memory) = ⊤
+
+-- the form that the code's stands for
+abbrev pub form_meant : Form → spec.Form
+form_meant form.ByteSequences = spec.wrapped
+form_meant (form.Member key) = spec.member key.now
+form_meant form.Strict = spec.strict
+form_meant form.Plain = spec.plain
 
 -- the fault of the component at the index
 abbrev pub lack_fault_at : ℕ → NoValue → ValueFault
