@@ -20,7 +20,7 @@ use Rattle.component_ids.specs.Identifiers.{item_of, id_of, string_of, is_identi
 use Rattle.component_ids.specs.SignatureParams.{is_typed, IsParamsOf}
 use Rattle.component_ids.specs.Causes.{IsFirstBadComponent, IsFirstRepeated, IsFirstIllTyped, IsIdFault}
 use Rattle.component_ids.specs.tools.Reads.{AreIdentifiers}
-use Rattle.component_ids.specs.tools.SameTests.{is_same}
+use Rattle.component_ids.specs.Sameness.{is_same}
 use Rattle.byte_grammar.proofs.Indices.{some_and, find_failed}
 use Rattle.component_ids.proofs.RepeatedLaws.{distinct_more, first_repeated_is}
 use Rattle.component_ids.proofs.FaultLaws.{are_params, first_of}

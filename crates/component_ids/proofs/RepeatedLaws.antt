@@ -11,7 +11,7 @@ use Rattle.std.proofs.Math.ListN.{length-take}
 use Rattle.component_ids.specs.declared.id.ComponentId.{ComponentId}
 use Rattle.component_ids.specs.Identifiers.{IsSameId, AreDistinct}
 use Rattle.component_ids.specs.Causes.{IsFirstRepeated}
-use Rattle.component_ids.specs.tools.SameTests.{is_same}
+use Rattle.component_ids.specs.Sameness.{is_same}
 use Rattle.byte_grammar.proofs.Indices.{some_and, some_and_parts, slice_get_take}
 use Rattle.component_ids.proofs.SameLaws.{same_decides}
 

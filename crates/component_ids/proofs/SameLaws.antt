@@ -13,7 +13,7 @@ use Rattle.sfv_text.specs.Equality.{is_equal_param}
 use Rattle.sfv_text.proofs.EqualityLaws.{param_equal}
 use Rattle.component_ids.specs.declared.id.ComponentId.{ComponentId}
 use Rattle.component_ids.specs.Identifiers.{IsSameId}
-use Rattle.component_ids.specs.tools.SameTests.{is_among, are_among, is_same}
+use Rattle.component_ids.specs.Sameness.{is_among, are_among, is_same}
 
 -- a parameter that is there is found
 among : (params : List (Pair BareItem)) (param : Pair BareItem) → Contains params param → is_among params param ≡ true

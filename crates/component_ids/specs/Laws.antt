@@ -1,10 +1,20 @@
--- Laws of Inner Lists that are read as signature parameters.
-use Rattle.std.specs.Prelude.{◌≡◌, ◌⊎◌}
+-- Laws of identifiers, and of Inner Lists that are read as signature parameters.
+use Rattle.std.specs.Prelude.{◌≡◌, ◌⊎◌, ◌↔◌, IsTrue}
 use Rattle.sfv_text.specs.declared.value.InnerList.{InnerList}
 use Rattle.component_ids.specs.declared.fault.IdFault.{IdFault}
+use Rattle.component_ids.specs.declared.id.ComponentId.{ComponentId}
+use Rattle.component_ids.specs.Identifiers.{IsSameId}
+use Rattle.component_ids.specs.Sameness.{is_same}
 use Rattle.component_ids.specs.declared.params.SigParams.{SigParams}
 use Rattle.component_ids.specs.Causes.{IsIdFault}
 use Rattle.component_ids.specs.SignatureParams.{IsParamsOf}
+
+-- the test of sameness decides it
+abbrev pub SamenessIsTested : Type 0
+SamenessIsTested =
+    (one other : ComponentId) → IsTrue (is_same one other) ↔ IsSameId one other
+
+-- ---- lists
 
 -- an Inner List is signature parameters, or has a fault
 abbrev pub HasAnswer : Type 0

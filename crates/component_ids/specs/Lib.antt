@@ -1,6 +1,7 @@
 pub mod Table
 pub mod Reasons
 pub mod Identifiers
+pub mod Sameness
 pub mod SignatureParams
 pub mod Causes
 pub mod Laws

@@ -1,4 +1,3 @@
 pub mod Kinds
 pub mod Reads
 pub mod Rows
-pub mod SameTests

@@ -26,7 +26,7 @@ mod types;
 
 pub use fault::{BadReason, IdFault};
 pub use id::{ComponentId, Ids};
-pub use laws::a_list_has_one_answer;
+pub use laws::{a_list_has_one_answer, sameness_is_tested};
 pub use params::{MAX_COMPONENTS, SigParams, read_params};
 pub use print::{print_id, print_params};
 pub use same::same_id;

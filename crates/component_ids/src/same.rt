@@ -4,7 +4,7 @@ ghost use Rattle.std.specs.Prelude.{◌≡◌, ◌↔◌, IsTrue, IfSome, IfNone
 ghost use Rattle.std.specs.List.{list_any};
 ghost use Rattle.component_ids.specs.Causes.{IsFirstRepeated};
 ghost use Rattle.component_ids.specs.Identifiers.{IsSameId, AreDistinct};
-ghost use Rattle.component_ids.specs.tools.SameTests.{is_among, are_among, is_same};
+ghost use Rattle.component_ids.specs.Sameness.{is_among, are_among, is_same};
 
 use crate::id::ComponentId;
 use sfv_text::{BareItem, Pair, Params};

@@ -44,9 +44,11 @@ use Rattle.component_ids.specs.declared.id.ComponentId.{ComponentId}
 use Rattle.derived_values.specs.declared.lack.Lack.{Lack}
 use Rattle.derived_values.specs.declared.lack.Lack.TheVariants.{Absent, Underivable, NotAscii}
 use Rattle.component_values.specs.Context.{MessageContext}
+use Rattle.component_values.specs.Forms.{Form, form_of}
+use Rattle.component_values.specs.Forms as form
 use Rattle.derived_values.specs.Derived.{derived_of}
 use Rattle.component_values.specs.Laws.{is_value_byte, IsSpelled, HasMessages, HasCleanValues}
-use Rattle.component_values.specs.Values.{StrictRow, KindRow, MemberRow, KeyRow, plain_value, byte_sequences, member_key, FormRow, LineRow, side_of, related_message, message_for, NameRow, MessageRow}
+use Rattle.component_values.specs.Values.{StrictRow, KindRow, MemberRow, KeyRow, plain_value, byte_sequences, FormRow, LineRow, side_of, related_message, message_for, NameRow, MessageRow}
 use Rattle.component_values.proofs.DerivedValues.{derived_printable}
 use Rattle.byte_grammar.proofs.ListLaws.{all_joined, all_parts, all_reverse, all_filter, all_implied, all_both, all_flat, all_separated, all_split}
 
@@ -170,19 +172,18 @@ plain_clean text value all row = elim (cases_Bool (list_all is_ascii text)) [
   | inr other ↦ let is : Ok value ≡ Err NotAscii = rw other at row in absurd cc
 ]
 
-form_clean : (bs : Bool) (key : Option (List ℕ)) (sf : Bool) (known : Option FieldKind) (lines : List FieldLine) (name value : List ℕ) → list_all has_raw_bytes lines ≡ true
-    → FormRow bs key sf known lines name (Ok value) → IsClean value
-form_clean true key sf known lines name value all row =
+form_clean : (asked : Form) (known : Option FieldKind) (lines : List FieldLine) (name value : List ℕ) → list_all has_raw_bytes lines ≡ true
+    → FormRow asked known lines name (Ok value) → IsClean value
+form_clean form.wrapped known lines name value all row =
     let same : value ≡ byte_sequences (values lines name) = cc in rw same (sequences_clean (values lines name) (values_texts lines name all))
-form_clean false (Some key) sf known lines name value all row = key_clean known key (combined_value lines name) value row
-form_clean false None true known lines name value all row = kind_clean known (combined_value lines name) value row
-form_clean false None false known lines name value all row = plain_clean (combined_value lines name) value (combined lines name all) row
+form_clean (form.member key) known lines name value all row = key_clean known key (combined_value lines name) value row
+form_clean form.strict known lines name value all row = kind_clean known (combined_value lines name) value row
+form_clean form.plain known lines name value all row = plain_clean (combined_value lines name) value (combined lines name all) row
 
 line_clean : (there : Bool) (params : List (Pair BareItem)) (known : Option FieldKind) (lines : List FieldLine) (name value : List ℕ) → list_all has_raw_bytes lines ≡ true
     → LineRow there params known lines name (Ok value) → IsClean value
 line_clean false params known lines name value all row = absurd cc
-line_clean true params known lines name value all row =
-    form_clean (has_param params (codes "bs")) (member_key params) (has_param params (codes "sf")) known lines name value all row
+line_clean true params known lines name value all row = form_clean (form_of params) known lines name value all row
 
 -- ---- messages
 

@@ -14,12 +14,12 @@ use Rattle.derived_values.specs.declared.lack.NoValue.{NoValue}
 use Rattle.derived_values.specs.declared.lack.NoValue.TheVariants.{Memory, Lacks as NoValueLacks}
 use Rattle.component_values.specs.declared.fault.ValueFault.{ValueFault}
 use Rattle.component_values.specs.declared.fault.ValueFault.TheVariants as fault
-use Rattle.component_values.specs.declared.lines.Value.{Value}
+use Rattle.component_values.specs.declared.plan.Plan.{Plan}
 use Rattle.component_values.specs.declared.prepared.Prepared.{Prepared}
 use Rattle.component_values.specs.Context.{MessageContext}
 use Rattle.component_values.specs.Values.{ComesTo, Has, Lacks, HaveValues, IsFirstLack}
 use Rattle.component_values.specs.Laws.{HaveOrLack, HaveOneList}
-use Rattle.component_values.specs.tools.Rows.{KeepsRow, lack_fault_at, kept_text}
+use Rattle.component_values.specs.tools.Rows.{PlansRow, lack_fault_at, planned_text}
 use Rattle.component_values.specs.tools.Answered.{ExplainsPrepared, IsFaultOf}
 use Rattle.component_values.proofs.RowLaws.{has_or_lacks, has_one_value, lacks_in_one_way, lacks_no_value}
 
@@ -100,30 +100,30 @@ have_or_lack context (id ∷ ids) = by_first (has_or_lacks context id) (have_or_
 
 -- ---- what is kept
 
-pub values_more : (context : MessageContext) (ids : List ComponentId) (n : ℕ) (id : ComponentId) (values : List Value) (value : Value) → n < length ids → id ≡ get_or ids n id
-    → HaveValues context (take n ids) (map kept_text values) → Has context id (kept_text value) → HaveValues context (take (n + 1) ids) (map kept_text (values ++ value ∷ []))
+pub values_more : (context : MessageContext) (ids : List ComponentId) (n : ℕ) (id : ComponentId) (values : List Plan) (value : Plan) → n < length ids → id ≡ get_or ids n id
+    → HaveValues context (take n ids) (map planned_text values) → Has context id (planned_text value) → HaveValues context (take (n + 1) ids) (map planned_text (values ++ value ∷ []))
 values_more context ids n id values value lt is have one =
     let more : take (n + 1) ids ≡ take n ids ++ id ∷ [] = (take_at_read ids n id lt).1 ∙ ap (λ (d : ComponentId). take n ids ++ d ∷ []) (sym is) in
-    rw (more, map-append kept_text values (value ∷ [])) (have_more context (take n ids) (map kept_text values) id (kept_text value) have one)
+    rw (more, map-append planned_text values (value ∷ [])) (have_more context (take n ids) (map planned_text values) id (planned_text value) have one)
 
-pub first_lack_at : (context : MessageContext) (ids : List ComponentId) (n count : ℕ) (id : ComponentId) (lack : Lack) (values : List Value) → n < length ids → id ≡ get_or ids n id
-    → count ≡ length values → HaveValues context (take n ids) (map kept_text values) → Lacks context id lack → IsFirstLack context ids count lack
+pub first_lack_at : (context : MessageContext) (ids : List ComponentId) (n count : ℕ) (id : ComponentId) (lack : Lack) (values : List Plan) → n < length ids → id ≡ get_or ids n id
+    → count ≡ length values → HaveValues context (take n ids) (map planned_text values) → Lacks context id lack → IsFirstLack context ids count lack
 first_lack_at context ids n count id lack values lt is counted have lacks =
     let same : count ≡ n =
-    counted ∙ sym (length-map values kept_text) ∙ have_length context (take n ids) (map kept_text values) have ∙ omega (arith, length-take {A = ComponentId}) in
+    counted ∙ sym (length-map values planned_text) ∙ have_length context (take n ids) (map planned_text values) have ∙ omega (arith, length-take {A = ComponentId}) in
     rw same (record {
-      values = map kept_text values;
+      values = map planned_text values;
       before = have;
       there = some_and (λ id. Lacks context id lack) (slice_get ids n) id (slice_get-get_or ids n id lt ∙ ap Some (sym is)) lacks;
     })
 
-pub first_fault_at : (context : MessageContext) (ids : List ComponentId) (n count : ℕ) (id : ComponentId) (why : NoValue) (values : List Value) → n < length ids → id ≡ get_or ids n id
-    → count ≡ length values → HaveValues context (take n ids) (map kept_text values) → KeepsRow (ComesTo context id) (Err why) → IsFaultOf context ids (lack_fault_at count why)
+pub first_fault_at : (context : MessageContext) (ids : List ComponentId) (n count : ℕ) (id : ComponentId) (why : NoValue) (values : List Plan) → n < length ids → id ≡ get_or ids n id
+    → count ≡ length values → HaveValues context (take n ids) (map planned_text values) → PlansRow (ComesTo context id) (Err why) → IsFaultOf context ids (lack_fault_at count why)
 first_fault_at context ids n count id Memory values lt is counted have row = tt
 first_fault_at context ids n count id (NoValueLacks lack) values lt is counted have row = first_lack_at context ids n count id lack values lt is counted have row
 
-pub kept_count : (context : MessageContext) (ids : List ComponentId) (values : List Value) → HaveValues context ids (map kept_text values) → length values ≡ length ids
-kept_count context ids values have = sym (length-map values kept_text) ∙ have_length context ids (map kept_text values) have
+pub kept_count : (context : MessageContext) (ids : List ComponentId) (values : List Plan) → HaveValues context ids (map planned_text values) → length values ≡ length ids
+kept_count context ids values have = sym (length-map values planned_text) ∙ have_length context ids (map planned_text values) have
 
 -- the first lack is answered, and no other
 pub lacks_are : (context : MessageContext) (params : SigParams) (result : Result Prepared ValueFault) → ExplainsPrepared context params result → (index : ℕ) (lack : Lack)

@@ -4,5 +4,6 @@ pub mod RowLaws
 mod CleanLaws
 mod DerivedRows
 mod DerivedValues
+mod Encoded
 mod Sequences
 mod Unread

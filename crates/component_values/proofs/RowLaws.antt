@@ -1,6 +1,6 @@
 -- Each row has one answer.
 use Rattle.std.proofs.Common.{◌≡◌, ◌⊎◌, ℕ, Bool, true, false, List, Option, Some, None, Result, Ok, Err, inl, inr, refl, sym, ap, ◌∙◌}
-use Rattle.std.specs.Prelude.{IsSomeAnd, codes}
+use Rattle.std.specs.Prelude.{IsSomeAnd}
 use Rattle.sfv_text.specs.Keys.{value_of}
 use Rattle.sfv_text.specs.Strict.{item_text, list_text, dict_text, member_text}
 use Rattle.sfv_text.specs.declared.pair.Pair.{Pair}
@@ -14,7 +14,7 @@ use Rattle.msg_head.specs.Lines.{FieldLine}
 use Rattle.msg_body.specs.Messages.{Message}
 use Rattle.msg_body.specs.Views.{lines_on}
 use Rattle.msg_head.specs.Values.{values, combined_value, is_there}
-use Rattle.component_ids.specs.Table.{is_field_name, has_param}
+use Rattle.component_ids.specs.Table.{is_field_name}
 use Rattle.component_ids.specs.Types.{kind_in}
 use Rattle.component_ids.specs.declared.types.FieldKind.{FieldKind}
 use Rattle.component_ids.specs.declared.types.FieldKind.TheVariants as kind
@@ -22,9 +22,11 @@ use Rattle.component_ids.specs.declared.id.ComponentId.{ComponentId}
 use Rattle.derived_values.specs.declared.lack.Lack.{Lack}
 use Rattle.derived_values.specs.declared.lack.Lack.TheVariants.{Absent, Ambiguous, Underivable, Unreadable, NotAscii}
 use Rattle.component_values.specs.Context.{MessageContext}
+use Rattle.component_values.specs.Forms.{Form, form_of}
+use Rattle.component_values.specs.Forms as form
 use Rattle.derived_values.specs.Derived.{derived_of}
 use Rattle.component_values.specs.Laws.{HasOrLacks, HasOneValueOnly, LacksInOneWay, LacksNoValue}
-use Rattle.component_values.specs.Values.{StrictRow, KindRow, MemberRow, KeyRow, plain_value, byte_sequences, member_key, FormRow, LineRow, side_of, message_for, NameRow, MessageRow, ComesTo}
+use Rattle.component_values.specs.Values.{StrictRow, KindRow, MemberRow, KeyRow, plain_value, byte_sequences, FormRow, LineRow, side_of, message_for, NameRow, MessageRow, ComesTo}
 use Rattle.component_values.proofs.DerivedRows.{Answer, HasSoleAnswer, same, the_answer, derived_one}
 
 -- ---- structured values
@@ -102,16 +104,15 @@ key_one None key text = member_one key text
 
 -- ---- fields
 
-form_one : (bs : Bool) (key : Option (List ℕ)) (sf : Bool) (known : Option FieldKind) (lines : List FieldLine) (name : List ℕ) → HasSoleAnswer (FormRow bs key sf known lines name)
-form_one true key sf known lines name = the_answer (Ok (byte_sequences (values lines name)))
-form_one false (Some key) sf known lines name = key_one known key (combined_value lines name)
-form_one false None true known lines name = kind_one known (combined_value lines name)
-form_one false None false known lines name = the_answer (plain_value (combined_value lines name))
+form_one : (asked : Form) (known : Option FieldKind) (lines : List FieldLine) (name : List ℕ) → HasSoleAnswer (FormRow asked known lines name)
+form_one form.wrapped known lines name = the_answer (Ok (byte_sequences (values lines name)))
+form_one (form.member key) known lines name = key_one known key (combined_value lines name)
+form_one form.strict known lines name = kind_one known (combined_value lines name)
+form_one form.plain known lines name = the_answer (plain_value (combined_value lines name))
 
 line_one : (there : Bool) (params : List (Pair BareItem)) (known : Option FieldKind) (lines : List FieldLine) (name : List ℕ) → HasSoleAnswer (LineRow there params known lines name)
 line_one false params known lines name = the_answer (Err Absent)
-line_one true params known lines name =
-    form_one (has_param params (codes "bs")) (member_key params) (has_param params (codes "sf")) known lines name
+line_one true params known lines name = form_one (form_of params) known lines name
 
 -- ---- components
 

@@ -1,6 +1,7 @@
 -- Byte Sequences one after the other.
-use Rattle.std.proofs.Common.{◌≡◌, ℕ, true, false, List, [], ◌∷◌, ◌++◌, filter, map, codes, refl, sym, ap, ◌∙◌, append_assoc, append-nil}
+use Rattle.std.proofs.Common.{◌≡◌, ℕ, ◌==◌, true, false, List, [], ◌∷◌, ◌++◌, length, filter, map, codes, inl, inr, refl, sym, ap, ◌∙◌, append_assoc, append-nil, arith, length-append}
 use Rattle.std.specs.List.{flat_map}
+use Rattle.std.proofs.lemmas.Bool.{cases_Bool, eqb-true}
 use Rattle.std.proofs.lemmas.Grind.{flat_map-append}
 use Rattle.std.proofs.lemmas.List.{map-append}
 use Rattle.std.proofs.lemmas.List.Elements.{filter-append}
@@ -10,20 +11,31 @@ use Rattle.msg_head.specs.Names.{has_name}
 use Rattle.msg_head.specs.Values.{value, values}
 use Rattle.component_values.specs.Values.{byte_sequences}
 
--- where no text stands, no value was added yet
-pub first_sequence : (texts : List (List ℕ)) (bytes : List ℕ) → [] ≡ byte_sequences texts → [] ++ bytes_text bytes ≡ byte_sequences (texts ++ bytes ∷ [])
-first_sequence [] bytes none = sym (append-nil (bytes_text bytes))
-first_sequence (first ∷ others) bytes none = absurd cc
+-- the first one
+pub first_sequence : (text : List ℕ) (values : List (List ℕ)) (bytes : List ℕ) → true ≡ (length values == 0)
+    → (text ++ byte_sequences values) ++ bytes_text bytes ≡ text ++ byte_sequences (values ++ bytes ∷ [])
+first_sequence text [] bytes none = append_assoc text [] (bytes_text bytes) ∙ ap (λ (t : List ℕ). text ++ t) (sym (append-nil (bytes_text bytes)))
+first_sequence text (first ∷ others) bytes none = absurd (omega (arith, eqb-true (length (first ∷ others)) 0 (sym none)))
 
-pub next_sequence : (texts : List (List ℕ)) (bytes : List ℕ) (c : ℕ) (rest : List ℕ) → c ∷ rest ≡ byte_sequences texts
-    → ((c ∷ rest) ++ codes ", ") ++ bytes_text bytes ≡ byte_sequences (texts ++ bytes ∷ [])
-next_sequence [] bytes c rest some = absurd cc
-next_sequence (first ∷ others) bytes c rest some =
+-- a further one
+pub next_sequence : (text : List ℕ) (values : List (List ℕ)) (bytes : List ℕ) → false ≡ (length values == 0)
+    → ((text ++ byte_sequences values) ++ codes ", ") ++ bytes_text bytes ≡ text ++ byte_sequences (values ++ bytes ∷ [])
+next_sequence text [] bytes some = absurd cc
+next_sequence text (first ∷ others) bytes some =
     let f = λ (t : List ℕ). codes ", " ++ bytes_text t in
-    ap (λ t. (t ++ codes ", ") ++ bytes_text bytes) some
-    ∙ append_assoc (bytes_text first ++ flat_map f others) (codes ", ") (bytes_text bytes)
-    ∙ append_assoc (bytes_text first) (flat_map f others) (codes ", " ++ bytes_text bytes)
-    ∙ ap (λ t. bytes_text first ++ t) (ap (λ t. flat_map f others ++ t) (sym (append-nil (f bytes))) ∙ sym (flat_map-append f others (bytes ∷ [])))
+    regroup_four text (bytes_text first ++ flat_map f others) (codes ", ") (bytes_text bytes)
+    ∙ ap (λ (t : List ℕ). text ++ t) (append_assoc (bytes_text first) (flat_map f others) (codes ", " ++ bytes_text bytes)
+    ∙ ap (λ (t : List ℕ). bytes_text first ++ t) (ap (λ (t : List ℕ). flat_map f others ++ t) (sym (append-nil (f bytes))) ∙ sym (flat_map-append f others (bytes ∷ []))))
+  where
+    regroup_four : (a b c d : List ℕ) → ((a ++ b) ++ c) ++ d ≡ a ++ (b ++ (c ++ d))
+    regroup_four a b c d = simp append_assoc
+
+-- then it isn't the first any more
+pub not_first : (values : List (List ℕ)) (bytes : List ℕ) → false ≡ (length (values ++ bytes ∷ []) == 0)
+not_first values bytes = elim (cases_Bool (length (values ++ bytes ∷ []) == 0)) [
+  | inl none ↦ absurd (omega (arith, eqb-true (length (values ++ bytes ∷ [])) 0 none, length-append {A = List ℕ}))
+  | inr some ↦ sym some
+]
 
 -- one more line, of the name or of another
 pub values_named : (done : List FieldLine) (line : FieldLine) (name : List ℕ) → has_name name line ≡ true

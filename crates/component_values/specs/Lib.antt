@@ -1,4 +1,5 @@
 pub mod Context
+pub mod Forms
 pub mod Values
 pub mod Words
 pub mod Laws

@@ -1,6 +1,6 @@
 -- The value of a component, or how it lacks one: a table of rows, of which the first that applies
 -- says what the component comes to (RFC 9421 sections 2.1 and 2.4).
-use Rattle.std.specs.Prelude.{◌≡◌, ⊤, ℕ, Bool, true, false, Option, Some, None, option_and_then, ok_or, List, [], ◌∷◌, take, slice_get, IsSomeAnd, Result, Ok, Err, codes, if◌then◌else◌}
+use Rattle.std.specs.Prelude.{◌≡◌, ⊤, ℕ, Bool, true, false, Option, Some, None, ok_or, List, [], ◌∷◌, take, slice_get, IsSomeAnd, Result, Ok, Err, codes, if◌then◌else◌}
 use Rattle.std.specs.Char.{is_ascii}
 use Rattle.std.specs.List.{join_by, list_all}
 use Rattle.sfv_text.specs.Keys.{value_of}
@@ -24,7 +24,8 @@ use Rattle.component_ids.specs.declared.id.ComponentId.{ComponentId}
 use Rattle.derived_values.specs.declared.lack.Lack.{Lack}
 use Rattle.derived_values.specs.declared.lack.Lack.TheVariants.{Absent, Underivable, Unreadable, NotAscii}
 use Rattle.component_values.specs.Context.{MessageContext}
-use Rattle.sfv_text.specs.Parts.{string_in}
+use Rattle.component_values.specs.Forms.{Form, form_of}
+use Rattle.component_values.specs.Forms as form
 use Rattle.derived_values.specs.Derived.{DerivedRow, derived_of}
 
 -- ---- structured values
@@ -70,28 +71,21 @@ plain_value text = if list_all is_ascii text then Ok text else Err NotAscii
 abbrev pub byte_sequences : List (List ℕ) → List ℕ
 byte_sequences texts = join_by bytes_text (codes ", ") texts
 
--- the key that the parameter `key` names
-abbrev pub member_key : List (Pair BareItem) → Option (List ℕ)
-member_key params = option_and_then string_in (value_of params (codes "key"))
-
--- the form of the value that the parameters ask for: `bs`, or `key`, or `sf`, or none of them
-abbrev pub FormRow : Bool → Option (List ℕ) → Bool → Option FieldKind → List FieldLine → List ℕ
-    → Result (List ℕ) Lack → Type 0
-FormRow true key sf kind lines name result = result ≡ Ok (byte_sequences (values lines name))
-FormRow false (Some key) sf kind lines name result =
+-- by the form that the parameters ask for
+abbrev pub FormRow : Form → Option FieldKind → List FieldLine → List ℕ → Result (List ℕ) Lack
+    → Type 0
+FormRow form.wrapped kind lines name result = result ≡ Ok (byte_sequences (values lines name))
+FormRow (form.member key) kind lines name result =
     KeyRow kind key (combined_value lines name) result
-FormRow false None true kind lines name result =
-    KindRow kind (combined_value lines name) result
-FormRow false None false kind lines name result =
-    result ≡ plain_value (combined_value lines name)
+FormRow form.strict kind lines name result = KindRow kind (combined_value lines name) result
+FormRow form.plain kind lines name result = result ≡ plain_value (combined_value lines name)
 
--- a field without a line is absent
+-- by whether a line has the name: a field without a line is absent
 abbrev pub LineRow : Bool → List (Pair BareItem) → Option FieldKind → List FieldLine → List ℕ
     → Result (List ℕ) Lack → Type 0
 LineRow false params kind lines name result = result ≡ Err Absent
 LineRow true params kind lines name result =
-    FormRow (has_param params (codes "bs")) (member_key params) (has_param params (codes "sf"))
-    kind lines name result
+    FormRow (form_of params) kind lines name result
 
 abbrev pub FieldRow : List (Pair BareItem) → Option FieldKind → List FieldLine → List ℕ
     → Result (List ℕ) Lack → Type 0
@@ -115,7 +109,7 @@ abbrev pub message_for : MessageContext → List (Pair BareItem) → Result Mess
 message_for context params =
     if has_param params (codes "req") then related_message context else Ok context.message
 
--- by the name: a field, or a derived component
+-- by whether the name is a field name: a field, or a derived component
 abbrev pub NameRow : Bool → MessageContext → ComponentId → Message → Result (List ℕ) Lack → Type 0
 NameRow true context id message result =
     FieldRow id.params (kind_in context.types id.name) (lines_on (side_of id.params) message)

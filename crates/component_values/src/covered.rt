@@ -8,37 +8,37 @@ ghost use Rattle.component_ids.specs.SignatureParams.{are_sig_params_in_range};
 ghost use Rattle.derived_values.specs.declared.lack.Lack.{Lack};
 ghost use Rattle.component_values.specs.Context.{context_of};
 ghost use Rattle.component_values.specs.Values.{HaveValues, IsFirstLack};
-ghost use Rattle.component_values.specs.tools.Rows.{kept_text};
+ghost use Rattle.component_values.specs.tools.Rows.{planned_text};
 ghost use Rattle.component_values.specs.tools.Answered.{ExplainsPrepared, IsFaultOf};
 
 use crate::context::Context;
 use crate::fault::{ValueFault, lack_fault};
-use crate::field::component_value;
-use crate::lines::Value;
+use crate::field::component_plan;
+use crate::plan::Plan;
 use crate::prepared::Prepared;
 use component_ids::{ComponentId, SigParams, print_id, print_params};
 use sfv_text::{Memory, Sequence, Text};
 use std::alloc::Global;
 
-/// The value of each component, or the first that lacks one.
-fn values_of<'a, 'm>(
+/// How the value of each component is fed, or the first that lacks one.
+fn plans_of<'a, 'm>(
     alloc: Global,
     context: &Context<'a, 'm>,
     ids: &'a [ComponentId],
-) -> Result<Sequence<Value<'a, 'm>>, ValueFault>
-    ensures ok { IfOk result (λ values.
-        HaveValues (context_of context.now) ids.now (map kept_text values)) }
+) -> Result<Sequence<Plan<'a, 'm>>, ValueFault>
+    ensures ok { IfOk result (λ plans.
+        HaveValues (context_of context.now) ids.now (map planned_text plans)) }
     ensures fault { IfErr result (λ fault.
         IsFaultOf (context_of context.now) ids.now fault) }
 {
-    let mut values = Sequence::new(alloc);
+    let mut plans = Sequence::new(alloc);
     for id in ids {
-        match component_value(alloc, context, id) {
-            Ok(value) => values.push(value)?,
-            Err(why) => return Err(lack_fault(values.len(), why)),
+        match component_plan(alloc, context, id) {
+            Ok(plan) => plans.push(plan)?,
+            Err(why) => return Err(lack_fault(plans.len(), why)),
         }
     }
-    Ok(values)
+    Ok(plans)
 }
 
 /// The strict text of each identifier.
@@ -63,12 +63,12 @@ fn prepare_components<'a, 'm>(
     requires in_range { IsTrue (are_sig_params_in_range params.now) }
     ensures { ExplainsPrepared (context_of context.now) params.now result }
 {
-    let values = values_of(alloc, context, params.ids.as_slice())?;
+    let plans = plans_of(alloc, context, params.ids.as_slice())?;
     let id_texts = id_texts(alloc, params.ids.as_slice())?;
     let params_text = print_params(alloc, params)?;
     Ok(Prepared {
         params,
-        values,
+        plans,
         id_texts,
         params_text,
     })

@@ -1,16 +1,17 @@
-//! The value of a component, or how it lacks one.
+//! How the value of a component is fed, or how it lacks one.
 
-ghost use Rattle.std.specs.Prelude.{◌≡◌, Option, Ok, Err, MatchResult, codes};
+ghost use Rattle.std.specs.Prelude.{◌≡◌, Ok, Err, MatchResult};
 ghost use Rattle.framing.specs.Framings.{is_request};
 ghost use Rattle.msg_body.specs.Views.{message_of};
-ghost use Rattle.component_ids.specs.Table.{has_param};
-ghost use Rattle.component_ids.specs.Types.{kind_in};
+ghost use Rattle.msg_head.specs.Values.{combined_value};
 ghost use Rattle.component_values.specs.Context.{context_of};
-ghost use Rattle.component_values.specs.Values.{FormRow, FieldRow, ComesTo, side_of, member_key, message_for, related_message};
-ghost use Rattle.component_values.specs.tools.Rows.{KeepsRow, field_lines};
+ghost use Rattle.component_values.specs.Values.{plain_value, FormRow, FieldRow, ComesTo, side_of, message_for, related_message};
+ghost use Rattle.component_values.specs.tools.Rows.{PlansRow, field_lines, form_meant};
 
 use crate::context::Context;
-use crate::lines::{NamedLines, Value, byte_sequences, is_ascii, is_there};
+use crate::form::{Form, form_of};
+use crate::lines::{NamedLines, is_ascii, is_there};
+use crate::plan::Plan;
 use crate::strict::{member_value, strict_value};
 use component_ids::{ComponentId, FieldKind, has_param, is_field_name};
 use derived_values::{Lack, NoValue, derived_value};
@@ -21,48 +22,55 @@ use msg_head::Side;
 use sfv_text::Params;
 use std::alloc::Global;
 
-/// The value of a field that has lines, in the form that the parameters ask for.
-fn value_in_form<'a, 'm>(
-    alloc: Global,
-    field: NamedLines<'a, 'm>,
-    kind: Option<FieldKind>,
-    params: &Params,
-) -> Result<Value<'a, 'm>, NoValue>
-    ensures { KeepsRow (FormRow (has_param params.now (codes "bs")) (member_key params.now)
-        (has_param params.now (codes "sf")) kind (field_lines field.entry) field.entry.name.now)
-        result }
+/// The combined value itself, which has to be ASCII.
+fn plain_plan<'a, 'm>(field: NamedLines<'a, 'm>) -> Result<Plan<'a, 'm>, NoValue>
+    ensures { PlansRow (λ answer. answer ≡ plain_value
+        (combined_value (field_lines field.entry) field.entry.name.now)) result }
 {
-    if has_param(params, b"bs") {
-        return Ok(Value::Text(byte_sequences(alloc, field)?));
-    }
-    if let Some(key) = params.string(b"key") {
-        let text = combined_text(alloc, field.message, field.side, field.name)?;
-        return Ok(Value::Text(member_value(alloc, kind, key.bytes(), text.bytes())?));
-    }
-    if has_param(params, b"sf") {
-        let text = combined_text(alloc, field.message, field.side, field.name)?;
-        return Ok(Value::Text(strict_value(alloc, kind, text.bytes())?));
-    }
     if !is_ascii(field) {
         return Err(NoValue::Lacks(Lack::NotAscii));
     }
-    Ok(Value::Lines(field))
+    Ok(Plan::Combined(field))
 }
 
-/// The value of a field.
-fn field_value<'a, 'm>(
+/// How the value of a field that has lines is fed, in the form that is asked for.
+fn plan_in_form<'a, 'm>(
+    alloc: Global,
+    field: NamedLines<'a, 'm>,
+    kind: Option<FieldKind>,
+    form: Form<'_>,
+) -> Result<Plan<'a, 'm>, NoValue>
+    ensures { PlansRow (FormRow (form_meant form.entry) kind (field_lines field.entry)
+        field.entry.name.now) result }
+{
+    match form {
+        Form::ByteSequences => Ok(Plan::ByteSequences(field)),
+        Form::Member(key) => {
+            let text = combined_text(alloc, field.message, field.side, field.name)?;
+            Ok(Plan::Text(member_value(alloc, kind, key, text.bytes())?))
+        }
+        Form::Strict => {
+            let text = combined_text(alloc, field.message, field.side, field.name)?;
+            Ok(Plan::Text(strict_value(alloc, kind, text.bytes())?))
+        }
+        Form::Plain => plain_plan(field),
+    }
+}
+
+/// How the value of a field is fed.
+fn field_plan<'a, 'm>(
     alloc: Global,
     field: NamedLines<'a, 'm>,
     kind: Option<FieldKind>,
     params: &Params,
-) -> Result<Value<'a, 'm>, NoValue>
-    ensures { KeepsRow (FieldRow params.now kind (field_lines field.entry) field.entry.name.now)
+) -> Result<Plan<'a, 'm>, NoValue>
+    ensures { PlansRow (FieldRow params.now kind (field_lines field.entry) field.entry.name.now)
         result }
 {
     if !is_there(field) {
         return Err(NoValue::Lacks(Lack::Absent));
     }
-    value_in_form(alloc, field, kind, params)
+    plan_in_form(alloc, field, kind, form_of(params))
 }
 
 /// The side whose lines a component is drawn from.
@@ -107,18 +115,18 @@ fn message_for<'a, 'm>(
     }
 }
 
-/// The value of a component.
-pub(crate) fn component_value<'a, 'm>(
+/// How the value of a component is fed.
+pub(crate) fn component_plan<'a, 'm>(
     alloc: Global,
     context: &Context<'a, 'm>,
     id: &'a ComponentId,
-) -> Result<Value<'a, 'm>, NoValue>
-    ensures { KeepsRow (ComesTo (context_of context.now) id.now) result }
+) -> Result<Plan<'a, 'm>, NoValue>
+    ensures { PlansRow (ComesTo (context_of context.now) id.now) result }
 {
     let message = message_for(context, &id.params)?;
     if !is_field_name(id.name.bytes()) {
-        let text = derived_value(alloc, message, context.scheme, id)?;
-        return Ok(Value::Text(text));
+        let value = derived_value(alloc, message, context.scheme, id)?;
+        return Ok(Plan::Derived(value));
     }
     let field = NamedLines {
         message,
@@ -126,5 +134,5 @@ pub(crate) fn component_value<'a, 'm>(
         name: id.name.bytes(),
     };
     let kind = context.types.kind_of(id.name.bytes());
-    field_value(alloc, field, kind, &id.params)
+    field_plan(alloc, field, kind, &id.params)
 }

@@ -11,12 +11,15 @@
 //! ```
 #![tactic(auto)]
 
+mod byte_sequence;
 mod context;
 mod covered;
 mod fault;
 mod field;
+mod form;
 mod laws;
 mod lines;
+mod plan;
 mod prepared;
 mod strict;
 

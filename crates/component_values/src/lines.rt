@@ -1,18 +1,17 @@
-//! The lines of a field, and what is kept of a value.
+//! The lines of a field, and what is fed of them.
 
-ghost use Rattle.std.specs.Prelude.{◌≡◌, ◌++◌, ◌∷◌, [], ℕ, List, IfOk, OnOk};
+ghost use Rattle.std.specs.Prelude.{◌≡◌, ◌==◌, ◌++◌, ◌∷◌, [], ℕ, List, length};
 ghost use Rattle.std.specs.Char.{is_ascii};
 ghost use Rattle.std.specs.List.{list_all};
 ghost use Rattle.msg_head.specs.Values.{value, values, combined_value, is_there};
 ghost use Rattle.component_values.specs.Values.{byte_sequences};
-ghost use Rattle.component_values.specs.tools.Rows.{field_lines, kept_text};
+ghost use Rattle.component_values.specs.tools.Rows.{field_lines};
 
-use crate::strict::append_byte_sequence;
+use crate::byte_sequence::feed_byte_sequence;
 use field_values::{combined_pieces, count_lines};
 use msg_body::MessageView;
 use msg_head::{LineView, Side};
-use sfv_text::{Absorb, Memory, Text};
-use std::alloc::Global;
+use sfv_text::Absorb;
 
 /// The lines of a message's side that have a name.
 #[derive(Clone, Copy)]
@@ -21,15 +20,6 @@ pub(crate) struct NamedLines<'a, 'm> {
     pub side: Side,
     /// In lower case.
     pub name: &'a [u8],
-}
-
-/// What is kept of a value.
-#[derive(Drop)]
-pub(crate) enum Value<'a, 'm> {
-    /// It is the combined value of these lines.
-    Lines(NamedLines<'a, 'm>),
-    /// The value itself.
-    Text(Text),
 }
 
 /// Whether there is a line.
@@ -53,7 +43,7 @@ pub(crate) fn is_ascii(field: NamedLines<'_, '_>) -> bool
 }
 
 /// Feeds the combined value.
-fn feed_combined<A: Absorb>(field: NamedLines<'_, '_>, into: &mut A)
+pub(crate) fn feed_combined<A: Absorb>(field: NamedLines<'_, '_>, into: &mut A)
     ensures { (text : List ℕ) → A.absorbed into.old text → A.absorbed into.new
         (text ++ combined_value (field_lines field.entry) field.entry.name.now) }
 {
@@ -62,52 +52,32 @@ fn feed_combined<A: Absorb>(field: NamedLines<'_, '_>, into: &mut A)
     }
 }
 
-/// Feeds a value.
-pub(crate) fn feed_value<A: Absorb>(value: &Value<'_, '_>, into: &mut A)
-    ensures { (text : List ℕ) → A.absorbed into.old text
-        → A.absorbed into.new (text ++ kept_text value.now) }
+/// Feeds the value of one more line as a Byte Sequence, after a comma and a space where others come
+/// before it.
+fn feed_next_sequence<A: Absorb>(is_first: bool, line: LineView<'_>, into: &mut A)
+    ensures { (text : List ℕ) (values : List (List ℕ)) → is_first ≡ (length values == 0)
+        → A.absorbed into.old (text ++ byte_sequences values) → A.absorbed into.new
+        (text ++ byte_sequences (values ++ value line.entry.raw.now ∷ [])) }
 {
-    match value {
-        Value::Lines(field) => feed_combined(*field, into),
-        Value::Text(text) => into.absorb(text.bytes()),
+    if is_first {
+        feed_byte_sequence(line, into);
+        return;
     }
+    into.absorb(b", ");
+    feed_byte_sequence(line, into);
 }
 
-/// The value of one line.
-fn line_text(alloc: Global, line: LineView<'_>) -> Result<Text, Memory>
-    ensures { IfOk result (λ text. text ≡ value line.entry.raw.now) }
+/// Feeds the value of each line as a Byte Sequence, with a comma and a space between them (RFC 9421
+/// section 2.1.3).
+pub(crate) fn feed_byte_sequences<A: Absorb>(field: NamedLines<'_, '_>, into: &mut A)
+    ensures { (text : List ℕ) → A.absorbed into.old text → A.absorbed into.new
+        (text ++ byte_sequences (values (field_lines field.entry) field.entry.name.now)) }
 {
-    let mut text = Text::new(alloc);
-    for piece in line.value_pieces() {
-        text.append(piece)?;
-    }
-    Ok(text)
-}
-
-/// Adds one more Byte Sequence, after a comma and a space where others stand before it.
-#[tactic(auto, using(crate::proofs::Sequences::first_sequence, crate::proofs::Sequences::next_sequence))]
-fn add_byte_sequence(alloc: Global, bytes: &[u8], text: &mut Text) -> Result<(), Memory>
-    ensures { OnOk result ((texts : List (List ℕ)) → text.old ≡ byte_sequences texts
-        → text.new ≡ byte_sequences (texts ++ bytes.now ∷ [])) }
-{
-    if text.bytes().is_empty() {
-        return append_byte_sequence(alloc, bytes, text);
-    }
-    text.append(b", ")?;
-    append_byte_sequence(alloc, bytes, text)
-}
-
-/// The value of each line as a Byte Sequence, joined by a comma and a space.
-pub(crate) fn byte_sequences(alloc: Global, field: NamedLines<'_, '_>) -> Result<Text, Memory>
-    ensures { IfOk result (λ text. text
-        ≡ byte_sequences (values (field_lines field.entry) field.entry.name.now)) }
-{
-    let mut text = Text::new(alloc);
+    let mut is_first = true;
     for line in field.message.lines(field.side) {
         if line.is_named(field.name) {
-            let value = line_text(alloc, line)?;
-            add_byte_sequence(alloc, value.bytes(), &mut text)?;
+            feed_next_sequence(is_first, line, into);
+            is_first = false;
         }
     }
-    Ok(text)
 }

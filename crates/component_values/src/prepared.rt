@@ -4,7 +4,7 @@ ghost use Rattle.std.specs.Prelude.{◌≡◌, ◌↔◌, ◌<◌, ◌++◌, IsT
 ghost use Rattle.component_ids.specs.Identifiers.{id_text};
 ghost use Rattle.component_ids.specs.SignatureParams.{sig_params_text};
 
-use crate::lines::{Value, feed_value};
+use crate::plan::Plan;
 use component_ids::SigParams;
 use sfv_text::{Absorb, Sequence, Text};
 use std::marker::Model;
@@ -14,7 +14,7 @@ use std::marker::Model;
 #[derive(Drop)]
 pub struct Prepared<'a, 'm> {
     pub(crate) params: &'a SigParams,
-    pub(crate) values: Sequence<Value<'a, 'm>>,
+    pub(crate) plans: Sequence<Plan<'a, 'm>>,
     pub(crate) id_texts: Sequence<Text>,
     pub(crate) params_text: Text,
 }
@@ -24,18 +24,18 @@ impl<'a, 'm> Model for Prepared<'a, 'm> {
     ghost use Rattle.component_ids.specs.Identifiers.{id_text};
     ghost use Rattle.component_ids.specs.SignatureParams.{sig_params_text};
     ghost use Rattle.component_values.specs.Views.{PreparedParts};
-    ghost use Rattle.component_values.specs.tools.Rows.{kept_text};
+    ghost use Rattle.component_values.specs.tools.Rows.{planned_text};
 
     ghost Value = { PreparedParts };
 
     ghost view = { λ p. record {
       params = p.params.now;
-      values = map kept_text p.values;
+      values = map planned_text p.plans;
     } };
 
     ghost invariant = { λ p. (p.id_texts ≡ map id_text p.params.now.ids)
         × (p.params_text ≡ sig_params_text p.params.now)
-        × (length p.values ≡ length p.params.now.ids) };
+        × (length p.plans ≡ length p.params.now.ids) };
 }
 
 impl<'a, 'm> Prepared<'a, 'm> {
@@ -44,14 +44,14 @@ impl<'a, 'm> Prepared<'a, 'm> {
         ensures is { result ≡ length self.now.values }
         ensures each { result ≡ length self.now.params.ids }
     {
-        self.values.len()
+        self.plans.len()
     }
 
     /// Whether there is none.
     pub fn is_empty(&self) -> bool
         ensures { IsTrue result ↔ (self.now.values ≡ []) }
     {
-        self.values.is_empty()
+        self.plans.is_empty()
     }
 
     /// The strict text of the component's identifier (RFC 9421 section 2.5).
@@ -75,6 +75,6 @@ impl<'a, 'm> Prepared<'a, 'm> {
         ensures { (text : List ℕ) → A.absorbed into.old text
             → A.absorbed into.new (text ++ slice_index_or self.now.values index []) }
     {
-        feed_value(self.values.get(index), into);
+        self.plans.get(index).feed(into);
     }
 }

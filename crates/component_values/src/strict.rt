@@ -1,7 +1,7 @@
 //! The strict texts of structured values.
 
-ghost use Rattle.std.specs.Prelude.{◌≡◌, ◌++◌, Option, Some, None, OnOk};
-ghost use Rattle.sfv_text.specs.Strict.{item_text, list_text, dict_text, bytes_text};
+ghost use Rattle.std.specs.Prelude.{◌≡◌, Option, Some, None};
+ghost use Rattle.sfv_text.specs.Strict.{item_text, list_text, dict_text};
 ghost use Rattle.sfv_read.specs.Reads.{ReadsItem, ReadsList, ReadsDict};
 ghost use Rattle.component_values.specs.Values.{StrictRow, KindRow, MemberRow, KeyRow};
 ghost use Rattle.derived_values.specs.Answers.{AnswersRow};
@@ -9,23 +9,8 @@ ghost use Rattle.derived_values.specs.Answers.{AnswersRow};
 use component_ids::FieldKind;
 use derived_values::{Lack, NoValue};
 use sfv_read::{read_dict, read_item, read_list};
-use sfv_text::{
-    BareItem, Memory, Text, print_bare, print_dict, print_item, print_list, print_member,
-};
+use sfv_text::{Text, print_dict, print_item, print_list, print_member};
 use std::alloc::Global;
-
-/// Adds the bytes as a Byte Sequence (RFC 9651 section 4.1.8).
-pub(crate) fn append_byte_sequence(
-    alloc: Global,
-    bytes: &[u8],
-    text: &mut Text,
-) -> Result<(), Memory>
-    ensures { OnOk result (text.new ≡ text.old ++ bytes_text bytes.now) }
-{
-    let bare = BareItem::Bytes(Text::from_bytes(alloc, bytes)?);
-    let printed = print_bare(alloc, &bare)?;
-    text.append(printed.bytes())
-}
 
 #[tactic(auto, using(crate::proofs::Unread::unread))]
 fn strict_item(alloc: Global, text: &[u8]) -> Result<Text, NoValue>

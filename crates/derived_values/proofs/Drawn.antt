@@ -1,31 +1,20 @@
 -- What is drawn from a request, from what its parts answer.
-use Rattle.std.proofs.Common.{◌≡◌, ℕ, Bool, true, false, List, Option, Some, None, Result, Ok, Err, refl, sym, subst, inl, inr}
-use Rattle.std.proofs.lemmas.Bool.{cases_Bool}
-use Rattle.targets.specs.Targets.{TargetParts, has_path, path_of}
-use Rattle.targets.specs.Authorities.{AuthorityParts, IsAuthorityFor, IsAuthorityValue, authority_text}
-use Rattle.derived_values.specs.declared.lack.Lack.{Lack}
-use Rattle.derived_values.specs.declared.lack.NoValue.{NoValue}
-use Rattle.derived_values.specs.declared.lack.NoValue.TheVariants.{Memory, Lacks}
-use Rattle.derived_values.specs.Derived.{RequestParts, scheme_of, named_authority, AuthorityRow, TargetAuthorityRow, TargetUriRow}
-use Rattle.derived_values.specs.Answers.{AnswersRow}
+use Rattle.std.proofs.Common.{◌≡◌, ℕ, false, List, Ok, Err, refl, sym, ◌∙◌}
+use Rattle.std.specs.Str.{str_to_ascii_lowercase}
+use Rattle.std.specs.List.{list_all}
+use Rattle.std.proofs.lemmas.Bool.{false≢true}
+use Rattle.byte_grammar.specs.Classes.{is_visible}
+use Rattle.targets.specs.Authorities.{AuthorityParts, IsAuthorityFor, authority_text}
+use Rattle.targets.proofs.Schemes.{scheme_in_any_case}
+use Rattle.targets.proofs.Visible.{has_visible_text}
+use Rattle.derived_values.specs.declared.lack.Lack.TheVariants.{Underivable}
+use Rattle.derived_values.specs.Derived.{AuthorityRow}
 
-abbrev named_as : List ℕ → Result (List ℕ) Lack
-named_as text = Ok text
+-- the scheme may be written in any case
+pub authority_found : (scheme text : List ℕ) (authority : AuthorityParts) → IsAuthorityFor scheme text authority
+    → AuthorityRow (str_to_ascii_lowercase scheme) (Ok text) (Ok (authority_text authority))
+authority_found scheme text authority is = (authority, scheme_in_any_case scheme text authority is, refl)
 
-pub authority_found : (parts : RequestParts) (target : TargetParts) (named scheme text : List ℕ) (authority : AuthorityParts) → named_as named ≡ named_authority parts target.authority
-    → scheme ≡ scheme_of parts target → IsAuthorityFor scheme named authority → text ≡ authority_text authority → TargetAuthorityRow parts target (Ok text)
-authority_found parts target named scheme text authority names is found printed =
-    subst (λ (answer : Result (List ℕ) Lack). AuthorityRow (scheme_of parts target) answer (Ok text)) names
-    (subst (λ (s : List ℕ). IsAuthorityValue s named text) is (authority, found, printed))
-
--- a target with a path is of a form that has one
-pub path_there : (target : TargetParts) (path : List ℕ) → Some path ≡ path_of target → has_path target.form ≡ true
-path_there target path some = elim (cases_Bool (has_path target.form)) [
-  | inl has ↦ has
-  | inr none ↦ let e = rw none at some in absurd cc
-]
-
-pub uri_lacks : (parts : RequestParts) (target : TargetParts) (why : NoValue) → has_path target.form ≡ true → AnswersRow (TargetAuthorityRow parts target) (Err why)
-    → AnswersRow (TargetUriRow (has_path target.form) parts target) (Err why)
-uri_lacks parts target Memory has row = tt
-uri_lacks parts target (Lacks lack) has row = rw has (Err lack, row, refl)
+-- a text with a byte that isn't visible is no authority
+pub none_named : (scheme text : List ℕ) → list_all is_visible text ≡ false → AuthorityRow scheme (Ok text) (Err Underivable)
+none_named scheme text not = (refl, λ value is. false≢true (sym not ∙ has_visible_text text is.0.host is.1.0 is.1.1))

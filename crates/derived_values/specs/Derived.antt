@@ -101,19 +101,19 @@ uri_text parts target authority =
     scheme_of parts target ++ (codes "://" ++ (authority
     ++ (unwrap_or (path_of target) [] ++ query_text target.query)))
 
--- `@target-uri`, which lacks as `@authority` does (section 2.2.2)
+-- `@target-uri`, which lacks as `@authority` does (section 2.2.2); by whether the target has a path
 abbrev pub TargetUriRow : Bool → RequestParts → TargetParts → Result (List ℕ) Lack → Type 0
 TargetUriRow false parts target result = result ≡ Err Underivable
 TargetUriRow true parts target result = (authority : Result (List ℕ) Lack)
     × TargetAuthorityRow parts target authority
     × (result ≡ result_map_both (uri_text parts target) (λ lack. lack) authority)
 
--- the characters of a String
 -- the characters of the String that the parameter `name` is
 abbrev pub param_name : List (Pair BareItem) → List ℕ
 param_name params = unwrap_or (option_and_then string_in (value_of params (codes "name"))) []
 
--- `@query-param`: the one value under the name (section 2.2.8)
+-- `@query-param`: the one value under the name (section 2.2.8); by whether the target has a query,
+-- as one with a path does
 abbrev pub param_value : Bool → List (Pair BareItem) → TargetParts → Result (List ℕ) Lack
 param_value false params target = Err Underivable
 param_value true params target =

@@ -1,23 +1,23 @@
 //! Derived components (RFC 9421 section 2.2).
 
-ghost use Rattle.std.specs.Prelude.{◌≡◌, ℕ, Option, option_map, unwrap_or, Ok, Err, IfOk, OnOk, List, codes, ◌++◌};
+ghost use Rattle.std.specs.Prelude.{◌≡◌, Ok, Err, MatchResult, codes};
 ghost use Rattle.std.specs.Str.{str_to_ascii_lowercase};
 ghost use Rattle.msg_head.specs.declared.error.Side.{Side};
 ghost use Rattle.msg_body.specs.Views.{message_of, lines_on};
-ghost use Rattle.msg_head.specs.Values.{values};
-ghost use Rattle.targets.specs.Targets.{has_path, path_of, query_of, query_text};
-ghost use Rattle.targets.specs.Authorities.{authority_text};
-ghost use Rattle.targets.specs.Views.{parts_of, authority_parts};
-ghost use Rattle.derived_values.specs.Derived.{derived_of, target_name_of, scheme_text, scheme_of, sole_value, named_authority, TargetAuthorityRow, TargetUriRow, TargetRow, FormedRow, RequestRow, StartRow, DerivedRow, path_value, query_value, param_value, param_name, response_value, uri_text};
+ghost use Rattle.msg_head.specs.Values.{value, values};
+ghost use Rattle.targets.specs.Targets.{has_path};
+ghost use Rattle.targets.specs.Views.{parts_of};
+ghost use Rattle.derived_values.specs.Derived.{derived_of, target_name_of, scheme_text, scheme_of, sole_value, AuthorityRow, TargetAuthorityRow, TargetUriRow, TargetRow, FormedRow, RequestRow, DerivedRow, path_value, query_value, param_value, param_name, response_value};
 ghost use Rattle.derived_values.specs.Answers.{AnswersRow};
 ghost use Rattle.derived_values.specs.tools.Requests.{request_parts};
+ghost use Rattle.derived_values.specs.tools.Values.{GivesAuthority, GivesParts, AnswersParts};
 
 use crate::lack::{Lack, NoValue};
+use crate::value::{Derived, Parts, TargetUri};
 use component_ids::{ComponentId, Scheme};
-use field_values::{combined_text, count_lines};
 use msg_body::MessageView;
-use msg_head::{Side, Start};
-use sfv_text::{Memory, Params, Text};
+use msg_head::{LineView, Side, Start};
+use sfv_text::{Params, Text};
 use std::alloc::Global;
 use targets::{
     Authority, ParamFound, Target, authority_of, cut_target, path_of, query_of, query_param,
@@ -101,8 +101,9 @@ fn derived_of(name: &[u8]) -> Option<DerivedName>
     target_name_of(name).map(DerivedName::OfTarget)
 }
 
+/// The scheme that is configured, in lower case.
 fn scheme_text(scheme: Scheme) -> &'static [u8]
-    ensures { result.now ≡ scheme_text scheme }
+    ensures { str_to_ascii_lowercase result.now ≡ scheme_text scheme }
 {
     match scheme {
         Scheme::Http => b"http",
@@ -110,149 +111,105 @@ fn scheme_text(scheme: Scheme) -> &'static [u8]
     }
 }
 
-/// The text in lower case.
-fn lowered(alloc: Global, text: &[u8]) -> Result<Text, Memory>
-    ensures { IfOk result (λ lower. lower ≡ str_to_ascii_lowercase text.now) }
-{
-    let mut lower = Text::new(alloc);
-    for byte in text {
-        lower.append(&[byte.to_ascii_lowercase()])?;
-    }
-    Ok(lower)
-}
-
-/// `@scheme`.
-fn scheme_of(alloc: Global, request: Request<'_, '_>, target: &Target<'_>) -> Result<Text, Memory>
-    ensures { IfOk result (λ text. text
-        ≡ scheme_of (request_parts request.entry) (parts_of target.now)) }
+/// `@scheme`, in whatever case it is written.
+fn scheme_of<'m>(request: Request<'_, 'm>, target: &Target<'m>) -> &'m [u8]
+    ensures { str_to_ascii_lowercase result.now
+        ≡ scheme_of (request_parts request.entry) (parts_of target.now) }
 {
     match target.scheme {
-        Some(text) => lowered(alloc, text),
-        None => Text::from_bytes(alloc, scheme_text(request.scheme)),
+        Some(text) => text,
+        None => scheme_text(request.scheme),
     }
 }
 
-/// The value of the one `Host` line.
-fn host_value(alloc: Global, message: &MessageView<'_>) -> Result<Text, NoValue>
-    ensures { AnswersRow (λ answer. answer ≡ sole_value
-        (values (lines_on Side.Header (message_of message.now)) (codes "host"))) result }
+/// The one `Host` line.
+fn host_line<'m>(message: &MessageView<'m>) -> Result<LineView<'m>, Lack>
+    ensures { MatchResult result
+        (λ line. sole_value (values (lines_on Side.Header (message_of message.now)) (codes "host"))
+        ≡ Ok (value line.raw.now))
+        (λ lack. sole_value (values (lines_on Side.Header (message_of message.now)) (codes "host"))
+        ≡ Err lack) }
 {
-    match count_lines(message, Side::Header, b"host") {
-        0 => Err(NoValue::Lacks(Lack::Absent)),
-        1 => Ok(combined_text(alloc, message, Side::Header, b"host")?),
-        _ => Err(NoValue::Lacks(Lack::Ambiguous)),
+    let mut lines = message.lines(Side::Header);
+    let Some(line) = lines.next_named(b"host") else {
+        return Err(Lack::Absent);
+    };
+    if let Some(_) = lines.next_named(b"host") {
+        return Err(Lack::Ambiguous);
+    }
+    Ok(line)
+}
+
+/// The authority that the text is.
+fn judge_authority<'m>(text: &'m [u8], scheme: &[u8]) -> Result<Authority<'m>, Lack>
+    ensures { GivesAuthority (AuthorityRow (str_to_ascii_lowercase scheme.now) (Ok text.now))
+        result }
+{
+    match authority_of(text, scheme) {
+        Some(authority) => Ok(authority),
+        None => Err(Lack::Underivable),
     }
 }
 
-/// The text that names the authority.
-fn named_authority(
-    alloc: Global,
-    request: Request<'_, '_>,
-    target: &Target<'_>,
-) -> Result<Text, NoValue>
-    ensures { AnswersRow (λ answer. answer ≡ named_authority (request_parts request.entry)
-        (parts_of target.now).authority) result }
+/// The authority that the one `Host` line names. A value with a fold within it is none.
+fn host_authority<'m>(message: &MessageView<'m>, scheme: &[u8]) -> Result<Authority<'m>, Lack>
+    ensures { GivesAuthority (AuthorityRow (str_to_ascii_lowercase scheme.now) (sole_value
+        (values (lines_on Side.Header (message_of message.now)) (codes "host")))) result }
 {
-    match target.authority {
-        Some(text) => Ok(Text::from_bytes(alloc, text)?),
-        None => host_value(alloc, request.message),
+    let line = host_line(message)?;
+    match line.whole_value() {
+        Some(text) => judge_authority(text, scheme),
+        None => Err(Lack::Underivable),
     }
-}
-
-/// The value of an authority.
-fn authority_text(alloc: Global, authority: &Authority<'_>) -> Result<Text, Memory>
-    ensures { IfOk result (λ text. text ≡ authority_text (authority_parts authority.now)) }
-{
-    let mut text = lowered(alloc, authority.host)?;
-    if let Some(port) = authority.port {
-        text.append(b":")?;
-        text.append(port)?;
-    }
-    Ok(text)
 }
 
 /// `@authority`.
-fn authority_value(
-    alloc: Global,
-    request: Request<'_, '_>,
-    target: &Target<'_>,
-) -> Result<Text, NoValue>
-    ensures { AnswersRow (TargetAuthorityRow (request_parts request.entry) (parts_of target.now))
-        result }
+fn authority_value<'m>(request: Request<'_, 'm>, target: &Target<'m>) -> Result<Authority<'m>, Lack>
+    ensures { GivesAuthority (TargetAuthorityRow (request_parts request.entry)
+        (parts_of target.now)) result }
 {
-    let scheme = scheme_of(alloc, request, target)?;
-    let named = named_authority(alloc, request, target)?;
-    match authority_of(named.bytes(), scheme.bytes()) {
-        Some(authority) => Ok(authority_text(alloc, &authority)?),
-        None => Err(NoValue::Lacks(Lack::Underivable)),
+    let scheme = scheme_of(request, target);
+    match target.authority {
+        Some(text) => judge_authority(text, scheme),
+        None => host_authority(request.message, scheme),
     }
 }
 
 /// `@path`.
-fn path_value(alloc: Global, target: &Target<'_>) -> Result<Text, NoValue>
-    ensures { AnswersRow (λ answer. answer ≡ path_value (parts_of target.now)) result }
+fn path_value<'m>(target: &Target<'m>) -> Result<Parts<'m>, Lack>
+    ensures { GivesParts (λ answer. answer ≡ path_value (parts_of target.now)) result }
 {
     match path_of(target) {
-        Some(path) => Ok(Text::from_bytes(alloc, path)?),
-        None => Err(NoValue::Lacks(Lack::Underivable)),
+        Some(path) => Ok(Parts::Bytes(path)),
+        None => Err(Lack::Underivable),
     }
-}
-
-/// Adds `?` and the target's query, or nothing.
-fn append_query(target: &Target<'_>, text: &mut Text) -> Result<(), Memory>
-    ensures { OnOk result (text.new ≡ text.old ++ query_text (parts_of target.now).query) }
-{
-    if let Some(query) = target.query {
-        text.append(b"?")?;
-        text.append(query)?;
-    }
-    Ok(())
 }
 
 /// `@query`.
-fn query_value(alloc: Global, target: &Target<'_>) -> Result<Text, NoValue>
-    ensures { AnswersRow (λ answer. answer ≡ query_value (parts_of target.now)) result }
+fn query_value<'m>(target: &Target<'m>) -> Result<Parts<'m>, Lack>
+    ensures { GivesParts (λ answer. answer ≡ query_value (parts_of target.now)) result }
 {
-    let Some(query) = query_of(target) else {
-        return Err(NoValue::Lacks(Lack::Underivable));
-    };
-    let mut text = Text::from_bytes(alloc, b"?")?;
-    if let Some(bytes) = query {
-        text.append(bytes)?;
+    match query_of(target) {
+        Some(query) => Ok(Parts::Query(query.unwrap_or(b""))),
+        None => Err(Lack::Underivable),
     }
-    Ok(text)
-}
-
-/// `@target-uri` of a target that has a path.
-fn uri_text(
-    alloc: Global,
-    request: Request<'_, '_>,
-    target: &Target<'_>,
-    path: &[u8],
-    authority: &[u8],
-) -> Result<Text, Memory>
-    ensures { IfOk result (λ text. text ≡ scheme_of (request_parts request.entry)
-        (parts_of target.now) ++ (codes "://" ++ (authority.now ++ (path.now
-        ++ query_text (parts_of target.now).query)))) }
-{
-    let mut text = scheme_of(alloc, request, target)?;
-    text.append(b"://")?;
-    text.append(authority)?;
-    text.append(path)?;
-    append_query(target, &mut text)?;
-    Ok(text)
 }
 
 /// `@target-uri`.
-fn target_uri(alloc: Global, request: Request<'_, '_>, target: &Target<'_>) -> Result<Text, NoValue>
-    ensures { AnswersRow (TargetUriRow (has_path (parts_of target.now).form)
+fn target_uri<'m>(request: Request<'_, 'm>, target: &Target<'m>) -> Result<Parts<'m>, Lack>
+    ensures { GivesParts (TargetUriRow (has_path (parts_of target.now).form)
         (request_parts request.entry) (parts_of target.now)) result }
 {
     let Some(path) = path_of(target) else {
-        return Err(NoValue::Lacks(Lack::Underivable));
+        return Err(Lack::Underivable);
     };
-    let authority = authority_value(alloc, request, target)?;
-    Ok(uri_text(alloc, request, target, path, authority.bytes())?)
+    let authority = authority_value(request, target)?;
+    Ok(Parts::TargetUri(TargetUri {
+        scheme: scheme_of(request, target),
+        authority,
+        path,
+        query: target.query,
+    }))
 }
 
 /// The String that the parameter `name` is.
@@ -282,34 +239,34 @@ fn param_value(alloc: Global, params: &Params, target: &Target<'_>) -> Result<Te
 }
 
 /// What is drawn from the parts of a target.
-fn target_value(
+fn target_value<'m>(
     alloc: Global,
     name: TargetName,
     params: &Params,
-    request: Request<'_, '_>,
-    target: &Target<'_>,
-) -> Result<Text, NoValue>
-    ensures { AnswersRow (TargetRow name params.now (request_parts request.entry)
+    request: Request<'_, 'm>,
+    target: &Target<'m>,
+) -> Result<Parts<'m>, NoValue>
+    ensures { AnswersParts (TargetRow name params.now (request_parts request.entry)
         (parts_of target.now)) result }
 {
     match name {
-        TargetName::TargetUri => target_uri(alloc, request, target),
-        TargetName::Authority => authority_value(alloc, request, target),
-        TargetName::Scheme => Ok(scheme_of(alloc, request, target)?),
-        TargetName::Path => path_value(alloc, target),
-        TargetName::Query => query_value(alloc, target),
-        TargetName::QueryParam => param_value(alloc, params, target),
+        TargetName::TargetUri => Ok(target_uri(request, target)?),
+        TargetName::Authority => Ok(Parts::Authority(authority_value(request, target)?)),
+        TargetName::Scheme => Ok(Parts::Scheme(scheme_of(request, target))),
+        TargetName::Path => Ok(path_value(target)?),
+        TargetName::Query => Ok(query_value(target)?),
+        TargetName::QueryParam => Ok(Parts::Text(param_value(alloc, params, target)?)),
     }
 }
 
 /// What is drawn from a target that may be in no form.
-fn formed_value(
+fn formed_value<'m>(
     alloc: Global,
     name: TargetName,
     params: &Params,
-    request: Request<'_, '_>,
-) -> Result<Text, NoValue>
-    ensures { AnswersRow (FormedRow name params.now (request_parts request.entry)) result }
+    request: Request<'_, 'm>,
+) -> Result<Parts<'m>, NoValue>
+    ensures { AnswersParts (FormedRow name params.now (request_parts request.entry)) result }
 {
     let Some(target) = cut_target(request.method, request.target) else {
         return Err(NoValue::Lacks(Lack::Underivable));
@@ -318,41 +275,40 @@ fn formed_value(
 }
 
 /// A derived component of a request.
-fn request_value(
+fn request_value<'m>(
     alloc: Global,
     derived: DerivedName,
     params: &Params,
-    request: Request<'_, '_>,
-) -> Result<Text, NoValue>
-    ensures { AnswersRow (RequestRow derived params.now (request_parts request.entry)) result }
+    request: Request<'_, 'm>,
+) -> Result<Parts<'m>, NoValue>
+    ensures { AnswersParts (RequestRow derived params.now (request_parts request.entry)) result }
 {
     match derived {
-        DerivedName::Method => Ok(Text::from_bytes(alloc, request.method)?),
-        DerivedName::RequestTarget => Ok(Text::from_bytes(alloc, request.target)?),
+        DerivedName::Method => Ok(Parts::Bytes(request.method)),
+        DerivedName::RequestTarget => Ok(Parts::Bytes(request.target)),
         DerivedName::Status => Err(NoValue::Lacks(Lack::Underivable)),
         DerivedName::OfTarget(name) => formed_value(alloc, name, params, request),
     }
 }
 
 /// A derived component of a response.
-fn response_value(alloc: Global, derived: DerivedName, code: &[u8]) -> Result<Text, NoValue>
-    ensures { AnswersRow (λ answer. answer ≡ response_value derived code.now) result }
+fn response_value(derived: DerivedName, code: &[u8]) -> Result<Parts<'_>, NoValue>
+    ensures { AnswersParts (λ answer. answer ≡ response_value derived code.now) result }
 {
     match derived {
-        DerivedName::Status => Ok(Text::from_bytes(alloc, code)?),
+        DerivedName::Status => Ok(Parts::Bytes(code)),
         _ => Err(NoValue::Lacks(Lack::Underivable)),
     }
 }
 
-/// The value of a derived component of the message, or how the message lacks it (RFC 9421 section
-/// 2.2). A name that no derived component has is underivable.
-pub fn derived_value(
+/// What the value of a derived component of the message is made of.
+fn derived_parts<'m>(
     alloc: Global,
-    message: &MessageView<'_>,
+    message: &MessageView<'m>,
     scheme: Scheme,
     id: &ComponentId,
-) -> Result<Text, NoValue>
-    ensures { AnswersRow (DerivedRow (derived_of id.now.name) id.now.params scheme
+) -> Result<Parts<'m>, NoValue>
+    ensures { AnswersParts (DerivedRow (derived_of id.now.name) id.now.params scheme
         (lines_on Side.Header (message_of message.now)) message.now.head.start) result }
 {
     let Some(derived) = derived_of(id.name.bytes()) else {
@@ -368,6 +324,21 @@ pub fn derived_value(
             };
             request_value(alloc, derived, &id.params, request)
         }
-        Start::Status { code, .. } => response_value(alloc, derived, code),
+        Start::Status { code, .. } => response_value(derived, code),
     }
+}
+
+/// The value of a derived component of the message, or how the message lacks it (RFC 9421 section
+/// 2.2). A name that no derived component has is underivable.
+pub fn derived_value<'m>(
+    alloc: Global,
+    message: &MessageView<'m>,
+    scheme: Scheme,
+    id: &ComponentId,
+) -> Result<Derived<'m>, NoValue>
+    ensures { AnswersRow (DerivedRow (derived_of id.now.name) id.now.params scheme
+        (lines_on Side.Header (message_of message.now)) message.now.head.start) result }
+{
+    let parts = derived_parts(alloc, message, scheme, id)?;
+    Ok(Derived { parts })
 }

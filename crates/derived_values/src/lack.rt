@@ -11,8 +11,8 @@ use std::fmt;
 /// How a component lacks a value.
 #[derive(Clone, Copy, Debug, PartialEq, Eq)]
 pub enum Lack {
-    /// It isn't there: no field line has the name, no member the key, or no related request is
-    /// known.
+    /// It isn't there: no field line has the name, as `Host`, no member the key, no query parameter
+    /// the name, or no related request is known.
     Absent,
     /// There are several, where just one may be.
     Ambiguous,

@@ -2,13 +2,18 @@
 //!
 //! ```text
 //! // over `GET http://EXAMPLE.com:80?a=1 HTTP/1.1`
-//! derived_value(alloc, &message, Scheme::Https, &authority)? // example.com
+//! let value = derived_value(alloc, &message, Scheme::Https, &authority)?;
+//! value.feed(&mut hasher);                                   // example.com
 //! derived_value(alloc, &message, Scheme::Https, &status)     // Err(NoValue::Lacks(..))
 //! ```
+//!
+//! A value is borrowed from its message; that of `@query-param` alone takes memory.
 #![tactic(auto)]
 
 mod derived;
 mod lack;
+mod value;
 
 pub use derived::{DerivedName, TargetName, derived_value};
 pub use lack::{Lack, NoValue};
+pub use value::Derived;

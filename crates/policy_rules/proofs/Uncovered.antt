@@ -7,7 +7,7 @@ use Rattle.std.proofs.lemmas.List.Sums.{AllPass-from_list_all, list_all-from_All
 use Rattle.byte_grammar.proofs.Indices.{find_failed, find_none, none_fails}
 use Rattle.component_ids.specs.declared.id.ComponentId.{ComponentId}
 use Rattle.component_ids.specs.Identifiers.{IsSameId}
-use Rattle.component_ids.specs.tools.SameTests.{is_same}
+use Rattle.component_ids.specs.Sameness.{is_same}
 use Rattle.component_ids.proofs.SameLaws.{same_decides}
 use Rattle.policy_rules.specs.PolicyRules.{IsCovered, IsFirstUncovered}
 use Rattle.policy_rules.specs.tools.Judged.{is_covered}

@@ -2,7 +2,7 @@
 
 ghost use Rattle.std.specs.Prelude.{◌≡◌, not, option_copied};
 ghost use Rattle.std.specs.List.{All, find, list_any};
-ghost use Rattle.component_ids.specs.tools.SameTests.{is_same};
+ghost use Rattle.component_ids.specs.Sameness.{is_same};
 ghost use Rattle.policy_rules.specs.PolicyRules.{IsCovered};
 ghost use Rattle.policy_rules.specs.tools.Judged.{is_covered, Explains, FailsByCoverage};
 

@@ -6,3 +6,4 @@ pub mod Decided
 pub mod Visible
 mod EncodingLaws
 pub mod ValueLaws
+pub mod Schemes

@@ -3,7 +3,7 @@ use Rattle.std.proofs.Common.{◌≡◌, inl, inr, ℕ, Bool, true, ◌||◌, �
 use Rattle.std.specs.Char.{is_ascii_alphanumeric, to_ascii_lowercase}
 use Rattle.std.specs.List.{list_all}
 use Rattle.std.specs.Str.{str_to_ascii_lowercase}
-use Rattle.std.proofs.lemmas.Bool.{and_parts, cases_Bool, or_cases, eqb-true}
+use Rattle.std.proofs.lemmas.Bool.{and_parts, and_from, cases_Bool, or_cases, eqb-true}
 use Rattle.std.proofs.lemmas.Bool.Decides.{nat_tests}
 use Rattle.std.proofs.lemmas.List.Folds.{list_all-map}
 use Rattle.byte_grammar.specs.Classes.{is_visible, is_digit}
@@ -13,7 +13,7 @@ use Rattle.targets.specs.UriBytes.{is_host_byte, is_literal_byte, is_unreserved_
 use Rattle.targets.specs.Marks.{marked_text}
 use Rattle.targets.specs.Targets.{TargetParts, query_text, IsOriginForm, IsAbsoluteForm}
 use Rattle.targets.specs.Authorities.{IsHost, is_default_port, kept_port, port_text}
-use Rattle.targets.specs.Laws.{AreVisible, HasVisibleParts, HasVisibleValue}
+use Rattle.targets.specs.Laws.{AreVisible, HasVisibleParts, HasVisibleText, HasVisibleValue}
 
 abbrev IsVisible : List ℕ → Type 0
 IsVisible text = list_all is_visible text ≡ true
@@ -45,39 +45,59 @@ has_visible_parts method target parts (inr (isnt, inr (inr a))) is = subst AreVi
 
 -- ---- values
 
+digit_byte : (c : ℕ) → is_digit c ≡ true → is_visible c ≡ true
+digit_byte c is = grind (arith, nat_tests)
+
+-- a test that letters, digits and the marks of hosts pass
+module _ (p : ℕ → Bool) (letters : (c : ℕ) → is_ascii_alphanumeric c ≡ true → p c ≡ true) (marks : list_all p (codes "-._~!$&'()*+,;=") ≡ true) (percent : p 37 ≡ true) (colon : p 58 ≡ true)
+    (opening : p 91 ≡ true) (closing : list_all p (codes "]") ≡ true) where
+  unreserved : (c : ℕ) → is_unreserved_or_delim c ≡ true → p c ≡ true
+  unreserved c is = elim (or_cases _ _ is) [
+    | inl letter ↦ letters c letter
+    | inr other ↦ of_each p (codes "-._~!$&'()*+,;=") marks c other
+  ]
+
+  host_byte : (c : ℕ) → is_host_byte c ≡ true → p c ≡ true
+  host_byte c is = elim (or_cases _ _ is) [
+    | inl some ↦ unreserved c some
+    | inr mark ↦ let same : c ≡ 37 = eqb-true c 37 mark in rw same percent
+  ]
+
+  literal_byte : (c : ℕ) → is_literal_byte c ≡ true → p c ≡ true
+  literal_byte c is = elim (or_cases _ _ is) [
+    | inl some ↦ unreserved c some
+    | inr mark ↦ let same : c ≡ 58 = eqb-true c 58 mark in rw same colon
+  ]
+
+  host_passes : (host : List ℕ) → IsHost host → list_all p host ≡ true
+  host_passes host (inr name) = all_implied is_host_byte p host_byte host (and_parts _ _ name).1
+  host_passes host (inl literal) =
+      let inner = all_implied is_literal_byte p literal_byte literal.inner literal.each in
+      ap (list_all p) literal.joined ∙ and_from (p 91) (list_all p (literal.inner ++ codes "]")) opening (all_joined p literal.inner (codes "]") inner closing)
+
 -- the byte in lower case is visible
 abbrev is_lowered_visible : ℕ → Bool
 is_lowered_visible c = is_visible (to_ascii_lowercase c)
 
-alphanumeric : (c : ℕ) → is_ascii_alphanumeric c ≡ true → is_lowered_visible c ≡ true
-alphanumeric c is = grind (arith, nat_tests)
+lowered_letters : (c : ℕ) → is_ascii_alphanumeric c ≡ true → is_lowered_visible c ≡ true
+lowered_letters c is = grind (arith, nat_tests)
 
-unreserved : (c : ℕ) → is_unreserved_or_delim c ≡ true → is_lowered_visible c ≡ true
-unreserved c is = elim (or_cases _ _ is) [
-  | inl letter ↦ alphanumeric c letter
-  | inr other ↦ of_each is_lowered_visible (codes "-._~!$&'()*+,;=") refl c other
-]
+letters_visible : (c : ℕ) → is_ascii_alphanumeric c ≡ true → is_visible c ≡ true
+letters_visible c is = grind (arith, nat_tests)
 
-host_byte : (c : ℕ) → is_host_byte c ≡ true → is_lowered_visible c ≡ true
-host_byte c is = elim (or_cases _ _ is) [
-  | inl some ↦ unreserved c some
-  | inr percent ↦ let same : c ≡ 37 = eqb-true c 37 percent in rw same refl
-]
+host_lowered : (host : List ℕ) → IsHost host → list_all is_lowered_visible host ≡ true
+host_lowered host is = host_passes is_lowered_visible lowered_letters refl refl refl refl refl host is
 
-literal_byte : (c : ℕ) → is_literal_byte c ≡ true → is_lowered_visible c ≡ true
-literal_byte c is = elim (or_cases _ _ is) [
-  | inl some ↦ unreserved c some
-  | inr colon ↦ let same : c ≡ 58 = eqb-true c 58 colon in rw same refl
-]
+host_visible : (host : List ℕ) → IsHost host → list_all is_visible host ≡ true
+host_visible host is = host_passes is_visible letters_visible refl refl refl refl refl host is
 
-digit_byte : (c : ℕ) → is_digit c ≡ true → is_visible c ≡ true
-digit_byte c is = grind (arith, nat_tests)
+port_text_visible : (port : Option (List ℕ)) → IfSome port (λ digits. list_all is_digit digits ≡ true) → IsVisible (port_text port)
+port_text_visible None is = refl
+port_text_visible (Some port) is = all_implied is_digit is_visible digit_byte port is
 
-host_visible : (host : List ℕ) → IsHost host → list_all is_lowered_visible host ≡ true
-host_visible host (inr name) = all_implied is_host_byte is_lowered_visible host_byte host (and_parts _ _ name).1
-host_visible host (inl literal) =
-    let inner = all_implied is_literal_byte is_lowered_visible literal_byte literal.inner literal.each in
-    ap (list_all is_lowered_visible) literal.joined ∙ all_joined is_lowered_visible literal.inner (codes "]") inner refl
+pub has_visible_text : HasVisibleText
+has_visible_text text host port is =
+    ap (list_all is_visible) is.joined ∙ all_joined is_visible host (port_text port) (host_visible host is.is_host) (port_text_visible port is.is_port)
 
 port_visible : (scheme : List ℕ) (port : Option (List ℕ)) → IfSome port (λ digits. list_all is_digit digits ≡ true) → IsVisible (port_text (kept_port scheme port))
 port_visible scheme None is = refl
@@ -88,6 +108,6 @@ port_visible scheme (Some port) is = elim (cases_Bool ((length port == 0) || is_
 
 pub has_visible_value : HasVisibleValue
 has_visible_value scheme text value (parts, (port, is, kept), same) =
-    let host : IsVisible (str_to_ascii_lowercase parts.host) = list_all-map is_visible to_ascii_lowercase parts.host ∙ host_visible parts.host is.is_host in
+    let host : IsVisible (str_to_ascii_lowercase parts.host) = list_all-map is_visible to_ascii_lowercase parts.host ∙ host_lowered parts.host is.is_host in
     let last : IsVisible (port_text parts.port) = ap (λ p. list_all is_visible (port_text p)) kept ∙ port_visible scheme port is.is_port in
     ap (list_all is_visible) same ∙ all_joined is_visible (str_to_ascii_lowercase parts.host) (port_text parts.port) host last

@@ -3,7 +3,8 @@ use Rattle.std.specs.Prelude.{◌≡◌, ◌⊎◌, ℕ, IsTrue, List, Option, I
 use Rattle.std.specs.List.{list_all}
 use Rattle.byte_grammar.specs.Classes.{is_visible}
 use Rattle.targets.specs.Targets.{TargetParts, SpellsTarget}
-use Rattle.targets.specs.Authorities.{IsAuthority, IsAuthorityValue}
+use Rattle.targets.specs.Authorities.{AuthorityParts, IsAuthority, IsAuthorityFor, IsAuthorityValue}
+use Rattle.std.specs.Str.{str_to_ascii_lowercase}
 
 -- A method and a target spell at most one target's parts.
 abbrev pub OneTarget : Type 0
@@ -22,6 +23,12 @@ abbrev pub OneAuthorityValue : Type 0
 OneAuthorityValue =
     (scheme text one other : List ℕ) →
     IsAuthorityValue scheme text one → IsAuthorityValue scheme text other → one ≡ other
+
+-- In whatever case the scheme is written, the same port is kept.
+abbrev pub SchemeInAnyCase : Type 0
+SchemeInAnyCase =
+    (scheme text : List ℕ) (parts : AuthorityParts) → IsAuthorityFor scheme text parts
+    → IsAuthorityFor (str_to_ascii_lowercase scheme) text parts
 
 -- ---- each text is of the form or isn't
 
@@ -52,7 +59,13 @@ HasVisibleParts =
     (method target : List ℕ) (parts : TargetParts) →
     SpellsTarget method target parts → IsTrue (list_all is_visible target) → AreVisible parts
 
--- The value of an authority has visible bytes alone.
+-- An authority has visible bytes alone.
+abbrev pub HasVisibleText : Type 0
+HasVisibleText =
+    (text host : List ℕ) (port : Option (List ℕ)) →
+    IsAuthority text host port → IsTrue (list_all is_visible text)
+
+-- So does its value.
 abbrev pub HasVisibleValue : Type 0
 HasVisibleValue =
     (scheme text value : List ℕ) →

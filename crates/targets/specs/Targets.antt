@@ -24,7 +24,8 @@ abbrev pub is_scheme : List ℕ → Bool
 is_scheme [] = false
 is_scheme (c ∷ rest) = is_alpha c && list_all is_scheme_byte rest
 
--- absolute-path: a path that begins with `/` (RFC 9110 section 4.1)
+-- absolute-path: a path that begins with `/` (RFC 9110 section 4.1). What a segment has isn't
+-- judged.
 abbrev pub is_absolute_path : List ℕ → Bool
 is_absolute_path path = starts_in (λ c. c == byte "/") path && list_all is_path_byte path
 
@@ -33,7 +34,7 @@ abbrev pub is_path : List ℕ → Bool
 is_path [] = true
 is_path (c ∷ rest) = is_absolute_path (c ∷ rest)
 
--- a query, where there is one (RFC 3986 section 3.4)
+-- a query, where there is one (RFC 3986 section 3.4); what it has isn't judged
 abbrev pub IsQuery : Option (List ℕ) → Type 0
 IsQuery query = IfSome query (λ text. IsTrue (list_all is_query_byte text))
 

@@ -1,16 +1,15 @@
 //! Authorities.
 
 ghost use Rattle.std.specs.Prelude.{◌≡◌, ◌++◌, ℕ, List, Option, option_map, IfSome, IfNone};
-ghost use Rattle.std.specs.Str.{byte, str_eq_ignore_ascii_case, str_to_ascii_lowercase};
+ghost use Rattle.std.specs.Str.{str_eq_ignore_ascii_case};
 ghost use Rattle.targets.specs.Authorities.{IsAuthority, IsAuthorityFor, is_default_port, kept_port, authority_text};
-ghost use Rattle.targets.specs.Marks.{marked_text};
 ghost use Rattle.targets.specs.Views.{authority_parts};
 ghost use Rattle.targets.specs.tools.Parts.{BeginsWithHost, BeginsWithRegName, BeginsWithLiteral};
 
+use crate::feed::{feed_lowered, feed_marked};
 use crate::parts::{read_marked, rest_after};
 use crate::uri_byte::UriByte;
-use byte_grammar::Class;
-use byte_grammar::read_all;
+use byte_grammar::{Class, read_all};
 use sfv_text::Absorb;
 
 /// An authority without userinfo, borrowed from its text (RFC 3986 section 3.2).
@@ -114,27 +113,6 @@ pub fn authority_of<'m>(text: &'m [u8], scheme: &[u8]) -> Option<Authority<'m>>
     })
 }
 
-// Feeds the text in lower case.
-fn feed_lowered<A: Absorb>(text: &[u8], into: &mut A)
-    ensures { (fed : List ℕ) → A.absorbed into.old fed
-        → A.absorbed into.new (fed ++ str_to_ascii_lowercase text.now) }
-{
-    for byte in text {
-        into.absorb(&[byte.to_ascii_lowercase()]);
-    }
-}
-
-// Feeds a colon and the port, where there is one.
-fn feed_port<A: Absorb>(port: Option<&[u8]>, into: &mut A)
-    ensures { (fed : List ℕ) → A.absorbed into.old fed → A.absorbed into.new
-        (fed ++ marked_text (byte ":") (option_map (λ text. text.now) port.entry)) }
-{
-    if let Some(digits) = port {
-        into.absorb(b":");
-        into.absorb(digits);
-    }
-}
-
 impl<'m> Authority<'m> {
     /// Feeds the value: the host in lower case, and a colon and the port where there is one (RFC
     /// 9421 section 2.2.3). It takes no memory and can't fail.
@@ -143,6 +121,6 @@ impl<'m> Authority<'m> {
             (fed ++ authority_text (authority_parts self.now)) }
     {
         feed_lowered(self.host, into);
-        feed_port(self.port, into);
+        feed_marked(b':', self.port, into);
     }
 }

@@ -1,13 +1,14 @@
 //! Laws of targets and authorities. Each function does nothing; its contract is the law.
 
-ghost use Rattle.targets.specs.Laws.{OneTarget, OneAuthority, OneAuthorityValue, TargetIsDecided, AuthorityIsDecided, HasVisibleParts, HasVisibleValue};
+ghost use Rattle.targets.specs.Laws.{OneTarget, OneAuthority, OneAuthorityValue, SchemeInAnyCase, TargetIsDecided, AuthorityIsDecided, HasVisibleParts, HasVisibleText, HasVisibleValue};
 
 /// A method and a target spell at most one target's parts, a text has at most one host and port,
-/// and under a scheme at most one value.
+/// and under a scheme, in whatever case it is written, at most one value.
 pub fn target_laws()
     ensures target { OneTarget }
     ensures authority { OneAuthority }
     ensures value { OneAuthorityValue }
+    ensures scheme { SchemeInAnyCase }
 {}
 
 /// A method and a target spell some target's parts or none, and under a scheme a text has a value
@@ -17,9 +18,10 @@ pub fn targets_are_decided()
     ensures authority { AuthorityIsDecided }
 {}
 
-/// The parts of a visible target, and the value of an authority, are visible ASCII. So neither
-/// breaks a line.
+/// The parts of a visible target, an authority and its value are visible ASCII. So no value breaks
+/// a line.
 pub fn values_are_visible()
     ensures parts { HasVisibleParts }
+    ensures text { HasVisibleText }
     ensures value { HasVisibleValue }
 {}

@@ -16,6 +16,7 @@
 #![tactic(auto)]
 
 mod authority;
+mod feed;
 mod laws;
 mod parts;
 mod query;
@@ -23,6 +24,7 @@ mod target;
 mod uri_byte;
 
 pub use authority::{Authority, authority_of};
+pub use feed::{feed_lowered, feed_marked};
 pub use laws::{target_laws, targets_are_decided, values_are_visible};
 pub use query::{ParamFound, encoded_texts_are_printable, query_param};
 pub use target::{Form, Target, cut_target, path_of, query_of};

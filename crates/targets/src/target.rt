@@ -7,8 +7,7 @@ ghost use Rattle.targets.specs.tools.Parts.{IsPathAndQuery, BeginsWithScheme};
 
 use crate::parts::{allows_all, read_marked, rest_after};
 use crate::uri_byte::UriByte;
-use byte_grammar::{Byte, Class};
-use byte_grammar::{read_all, read_word, starts_with};
+use byte_grammar::{Byte, Class, read_all, read_word, starts_with};
 
 /// The forms of a request target (RFC 9112 section 3.2).
 #[derive(Clone, Copy, Debug, PartialEq, Eq)]

@@ -2,30 +2,44 @@
 use Rattle.std.specs.Prelude.{⊤, ℕ, List, Result, Ok, Err}
 use Rattle.msg_head.specs.Lines.{FieldLine}
 use Rattle.msg_body.specs.Views.{message_of, lines_on}
-use Rattle.msg_head.specs.Values.{combined_value}
+use Rattle.msg_head.specs.Values.{values, combined_value}
+use Rattle.component_values.specs.Values.{byte_sequences}
 use Rattle.derived_values.specs.declared.lack.Lack.{Lack}
 use Rattle.derived_values.specs.declared.lack.NoValue.{NoValue}
 use Rattle.derived_values.specs.declared.lack.NoValue.TheVariants.{Memory, Lacks}
 use Rattle.component_values.specs.declared.fault.ValueFault.{ValueFault}
 use Rattle.component_values.specs.declared.fault.ValueFault.TheVariants as fault
 use Rattle.component_values.specs.declared.lines.NamedLines.{NamedLines}
-use Rattle.component_values.specs.declared.lines.Value.{Value}
-use Rattle.component_values.specs.declared.lines.Value.TheVariants as kept
+use Rattle.component_values.specs.Forms as spec
+use Rattle.component_values.specs.declared.form.Form.{Form}
+use Rattle.component_values.specs.declared.form.Form.TheVariants as form
+use Rattle.component_values.specs.declared.plan.Plan.{Plan}
+use Rattle.component_values.specs.declared.plan.Plan.TheVariants as plan
 
 -- the lines among which those of the field are
 abbrev pub field_lines : NamedLines → List FieldLine
 field_lines field = lines_on field.side (message_of field.message.now)
 
--- the text that a kept value stands for
-abbrev pub kept_text : Value → List ℕ
-kept_text (kept.Lines field) = combined_value (field_lines field) field.name.now
-kept_text (kept.Text text) = text
+-- the text that is fed
+abbrev pub planned_text : Plan → List ℕ
+planned_text (plan.Combined field) = combined_value (field_lines field) field.name.now
+planned_text (plan.ByteSequences field) =
+    byte_sequences (values (field_lines field) field.name.now)
+planned_text (plan.Derived text) = text
+planned_text (plan.Text text) = text
 
--- the same of an answer that keeps the value
-abbrev pub KeepsRow : (Result (List ℕ) Lack → Type 0) → Result Value NoValue → Type 0
-KeepsRow Row (Ok value) = Row (Ok (kept_text value))
-KeepsRow Row (Err (Lacks lack)) = Row (Err lack)
-KeepsRow Row (Err Memory) = ⊤
+-- what the row says, of an answer that plans the value
+abbrev pub PlansRow : (Result (List ℕ) Lack → Type 0) → Result Plan NoValue → Type 0
+PlansRow Row (Ok found) = Row (Ok (planned_text found))
+PlansRow Row (Err (Lacks lack)) = Row (Err lack)
+PlansRow Row (Err Memory) = ⊤
+
+-- the form that the code's stands for
+abbrev pub form_meant : Form → spec.Form
+form_meant form.ByteSequences = spec.wrapped
+form_meant (form.Member key) = spec.member key.now
+form_meant form.Strict = spec.strict
+form_meant form.Plain = spec.plain
 
 -- the fault of the component at the index
 abbrev pub lack_fault_at : ℕ → NoValue → ValueFault

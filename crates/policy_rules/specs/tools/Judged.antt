@@ -2,7 +2,7 @@
 use Rattle.std.specs.Prelude.{◌≡◌, ◌⊎◌, ◌≤◌, ◌<◌, ◌+◌, ℕ, pos, ℤ, ◌+ℤ◌, ◌≤ℤ◌, ◌<ℤ◌, Bool, IsTrue, IsFalse, Option, Some, None, IsSome, IsSomeAnd, IfSome, List, length, Result, Ok, Err, ⊤}
 use Rattle.std.specs.List.{list_any}
 use Rattle.component_ids.specs.declared.id.ComponentId.{ComponentId}
-use Rattle.component_ids.specs.tools.SameTests.{is_same}
+use Rattle.component_ids.specs.Sameness.{is_same}
 use Rattle.settings.specs.declared.policy.Policy.{Policy}
 use Rattle.settings.specs.declared.policy.NonceUse.{NonceUse}
 use Rattle.settings.specs.declared.policy.NonceUse.TheVariants.{Require}

@@ -1,5 +1,6 @@
 use Rattle.targets.proofs.TargetParts.{one_target}
 use Rattle.targets.proofs.AuthorityParts.{one_authority, one_authority_value}
+use Rattle.targets.proofs.Schemes.{scheme_in_any_case}
 use Rattle.targets.proofs.laws.target_laws.Goals as goal
 
 pub returns-clause-target : goal.returns-clause-target
@@ -10,3 +11,6 @@ returns-clause-authority c = one_authority
 
 pub returns-clause-value : goal.returns-clause-value
 returns-clause-value c = one_authority_value
+
+pub returns-clause-scheme : goal.returns-clause-scheme
+returns-clause-scheme c = scheme_in_any_case
