@@ -16,6 +16,7 @@ ghost use Rattle.policy_rules.specs.Parameters.{keyid_of};
 ghost use Rattle.policy_rules.specs.PolicyRules.{IsAt};
 ghost use Rattle.verdicts.specs.Rules.{refused_algorithms, key_in};
 ghost use Rattle.verdicts.specs.Verdicts.{IsVerdict, is_verdict_in_range, verification_of};
+ghost use Rattle.signatures.specs.Fields.{AreFieldsOf};
 ghost use Rattle.signatures.specs.tools.Answered.{Explains};
 ghost use Rattle.verdicts.specs.tools.Judged.{ExplainsAlgorithm, ExplainsTag, ExplainsJudged, FailsByKeyid, FailsByKey, SaysFault, LiesIn, rule_of_lack};
 
@@ -30,7 +31,7 @@ use nonces::{NonceBook, Steps};
 use policy_rules::string_param;
 use sfv_text::{BareItem, Item, Memory, Params, Text, print_item};
 use sig_base::feed_base;
-use signatures::{LabelFault, LabelRead, Place, Rule, read_label};
+use signatures::{LabelFault, LabelRead, Place, Rule, SignatureFields};
 use std::alloc::Global;
 use std::sync::ledger::Ledger;
 
@@ -171,6 +172,7 @@ fn judge_tag(
 /// The `keyid` of the accepted label, or the first rule that fails.
 fn judge<L: Ledger>(
     alloc: Global,
+    fields: &SignatureFields,
     context: &Context<'_, '_>,
     label: &[u8],
     conf: &Conf,
@@ -178,14 +180,15 @@ fn judge<L: Ledger>(
     seen: Option<&NonceBook>,
     steps: &mut Steps<L>,
 ) -> Result<Text, LabelFault>
-    requires { IsAt now (option_copied seen) }
+    requires fields { AreFieldsOf (context_of context.now).message fields.now }
+    requires now { IsAt now (option_copied seen) }
     ensures explains { ExplainsJudged (verification_of context.now label.now (meaning conf.now) now
         (option_copied seen.entry)) result }
     ensures steps { steps.old ≤ steps.new }
 {
     let policy = conf.policy();
     let message = context.message;
-    let read = read_label(alloc, message, label)?;
+    let read = fields.label(alloc, label)?;
     judge_algorithm(alloc, &read.params)?;
     let keyid = keyid_of(&read.params)?;
     let key = key_of(conf, keyid)?;
@@ -203,6 +206,32 @@ fn judge<L: Ledger>(
     judge_digest(alloc, message, &read.params, policy.digest)?;
     judge_room(&read.params, policy, seen)?;
     Ok(Text::from_bytes(alloc, keyid)?)
+}
+
+/// The verdict on the label, as `verdict` gives it, over what was read of the signature fields of
+/// the context's message: so the fields are read once for all labels of a message.
+pub fn verdict_in<L: Ledger>(
+    alloc: Global,
+    fields: &SignatureFields,
+    context: &Context<'_, '_>,
+    label: &[u8],
+    conf: &Conf,
+    now: u64,
+    seen: Option<&NonceBook>,
+    steps: &mut Steps<L>,
+) -> Result<Verdict, Memory>
+    requires fields { AreFieldsOf (context_of context.now).message fields.now }
+    requires now { IsAt now (option_copied seen) }
+    ensures is { IfOk result (λ verdict. IsVerdict (verification_of context.now label.now
+        (meaning conf.now) now (option_copied seen.entry)) verdict) }
+    ensures in_range { IfOk result (λ verdict. IsTrue (is_verdict_in_range verdict)) }
+    ensures steps { steps.old ≤ steps.new }
+{
+    match judge(alloc, fields, context, label, conf, now, seen, steps) {
+        Ok(keyid) => Ok(Verdict::Ok { keyid }),
+        Err(LabelFault::Memory) => Err(Memory),
+        Err(LabelFault::Rule(number, place)) => Ok(Verdict::Rule { number, place }),
+    }
 }
 
 /// The verdict on the label at the moment `now`, in seconds since the epoch (RFC 9421 section
@@ -225,9 +254,6 @@ pub fn verdict<L: Ledger>(
     ensures in_range { IfOk result (λ verdict. IsTrue (is_verdict_in_range verdict)) }
     ensures steps { steps.old ≤ steps.new }
 {
-    match judge(alloc, context, label, conf, now, seen, steps) {
-        Ok(keyid) => Ok(Verdict::Ok { keyid }),
-        Err(LabelFault::Memory) => Err(Memory),
-        Err(LabelFault::Rule(number, place)) => Ok(Verdict::Rule { number, place }),
-    }
+    let fields = SignatureFields::read(alloc, context.message)?;
+    verdict_in(alloc, &fields, context, label, conf, now, seen, steps)
 }

@@ -16,11 +16,11 @@ mod laws;
 mod outcome;
 mod policy;
 
-pub use judge::verdict;
+pub use judge::{verdict, verdict_in};
 pub use laws::a_label_has_one_verdict;
 pub use nonces::MAX_MOMENT;
 pub use outcome::Verdict;
 pub use signatures::{
-    DigestReason, LabelFault, LabelRead, Labels, Place, Rule, a_label_has_one_reading,
-    a_message_has_one_list_of_labels, labels_of, read_label,
+    DigestReason, LabelFault, LabelRead, Labels, Place, Rule, SignatureFields,
+    a_label_has_one_reading, a_message_has_one_list_of_labels, labels_of, read_label,
 };
