@@ -6,7 +6,7 @@ use Rattle.sfv_text.specs.declared.value.BareItem.{BareItem}
 use Rattle.msg_head.specs.Lines.{FieldLine}
 use Rattle.msg_head.specs.Starts.{StartLine, request, status}
 use Rattle.component_ids.specs.declared.scheme.Scheme.{Scheme}
-use Rattle.targets.specs.Targets.{TargetParts, SpellsTarget, has_path}
+use Rattle.targets.specs.Targets.{TargetParts, SpellsTarget, path_of, query_of}
 use Rattle.targets.specs.Authorities.{IsAuthorityValue}
 use Rattle.targets.proofs.Decided.{target_is_decided, authority_is_decided}
 use Rattle.targets.proofs.TargetParts.{one_target}
@@ -54,11 +54,11 @@ authority_one scheme (Ok text) = elim (authority_is_decided scheme text) [
 target_authority_one : (parts : RequestParts) (target : TargetParts) → HasSoleAnswer (TargetAuthorityRow parts target)
 target_authority_one parts target = authority_one (scheme_of parts target) (named_authority parts target.authority)
 
-uri_one : (path : Bool) (parts : RequestParts) (target : TargetParts) → HasSoleAnswer (TargetUriRow path parts target)
-uri_one false parts target = the_answer (Err Underivable)
-uri_one true parts target =
+uri_one : (path : Option (List ℕ)) (parts : RequestParts) (target : TargetParts) → HasSoleAnswer (TargetUriRow path parts target)
+uri_one None parts target = the_answer (Err Underivable)
+uri_one (Some path) parts target =
     let authority = target_authority_one parts target in
-    let answer_of = result_map_both (uri_text parts target) (λ lack. lack) in
+    let answer_of = result_map_both (uri_text parts target path) (λ lack. lack) in
     record {
       answer = answer_of authority.answer;
       is = (authority.answer, authority.is, refl);
@@ -72,8 +72,8 @@ target_one name.Scheme params parts target = the_answer (Ok (scheme_of parts tar
 target_one name.Authority params parts target = target_authority_one parts target
 target_one name.Path params parts target = the_answer (path_value target)
 target_one name.Query params parts target = the_answer (query_value target)
-target_one name.TargetUri params parts target = uri_one (has_path target.form) parts target
-target_one name.QueryParam params parts target = the_answer (param_value (has_path target.form) params target)
+target_one name.TargetUri params parts target = uri_one (path_of target) parts target
+target_one name.QueryParam params parts target = the_answer (param_value (query_of target) params)
 
 formed_one : (of_target : TargetName) (params : List (Pair BareItem)) (parts : RequestParts) → HasSoleAnswer (FormedRow of_target params parts)
 formed_one of_target params parts = elim (target_is_decided parts.method parts.target) [

@@ -102,10 +102,6 @@ path_printable target are = elim (cases_Bool (has_path target.form)) [
   | inr none ↦ rw none tt
 ]
 
-unwrapped : (found : Option (List ℕ)) → IfSome found IsPrintable → IsPrintable (unwrap_or found [])
-unwrapped None is = refl
-unwrapped (Some text) is = is
-
 visible_query : (query : Option (List ℕ)) → IfSome query (λ text. list_all is_visible text ≡ true) → IsPrintable (byte "?" ∷ unwrap_or query [])
 visible_query None is = refl
 visible_query (Some text) is = visible text is
@@ -120,31 +116,31 @@ query_text_printable : (query : Option (List ℕ)) → IfSome query (λ text. li
 query_text_printable None is = refl
 query_text_printable (Some text) is = visible text is
 
-uri_printable : (parts : RequestParts) (target : TargetParts) → AreVisible target → (authority : List ℕ) → IsPrintable authority → IsPrintable (uri_text parts target authority)
-uri_printable parts target are authority is =
-    let path = unwrap_or (path_of target) [] in
+uri_printable : (parts : RequestParts) (target : TargetParts) → AreVisible target → (path authority : List ℕ) → IsPrintable path → IsPrintable authority
+    → IsPrintable (uri_text parts target path authority)
+uri_printable parts target are path authority has is =
     let query = query_text target.query in
-    let last = all_joined is_string_byte path query (unwrapped (path_of target) (path_printable target are)) (query_text_printable target.query are.query) in
+    let last = all_joined is_string_byte path query has (query_text_printable target.query are.query) in
     let rest = all_joined is_string_byte authority (path ++ query) is last in
     all_joined is_string_byte (scheme_of parts target) (codes "://" ++ (authority ++ (path ++ query))) (one_scheme parts.scheme target.scheme are.scheme)
     (all_joined is_string_byte (codes "://") (authority ++ (path ++ query)) refl rest)
 
-uri_value : (parts : RequestParts) (target : TargetParts) → AreVisible target → (authority : Answer) (value : List ℕ) → TargetAuthorityRow parts target authority
-    → Ok value ≡ result_map_both (uri_text parts target) (λ lack. lack) authority → IsPrintable value
-uri_value parts target are (Err lack) value row is = absurd cc
-uri_value parts target are (Ok authority) value row is =
+uri_value : (parts : RequestParts) (target : TargetParts) → AreVisible target → (path : List ℕ) → IsPrintable path → (authority : Answer) (value : List ℕ) → TargetAuthorityRow parts target authority
+    → Ok value ≡ result_map_both (uri_text parts target path) (λ lack. lack) authority → IsPrintable value
+uri_value parts target are path has (Err lack) value row is = absurd cc
+uri_value parts target are path has (Ok authority) value row is =
     let named = authority_printable (scheme_of parts target) (named_authority parts target.authority) authority row in
-    of_answer value (uri_text parts target authority) (uri_printable parts target are authority named) is
+    of_answer value (uri_text parts target path authority) (uri_printable parts target are path authority has named) is
 
-uri_row : (path : Bool) (parts : RequestParts) (target : TargetParts) → AreVisible target → (value : List ℕ) → TargetUriRow path parts target (Ok value) → IsPrintable value
-uri_row false parts target are value row = absurd cc
-uri_row true parts target are value row = uri_value parts target are row.0 value row.1 row.2
+uri_row : (path : Option (List ℕ)) → IfSome path IsPrintable → (parts : RequestParts) (target : TargetParts) → AreVisible target → (value : List ℕ) → TargetUriRow path parts target (Ok value)
+    → IsPrintable value
+uri_row None has parts target are value row = absurd cc
+uri_row (Some path) has parts target are value row = uri_value parts target are path has row.0 value row.1 row.2
 
-param_row : (path : Bool) (params : List (Pair BareItem)) (target : TargetParts) (value : List ℕ) → Ok value ≡ param_value path params target → IsPrintable value
-param_row false params target value row = absurd cc
-param_row true params target value row =
-    let query = unwrap_or target.query [] in
-    of_sole (matches query (param_name params)) value (matches_printable query (param_name params)) row
+param_row : (query : Option (Option (List ℕ))) (params : List (Pair BareItem)) (value : List ℕ) → Ok value ≡ param_value query params → IsPrintable value
+param_row None params value row = absurd cc
+param_row (Some query) params value row =
+    of_sole (matches (unwrap_or query []) (param_name params)) value (matches_printable (unwrap_or query []) (param_name params)) row
 
 -- ---- rows
 
@@ -155,8 +151,8 @@ target_row name.Authority params parts target are value row = authority_printabl
 target_row name.Path params parts target are value row = of_some (path_of target) Underivable value (path_printable target are) row
 target_row name.Query params parts target are value row =
     of_some (option_map (λ query. byte "?" ∷ unwrap_or query []) (query_of target)) Underivable value (query_printable target are) row
-target_row name.TargetUri params parts target are value row = uri_row (has_path target.form) parts target are value row
-target_row name.QueryParam params parts target are value row = param_row (has_path target.form) params target value row
+target_row name.TargetUri params parts target are value row = uri_row (path_of target) (path_printable target are) parts target are value row
+target_row name.QueryParam params parts target are value row = param_row (query_of target) params value row
 
 formed_row : (of_target : TargetName) (params : List (Pair BareItem)) (parts : RequestParts) → list_all is_visible parts.target ≡ true → (value : List ℕ)
     → FormedRow of_target params parts (Ok value) → IsPrintable value

@@ -1,6 +1,6 @@
 -- The value of a derived component, or how it lacks one: the rows of the names that begin with `@`
 -- (RFC 9421 section 2.2).
-use Rattle.std.specs.Prelude.{◌≡◌, ◌⊎◌, ℕ, Bool, true, false, Option, Some, None, unwrap_or, option_map, option_and_then, ok_or, List, [], ◌∷◌, ◌++◌, Result, Ok, Err, codes, if◌then◌else◌}
+use Rattle.std.specs.Prelude.{◌≡◌, ◌⊎◌, ℕ, Option, Some, None, unwrap_or, option_map, option_and_then, ok_or, List, [], ◌∷◌, ◌++◌, Result, Ok, Err, codes, if◌then◌else◌}
 use Rattle.std.specs.Result.{result_map_both}
 use Rattle.std.specs.Str.{byte, bytes_eq, str_to_ascii_lowercase}
 use Rattle.sfv_text.specs.Parts.{string_in}
@@ -12,7 +12,7 @@ use Rattle.msg_head.specs.Starts.{StartLine, request, status}
 use Rattle.msg_head.specs.Values.{values}
 use Rattle.component_ids.specs.declared.scheme.Scheme.{Scheme}
 use Rattle.component_ids.specs.declared.scheme.Scheme.TheVariants.{Http, Https}
-use Rattle.targets.specs.Targets.{TargetParts, SpellsTarget, has_path, path_of, query_of, query_text}
+use Rattle.targets.specs.Targets.{TargetParts, SpellsTarget, path_of, query_of, query_text}
 use Rattle.targets.specs.Authorities.{IsAuthorityValue}
 use Rattle.targets.specs.Query.{matches}
 use Rattle.derived_values.specs.declared.derived.DerivedName.{DerivedName}
@@ -96,28 +96,29 @@ query_value target =
     ok_or (option_map (λ query. byte "?" ∷ unwrap_or query []) (query_of target)) Underivable
 
 -- the scheme, `://`, the authority, the path, and `?` with the query where there is a `?`
-abbrev pub uri_text : RequestParts → TargetParts → List ℕ → List ℕ
-uri_text parts target authority =
-    scheme_of parts target ++ (codes "://" ++ (authority
-    ++ (unwrap_or (path_of target) [] ++ query_text target.query)))
+abbrev pub uri_text : RequestParts → TargetParts → List ℕ → List ℕ → List ℕ
+uri_text parts target path authority =
+    scheme_of parts target
+    ++ (codes "://" ++ (authority ++ (path ++ query_text target.query)))
 
--- `@target-uri`, which lacks as `@authority` does (section 2.2.2); by whether the target has a path
-abbrev pub TargetUriRow : Bool → RequestParts → TargetParts → Result (List ℕ) Lack → Type 0
-TargetUriRow false parts target result = result ≡ Err Underivable
-TargetUriRow true parts target result = (authority : Result (List ℕ) Lack)
+-- `@target-uri` of a target with this path: it lacks as `@authority` does (section 2.2.2)
+abbrev pub TargetUriRow : Option (List ℕ) → RequestParts → TargetParts
+    → Result (List ℕ) Lack → Type 0
+TargetUriRow None parts target result = result ≡ Err Underivable
+TargetUriRow (Some path) parts target result = (authority : Result (List ℕ) Lack)
     × TargetAuthorityRow parts target authority
-    × (result ≡ result_map_both (uri_text parts target) (λ lack. lack) authority)
+    × (result ≡ result_map_both (uri_text parts target path) (λ lack. lack) authority)
 
 -- the characters of the String that the parameter `name` is
 abbrev pub param_name : List (Pair BareItem) → List ℕ
 param_name params = unwrap_or (option_and_then string_in (value_of params (codes "name"))) []
 
--- `@query-param`: the one value under the name (section 2.2.8); by whether the target has a query,
--- as one with a path does
-abbrev pub param_value : Bool → List (Pair BareItem) → TargetParts → Result (List ℕ) Lack
-param_value false params target = Err Underivable
-param_value true params target =
-    sole_value (matches (unwrap_or target.query []) (param_name params))
+-- `@query-param` of a target with this query, if it has a `?`: the one value under the name
+-- (section 2.2.8)
+abbrev pub param_value : Option (Option (List ℕ)) → List (Pair BareItem) → Result (List ℕ) Lack
+param_value None params = Err Underivable
+param_value (Some query) params =
+    sole_value (matches (unwrap_or query []) (param_name params))
 
 -- ---- rows
 
@@ -129,9 +130,9 @@ TargetRow name.Authority params parts target result = TargetAuthorityRow parts t
 TargetRow name.Path params parts target result = result ≡ path_value target
 TargetRow name.Query params parts target result = result ≡ query_value target
 TargetRow name.TargetUri params parts target result =
-    TargetUriRow (has_path target.form) parts target result
+    TargetUriRow (path_of target) parts target result
 TargetRow name.QueryParam params parts target result =
-    result ≡ param_value (has_path target.form) params target
+    result ≡ param_value (query_of target) params
 
 -- a target in no form has no parts to draw from
 abbrev pub FormedRow : TargetName → List (Pair BareItem) → RequestParts

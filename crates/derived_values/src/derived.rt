@@ -5,7 +5,7 @@ ghost use Rattle.std.specs.Str.{str_to_ascii_lowercase};
 ghost use Rattle.msg_head.specs.declared.error.Side.{Side};
 ghost use Rattle.msg_body.specs.Views.{message_of, lines_on};
 ghost use Rattle.msg_head.specs.Values.{value, values};
-ghost use Rattle.targets.specs.Targets.{has_path};
+ghost use Rattle.targets.specs.Targets.{path_of, query_of};
 ghost use Rattle.targets.specs.Views.{parts_of};
 ghost use Rattle.derived_values.specs.Derived.{derived_of, target_name_of, scheme_text, scheme_of, sole_value, AuthorityRow, TargetAuthorityRow, TargetUriRow, TargetRow, FormedRow, RequestRow, DerivedRow, path_value, query_value, param_value, param_name, response_value};
 ghost use Rattle.derived_values.specs.Answers.{AnswersRow};
@@ -197,7 +197,7 @@ fn query_value<'m>(target: &Target<'m>) -> Result<Parts<'m>, Lack>
 
 /// `@target-uri`.
 fn target_uri<'m>(request: Request<'_, 'm>, target: &Target<'m>) -> Result<Parts<'m>, Lack>
-    ensures { GivesParts (TargetUriRow (has_path (parts_of target.now).form)
+    ensures { GivesParts (TargetUriRow (path_of (parts_of target.now))
         (request_parts request.entry) (parts_of target.now)) result }
 {
     let Some(path) = path_of(target) else {
@@ -225,8 +225,7 @@ fn param_name(params: &Params) -> &[u8]
 /// `@query-param`.
 fn param_value(alloc: Global, params: &Params, target: &Target<'_>) -> Result<Text, NoValue>
     ensures { AnswersRow (λ answer. answer
-        ≡ param_value (has_path (parts_of target.now).form) params.now (parts_of target.now))
-        result }
+        ≡ param_value (query_of (parts_of target.now)) params.now) result }
 {
     let Some(query) = query_of(target) else {
         return Err(NoValue::Lacks(Lack::Underivable));
