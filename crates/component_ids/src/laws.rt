@@ -1,5 +1,5 @@
-//! Laws of identifiers, and of Inner Lists that are read as signature parameters. Each function does
-//! nothing; its contract is the law.
+//! Laws of identifiers, and of Inner Lists that are read as signature parameters. Each function
+//! does nothing; its contract is the law.
 
 ghost use Rattle.component_ids.specs.Laws.{SamenessIsTested, HasAnswer, HasOneSigParams, HasOneFault, HasNotBoth};
 
