@@ -1,20 +1,22 @@
 -- Words as options.
-use Rattle.std.proofs.Common.{◌≡◌, ◌<◌, ℕ, Bool, true, false, ◌||◌, List, [], ◌∷◌, ◌++◌, length, Option, Some, None, refl, sym, ap, subst, ◌∙◌, inl, inr, arith, append_assoc}
-use Rattle.std.specs.Prelude.{option_map}
-use Rattle.std.specs.Option.{option_or}
+use Rattle.std.proofs.Common.{◌≡◌, ◌<◌, ◌+◌, ℕ, Bool, true, false, ◌||◌, List, [], ◌∷◌, ◌++◌, length, map, Option, Some, None, refl, sym, ap, subst, ◌∙◌, inl, inr, arith, append_assoc}
+use Rattle.std.specs.Prelude.{◌⊎◌, ◌==◌, codes, cond, IfNone, IfSome, option_map, unwrap_or, if◌then◌else◌}
 use Rattle.std.specs.List.{list_all, list_any, find}
 use Rattle.std.specs.Str.{bytes_eq}
 use Rattle.std.proofs.lemmas.Bool.{cases_Bool, and_parts, false≢true}
-use Rattle.std.proofs.lemmas.List.Folds.{list_all-append, list_any-append, find-append}
+use Rattle.std.proofs.lemmas.Bool.Decides.{nat_tests}
+use Rattle.std.proofs.lemmas.List.Folds.{list_all-append, list_any-append}
 use Rattle.std.proofs.lemmas.List.{append-nil}
 use Rattle.std.proofs.lemmas.Slice.Eq.{bytes_eq-Decides}
 use Rattle.sfv_text.specs.Keys.{has_key, have_distinct_keys, value_of}
 use Rattle.sfv_text.specs.declared.pair.Pair.{Pair}
 use Rattle.sfv_text.proofs.PutLaws.{distinct_parts, put_distinct, put_new}
-use Rattle.command_line.specs.Options.{may_have, takes, words_of, AreOptions}
+use Rattle.command_line.specs.Options.{is_taken_by, may_have, option_of, row_of, takes, words_of, AreOptions}
 use Rattle.command_line.specs.declared.options.CommandName.{CommandName}
-use Rattle.command_line.specs.declared.options.Met.{Met}
-use Rattle.command_line.specs.tools.Met.{is_met, IsNewOption, HasOptions, AreMetBefore, AreOthersBefore}
+use Rattle.command_line.specs.declared.options.CommandOption.{CommandOption}
+use Rattle.command_line.specs.declared.options.CommandOption.TheVariants.{Conf, Now, Label}
+use Rattle.command_line.specs.declared.options.OptionWords.{OptionWords}
+use Rattle.command_line.specs.tools.Found.{word_in, AddsOption, AreWordsOf, IsNextOption, HasOptions, AreFoundBefore}
 
 -- ---- the words of options
 
@@ -37,6 +39,14 @@ begins (p ∷ done) (o ∷ options) left e =
     let same = three_parts p.key p.value o.key o.value (words_of done ++ left) (words_of options) e in
     let more = begins done options left same.2 in
     (more.0, (λ i. one_is o p (sym same.0) (sym same.1) i ∷ more.1 i), more.2)
+
+ends : (a b rest : List (Pair (List ℕ))) → b ≡ a ++ rest → [] ≡ words_of rest → a ≡ b
+ends a b [] whole none = sym (whole ∙ append-nil a)
+ends a b (p ∷ rest) whole none = absurd cc
+
+-- words are one list of options
+pub one_list : (a b : List (Pair (List ℕ))) → words_of a ≡ words_of b → a ≡ b
+one_list a b e = let rest = begins a b [] (append-nil (words_of a) ∙ e) in ends a b rest.0 rest.1 rest.2
 
 -- two words and more begin with an option
 begins_with : (rest : List (Pair (List ℕ))) (o w : List ℕ) (after : List (List ℕ)) → o ∷ w ∷ after ≡ words_of rest
@@ -73,130 +83,161 @@ new_at (q ∷ done) others p distinct =
       | inr other ↦ rw other (new_at done others p parts.1)
     ]
 
--- ---- what was met
+-- ---- the words that were found
 
-pub none_met : (command : CommandName) (met : Met) (words : List (List ℕ)) → ((option : List ℕ) → is_met met option ≡ false)
-    → AreMetBefore command met words words
-none_met command met words none = record {
+pub none_found_yet : (command : CommandName) (found : OptionWords) (words : List (List ℕ)) → ((option : CommandOption) → word_in found option ≡ None)
+    → AreFoundBefore command found words words
+none_found_yet command found words none = record {
   done = [];
   joined = refl;
   are = record { joined = refl; distinct = refl; taken = refl; had = refl };
-  are_met = none;
+  are_found = none;
 }
 
-snoc_test : (test : Pair (List ℕ) → Bool) (done : List (Pair (List ℕ))) (p : Pair (List ℕ)) → list_all test done ≡ true → test p ≡ true → list_all test (done ++ (p ∷ [])) ≡ true
-snoc_test test done p all is = list_all-append test done (p ∷ []) ∙ rw (all, is) refl
+-- an option has the name of its row
+cond_some : (b : Bool) (x y : CommandOption) (rest : Option CommandOption) → cond b (Some x) rest ≡ Some y → ((b ≡ true) × (x ≡ y)) ⊎ (rest ≡ Some y)
+cond_some true x y rest e = inl (refl, cc)
+cond_some false x y rest e = inr e
 
-at_end : (a b : Bool) → (a || b) ≡ (b || (a || false))
-at_end true true = refl
-at_end true false = refl
-at_end false true = refl
-at_end false false = refl
+name_is : (name : List ℕ) (option : CommandOption) → option_of name ≡ Some option → name ≡ (row_of option).word
+name_is name option e = elim (cond_some (bytes_eq name (codes "--conf")) Conf option _ e) [
+  | inl first ↦ (bytes_eq-Decides name (codes "--conf")).0 first.0 ∙ ap (λ (o : CommandOption). (row_of o).word) first.1
+  | inr others ↦ elim (cond_some (bytes_eq name (codes "--now")) Now option _ others) [
+    | inl second ↦ (bytes_eq-Decides name (codes "--now")).0 second.0 ∙ ap (λ (o : CommandOption). (row_of o).word) second.1
+    | inr more ↦ elim (cond_some (bytes_eq name (codes "--label")) Label option None more) [
+      | inl third ↦ (bytes_eq-Decides name (codes "--label")).0 third.0 ∙ ap (λ (o : CommandOption). (row_of o).word) third.1
+      | inr none ↦ absurd cc
+    ]
+  ]
+]
 
-pub one_more_met : (command : CommandName) (met more : Met) (words after : List (List ℕ)) (option word : List ℕ)
-    → AreMetBefore command met words (option ∷ word ∷ after) → IsNewOption command met option word
-    → ((other : List ℕ) → is_met more other ≡ (bytes_eq option other || is_met met other))
-    → AreMetBefore command more words after
-one_more_met command met more words after option word so_far new put_in =
-    let pair : Pair (List ℕ) = record { key = option; value = word } in
-    let is_new : list_any (has_key option) so_far.done ≡ false = sym (so_far.are_met option) ∙ new.is_new in
-    record {
-      done = so_far.done ++ (pair ∷ []);
-      joined = so_far.joined ∙ (sym (append_assoc (words_of so_far.done) (option ∷ word ∷ []) after)
-          ∙ ap (λ (words : List (List ℕ)). words ++ after) (sym (words_joined so_far.done (pair ∷ []))));
-      are = record {
-        joined = refl;
-        distinct = rw (put_new so_far.done option word is_new) (put_distinct so_far.done option word so_far.are.distinct);
-        taken = snoc_test (λ p. takes command p.key) so_far.done pair so_far.are.taken new.taken;
-        had = snoc_test (λ p. may_have p.key p.value) so_far.done pair so_far.are.had new.had;
-      };
-      are_met = λ other. put_in other ∙ (rw (so_far.are_met other) (at_end (bytes_eq option other) (list_any (has_key other) so_far.done))
-          ∙ sym (list_any-append (has_key other) so_far.done (pair ∷ [])));
-    }
+option_named : (test : CommandOption → Bool) (name : List ℕ) (option : CommandOption) → option_of name ≡ Some option
+    → unwrap_or (option_map test (option_of name)) false ≡ test option
+option_named test name option e = ap (λ (found : Option CommandOption). unwrap_or (option_map test found) false) e
 
-pub all_met : (command : CommandName) (met : Met) (words : List (List ℕ)) → AreMetBefore command met words [] → HasOptions command words
-all_met command met words so_far =
-    let e : words ≡ words_of so_far.done = so_far.joined ∙ append-nil (words_of so_far.done) in
-    (so_far.done, record { joined = e; distinct = so_far.are.distinct; taken = so_far.are.taken; had = so_far.are.had })
-
--- an option that comes after those that were met, in options of the command, can come next
-comes_next : (command : CommandName) (met : Met) (done others : List (Pair (List ℕ))) (p : Pair (List ℕ)) (words : List (List ℕ))
-    → AreOptions command words (done ++ (p ∷ others)) → ((option : List ℕ) → is_met met option ≡ list_any (has_key option) done)
-    → IsNewOption command met p.key p.value
-comes_next command met done others p words are are_met = record {
-  is_new = are_met p.key ∙ new_at done others p are.distinct;
-  taken = all_at (λ p. takes command p.key) done others p are.taken;
-  had = all_at (λ p. may_have p.key p.value) done others p are.had;
-}
-
--- an option that can't come next is in no options
-pub none_next : (command : CommandName) (met : Met) (words after : List (List ℕ)) (option word : List ℕ)
-    → AreMetBefore command met words (option ∷ word ∷ after) → (IsNewOption command met option word → ⊥)
-    → (options : List (Pair (List ℕ))) → AreOptions command words options → ⊥
-none_next command met words after option word so_far none options are =
-    let rest = begins so_far.done options (option ∷ word ∷ after) (sym so_far.joined ∙ are.joined) in
-    let first = begins_with rest.0 option word after rest.2 in
-    let whole : options ≡ so_far.done ++ (first.0 ∷ first.1) = rest.1 ∙ ap (λ (others : List (Pair (List ℕ))). so_far.done ++ others) first.2 in
-    let next = comes_next command met so_far.done first.1 first.0 words (subst (λ (all : List (Pair (List ℕ))). AreOptions command words all) whole are) so_far.are_met in
-    none (subst (λ (o : List ℕ). IsNewOption command met o word) (sym first.3) (subst (λ (w : List ℕ). IsNewOption command met first.0.key w) (sym first.4) next))
-
--- one word that is left over makes the words none
-pub none_left_over : (command : CommandName) (met : Met) (words left : List (List ℕ)) → AreMetBefore command met words left → length left < 2
-    → (left ≡ [] → ⊥) → (options : List (Pair (List ℕ))) → AreOptions command words options → ⊥
-none_left_over command met words [] so_far few some options are = some refl
-none_left_over command met words (word ∷ []) so_far few some options are =
-    let rest = begins so_far.done options (word ∷ []) (sym so_far.joined ∙ are.joined) in no_single rest.0 word rest.2
-none_left_over command met words (word ∷ other ∷ more) so_far few some options are = absurd (omega (arith, few))
-
--- ---- the word of an option
-
-pub none_other : (option : List ℕ) (words : List (List ℕ)) → AreOthersBefore option words words
-none_other option words = record { done = []; joined = refl; others = refl }
-
-pub one_more_other : (option key word : List ℕ) (words after : List (List ℕ)) → AreOthersBefore option words (key ∷ word ∷ after)
-    → bytes_eq key option ≡ false → AreOthersBefore option words after
-one_more_other option key word words after so_far apart =
-    let pair : Pair (List ℕ) = record { key = key; value = word } in
-    record {
-      done = so_far.done ++ (pair ∷ []);
-      joined = so_far.joined ∙ (sym (append_assoc (words_of so_far.done) (key ∷ word ∷ []) after)
-          ∙ ap (λ (words : List (List ℕ)). words ++ after) (sym (words_joined so_far.done (pair ∷ []))));
-      others = list_any-append (has_key option) so_far.done (pair ∷ []) ∙ rw (so_far.others, apart) refl;
-    }
+-- a test that holds of the option of a name holds of some option
+named_option : (found : Option CommandOption) (test : CommandOption → Bool) → unwrap_or (option_map test found) false ≡ true
+    → (option : CommandOption) × (found ≡ Some option) × (test option ≡ true)
+named_option None test holds = absurd cc
+named_option (Some option) test holds = (option, refl, holds)
 
 none_found : (option : List ℕ) (done : List (Pair (List ℕ))) → list_any (has_key option) done ≡ false → find (has_key option) done ≡ None
 none_found option [] none = refl
 none_found option (p ∷ done) none =
     let parts = or_false (has_key option p) (list_any (has_key option) done) none in rw parts.0 (none_found option done parts.1)
 
-value_at : (option : List ℕ) (done others : List (Pair (List ℕ))) (p : Pair (List ℕ)) → list_any (has_key option) done ≡ false → has_key option p ≡ true
-    → value_of (done ++ (p ∷ others)) option ≡ Some p.value
-value_at option done others p none is =
-    let found : option_or (find (has_key option) done) (find (has_key option) (p ∷ others)) ≡ Some p = rw (none_found option done none, is) refl in
-    ap (λ (found : Option (Pair (List ℕ))). option_map (λ pair. pair.value) found) (find-append (has_key option) done (p ∷ others) ∙ found)
+found_none : (option : List ℕ) (done : List (Pair (List ℕ))) → value_of done option ≡ None → list_any (has_key option) done ≡ false
+found_none option [] none = refl
+found_none option (p ∷ done) none = elim (cases_Bool (has_key option p)) [
+  | inl same ↦ let some : Some p.value ≡ None = rw same at none in absurd cc
+  | inr other ↦ rw other (found_none option done (rw other at none))
+]
 
-pub found_word : (option key word : List ℕ) (words after : List (List ℕ)) → AreOthersBefore option words (key ∷ word ∷ after) → bytes_eq key option ≡ true
-    → (options : List (Pair (List ℕ))) → words ≡ words_of options → Some word ≡ value_of options option
-found_word option key word words after so_far is options e =
-    let rest = begins so_far.done options (key ∷ word ∷ after) (sym so_far.joined ∙ e) in
-    let first = begins_with rest.0 key word after rest.2 in
-    let whole : options ≡ so_far.done ++ (first.0 ∷ first.1) = rest.1 ∙ ap (λ (others : List (Pair (List ℕ))). so_far.done ++ others) first.2 in
-    let same : has_key option first.0 ≡ true = subst (λ (k : List ℕ). bytes_eq k option ≡ true) first.3 is in
-    ap (λ (w : List ℕ). Some w) first.4
-    ∙ (sym (value_at option so_far.done first.1 first.0 so_far.others same) ∙ ap (λ (all : List (Pair (List ℕ))). value_of all option) (sym whole))
+value_none : (option : List ℕ) (done : List (Pair (List ℕ))) → list_any (has_key option) done ≡ false → value_of done option ≡ None
+value_none option done none = ap (λ (found : Option (Pair (List ℕ))). option_map (λ pair. pair.value) found) (none_found option done none)
 
-pub no_word : (option : List ℕ) (words left : List (List ℕ)) → AreOthersBefore option words left → length left < 2
-    → (options : List (Pair (List ℕ))) → words ≡ words_of options → None ≡ value_of options option
-no_word option words [] so_far few options e =
-    let rest = begins so_far.done options [] (sym so_far.joined ∙ e) in ends rest.0 rest.1 rest.2
+-- the value with one more pair, whose key is new
+value_more : (option : List ℕ) (done : List (Pair (List ℕ))) (p : Pair (List ℕ)) → list_any (has_key p.key) done ≡ false
+    → value_of (done ++ (p ∷ [])) option ≡ (if bytes_eq p.key option then Some p.value else value_of done option)
+value_more option [] p none = elim (cases_Bool (bytes_eq p.key option)) [
+  | inl same ↦ rw same refl
+  | inr other ↦ rw other refl
+]
+value_more option (q ∷ done) p none =
+    let parts = or_false (has_key p.key q) (list_any (has_key p.key) done) none in
+    elim (cases_Bool (has_key option q)) [
+      | inl same ↦ elim (cases_Bool (bytes_eq p.key option)) [
+        | inl also ↦
+            let q_is : q.key ≡ option = (bytes_eq-Decides q.key option).0 same in
+            let p_is : p.key ≡ option = (bytes_eq-Decides p.key option).0 also in
+            absurd (false≢true (sym parts.0 ∙ (bytes_eq-Decides q.key p.key).1 (q_is ∙ sym p_is)))
+        | inr other ↦ rw (same, other) refl
+      ]
+      | inr other ↦ rw other (value_more option done p parts.1)
+    ]
+
+snoc_test : (test : Pair (List ℕ) → Bool) (done : List (Pair (List ℕ))) (p : Pair (List ℕ)) → list_all test done ≡ true → test p ≡ true → list_all test (done ++ (p ∷ [])) ≡ true
+snoc_test test done p all is = list_all-append test done (p ∷ []) ∙ rw (all, is) refl
+
+-- the options with one more
+pub one_more_found : (command : CommandName) (found now : OptionWords) (words after : List (List ℕ)) (name word : List ℕ)
+    → AreFoundBefore command found words (name ∷ word ∷ after) → AddsOption command found name word now → AreFoundBefore command now words after
+one_more_found command found now words after name word so_far more =
+    let option = more.option in
+    let next = more.next in
+    let pair : Pair (List ℕ) = record { key = name; value = word } in
+    let named : name ≡ (row_of option).word = name_is name option next.named in
+    let none : value_of so_far.done name ≡ None =
+    ap (λ (n : List ℕ). value_of so_far.done n) named ∙ (sym (so_far.are_found option) ∙ next.is_new) in
+    let is_new : list_any (has_key name) so_far.done ≡ false = found_none name so_far.done none in
+    record {
+      done = so_far.done ++ (pair ∷ []);
+      joined = so_far.joined ∙ (sym (append_assoc (words_of so_far.done) (name ∷ word ∷ []) after)
+          ∙ ap (λ (words : List (List ℕ)). words ++ after) (sym (words_joined so_far.done (pair ∷ []))));
+      are = record {
+        joined = refl;
+        distinct = rw (put_new so_far.done name word is_new) (put_distinct so_far.done name word so_far.are.distinct);
+        taken = snoc_test (λ p. takes command p.key) so_far.done pair so_far.are.taken (option_named (is_taken_by command) name option next.named ∙ next.taken);
+        had = snoc_test (λ p. may_have p.key p.value) so_far.done pair so_far.are.had (option_named (λ o. (row_of o).may_have word) name option next.named ∙ next.had);
+      };
+      are_found = λ other. more.added other
+          ∙ ((λ i. if bytes_eq (sym named i) (row_of other).word then Some word else so_far.are_found other i)
+          ∙ sym (value_more (row_of other).word so_far.done pair is_new));
+    }
+
+pub all_found : (command : CommandName) (found : OptionWords) (words : List (List ℕ)) → AreFoundBefore command found words [] → HasOptions command words found
+all_found command found words so_far =
+    let e : words ≡ words_of so_far.done = so_far.joined ∙ append-nil (words_of so_far.done) in
+    let word_is = λ (option : CommandOption) (others : List (Pair (List ℕ))) (are : words ≡ words_of others).
+    so_far.are_found option ∙ ap (λ (all : List (Pair (List ℕ))). value_of all (row_of option).word) (one_list so_far.done others (sym e ∙ are)) in
+    record {
+      options = so_far.done;
+      are = record { joined = e; distinct = so_far.are.distinct; taken = so_far.are.taken; had = so_far.are.had };
+      conf_is = word_is Conf;
+      now_is = word_is Now;
+      label_is = word_is Label;
+    }
+
+-- an option that comes after those that were found, in options of the command, can come next
+comes_next : (command : CommandName) (found : OptionWords) (done others : List (Pair (List ℕ))) (p : Pair (List ℕ)) (words : List (List ℕ))
+    → AreOptions command words (done ++ (p ∷ others)) → AreWordsOf found done
+    → (option : CommandOption) × IsNextOption command found p.key p.value option
+comes_next command found done others p words are are_found =
+    let took = named_option (option_of p.key) (is_taken_by command) (all_at (λ p. takes command p.key) done others p are.taken) in
+    let had = named_option (option_of p.key) (λ o. (row_of o).may_have p.value) (all_at (λ p. may_have p.key p.value) done others p are.had) in
+    let named : p.key ≡ (row_of took.0).word = name_is p.key took.0 took.1 in
+    let same : had.0 ≡ took.0 = some_is (sym had.1 ∙ took.1) in (
+      took.0,
+      record {
+        named = took.1;
+        is_new = are_found took.0 ∙ (ap (λ (n : List ℕ). value_of done n) (sym named) ∙ value_none p.key done (new_at done others p are.distinct));
+        taken = took.2;
+        had = subst (λ (o : CommandOption). (row_of o).may_have p.value ≡ true) same had.2;
+      },
+    )
   where
-    ends : (rest : List (Pair (List ℕ))) → options ≡ so_far.done ++ rest → [] ≡ words_of rest → None ≡ value_of options option
-    ends [] whole none = ap (λ (found : Option (Pair (List ℕ))). option_map (λ pair. pair.value) found)
-        (sym (none_found option so_far.done so_far.others)) ∙ ap (λ (all : List (Pair (List ℕ))). value_of all option) (sym (whole ∙ append-nil so_far.done))
-    ends (p ∷ others) whole none = absurd cc
-no_word option words (word ∷ []) so_far few options e =
-    let rest = begins so_far.done options (word ∷ []) (sym so_far.joined ∙ e) in absurd (no_single rest.0 word rest.2)
-no_word option words (word ∷ other ∷ more) so_far few options e = absurd (omega (arith, few))
+    some_is : {x y : CommandOption} → Some x ≡ Some y → x ≡ y
+    some_is e = cc
+
+-- an option that can't come next is in no options
+pub none_next : (command : CommandName) (found : OptionWords) (words after : List (List ℕ)) (name word : List ℕ)
+    → AreFoundBefore command found words (name ∷ word ∷ after) → ((option : CommandOption) → IsNextOption command found name word option → ⊥)
+    → (options : List (Pair (List ℕ))) → AreOptions command words options → ⊥
+none_next command found words after name word so_far none options are =
+    let rest = begins so_far.done options (name ∷ word ∷ after) (sym so_far.joined ∙ are.joined) in
+    let first = begins_with rest.0 name word after rest.2 in
+    let whole : options ≡ so_far.done ++ (first.0 ∷ first.1) = rest.1 ∙ ap (λ (others : List (Pair (List ℕ))). so_far.done ++ others) first.2 in
+    let next = comes_next command found so_far.done first.1 first.0 words (subst (λ (all : List (Pair (List ℕ))). AreOptions command words all) whole are) so_far.are_found in
+    none next.0 (subst (λ (n : List ℕ). IsNextOption command found n word next.0) (sym first.3)
+    (subst (λ (w : List ℕ). IsNextOption command found first.0.key w next.0) (sym first.4) next.1))
+
+-- one word that is left over makes the words none
+pub none_left_over : (command : CommandName) (found : OptionWords) (words left : List (List ℕ)) → AreFoundBefore command found words left → length left < 2
+    → (left ≡ [] → ⊥) → (options : List (Pair (List ℕ))) → AreOptions command words options → ⊥
+none_left_over command found words [] so_far few some options are = some refl
+none_left_over command found words (word ∷ []) so_far few some options are =
+    let rest = begins so_far.done options (word ∷ []) (sym so_far.joined ∙ are.joined) in no_single rest.0 word rest.2
+none_left_over command found words (word ∷ other ∷ more) so_far few some options are = absurd (omega (arith, few))
 
 -- the word of an option is one that it may have
 pub value_had : (option word : List ℕ) (options : List (Pair (List ℕ))) → list_all (λ p. may_have p.key p.value) options ≡ true
@@ -211,3 +252,20 @@ value_had option word (p ∷ options) had is =
           subst (λ (k : List ℕ). may_have k word ≡ true) ((bytes_eq-Decides p.key option).0 same) (subst (λ (w : List ℕ). may_have p.key w ≡ true) word_is parts.0)
       | inr other ↦ value_had option word options parts.1 (rw other at is)
     ]
+
+pub if_none : {X : Type 0} {P Q : Type 0} (found : Option X) → (P → Q) → IfNone found P → IfNone found Q
+if_none None f p = f p
+if_none (Some x) f p = p
+
+pub if_some : {X : Type 0} {P Q : X → Type 0} (found : Option X) → ((x : X) → P x → Q x) → IfSome found P → IfSome found Q
+if_some None f p = p
+if_some (Some x) f p = f x p
+
+-- no words are left
+pub none_left : {X : Type 0} (f : X → List ℕ) (words : List X) → (length words == 0) ≡ true → map f words ≡ []
+none_left f [] none = refl
+none_left f (word ∷ words) none = let zero : length words + 1 ≡ 0 = grind (arith, nat_tests) in absurd (omega (arith, zero))
+
+pub some_left : {X : Type 0} (f : X → List ℕ) (words : List X) → (length words == 0) ≡ false → map f words ≡ [] → ⊥
+some_left f [] some none = let e : true ≡ false = some in false≢true (sym e)
+some_left f (word ∷ words) some none = absurd cc

@@ -1,45 +1,63 @@
 -- The arguments of the program, and the commands that they spell.
-use Rattle.std.specs.Prelude.{◌≡◌, ◌<◌, ◌^◌, ⊤, ℕ, Option, Some, option_map, List, ◌∷◌, codes, IsSomeAnd}
+use Rattle.std.specs.Prelude.{◌≡◌, ◌<◌, ◌^◌, ⊤, ℕ, Option, Some, None, option_map, List, [], ◌∷◌, codes, IsSomeAnd}
 use Rattle.std.specs.Str.Parse.{digits_value}
 use Rattle.sfv_text.specs.Keys.{value_of}
 use Rattle.sfv_text.specs.declared.pair.Pair.{Pair}
 use Rattle.command_line.specs.Options.{AreOptions}
 use Rattle.command_line.specs.declared.options.TheConstants.{MAX_MOMENT_DIGITS}
 use Rattle.command_line.specs.declared.options.CommandName.TheVariants as name
+use Rattle.command_line.specs.declared.command.BaseWords as base
+use Rattle.command_line.specs.declared.command.VerifyWords as verify
 use Rattle.command_line.specs.declared.command.Command.{Command}
 use Rattle.command_line.specs.declared.command.Command.TheVariants as command
 
+-- the words of `base`: PARAMS, and the file of the configuration
+pub record BaseWords : Type 0 where
+  pub params : List ℕ
+  pub conf : Option (List ℕ)
+
+-- the words of `verify`: the file of the configuration, the moment, and the label that is asked for
+pub record VerifyWords : Type 0 where
+  pub conf : List ℕ
+  pub now : ℕ
+  pub label : Option (List ℕ)
+
 -- what arguments ask for
 pub data CommandLine : Type 0 where
+  -- what the program does
+  Help : CommandLine
+  -- its version
+  Version : CommandLine
   -- the signature base over the components that PARAMS cover, by a configuration or without one
-  Base : List ℕ → Option (List ℕ) → CommandLine
+  Base : BaseWords → CommandLine
   -- the verdicts by a configuration, at a moment, of one label or of all
-  Verify : List ℕ → ℕ → Option (List ℕ) → CommandLine
+  Verify : VerifyWords → CommandLine
 
 -- the arguments are `base`, PARAMS and the options of `base`
-pub record SpellsBase (arguments : List (List ℕ)) (params : List ℕ)
-    (conf : Option (List ℕ)) : Type 0 where
+pub record SpellsBase (arguments : List (List ℕ)) (base : BaseWords) : Type 0 where
   pub words : List (List ℕ)
   pub options : List (Pair (List ℕ))
-  pub joined : arguments ≡ codes "base" ∷ params ∷ words
+  pub joined : arguments ≡ codes "base" ∷ base.params ∷ words
   pub are : AreOptions name.Base words options
-  pub conf_is : conf ≡ value_of options (codes "--conf")
+  pub conf_is : base.conf ≡ value_of options (codes "--conf")
 
 -- the arguments are `verify` and its options, with those that it needs
-pub record SpellsVerify (arguments : List (List ℕ)) (conf : List ℕ) (now : ℕ)
-    (label : Option (List ℕ)) : Type 0 where
+pub record SpellsVerify (arguments : List (List ℕ)) (verify : VerifyWords) : Type 0 where
   pub words : List (List ℕ)
   pub options : List (Pair (List ℕ))
   pub joined : arguments ≡ codes "verify" ∷ words
   pub are : AreOptions name.Verify words options
-  pub conf_is : value_of options (codes "--conf") ≡ Some conf
-  pub now_is : IsSomeAnd (value_of options (codes "--now")) (λ digits. now ≡ digits_value 10 digits)
-  pub label_is : label ≡ value_of options (codes "--label")
+  pub conf_is : value_of options (codes "--conf") ≡ Some verify.conf
+  pub now_is : IsSomeAnd (value_of options (codes "--now"))
+      (λ digits. verify.now ≡ digits_value 10 digits)
+  pub label_is : verify.label ≡ value_of options (codes "--label")
 
 -- the arguments spell the command
 abbrev pub IsCommand : List (List ℕ) → CommandLine → Type 0
-IsCommand arguments (Base params conf) = SpellsBase arguments params conf
-IsCommand arguments (Verify conf now label) = SpellsVerify arguments conf now label
+IsCommand arguments Help = arguments ≡ codes "--help" ∷ []
+IsCommand arguments Version = arguments ≡ codes "--version" ∷ []
+IsCommand arguments (Base words) = SpellsBase arguments words
+IsCommand arguments (Verify words) = SpellsVerify arguments words
 
 -- the arguments spell no command
 abbrev pub NoCommand : List (List ℕ) → Type 0
@@ -47,16 +65,30 @@ NoCommand arguments = (command : CommandLine) → ¬ IsCommand arguments command
 
 -- the file of the configuration
 abbrev pub conf_of : CommandLine → Option (List ℕ)
-conf_of (Base params conf) = conf
-conf_of (Verify conf now label) = Some conf
+conf_of Help = None
+conf_of Version = None
+conf_of (Base words) = words.conf
+conf_of (Verify words) = Some words.conf
 
 -- what the borrowed words stand for
+abbrev pub base_words : base.BaseWords → BaseWords
+base_words words =
+    record { params = words.params.now; conf = option_map (λ word. word.now) words.conf }
+
+abbrev pub verify_words : verify.VerifyWords → VerifyWords
+verify_words words = record {
+  conf = words.conf.now;
+  now = words.now;
+  label = option_map (λ word. word.now) words.label;
+}
+
 abbrev pub line_of : Command → CommandLine
-line_of (command.Base params conf) = Base params.now (option_map (λ word. word.now) conf)
-line_of (command.Verify conf now label) =
-    Verify conf.now now (option_map (λ word. word.now) label)
+line_of command.Help = Help
+line_of command.Version = Version
+line_of (command.Base words) = Base (base_words words)
+line_of (command.Verify words) = Verify (verify_words words)
 
 -- the moment is one of at most 15 digits
 abbrev pub IsTimely : CommandLine → Type 0
-IsTimely (Base params conf) = ⊤
-IsTimely (Verify conf now label) = now < 10 ^ MAX_MOMENT_DIGITS
+IsTimely (Verify words) = words.now < 10 ^ MAX_MOMENT_DIGITS
+IsTimely command = ⊤

@@ -1,6 +1,6 @@
 -- The options of the commands, and the words that they may have.
-use Rattle.std.specs.Prelude.{◌≡◌, ℕ, Bool, false, ◌&&◌, nat_lt, nat_le, List, [], ◌∷◌, length, codes, if◌then◌else◌, IsTrue}
-use Rattle.std.specs.List.{flat_map, list_all, list_any}
+use Rattle.std.specs.Prelude.{◌≡◌, ℕ, Bool, true, false, ◌&&◌, nat_lt, nat_le, List, [], ◌∷◌, length, codes, Option, option_map, unwrap_or, IsTrue}
+use Rattle.std.specs.List.{find, flat_map, list_all, list_any}
 use Rattle.std.specs.Str.{bytes_eq}
 use Rattle.byte_grammar.specs.Classes.{is_digit}
 use Rattle.sfv_text.specs.Classes.{is_key}
@@ -8,31 +8,53 @@ use Rattle.sfv_text.specs.Keys.{have_distinct_keys}
 use Rattle.sfv_text.specs.declared.pair.Pair.{Pair}
 use Rattle.command_line.specs.declared.options.CommandName.{CommandName}
 use Rattle.command_line.specs.declared.options.CommandName.TheVariants.{Base, Verify}
+use Rattle.command_line.specs.declared.options.CommandOption.{CommandOption}
+use Rattle.command_line.specs.declared.options.CommandOption.TheVariants.{Conf, Now, Label}
 use Rattle.command_line.specs.declared.options.TheConstants.{MAX_MOMENT_DIGITS}
+
+-- a file has a name
+abbrev pub is_file_name : List ℕ → Bool
+is_file_name word = nat_lt 0 (length word)
 
 -- 1 to 15 digits, which may begin with zeros
 abbrev pub is_moment : List ℕ → Bool
 is_moment word =
     nat_lt 0 (length word) && (nat_le (length word) MAX_MOMENT_DIGITS && list_all is_digit word)
 
--- the word that an option may have: a file has a name, a moment is a number of seconds, and a label
--- is the key of a Dictionary (RFC 9421 section 4.1)
-abbrev pub may_have : List ℕ → List ℕ → Bool
-may_have option word =
-    if bytes_eq option (codes "--conf") then nat_lt 0 (length word)
-    else if bytes_eq option (codes "--now") then is_moment word
-    else if bytes_eq option (codes "--label") then is_key word
-    else false
+-- an option: its name, the commands that take it, and the words that it may have
+pub record OptionRow : Type 0 where
+  pub word : List ℕ
+  pub commands : List CommandName
+  pub may_have : List ℕ → Bool
 
--- the options that a command takes
-abbrev pub options_of : CommandName → List (List ℕ)
-options_of Base = codes "--conf" ∷ []
-options_of Verify = codes "--conf" ∷ codes "--now" ∷ codes "--label" ∷ []
+-- A moment is a number of seconds, and a label is the key of a Dictionary (RFC 9421 section 4.1).
+abbrev pub row_of : CommandOption → OptionRow
+row_of Conf =
+    record { word = codes "--conf"; commands = Base ∷ Verify ∷ []; may_have = is_file_name }
+row_of Now = record { word = codes "--now"; commands = Verify ∷ []; may_have = is_moment }
+row_of Label = record { word = codes "--label"; commands = Verify ∷ []; may_have = is_key }
+
+-- the option of that name
+abbrev pub option_of : List ℕ → Option CommandOption
+option_of name =
+    find (λ option. bytes_eq name (row_of option).word) (Conf ∷ Now ∷ Label ∷ [])
+
+abbrev pub is_same_command : CommandName → CommandName → Bool
+is_same_command Base Base = true
+is_same_command Verify Verify = true
+is_same_command command other = false
+
+abbrev pub is_taken_by : CommandName → CommandOption → Bool
+is_taken_by command option = list_any (is_same_command command) (row_of option).commands
 
 abbrev pub takes : CommandName → List ℕ → Bool
-takes command option = list_any (bytes_eq option) (options_of command)
+takes command name = unwrap_or (option_map (is_taken_by command) (option_of name)) false
 
--- the words of options: each option, and the word that it has
+abbrev pub may_have : List ℕ → List ℕ → Bool
+may_have name word =
+    unwrap_or (option_map (λ option. (row_of option).may_have word) (option_of name)) false
+
+-- the words of options: the name of each, and the word that it has
 abbrev pub words_of : List (Pair (List ℕ)) → List (List ℕ)
 words_of options = flat_map (λ option. option.key ∷ option.value ∷ []) options
 

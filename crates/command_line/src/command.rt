@@ -1,46 +1,43 @@
 //! The arguments of the program.
 
-ghost use Rattle.std.specs.Prelude.{◌≡◌, drop, map, IfSome, IfNone, string_bytes};
+ghost use Rattle.std.specs.Prelude.{◌≡◌, drop, map, codes, IfSome, IfNone, string_bytes};
 ghost use Rattle.command_line.specs.Command.{IsCommand, NoCommand, line_of, IsTimely};
-ghost use Rattle.command_line.specs.tools.After.{IsAfterBase, NoneAfterBase, IsAfterVerify, NoneAfterVerify};
+ghost use Rattle.command_line.specs.tools.After.{IsAfter, NoneAfter};
 
-use crate::options::{CommandName, are_options, moment_of, word_of};
+use crate::options::{CommandName, moment_of, read_options};
 
-/// What the arguments ask for. It borrows them.
+/// The words of `base`. They are borrowed.
 #[derive(Clone, Copy, Debug, PartialEq, Eq)]
-pub enum Command<'a> {
-    /// `base PARAMS`: the signature base over the components that PARAMS cover, an Inner List as a
-    /// member of a `Signature-Input` field is (RFC 9421 section 4.1).
-    Base {
-        /// The Inner List.
-        params: &'a str,
-        /// The file of the configuration.
-        conf: Option<&'a str>,
-    },
-    /// `verify`: what the signatures of a message are worth (RFC 9421 section 3.2).
-    Verify {
-        /// The file of the configuration.
-        conf: &'a str,
-        /// The moment, in seconds since the epoch, at most 999,999,999,999,999.
-        now: u64,
-        /// The label that is asked for, or all that the message has.
-        label: Option<&'a str>,
-    },
+pub struct BaseWords<'a> {
+    /// An Inner List as a member of a `Signature-Input` field is (RFC 9421 section 4.1).
+    pub params: &'a str,
+    /// The file of the configuration.
+    pub conf: Option<&'a str>,
 }
 
-impl<'a> Command<'a> {
-    ghost use Rattle.std.specs.Prelude.{◌≡◌, option_map};
-    ghost use Rattle.command_line.specs.Command.{line_of, conf_of};
+/// The words of `verify`. They are borrowed.
+#[derive(Clone, Copy, Debug, PartialEq, Eq)]
+pub struct VerifyWords<'a> {
+    /// The file of the configuration.
+    pub conf: &'a str,
+    /// The moment, in seconds since the epoch, at most 999,999,999,999,999.
+    pub now: u64,
+    /// The label that is asked for, or all that the message has.
+    pub label: Option<&'a str>,
+}
 
-    /// The file of the configuration, where one is named.
-    pub fn conf(self) -> Option<&'a str>
-        ensures { option_map (λ word. word.now) result ≡ conf_of (line_of self.entry) }
-    {
-        match self {
-            Command::Base { conf, .. } => conf,
-            Command::Verify { conf, .. } => Some(conf),
-        }
-    }
+/// What the arguments ask for.
+#[derive(Clone, Copy, Debug, PartialEq, Eq)]
+pub enum Command<'a> {
+    /// `--help`: what the program does.
+    Help,
+    /// `--version`: its version.
+    Version,
+    /// `base PARAMS`: the signature base over the components that PARAMS cover (RFC 9421 section
+    /// 2.5).
+    Base(BaseWords<'a>),
+    /// `verify`: what the signatures of a message are worth (RFC 9421 section 3.2).
+    Verify(VerifyWords<'a>),
 }
 
 /// The arguments after the program's name.
@@ -53,40 +50,64 @@ pub fn after_name(arguments: &[String]) -> &[String]
     }
 }
 
+/// The words after `--help`.
+fn read_help<'a>(words: &'a [String]) -> Option<Command<'a>>
+    ensures some { IfSome result
+        (λ command. IsAfter (codes "--help") (map string_bytes words.now) (line_of command)) }
+    ensures none { IfNone result (NoneAfter (codes "--help") (map string_bytes words.now)) }
+    ensures timely { IfSome result (λ command. IsTimely (line_of command)) }
+{
+    if words.is_empty() {
+        Some(Command::Help)
+    } else {
+        None
+    }
+}
+
+/// The words after `--version`.
+fn read_version<'a>(words: &'a [String]) -> Option<Command<'a>>
+    ensures some { IfSome result
+        (λ command. IsAfter (codes "--version") (map string_bytes words.now) (line_of command)) }
+    ensures none { IfNone result (NoneAfter (codes "--version") (map string_bytes words.now)) }
+    ensures timely { IfSome result (λ command. IsTimely (line_of command)) }
+{
+    if words.is_empty() {
+        Some(Command::Version)
+    } else {
+        None
+    }
+}
+
 /// The words after `base`.
 fn read_base<'a>(words: &'a [String]) -> Option<Command<'a>>
     ensures some { IfSome result
-        (λ command. IsAfterBase (map string_bytes words.now) (line_of command)) }
-    ensures none { IfNone result (NoneAfterBase (map string_bytes words.now)) }
+        (λ command. IsAfter (codes "base") (map string_bytes words.now) (line_of command)) }
+    ensures none { IfNone result (NoneAfter (codes "base") (map string_bytes words.now)) }
     ensures timely { IfSome result (λ command. IsTimely (line_of command)) }
 {
     let (params, words) = words.split_first()?;
-    if !are_options(CommandName::Base, words) {
-        return None;
-    }
-    Some(Command::Base {
+    let found = read_options(CommandName::Base, words)?;
+    Some(Command::Base(BaseWords {
         params: params.as_str(),
-        conf: word_of(words, "--conf"),
-    })
+        conf: found.conf,
+    }))
 }
 
 /// The words after `verify`.
 fn read_verify<'a>(words: &'a [String]) -> Option<Command<'a>>
     ensures some { IfSome result
-        (λ command. IsAfterVerify (map string_bytes words.now) (line_of command)) }
-    ensures none { IfNone result (NoneAfterVerify (map string_bytes words.now)) }
+        (λ command. IsAfter (codes "verify") (map string_bytes words.now) (line_of command)) }
+    ensures none { IfNone result (NoneAfter (codes "verify") (map string_bytes words.now)) }
     ensures timely { IfSome result (λ command. IsTimely (line_of command)) }
 {
-    if !are_options(CommandName::Verify, words) {
-        return None;
-    }
-    let conf = word_of(words, "--conf")?;
-    let now = word_of(words, "--now")?;
-    Some(Command::Verify {
+    let found = read_options(CommandName::Verify, words)?;
+    let conf = found.conf?;
+    let now = found.now?;
+    Some(Command::Verify(VerifyWords {
         conf,
         now: moment_of(now),
-        label: word_of(words, "--label"),
-    })
+        label: found.label,
+    }))
 }
 
 /// Reads the arguments after the program's name. It takes no memory.
@@ -98,6 +119,8 @@ pub fn read_words(words: &[String]) -> Option<Command<'_>>
 {
     let (name, others) = words.split_first()?;
     match name.as_str() {
+        "--help" => read_help(others),
+        "--version" => read_version(others),
         "base" => read_base(others),
         "verify" => read_verify(others),
         _ => None,

@@ -1,7 +1,7 @@
 //! The command line of the program `hms`.
 //!
 //! ```text
-//! read_words(after_name(&arguments)) // Some(Command::Verify { .. }), without memory
+//! read_words(after_name(&arguments)) // Some(Command::Verify(..)), without memory
 //! ```
 #![tactic(auto)]
 
@@ -9,6 +9,6 @@ mod command;
 mod laws;
 mod options;
 
-pub use command::{Command, after_name, read_words};
+pub use command::{BaseWords, Command, VerifyWords, after_name, read_words};
 pub use laws::arguments_have_one_command;
 pub use options::MAX_MOMENT_DIGITS;

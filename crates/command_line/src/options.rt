@@ -1,21 +1,20 @@
 //! The options of the commands.
 
-ghost use Rattle.std.specs.Prelude.{◌≡◌, ◌<◌, ◌^◌, ◌↔◌, ◌||◌, ◌∷◌, ℕ, List, length, false, option_map, map, IfSome, IfNone, IsTrue, IsFalse, string_bytes};
+ghost use Rattle.std.specs.Prelude.{◌≡◌, ◌<◌, ◌^◌, ◌∷◌, ℕ, List, length, None, Some, map, option_map, is_some, if◌then◌else◌, IfSome, IfNone, IsTrue, string_bytes};
 ghost use Rattle.std.specs.Str.{bytes_eq};
 ghost use Rattle.std.specs.Str.Parse.{digits_value};
 ghost use Rattle.std.specs.List.{list_all};
 ghost use Rattle.byte_grammar.specs.Classes.{is_digit};
-ghost use Rattle.sfv_text.specs.Keys.{value_of};
 ghost use Rattle.sfv_text.specs.declared.pair.Pair.{Pair};
-ghost use Rattle.command_line.specs.Options.{is_moment, may_have, takes, words_of, AreOptions};
-ghost use Rattle.command_line.specs.tools.Met.{is_met, IsNewOption, HasOptions};
+ghost use Rattle.command_line.specs.Options.{is_moment, is_taken_by, option_of, row_of, AreOptions};
+ghost use Rattle.command_line.specs.tools.Found.{word_in, AddsOption, AreFoundBefore, IsNextOption, HasOptions};
 
 use sfv_text::is_key;
 
 /// The most digits of a moment.
 pub const MAX_MOMENT_DIGITS: usize = 15;
 
-/// The commands, by their names.
+/// The commands with options.
 #[derive(Clone, Copy, Debug, PartialEq, Eq)]
 pub enum CommandName {
     /// `base`.
@@ -24,26 +23,23 @@ pub enum CommandName {
     Verify,
 }
 
-/// Which options were met.
-#[derive(Clone, Copy)]
-struct Met {
-    conf: bool,
-    now: bool,
-    label: bool,
+/// The options.
+#[derive(Clone, Copy, Debug, PartialEq, Eq)]
+pub enum CommandOption {
+    /// `--conf`: the file of the configuration.
+    Conf,
+    /// `--now`: the moment.
+    Now,
+    /// `--label`: the label that is asked for.
+    Label,
 }
 
-impl CommandName {
-    /// Whether the command takes the option.
-    fn takes(self, option: &str) -> bool
-        ensures { result ≡ takes self option.now }
-    {
-        match self {
-            CommandName::Base => option == "--conf",
-            CommandName::Verify => {
-                option == "--conf" || option == "--now" || option == "--label"
-            }
-        }
-    }
+/// The words that options have.
+#[derive(Clone, Copy)]
+pub struct OptionWords<'a> {
+    pub conf: Option<&'a str>,
+    pub now: Option<&'a str>,
+    pub label: Option<&'a str>,
 }
 
 fn are_digits(bytes: &[u8]) -> bool
@@ -71,69 +67,105 @@ pub fn moment_of(word: &str) -> u64
     }
 }
 
-/// Whether the option may have the word.
-fn may_have(option: &str, word: &str) -> bool
-    ensures { result ≡ may_have option.now word.now }
-{
-    if option == "--conf" {
-        !word.is_empty()
-    } else if option == "--now" {
-        is_moment(word.as_bytes())
-    } else if option == "--label" {
-        is_key(word.as_bytes())
-    } else {
-        false
+impl CommandOption {
+    /// The option of that name.
+    fn of_word(word: &str) -> Option<CommandOption>
+        ensures { result ≡ option_of word.now }
+    {
+        match word {
+            "--conf" => Some(CommandOption::Conf),
+            "--now" => Some(CommandOption::Now),
+            "--label" => Some(CommandOption::Label),
+            _ => None,
+        }
+    }
+
+    /// Whether the command takes the option.
+    fn is_taken_by(self, command: CommandName) -> bool
+        ensures { result ≡ is_taken_by command self }
+    {
+        match self {
+            CommandOption::Conf => true,
+            CommandOption::Now => command == CommandName::Verify,
+            CommandOption::Label => command == CommandName::Verify,
+        }
+    }
+
+    /// Whether the option may have the word.
+    fn may_have(self, word: &str) -> bool
+        ensures { result ≡ (row_of self).may_have word.now }
+    {
+        match self {
+            CommandOption::Conf => !word.is_empty(),
+            CommandOption::Now => is_moment(word.as_bytes()),
+            CommandOption::Label => is_key(word.as_bytes()),
+        }
     }
 }
 
-impl Met {
-    /// No option.
-    fn new() -> Met
-        ensures { (option : List ℕ) → is_met result option ≡ false }
+impl<'a> OptionWords<'a> {
+    /// No option has a word.
+    fn new() -> OptionWords<'a>
+        ensures { (option : CommandOption) → word_in result option ≡ None }
     {
-        Met {
-            conf: false,
-            now: false,
-            label: false,
+        OptionWords {
+            conf: None,
+            now: None,
+            label: None,
         }
     }
 
-    /// Whether the option was met.
-    fn has(self, option: &str) -> bool
-        ensures { result ≡ is_met self option.now }
+    /// Whether the option has a word.
+    fn has(self, option: CommandOption) -> bool
+        ensures { result ≡ is_some (word_in self.entry option) }
     {
-        if option == "--conf" {
-            self.conf
-        } else if option == "--now" {
-            self.now
-        } else {
-            option == "--label" && self.label
+        match option {
+            CommandOption::Conf => self.conf.is_some(),
+            CommandOption::Now => self.now.is_some(),
+            CommandOption::Label => self.label.is_some(),
         }
     }
 
-    /// With an option that some command has.
-    fn with(self, option: &str) -> Met
-        ensures { (word other : List ℕ) → IsTrue (may_have option.now word)
-            → is_met result other ≡ (bytes_eq option.now other || is_met self other) }
+    /// With the word of an option.
+    fn with(self, option: CommandOption, word: &'a str) -> OptionWords<'a>
+        ensures { (other : CommandOption) → word_in result other ≡
+            (if bytes_eq (row_of option).word (row_of other).word then Some word.now
+            else word_in self.entry other) }
     {
-        if option == "--conf" {
-            Met { conf: true, ..self }
-        } else if option == "--now" {
-            Met { now: true, ..self }
-        } else {
-            Met {
-                label: true,
+        match option {
+            CommandOption::Conf => OptionWords {
+                conf: Some(word),
                 ..self
-            }
+            },
+            CommandOption::Now => OptionWords {
+                now: Some(word),
+                ..self
+            },
+            CommandOption::Label => OptionWords {
+                label: Some(word),
+                ..self
+            },
         }
     }
 }
 
-/// Whether the option can come next: the command takes it, it wasn't met, and it may have the word.
-fn can_come(command: CommandName, met: Met, option: &str, word: &str) -> bool
-    ensures { IsTrue result ↔ IsNewOption command met option.now word.now }
+/// Adds the word of the option of that name, where it can come next: the command takes the option,
+/// which has no word yet, and may have this one.
+fn add_option<'a>(
+    command: CommandName,
+    found: OptionWords<'a>,
+    name: &str,
+    word: &'a str,
+) -> Option<OptionWords<'a>>
+    ensures some { IfSome result (AddsOption command found.entry name.now word.now) }
+    ensures none { IfNone result ((option : CommandOption)
+        → ¬ IsNextOption command found.entry name.now word.now option) }
 {
-    !met.has(option) && command.takes(option) && may_have(option, word)
+    let option = CommandOption::of_word(name)?;
+    if found.has(option) || !option.is_taken_by(command) || !option.may_have(word) {
+        return None;
+    }
+    Some(found.with(option, word))
 }
 
 /// An option, its word, and the words after them.
@@ -147,36 +179,30 @@ fn next_pair(words: &[String]) -> Option<(&str, &str, &[String])>
     Some((option.as_str(), word.as_str(), after))
 }
 
-/// Whether the words are options of the command, each given at most once.
-pub fn are_options(command: CommandName, words: &[String]) -> bool
-    ensures yes { IsTrue result
-        → HasOptions command (map string_bytes words.now) }
-    ensures not { IsFalse result → (options : List (Pair (List ℕ)))
-        → ¬ AreOptions command (map string_bytes words.now) options }
+/// Reads the words after options that were found.
+fn read_more<'a>(
+    command: CommandName,
+    found: OptionWords<'a>,
+    words: &'a [String],
+) -> Option<OptionWords<'a>>
+    ensures some { IfSome result (λ more. (all : List (List ℕ))
+        → AreFoundBefore command found.entry all (map string_bytes words.now)
+        → HasOptions command all more) }
+    ensures none { IfNone result ((all : List (List ℕ)) (options : List (Pair (List ℕ)))
+        → AreFoundBefore command found.entry all (map string_bytes words.now)
+        → ¬ AreOptions command all options) }
 {
-    let mut met = Met::new();
-    let mut left = words;
-    'pairs: while let Some((option, word, after)) = next_pair(left) {
-        if !can_come(command, met, option, word) {
-            return false;
-        }
-        met = met.with(option);
-        left = after;
-    }
-    left.is_empty()
+    let Some((name, word, after)) = next_pair(words) else {
+        return if words.is_empty() { Some(found) } else { None };
+    };
+    read_more(command, add_option(command, found, name, word)?, after)
 }
 
-/// The word that the option has.
-pub fn word_of<'a>(words: &'a [String], option: &str) -> Option<&'a str>
-    ensures { (options : List (Pair (List ℕ))) → map string_bytes words.now ≡ words_of options
-        → option_map (λ word. word.now) result ≡ value_of options option.now }
+/// The words of the options, where the words are options of the command, each given at most once.
+pub fn read_options<'a>(command: CommandName, words: &'a [String]) -> Option<OptionWords<'a>>
+    ensures some { IfSome result (HasOptions command (map string_bytes words.now)) }
+    ensures none { IfNone result ((options : List (Pair (List ℕ)))
+        → ¬ AreOptions command (map string_bytes words.now) options) }
 {
-    let mut left = words;
-    'pairs: while let Some((other, word, after)) = next_pair(left) {
-        if other == option {
-            return Some(word);
-        }
-        left = after;
-    }
-    None
+    read_more(command, OptionWords::new(), words)
 }

@@ -1,6 +1,7 @@
 pub mod Base
 pub mod Configured
 pub mod Covered
+pub mod Help
 pub mod Laws
 pub mod Layers
 pub mod Messages

@@ -1,6 +1,6 @@
 //! The configuration of a command.
 
-ghost use Rattle.std.specs.Prelude.{◌≡◌, Some, option_map, IfOk, IfErr, IfNone};
+ghost use Rattle.std.specs.Prelude.{◌≡◌, ◌+◌, ◌≤◌, Some, option_map, IfOk, IfErr, IfNone};
 ghost use Rattle.hms_io.specs.Files.{KeepsFiles};
 ghost use Rattle.conf.specs.ConfMeaning.{meaning};
 ghost use Rattle.commands.specs.Configured.{IsConfigured, IsConfRefused, HasFiles};
@@ -22,6 +22,8 @@ fn read_named<F: Shelf>(alloc: Global, name: &str, shelf: &mut F) -> Result<Conf
         IsRefusalFor (IsConfRefused files (Some name.now)) OfConf refusal))) }
     ensures files { KeepsFiles (F.files shelf.old) (F.files shelf.new) }
     ensures cause { CountsStop (F.faults shelf.old) (F.faults shelf.new) result }
+    ensures later { F.faults shelf.old ≤ F.faults shelf.new }
+    ensures asked { F.asked shelf.new ≤ F.asked shelf.old + 1 }
 {
     let text = take_file(alloc, shelf, name, MAX_CONF_BYTES)?;
     Ok(read_conf(alloc, text.bytes())?)
@@ -41,6 +43,8 @@ pub fn read_configuration<F: Shelf>(
         refusal))) }
     ensures files { KeepsFiles (F.files shelf.old) (F.files shelf.new) }
     ensures cause { CountsStop (F.faults shelf.old) (F.faults shelf.new) result }
+    ensures later { F.faults shelf.old ≤ F.faults shelf.new }
+    ensures asked { F.asked shelf.new ≤ F.asked shelf.old + 1 }
     ensures unasked { IfNone name.entry (shelf.new ≡ shelf.old) }
 {
     match name {

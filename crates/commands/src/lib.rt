@@ -14,6 +14,7 @@
 mod base;
 mod configured;
 mod covered;
+mod help;
 mod laws;
 mod message;
 mod outcome;
@@ -22,6 +23,7 @@ mod verify;
 
 pub use base::write_base;
 pub use configured::read_configuration;
+pub use help::{HELP_TEXT, VERSION_TEXT, write_help, write_version};
 pub use laws::{each_layer_is_decided, verdicts_have_one_outcome};
 pub use message::read_input;
 pub use outcome::Outcome;

@@ -27,3 +27,10 @@ went_on f (Ok outcome) p = f outcome p
 went_on f (Err Memory) p = tt
 went_on f (Err ReadFault) p = tt
 went_on f (Err (IsRefused refusal)) p = f (Refused refusal) p
+
+-- a run comes to what both say of its outcome
+pub both : (P Q : Outcome → Type 0) (result : Result Outcome Stop) → IfOutcome result P → IfOutcome result Q → IfOutcome result (λ outcome. P outcome × Q outcome)
+both P Q (Ok outcome) p q = (p, q)
+both P Q (Err Memory) p q = tt
+both P Q (Err ReadFault) p q = tt
+both P Q (Err (IsRefused refusal)) p q = (p, q)

@@ -1,29 +1,31 @@
 -- The input that a source gives.
-use Rattle.std.proofs.Common.{◌≡◌, ◌+◌, ◌<◌, ◌≤◌, inl, inr, ℕ, Bool, true, false, List, [], length, replicate, Option, Some, None, Result, Ok, Err, refl, sym, subst, arith}
+use Rattle.std.proofs.Common.{◌≡◌, ◌+◌, ◌<◌, ◌≤◌, inl, inr, ℕ, Bool, true, false, List, [], length, replicate, Option, Some, None, Result, Ok, Err, refl, sym, ap, ◌∙◌, subst, arith}
 use Rattle.std.specs.Prelude.{IfSome}
 use Rattle.std.specs.List.{list_all}
-use Rattle.std.proofs.lemmas.List.{length-replicate}
+use Rattle.std.proofs.lemmas.List.{drop_all, length-replicate}
 use Rattle.hms_io.specs.Cause.{HasFillCause}
 use Rattle.hms_io.specs.Reading.{LosesPrefix, GivesAll}
 use Rattle.hms_io.specs.declared.read_write.FillError.{FillError}
 use Rattle.hms_io.specs.declared.read_write.FillError.TheVariants.{Memory as NoFillMemory, Failed, TooLong as Longer}
-use Rattle.command_line.specs.Command.{CommandLine, Base, Verify}
 use Rattle.msg_body.specs.Messages.{Message}
 use Rattle.conf.specs.Configuration.{Configuration}
 use Rattle.verdicts.specs.declared.outcome.Verdict.{Verdict}
 use Rattle.commands.specs.Messages.{IsInputRefused}
-use Rattle.commands.specs.Verify.{is_accepted, verdicts_outcome}
-use Rattle.hms.specs.Report.{ReportsCommand, ReportsInput, HasInput, Leaves}
+use Rattle.commands.specs.Base.{ReportsBase}
+use Rattle.commands.specs.Verify.{is_accepted, verdicts_outcome, ReportsVerdicts}
+use Rattle.hms.specs.Report.{ReportsInput, HasInput, Leaves, LosesAtMost}
+use Rattle.hms.specs.tools.Parts.{IsAfterInput, IsOwn}
+use Rattle.output_lines.specs.declared.refusal.Refusal.{Refusal}
 use Rattle.output_lines.specs.declared.refusal.TheConstants.{MAX_INPUT_BYTES}
-use Rattle.output_lines.specs.declared.refusal.Refusal.TheVariants.{Input}
+use Rattle.output_lines.specs.declared.refusal.Refusal.TheVariants.{Arguments, Conf, Input, Command}
 use Rattle.output_lines.specs.declared.refusal.InputRefusal.{InputRefusal}
 use Rattle.output_lines.specs.declared.refusal.InputRefusal.TheVariants.{TooLong, Message as NoMessage}
 use Rattle.commands.specs.declared.outcome.Outcome.{Outcome}
-use Rattle.commands.specs.declared.outcome.Outcome.TheVariants.{Refused}
+use Rattle.commands.specs.declared.outcome.Outcome.TheVariants.{Done, NotOk, Refused}
 use Rattle.commands.specs.declared.stop.Stop.{Stop}
 use Rattle.commands.specs.declared.stop.Stop.TheVariants.{Memory, ReadFault, Refused as IsRefused}
-use Rattle.commands.specs.Stops.{IfOutcome, ReadsNothing, CountsStop, stop_of_fill}
-use Rattle.hms.proofs.Layers.{went_on}
+use Rattle.commands.specs.Stops.{IfOutcome, IfRefused, IsRefusalFor, ReadsNothing, CountsStop, stop_of_fill}
+use Rattle.hms.proofs.Layers.{both, went_on}
 
 -- some input, the known bytes where they are known, that is longer than n
 longer : (n : ℕ) (before now : Option (List ℕ)) → LosesPrefix before now (n + 1)
@@ -31,13 +33,17 @@ longer : (n : ℕ) (before now : Option (List ℕ)) → LosesPrefix before now (
 longer n None now lost = (replicate (n + 1) 0, tt, rw (length-replicate {A = ℕ} (n + 1) 0) (omega arith))
 longer n (Some all) now lost = (all, refl, omega (arith, lost.0))
 
+-- what is left once it was read to the end, or past the limit
+abbrev pub LeavesInput : Type 0 → Option (List ℕ) → Option (List ℕ) → Outcome → Type 0
+LeavesInput = Leaves (Some MAX_INPUT_BYTES)
+
 -- why it isn't read whole
-pub fill_stop : (command : CommandLine) (conf : Configuration) (before now : Option (List ℕ)) (error : FillError)
+pub fill_stop : (Then : Message → Outcome → Type 0) (Unread : Type 0) (before now : Option (List ℕ)) (error : FillError)
     → (error ≡ Longer → LosesPrefix before now (MAX_INPUT_BYTES + 1))
-    → IfOutcome (Err (stop_of_fill error)) (HasInput (ReportsInput command conf) before now)
-fill_stop command conf before now NoFillMemory lost = tt
-fill_stop command conf before now Failed lost = tt
-fill_stop command conf before now Longer lost =
+    → IfOutcome (Err (stop_of_fill error)) (HasInput (ReportsInput Then) (LeavesInput Unread before now) before)
+fill_stop Then Unread before now NoFillMemory lost = tt
+fill_stop Then Unread before now Failed lost = tt
+fill_stop Then Unread before now Longer lost =
     let input = longer MAX_INPUT_BYTES before now (lost refl) in
     record { input = input.0; known = input.1; reports = inr (TooLong, input.2, refl); leaves = lost refl }
 
@@ -56,45 +62,78 @@ nothing_left : (before now : Option (List ℕ)) (input : List ℕ) → GivesAll 
 nothing_left None now input all = tt
 nothing_left (Some bytes) now input all = all.1
 
-module _ (before now : Option (List ℕ)) (none : IfSome before (λ _. now ≡ Some [])) where
-  after_verdicts : (labels : List (List ℕ)) (verdicts : List Verdict) (accepted : Bool) → list_all is_accepted verdicts ≡ accepted → Leaves before now (verdicts_outcome labels verdicts)
-  after_verdicts labels verdicts true is = rw is none
-  after_verdicts labels verdicts false is = rw is none
+after_input : (Unread : Type 0) (before now : Option (List ℕ)) → IfSome before (λ _. now ≡ Some []) → (outcome : Outcome) → IsAfterInput outcome → LeavesInput Unread before now outcome
+after_input Unread before now none (Done text) after = none
+after_input Unread before now none (NotOk text) after = none
+after_input Unread before now none (Refused Arguments) after = absurd after
+after_input Unread before now none (Refused (Conf r)) after = absurd after
+after_input Unread before now none (Refused (Input TooLong)) after = absurd after
+after_input Unread before now none (Refused (Input (NoMessage f))) after = none
+after_input Unread before now none (Refused (Command r)) after = none
 
-  -- a command over a message leaves nothing
-  after_command : (command : CommandLine) (conf : Configuration) (message : Message) (outcome : Outcome) → ReportsCommand command conf message outcome → Leaves before now outcome
-  after_command (Base params file) conf message outcome (inl sig) = elim sig.2 [
-    | inl values ↦ subst (λ (o : Outcome). Leaves before now o) (sym values.2) none
-    | inr cause ↦ subst (λ (o : Outcome). Leaves before now o) (sym cause.2) none
-  ]
-  after_command (Base params file) conf message outcome (inr cause) = subst (λ (o : Outcome). Leaves before now o) (sym cause.2) none
-  after_command (Verify file n label) conf message outcome reports =
-      subst (λ (o : Outcome). Leaves before now o) (sym reports.outcome_is) (after_verdicts reports.labels reports.verdicts (list_all is_accepted reports.verdicts) refl)
-
-  after_refusal : (input : List ℕ) (refusal : InputRefusal) → length input ≤ MAX_INPUT_BYTES → (refusal ≡ TooLong → MAX_INPUT_BYTES < length input) → Leaves before now (Refused (Input refusal))
-  after_refusal input TooLong short long = let more = long refl in absurd (omega (arith, short, more))
-  after_refusal input (NoMessage f) short long = none
-
-too_long : (input : List ℕ) (refusal : InputRefusal) → IsInputRefused input refusal → refusal ≡ TooLong → MAX_INPUT_BYTES < length input
-too_long input TooLong is e = is
-too_long input (NoMessage f) is e = absurd cc
-
-after_input : (command : CommandLine) (conf : Configuration) (input : List ℕ) (before now : Option (List ℕ)) → length input ≤ MAX_INPUT_BYTES → IfSome before (λ _. now ≡ Some [])
-    → (outcome : Outcome) → ReportsInput command conf input outcome → Leaves before now outcome
-after_input command conf input before now short none outcome (inl read) = after_command before now none command conf read.0 outcome read.2
-after_input command conf input before now short none outcome (inr cause) =
-    subst (λ (o : Outcome). Leaves before now o) (sym cause.2) (after_refusal before now none input cause.0 short (too_long input cause.0 cause.1))
-
-pub input_outcome : (command : CommandLine) (conf : Configuration) (input read : List ℕ) (before now : Option (List ℕ)) → read ≡ input → length input ≤ MAX_INPUT_BYTES → GivesAll before now input
-    → (result : Result Outcome Stop) → IfOutcome result (ReportsInput command conf read) → IfOutcome result (HasInput (ReportsInput command conf) before now)
-input_outcome command conf input read before now same short all result =
-    went_on (λ outcome reports. record {
+pub input_outcome : (Then : Message → Outcome → Type 0) (Unread : Type 0) (input read : List ℕ) (before now : Option (List ℕ)) → read ≡ input → GivesAll before now input
+    → (result : Result Outcome Stop) → IfOutcome result (ReportsInput Then read) → IfOutcome result IsAfterInput
+    → IfOutcome result (HasInput (ReportsInput Then) (LeavesInput Unread before now) before)
+input_outcome Then Unread input read before now same all result reported after =
+    went_on (λ outcome facts. record {
       input = input;
       known = known_input before now input all;
-      reports = subst (λ (bytes : List ℕ). ReportsInput command conf bytes outcome) same reports;
-      leaves = after_input command conf input before now short (nothing_left before now input all) outcome
-          (subst (λ (bytes : List ℕ). ReportsInput command conf bytes outcome) same reports);
-    }) result
+      reports = subst (λ (bytes : List ℕ). ReportsInput Then bytes outcome) same facts.0;
+      leaves = after_input Unread before now (nothing_left before now input all) outcome facts.1;
+    }) result (both (ReportsInput Then read) IsAfterInput result reported after)
+
+-- what is gone once it was read to its end
+pub all_gone : (before now : Option (List ℕ)) (input : List ℕ) → GivesAll before now input → length input ≤ MAX_INPUT_BYTES → LosesAtMost (MAX_INPUT_BYTES + 1) before now
+all_gone None now input all short = (0, omega arith, tt)
+all_gone (Some bytes) now input all short =
+    let within : length input ≤ length bytes = omega (arith, ap length all.0) in
+    let whole : length bytes ≤ length input = omega (arith, ap length all.0) in
+    (length input, omega (arith, short), (within, all.1 ∙ ap (λ (l : List ℕ). Some l) (sym (drop_all (length input) bytes whole))))
+
+-- nothing is gone
+pub none_gone : (most : ℕ) (before now : Option (List ℕ)) → now ≡ before → LosesAtMost most before now
+none_gone most None now same = (0, omega arith, tt)
+none_gone most (Some bytes) now same = (0, omega arith, (omega arith, same))
+
+-- ---- what comes once all was read
+
+after_cause : (input : List ℕ) (cause : InputRefusal) → length input ≤ MAX_INPUT_BYTES → IsInputRefused input cause → IsAfterInput (Refused (Input cause))
+after_cause input TooLong short long = absurd (omega (arith, short, long))
+after_cause input (NoMessage f) short is = tt
+
+pub after_refusal : (input : List ℕ) (stop : Stop) → length input ≤ MAX_INPUT_BYTES → IfRefused stop (IsRefusalFor (IsInputRefused input) Input) → IfOutcome (Err stop) IsAfterInput
+after_refusal input Memory short is = tt
+after_refusal input ReadFault short is = tt
+after_refusal input (IsRefused refusal) short is =
+    subst (λ (r : Refusal). IsAfterInput (Refused r)) (sym is.2) (after_cause input is.0 short is.1)
+
+own_after : (outcome : Outcome) → IsOwn outcome → IsAfterInput outcome
+own_after (Done text) own = tt
+own_after (NotOk text) own = tt
+own_after (Refused Arguments) own = absurd own
+own_after (Refused (Conf r)) own = absurd own
+own_after (Refused (Input r)) own = absurd own
+own_after (Refused (Command r)) own = tt
+
+pub after_answer : (result : Result Outcome Stop) → IfOutcome result IsOwn → IfOutcome result IsAfterInput
+after_answer result own = went_on own_after result own
+
+-- ---- what is the command's own
+
+pub own_of_base : (params : List ℕ) (conf : Configuration) (message : Message) (outcome : Outcome) → ReportsBase params conf message outcome → IsOwn outcome
+own_of_base params conf message outcome (inl sig) = elim sig.2 [
+  | inl values ↦ subst IsOwn (sym values.2) tt
+  | inr cause ↦ subst IsOwn (sym cause.2) tt
+]
+own_of_base params conf message outcome (inr cause) = subst IsOwn (sym cause.2) tt
+
+own_lines : (labels : List (List ℕ)) (verdicts : List Verdict) (accepted : Bool) → list_all is_accepted verdicts ≡ accepted → IsOwn (verdicts_outcome labels verdicts)
+own_lines labels verdicts true is = rw is tt
+own_lines labels verdicts false is = rw is tt
+
+pub own_of_verdicts : (label : Option (List ℕ)) (now : ℕ) (conf : Configuration) (message : Message) (outcome : Outcome) → ReportsVerdicts label now conf message outcome → IsOwn outcome
+own_of_verdicts label now conf message outcome reports =
+    subst IsOwn (sym reports.outcome_is) (own_lines reports.labels reports.verdicts (list_all is_accepted reports.verdicts) refl)
 
 pub reads_nothing_counts : (before now : ℕ) (result : Result Outcome Stop) → ReadsNothing result → now ≡ before → CountsStop before now result
 reads_nothing_counts before now (Ok outcome) none same = same

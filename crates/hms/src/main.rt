@@ -10,6 +10,7 @@
 #![tactic(auto)]
 
 mod laws;
+mod over_message;
 mod run;
 
 use command_line::after_name;

@@ -1,4 +1,4 @@
--- What a source over a reader of std and a sink over a writer of std are.
+-- What a source over a reader of std, a sink over a writer of std and a shelf over files are.
 use Rattle.std.specs.Prelude.{ℕ, ◌-◌, List, Option, length, take}
 use Rattle.std.specs.Option.{option_map}
 
@@ -12,6 +12,11 @@ pub record WriterSink : Type 0 where
   pub taken : Option (List ℕ)
   -- how many bytes it took after those, in a write whose flush failed
   pub unflushed : ℕ
+  pub faults : ℕ
+
+pub record FolderShelf : Type 0 where
+  -- how many files were asked for, at most 2^64 - 1
+  pub asked : ℕ
   pub faults : ℕ
 
 -- known bytes without the last n: those of a writer without the bytes whose flush failed

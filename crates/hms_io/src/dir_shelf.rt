@@ -18,24 +18,26 @@ use std::{fs, io};
 #[derive(Drop)]
 pub struct DirShelf<'a, R> {
     rt: &'a R,
+    asked: u64,
     faults: Faults,
 }
 
 impl<'a, R> Model for DirShelf<'a, R> {
-    ghost use Rattle.std.specs.Prelude.{ℕ};
+    ghost use Rattle.hms_io.specs.OverStd.{FolderShelf};
 
-    ghost Value = { ℕ };
+    ghost Value = { FolderShelf };
 
-    ghost view = { λ s. s.faults };
+    ghost view = { λ s. record { asked = s.asked; faults = s.faults } };
 }
 
 impl<'a, R: Files> DirShelf<'a, R> {
     /// The files of this runtime.
     pub fn new(rt: &'a R) -> DirShelf<'a, R>
-        ensures { result ≡ 0 }
+        ensures { result ≡ record { asked = 0; faults = 0 } }
     {
         DirShelf {
             rt,
+            asked: 0,
             faults: Faults::new(),
         }
     }
@@ -86,15 +88,19 @@ impl<'a, R: Files> Shelf for DirShelf<'a, R> {
 
     ghost files = { λ _. None };
 
-    ghost faults = { λ s. s };
+    ghost faults = { λ s. s.faults };
+
+    ghost asked = { λ s. s.asked };
 
     fn fetch(&mut self, name: &str, into: &mut [u8]) -> Result<Option<usize>, Failed>
         ensures bound { IfOk result (λ found. IfSome found (λ n. n ≤ length into.new)) }
         ensures missing { IfOk result (λ found. IfNone found (into.new ≡ into.old)) }
         ensures files { Fetches None None name.now result into.new }
-        ensures cause { HasCause self.old self.new result }
-        ensures counts_one { OnErr result (self.new ≡ one_more self.old) }
+        ensures cause { HasCause self.old.faults self.new.faults result }
+        ensures asked { self.new.asked ≡ one_more self.old.asked }
+        ensures counts_one { OnErr result (self.new.faults ≡ one_more self.old.faults) }
     {
+        self.asked = self.asked.saturating_add(1);
         self.faults.check(give_file(fs::open(self.rt, name), into))
     }
 }

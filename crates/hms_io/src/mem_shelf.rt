@@ -85,17 +85,19 @@ impl Shelf for MemShelf {
 
     ghost faults = { λ s. s.calls.faults };
 
+    ghost asked = { λ s. s.calls.made };
+
     fn fetch(&mut self, name: &str, into: &mut [u8]) -> Result<Option<usize>, Failed>
         ensures bound { IfOk result (λ found. IfSome found (λ n. n ≤ length into.new)) }
         ensures missing { IfOk result (λ found. IfNone found (into.new ≡ into.old)) }
         ensures files { Fetches (Some self.old.files) (Some self.new.files) name.now result
             into.new }
         ensures cause { HasCause self.old.calls.faults self.new.calls.faults result }
+        ensures asked { self.new.calls.made ≡ one_more self.old.calls.made }
 
         // It fails at the given calls alone, and leaves what it doesn't fill.
         ensures fails { is_err result ≡ fails_next self.old.calls }
         ensures counts_one { OnErr result (self.new.calls.faults ≡ one_more self.old.calls.faults) }
-        ensures made { self.new.calls.made ≡ one_more self.old.calls.made }
         ensures same_fails { self.new.calls.fails ≡ self.old.calls.fails }
         ensures rest { IfOk result (λ found. IfSome found (λ n.
             drop n into.new ≡ drop n into.old)) }

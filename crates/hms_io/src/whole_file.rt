@@ -1,6 +1,6 @@
 //! Whole files of a shelf.
 
-ghost use Rattle.std.specs.Prelude.{◌≡◌, ◌≤◌, length, vec_len, IfOk, IsErrOf, MatchResult};
+ghost use Rattle.std.specs.Prelude.{◌≡◌, ◌+◌, ◌≤◌, length, vec_len, IfOk, IsErrOf, MatchResult};
 ghost use Rattle.hms_io.specs.Files.{HasFile, HasFileCause, HasLongerFile, HasNoFile, KeepsFiles};
 
 use crate::faults::Failed;
@@ -81,6 +81,7 @@ pub fn take_file<F: Shelf>(
     ensures missing { IsErrOf result FileError.Missing → HasNoFile (F.files shelf.old) name.now }
     ensures same_files { KeepsFiles (F.files shelf.old) (F.files shelf.new) }
     ensures later { F.faults shelf.old ≤ F.faults shelf.new }
+    ensures asked { F.asked shelf.new ≤ F.asked shelf.old + 1 }
     ensures cause { MatchResult result (λ _. F.faults shelf.new ≡ F.faults shelf.old)
         (HasFileCause (F.faults shelf.old) (F.faults shelf.new)) }
 {

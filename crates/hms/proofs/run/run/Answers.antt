@@ -1,4 +1,4 @@
-use Rattle.std.proofs.Common.{map, string_bytes, ◌∙◌, refl, inl, inr}
+use Rattle.std.proofs.Common.{◌≡◌, map, string_bytes, ◌∙◌, refl, inl, inr}
 use Rattle.hms.proofs.Reports.{written_outcome, failed_outcome}
 use Rattle.hms.proofs.run.run.Goals.{in-Ok, in-Err-Refused}
 use Rattle.hms.proofs.run.run.Goals as goal
@@ -6,29 +6,29 @@ use Rattle.hms.proofs.run.run.Goals as goal
 pub returns-in-Err-ReadFault-clause-reads : goal.returns-in-Err-ReadFault-clause-reads
 returns-in-Err-ReadFault-clause-reads g c =
     let counted = rw c.in-Err-ReadFault.field-0-is at c.in-Err-ReadFault.ensures.cause in
-    record { rose = λ _. counted; kept = inl refl }
+    record { shelf_later = c.in-Err-ReadFault.ensures.shelf_later; source_later = c.in-Err-ReadFault.ensures.source_later; rose = λ _. counted; kept = inl refl }
 
 pub returns-in-Err-Memory-clause-reads : goal.returns-in-Err-Memory-clause-reads
 returns-in-Err-Memory-clause-reads g c =
     let counted = rw c.in-Err-Memory.field-0-is at c.in-Err-Memory.ensures.cause in
-    record { rose = λ e. absurd (cc e); kept = inr counted }
+    record { shelf_later = c.in-Err-Memory.ensures.shelf_later; source_later = c.in-Err-Memory.ensures.source_later; rose = λ e. absurd (cc e); kept = inr counted }
 
 pub returns-in-Ok-put_all-clause-ends : goal.returns-in-Ok-put_all-clause-ends
 returns-in-Ok-put_all-clause-ends g c = elim c.match-run_command.branch [
-  | in-Ok w ↦ written_outcome (map string_bytes c.args.arguments.now) (g.F.Shelf.files c.args.shelf.now) (g.S.Source.left c.args.source.now) (g.S.Source.left c.run_command.new.source)
+  | in-Ok w ↦ written_outcome (map string_bytes c.args.arguments.now) (g.F.Shelf.files c.args.shelf.now) (c.run_command.new.source ≡ c.args.source.now) (g.S.Source.left c.args.source.now) (g.S.Source.left c.run_command.new.source)
       (g.K.Sink.taken c.args.out.now) (g.K.Sink.taken c.put_all.new.sink) c.match-run_command.outcome c.status-status.result c.bytes.result.now
       (rw w.outcome-is w.in-Ok.ensures.report) c.status-status.ensures (c.bytes.ensures ∙ c.in-Ok-into_output.ensures) c.in-Ok-put_all.ensures.ok
-  | in-Err-Refused w ↦ written_outcome (map string_bytes c.args.arguments.now) (g.F.Shelf.files c.args.shelf.now) (g.S.Source.left c.args.source.now) (g.S.Source.left c.run_command.new.source)
+  | in-Err-Refused w ↦ written_outcome (map string_bytes c.args.arguments.now) (g.F.Shelf.files c.args.shelf.now) (c.run_command.new.source ≡ c.args.source.now) (g.S.Source.left c.args.source.now) (g.S.Source.left c.run_command.new.source)
       (g.K.Sink.taken c.args.out.now) (g.K.Sink.taken c.put_all.new.sink) c.match-run_command.outcome c.status-status.result c.bytes.result.now
       (let told = rw w.in-Err-Refused.field-0-is at w.in-Err-Refused.ensures.report in rw w.outcome-is told) c.status-status.ensures (c.bytes.ensures ∙ c.in-Ok-into_output.ensures) c.in-Ok-put_all.ensures.ok
 ]
 
 pub returns-clause-ends : goal.returns-clause-ends
 returns-clause-ends g c = elim c.match-run_command.branch [
-  | in-Ok w ↦ failed_outcome (map string_bytes c.args.arguments.now) (g.F.Shelf.files c.args.shelf.now) (g.S.Source.left c.args.source.now) (g.S.Source.left c.run_command.new.source)
+  | in-Ok w ↦ failed_outcome (map string_bytes c.args.arguments.now) (g.F.Shelf.files c.args.shelf.now) (c.run_command.new.source ≡ c.args.source.now) (g.S.Source.left c.args.source.now) (g.S.Source.left c.run_command.new.source)
       (g.K.Sink.taken c.args.out.now) (g.K.Sink.taken c.put_all.new.sink) c.match-run_command.outcome c.bytes.result.now
       (rw w.outcome-is w.in-Ok.ensures.report) (c.bytes.ensures ∙ c.in-Ok-into_output.ensures) c.in-Err.ensures.prefix
-  | in-Err-Refused w ↦ failed_outcome (map string_bytes c.args.arguments.now) (g.F.Shelf.files c.args.shelf.now) (g.S.Source.left c.args.source.now) (g.S.Source.left c.run_command.new.source)
+  | in-Err-Refused w ↦ failed_outcome (map string_bytes c.args.arguments.now) (g.F.Shelf.files c.args.shelf.now) (c.run_command.new.source ≡ c.args.source.now) (g.S.Source.left c.args.source.now) (g.S.Source.left c.run_command.new.source)
       (g.K.Sink.taken c.args.out.now) (g.K.Sink.taken c.put_all.new.sink) c.match-run_command.outcome c.bytes.result.now
       (let told = rw w.in-Err-Refused.field-0-is at w.in-Err-Refused.ensures.report in rw w.outcome-is told) (c.bytes.ensures ∙ c.in-Ok-into_output.ensures) c.in-Err.ensures.prefix
 ]

@@ -1,26 +1,52 @@
-use Rattle.std.proofs.Common.{map, string_bytes, refl, ◌∙◌}
-use Rattle.std.specs.Prelude.{option_map}
-use Rattle.command_line.specs.Command.{line_of}
-use Rattle.conf.specs.ConfMeaning.{meaning}
-use Rattle.std.proofs.lemmas.Result.{err_from_is_err_and}
-use Rattle.hms.proofs.Reports.{no_command, conf_stopped, conf_read, none_named}
+use Rattle.std.proofs.Common.{◌≡◌, map, string_bytes, refl, Ok}
+use Rattle.command_line.specs.Command.{Help, Version, Base, Verify, base_words, verify_words, line_of}
+use Rattle.output_lines.specs.declared.refusal.TheConstants.{MAX_INPUT_BYTES}
+use Rattle.hms.proofs.Reports.{alone, never, no_command, none_named, spelled}
+use Rattle.hms.proofs.Sources.{none_gone}
 use Rattle.hms.proofs.run.run_command.Goals as goal
 
 pub returns-in_default-clause-report : goal.returns-in_default-clause-report
-returns-in_default-clause-report g c = no_command _ _ _ c.in_default.ensures.none
+returns-in_default-clause-report g c =
+    no_command (map string_bytes c.args.arguments.now) (g.F.Shelf.files c.args.shelf.now) (c.args.source.now ≡ c.args.source.now) (g.S.Source.left c.args.source.now)
+    (g.S.Source.left c.args.source.now) c.in_default.ensures.none refl
 
-pub returns-in_err-conf-clause-report : goal.returns-in_err-conf-clause-report
-returns-in_err-conf-clause-report g c =
-    let p = err_from_is_err_and c.from_residual.result c.from_residual.ensures.1 in
-    rw (p.1, p.2) (conf_stopped (map string_bytes c.args.arguments.now) (line_of c.in-Some.command) c.in-Some.ensures.some (g.F.Shelf.files c.args.shelf.now)
-    (g.S.Source.left c.args.source.now) (g.S.Source.left c.args.source.now) (option_map (λ word. word.now) c.conf.result) c.in_err-conf.field-0.0 c.conf.ensures refl c.in_err-conf.ensures.refused)
+pub returns-in_default-clause-few : goal.returns-in_default-clause-few
+returns-in_default-clause-few g c = none_gone _ (g.S.Source.left c.args.source.now) (g.S.Source.left c.args.source.now) refl
 
-pub returns-clause-report : goal.returns-clause-report
-returns-clause-report g c =
-    conf_read (map string_bytes c.args.arguments.now) (line_of c.in-Some.command) c.in-Some.ensures.some (g.F.Shelf.files c.args.shelf.now)
-    (g.S.Source.left c.args.source.now) (g.S.Source.left c.over_source.new.source) (option_map (λ word. word.now) c.conf.result) (meaning c.in_ok-conf.conf) c.over_source.result
-    c.conf.ensures c.in_ok-conf.ensures.ok c.over_source.ensures.report
+pub returns-in_ok-write_help-in-Help-clause-report : goal.returns-in_ok-write_help-in-Help-clause-report
+returns-in_ok-write_help-in-Help-clause-report g c =
+    let outcome = c.in_ok-write_help-in-Help.field-0 in
+    spelled (map string_bytes c.args.arguments.now) Help (rw c.in-Help.is at c.in-Some.ensures.some) (g.F.Shelf.files c.args.shelf.now) (c.args.source.now ≡ c.args.source.now)
+    (g.S.Source.left c.args.source.now) (g.S.Source.left c.args.source.now) (Ok outcome)
+    (alone Help (g.F.Shelf.files c.args.shelf.now) (c.args.source.now ≡ c.args.source.now) (g.S.Source.left c.args.source.now) (g.S.Source.left c.args.source.now) outcome refl refl
+    (λ files input. c.in_ok-write_help-in-Help.ensures))
 
-pub returns-clause-unasked : goal.returns-clause-unasked
-returns-clause-unasked g c =
-    λ named. none_named (λ word. word.now) c.conf.result _ (c.conf.ensures ∙ named (line_of c.in-Some.command) c.in-Some.ensures.some) c.in_ok-conf.ensures.unasked
+pub returns-in_ok-write_version-in-Version-clause-report : goal.returns-in_ok-write_version-in-Version-clause-report
+returns-in_ok-write_version-in-Version-clause-report g c =
+    let outcome = c.in_ok-write_version-in-Version.field-0 in
+    spelled (map string_bytes c.args.arguments.now) Version (rw c.in-Version.is at c.in-Some.ensures.some) (g.F.Shelf.files c.args.shelf.now) (c.args.source.now ≡ c.args.source.now)
+    (g.S.Source.left c.args.source.now) (g.S.Source.left c.args.source.now) (Ok outcome)
+    (alone Version (g.F.Shelf.files c.args.shelf.now) (c.args.source.now ≡ c.args.source.now) (g.S.Source.left c.args.source.now) (g.S.Source.left c.args.source.now) outcome refl refl
+    (λ files input. c.in_ok-write_version-in-Version.ensures))
+
+pub returns-in-Base-clause-report : goal.returns-in-Base-clause-report
+returns-in-Base-clause-report g c =
+    spelled (map string_bytes c.args.arguments.now) (Base (base_words c.in-Base.words)) (rw c.in-Base.is at c.in-Some.ensures.some) (g.F.Shelf.files c.args.shelf.now)
+    (c.over_files.new.source ≡ c.args.source.now) (g.S.Source.left c.args.source.now) (g.S.Source.left c.over_files.new.source) c.over_files.result c.over_files.ensures.report
+
+pub returns-in-Base-clause-unread : goal.returns-in-Base-clause-unread
+returns-in-Base-clause-unread g c = λ none. never MAX_INPUT_BYTES (none (Base (base_words c.in-Base.words)) (rw c.in-Base.is at c.in-Some.ensures.some))
+
+pub returns-in-Base-clause-unasked : goal.returns-in-Base-clause-unasked
+returns-in-Base-clause-unasked g c = λ named. none_named (λ word. word.now) c.in-Base.words.conf _ (named (Base (base_words c.in-Base.words)) (rw c.in-Base.is at c.in-Some.ensures.some)) c.over_files.ensures.unasked
+
+pub returns-in-Verify-clause-report : goal.returns-in-Verify-clause-report
+returns-in-Verify-clause-report g c =
+    spelled (map string_bytes c.args.arguments.now) (Verify (verify_words c.in-Verify.words)) (rw c.in-Verify.is at c.in-Some.ensures.some) (g.F.Shelf.files c.args.shelf.now)
+    (c.over_files-in-Verify.new.source ≡ c.args.source.now) (g.S.Source.left c.args.source.now) (g.S.Source.left c.over_files-in-Verify.new.source) c.over_files-in-Verify.result c.over_files-in-Verify.ensures.report
+
+pub returns-in-Verify-clause-unread : goal.returns-in-Verify-clause-unread
+returns-in-Verify-clause-unread g c = λ none. never MAX_INPUT_BYTES (none (Verify (verify_words c.in-Verify.words)) (rw c.in-Verify.is at c.in-Some.ensures.some))
+
+pub returns-in-Verify-clause-unasked : goal.returns-in-Verify-clause-unasked
+returns-in-Verify-clause-unasked g c = λ named. never c.in-Verify.words.conf.now (named (Verify (verify_words c.in-Verify.words)) (rw c.in-Verify.is at c.in-Some.ensures.some))

@@ -1,0 +1,57 @@
+//! The commands `--help` and `--version`: texts of their own, for which nothing is read.
+
+ghost use Rattle.std.specs.Prelude.{◌≡◌, IfOk};
+ghost use Rattle.commands.specs.Help.{ReportsHelp, ReportsVersion};
+
+use crate::outcome::Outcome;
+use sfv_text::{Memory, Text};
+use std::alloc::Global;
+
+/// The version of the program.
+pub const VERSION_TEXT: &str = "hms 0.1.0\n";
+
+/// What the program does, its words and its statuses.
+pub const HELP_TEXT: &str = "\
+hms: HTTP Message Signatures (RFC 9421) of recorded HTTP/1.1 messages
+
+  hms verify --conf FILE --now SECONDS [--label LABEL] < MESSAGE
+      What the signatures of a message are worth: for each label, or for LABEL
+      alone, the line `LABEL ok`, or the first rule that fails.
+      FILE is the configuration: the keys, the policy, the structured fields.
+      SECONDS is the moment of the verification, since 1970-01-01 00:00 UTC.
+
+      hms verify --conf conf.toml --now \"$(date +%s)\" < signed.http
+
+  hms base PARAMS [--conf FILE] < MESSAGE
+      The signature base over the components that PARAMS cover.
+
+      hms base '(\"@method\" \"date\");created=1618884473' < signed.http
+
+  hms --help
+  hms --version
+
+One whole message is read from standard input. All output, refusals included,
+goes to standard output.
+
+  0  done, and each line is `ok`      5  a write failed
+  1  not every line is `ok`           6  out of memory
+  2  the arguments are no command     7  the configuration isn't accepted
+  3  the input or PARAMS are refused  8  a limit is passed
+  4  a read failed                    9  a named file is missing
+
+The manual is docs/MANUAL.md.
+";
+
+/// The text of `--help`.
+pub fn write_help(alloc: Global) -> Result<Outcome, Memory>
+    ensures { IfOk result ReportsHelp }
+{
+    Ok(Outcome::Done(Text::from_bytes(alloc, HELP_TEXT.as_bytes())?))
+}
+
+/// The text of `--version`.
+pub fn write_version(alloc: Global) -> Result<Outcome, Memory>
+    ensures { IfOk result ReportsVersion }
+{
+    Ok(Outcome::Done(Text::from_bytes(alloc, VERSION_TEXT.as_bytes())?))
+}

@@ -1,0 +1,12 @@
+use Rattle.msg_body.specs.Views.{message_of}
+use Rattle.conf.specs.ConfMeaning.{meaning}
+use Rattle.hms.proofs.Layers.{went_on}
+use Rattle.hms.proofs.Sources.{own_of_base}
+use Rattle.hms.proofs.over_message.BaseWordsOverMessage.answer.Goals as goal
+
+pub returns-clause-report : goal.returns-clause-report
+returns-clause-report c = rw c.as_bytes.ensures.value at c.write_base.ensures.report
+
+pub returns-clause-own : goal.returns-clause-own
+returns-clause-own c =
+    went_on (own_of_base c.as_bytes.result.now (meaning c.args.conf.now) (message_of c.args.message.now)) c.write_base.result c.write_base.ensures.report

@@ -1,0 +1,141 @@
+//! Commands over a configuration and one whole message, and their steps: the configuration is read,
+//! then the source, then its message, and the command is done over them.
+
+ghost use Rattle.std.specs.Prelude.{◌≡◌, ◌+◌, ◌≤◌, IfNone, length, option_map, string_bytes};
+ghost use Rattle.msg_body.specs.Views.{message_of};
+ghost use Rattle.hms_io.specs.Files.{KeepsFiles};
+ghost use Rattle.conf.specs.ConfMeaning.{meaning};
+ghost use Rattle.commands.specs.Stops.{IfOutcome, ReadsNothing, CountsStop};
+ghost use Rattle.hms.specs.Report.{HasInput, HasOutcome, Leaves, LosesAtMost, ReportsFiles, ReportsInput};
+ghost use Rattle.hms.specs.tools.Parts.{CountsOne, IsAfterInput, IsOwn};
+
+use command_line::{BaseWords, VerifyWords};
+use commands::{Outcome, Stop, read_configuration, read_input, write_base, write_verdicts};
+use conf::Conf;
+use hms_io::{Shelf, Source, fill};
+use msg_body::MessageView;
+use output_lines::MAX_INPUT_BYTES;
+use std::alloc::Global;
+
+/// A command over a configuration and one whole message.
+pub trait OverMessage {
+    ghost use Rattle.msg_body.specs.Messages.{Message};
+    ghost use Rattle.conf.specs.Configuration.{Configuration};
+    ghost use Rattle.commands.specs.declared.outcome.Outcome.{Outcome};
+
+    // The numbers of its words are in their ranges.
+    ghost is_timely: { Self → Type 0 };
+
+    // What it comes to.
+    ghost reports: { Self → Configuration → Message → Outcome → Type 0 };
+
+    /// Does the command over the message. It reads nothing.
+    fn answer(&self, alloc: Global, conf: &Conf, message: &MessageView<'_>) -> Result<Outcome, Stop>
+        requires { is_timely self.now }
+        ensures report { IfOutcome result
+            (reports self.now (meaning conf.now) (message_of message.now)) }
+        ensures own { IfOutcome result IsOwn }
+        ensures reads_nothing { ReadsNothing result };
+}
+
+impl<'a> OverMessage for BaseWords<'a> {
+    ghost use Rattle.std.specs.Prelude.{⊤};
+    ghost use Rattle.commands.specs.Base.{ReportsBase};
+
+    ghost is_timely = { λ words. ⊤ };
+
+    ghost reports = { λ words. ReportsBase words.params.now };
+
+    fn answer(
+        &self,
+        alloc: Global,
+        conf: &Conf,
+        message: &MessageView<'_>,
+    ) -> Result<Outcome, Stop> {
+        write_base(alloc, conf, self.params.as_bytes(), message)
+    }
+}
+
+impl<'a> OverMessage for VerifyWords<'a> {
+    ghost use Rattle.std.specs.Prelude.{◌<◌, ◌^◌, option_map};
+    ghost use Rattle.command_line.specs.declared.options.TheConstants.{MAX_MOMENT_DIGITS};
+    ghost use Rattle.commands.specs.Verify.{ReportsVerdicts};
+
+    ghost is_timely = { λ words. words.now < 10 ^ MAX_MOMENT_DIGITS };
+
+    ghost reports = { λ words.
+        ReportsVerdicts (option_map (λ word. word.now) words.label) words.now };
+
+    fn answer(
+        &self,
+        alloc: Global,
+        conf: &Conf,
+        message: &MessageView<'_>,
+    ) -> Result<Outcome, Stop> {
+        Ok(write_verdicts(alloc, conf, self.now, self.label, message)?)
+    }
+}
+
+/// Does the command over the input, which is to be one whole message.
+fn over_input<C: OverMessage>(
+    alloc: Global,
+    command: &C,
+    conf: &Conf,
+    input: &[u8],
+) -> Result<Outcome, Stop>
+    requires timely { C.is_timely command.now }
+    requires short { length input.now ≤ MAX_INPUT_BYTES }
+    ensures report { IfOutcome result
+        (ReportsInput (C.reports command.now (meaning conf.now)) input.now) }
+    ensures after { IfOutcome result IsAfterInput }
+    ensures reads_nothing { ReadsNothing result }
+{
+    let message = read_input(alloc, input)?;
+    command.answer(alloc, conf, &message)
+}
+
+/// Does the command over what the source gives: reads it to its end, or one byte past the limit.
+fn over_source<C: OverMessage, S: Source>(
+    alloc: Global,
+    command: &C,
+    conf: &Conf,
+    source: &mut S,
+) -> Result<Outcome, Stop>
+    requires { C.is_timely command.now }
+    ensures report { IfOutcome result
+        (HasInput (ReportsInput (C.reports command.now (meaning conf.now)))
+        (Leaves (Some MAX_INPUT_BYTES) (source.new ≡ source.old)
+        (S.left source.old) (S.left source.new)) (S.left source.old)) }
+    ensures cause { CountsStop (S.faults source.old) (S.faults source.new) result }
+    ensures later { S.faults source.old ≤ S.faults source.new }
+    ensures few { LosesAtMost (MAX_INPUT_BYTES + 1) (S.left source.old) (S.left source.new) }
+{
+    let input = fill(alloc, source, MAX_INPUT_BYTES)?;
+    over_input(alloc, command, conf, input.bytes())
+}
+
+/// Does the command over the named configuration and what the source gives.
+pub fn over_files<C: OverMessage, F: Shelf, S: Source>(
+    alloc: Global,
+    command: &C,
+    name: Option<&str>,
+    shelf: &mut F,
+    source: &mut S,
+) -> Result<Outcome, Stop>
+    requires { C.is_timely command.now }
+    ensures report { IfOutcome result
+        (HasOutcome (ReportsFiles (C.reports command.now) (option_map (λ word. word.now) name.entry))
+        (Leaves (Some MAX_INPUT_BYTES) (source.new ≡ source.old)
+        (S.left source.old) (S.left source.new)) (F.files shelf.old) (S.left source.old)) }
+    ensures cause { CountsOne (source.new ≡ source.old) (F.faults shelf.old) (F.faults shelf.new)
+        (S.faults source.old) (S.faults source.new) result }
+    ensures shelf_later { F.faults shelf.old ≤ F.faults shelf.new }
+    ensures source_later { S.faults source.old ≤ S.faults source.new }
+    ensures few { LosesAtMost (MAX_INPUT_BYTES + 1) (S.left source.old) (S.left source.new) }
+    ensures asked { F.asked shelf.new ≤ F.asked shelf.old + 1 }
+    ensures files { KeepsFiles (F.files shelf.old) (F.files shelf.new) }
+    ensures unasked { IfNone name.entry (shelf.new ≡ shelf.old) }
+{
+    let conf = read_configuration(alloc, name, shelf)?;
+    over_source(alloc, command, &conf, source)
+}
