@@ -13,8 +13,8 @@ use crate::fault::PolicyFault;
 use crate::nonce::{judge_nonce, judge_tag};
 use crate::times::{judge_created, judge_expires};
 use component_ids::{ComponentId, SigParams};
-use settings::Policy;
 use nonces::{NonceBook, Steps};
+use settings::Policy;
 use std::alloc::Global;
 use std::sync::ledger::Ledger;
 

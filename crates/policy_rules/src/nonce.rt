@@ -10,8 +10,8 @@ ghost use Rattle.policy_rules.specs.tools.Judged.{Explains, FailsByTag, FailsByN
 use crate::fault::PolicyFault;
 use crate::params::string_param;
 use component_ids::SigParams;
-use settings::{NonceUse, Policy};
 use nonces::{MAX_KEYID_BYTES, MAX_NONCE_BYTES, NonceBook, Steps};
+use settings::{NonceUse, Policy};
 use std::sync::ledger::Ledger;
 
 /// Whether `tag` is this.

@@ -11,8 +11,7 @@ use crate::class::SfClass;
 use crate::error::PartError;
 use crate::number::read_number;
 use crate::string::read_string;
-use byte_grammar::{Byte, ByteClass, Class};
-use byte_grammar::{Left, read_byte, read_word};
+use byte_grammar::{Byte, ByteClass, Class, Left, read_byte, read_word};
 use sfv_text::{BareItem, Text};
 use std::alloc::Global;
 

@@ -12,8 +12,7 @@ use crate::class::SfClass;
 use crate::error::PartError;
 use base64::DecodeAllocError;
 use base64::engine::general_purpose::STANDARD_NO_PAD;
-use byte_grammar::Byte;
-use byte_grammar::{Left, read_all, read_byte, read_run, starts_with};
+use byte_grammar::{Byte, Left, read_all, read_byte, read_run, starts_with};
 use sfv_text::Text;
 use std::alloc::Global;
 

@@ -15,8 +15,7 @@ use crate::error::{PartError, SfError};
 use crate::inner::read_inner_list_text;
 use crate::params::read_item_text;
 use crate::separated::read_separated;
-use byte_grammar::Byte;
-use byte_grammar::{read_all, starts_with};
+use byte_grammar::{Byte, read_all, starts_with};
 use sfv_text::{Dict, InnerList, Item, List, Text};
 use std::alloc::Global;
 

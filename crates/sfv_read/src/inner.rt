@@ -8,8 +8,7 @@ ghost use Rattle.sfv_read.specs.tools.InnerWalk.{close_read, some_item_read, ite
 
 use crate::error::PartError;
 use crate::params::{read_item_text, read_parameters};
-use byte_grammar::Byte;
-use byte_grammar::{Left, read_all, read_byte, starts_with};
+use byte_grammar::{Byte, Left, read_all, read_byte, starts_with};
 use sfv_text::{InnerList, Item, Items};
 use std::alloc::Global;
 

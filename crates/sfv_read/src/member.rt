@@ -6,8 +6,7 @@ ghost use Rattle.sfv_read.specs.tools.MemberWalk.{inner_member_read, item_member
 use crate::error::PartError;
 use crate::inner::read_inner_list_text;
 use crate::params::{read_item_text, read_key, read_parameters};
-use byte_grammar::Byte;
-use byte_grammar::{read_byte, starts_with};
+use byte_grammar::{Byte, read_byte, starts_with};
 use sfv_text::{BareItem, Item, Member, Pair};
 use std::alloc::Global;
 

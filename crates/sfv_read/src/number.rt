@@ -9,8 +9,7 @@ ghost use Rattle.std.specs.Str.Parse.{digits_value, digits_value_after};
 ghost use Rattle.sfv_read.specs.BareItem.{with_sign};
 ghost use Rattle.sfv_read.specs.tools.BareWalk.{fraction_read, part_read, number_read};
 
-use byte_grammar::{Byte, Class};
-use byte_grammar::{Left, read_byte, read_run, starts_with};
+use byte_grammar::{Byte, Class, Left, read_byte, read_run, starts_with};
 use sfv_text::BareItem;
 
 /// Reads an optional minus and 1 to 15 digits, or 1 to 12 digits, a point and 1 to 3 digits.

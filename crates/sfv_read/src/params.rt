@@ -7,8 +7,7 @@ ghost use Rattle.sfv_read.specs.tools.ItemWalk.{item_read, equals_read, value_re
 use crate::bare::read_bare_item;
 use crate::class::SfClass;
 use crate::error::PartError;
-use byte_grammar::Byte;
-use byte_grammar::{read_all, read_byte, read_word, starts_with};
+use byte_grammar::{Byte, read_all, read_byte, read_word, starts_with};
 use sfv_text::{BareItem, Item, Pair, Params, Text};
 use std::alloc::Global;
 

@@ -8,8 +8,7 @@ ghost use Rattle.sfv_read.specs.tools.MemberWalk.{member_read, dict_member_read,
 
 use crate::error::PartError;
 use crate::member::{read_dict_member, read_member};
-use byte_grammar::{Byte, Class};
-use byte_grammar::{read_all, read_byte, starts_with};
+use byte_grammar::{Byte, Class, read_all, read_byte, starts_with};
 use sfv_text::{Dict, List, Member, Memory, Pair};
 use std::alloc::Global;
 

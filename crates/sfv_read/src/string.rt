@@ -8,8 +8,7 @@ ghost use Rattle.sfv_read.specs.tools.BareWalk.{char_kind, char_read, chars_read
 
 use crate::class::SfClass;
 use crate::error::PartError;
-use byte_grammar::{Byte, ByteClass};
-use byte_grammar::{Left, read_byte};
+use byte_grammar::{Byte, ByteClass, Left, read_byte};
 use sfv_text::Text;
 use std::alloc::Global;
 

@@ -9,11 +9,11 @@ ghost use Rattle.signatures.specs.tools.Answered.{Explains};
 ghost use Rattle.verdicts.specs.tools.Judged.{digest_label_fault, FailsByField, FailsByDigest};
 
 use component_ids::{ComponentId, SigParams};
-use settings::DigestUse;
 use content_digest::{DigestFault, check_digest};
 use field_values::combined_text;
 use msg_body::MessageView;
 use msg_head::Side;
+use settings::DigestUse;
 use sfv_text::{BareItem, Pair, Params};
 use signatures::{DigestReason, LabelFault, Place, Rule};
 use std::alloc::Global;

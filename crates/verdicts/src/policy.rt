@@ -10,11 +10,11 @@ ghost use Rattle.signatures.specs.tools.Answered.{Explains};
 ghost use Rattle.verdicts.specs.tools.Judged.{policy_label_fault, FailsByCheck, FailsByRoom};
 
 use component_ids::SigParams;
-use settings::Policy;
 use framing::is_request;
 use msg_body::MessageView;
 use nonces::{NonceBook, Steps};
 use policy_rules::{PolicyFault, has_room, judge_policy};
+use settings::Policy;
 use signatures::{LabelFault, Place, Rule};
 use std::alloc::Global;
 use std::sync::ledger::Ledger;
