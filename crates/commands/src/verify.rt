@@ -1,8 +1,11 @@
 //! The command `verify`: the verdicts on a message's labels (RFC 9421 section 3.2).
 
 ghost use Rattle.std.specs.Prelude.{◌≡◌, ◌≤◌, ◌<◌, [], ◌∷◌, None, option_map, IfOk};
+ghost use Rattle.msg_body.specs.Messages.{Message};
 ghost use Rattle.msg_body.specs.Views.{message_of};
+ghost use Rattle.component_values.specs.Context.{context_of};
 ghost use Rattle.conf.specs.ConfMeaning.{meaning};
+ghost use Rattle.signatures.specs.Fields.{AreFieldsOf};
 ghost use Rattle.verdicts.specs.Verdicts.{verification_of};
 ghost use Rattle.commands.specs.Verify.{AreAsked, ReportsVerdicts};
 ghost use Rattle.commands.specs.tools.Verdicts.{WritesVerdict, ReportsLabels};
@@ -17,11 +20,12 @@ use sfv_text::{Memory, Text};
 use std::alloc::Global;
 use std::marker::Brand;
 use std::sync::ledger::{Blank, Ledger};
-use verdicts::{Labels, MAX_MOMENT, Verdict, labels_of, verdict};
+use verdicts::{Labels, MAX_MOMENT, SignatureFields, Verdict, verdict_in};
 
 /// Judges the label and adds its line. It answers whether the label is accepted.
 fn write_line<L: Ledger>(
     alloc: Global,
+    fields: &SignatureFields,
     context: &Context<'_, '_>,
     label: &[u8],
     conf: &Conf,
@@ -29,12 +33,13 @@ fn write_line<L: Ledger>(
     lines: &mut Text,
     steps: &mut Steps<L>,
 ) -> Result<bool, Memory>
-    requires { now ≤ MAX_MOMENT }
+    requires fields { AreFieldsOf (context_of context.now).message fields.now }
+    requires now { now ≤ MAX_MOMENT }
     ensures { IfOk result (WritesVerdict
         (verification_of context.now label.now (meaning conf.now) now None)
         label.now lines.old lines.new) }
 {
-    let verdict = verdict(alloc, context, label, conf, now, None, steps)?;
+    let verdict = verdict_in(alloc, fields, context, label, conf, now, None, steps)?;
     append_verdict_line(alloc, label, &verdict, lines)?;
     Ok(match verdict {
         Verdict::Ok { .. } => true,
@@ -48,9 +53,11 @@ fn write_lines<L: Ledger>(
     conf: &Conf,
     now: u64,
     message: &MessageView<'_>,
+    fields: &SignatureFields,
     labels: &[Text],
     blank: Blank,
 ) -> Result<Outcome, Memory>
+    requires fields { AreFieldsOf (message_of message.now) fields.now }
     requires now { now ≤ MAX_MOMENT }
     requires name { blank.name ≡ L.name }
     requires parts { blank.parts ≡ L.parts }
@@ -65,6 +72,7 @@ fn write_lines<L: Ledger>(
     for label in labels {
         let is_accepted = write_line(
             alloc,
+            fields,
             &context,
             label.bytes(),
             conf,
@@ -94,15 +102,15 @@ fn one_label(alloc: Global, label: &[u8]) -> Result<Labels, Memory>
 fn asked_labels(
     alloc: Global,
     label: Option<&str>,
-    message: &MessageView<'_>,
+    fields: &SignatureFields,
 ) -> Result<Labels, Memory>
-    ensures { IfOk result
-        (AreAsked (option_map (λ word. word.now) label.entry) (message_of message.now)) }
+    ensures { (message : Message) → AreFieldsOf message fields.now → IfOk result
+        (AreAsked (option_map (λ word. word.now) label.entry) message) }
 {
     if let Some(label) = label {
         return one_label(alloc, label.as_bytes());
     }
-    let labels = labels_of(alloc, message)?;
+    let labels = fields.labels(alloc)?;
     if labels.is_empty() {
         return one_label(alloc, b"-");
     }
@@ -123,6 +131,8 @@ pub fn write_verdicts(
     ensures { IfOk result (ReportsVerdicts (option_map (λ word. word.now) label.entry)
         now (meaning conf.now) (message_of message.now)) }
 {
-    let labels = asked_labels(alloc, label, message)?;
-    write_lines::<Brand>(alloc, conf, now, message, labels.as_slice(), Blank::new(1))
+    let fields = SignatureFields::read(alloc, message)?;
+    let labels = asked_labels(alloc, label, &fields)?;
+    let blank = Blank::new(1);
+    write_lines::<Brand>(alloc, conf, now, message, &fields, labels.as_slice(), blank)
 }
