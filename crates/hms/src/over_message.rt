@@ -123,8 +123,8 @@ pub fn over_files<C: OverMessage, F: Shelf, S: Source>(
     source: &mut S,
 ) -> Result<Outcome, Stop>
     requires { C.is_timely command.now }
-    ensures report { IfOutcome result
-        (HasOutcome (ReportsFiles (C.reports command.now) (option_map (λ word. word.now) name.entry))
+    ensures report { IfOutcome result (HasOutcome
+        (ReportsFiles (C.reports command.now) (option_map (λ word. word.now) name.entry))
         (Leaves (Some MAX_INPUT_BYTES) (source.new ≡ source.old)
         (S.left source.old) (S.left source.new)) (F.files shelf.old) (S.left source.old)) }
     ensures cause { CountsOne (source.new ≡ source.old) (F.faults shelf.old) (F.faults shelf.new)
