@@ -1,3 +1,4 @@
+pub mod Asked
 pub mod ConfFiles
 pub mod Decided
 pub mod DecidedConf

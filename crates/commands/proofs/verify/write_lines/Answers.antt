@@ -1,6 +1,8 @@
-use Rattle.std.proofs.Common.{◌≡◌, None, subst, ◌∙◌, refl, List, ℕ}
+use Rattle.std.proofs.Common.{◌≡◌, None, subst, ◌∙◌, refl, sym, ap, List, ℕ}
 use Rattle.msg_body.specs.Views.{message_of}
-use Rattle.component_values.specs.Context.{context_of}
+use Rattle.msg_body.specs.Messages.{Message}
+use Rattle.component_values.specs.Context.{MessageContext, context_of}
+use Rattle.signatures.specs.Fields.{AreFieldsOf}
 use Rattle.conf.specs.ConfMeaning.{meaning}
 use Rattle.verdicts.specs.Rules.{Verification}
 use Rattle.verdicts.specs.Verdicts.{verification_of}
@@ -9,6 +11,9 @@ use Rattle.commands.specs.Verify.{verification_for}
 use Rattle.commands.specs.tools.Verdicts.{WritesVerdict}
 use Rattle.commands.proofs.VerdictLines.{more_lines}
 use Rattle.commands.proofs.verify.write_lines.Goals as goal
+
+pub write_line-requires-clause-fields : goal.write_line-requires-clause-fields
+write_line-requires-clause-fields g c = subst (λ (m : Message). AreFieldsOf m c.args.fields.now) (sym (ap (λ (x : MessageContext). x.message) c.of_message-context.ensures)) c.requires.fields
 
 pub loop-label-preserved : goal.loop-label-preserved
 loop-label-preserved g c =
