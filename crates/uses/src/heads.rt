@@ -1,9 +1,10 @@
 // Tests of msg_head and field_values.
 
-use field_values::{combined_pieces, count_lines, line_pieces};
+use field_values::{Combined, combined_pieces, count_lines, line_pieces};
 use msg_body::{Expect, MessageRead, read_message};
 use msg_head::{
-    FieldLines, HeadError, HeadRead, LineView, Side, Start, TrailerRead, read_head, read_trailer,
+    FieldLines, HeadError, HeadRead, LineView, Pieces, Side, Start, TrailerRead, read_head,
+    read_trailer,
 };
 use std::alloc::Global;
 use std::fmt;
@@ -24,8 +25,20 @@ fn are_lines(lines: FieldLines<'_, '_>, wanted: &[LineView<'static>]) -> bool {
     left.is_empty()
 }
 
-/// Whether the pieces together are the text.
-pub(crate) fn are_pieces<'m, I: Iterator<Item = &'m [u8]> + Drop>(pieces: I, text: &[u8]) -> bool {
+/// Whether the pieces of a line's value together are the text.
+fn are_pieces(pieces: Pieces<'_>, text: &[u8]) -> bool {
+    let mut left = text;
+    for piece in pieces {
+        let Some(rest) = left.strip_prefix(piece) else {
+            return false;
+        };
+        left = rest;
+    }
+    left.is_empty()
+}
+
+/// Whether the pieces of a combined value together are the text.
+fn are_combined(pieces: Combined<'_, '_>, text: &[u8]) -> bool {
     let mut left = text;
     for piece in pieces {
         let Some(rest) = left.strip_prefix(piece) else {
@@ -118,7 +131,7 @@ fn values_come_in_pieces(rt: HostRuntime) -> Result<(), Fail> {
     let MessageRead::Whole(view, _) = read_message(rt.alloc(), bytes, Expect::Any, false)? else {
         return Err("no message".into());
     };
-    assert!(rt; are_pieces(combined_pieces(&view, Side::Header, b"x"), b"a b, c"));
+    assert!(rt; are_combined(combined_pieces(&view, Side::Header, b"x"), b"a b, c"));
     assert_eq!(rt; count_lines(&view, Side::Header, b"x"), 2);
     Ok(())
 }
