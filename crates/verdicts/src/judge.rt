@@ -138,9 +138,8 @@ fn fault_of_lack(alloc: Global, ids: &[ComponentId], fault: ValueFault) -> Label
     }
 }
 
-/// Whether the tag is the HMAC of the signature base under the key, all its 32 bytes (RFC 9421
-/// section 3.3.3). It takes no memory: the base is fed to the HMAC piece by piece.
-pub fn tag_matches(prepared: &Prepared<'_, '_>, key: &[u8], tag: &[u8]) -> bool
+/// Whether the tag is the HMAC of the signature base under the key, all its bytes.
+fn tag_matches(prepared: &Prepared<'_, '_>, key: &[u8], tag: &[u8]) -> bool
     ensures { IsTrue result ↔ (tag.now
         ≡ hmac key.now (signature_base prepared.now.params prepared.now.values)) }
 {

@@ -16,7 +16,7 @@ mod laws;
 mod outcome;
 mod policy;
 
-pub use judge::{tag_matches, verdict, verdict_in};
+pub use judge::{verdict, verdict_in};
 pub use laws::a_label_has_one_verdict;
 pub use nonces::MAX_MOMENT;
 pub use outcome::Verdict;
