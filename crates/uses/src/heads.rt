@@ -1,35 +1,29 @@
 // Tests of msg_head and field_values.
 
-use field_values::{Combined, combined_pieces, count_lines, line_pieces};
+ghost use Rattle.std.specs.Iterator.{IsFinite};
+
+use field_values::{combined_pieces, count_lines, line_pieces};
 use msg_body::{Expect, MessageRead, read_message};
 use msg_head::{
-    FieldLines, HeadError, HeadRead, LineView, Pieces, Side, Start, TrailerRead, read_head,
-    read_trailer,
+    FieldLines, HeadError, HeadRead, LineView, Side, Start, TrailerRead, read_head, read_trailer,
 };
 use std::alloc::Global;
 use std::fmt;
 use std::test::Fail;
 
-/// Whether these are the field lines.
-fn are_lines(lines: FieldLines<'_, '_>, wanted: &[LineView<'static>]) -> bool {
-    let mut left = wanted;
-    for line in lines {
-        let Some((first, others)) = left.split_first() else {
-            return false;
-        };
-        if line.name != first.name || line.raw != first.raw {
-            return false;
-        }
-        left = others;
-    }
-    left.is_empty()
+/// The text after the field line, where it begins with it.
+fn after_line<'a>(text: &'a [u8], line: LineView<'_>) -> Option<&'a [u8]> {
+    let after_name = text.strip_prefix(line.name)?;
+    let after_colon = after_name.strip_prefix(b":".as_slice())?;
+    let after_raw = after_colon.strip_prefix(line.raw)?;
+    after_raw.strip_prefix(b"\r\n".as_slice())
 }
 
-/// Whether the pieces of a line's value together are the text.
-fn are_pieces(pieces: Pieces<'_>, text: &[u8]) -> bool {
+/// Whether the field lines together are the text.
+fn are_lines(lines: FieldLines<'_, '_>, text: &[u8]) -> bool {
     let mut left = text;
-    for piece in pieces {
-        let Some(rest) = left.strip_prefix(piece) else {
+    for line in lines {
+        let Some(rest) = after_line(left, line) else {
             return false;
         };
         left = rest;
@@ -37,8 +31,10 @@ fn are_pieces(pieces: Pieces<'_>, text: &[u8]) -> bool {
     left.is_empty()
 }
 
-/// Whether the pieces of a combined value together are the text.
-fn are_combined(pieces: Combined<'_, '_>, text: &[u8]) -> bool {
+/// Whether the pieces together are the text.
+pub(crate) fn are_pieces<'m, I: Iterator<Item = &'m [u8]> + Drop>(pieces: I, text: &[u8]) -> bool
+    requires { I.can_next pieces × IsFinite (I.remaining pieces) }
+{
     let mut left = text;
     for piece in pieces {
         let Some(rest) = left.strip_prefix(piece) else {
@@ -59,23 +55,11 @@ pub(crate) fn prints<T: fmt::Display>(alloc: Global, value: &T, text: &str) -> b
 
 const REQUEST: &[u8] = b"GET / HTTP/1.1\r\nHost: example.com\r\n\r\n";
 
-const REQUEST_LINES: [LineView<'static>; 1] = [LineView {
-    name: b"Host",
-    raw: b" example.com",
-}];
+const REQUEST_LINES: &[u8] = b"Host: example.com\r\n";
 
 const RESPONSE: &[u8] = b"HTTP/1.0 404 Not \xff\r\nA:b\r\n c\r\n\t\r\nD: e\r\n\r\nmore";
 
-const RESPONSE_LINES: [LineView<'static>; 2] = [
-    LineView {
-        name: b"A",
-        raw: b"b\r\n c\r\n\t",
-    },
-    LineView {
-        name: b"D",
-        raw: b" e",
-    },
-];
+const RESPONSE_LINES: &[u8] = b"A:b\r\n c\r\n\t\r\nD: e\r\n";
 
 // The example of msg_head.
 #[test]
@@ -86,7 +70,7 @@ fn a_head_is_read(rt: HostRuntime) -> Result<(), Fail> {
     assert_eq!(rt; used, 37);
     assert_eq!(rt; head.line_count(), 1);
     assert_eq!(rt; head.line(0).raw, b" example.com".as_slice());
-    assert!(rt; are_lines(head.lines(), &REQUEST_LINES));
+    assert!(rt; are_lines(head.lines(), REQUEST_LINES));
     Ok(())
 }
 
@@ -107,14 +91,14 @@ fn a_status_line_and_folds_are_read(rt: HostRuntime) -> Result<(), Fail> {
     };
     assert!(rt; version == b"HTTP/1.0".as_slice() && code == b"404".as_slice());
     assert!(rt; reason == Some(b"Not \xff".as_slice()));
-    assert!(rt; are_lines(head.lines(), &RESPONSE_LINES));
+    assert!(rt; are_lines(head.lines(), RESPONSE_LINES));
     // the same lines after chunks
     let bytes = b"A:b\r\n c\r\n\t\r\nD: e\r\n\r\nmore";
     let TrailerRead::Whole(trailer, count) = read_trailer(rt.alloc(), bytes)? else {
         return Err("no trailer section".into());
     };
     assert_eq!(rt; count, 20);
-    assert!(rt; are_lines(trailer.lines(), &RESPONSE_LINES));
+    assert!(rt; are_lines(trailer.lines(), RESPONSE_LINES));
     Ok(())
 }
 
@@ -131,7 +115,7 @@ fn values_come_in_pieces(rt: HostRuntime) -> Result<(), Fail> {
     let MessageRead::Whole(view, _) = read_message(rt.alloc(), bytes, Expect::Any, false)? else {
         return Err("no message".into());
     };
-    assert!(rt; are_combined(combined_pieces(&view, Side::Header, b"x"), b"a b, c"));
+    assert!(rt; are_pieces(combined_pieces(&view, Side::Header, b"x"), b"a b, c"));
     assert_eq!(rt; count_lines(&view, Side::Header, b"x"), 2);
     Ok(())
 }
