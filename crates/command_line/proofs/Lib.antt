@@ -1,3 +1,4 @@
 pub mod CommandLaws
+pub mod CommandOrNone
 pub mod Moments
 pub mod OptionLists

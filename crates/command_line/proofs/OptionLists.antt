@@ -56,7 +56,7 @@ begins_with (p ∷ others) o w after e =
     let same = three_parts o w p.key p.value after (words_of others) e in (p, others, refl, same.0, same.1)
 
 -- one word is no options
-no_single : (rest : List (Pair (List ℕ))) (word : List ℕ) → word ∷ [] ≡ words_of rest → ⊥
+pub no_single : (rest : List (Pair (List ℕ))) (word : List ℕ) → word ∷ [] ≡ words_of rest → ⊥
 no_single [] word e = absurd cc
 no_single (p ∷ others) word e = absurd cc
 

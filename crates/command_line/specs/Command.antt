@@ -70,11 +70,12 @@ conf_of Version = None
 conf_of (Base words) = words.conf
 conf_of (Verify words) = Some words.conf
 
--- what the borrowed words stand for
+-- what the borrowed words of `base` stand for
 abbrev pub base_words : base.BaseWords → BaseWords
 base_words words =
     record { params = words.params.now; conf = option_map (λ word. word.now) words.conf }
 
+-- what the borrowed words of `verify` stand for
 abbrev pub verify_words : verify.VerifyWords → VerifyWords
 verify_words words = record {
   conf = words.conf.now;
@@ -82,6 +83,7 @@ verify_words words = record {
   label = option_map (λ word. word.now) words.label;
 }
 
+-- what a command with borrowed words stands for
 abbrev pub line_of : Command → CommandLine
 line_of command.Help = Help
 line_of command.Version = Version

@@ -39,17 +39,21 @@ abbrev pub option_of : List ℕ → Option CommandOption
 option_of name =
     find (λ option. bytes_eq name (row_of option).word) (Conf ∷ Now ∷ Label ∷ [])
 
+-- the two names are those of one command
 abbrev pub is_same_command : CommandName → CommandName → Bool
 is_same_command Base Base = true
 is_same_command Verify Verify = true
 is_same_command command other = false
 
+-- the command takes the option
 abbrev pub is_taken_by : CommandName → CommandOption → Bool
 is_taken_by command option = list_any (is_same_command command) (row_of option).commands
 
+-- the command takes an option of that name
 abbrev pub takes : CommandName → List ℕ → Bool
 takes command name = unwrap_or (option_map (is_taken_by command) (option_of name)) false
 
+-- an option of that name may have that word
 abbrev pub may_have : List ℕ → List ℕ → Bool
 may_have name word =
     unwrap_or (option_map (λ option. (row_of option).may_have word) (option_of name)) false

@@ -10,5 +10,5 @@ mod laws;
 mod options;
 
 pub use command::{BaseWords, Command, VerifyWords, after_name, read_words};
-pub use laws::arguments_have_one_command;
+pub use laws::{arguments_are_a_command_or_none, arguments_have_one_command};
 pub use options::MAX_MOMENT_DIGITS;

@@ -1,5 +1,5 @@
 -- What is read at each layer is one value, or has one cause to be refused.
-use Rattle.std.proofs.Common.{◌≡◌, ℕ, Some, List, refl, sym, ap, subst, ◌∙◌, arith}
+use Rattle.std.proofs.Common.{◌≡◌, ℕ, Some, List, sym, ap, subst, ◌∙◌, arith}
 use Rattle.std.specs.List.{slice_get}
 use Rattle.byte_grammar.specs.FaultOffset.{IsFaultOffset}
 use Rattle.byte_grammar.proofs.Indices.{some_and_parts}
@@ -23,29 +23,38 @@ use Rattle.commands.specs.Base.{HasIdFault, AreParamsRefused, IsValueLacking}
 use Rattle.commands.specs.Covered.{ReadsParams}
 use Rattle.commands.specs.Laws.{IsInputDecided, AreParamsDecided, AreValuesDecided}
 use Rattle.commands.specs.Messages.{IsInputMessage, IsInputRefused}
-use Rattle.output_lines.specs.declared.refusal.InputRefusal.{InputRefusal}
-use Rattle.output_lines.specs.declared.refusal.InputRefusal.TheVariants.{TooLong, Message as NoMessage}
-use Rattle.output_lines.specs.declared.refusal.CommandRefusal.{CommandRefusal}
-use Rattle.output_lines.specs.declared.refusal.CommandRefusal.TheVariants.{Syntax, ItemKind, Ids, Lacks}
+use Rattle.commands.specs.declared.message.Reading.{Reading}
+use Rattle.refusals.specs.declared.file.FileRefusal.{FileRefusal}
+use Rattle.refusals.specs.declared.file.FileRefusal.TheVariants.{Missing, TooLong, Message as NoMessage, Conf}
+use Rattle.refusals.specs.declared.refusal.CommandRefusal.{CommandRefusal}
+use Rattle.refusals.specs.declared.refusal.CommandRefusal.TheVariants.{Syntax, ItemKind, Ids, Lacks}
 use Rattle.commands.proofs.LowerLaws.{one_list, no_fault, one_params, one_text, one_message_fault, text_no_fault}
 
 -- ---- the input
 
-input_cause : (input : List ℕ) (c d : InputRefusal) → IsInputRefused input c → IsInputRefused input d → c ≡ d
-input_cause input TooLong TooLong a b = refl
-input_cause input TooLong (NoMessage g) a b = absurd (omega (arith, a, b.0))
-input_cause input (NoMessage f) TooLong a b = absurd (omega (arith, a.0, b))
-input_cause input (NoMessage f) (NoMessage g) a b = ap (λ (h : MessageFault). NoMessage h) (one_message_fault input f g a.1 b.1)
+input_cause : (r : Reading) (input : List ℕ) (c d : FileRefusal) → IsInputRefused r input c → IsInputRefused r input d → c ≡ d
+input_cause r input Missing d a b = absurd a
+input_cause r input (Conf f) d a b = absurd a
+input_cause r input (TooLong n) Missing a b = absurd b
+input_cause r input (TooLong n) (Conf g) a b = absurd b
+input_cause r input (TooLong n) (TooLong m) a b = ap (λ (limit : ℕ). TooLong limit) (a.0 ∙ sym b.0)
+input_cause r input (TooLong n) (NoMessage g) a b = absurd (omega (arith, a.1, b.0))
+input_cause r input (NoMessage f) Missing a b = absurd b
+input_cause r input (NoMessage f) (Conf g) a b = absurd b
+input_cause r input (NoMessage f) (TooLong m) a b = absurd (omega (arith, a.0, b.1))
+input_cause r input (NoMessage f) (NoMessage g) a b = ap (λ (h : MessageFault). NoMessage h) (one_message_fault r input f g a.1 b.1)
 
-input_either : (input : List ℕ) (message : Message) (c : InputRefusal) → IsInputMessage input message → IsInputRefused input c → ⊥
-input_either input message TooLong is c = absurd (omega (arith, is.0, c))
-input_either input message (NoMessage f) is c = text_no_fault input message f is.1 c.1
+input_either : (r : Reading) (input : List ℕ) (message : Message) (c : FileRefusal) → IsInputMessage r input message → IsInputRefused r input c → ⊥
+input_either r input message Missing is c = c
+input_either r input message (Conf f) is c = c
+input_either r input message (TooLong n) is c = let within = is.within in omega (arith, within, c.1)
+input_either r input message (NoMessage f) is c = text_no_fault r input message f is c.1
 
 pub input_decided : IsInputDecided
-input_decided input = record {
-  value = λ a b is also. one_text input a b is.1 also.1;
-  cause = input_cause input;
-  either = input_either input;
+input_decided r input = record {
+  value = λ a b is also. one_text r.to_head input a b is.spells also.spells;
+  cause = input_cause r input;
+  either = input_either r input;
 }
 
 -- ---- PARAMS

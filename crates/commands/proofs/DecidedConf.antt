@@ -1,65 +1,69 @@
 -- A configuration is read, or has one cause to be refused.
-use Rattle.std.proofs.Common.{◌≡◌, ◌<◌, ◌≤◌, ℕ, List, [], length, Option, Some, None, refl, ap, arith}
-use Rattle.std.specs.Prelude.{IsSomeAnd}
-use Rattle.std.specs.FinMap as map
-use Rattle.hms_io.specs.Files.{FileMap}
+use Rattle.std.proofs.Common.{◌≡◌, ℕ, List, [], Option, Some, None, sym, ap, ◌∙◌, arith}
 use Rattle.conf.specs.Configuration.{Configuration}
-use Rattle.conf.specs.Meaning.{Configures}
-use Rattle.conf.specs.Refusals.{IsConfFault}
 use Rattle.conf.specs.declared.fault.ConfFault.{ConfFault}
-use Rattle.commands.specs.Configured.{IsConfigured, IsFileRefused, IsConfRefused}
+use Rattle.commands.specs.Configured.{IsConfText, IsConfTextRefused, IsConfigured, IsConfRefused}
 use Rattle.commands.specs.Laws.{IsConfigurationDecided}
-use Rattle.output_lines.specs.declared.refusal.TheConstants.{MAX_CONF_BYTES}
-use Rattle.output_lines.specs.declared.refusal.ConfRefusal.{ConfRefusal}
-use Rattle.output_lines.specs.declared.refusal.ConfRefusal.TheVariants.{Missing, TooLong, Fault}
+use Rattle.commands.specs.Layers.{IsDecisive, ReadsFound, IsFileRefused}
+use Rattle.refusals.specs.declared.file.FileRefusal.{FileRefusal}
+use Rattle.refusals.specs.declared.file.FileRefusal.TheVariants.{Missing, TooLong, Message, Conf}
 use Rattle.commands.proofs.LowerConf.{one_meaning, one_conf_fault, not_both_conf}
 
-some_text : (found : Option (List ℕ)) (P Q : List ℕ → Type 0) → IsSomeAnd found P → IsSomeAnd found Q → (text : List ℕ) × P text × Q text
-some_text None P Q p q = absurd p
-some_text (Some text) P Q p q = (text, p, q)
+-- ---- what was found, by its text
 
-no_text : (found : Option (List ℕ)) (P : List ℕ → Type 0) → found ≡ None → IsSomeAnd found P → ⊥
-no_text None P none is = is
-no_text (Some text) P none is = absurd cc
+module _ {V : Type 0} (Reads : List ℕ → V → Type 0) (Causes : List ℕ → FileRefusal → Type 0) (decided : (text : List ℕ) → IsDecisive (Reads text) (Causes text)) where
+  found_value : (found : Option (List ℕ)) (v w : V) → ReadsFound Reads found v → ReadsFound Reads found w → v ≡ w
+  found_value None v w a b = absurd a
+  found_value (Some text) v w a b = (decided text).value v w a b
 
-short_and_long : (found : Option (List ℕ)) (P : List ℕ → Type 0) → IsSomeAnd found (λ text. (length text ≤ MAX_CONF_BYTES) × P text)
-    → IsSomeAnd found (λ text. MAX_CONF_BYTES < length text) → ⊥
-short_and_long None P short long = short
-short_and_long (Some text) P short long = omega (arith, short.0, long)
+  found_cause : (found : Option (List ℕ)) (c d : FileRefusal) → IsFileRefused Causes found c → IsFileRefused Causes found d → c ≡ d
+  found_cause None c d a b = a ∙ sym b
+  found_cause (Some text) c d a b = (decided text).cause c d a b
 
-file_cause : (files : FileMap) (name : List ℕ) (c d : ConfRefusal) → IsFileRefused files name c → IsFileRefused files name d → c ≡ d
-file_cause files name Missing Missing a b = refl
-file_cause files name Missing TooLong a b = absurd (no_text (map.get files name) _ a b)
-file_cause files name Missing (Fault g) a b = absurd (no_text (map.get files name) _ a b)
-file_cause files name TooLong Missing a b = absurd (no_text (map.get files name) _ b a)
-file_cause files name TooLong TooLong a b = refl
-file_cause files name TooLong (Fault g) a b = absurd (short_and_long (map.get files name) (λ text. IsConfFault text g) b a)
-file_cause files name (Fault f) Missing a b = absurd (no_text (map.get files name) _ b a)
-file_cause files name (Fault f) TooLong a b = absurd (short_and_long (map.get files name) (λ text. IsConfFault text f) a b)
-file_cause files name (Fault f) (Fault g) a b =
-    let both = some_text (map.get files name) (λ text. (length text ≤ MAX_CONF_BYTES) × IsConfFault text f) (λ text. (length text ≤ MAX_CONF_BYTES) × IsConfFault text g) a b in
-    ap (λ (h : ConfFault). Fault h) (one_conf_fault both.0 f g both.1.1 both.2.1)
+  found_either : (found : Option (List ℕ)) (v : V) (c : FileRefusal) → ReadsFound Reads found v → IsFileRefused Causes found c → ⊥
+  found_either None v c a b = a
+  found_either (Some text) v c a b = (decided text).either v c a b
 
-conf_cause : (files : FileMap) (name : Option (List ℕ)) (c d : ConfRefusal) → IsConfRefused files name c → IsConfRefused files name d → c ≡ d
-conf_cause files None c d a b = absurd a
-conf_cause files (Some name) c d a b = file_cause files name c d a b
+-- ---- a text of a configuration
 
-conf_value : (files : FileMap) (name : Option (List ℕ)) (a b : Configuration) → IsConfigured files name a → IsConfigured files name b → a ≡ b
-conf_value files None a b is also = one_meaning [] a b is also
-conf_value files (Some name) a b is also =
-    let both = some_text (map.get files name) (λ text. (length text ≤ MAX_CONF_BYTES) × Configures text a) (λ text. (length text ≤ MAX_CONF_BYTES) × Configures text b) is also in
-    one_meaning both.0 a b both.1.1 both.2.1
+text_cause : (text : List ℕ) (c d : FileRefusal) → IsConfTextRefused text c → IsConfTextRefused text d → c ≡ d
+text_cause text Missing d a b = absurd a
+text_cause text (Message f) d a b = absurd a
+text_cause text (TooLong n) Missing a b = absurd b
+text_cause text (TooLong n) (Message g) a b = absurd b
+text_cause text (TooLong n) (TooLong m) a b = ap (λ (limit : ℕ). TooLong limit) (a.0 ∙ sym b.0)
+text_cause text (TooLong n) (Conf g) a b = absurd (omega (arith, a.1, b.0))
+text_cause text (Conf f) Missing a b = absurd b
+text_cause text (Conf f) (Message g) a b = absurd b
+text_cause text (Conf f) (TooLong m) a b = absurd (omega (arith, a.0, b.1))
+text_cause text (Conf f) (Conf g) a b = ap (λ (h : ConfFault). Conf h) (one_conf_fault text f g a.1 b.1)
 
-file_either : (files : FileMap) (name : List ℕ) (conf : Configuration) (c : ConfRefusal) → IsConfigured files (Some name) conf → IsFileRefused files name c → ⊥
-file_either files name conf Missing is cause = no_text (map.get files name) _ cause is
-file_either files name conf TooLong is cause = short_and_long (map.get files name) (λ text. Configures text conf) is cause
-file_either files name conf (Fault f) is cause =
-    let both = some_text (map.get files name) (λ text. (length text ≤ MAX_CONF_BYTES) × Configures text conf) (λ text. (length text ≤ MAX_CONF_BYTES) × IsConfFault text f) is cause in
-    not_both_conf both.0 conf f both.1.1 both.2.1
+text_either : (text : List ℕ) (conf : Configuration) (c : FileRefusal) → IsConfText text conf → IsConfTextRefused text c → ⊥
+text_either text conf Missing is c = c
+text_either text conf (Message f) is c = c
+text_either text conf (TooLong n) is c = omega (arith, is.0, c.1)
+text_either text conf (Conf f) is c = not_both_conf text conf f is.1 c.1
 
-conf_either : (files : FileMap) (name : Option (List ℕ)) (conf : Configuration) (c : ConfRefusal) → IsConfigured files name conf → IsConfRefused files name c → ⊥
-conf_either files None conf c is cause = cause
-conf_either files (Some name) conf c is cause = file_either files name conf c is cause
+text_decided : (text : List ℕ) → IsDecisive (IsConfText text) (IsConfTextRefused text)
+text_decided text = record {
+  value = λ v w a b. one_meaning text v w a.1 b.1;
+  cause = text_cause text;
+  either = text_either text;
+}
+
+-- ---- the configuration
+
+conf_value : (name found : Option (List ℕ)) (a b : Configuration) → IsConfigured name found a → IsConfigured name found b → a ≡ b
+conf_value None found a b is also = one_meaning [] a b is also
+conf_value (Some name) found a b is also = found_value IsConfText IsConfTextRefused text_decided found a b is also
+
+conf_cause : (name found : Option (List ℕ)) (c d : FileRefusal) → IsConfRefused name found c → IsConfRefused name found d → c ≡ d
+conf_cause None found c d a b = absurd a
+conf_cause (Some name) found c d a b = found_cause IsConfText IsConfTextRefused text_decided found c d a b
+
+conf_either : (name found : Option (List ℕ)) (conf : Configuration) (c : FileRefusal) → IsConfigured name found conf → IsConfRefused name found c → ⊥
+conf_either None found conf c is cause = cause
+conf_either (Some name) found conf c is cause = found_either IsConfText IsConfTextRefused text_decided found conf c is cause
 
 pub conf_decided : IsConfigurationDecided
-conf_decided files name = record { value = conf_value files name; cause = conf_cause files name; either = conf_either files name }
+conf_decided name found = record { value = conf_value name found; cause = conf_cause name found; either = conf_either name found }

@@ -1,10 +1,13 @@
+pub mod Answered
 pub mod Asked
-pub mod ConfFiles
 pub mod Decided
 pub mod DecidedConf
+pub mod FoundFiles
 pub mod Lacking
+pub mod LowerAnswers
 pub mod LowerConf
 pub mod LowerLaws
 pub mod OneOutcome
 pub mod Stopping
+pub mod Texts
 pub mod VerdictLines

@@ -1,5 +1,5 @@
--- What `base` comes to, for PARAMS, a configuration and a message.
-use Rattle.std.specs.Prelude.{◌≡◌, ℕ, List, None, IsSomeAnd, slice_get}
+-- What `base` comes to, for PARAMS and a context.
+use Rattle.std.specs.Prelude.{◌≡◌, ℕ, List, IsSomeAnd, slice_get}
 use Rattle.byte_grammar.specs.FaultOffset.{IsFaultOffset}
 use Rattle.sfv_text.specs.declared.value.InnerList.{InnerList}
 use Rattle.sfv_read.specs.Reads.{ReadsInner}
@@ -9,28 +9,16 @@ use Rattle.component_ids.specs.declared.id.ComponentId.{ComponentId}
 use Rattle.component_ids.specs.declared.params.SigParams.{SigParams}
 use Rattle.component_ids.specs.Causes.{IsIdFault}
 use Rattle.component_ids.specs.Identifiers.{id_text}
-use Rattle.msg_body.specs.Messages.{Message}
 use Rattle.component_values.specs.Context.{MessageContext}
 use Rattle.component_values.specs.Values.{HaveValues, IsFirstLack}
 use Rattle.sig_base.specs.SignatureBase.{signature_base}
-use Rattle.conf.specs.Configuration.{Configuration}
 use Rattle.commands.specs.Covered.{ReadsParams}
 use Rattle.commands.specs.Layers.{ReadsThen}
-use Rattle.output_lines.specs.declared.refusal.Refusal.TheVariants.{Command}
-use Rattle.output_lines.specs.declared.refusal.CommandRefusal.{CommandRefusal}
-use Rattle.output_lines.specs.declared.refusal.CommandRefusal.TheVariants.{Syntax, ItemKind, Ids, Lacks}
+use Rattle.refusals.specs.declared.refusal.Refusal.TheVariants.{Command}
+use Rattle.refusals.specs.declared.refusal.CommandRefusal.{CommandRefusal}
+use Rattle.refusals.specs.declared.refusal.CommandRefusal.TheVariants.{Syntax, ItemKind, Ids, Lacks}
 use Rattle.commands.specs.declared.outcome.Outcome.{Outcome}
 use Rattle.commands.specs.declared.outcome.Outcome.TheVariants.{Done}
-
--- what the values of components are drawn from: the message, with no related request, and what the
--- configuration says
-abbrev pub context_for : Configuration → Message → MessageContext
-context_for conf message = record {
-  message = message;
-  related = None;
-  scheme = conf.scheme;
-  types = conf.types;
-}
 
 -- PARAMS read as an Inner List that is no signature parameters, for this fault
 pub record HasIdFault (params : List ℕ) (fault : IdFault) : Type 0 where
@@ -47,7 +35,7 @@ AreParamsRefused params (ItemKind offset) =
 AreParamsRefused params (Ids fault) = HasIdFault params fault
 AreParamsRefused params (Lacks lack id) = ⊥
 
--- the first component that lacks a value lacks it so, and has this identifier
+-- the first component that lacks a value lacks it in this way, and has this identifier
 abbrev pub IsValueLacking : MessageContext → List ComponentId → CommandRefusal → Type 0
 IsValueLacking context ids (Lacks lack id) =
     (index : ℕ) × IsFirstLack context ids index lack
@@ -55,13 +43,12 @@ IsValueLacking context ids (Lacks lack id) =
 IsValueLacking context ids refusal = ⊥
 
 -- the signature base over the values that the covered components have
-abbrev pub ReportsValues : Configuration → Message → SigParams → Outcome → Type 0
-ReportsValues conf message sig =
-    ReadsThen (HaveValues (context_for conf message) sig.ids)
-    (IsValueLacking (context_for conf message) sig.ids) Command (λ values outcome.
-    outcome ≡ Done (signature_base sig values))
+abbrev pub ReportsValues : MessageContext → SigParams → Outcome → Type 0
+ReportsValues context sig =
+    ReadsThen (HaveValues context sig.ids) (IsValueLacking context sig.ids) Command
+    (λ values outcome. outcome ≡ Done (signature_base sig values))
 
 -- PARAMS are read first
-abbrev pub ReportsBase : List ℕ → Configuration → Message → Outcome → Type 0
-ReportsBase params conf message =
-    ReadsThen (ReadsParams params) (AreParamsRefused params) Command (ReportsValues conf message)
+abbrev pub ReportsBase : List ℕ → MessageContext → Outcome → Type 0
+ReportsBase params context =
+    ReadsThen (ReadsParams params) (AreParamsRefused params) Command (ReportsValues context)

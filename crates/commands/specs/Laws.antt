@@ -1,42 +1,73 @@
 -- Laws of what is read, and of what comes of it.
-use Rattle.std.specs.Prelude.{◌≡◌, ℕ, List, Option}
-use Rattle.hms_io.specs.Files.{FileMap}
+use Rattle.std.specs.Prelude.{◌≡◌, ℕ, IsTrue, List, Option}
+use Rattle.std.specs.List.{list_all}
+use Rattle.sfv_text.specs.Classes.{is_byte}
 use Rattle.component_ids.specs.declared.id.ComponentId.{ComponentId}
 use Rattle.component_values.specs.Context.{MessageContext}
 use Rattle.component_values.specs.Values.{HaveValues}
 use Rattle.conf.specs.Configuration.{Configuration}
-use Rattle.msg_body.specs.Messages.{Message}
+use Rattle.commands.specs.declared.message.Reading.{Reading}
 use Rattle.commands.specs.Base.{AreParamsRefused, IsValueLacking}
 use Rattle.commands.specs.Configured.{IsConfigured, IsConfRefused}
 use Rattle.commands.specs.Covered.{ReadsParams}
-use Rattle.commands.specs.Layers.{IsDecisive}
+use Rattle.commands.specs.Layers.{IsDecisive, HasAnswer}
 use Rattle.commands.specs.Messages.{IsInputMessage, IsInputRefused}
 use Rattle.commands.specs.Verify.{ReportsVerdicts}
 use Rattle.commands.specs.declared.outcome.Outcome.{Outcome}
 
--- files and a name are one configuration, or are refused for one cause
+-- what was found under a name is at most one configuration, or is refused for at most one cause
 abbrev pub IsConfigurationDecided : Type 0
 IsConfigurationDecided =
-    (files : FileMap) (name : Option (List ℕ))
-    → IsDecisive (IsConfigured files name) (IsConfRefused files name)
+    (name found : Option (List ℕ)) → IsDecisive (IsConfigured name found) (IsConfRefused name found)
 
--- an input is one message, or is refused for one cause
+-- an input is at most one message, read in this way, or is refused for at most one cause
 abbrev pub IsInputDecided : Type 0
-IsInputDecided = (input : List ℕ) → IsDecisive (IsInputMessage input) (IsInputRefused input)
+IsInputDecided =
+    (reading : Reading) (input : List ℕ)
+    → IsDecisive (IsInputMessage reading input) (IsInputRefused reading input)
 
--- PARAMS are one value of signature parameters, or are refused for one cause
+-- PARAMS are at most one value of signature parameters, or are refused for at most one cause
 abbrev pub AreParamsDecided : Type 0
 AreParamsDecided = (params : List ℕ) → IsDecisive (ReadsParams params) (AreParamsRefused params)
 
--- components have one list of values, or one of them is the first that lacks its value
+-- components have at most one list of values, or at most one is the first that lacks its value
 abbrev pub AreValuesDecided : Type 0
 AreValuesDecided =
     (context : MessageContext) (ids : List ComponentId)
     → IsDecisive (HaveValues context ids) (IsValueLacking context ids)
 
--- a label or none, a moment, a configuration and a message have one outcome
+-- a label or none, a moment, a configuration and a context have at most one outcome
 abbrev pub HaveOneOutcome : Type 0
 HaveOneOutcome =
-    (label : Option (List ℕ)) (moment : ℕ) (conf : Configuration) (message : Message)
-    (one other : Outcome) → ReportsVerdicts label moment conf message one
-    → ReportsVerdicts label moment conf message other → one ≡ other
+    (label : Option (List ℕ)) (moment : ℕ) (conf : Configuration) (context : MessageContext)
+    (one other : Outcome) → ReportsVerdicts label moment conf context one
+    → ReportsVerdicts label moment conf context other → one ≡ other
+
+-- ---- each has an answer
+
+-- what was found under a name is a configuration, or there is a cause to refuse it
+abbrev pub HasConfiguration : Type 0
+HasConfiguration =
+    (name found : Option (List ℕ)) → HasAnswer (IsConfigured name found) (IsConfRefused name found)
+
+-- an input of bytes is a message, read in this way, or there is a cause to refuse it
+abbrev pub HasMessage : Type 0
+HasMessage =
+    (reading : Reading) (input : List ℕ) → IsTrue (list_all is_byte input)
+    → HasAnswer (IsInputMessage reading input) (IsInputRefused reading input)
+
+-- PARAMS are signature parameters, or there is a cause to refuse them
+abbrev pub HaveParams : Type 0
+HaveParams = (params : List ℕ) → HasAnswer (ReadsParams params) (AreParamsRefused params)
+
+-- components have values, or one of them is the first that lacks its value
+abbrev pub HaveValuesOrLack : Type 0
+HaveValuesOrLack =
+    (context : MessageContext) (ids : List ComponentId)
+    → HasAnswer (HaveValues context ids) (IsValueLacking context ids)
+
+-- a label or none, a moment, a configuration and a context have an outcome
+abbrev pub HaveSomeOutcome : Type 0
+HaveSomeOutcome =
+    (label : Option (List ℕ)) (moment : ℕ) (conf : Configuration) (context : MessageContext)
+    → (outcome : Outcome) × ReportsVerdicts label moment conf context outcome

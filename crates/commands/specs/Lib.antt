@@ -1,6 +1,8 @@
 pub mod Base
 pub mod Configured
+pub mod Contexts
 pub mod Covered
+pub mod Files
 pub mod Help
 pub mod Laws
 pub mod Layers

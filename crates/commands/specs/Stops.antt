@@ -3,7 +3,7 @@ use Rattle.std.specs.Prelude.{◌≡◌, ℕ, Result, Ok, Err}
 use Rattle.sfv_read.specs.declared.error.SfError.{SfError}
 use Rattle.sfv_read.specs.declared.error.SfError.TheVariants.{Memory as NoErrorMemory, Syntax as BadSyntax, ItemKind as OtherKind}
 use Rattle.component_ids.specs.declared.fault.IdFault.{IdFault}
-use Rattle.component_ids.specs.declared.fault.IdFault.TheVariants.{Memory as NoFaultMemory, TooMany, BadComponent, Repeated, BadParameter}
+use Rattle.component_ids.specs.declared.fault.IdFault.TheVariants as id
 use Rattle.hms_io.specs.Cause.{Rose}
 use Rattle.hms_io.specs.declared.read_write.FillError.{FillError}
 use Rattle.hms_io.specs.declared.read_write.FillError.TheVariants.{Memory as NoFillMemory, Failed, TooLong as Longer}
@@ -15,51 +15,58 @@ use Rattle.msg_body.specs.declared.error.MessageFault.{MessageFault}
 use Rattle.msg_body.specs.declared.error.MessageFault.TheVariants as fault
 use Rattle.conf.specs.declared.fault.ConfFault.{ConfFault}
 use Rattle.conf.specs.declared.fault.ConfFault.TheVariants as conf
-use Rattle.output_lines.specs.declared.refusal.Refusal.{Refusal}
-use Rattle.output_lines.specs.declared.refusal.Refusal.TheVariants.{Conf, Input, Command}
-use Rattle.output_lines.specs.declared.refusal.ConfRefusal.TheVariants.{Missing as ConfMissing, TooLong as ConfTooLong, Fault as ConfFaulty}
-use Rattle.output_lines.specs.declared.refusal.InputRefusal.TheVariants.{TooLong, Message as NoMessage}
-use Rattle.output_lines.specs.declared.refusal.CommandRefusal.TheVariants.{Syntax, ItemKind, Ids}
+use Rattle.refusals.specs.declared.file.FileRefusal.TheVariants.{Missing, TooLong, Message as NoMessage, Conf as NoConf}
+use Rattle.refusals.specs.declared.role.Role.{Role}
+use Rattle.refusals.specs.declared.role.Role.TheVariants as role
+use Rattle.refusals.specs.declared.refusal.Refusal.{Refusal}
+use Rattle.refusals.specs.declared.refusal.Refusal.TheVariants.{Of, Command}
+use Rattle.refusals.specs.declared.refusal.CommandRefusal.TheVariants.{Syntax, ItemKind, Ids}
 use Rattle.commands.specs.declared.outcome.Outcome.{Outcome}
 use Rattle.commands.specs.declared.outcome.Outcome.TheVariants.{Refused as IsRefused}
 use Rattle.commands.specs.declared.stop.Stop.{Stop}
 use Rattle.commands.specs.declared.stop.Stop.TheVariants.{Memory, ReadFault, Refused}
 
+-- how an error of a structured field ends a run: the command is refused, or memory ran out
 abbrev pub stop_of_error : SfError → Stop
 stop_of_error NoErrorMemory = Memory
 stop_of_error (BadSyntax offset) = Refused (Command (Syntax offset))
 stop_of_error (OtherKind offset) = Refused (Command (ItemKind offset))
 
+-- how a fault of identifiers ends a run: the command is refused, or memory ran out
 abbrev pub stop_of_fault : IdFault → Stop
-stop_of_fault NoFaultMemory = Memory
-stop_of_fault TooMany = Refused (Command (Ids TooMany))
-stop_of_fault (BadComponent index reason) = Refused (Command (Ids (BadComponent index reason)))
-stop_of_fault (Repeated index) = Refused (Command (Ids (Repeated index)))
-stop_of_fault (BadParameter key) = Refused (Command (Ids (BadParameter key)))
+stop_of_fault id.Memory = Memory
+stop_of_fault fault = Refused (Command (Ids fault))
 
-abbrev pub stop_of_fill : FillError → Stop
-stop_of_fill NoFillMemory = Memory
-stop_of_fill Failed = ReadFault
-stop_of_fill Longer = Refused (Input TooLong)
+-- how a failed read of the input, which has this limit, ends a run: it is too long, it failed, or
+-- memory ran out
+abbrev pub stop_of_fill : ℕ → FillError → Stop
+stop_of_fill limit NoFillMemory = Memory
+stop_of_fill limit Failed = ReadFault
+stop_of_fill limit Longer = Refused (Of role.Input (TooLong limit))
 
-abbrev pub stop_for : MessageFault → Stop
-stop_for fault = Refused (Input (NoMessage fault))
+-- how a text of this role that is no message ends a run: it is refused, with its fault
+abbrev pub stop_for : Role → MessageFault → Stop
+stop_for role fault = Refused (Of role (NoMessage fault))
 
-abbrev pub stop_of_message : MessageError → Stop
-stop_of_message message.Memory = Memory
-stop_of_message error = stop_for (fault.Refused error)
+-- how an error of a message ends a run: the text is refused, or memory ran out
+abbrev pub stop_of_message : Role → MessageError → Stop
+stop_of_message role message.Memory = Memory
+stop_of_message role error = stop_for role (fault.Refused error)
 
-abbrev pub stop_of_file : FileError → Stop
-stop_of_file NoFileMemory = Memory
-stop_of_file FetchFailed = ReadFault
-stop_of_file LongerFile = Refused (Conf ConfTooLong)
-stop_of_file NoFile = Refused (Conf ConfMissing)
+-- how a failed read of a file of this role and limit ends a run: none is there, it is too long, it
+-- failed, or memory ran out
+abbrev pub stop_of_file : Role → ℕ → FileError → Stop
+stop_of_file role limit NoFileMemory = Memory
+stop_of_file role limit FetchFailed = ReadFault
+stop_of_file role limit LongerFile = Refused (Of role (TooLong limit))
+stop_of_file role limit NoFile = Refused (Of role Missing)
 
+-- how a fault of a configuration ends a run: it is refused, or memory ran out
 abbrev pub stop_of_conf : ConfFault → Stop
 stop_of_conf conf.Memory = Memory
-stop_of_conf fault = Refused (Conf (ConfFaulty fault))
+stop_of_conf fault = Refused (Of role.Conf (NoConf fault))
 
--- a run is stopped by a refusal of which this holds, or for another reason
+-- what ends the run is a refusal of which this holds, or another reason
 abbrev pub IfStopped : Stop → (Refusal → Type 0) → Type 0
 IfStopped Memory P = Unit {0}
 IfStopped ReadFault P = Unit {0}

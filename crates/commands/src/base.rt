@@ -4,10 +4,10 @@ ghost use Rattle.std.specs.Prelude.{◌≡◌, length, IsTrue};
 ghost use Rattle.std.specs.List.{list_all};
 ghost use Rattle.component_ids.specs.Identifiers.{is_id_in_range};
 ghost use Rattle.component_ids.specs.SignatureParams.{are_sig_params_in_range};
-ghost use Rattle.msg_body.specs.Views.{message_of};
-ghost use Rattle.conf.specs.ConfMeaning.{meaning};
+ghost use Rattle.component_values.specs.Faults.{HasIndexBelow};
+ghost use Rattle.component_values.specs.Context.{context_of};
 ghost use Rattle.commands.specs.Base.{ReportsBase, ReportsValues};
-ghost use Rattle.commands.specs.tools.Prepared.{LiesIn, SaysFault};
+ghost use Rattle.commands.specs.tools.Prepared.{SaysFault};
 ghost use Rattle.commands.specs.Stops.{IfOutcome, ReadsNothing};
 
 use crate::covered::read_signature_params;
@@ -15,16 +15,14 @@ use crate::outcome::Outcome;
 use crate::stop::Stop;
 use component_ids::{ComponentId, SigParams, print_id};
 use component_values::{Context, ValueFault, prepare};
-use conf::Conf;
-use msg_body::MessageView;
-use output_lines::{CommandRefusal, Refusal};
+use refusals::{CommandRefusal, Refusal};
 use sig_base::base_bytes;
 use std::alloc::Global;
 
 /// What stops a run over components that aren't prepared.
 fn stop_for_fault(alloc: Global, ids: &[ComponentId], fault: ValueFault) -> Stop
     requires in_range { IsTrue (list_all is_id_in_range ids.now) }
-    requires there { LiesIn (length ids.now) fault }
+    requires there { HasIndexBelow (length ids.now) fault }
     ensures { SaysFault ids.now fault result }
 {
     match fault {
@@ -36,38 +34,25 @@ fn stop_for_fault(alloc: Global, ids: &[ComponentId], fault: ValueFault) -> Stop
     }
 }
 
-/// The signature base of the message over these components.
-fn base_of(
-    alloc: Global,
-    conf: &Conf,
-    sig: &SigParams,
-    message: &MessageView<'_>,
-) -> Result<Outcome, Stop>
+/// The signature base over these components.
+fn base_of(alloc: Global, sig: &SigParams, context: &Context<'_, '_>) -> Result<Outcome, Stop>
     requires { IsTrue (are_sig_params_in_range sig.now) }
-    ensures report { IfOutcome result
-        (ReportsValues (meaning conf.now) (message_of message.now) sig.now) }
+    ensures report { IfOutcome result (ReportsValues (context_of context.now) sig.now) }
     ensures reads_nothing { ReadsNothing result }
 {
-    let context = Context::of_message(message, conf.scheme(), conf.types());
-    match prepare(alloc, &context, sig) {
+    match prepare(alloc, context, sig) {
         Ok(prepared) => Ok(Outcome::Done(base_bytes(alloc, &prepared)?)),
         Err(fault) => Err(stop_for_fault(alloc, sig.ids.as_slice(), fault)),
     }
 }
 
-/// The signature base of the message over the components that PARAMS cover. They are an Inner List,
-/// as a member of a `Signature-Input` field is (RFC 9421 section 4.1). No related request is known,
-/// so a component of one (section 2.4) lacks its value.
-pub fn write_base(
-    alloc: Global,
-    conf: &Conf,
-    params: &[u8],
-    message: &MessageView<'_>,
-) -> Result<Outcome, Stop>
-    ensures report { IfOutcome result
-        (ReportsBase params.now (meaning conf.now) (message_of message.now)) }
+/// The signature base of the context's message over the components that PARAMS cover. They are an
+/// Inner List, as a member of a `Signature-Input` field is (RFC 9421 section 4.1). Where no related
+/// request is known, a component of one (section 2.4) lacks its value.
+pub fn write_base(alloc: Global, params: &[u8], context: &Context<'_, '_>) -> Result<Outcome, Stop>
+    ensures report { IfOutcome result (ReportsBase params.now (context_of context.now)) }
     ensures reads_nothing { ReadsNothing result }
 {
     let sig = read_signature_params(alloc, params)?;
-    base_of(alloc, conf, &sig, message)
+    base_of(alloc, &sig, context)
 }

@@ -4,7 +4,7 @@ ghost use Rattle.std.specs.Prelude.{IsTrue, IfOk, IfErr};
 ghost use Rattle.component_ids.specs.SignatureParams.{are_sig_params_in_range};
 ghost use Rattle.commands.specs.Covered.{ReadsParams};
 ghost use Rattle.commands.specs.Base.{AreParamsRefused};
-ghost use Rattle.output_lines.specs.declared.refusal.Refusal.TheVariants.{Command};
+ghost use Rattle.refusals.specs.declared.refusal.Refusal.TheVariants.{Command};
 ghost use Rattle.commands.specs.Stops.{IfRefused, IsRefusalFor};
 
 use crate::stop::Stop;

@@ -1,10 +1,10 @@
 //! Laws of what is read, and of what comes of it. Each function does nothing; its contract is the
 //! law.
 
-ghost use Rattle.commands.specs.Laws.{IsConfigurationDecided, IsInputDecided, AreParamsDecided, AreValuesDecided, HaveOneOutcome};
+ghost use Rattle.commands.specs.Laws.{IsConfigurationDecided, IsInputDecided, AreParamsDecided, AreValuesDecided, HaveOneOutcome, HasConfiguration, HasMessage, HaveParams, HaveValuesOrLack, HaveSomeOutcome};
 
-/// What a layer reads is one value, or there is one cause to refuse it, and not both. So where each
-/// layer is judged after the one before it, at most one outcome stands.
+/// What a layer reads is at most one value, or there is at most one cause to refuse it, and not
+/// both. So where each layer is judged after the one before it, there is at most one outcome.
 pub fn each_layer_is_decided()
     ensures configuration { IsConfigurationDecided }
     ensures input { IsInputDecided }
@@ -12,7 +12,16 @@ pub fn each_layer_is_decided()
     ensures values { AreValuesDecided }
 {}
 
+/// What a layer reads is some value, or there is some cause to refuse it.
+pub fn each_layer_has_an_answer()
+    ensures configuration { HasConfiguration }
+    ensures input { HasMessage }
+    ensures params { HaveParams }
+    ensures values { HaveValuesOrLack }
+{}
+
 /// The verdicts on the labels that are asked for have one outcome.
 pub fn verdicts_have_one_outcome()
-    ensures { HaveOneOutcome }
+    ensures some { HaveSomeOutcome }
+    ensures one { HaveOneOutcome }
 {}

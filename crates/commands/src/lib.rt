@@ -1,11 +1,14 @@
 //! The commands of `hms` over a configuration and a message: the signature base that `base` writes
 //! (RFC 9421 section 2.5), and the verdicts that `verify` writes (section 3.2). Before them come
-//! the configuration, in a file or none, and the input, which is to be one whole message.
+//! the configuration, in a file or none, the input, which is to be one whole message, and the
+//! context that both give.
 //!
 //! ```text
 //! let conf = read_configuration(alloc, Some("hms.toml"), &mut shelf)?;
-//! let message = read_input(alloc, input)?;
-//! let outcome = write_base(alloc, &conf, b"(\"@authority\")", &message)?;
+//! let reading = Reading { expect: Expect::Any, to_head: false };
+//! let message = read_input(alloc, reading, Role::Input, input)?;
+//! let context = context_for(&conf, &message, None);
+//! let outcome = write_base(alloc, b"(\"@authority\")", &context)?;
 //! outcome.status()             // Status::Done
 //! outcome.into_output(alloc)?  // the line of `@authority`, and that of the signature parameters
 //! ```
@@ -13,6 +16,7 @@
 
 mod base;
 mod configured;
+mod context;
 mod covered;
 mod help;
 mod laws;
@@ -23,9 +27,10 @@ mod verify;
 
 pub use base::write_base;
 pub use configured::read_configuration;
+pub use context::context_for;
 pub use help::{HELP_TEXT, VERSION_TEXT, write_help, write_version};
-pub use laws::{each_layer_is_decided, verdicts_have_one_outcome};
-pub use message::read_input;
+pub use laws::{each_layer_has_an_answer, each_layer_is_decided, verdicts_have_one_outcome};
+pub use message::{Reading, read_input};
 pub use outcome::Outcome;
 pub use stop::Stop;
 pub use verify::write_verdicts;

@@ -4,7 +4,7 @@ ghost use Rattle.std.specs.Prelude.{◌≡◌, IfOk};
 ghost use Rattle.commands.specs.Outcome.{status_of, output_of};
 
 use hms_io::Status;
-use output_lines::Refusal;
+use refusals::Refusal;
 use sfv_text::{Memory, Text};
 use std::alloc::Global;
 

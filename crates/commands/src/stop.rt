@@ -1,12 +1,13 @@
 //! What ends a run before it is done.
 
 ghost use Rattle.std.specs.Prelude.{◌≡◌};
+ghost use Rattle.commands.specs.Stops.{stop_of_fill, stop_of_file, stop_of_message};
 
 use component_ids::IdFault;
 use conf::ConfFault;
 use hms_io::{FileError, FillError};
 use msg_body::{MessageError, MessageFault};
-use output_lines::{CommandRefusal, ConfRefusal, InputRefusal, Refusal};
+use refusals::{CommandRefusal, FileRefusal, Refusal, Role};
 use sfv_read::SfError;
 use sfv_text::Memory;
 
@@ -17,8 +18,48 @@ pub enum Stop {
     Memory,
     /// A read of a file or of the input failed.
     ReadFault,
-    /// The arguments, the configuration, the input or the command is refused.
+    /// The arguments, a text that the command reads, or the command is refused.
     Refused(Refusal),
+}
+
+impl Stop {
+    /// What keeps the input from being read whole, of which this is the limit.
+    pub fn of_fill(limit: usize, error: FillError) -> Stop
+        ensures { result ≡ stop_of_fill limit error }
+    {
+        match error {
+            FillError::Memory => Stop::Memory,
+            FillError::Failed => Stop::ReadFault,
+            FillError::TooLong => {
+                Stop::Refused(Refusal::Of(Role::Input, FileRefusal::TooLong(limit)))
+            }
+        }
+    }
+
+    /// What keeps the file of this role from being taken, of which this is the limit.
+    pub fn of_file(role: Role, limit: usize, error: FileError) -> Stop
+        ensures { result ≡ stop_of_file role limit error }
+    {
+        match error {
+            FileError::Memory => Stop::Memory,
+            FileError::Failed => Stop::ReadFault,
+            FileError::TooLong => Stop::Refused(Refusal::Of(role, FileRefusal::TooLong(limit))),
+            FileError::Missing => Stop::Refused(Refusal::Of(role, FileRefusal::Missing)),
+        }
+    }
+
+    /// Why the text of this role is no message.
+    pub fn of_message(role: Role, error: MessageError) -> Stop
+        ensures { result ≡ stop_of_message role error }
+    {
+        match error {
+            MessageError::Memory => Stop::Memory,
+            _ => {
+                let fault = MessageFault::Refused(error);
+                Stop::Refused(Refusal::Of(role, FileRefusal::Message(fault)))
+            }
+        }
+    }
 }
 
 impl From<Memory> for Stop {
@@ -61,65 +102,7 @@ impl From<IdFault> for Stop {
     fn from(fault: IdFault) -> Stop {
         match fault {
             IdFault::Memory => Stop::Memory,
-            IdFault::TooMany => {
-                Stop::Refused(Refusal::Command(CommandRefusal::Ids(IdFault::TooMany)))
-            }
-            IdFault::BadComponent(index, reason) => Stop::Refused(Refusal::Command(
-                CommandRefusal::Ids(IdFault::BadComponent(index, reason)),
-            )),
-            IdFault::Repeated(index) => {
-                Stop::Refused(Refusal::Command(CommandRefusal::Ids(IdFault::Repeated(index))))
-            }
-            IdFault::BadParameter(key) => {
-                Stop::Refused(Refusal::Command(CommandRefusal::Ids(IdFault::BadParameter(key))))
-            }
-        }
-    }
-}
-
-/// An error of the input's message.
-impl From<MessageError> for Stop {
-    ghost use Rattle.std.specs.Prelude.{◌≡◌};
-    ghost use Rattle.commands.specs.Stops.{stop_of_message};
-
-    ghost from_gives = { λ error stop. stop ≡ stop_of_message error };
-
-    fn from(error: MessageError) -> Stop {
-        match error {
-            MessageError::Memory => Stop::Memory,
-            _ => Stop::Refused(Refusal::Input(InputRefusal::Message(MessageFault::Refused(error)))),
-        }
-    }
-}
-
-impl From<FillError> for Stop {
-    ghost use Rattle.std.specs.Prelude.{◌≡◌};
-    ghost use Rattle.commands.specs.Stops.{stop_of_fill};
-
-    ghost from_gives = { λ error stop. stop ≡ stop_of_fill error };
-
-    fn from(error: FillError) -> Stop {
-        match error {
-            FillError::Memory => Stop::Memory,
-            FillError::Failed => Stop::ReadFault,
-            FillError::TooLong => Stop::Refused(Refusal::Input(InputRefusal::TooLong)),
-        }
-    }
-}
-
-/// What keeps the file of the configuration from being taken.
-impl From<FileError> for Stop {
-    ghost use Rattle.std.specs.Prelude.{◌≡◌};
-    ghost use Rattle.commands.specs.Stops.{stop_of_file};
-
-    ghost from_gives = { λ error stop. stop ≡ stop_of_file error };
-
-    fn from(error: FileError) -> Stop {
-        match error {
-            FileError::Memory => Stop::Memory,
-            FileError::Failed => Stop::ReadFault,
-            FileError::TooLong => Stop::Refused(Refusal::Conf(ConfRefusal::TooLong)),
-            FileError::Missing => Stop::Refused(Refusal::Conf(ConfRefusal::Missing)),
+            _ => Stop::Refused(Refusal::Command(CommandRefusal::Ids(fault))),
         }
     }
 }
@@ -134,7 +117,7 @@ impl From<ConfFault> for Stop {
     fn from(fault: ConfFault) -> Stop {
         match fault {
             ConfFault::Memory => Stop::Memory,
-            _ => Stop::Refused(Refusal::Conf(ConfRefusal::Fault(fault))),
+            _ => Stop::Refused(Refusal::Of(Role::Conf, FileRefusal::Conf(fault))),
         }
     }
 }

@@ -2,33 +2,32 @@
 
 ghost use Rattle.std.specs.Prelude.{◌≡◌, ◌≤◌, ◌<◌, [], ◌∷◌, None, option_map, IfOk};
 ghost use Rattle.msg_body.specs.Messages.{Message};
-ghost use Rattle.msg_body.specs.Views.{message_of};
 ghost use Rattle.component_values.specs.Context.{context_of};
 ghost use Rattle.conf.specs.ConfMeaning.{meaning};
 ghost use Rattle.signatures.specs.Fields.{AreFieldsOf};
-ghost use Rattle.verdicts.specs.Verdicts.{verification_of};
+ghost use Rattle.verdicts.specs.Verification.{verification_of};
 ghost use Rattle.commands.specs.Verify.{AreAsked, ReportsVerdicts};
 ghost use Rattle.commands.specs.tools.Verdicts.{WritesVerdict, ReportsLabels};
 
 use crate::outcome::Outcome;
 use component_values::Context;
 use conf::Conf;
-use msg_body::MessageView;
 use nonces::Steps;
-use output_lines::append_verdict_line;
 use sfv_text::{Memory, Text};
 use std::alloc::Global;
 use std::marker::Brand;
 use std::sync::ledger::{Blank, Ledger};
-use verdicts::{Labels, MAX_MOMENT, SignatureFields, Verdict, verdict_in};
+use verdicts::{
+    Labels, MAX_MOMENT, SignatureFields, Verdict, Verification, append_verdict_line, verdict_in,
+};
 
 /// Judges the label and adds its line. It answers whether the label is accepted.
-fn write_line<L: Ledger>(
+fn write_line<'x, L: Ledger>(
     alloc: Global,
     fields: &SignatureFields,
-    context: &Context<'_, '_>,
-    label: &[u8],
-    conf: &Conf,
+    context: &'x Context<'_, '_>,
+    label: &'x [u8],
+    conf: &'x Conf,
     now: u64,
     lines: &mut Text,
     steps: &mut Steps<L>,
@@ -39,7 +38,14 @@ fn write_line<L: Ledger>(
         (verification_of context.now label.now (meaning conf.now) now None)
         label.now lines.old lines.new) }
 {
-    let verdict = verdict_in(alloc, fields, context, label, conf, now, None, steps)?;
+    let verification = Verification {
+        context,
+        label,
+        conf,
+        now,
+        seen: None,
+    };
+    let verdict = verdict_in(alloc, fields, &verification, steps)?;
     append_verdict_line(alloc, label, &verdict, lines)?;
     Ok(match verdict {
         Verdict::Ok { .. } => true,
@@ -52,28 +58,27 @@ fn write_lines<L: Ledger>(
     alloc: Global,
     conf: &Conf,
     now: u64,
-    message: &MessageView<'_>,
+    context: &Context<'_, '_>,
     fields: &SignatureFields,
     labels: &[Text],
     blank: Blank,
 ) -> Result<Outcome, Memory>
-    requires fields { AreFieldsOf (message_of message.now) fields.now }
+    requires fields { AreFieldsOf (context_of context.now).message fields.now }
     requires now { now ≤ MAX_MOMENT }
     requires name { blank.name ≡ L.name }
     requires parts { blank.parts ≡ L.parts }
     requires some { 0 < blank.parts }
     ensures { IfOk result
-        (ReportsLabels (meaning conf.now) now (message_of message.now) labels.now) }
+        (ReportsLabels (meaning conf.now) now (context_of context.now) labels.now) }
 {
     let mut steps: Steps<L> = Steps::new(blank);
-    let context = Context::of_message(message, conf.scheme(), conf.types());
     let mut lines = Text::new(alloc);
     let mut all_accepted = true;
     for label in labels {
         let is_accepted = write_line(
             alloc,
             fields,
-            &context,
+            context,
             label.bytes(),
             conf,
             now,
@@ -125,14 +130,14 @@ pub fn write_verdicts(
     conf: &Conf,
     now: u64,
     label: Option<&str>,
-    message: &MessageView<'_>,
+    context: &Context<'_, '_>,
 ) -> Result<Outcome, Memory>
     requires { now ≤ MAX_MOMENT }
     ensures { IfOk result (ReportsVerdicts (option_map (λ word. word.now) label.entry)
-        now (meaning conf.now) (message_of message.now)) }
+        now (meaning conf.now) (context_of context.now)) }
 {
-    let fields = SignatureFields::read(alloc, message)?;
+    let fields = SignatureFields::read(alloc, context.message)?;
     let labels = asked_labels(alloc, label, &fields)?;
     let blank = Blank::new(1);
-    write_lines::<Brand>(alloc, conf, now, message, &fields, labels.as_slice(), blank)
+    write_lines::<Brand>(alloc, conf, now, context, &fields, labels.as_slice(), blank)
 }

@@ -21,7 +21,7 @@ use Rattle.byte_grammar.specs.tools.Determined.{AreDetermined}
 use Rattle.byte_grammar.proofs.CauseLaws.{first_is_one}
 use Rattle.component_ids.specs.declared.params.TheConstants.{MAX_COMPONENTS}
 use Rattle.component_ids.specs.Causes.{IsFirstBadComponent, IsFirstIllTyped, IsCause, id_order, IsIdFault}
-use Rattle.component_ids.specs.tools.Reads.{AreIdentifiers, IsListFault, Explains}
+use Rattle.component_ids.specs.tools.Reads.{AreIdentifiers, IsListFault, ExplainsParams}
 use Rattle.byte_grammar.proofs.Indices.{some_and, some_and_parts, find_none, all_at, slice_get_take}
 use Rattle.component_ids.proofs.RepeatedLaws.{not_repeated, first_repeated_once}
 
@@ -35,7 +35,7 @@ ids_back ids items is = ap (map id_of) (sym is) ∙ same ids where
 
 -- what was read, as signature parameters of the list
 pub are_params : (list : InnerList) (params : SigParams) → map item_of params.ids ≡ list.items → params.params ≡ list.params
-    → AreIdentifiers list.items → AreDistinct params.ids → list_all is_typed list.params ≡ true → Explains list (Ok params)
+    → AreIdentifiers list.items → AreDistinct params.ids → list_all is_typed list.params ≡ true → ExplainsParams list (Ok params)
 are_params list params items_are params_are identifiers distinct typed =
     let count : length params.ids ≡ length list.items = sym (length-map params.ids item_of) ∙ ap length items_are in
     let each : list_all (λ (id : ComponentId). is_identifier (item_of id)) params.ids ≡ true =
@@ -55,7 +55,7 @@ pub record Facts (list : InnerList) : Type 0 where
   pub distinct : AreDistinct (map id_of list.items)
   pub typed : list_all is_typed list.params ≡ true
 
-pub facts : (list : InnerList) (params : SigParams) → Explains list (Ok params) → Facts list
+pub facts : (list : InnerList) (params : SigParams) → ExplainsParams list (Ok params) → Facts list
 facts list params x =
     let items_are : map item_of params.ids ≡ list.items = ap (λ (l : InnerList). l.items) x.1 in
     let params_are : params.params ≡ list.params = ap (λ (l : InnerList). l.params) x.1 in

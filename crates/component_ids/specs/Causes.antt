@@ -1,8 +1,10 @@
 -- When an Inner List is no signature parameters, and for what fault (RFC 9421 sections 2 and 2.3).
-use Rattle.std.specs.Prelude.{◌≡◌, ◌<◌, ℕ, not, Some, IsSomeAnd, IsTrue, Any, List, ◌++◌, length, map, take, slice_get, codes}
+use Rattle.std.specs.Prelude.{◌≡◌, ◌<◌, ℕ, not, Some, IsSomeAnd, IsTrue, Any, List, ◌∷◌, ◌++◌, length, map, take, slice_get, codes}
 use Rattle.std.specs.Fmt.{decimal}
 use Rattle.std.specs.List.{find, list_all}
+use Rattle.std.specs.Str.{byte}
 use Rattle.byte_grammar.specs.Causes.{IsFirst}
+use Rattle.sfv_text.specs.Displayed.{displayed}
 use Rattle.sfv_text.specs.declared.pair.Pair.{Pair}
 use Rattle.sfv_text.specs.declared.value.BareItem.{BareItem}
 use Rattle.sfv_text.specs.declared.value.Item.{Item}
@@ -16,12 +18,12 @@ use Rattle.component_ids.specs.Identifiers.{id_of, is_identifier, IsSameId, AreD
 use Rattle.component_ids.specs.Reasons.{reason_of, word_of}
 use Rattle.component_ids.specs.SignatureParams.{is_typed}
 
--- the first item that is no identifier stands at the index, and this is the least reason
+-- the first item that is no identifier has the index, and this is the least reason
 pub record IsFirstBadComponent (items : List Item) (index : ℕ) (reason : BadReason) : Type 0 where
   pub before : IsTrue (list_all is_identifier (take index items))
   pub there : IsSomeAnd (slice_get items index) (λ item. reason_of item ≡ Some reason)
 
--- the first identifier that is the same as an earlier one stands at the index
+-- the first identifier that is the same as an earlier one has the index
 pub record IsFirstRepeated (ids : List ComponentId) (index : ℕ) : Type 0 where
   pub before : AreDistinct (take index ids)
   pub there : IsSomeAnd (slice_get ids index)
@@ -54,9 +56,8 @@ IsIdFault list fault = IsFirst id_order (IsCause list) fault
 -- what a fault says
 abbrev pub id_fault_text : IdFault → List ℕ
 id_fault_text Memory = codes "out of memory"
-id_fault_text TooMany = codes "more than " ++ (decimal MAX_COMPONENTS ++ codes " components")
+id_fault_text TooMany = codes "components-many"
 id_fault_text (BadComponent index reason) =
-    codes "the item at index " ++ (decimal index ++ (codes " is no component: " ++ word_of reason))
-id_fault_text (Repeated index) =
-    codes "the component at index " ++ (decimal index ++ codes " is repeated")
-id_fault_text (BadParameter key) = codes "a parameter has a value of a wrong type"
+    codes "component-bad " ++ (decimal index ++ byte " " ∷ word_of reason)
+id_fault_text (Repeated index) = codes "component-repeated " ++ decimal index
+id_fault_text (BadParameter key) = codes "parameter-bad " ++ displayed key

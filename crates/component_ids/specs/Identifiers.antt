@@ -41,6 +41,6 @@ AreDistinct ids = AllPairs (λ a b. ¬ IsSameId a b) ids
 abbrev pub id_text : ComponentId → List ℕ
 id_text id = item_text (item_of id)
 
--- the values can stand in a structured field
+-- the name and the parameters can be written as a structured field
 abbrev pub is_id_in_range : ComponentId → Bool
 is_id_in_range id = is_item_in_range (item_of id)

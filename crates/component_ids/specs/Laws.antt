@@ -22,19 +22,19 @@ HasAnswer =
     (list : InnerList)
     → ((params : SigParams) × IsParamsOf list params) ⊎ ((fault : IdFault) × IsIdFault list fault)
 
--- it is signature parameters for one value
+-- an Inner List is at most one value of signature parameters
 abbrev pub HasOneSigParams : Type 0
 HasOneSigParams =
     (list : InnerList) (params other : SigParams)
     → IsParamsOf list params → IsParamsOf list other → params ≡ other
 
--- it has one fault
+-- an Inner List has at most one fault
 abbrev pub HasOneFault : Type 0
 HasOneFault =
     (list : InnerList) (fault other : IdFault)
     → IsIdFault list fault → IsIdFault list other → fault ≡ other
 
--- it isn't both
+-- an Inner List that is signature parameters has no fault
 abbrev pub HasNotBoth : Type 0
 HasNotBoth =
     (list : InnerList) (params : SigParams) (fault : IdFault)

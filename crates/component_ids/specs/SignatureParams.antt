@@ -42,7 +42,7 @@ IsParamsOf list params = IsSigParams params × (list_of params ≡ list)
 abbrev pub sig_params_text : SigParams → List ℕ
 sig_params_text params = inner_text (list_of params)
 
--- the values can stand in a structured field
+-- their values can be written as a structured field
 abbrev pub are_sig_params_in_range : SigParams → Bool
 are_sig_params_in_range params =
     list_all is_id_in_range params.ids && are_params_in_range params.params

@@ -1,4 +1,4 @@
--- The names of components and the parameters that go with them (RFC 9421 sections 2 to 2.2).
+-- The names of components and the parameters that go with them (RFC 9421 sections 2 to 2.4).
 use Rattle.std.specs.Prelude.{ℕ, Bool, true, false, ◌&&◌, ◌||◌, not, Option, Some, None, is_some, unwrap_or, List, [], ◌∷◌, length, nat_lt, codes, if◌then◌else◌}
 use Rattle.std.specs.Char.{is_ascii_uppercase}
 use Rattle.std.specs.List.{list_all, list_any}
@@ -11,14 +11,18 @@ use Rattle.sfv_text.specs.declared.value.BareItem.TheVariants.{Integer, Str, Boo
 
 -- ---- values
 
+-- the value of a parameter is an Integer (RFC 9651 section 3.3.1)
 abbrev pub is_integer : BareItem → Bool
 is_integer (Integer z) = true
 is_integer bare = false
 
+-- the value of a parameter is a String (RFC 9651 section 3.3.3)
 abbrev pub is_string : BareItem → Bool
 is_string (Str text) = true
 is_string bare = false
 
+-- the value of a parameter is Boolean true, which is written as the key alone (RFC 9651 section
+-- 3.1.2)
 abbrev pub is_true : BareItem → Bool
 is_true (Boolean b) = b
 is_true bare = false
@@ -71,6 +75,7 @@ has_value_type param =
     if is_listed (codes "key" ∷ codes "name" ∷ []) param.key then is_string param.value
     else is_true param.value
 
+-- a parameter of the key is there
 abbrev pub has_param : List (Pair BareItem) → List ℕ → Bool
 has_param params key = is_some (value_of params key)
 

@@ -3,7 +3,6 @@
 ghost use Rattle.std.specs.Prelude.{◌≡◌};
 ghost use Rattle.component_ids.specs.Reasons.{word_of};
 
-use crate::params::MAX_COMPONENTS;
 use sfv_text::{self, Text};
 use std::error::Error;
 use std::fmt;
@@ -79,12 +78,10 @@ impl fmt::Display for IdFault {
     fn fmt<W: fmt::Write>(&self, f: &mut fmt::Formatter<W>) -> fmt::Result {
         match self {
             IdFault::Memory => f.write_str("out of memory"),
-            IdFault::TooMany => write!(f, "more than {MAX_COMPONENTS} components"),
-            IdFault::BadComponent(index, reason) => {
-                write!(f, "the item at index {index} is no component: {reason}")
-            }
-            IdFault::Repeated(index) => write!(f, "the component at index {index} is repeated"),
-            IdFault::BadParameter(_) => f.write_str("a parameter has a value of a wrong type"),
+            IdFault::TooMany => f.write_str("components-many"),
+            IdFault::BadComponent(index, reason) => write!(f, "component-bad {index} {reason}"),
+            IdFault::Repeated(index) => write!(f, "component-repeated {index}"),
+            IdFault::BadParameter(key) => write!(f, "parameter-bad {key}"),
         }
     }
 }

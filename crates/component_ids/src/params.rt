@@ -9,7 +9,7 @@ ghost use Rattle.component_ids.specs.declared.fault.IdFault.{IdFault};
 ghost use Rattle.component_ids.specs.declared.params.SigParams.{SigParams};
 ghost use Rattle.component_ids.specs.declared.params.TheConstants.{MAX_COMPONENTS};
 ghost use Rattle.component_ids.specs.Causes.{IsIdFault};
-ghost use Rattle.component_ids.specs.tools.Reads.{Explains};
+ghost use Rattle.component_ids.specs.tools.Reads.{ExplainsParams};
 ghost use Rattle.component_ids.specs.SignatureParams.{string_keys, is_typed, list_of, sig_params_text, are_sig_params_in_range, IsSigParams};
 ghost use Rattle.component_ids.specs.Table.{is_listed};
 
@@ -83,7 +83,7 @@ fn first_ill_typed(params: &Params) -> Option<&Pair<BareItem>>
 
 /// The value of the list, or the first fault whose cause holds.
 fn judge_list(alloc: Global, list: &InnerList) -> Result<SigParams, IdFault>
-    ensures explains { Explains list.now result }
+    ensures explains { ExplainsParams list.now result }
     ensures too_many { MAX_COMPONENTS < length list.now.items → IsErrOf result IdFault.TooMany }
 {
     let ids = read_ids(alloc, list.items.as_slice())?;

@@ -4,7 +4,8 @@ use Rattle.std.specs.List.{slice_get}
 use Rattle.std.proofs.lemmas.Bool.{cases_order}
 use Rattle.std.proofs.lemmas.Grind.{take_at_read}
 use Rattle.std.proofs.lemmas.List.{map-append, length-map, length-take}
-use Rattle.std.proofs.lemmas.Option.{slice_get-get_or}
+use Rattle.std.specs.Prelude.{IfErr}
+use Rattle.std.proofs.lemmas.Option.{slice_get-get_or, slice_get_within}
 use Rattle.byte_grammar.specs.Causes.{AnswersWhere}
 use Rattle.byte_grammar.proofs.Indices.{some_and, some_and_parts, slice_get_take}
 use Rattle.component_ids.specs.declared.id.ComponentId.{ComponentId}
@@ -18,6 +19,7 @@ use Rattle.component_values.specs.declared.plan.Plan.{Plan}
 use Rattle.component_values.specs.declared.prepared.Prepared.{Prepared}
 use Rattle.component_values.specs.Context.{MessageContext}
 use Rattle.component_values.specs.Values.{ComesTo, Has, Lacks, HaveValues, IsFirstLack}
+use Rattle.component_values.specs.Faults.{HasIndexBelow}
 use Rattle.component_values.specs.Laws.{HaveOrLack, HaveOneList}
 use Rattle.component_values.specs.tools.Rows.{PlansRow, lack_fault_at, planned_text}
 use Rattle.component_values.specs.tools.Answered.{ExplainsPrepared, IsFaultOf}
@@ -139,3 +141,12 @@ lacks_are context params (Err (fault.Lacks at other)) x index lack = record {
       let same = first_lack_is_one context params.ids at index other lack x first in
       inl (rw (same.0, same.1) refl);
 }
+
+-- a component that lacks a value is one of them
+pub index_below : (context : MessageContext) (params : SigParams) (result : Result Prepared ValueFault) → ExplainsPrepared context params result
+    → IfErr result (HasIndexBelow (length params.ids))
+index_below context params (Ok prepared) x = tt
+index_below context params (Err fault.Memory) x = tt
+index_below context params (Err (fault.Lacks index lack)) x =
+    let there = some_and_parts (λ id. Lacks context id lack) (slice_get params.ids index) x.there in
+    slice_get_within params.ids index there.0 there.1

@@ -6,7 +6,7 @@ use Rattle.sfv_text.specs.Strict.{item_text, list_text, dict_text, member_text}
 use Rattle.sfv_text.specs.declared.pair.Pair.{Pair}
 use Rattle.sfv_text.specs.declared.value.BareItem.{BareItem}
 use Rattle.sfv_text.specs.declared.value.Member.{Member}
-use Rattle.sfv_read.specs.Laws.{HasOneValue, IsDecided}
+use Rattle.sfv_read.specs.Laws.{HasOneValue, HasValueOrNone}
 use Rattle.sfv_read.specs.Reads.{ReadsItem, ReadsList, ReadsDict}
 use Rattle.sfv_read.proofs.Readings.{item_has_one_value, list_has_one_value, dict_has_one_value, item_is_decided, list_is_decided, dict_is_decided}
 use Rattle.msg_head.specs.declared.error.Side.TheVariants.{Header}
@@ -31,7 +31,7 @@ use Rattle.component_values.proofs.DerivedRows.{Answer, HasSoleAnswer, same, the
 
 -- ---- structured values
 
-strict_one : {V : Type 0} (Reads : List ℕ → V → Type 0) (text_of : V → List ℕ) → IsDecided Reads → HasOneValue Reads → (text : List ℕ) → HasSoleAnswer (StrictRow Reads text_of text)
+strict_one : {V : Type 0} (Reads : List ℕ → V → Type 0) (text_of : V → List ℕ) → HasValueOrNone Reads → HasOneValue Reads → (text : List ℕ) → HasSoleAnswer (StrictRow Reads text_of text)
 strict_one {V} Reads text_of decides one text = elim (decides text) [
   | inl read ↦ record { answer = Ok (text_of read.0); is = (read.0, read.1, refl); only = is_read read.0 read.1 }
   | inr none ↦ record { answer = Err Unreadable; is = (refl, none); only = is_unread none }

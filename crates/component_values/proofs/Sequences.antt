@@ -1,14 +1,12 @@
 -- Byte Sequences one after the other.
-use Rattle.std.proofs.Common.{◌≡◌, ℕ, ◌==◌, true, false, List, [], ◌∷◌, ◌++◌, length, filter, map, codes, inl, inr, refl, sym, ap, ◌∙◌, append_assoc, append-nil, arith, length-append}
+use Rattle.std.proofs.Common.{◌≡◌, ℕ, ◌==◌, true, false, List, [], ◌∷◌, ◌++◌, length, map, codes, inl, inr, refl, sym, ap, ◌∙◌, append_assoc, append-nil, arith, length-append}
 use Rattle.std.specs.List.{flat_map}
 use Rattle.std.proofs.lemmas.Bool.{cases_Bool, eqb-true}
 use Rattle.std.proofs.lemmas.Grind.{flat_map-append}
 use Rattle.std.proofs.lemmas.List.{map-append}
-use Rattle.std.proofs.lemmas.List.Elements.{filter-append}
 use Rattle.sfv_text.specs.Strict.{bytes_text}
 use Rattle.msg_head.specs.Lines.{FieldLine}
-use Rattle.msg_head.specs.Names.{has_name}
-use Rattle.msg_head.specs.Values.{value, values}
+use Rattle.msg_head.specs.Values.{value}
 use Rattle.component_values.specs.Values.{byte_sequences}
 
 -- the first one
@@ -37,14 +35,10 @@ not_first values bytes = elim (cases_Bool (length (values ++ bytes ∷ []) == 0)
   | inr some ↦ sym some
 ]
 
--- one more line, of the name or of another
-pub values_named : (done : List FieldLine) (line : FieldLine) (name : List ℕ) → has_name name line ≡ true
-    → values (done ++ line ∷ []) name ≡ values done name ++ value line.raw ∷ []
-values_named done line name named =
-    ap (map (λ (l : FieldLine). value l.raw)) (filter-append (has_name name) done (line ∷ []) ∙ rw named refl)
-    ∙ map-append (λ (l : FieldLine). value l.raw) (filter (has_name name) done) (line ∷ [])
+-- the values of these lines
+abbrev pub values_of : List FieldLine → List (List ℕ)
+values_of lines = map (λ (l : FieldLine). value l.raw) lines
 
-pub values_other : (done : List FieldLine) (line : FieldLine) (name : List ℕ) → has_name name line ≡ false
-    → values (done ++ line ∷ []) name ≡ values done name
-values_other done line name other =
-    ap (map (λ (l : FieldLine). value l.raw)) (filter-append (has_name name) done (line ∷ []) ∙ rw other (append-nil (filter (has_name name) done)))
+-- one more line
+pub values_more : (done : List FieldLine) (line : FieldLine) → values_of (done ++ line ∷ []) ≡ values_of done ++ value line.raw ∷ []
+values_more done line = map-append (λ (l : FieldLine). value l.raw) done (line ∷ [])

@@ -16,19 +16,19 @@ HasOrLacks =
     (context : MessageContext) (id : ComponentId)
     → ((value : List ℕ) × Has context id value) ⊎ ((lack : Lack) × Lacks context id lack)
 
--- it has one value
+-- a component has at most one value
 abbrev pub HasOneValueOnly : Type 0
 HasOneValueOnly =
     (context : MessageContext) (id : ComponentId) (value other : List ℕ)
     → Has context id value → Has context id other → value ≡ other
 
--- it lacks in one way
+-- a component lacks a value in at most one way
 abbrev pub LacksInOneWay : Type 0
 LacksInOneWay =
     (context : MessageContext) (id : ComponentId) (lack other : Lack)
     → Lacks context id lack → Lacks context id other → lack ≡ other
 
--- where it has a value it doesn't lack one
+-- a component that has a value doesn't lack one
 abbrev pub LacksNoValue : Type 0
 LacksNoValue =
     (context : MessageContext) (id : ComponentId) (value : List ℕ) (lack : Lack)
@@ -65,20 +65,20 @@ HaveOrLack =
     → ((values : List (List ℕ)) × HaveValues context ids values)
     ⊎ ((index : ℕ) × (lack : Lack) × IsFirstLack context ids index lack)
 
--- components have one list of values
+-- components have at most one list of values
 abbrev pub HaveOneList : Type 0
 HaveOneList =
     (context : MessageContext) (ids : List ComponentId) (values others : List (List ℕ))
     → HaveValues context ids values → HaveValues context ids others → values ≡ others
 
--- one component is the first that lacks a value, and lacks it in one way
+-- at most one component is the first that lacks a value, and it lacks it in one way
 abbrev pub HaveOneFirstLack : Type 0
 HaveOneFirstLack =
     (context : MessageContext) (ids : List ComponentId) (i j : ℕ) (lack other : Lack)
     → IsFirstLack context ids i lack → IsFirstLack context ids j other
     → (i ≡ j) × (lack ≡ other)
 
--- where all have values there is none
+-- where all components have values, none is the first that lacks one
 abbrev pub HaveNoLack : Type 0
 HaveNoLack =
     (context : MessageContext) (ids : List ComponentId) (values : List (List ℕ)) (index : ℕ)

@@ -1,4 +1,5 @@
 pub mod Context
+pub mod Faults
 pub mod Forms
 pub mod Values
 pub mod Words

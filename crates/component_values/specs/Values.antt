@@ -71,7 +71,7 @@ plain_value text = if list_all is_ascii text then Ok text else Err NotAscii
 abbrev pub byte_sequences : List (List ℕ) → List ℕ
 byte_sequences texts = join_by bytes_text (codes ", ") texts
 
--- by the form that the parameters ask for
+-- a field that is there, by the form that the parameters ask for
 abbrev pub FormRow : Form → Option FieldKind → List FieldLine → List ℕ → Result (List ℕ) Lack
     → Type 0
 FormRow form.wrapped kind lines name result = result ≡ Ok (byte_sequences (values lines name))
@@ -80,13 +80,16 @@ FormRow (form.member key) kind lines name result =
 FormRow form.strict kind lines name result = KindRow kind (combined_value lines name) result
 FormRow form.plain kind lines name result = result ≡ plain_value (combined_value lines name)
 
--- by whether a line has the name: a field without a line is absent
+-- a field, by whether a line has the name: one without a line is absent
 abbrev pub LineRow : Bool → List (Pair BareItem) → Option FieldKind → List FieldLine → List ℕ
     → Result (List ℕ) Lack → Type 0
+-- none has it: the field is absent
 LineRow false params kind lines name result = result ≡ Err Absent
+-- a line has it
 LineRow true params kind lines name result =
     FormRow (form_of params) kind lines name result
 
+-- a component that is a field, over the lines of its name (section 2.1)
 abbrev pub FieldRow : List (Pair BareItem) → Option FieldKind → List FieldLine → List ℕ
     → Result (List ℕ) Lack → Type 0
 FieldRow params kind lines name result =
@@ -109,15 +112,18 @@ abbrev pub message_for : MessageContext → List (Pair BareItem) → Result Mess
 message_for context params =
     if has_param params (codes "req") then related_message context else Ok context.message
 
--- by whether the name is a field name: a field, or a derived component
+-- by whether the name is a field name
 abbrev pub NameRow : Bool → MessageContext → ComponentId → Message → Result (List ℕ) Lack → Type 0
+-- it is: a field
 NameRow true context id message result =
     FieldRow id.params (kind_in context.types id.name) (lines_on (side_of id.params) message)
     id.name result
+-- it isn't: a derived component, whose name begins with `@`
 NameRow false context id message result =
     DerivedRow (derived_of id.name) id.params context.scheme (lines_on Header message)
     message.head.start result
 
+-- by whether there is a message to draw from: without one the component lacks a value
 abbrev pub MessageRow : Result Message Lack → MessageContext → ComponentId
     → Result (List ℕ) Lack → Type 0
 MessageRow (Err lack) context id result = result ≡ Err lack
@@ -132,7 +138,7 @@ ComesTo context id result = MessageRow (message_for context id.params) context i
 abbrev pub Has : MessageContext → ComponentId → List ℕ → Type 0
 Has context id value = ComesTo context id (Ok value)
 
--- the component lacks a value so
+-- the component lacks a value in this way
 abbrev pub Lacks : MessageContext → ComponentId → Lack → Type 0
 Lacks context id lack = ComesTo context id (Err lack)
 
@@ -146,7 +152,7 @@ HaveValues context (id ∷ ids) (value ∷ values) =
 HaveValues context [] (value ∷ values) = ⊥
 HaveValues context (id ∷ ids) [] = ⊥
 
--- the first component that lacks a value stands at the index, and lacks it so
+-- the first component that lacks a value has the index, and lacks it in this way
 pub record IsFirstLack (context : MessageContext) (ids : List ComponentId) (index : ℕ) (lack : Lack)
     : Type 0 where
   pub values : List (List ℕ)

@@ -1,12 +1,13 @@
 //! The values of the components that a signature covers.
 
-ghost use Rattle.std.specs.Prelude.{◌≡◌, ◌≢◌, ℕ, map, IsTrue, IfOk, IfErr};
+ghost use Rattle.std.specs.Prelude.{◌≡◌, ◌≢◌, ℕ, map, length, IsTrue, IfOk, IfErr};
 ghost use Rattle.std.specs.List.{list_all};
 ghost use Rattle.byte_grammar.specs.Causes.{AnswersWhere};
 ghost use Rattle.component_ids.specs.Identifiers.{id_text, is_id_in_range};
 ghost use Rattle.component_ids.specs.SignatureParams.{are_sig_params_in_range};
 ghost use Rattle.derived_values.specs.declared.lack.Lack.{Lack};
 ghost use Rattle.component_values.specs.Context.{context_of};
+ghost use Rattle.component_values.specs.Faults.{HasIndexBelow};
 ghost use Rattle.component_values.specs.Values.{HaveValues, IsFirstLack};
 ghost use Rattle.component_values.specs.tools.Rows.{planned_text};
 ghost use Rattle.component_values.specs.tools.Answered.{ExplainsPrepared, IsFaultOf};
@@ -75,7 +76,7 @@ fn prepare_components<'a, 'm>(
 }
 
 /// Prepares the components that the signature parameters cover (RFC 9421 section 2.5).
-#[tactic(auto, using(crate::proofs::FirstLacks::lacks_are))]
+#[tactic(auto, using(crate::proofs::FirstLacks::lacks_are, crate::proofs::FirstLacks::index_below))]
 pub fn prepare<'a, 'm>(
     alloc: Global,
     context: &Context<'a, 'm>,
@@ -90,6 +91,7 @@ pub fn prepare<'a, 'm>(
     ensures lacks { (index : ℕ) (lack : Lack) → AnswersWhere ValueFault.Memory result
         (ValueFault.Lacks index lack)
         (IsFirstLack (context_of context.now) params.now.ids index lack) }
+    ensures index { IfErr result (HasIndexBelow (length params.now.ids)) }
 {
     prepare_components(alloc, context, params)
 }

@@ -74,10 +74,8 @@ pub(crate) fn feed_byte_sequences<A: Absorb>(field: NamedLines<'_, '_>, into: &m
         (text ++ byte_sequences (values (field_lines field.entry) field.entry.name.now)) }
 {
     let mut is_first = true;
-    for line in field.message.lines(field.side) {
-        if line.is_named(field.name) {
-            feed_next_sequence(is_first, line, into);
-            is_first = false;
-        }
+    for line in field.message.lines_named(field.side, field.name) {
+        feed_next_sequence(is_first, line, into);
+        is_first = false;
     }
 }

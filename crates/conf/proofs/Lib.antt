@@ -14,5 +14,5 @@ mod ConfLaws
 pub mod CauseLaws
 pub mod MeaningLaws
 mod ReadLaws
-mod EmptyLaws
-mod AnswerLaws
+pub mod EmptyLaws
+pub mod AnswerLaws

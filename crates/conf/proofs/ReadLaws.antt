@@ -9,7 +9,7 @@ use Rattle.settings.specs.ConfMeaning.{meaning}
 use Rattle.settings.specs.Configuration.{Configuration}
 use Rattle.conf.specs.Meaning.{Configures, IsConfiguration, IsDocument}
 use Rattle.conf.specs.Refusals.{IsConfCause, IsCauseIn, IsConfFault, fault_number}
-use Rattle.conf.specs.tools.Explained.{Explains}
+use Rattle.conf.specs.tools.Explained.{ExplainsConf}
 use Rattle.conf.specs.tools.Judged.{IsFirstIn, IsNotToml}
 use Rattle.conf.proofs.CauseLaws.{one_document, one_fault, not_both}
 use Rattle.conf.proofs.MeaningLaws.{one_meaning}
@@ -45,21 +45,21 @@ not_toml text none = record { holds = none; none_before = nothing_before text }
 
 -- ---- what the reader answers
 
-pub explains_not_toml : (text : List ℕ) (fault : ConfFault) → IsNotToml text fault → Explains text (Err fault)
+pub explains_not_toml : (text : List ℕ) (fault : ConfFault) → IsNotToml text fault → ExplainsConf text (Err fault)
 explains_not_toml text Memory h = inl refl
 explains_not_toml text NotToml h = inr (not_toml text h)
 explains_not_toml text fault h = absurd h
 
 pub explains_document : (text : List ℕ) (document : Members) (result : Result Conf ConfFault) → IsDocument text document
-    → IfOk result (λ conf. IsConfiguration document (meaning conf)) → IfErr result (IsFirstIn document) → Explains text result
+    → IfOk result (λ conf. IsConfiguration document (meaning conf)) → IfErr result (IsFirstIn document) → ExplainsConf text result
 explains_document text document (Ok conf) is ok err = (document, is, ok)
 explains_document text document (Err fault) is ok err = first_of text document fault is err
 
-pub answers_ok : (text : List ℕ) (result : Result Conf ConfFault) → Explains text result → IfOk result (λ conf. Configures text (meaning conf))
+pub answers_ok : (text : List ℕ) (result : Result Conf ConfFault) → ExplainsConf text result → IfOk result (λ conf. Configures text (meaning conf))
 answers_ok text (Ok conf) x = x
 answers_ok text (Err fault) x = tt
 
-pub answers_only : (text : List ℕ) (result : Result Conf ConfFault) → Explains text result → (conf : Configuration) → Configures text conf
+pub answers_only : (text : List ℕ) (result : Result Conf ConfFault) → ExplainsConf text result → (conf : Configuration) → Configures text conf
     → MatchResult result (λ given. meaning given ≡ conf) (λ fault. fault ≡ Memory)
 answers_only text (Ok given) x conf is = one_meaning text (meaning given) conf x is
 answers_only text (Err fault) x conf is = elim x [
@@ -67,15 +67,15 @@ answers_only text (Err fault) x conf is = elim x [
   | inr first ↦ absurd (not_both text conf fault is first)
 ]
 
-pub answers_fault : (text : List ℕ) (result : Result Conf ConfFault) → Explains text result → (fault : ConfFault) → ¬ (fault ≡ Memory) → AnswersWhere Memory result fault (IsConfFault text fault)
+pub answers_fault : (text : List ℕ) (result : Result Conf ConfFault) → ExplainsConf text result → (fault : ConfFault) → ¬ (fault ≡ Memory) → AnswersWhere Memory result fault (IsConfFault text fault)
 answers_fault text result x fault known = record { only = only text result x fault known; there = there text result x fault } where
-  only : (text : List ℕ) (result : Result Conf ConfFault) → Explains text result → (fault : ConfFault) → ¬ (fault ≡ Memory) → result ≡ Err fault → IsConfFault text fault
+  only : (text : List ℕ) (result : Result Conf ConfFault) → ExplainsConf text result → (fault : ConfFault) → ¬ (fault ≡ Memory) → result ≡ Err fault → IsConfFault text fault
   only text result x fault known e = elim (rw e at x) [
     | inl same ↦ absurd (known same)
     | inr first ↦ first
   ]
 
-  there : (text : List ℕ) (result : Result Conf ConfFault) → Explains text result → (fault : ConfFault) → IsConfFault text fault → (result ≡ Err fault) ⊎ (result ≡ Err Memory)
+  there : (text : List ℕ) (result : Result Conf ConfFault) → ExplainsConf text result → (fault : ConfFault) → IsConfFault text fault → (result ≡ Err fault) ⊎ (result ≡ Err Memory)
   there text (Ok conf) x fault first = absurd (not_both text (meaning conf) fault x first)
   there text (Err f) x fault first = elim x [
     | inl same ↦ inr (ap (λ (e : ConfFault). Err e) same)

@@ -1,7 +1,8 @@
 -- Laws of texts that are read as configurations.
-use Rattle.std.specs.Prelude.{◌≡◌, ◌⊎◌, ℕ, List}
+use Rattle.std.specs.Prelude.{◌≡◌, ◌⊎◌, ℕ, List, []}
 use Rattle.conf.specs.declared.fault.ConfFault.{ConfFault}
 use Rattle.settings.specs.Configuration.{Configuration}
+use Rattle.settings.specs.Standard.{standard_configuration}
 use Rattle.conf.specs.Meaning.{Configures}
 use Rattle.conf.specs.Refusals.{IsConfFault}
 
@@ -12,20 +13,24 @@ HasConfAnswer =
     → ((conf : Configuration) × Configures text conf)
     ⊎ ((fault : ConfFault) × IsConfFault text fault)
 
--- it is one configuration
+-- a text is at most one configuration
 abbrev pub HasOneMeaning : Type 0
 HasOneMeaning =
     (text : List ℕ) (conf other : Configuration)
     → Configures text conf → Configures text other → conf ≡ other
 
--- it has one fault
+-- a text has at most one fault
 abbrev pub HasOneConfFault : Type 0
 HasOneConfFault =
     (text : List ℕ) (fault other : ConfFault)
     → IsConfFault text fault → IsConfFault text other → fault ≡ other
 
--- it isn't both
+-- a text that is a configuration has no fault
 abbrev pub HasNoFaultWhereRead : Type 0
 HasNoFaultWhereRead =
     (text : List ℕ) (conf : Configuration) (fault : ConfFault)
     → Configures text conf → ¬ IsConfFault text fault
+
+-- the empty text says the configuration where nothing is said
+abbrev pub IsStandardOfEmpty : Type 0
+IsStandardOfEmpty = Configures [] standard_configuration

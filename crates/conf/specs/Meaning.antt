@@ -23,7 +23,7 @@ IsDocument text document = IsUtf8 text × (parse_document text ≡ Some document
 
 -- ---- the values of keys
 
--- `https` where nothing is said
+-- the scheme: `https` where nothing is said
 abbrev pub configured_scheme : Option Data → Scheme
 configured_scheme (Some (string word)) = unwrap_or (scheme_of_word word) Https
 configured_scheme value = Https
@@ -38,7 +38,7 @@ HasKey (Some value) key = ⊥
 abbrev pub AreKeys : Members → KeyMap → Type 0
 AreKeys pairs keys = (keyid : List ℕ) → HasKey (get_member keyid pairs) (map.get keys keyid)
 
--- the kind that is told of a field, or else the one that is known without
+-- the kind that is configured for a field, or else the one that it has by its own standard
 abbrev pub configured_kind : Option Data → Option FieldKind → Option FieldKind
 configured_kind (Some (string word)) known = kind_of_word word
 configured_kind value known = known

@@ -1,6 +1,9 @@
 -- When a text is no configuration, and for what fault.
-use Rattle.std.specs.Prelude.{ℕ, Option, Some, None, IsTrue, List, codes}
+use Rattle.std.specs.Prelude.{ℕ, Option, Some, None, IsTrue, List, ◌∷◌, ◌++◌, codes}
+use Rattle.std.specs.Fmt.{decimal}
+use Rattle.std.specs.Str.{byte}
 use Rattle.byte_grammar.specs.Causes.{IsFirst}
+use Rattle.sfv_text.specs.Displayed.{displayed}
 use Rattle.component_ids.specs.declared.id.ComponentId.{ComponentId}
 use Rattle.toml.specs.Data.{Data, Members, string, table, get_member}
 use Rattle.conf.specs.declared.fault.ConfFault.{ConfFault}
@@ -18,7 +21,7 @@ use Rattle.conf.specs.Meaning.{IsDocument}
 abbrev pub IsLeastRow : (Row → Type 0) → List ℕ → Type 0
 IsLeastRow P path = IsLeast (HoldsAtPath (λ row. row.path) P rows) path
 
--- a text that is no key's
+-- the text of a keyid is that of no key
 abbrev pub IsBadKeyText : Option Data → Type 0
 IsBadKeyText (Some (string text)) = (key : List ℕ) → ¬ IsKeyText text key
 IsBadKeyText value = ⊥
@@ -29,7 +32,7 @@ HasBadKeyText Keys (Some (table pairs)) =
     (keyid : List ℕ) × IsBadKeyText (get_member keyid pairs)
 HasBadKeyText rule value = ⊥
 
--- a covered list that is none
+-- the text of a covered list is that of no such list
 abbrev pub IsBadList : ValueRule → Option Data → Type 0
 IsBadList Components (Some (string text)) = (ids : List ComponentId) → ¬ IsCoveredList text ids
 IsBadList rule value = ⊥
@@ -79,13 +82,12 @@ fault_path (BadKeyText path) = Some path
 fault_path (BadComponents path) = Some path
 fault_path (Missing path) = Some path
 
--- what a fault says
+-- a number, and a path after a space
+abbrev pub numbered_text : ℕ → Option (List ℕ) → List ℕ
+numbered_text number None = decimal number
+numbered_text number (Some path) = decimal number ++ byte " " ∷ displayed path
+
+-- what a fault says: its number and its path
 abbrev pub conf_fault_text : ConfFault → List ℕ
 conf_fault_text Memory = codes "out of memory"
-conf_fault_text NotToml = codes "the configuration is no TOML document"
-conf_fault_text (UnknownKey path) = codes "the configuration has an unknown key"
-conf_fault_text (WrongType path) = codes "a value of the configuration has a wrong type"
-conf_fault_text (OutOfRange path) = codes "a value of the configuration isn't allowed"
-conf_fault_text (BadKeyText path) = codes "a key isn't in base64, or too short or too long"
-conf_fault_text (BadComponents path) = codes "a text is no list of covered components"
-conf_fault_text (Missing path) = codes "the configuration lacks a key"
+conf_fault_text fault = numbered_text (fault_number fault) (fault_path fault)

@@ -18,33 +18,33 @@ use Rattle.settings.specs.declared.sign_conf.SignDigest.TheVariants.{No}
 
 -- ---- the values of keys
 
--- no components where nothing is said
+-- the components of a covered list; none where nothing is said
 abbrev pub AreComponents : Option Data → List ComponentId → Type 0
 AreComponents None ids = ids ≡ []
 AreComponents (Some (string text)) ids = IsCoveredList text ids
 AreComponents (Some value) ids = ⊥
 
--- seconds, or none where nothing is said
+-- a number of seconds; none where nothing is said
 abbrev pub seconds_of : Option Data → Option ℕ
 seconds_of (Some (integer (pos n))) = Some n
 seconds_of value = None
 
--- none where nothing is said
+-- the digest that signing adds; none where nothing is said
 abbrev pub digest_of : Option Data → SignDigest
 digest_of (Some (string word)) = unwrap_or (sign_digest_of_word word) No
 digest_of value = No
 
--- not where nothing is said
+-- `expires` is required; not where nothing is said
 abbrev pub is_required : Option Data → Bool
 is_required (Some (string word)) = unwrap_or (expires_of_word word) false
 is_required value = false
 
--- ignored where nothing is said
+-- what is asked of `nonce`; it is ignored where nothing is said
 abbrev pub nonce_use_of : Option Data → NonceUse
 nonce_use_of (Some (string word)) = unwrap_or (nonce_use_of_word word) nonce.Ignore
 nonce_use_of value = nonce.Ignore
 
--- ignored where nothing is said
+-- when a digest is asked for; it is ignored where nothing is said
 abbrev pub digest_use_of : Option Data → DigestUse
 digest_use_of (Some (string word)) = unwrap_or (digest_use_of_word word) digest.Ignore
 digest_use_of value = digest.Ignore
@@ -78,7 +78,7 @@ pub record IsSignConf (pairs : Members) (sign : SignConf) : Type 0 where
   pub tag : sign.tag ≡ option_and_then as_str (get_member (codes "tag") pairs)
   pub digest : sign.digest ≡ digest_of (get_member (codes "digest") pairs)
 
--- a table, or nothing where there is none
+-- what the table `sign` says, or nothing where there is none
 abbrev pub HasSign : Option Data → Option SignConf → Type 0
 HasSign None sign = sign ≡ None
 HasSign (Some (table pairs)) sign = IsSomeAnd sign (IsSignConf pairs)

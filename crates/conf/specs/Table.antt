@@ -69,11 +69,13 @@ rows =
 unfoldable pub places : List TableName
 places = Policy ∷ Sign ∷ Top ∷ []
 
+-- the path of a table in a refusal; that of the document itself is `top`
 abbrev pub place_path : TableName → List ℕ
 place_path Policy = codes "policy"
 place_path Sign = codes "sign"
 place_path Top = codes "top"
 
+-- the two tables are one
 abbrev pub is_same_place : TableName → TableName → Bool
 is_same_place Policy Policy = true
 is_same_place Sign Sign = true
@@ -87,6 +89,7 @@ abbrev pub members_in : Option Data → Members
 members_in (Some (table pairs)) = pairs
 members_in value = no_members
 
+-- the pairs that the document has in a table, none where it has no such table
 abbrev pub members_at : Members → TableName → Members
 members_at document Top = document
 members_at document Policy = members_in (get_member (codes "policy") document)

@@ -19,6 +19,7 @@ use Rattle.conf.specs.Table.{members_in, members_at, entries_of}
 
 -- ---- types
 
+-- the value is a table, and each value in it is a string
 abbrev pub are_strings : Data → Bool
 are_strings (table pairs) =
     list_all (λ entry. is_some (as_str entry.1)) (entries_of pairs)
@@ -39,6 +40,7 @@ has_type rule value = is_some (as_str value)
 
 -- ---- ranges
 
+-- the integer is at least the one number and at most the other
 abbrev pub is_within : ℕ → ℕ → ℤ → Bool
 is_within least most (pos n) = nat_le least n && nat_le n most
 is_within least most (negsuc n) = false
@@ -47,8 +49,8 @@ is_within least most (negsuc n) = false
 abbrev pub is_standard_field : List ℕ → Bool
 is_standard_field name = is_some (kind_in standard_types name)
 
--- the field of that name, in lower case, may be told to be of that kind: those that are
--- Dictionaries by their standards are told nothing else
+-- the field of that name, in lower case, may be configured as of that kind: those that are
+-- Dictionaries by their standards may be nothing else
 abbrev pub is_type : List ℕ → Data → Bool
 is_type name (string word) =
     is_field_name name
@@ -56,6 +58,7 @@ is_type name (string word) =
     else is_some (kind_of_word word))
 is_type name value = true
 
+-- a string that the rule allows: one of its words, or a text of its form
 abbrev pub is_text_allowed : Members → ValueRule → List ℕ → Bool
 is_text_allowed document Scheme text = is_some (scheme_of_word text)
 is_text_allowed document Label text = is_key text
@@ -68,6 +71,7 @@ is_text_allowed document NonceUse text = is_some (nonce_use_of_word text)
 is_text_allowed document DigestUse text = is_some (digest_use_of_word text)
 is_text_allowed document rule text = true
 
+-- an integer that the rule allows, by its range
 abbrev pub is_integer_allowed : ValueRule → ℤ → Bool
 is_integer_allowed Version z = is_within 1 1 z
 is_integer_allowed Seconds z = is_within 1 MAX_EXPIRES_AFTER z
@@ -76,6 +80,7 @@ is_integer_allowed Skew z = is_within 0 MAX_SKEW z
 is_integer_allowed Nonces z = is_within 1 MAX_ENTRIES z
 is_integer_allowed rule z = true
 
+-- a table that the rule allows: `keys` by its keyids, `types` by its names and kinds
 abbrev pub is_table_allowed : ValueRule → Members → Bool
 is_table_allowed Keys pairs = list_all (λ entry. is_keyid entry.0) (entries_of pairs)
 is_table_allowed Types pairs = list_all (λ entry. is_type entry.0 entry.1) (entries_of pairs)
@@ -91,7 +96,7 @@ is_allowed document rule value = true
 
 -- ---- values that don't go together
 
--- the number that is told, or else the other; a negative one, which no key takes, counts as 0
+-- the number that is configured, or else the other; a negative one, which no key takes, is 0
 abbrev pub number_or : ℕ → Option Data → ℕ
 number_or other (Some (integer (pos n))) = n
 number_or other (Some (integer (negsuc n))) = 0
@@ -103,7 +108,7 @@ window policy =
     number_or DEFAULT_MAX_AGE (get_member (codes "max-age") policy)
     + 2 * number_or DEFAULT_SKEW (get_member (codes "skew") policy)
 
--- the window is longer than a day, by what is told or by what holds where nothing is
+-- the window is longer than a day, by what is configured or by what holds without it
 abbrev pub clashes : Members → ValueRule → Bool
 clashes document MaxAge = nat_lt MAX_WINDOW (window (members_at document Policy))
 clashes document rule = false

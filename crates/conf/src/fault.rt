@@ -71,16 +71,17 @@ impl fmt::Display for ConfFault {
     ghost output = { λ fault. Some (conf_fault_text fault) };
 
     fn fmt<W: fmt::Write>(&self, f: &mut fmt::Formatter<W>) -> fmt::Result {
-        f.write_str(match self {
-            ConfFault::Memory => "out of memory",
-            ConfFault::NotToml => "the configuration is no TOML document",
-            ConfFault::UnknownKey(_) => "the configuration has an unknown key",
-            ConfFault::WrongType(_) => "a value of the configuration has a wrong type",
-            ConfFault::OutOfRange(_) => "a value of the configuration isn't allowed",
-            ConfFault::BadKeyText(_) => "a key isn't in base64, or too short or too long",
-            ConfFault::BadComponents(_) => "a text is no list of covered components",
-            ConfFault::Missing(_) => "the configuration lacks a key",
-        })
+        let number = self.number();
+        match self {
+            ConfFault::Memory => f.write_str("out of memory"),
+            ConfFault::NotToml => write!(f, "{number}"),
+            ConfFault::UnknownKey(path)
+            | ConfFault::WrongType(path)
+            | ConfFault::OutOfRange(path)
+            | ConfFault::BadKeyText(path)
+            | ConfFault::BadComponents(path)
+            | ConfFault::Missing(path) => write!(f, "{number} {path}"),
+        }
     }
 }
 

@@ -5,7 +5,7 @@ ghost use Rattle.std.specs.List.{list_any};
 ghost use Rattle.toml.specs.View.{table_view, view};
 ghost use Rattle.conf.specs.Paths.{HoldsAtPath, HoldsOfNone, IsLeast};
 ghost use Rattle.conf.specs.Refusals.{IsLeastRow};
-ghost use Rattle.conf.specs.Table.{entries_of, has_place, has_unknown, is_table_key, is_missing, place_path, places, row_value, rows};
+ghost use Rattle.conf.specs.Table.{entries_of, has_unknown, is_table_key, is_missing, place_path, places, row_value, rows};
 ghost use Rattle.conf.specs.Values.{is_allowed};
 ghost use Rattle.conf.specs.Rows.{fails, is_ill_typed, is_out_of_range};
 ghost use Rattle.conf.specs.tools.Judged.{fault_of, first_path, first_place, is_refused, row_fault_number, IsJudged, IsFirstIn, IsCauseNumbered};
@@ -13,7 +13,7 @@ ghost use Rattle.conf.specs.tools.TableRows.{row_of};
 
 use crate::allowed::{clashes, has_type, is_allowed};
 use crate::fault::ConfFault;
-use crate::members::{table_at, table_in, value_at};
+use crate::members::{table_at, value_at};
 use crate::table::{PLACES, ROWS, Row, TableName, is_table_key};
 use sfv_text::Text;
 use std::alloc::Global;
@@ -113,21 +113,11 @@ fn is_out_of_range(document: &Table, row: &Row) -> bool
     clashes(document, row.rule) || has_refused_value(document, row)
 }
 
-fn has_place(document: &Table, place: TableName) -> bool
-    ensures { result ≡ has_place (table_view document.now) place }
-{
-    match place {
-        TableName::Top => true,
-        TableName::Policy => table_in(document, "policy").is_some(),
-        TableName::Sign => table_in(document, "sign").is_some(),
-    }
-}
-
 fn is_missing(document: &Table, row: &Row) -> bool
     ensures { result ≡ is_missing (table_view document.now) (row_of row.now) }
 {
     row.required
-        && has_place(document, row.place)
+        && table_at(document, row.place).is_some()
         && value_at(document, row.place, row.key).is_none()
 }
 

@@ -1,7 +1,7 @@
-//! The law of texts that are read as configurations. The function does nothing; its contract is the
+//! Laws of texts that are read as configurations. Each function does nothing; its contract is the
 //! law.
 
-ghost use Rattle.conf.specs.Laws.{HasConfAnswer, HasOneMeaning, HasOneConfFault, HasNoFaultWhereRead};
+ghost use Rattle.conf.specs.Laws.{HasConfAnswer, HasOneMeaning, HasOneConfFault, HasNoFaultWhereRead, IsStandardOfEmpty};
 
 /// A text is one configuration, or has one fault, and not both.
 pub fn a_text_is_one_configuration()
@@ -9,4 +9,9 @@ pub fn a_text_is_one_configuration()
     ensures meaning { HasOneMeaning }
     ensures fault { HasOneConfFault }
     ensures either { HasNoFaultWhereRead }
+{}
+
+/// The empty text is the configuration where nothing is said.
+pub fn the_empty_text_is_a_configuration()
+    ensures { IsStandardOfEmpty }
 {}

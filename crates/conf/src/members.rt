@@ -1,6 +1,6 @@
 //! A TOML document, and its values.
 
-ghost use Rattle.std.specs.Prelude.{◌≡◌, Some, option_and_then, option_copied, option_map, string_bytes};
+ghost use Rattle.std.specs.Prelude.{◌≡◌, Some, is_some, option_and_then, option_copied, option_map, string_bytes};
 ghost use Rattle.toml.specs.Data.{as_str, as_table, get_member};
 ghost use Rattle.toml.specs.View.{table_view, view};
 ghost use Rattle.conf.specs.Table.{has_place, members_at, members_in};
@@ -43,6 +43,7 @@ pub(crate) fn text_in<'d>(table: &'d Table, name: &str) -> Option<&'d str>
 /// The table at the place, where the document has it.
 pub(crate) fn table_at(document: &Table, place: TableName) -> Option<&Table>
     ensures members { table_members result ≡ members_at (table_view document.now) place }
+    ensures there { is_some result ≡ has_place (table_view document.now) place }
 {
     match place {
         TableName::Top => Some(document),

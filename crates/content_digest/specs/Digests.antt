@@ -13,11 +13,11 @@ use Rattle.content_digest.specs.Algorithms.{key_of, algorithm_of, digest_by}
 
 -- ---- a member of the Dictionary
 
--- its key is that of a known algorithm
+-- the member's key is that of a known algorithm
 abbrev pub is_known : Pair Member → Bool
 is_known member = is_some (algorithm_of member.key)
 
--- it is a Byte Sequence, where its algorithm is known
+-- the member is a Byte Sequence, where its algorithm is known
 abbrev pub is_sound : Pair Member → Bool
 is_sound member = not (is_known member) || is_some (byte_sequence_in member.value)
 
@@ -27,7 +27,7 @@ is_digest content None bytes = true
 is_digest content (Some algorithm) None = false
 is_digest content (Some algorithm) (Some bytes) = bytes_eq bytes (digest_by algorithm content)
 
--- it is the content's digest, where its algorithm is known
+-- the member is the content's digest, where its algorithm is known
 abbrev pub agrees : List ℕ → Pair Member → Bool
 agrees content member = is_digest content (algorithm_of member.key) (byte_sequence_in member.value)
 

@@ -37,16 +37,16 @@ pub record IsMismatch (dict : List (Pair Member)) (content : List ℕ) (algorith
       (λ member. Differs content member algorithm kept computed)
 
 -- the text reads as a Dictionary of which this holds
-abbrev pub HasDict : (List (Pair Member) → Type 0) → List ℕ → Type 0
-HasDict Holds text = (dict : List (Pair Member)) × ReadsDict text dict × Holds dict
+abbrev pub ReadsAsDict : (List (Pair Member) → Type 0) → List ℕ → Type 0
+ReadsAsDict Holds text = (dict : List (Pair Member)) × ReadsDict text dict × Holds dict
 
 -- the fact for which the fault is answered; being out of memory is none of them
 abbrev pub IsDigestCause : List ℕ → List ℕ → DigestFault → Type 0
 IsDigestCause text content Malformed = ((dict : List (Pair Member)) → ¬ ReadsDict text dict)
-    ⊎ HasDict (λ dict. IsFalse (list_all is_sound dict)) text
-IsDigestCause text content NoneKnown = HasDict (λ dict. IsFalse (list_any is_known dict)) text
+    ⊎ ReadsAsDict (λ dict. IsFalse (list_all is_sound dict)) text
+IsDigestCause text content NoneKnown = ReadsAsDict (λ dict. IsFalse (list_any is_known dict)) text
 IsDigestCause text content (Mismatch algorithm kept computed) =
-    HasDict (λ dict. IsMismatch dict content algorithm kept computed) text
+    ReadsAsDict (λ dict. IsMismatch dict content algorithm kept computed) text
 IsDigestCause text content Memory = ⊥
 
 -- the order in which the causes are judged

@@ -51,6 +51,7 @@ sole_value [] = Err Absent
 sole_value (value ∷ []) = Ok value
 sole_value (value ∷ other ∷ others) = Err Ambiguous
 
+-- the scheme as `@scheme` and `@target-uri` have it, in lower case (section 2.2.4)
 abbrev pub scheme_text : Scheme → List ℕ
 scheme_text Http = codes "http"
 scheme_text Https = codes "https"
@@ -74,7 +75,7 @@ abbrev pub named_authority : RequestParts → Option (List ℕ) → Result (List
 named_authority parts (Some text) = Ok text
 named_authority parts None = sole_value (values parts.lines (codes "host"))
 
--- the value of the authority that is so named; a text that is none is underivable
+-- the value of an authority that has a name in this way; a text that is none is underivable
 abbrev pub AuthorityRow : List ℕ → Result (List ℕ) Lack → Result (List ℕ) Lack → Type 0
 AuthorityRow scheme (Err lack) result = result ≡ Err lack
 AuthorityRow scheme (Ok text) (Ok value) = IsAuthorityValue scheme text value
@@ -157,7 +158,7 @@ abbrev pub response_value : DerivedName → List ℕ → Result (List ℕ) Lack
 response_value Status code = Ok code
 response_value derived code = Err Underivable
 
--- by the kind of the message
+-- a derived component, by the kind of the message: of a request or of a response
 abbrev pub StartRow : DerivedName → List (Pair BareItem) → Scheme → List FieldLine → StartLine
     → Result (List ℕ) Lack → Type 0
 StartRow derived params scheme lines (request line) result = RequestRow derived params (record {
@@ -169,7 +170,7 @@ StartRow derived params scheme lines (request line) result = RequestRow derived 
 StartRow derived params scheme lines (status line) result =
     result ≡ response_value derived line.code
 
--- by the name; no message has a component of another one
+-- a derived component, by its name; no message has a component of another name
 abbrev pub DerivedRow : Option DerivedName → List (Pair BareItem) → Scheme → List FieldLine
     → StartLine → Result (List ℕ) Lack → Type 0
 DerivedRow (Some derived) params scheme lines start result =

@@ -130,11 +130,11 @@ fn host_line<'m>(message: &MessageView<'m>) -> Result<LineView<'m>, Lack>
         (λ lack. sole_value (values (lines_on Side.Header (message_of message.now)) (codes "host"))
         ≡ Err lack) }
 {
-    let mut lines = message.lines(Side::Header);
-    let Some(line) = lines.next_named(b"host") else {
+    let mut lines = message.lines_named(Side::Header, b"host");
+    let Some(line) = lines.next() else {
         return Err(Lack::Absent);
     };
-    if let Some(_) = lines.next_named(b"host") {
+    if let Some(_) = lines.next() {
         return Err(Lack::Ambiguous);
     }
     Ok(line)

@@ -1,12 +1,14 @@
 -- Whether some field line has a name, by a count of its lines.
-use Rattle.std.proofs.Common.{◌≡◌, ℕ, nat_lt, List, length, take, ◌≤◌, sym, ap, ◌∙◌}
-use Rattle.std.proofs.lemmas.List.{take_all}
+use Rattle.std.proofs.Common.{◌≡◌, ℕ, nat_lt, List, length, sym, ap, ◌∙◌}
+use Rattle.std.specs.Prelude.{filter}
+use Rattle.std.proofs.lemmas.List.{length-map}
 use Rattle.msg_head.specs.Lines.{FieldLine}
-use Rattle.msg_head.specs.Values.{values, is_there}
+use Rattle.msg_head.specs.Names.{has_name}
+use Rattle.msg_head.specs.Values.{value, is_there}
 use Rattle.msg_head.proofs.NameCounts.{there_count}
 
--- the count is of all lines, made of so many first ones
-pub there_counted : (lines : List FieldLine) (name : List ℕ) (count index : ℕ) → count ≡ length (values (take index lines) name) → length lines ≤ index
-    → is_there lines name ≡ nat_lt 0 count
-there_counted lines name count index counted all =
-    there_count lines name ∙ ap (λ n. nat_lt 0 n) (sym (counted ∙ ap (λ ls. length (values ls name)) (take_all index lines all)))
+-- the count is of the lines of the name
+pub there_counted : (lines named : List FieldLine) (name : List ℕ) (count : ℕ) → named ≡ filter (has_name name) lines → count ≡ length named → is_there lines name ≡ nat_lt 0 count
+there_counted lines named name count is counted =
+    there_count lines name
+    ∙ ap (λ n. nat_lt 0 n) (length-map (filter (has_name name) lines) (λ (line : FieldLine). value line.raw) ∙ ap (λ (ls : List FieldLine). length ls) (sym is) ∙ sym counted)

@@ -1,23 +1,26 @@
 -- What an iterator over the pieces of a combined value has left.
-use Rattle.std.specs.Prelude.{ℕ, ◌+◌, ◌*◌, List, [], ◌∷◌, ◌++◌, if◌then◌else◌, length, filter, codes}
-use Rattle.std.specs.List.{flat_map}
+use Rattle.std.specs.Prelude.{ℕ, ◌+◌, ◌*◌, List, [], ◌∷◌, ◌++◌, if◌then◌else◌, length, map, codes}
+use Rattle.std.specs.List.{flat_map, join_by}
 use Rattle.msg_head.specs.Lines.{FieldLine}
-use Rattle.msg_head.specs.Names.{has_name}
 use Rattle.field_values.specs.declared.combined.Combined.{Combined}
-use Rattle.msg_head.specs.Values.{values, combined_value}
+use Rattle.msg_head.specs.Values.{value}
 use Rattle.msg_head.specs.LeftInLines.{value_left, pieces_bound}
 
 -- a comma, a space and the value
 abbrev pub after_comma : List ℕ → List ℕ
 after_comma text = codes ", " ++ text
 
+-- the values of these lines
+abbrev pub line_values : List FieldLine → List (List ℕ)
+line_values lines = map (λ line. value line.raw) lines
+
 -- the combined value's bytes that are left
 abbrev pub combined_left : Combined → List ℕ
 combined_left combined =
     value_left combined.current ++
     (if combined.is_started
-    then flat_map after_comma (values combined.lines combined.name.now)
-    else combined_value combined.lines combined.name.now)
+    then flat_map after_comma (line_values combined.lines)
+    else join_by (λ text. text) (codes ", ") (line_values combined.lines))
 
 -- no more pieces come of these lines than this, the commas before them included
 abbrev pub lines_bound : List FieldLine → ℕ
@@ -26,6 +29,4 @@ lines_bound (line ∷ lines) = 1 + 2 * length line.raw + lines_bound lines
 
 -- no more pieces come than this
 abbrev pub combined_bound : Combined → ℕ
-combined_bound combined =
-    pieces_bound combined.current
-    + lines_bound (filter (has_name combined.name.now) combined.lines)
+combined_bound combined = pieces_bound combined.current + lines_bound combined.lines

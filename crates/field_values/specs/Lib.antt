@@ -1,3 +1,2 @@
 pub mod LeftInFields
-pub mod tools
 pub use Rattle.msg_head.specs.Values

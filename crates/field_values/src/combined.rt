@@ -1,14 +1,13 @@
 //! The values of a field's lines, joined.
 
 use msg_body::MessageView;
-use msg_head::{FieldLines, Pieces, Side};
+use msg_head::{NamedFieldLines, Pieces, Side};
 
 /// The pieces of a field's combined value that are left.
 #[derive(Debug, Drop)]
 pub struct Combined<'a, 'm> {
-    // The lines after the current one.
-    lines: FieldLines<'a, 'm>,
-    name: &'a [u8],
+    // The lines of the name after the current one.
+    lines: NamedFieldLines<'a, 'm>,
     // The current line's value.
     current: Pieces<'m>,
     // Whether a line of the name has come.
@@ -30,7 +29,7 @@ impl<'a, 'm> Iterator for Combined<'a, 'm> {
         if let Some(piece) = self.current.next() {
             return Some(piece);
         }
-        let line = self.lines.next_named(self.name)?;
+        let line = self.lines.next()?;
         self.current = line.value_pieces();
         if self.is_started {
             return Some(b", ");
@@ -52,8 +51,7 @@ impl<'a, 'm> Combined<'a, 'm> {
             ≡ combined_value (lines_on side (message_of view.now)) name.now }
     {
         Combined {
-            lines: view.lines(side),
-            name,
+            lines: view.lines_named(side, name),
             current: Pieces::empty(),
             is_started: false,
         }

@@ -1,34 +1,16 @@
 //! The field lines of a name.
 
-ghost use Rattle.std.specs.Prelude.{◌≡◌, ◌<◌, length, nat_lt, slice_index_or};
-ghost use Rattle.msg_head.specs.Names.{has_name};
+ghost use Rattle.std.specs.Prelude.{◌≡◌, length, nat_lt};
 ghost use Rattle.msg_body.specs.Views.{message_of, lines_on};
 ghost use Rattle.msg_head.specs.Values.{values, is_there};
-ghost use Rattle.field_values.specs.tools.Walks.{no_line};
 
 use msg_body::MessageView;
 use msg_head::Side;
-
-// Whether the field line with that index on the side has the name.
-#[tactic(auto, using(std::proofs::lemmas::Option::get_or_from_slice_get))]
-fn has_name_at(view: &MessageView<'_>, side: Side, index: usize, name: &[u8]) -> bool
-    requires { index < length (lines_on side (message_of view.now)) }
-    ensures { result ≡ has_name name.now
-        (slice_index_or (lines_on side (message_of view.now)) index no_line) }
-{
-    view.line(side, index).is_named(name)
-}
 
 /// How many field lines of the side have the name, which is in lower case.
 pub fn count_lines(view: &MessageView<'_>, side: Side, name: &[u8]) -> usize
     ensures count { result ≡ length (values (lines_on side (message_of view.now)) name.now) }
     ensures there { is_there (lines_on side (message_of view.now)) name.now ≡ nat_lt 0 result }
 {
-    let mut count = 0;
-    for index in 0..view.line_count(side) {
-        if has_name_at(view, side, index, name) {
-            count += 1;
-        }
-    }
-    count
+    view.lines_named(side, name).len()
 }

@@ -1,5 +1,5 @@
 -- A head is framable, or has one error.
-use Rattle.std.proofs.Common.{◌≡◌, ◌⊎◌, ◌<◌, Bool, refl, sym, ◌∙◌, ap, subst, Ok, Err, inl, inr, arith}
+use Rattle.std.proofs.Common.{◌≡◌, ◌<◌, Bool, refl, sym, ◌∙◌, ap, subst, Ok, Err, inl, inr, arith}
 use Rattle.std.specs.Prelude.{◌↔◌, Result, IsOk, IsTrue, IsFalse}
 use Rattle.std.proofs.lemmas.Bool.{cases_Bool, false≢true}
 use Rattle.byte_grammar.proofs.CauseLaws.{first_is_one}

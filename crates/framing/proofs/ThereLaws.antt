@@ -1,5 +1,5 @@
 -- Whether there are lines of a name, by their values.
-use Rattle.std.proofs.Common.{◌≡◌, ℕ, nat_lt, List, [], length, suc, sym, ap, ◌∙◌}
+use Rattle.std.proofs.Common.{◌≡◌, ℕ, nat_lt, List, length, suc, sym, ap, ◌∙◌}
 use Rattle.msg_head.specs.Lines.{FieldLine}
 use Rattle.msg_head.specs.Values.{values, is_there}
 use Rattle.msg_head.proofs.NameCounts.{positive, there_count}

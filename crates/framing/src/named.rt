@@ -1,11 +1,11 @@
 //! The field lines of a name.
 
-ghost use Rattle.std.specs.Prelude.{◌≡◌};
+ghost use Rattle.std.specs.Prelude.{◌≡◌, map};
 ghost use Rattle.msg_head.specs.Views.{lines_of};
-ghost use Rattle.msg_head.specs.Values.{values, is_there};
+ghost use Rattle.msg_head.specs.Values.{value, values, is_there};
 ghost use Rattle.framing.specs.tools.NamedLines.{HaveValues, are_named};
 
-use msg_head::{FieldLines, HeadView, LineView};
+use msg_head::{HeadView, LineView, NamedFieldLines};
 
 /// The field lines of a head that have a name.
 #[derive(Clone, Copy, Debug)]
@@ -19,14 +19,14 @@ pub(crate) enum NamedLines<'m> {
 }
 
 impl<'m> NamedLines<'m> {
-    // Those of these lines that have the name.
-    fn among(mut lines: FieldLines<'_, 'm>, name: &[u8]) -> NamedLines<'m>
-        ensures { HaveValues result (values lines.entry name.now) }
+    // These lines of a name.
+    fn of(mut lines: NamedFieldLines<'_, 'm>) -> NamedLines<'m>
+        ensures { HaveValues result (map (λ line. value line.raw) lines.entry) }
     {
-        let Some(line) = lines.next_named(name) else {
+        let Some(line) = lines.next() else {
             return NamedLines::None;
         };
-        match lines.next_named(name) {
+        match lines.next() {
             None => NamedLines::One(line),
             Some(_) => NamedLines::Many,
         }
@@ -37,7 +37,7 @@ impl<'m> NamedLines<'m> {
         ensures values { HaveValues result (values (lines_of head.now) name.now) }
         ensures there { are_named result ≡ is_there (lines_of head.now) name.now }
     {
-        NamedLines::among(head.lines(), name)
+        NamedLines::of(head.lines_named(name))
     }
 
     /// Whether there is a line.

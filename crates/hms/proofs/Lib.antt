@@ -2,4 +2,5 @@ pub mod CommandLaws
 pub mod Layers
 pub mod OneReport
 pub mod Reports
+pub mod SomeReport
 pub mod Sources

@@ -1,18 +1,20 @@
 -- Arguments, files and an input have one outcome.
-use Rattle.std.proofs.Common.{◌≡◌, List, ℕ, Option, Some, refl, sym, ◌∙◌}
+use Rattle.std.proofs.Common.{◌≡◌, List, ℕ, Option, Some, None, refl, sym, ◌∙◌}
 use Rattle.std.specs.Prelude.{⊤}
-use Rattle.hms_io.specs.Files.{FileMap}
 use Rattle.command_line.specs.Command.{CommandLine, Help, Version, Base, Verify, IsCommand, NoCommand}
 use Rattle.command_line.proofs.CommandLaws.{one_command}
-use Rattle.msg_body.specs.Messages.{Message}
+use Rattle.component_values.specs.Context.{MessageContext}
 use Rattle.conf.specs.Configuration.{Configuration}
 use Rattle.component_ids.specs.declared.params.SigParams.{SigParams}
-use Rattle.commands.specs.Base.{context_for, ReportsValues, ReportsBase}
+use Rattle.commands.specs.Base.{ReportsValues, ReportsBase}
+use Rattle.commands.specs.Contexts.{context_for}
+use Rattle.commands.specs.Files.{Found, Conf as ConfFile}
+use Rattle.commands.specs.Messages.{any_message}
 use Rattle.commands.specs.Layers.{IsDecisive}
 use Rattle.commands.specs.Verify.{ReportsVerdicts}
 use Rattle.commands.specs.declared.outcome.Outcome.{Outcome}
 use Rattle.hms.specs.Laws.{HasOneReport}
-use Rattle.hms.specs.Report.{ReportsCommand, ReportsInput, ReportsFiles}
+use Rattle.hms.specs.Report.{ReportsCommand, ReportsMessage, ReportsFiles}
 use Rattle.hms.proofs.CommandLaws.{conf_decided, input_decided, params_decided, values_decided, verdicts_law}
 use Rattle.hms.proofs.Layers.{HasOne, one_of_layers}
 
@@ -26,29 +28,28 @@ arguments_decided arguments = record {
   either = λ command c is none. none command is;
 }
 
-one_of_values : (conf : Configuration) (message : Message) (sig : SigParams) → HasOne (ReportsValues conf message sig)
-one_of_values conf message sig =
-    one_of_layers _ _ _ _ (values_decided (context_for conf message) sig.ids) (λ values _ one other a b. a ∙ sym b)
+one_of_values : (context : MessageContext) (sig : SigParams) → HasOne (ReportsValues context sig)
+one_of_values context sig = one_of_layers _ _ _ _ (values_decided context sig.ids) (λ values _ one other a b. a ∙ sym b)
 
-one_of_base : (params : List ℕ) (conf : Configuration) (message : Message) → HasOne (ReportsBase params conf message)
-one_of_base params conf message = one_of_layers _ _ _ _ (params_decided params) (λ sig _. one_of_values conf message sig)
+one_of_base : (params : List ℕ) (conf : Configuration) (context : MessageContext) → HasOne (ReportsBase params context)
+one_of_base params conf context = one_of_layers _ _ _ _ (params_decided params) (λ sig _. one_of_values context sig)
 
-one_of_verdicts : (label : Option (List ℕ)) (now : ℕ) (conf : Configuration) (message : Message) → HasOne (ReportsVerdicts label now conf message)
-one_of_verdicts label now conf message = verdicts_law label now conf message
+one_of_verdicts : (label : Option (List ℕ)) (now : ℕ) (conf : Configuration) (context : MessageContext) → HasOne (ReportsVerdicts label now conf context)
+one_of_verdicts label now conf context = verdicts_law label now conf context
 
-module _ (Then : Configuration → Message → Outcome → Type 0) (one : (conf : Configuration) (message : Message) → HasOne (Then conf message)) where
-  one_of_input : (conf : Configuration) (input : List ℕ) → HasOne (ReportsInput (Then conf) input)
-  one_of_input conf input = one_of_layers _ _ _ _ (input_decided input) (λ message _. one conf message)
+module _ (Then : Configuration → MessageContext → Outcome → Type 0) (one : (conf : Configuration) (context : MessageContext) → HasOne (Then conf context)) where
+  one_of_message : (conf : Configuration) (input : List ℕ) → HasOne (ReportsMessage Then conf input)
+  one_of_message conf input = one_of_layers _ _ _ _ (input_decided any_message input) (λ message _. one conf (context_for conf message None))
 
-  one_of_files : (name : Option (List ℕ)) (files : FileMap) (input : List ℕ) → HasOne (ReportsFiles Then name files input)
-  one_of_files name files input = one_of_layers _ _ _ _ (conf_decided files name) (λ conf _. one_of_input conf input)
+  one_of_files : (name : Option (List ℕ)) (found : Found) (input : List ℕ) → HasOne (ReportsFiles Then name found input)
+  one_of_files name found input = one_of_layers _ _ _ _ (conf_decided name (found ConfFile)) (λ conf _. one_of_message conf input)
 
-one_of_command : (command : CommandLine) (files : FileMap) (input : List ℕ) → HasOne (ReportsCommand command files input)
-one_of_command Help files input = λ one other a b. a ∙ sym b
-one_of_command Version files input = λ one other a b. a ∙ sym b
-one_of_command (Base words) files input = one_of_files (ReportsBase words.params) (one_of_base words.params) words.conf files input
-one_of_command (Verify words) files input =
-    one_of_files (ReportsVerdicts words.label words.now) (one_of_verdicts words.label words.now) (Some words.conf) files input
+one_of_command : (command : CommandLine) (found : Found) (input : List ℕ) → HasOne (ReportsCommand command found input)
+one_of_command Help found input = λ one other a b. a ∙ sym b
+one_of_command Version found input = λ one other a b. a ∙ sym b
+one_of_command (Base words) found input = one_of_files (λ conf. ReportsBase words.params) (one_of_base words.params) words.conf found input
+one_of_command (Verify words) found input =
+    one_of_files (ReportsVerdicts words.label words.now) (one_of_verdicts words.label words.now) (Some words.conf) found input
 
 pub one_report_law : HasOneReport
-one_report_law arguments files input = one_of_layers _ _ _ _ (arguments_decided arguments) (λ command _. one_of_command command files input)
+one_report_law arguments found input = one_of_layers _ _ _ _ (arguments_decided arguments) (λ command _. one_of_command command found input)

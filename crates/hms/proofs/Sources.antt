@@ -8,18 +8,24 @@ use Rattle.hms_io.specs.Reading.{LosesPrefix, GivesAll}
 use Rattle.hms_io.specs.declared.read_write.FillError.{FillError}
 use Rattle.hms_io.specs.declared.read_write.FillError.TheVariants.{Memory as NoFillMemory, Failed, TooLong as Longer}
 use Rattle.msg_body.specs.Messages.{Message}
+use Rattle.component_values.specs.Context.{MessageContext}
 use Rattle.conf.specs.Configuration.{Configuration}
 use Rattle.verdicts.specs.declared.outcome.Verdict.{Verdict}
 use Rattle.commands.specs.Messages.{IsInputRefused}
 use Rattle.commands.specs.Base.{ReportsBase}
 use Rattle.commands.specs.Verify.{is_accepted, verdicts_outcome, ReportsVerdicts}
-use Rattle.hms.specs.Report.{ReportsInput, HasInput, Leaves, LosesAtMost}
+use Rattle.commands.specs.declared.message.Reading.{Reading}
+use Rattle.hms.specs.Commands.{Whole, LosesAtMost, LosesFew, InputUse}
+use Rattle.hms.specs.Ends.{HasInput, Leaves}
+use Rattle.hms.specs.Report.{ReportsInput}
 use Rattle.hms.specs.tools.Parts.{IsAfterInput, IsOwn}
-use Rattle.output_lines.specs.declared.refusal.Refusal.{Refusal}
-use Rattle.output_lines.specs.declared.refusal.TheConstants.{MAX_INPUT_BYTES}
-use Rattle.output_lines.specs.declared.refusal.Refusal.TheVariants.{Arguments, Conf, Input, Command}
-use Rattle.output_lines.specs.declared.refusal.InputRefusal.{InputRefusal}
-use Rattle.output_lines.specs.declared.refusal.InputRefusal.TheVariants.{TooLong, Message as NoMessage}
+use Rattle.refusals.specs.declared.refusal.Refusal.{Refusal}
+use Rattle.refusals.specs.declared.refusal.TheConstants.{MAX_INPUT_BYTES}
+use Rattle.refusals.specs.declared.refusal.Refusal.TheVariants.{Arguments, Of, Command}
+use Rattle.refusals.specs.declared.role.Role.{Role}
+use Rattle.refusals.specs.declared.role.Role.TheVariants.{Conf, Request, Wanted, Script, Input, Item}
+use Rattle.refusals.specs.declared.file.FileRefusal.{FileRefusal}
+use Rattle.refusals.specs.declared.file.FileRefusal.TheVariants.{Missing, TooLong, Message as NoMessage, Conf as NoConf}
 use Rattle.commands.specs.declared.outcome.Outcome.{Outcome}
 use Rattle.commands.specs.declared.outcome.Outcome.TheVariants.{Done, NotOk, Refused}
 use Rattle.commands.specs.declared.stop.Stop.{Stop}
@@ -35,22 +41,22 @@ longer n (Some all) now lost = (all, refl, omega (arith, lost.0))
 
 -- what is left once it was read to the end, or past the limit
 abbrev pub LeavesInput : Type 0 → Option (List ℕ) → Option (List ℕ) → Outcome → Type 0
-LeavesInput = Leaves (Some MAX_INPUT_BYTES)
+LeavesInput = Leaves (Whole MAX_INPUT_BYTES)
 
 -- why it isn't read whole
-pub fill_stop : (Then : Message → Outcome → Type 0) (Unread : Type 0) (before now : Option (List ℕ)) (error : FillError)
+pub fill_stop : (Then : Message → Outcome → Type 0) (reading : Reading) (Same : Type 0) (before now : Option (List ℕ)) (error : FillError)
     → (error ≡ Longer → LosesPrefix before now (MAX_INPUT_BYTES + 1))
-    → IfOutcome (Err (stop_of_fill error)) (HasInput (ReportsInput Then) (LeavesInput Unread before now) before)
-fill_stop Then Unread before now NoFillMemory lost = tt
-fill_stop Then Unread before now Failed lost = tt
-fill_stop Then Unread before now Longer lost =
+    → IfOutcome (Err (stop_of_fill MAX_INPUT_BYTES error)) (HasInput (ReportsInput Then reading) (LeavesInput Same before now) before)
+fill_stop Then reading Same before now NoFillMemory lost = tt
+fill_stop Then reading Same before now Failed lost = tt
+fill_stop Then reading Same before now Longer lost =
     let input = longer MAX_INPUT_BYTES before now (lost refl) in
-    record { input = input.0; known = input.1; reports = inr (TooLong, input.2, refl); leaves = lost refl }
+    record { input = input.0; known = input.1; reports = inr (TooLong MAX_INPUT_BYTES, (refl, input.2), refl); leaves = lost refl }
 
-pub fill_counts : (T : Type 0) (before now : ℕ) (error : FillError) → HasFillCause before now error → CountsStop {T = T} before now (Err (stop_of_fill error))
-fill_counts T before now NoFillMemory cause = cause
-fill_counts T before now Failed cause = cause
-fill_counts T before now Longer cause = cause
+pub fill_counts : (T : Type 0) (limit before now : ℕ) (error : FillError) → HasFillCause before now error → CountsStop {T = T} before now (Err (stop_of_fill limit error))
+fill_counts T limit before now NoFillMemory cause = cause
+fill_counts T limit before now Failed cause = cause
+fill_counts T limit before now Longer cause = cause
 
 -- ---- an input that was read whole
 
@@ -62,25 +68,31 @@ nothing_left : (before now : Option (List ℕ)) (input : List ℕ) → GivesAll 
 nothing_left None now input all = tt
 nothing_left (Some bytes) now input all = all.1
 
-after_input : (Unread : Type 0) (before now : Option (List ℕ)) → IfSome before (λ _. now ≡ Some []) → (outcome : Outcome) → IsAfterInput outcome → LeavesInput Unread before now outcome
-after_input Unread before now none (Done text) after = none
-after_input Unread before now none (NotOk text) after = none
-after_input Unread before now none (Refused Arguments) after = absurd after
-after_input Unread before now none (Refused (Conf r)) after = absurd after
-after_input Unread before now none (Refused (Input TooLong)) after = absurd after
-after_input Unread before now none (Refused (Input (NoMessage f))) after = none
-after_input Unread before now none (Refused (Command r)) after = none
+after_input : (Same : Type 0) (before now : Option (List ℕ)) → IfSome before (λ _. now ≡ Some []) → (outcome : Outcome) → IsAfterInput outcome → LeavesInput Same before now outcome
+after_input Same before now none (Done text) after = none
+after_input Same before now none (NotOk text) after = none
+after_input Same before now none (Refused Arguments) after = absurd after
+after_input Same before now none (Refused (Of Conf r)) after = absurd after
+after_input Same before now none (Refused (Of Request r)) after = absurd after
+after_input Same before now none (Refused (Of Wanted r)) after = absurd after
+after_input Same before now none (Refused (Of Script r)) after = absurd after
+after_input Same before now none (Refused (Of Input Missing)) after = absurd after
+after_input Same before now none (Refused (Of Input (TooLong n))) after = absurd after
+after_input Same before now none (Refused (Of Input (NoMessage f))) after = none
+after_input Same before now none (Refused (Of Input (NoConf f))) after = absurd after
+after_input Same before now none (Refused (Of (Item n) r)) after = absurd after
+after_input Same before now none (Refused (Command r)) after = none
 
-pub input_outcome : (Then : Message → Outcome → Type 0) (Unread : Type 0) (input read : List ℕ) (before now : Option (List ℕ)) → read ≡ input → GivesAll before now input
-    → (result : Result Outcome Stop) → IfOutcome result (ReportsInput Then read) → IfOutcome result IsAfterInput
-    → IfOutcome result (HasInput (ReportsInput Then) (LeavesInput Unread before now) before)
-input_outcome Then Unread input read before now same all result reported after =
+pub input_outcome : (Then : Message → Outcome → Type 0) (reading : Reading) (Same : Type 0) (input read : List ℕ) (before now : Option (List ℕ)) → read ≡ input → GivesAll before now input
+    → (result : Result Outcome Stop) → IfOutcome result (ReportsInput Then reading read) → IfOutcome result IsAfterInput
+    → IfOutcome result (HasInput (ReportsInput Then reading) (LeavesInput Same before now) before)
+input_outcome Then reading Same input read before now same all result reported after =
     went_on (λ outcome facts. record {
       input = input;
       known = known_input before now input all;
-      reports = subst (λ (bytes : List ℕ). ReportsInput Then bytes outcome) same facts.0;
-      leaves = after_input Unread before now (nothing_left before now input all) outcome facts.1;
-    }) result (both (ReportsInput Then read) IsAfterInput result reported after)
+      reports = subst (λ (bytes : List ℕ). ReportsInput Then reading bytes outcome) same facts.0;
+      leaves = after_input Same before now (nothing_left before now input all) outcome facts.1;
+    }) result (both (ReportsInput Then reading read) IsAfterInput result reported after)
 
 -- what is gone once it was read to its end
 pub all_gone : (before now : Option (List ℕ)) (input : List ℕ) → GivesAll before now input → length input ≤ MAX_INPUT_BYTES → LosesAtMost (MAX_INPUT_BYTES + 1) before now
@@ -97,22 +109,32 @@ none_gone most (Some bytes) now same = (0, omega arith, (omega arith, same))
 
 -- ---- what comes once all was read
 
-after_cause : (input : List ℕ) (cause : InputRefusal) → length input ≤ MAX_INPUT_BYTES → IsInputRefused input cause → IsAfterInput (Refused (Input cause))
-after_cause input TooLong short long = absurd (omega (arith, short, long))
-after_cause input (NoMessage f) short is = tt
+after_cause : (reading : Reading) (input : List ℕ) (cause : FileRefusal) → length input ≤ MAX_INPUT_BYTES → IsInputRefused reading input cause → IsAfterInput (Refused (Of Input cause))
+after_cause reading input Missing short is = absurd is
+after_cause reading input (NoConf f) short is = absurd is
+after_cause reading input (TooLong n) short is = absurd (omega (arith, short, is.1))
+after_cause reading input (NoMessage f) short is = tt
 
-pub after_refusal : (input : List ℕ) (stop : Stop) → length input ≤ MAX_INPUT_BYTES → IfRefused stop (IsRefusalFor (IsInputRefused input) Input) → IfOutcome (Err stop) IsAfterInput
-after_refusal input Memory short is = tt
-after_refusal input ReadFault short is = tt
-after_refusal input (IsRefused refusal) short is =
-    subst (λ (r : Refusal). IsAfterInput (Refused r)) (sym is.2) (after_cause input is.0 short is.1)
+pub after_refusal : (reading : Reading) (input : List ℕ) (stop : Stop) → length input ≤ MAX_INPUT_BYTES
+    → IfRefused stop (IsRefusalFor (IsInputRefused reading input) (λ refusal. Of Input refusal)) → IfOutcome (Err stop) IsAfterInput
+after_refusal reading input Memory short is = tt
+after_refusal reading input ReadFault short is = tt
+after_refusal reading input (IsRefused refusal) short is =
+    subst (λ (r : Refusal). IsAfterInput (Refused r)) (sym is.2) (after_cause reading input is.0 short is.1)
 
 own_after : (outcome : Outcome) → IsOwn outcome → IsAfterInput outcome
 own_after (Done text) own = tt
 own_after (NotOk text) own = tt
 own_after (Refused Arguments) own = absurd own
-own_after (Refused (Conf r)) own = absurd own
-own_after (Refused (Input r)) own = absurd own
+own_after (Refused (Of Conf r)) own = absurd own
+own_after (Refused (Of Request r)) own = absurd own
+own_after (Refused (Of Wanted r)) own = absurd own
+own_after (Refused (Of Script r)) own = absurd own
+own_after (Refused (Of Input Missing)) own = absurd own
+own_after (Refused (Of Input (TooLong n))) own = absurd own
+own_after (Refused (Of Input (NoMessage f))) own = absurd own
+own_after (Refused (Of Input (NoConf f))) own = absurd own
+own_after (Refused (Of (Item n) r)) own = absurd own
 own_after (Refused (Command r)) own = tt
 
 pub after_answer : (result : Result Outcome Stop) → IfOutcome result IsOwn → IfOutcome result IsAfterInput
@@ -120,19 +142,19 @@ after_answer result own = went_on own_after result own
 
 -- ---- what is the command's own
 
-pub own_of_base : (params : List ℕ) (conf : Configuration) (message : Message) (outcome : Outcome) → ReportsBase params conf message outcome → IsOwn outcome
-own_of_base params conf message outcome (inl sig) = elim sig.2 [
+pub own_of_base : (params : List ℕ) (context : MessageContext) (outcome : Outcome) → ReportsBase params context outcome → IsOwn outcome
+own_of_base params context outcome (inl sig) = elim sig.2 [
   | inl values ↦ subst IsOwn (sym values.2) tt
   | inr cause ↦ subst IsOwn (sym cause.2) tt
 ]
-own_of_base params conf message outcome (inr cause) = subst IsOwn (sym cause.2) tt
+own_of_base params context outcome (inr cause) = subst IsOwn (sym cause.2) tt
 
 own_lines : (labels : List (List ℕ)) (verdicts : List Verdict) (accepted : Bool) → list_all is_accepted verdicts ≡ accepted → IsOwn (verdicts_outcome labels verdicts)
 own_lines labels verdicts true is = rw is tt
 own_lines labels verdicts false is = rw is tt
 
-pub own_of_verdicts : (label : Option (List ℕ)) (now : ℕ) (conf : Configuration) (message : Message) (outcome : Outcome) → ReportsVerdicts label now conf message outcome → IsOwn outcome
-own_of_verdicts label now conf message outcome reports =
+pub own_of_verdicts : (label : Option (List ℕ)) (now : ℕ) (conf : Configuration) (context : MessageContext) (outcome : Outcome) → ReportsVerdicts label now conf context outcome → IsOwn outcome
+own_of_verdicts label now conf context outcome reports =
     subst IsOwn (sym reports.outcome_is) (own_lines reports.labels reports.verdicts (list_all is_accepted reports.verdicts) refl)
 
 pub reads_nothing_counts : (before now : ℕ) (result : Result Outcome Stop) → ReadsNothing result → now ≡ before → CountsStop before now result

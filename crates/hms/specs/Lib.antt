@@ -1,3 +1,5 @@
+pub mod Commands
+pub mod Ends
 pub mod Laws
 pub mod Report
 pub mod tools

@@ -1,10 +1,17 @@
 //! Laws of what the program answers. Each function does nothing; its contract is the law.
 
-ghost use Rattle.hms.specs.Laws.{HasOneReport};
+ghost use Rattle.hms.specs.Laws.{HasOneReport, HasSomeReport, IsComplete};
 
-/// For given arguments and input there is at most one outcome, and so one status and one output.
-/// So each row of the report is exact: its status and its output come there and nowhere else, out
-/// of memory and failed devices aside.
+/// For given arguments, files and input there is one outcome, and so one status and one output. So
+/// each row of the report is exact: its status and its output come there and nowhere else, out of
+/// memory and failed devices aside.
 pub fn one_report()
-    ensures { HasOneReport }
+    ensures one { HasOneReport }
+    ensures some { HasSomeReport }
+{}
+
+/// A command that has a configuration, a message and no fault of its own has an outcome of status 0
+/// or 1.
+pub fn a_command_that_has_all_is_answered()
+    ensures { IsComplete }
 {}

@@ -1,25 +1,31 @@
 //! Commands over a configuration and one whole message, and their steps: the configuration is read,
-//! then the source, then its message, and the command is done over them.
+//! then the source, then its message, the context is made, and the command is done over it.
 
 ghost use Rattle.std.specs.Prelude.{◌≡◌, ◌+◌, ◌≤◌, IfNone, length, option_map, string_bytes};
-ghost use Rattle.msg_body.specs.Views.{message_of};
 ghost use Rattle.hms_io.specs.Files.{KeepsFiles};
+ghost use Rattle.component_values.specs.Context.{context_of};
 ghost use Rattle.conf.specs.ConfMeaning.{meaning};
+ghost use Rattle.commands.specs.Files.{AreFound, conf_alone, file_count};
 ghost use Rattle.commands.specs.Stops.{IfOutcome, ReadsNothing, CountsStop};
-ghost use Rattle.hms.specs.Report.{HasInput, HasOutcome, Leaves, LosesAtMost, ReportsFiles, ReportsInput};
+ghost use Rattle.hms.specs.Commands.{LosesAtMost, Whole};
+ghost use Rattle.hms.specs.Ends.{HasInput, HasOutcome, Leaves};
+ghost use Rattle.hms.specs.Report.{ReportsFiles, ReportsMessage};
 ghost use Rattle.hms.specs.tools.Parts.{CountsOne, IsAfterInput, IsOwn};
 
 use command_line::{BaseWords, VerifyWords};
-use commands::{Outcome, Stop, read_configuration, read_input, write_base, write_verdicts};
+use commands::{
+    Outcome, Reading, Stop, context_for, read_configuration, read_input, write_base, write_verdicts,
+};
+use component_values::Context;
 use conf::Conf;
 use hms_io::{Shelf, Source, fill};
-use msg_body::MessageView;
-use output_lines::MAX_INPUT_BYTES;
+use msg_body::Expect;
+use refusals::{MAX_INPUT_BYTES, Role};
 use std::alloc::Global;
 
 /// A command over a configuration and one whole message.
 pub trait OverMessage {
-    ghost use Rattle.msg_body.specs.Messages.{Message};
+    ghost use Rattle.component_values.specs.Context.{MessageContext};
     ghost use Rattle.conf.specs.Configuration.{Configuration};
     ghost use Rattle.commands.specs.declared.outcome.Outcome.{Outcome};
 
@@ -27,13 +33,13 @@ pub trait OverMessage {
     ghost is_timely: { Self → Type 0 };
 
     // What it comes to.
-    ghost reports: { Self → Configuration → Message → Outcome → Type 0 };
+    ghost reports: { Self → Configuration → MessageContext → Outcome → Type 0 };
 
-    /// Does the command over the message. It reads nothing.
-    fn answer(&self, alloc: Global, conf: &Conf, message: &MessageView<'_>) -> Result<Outcome, Stop>
+    /// Does the command over the message of the context. It reads nothing.
+    fn answer(&self, alloc: Global, conf: &Conf, context: &Context<'_, '_>) -> Result<Outcome, Stop>
         requires { is_timely self.now }
         ensures report { IfOutcome result
-            (reports self.now (meaning conf.now) (message_of message.now)) }
+            (reports self.now (meaning conf.now) (context_of context.now)) }
         ensures own { IfOutcome result IsOwn }
         ensures reads_nothing { ReadsNothing result };
 }
@@ -44,15 +50,15 @@ impl<'a> OverMessage for BaseWords<'a> {
 
     ghost is_timely = { λ words. ⊤ };
 
-    ghost reports = { λ words. ReportsBase words.params.now };
+    ghost reports = { λ words conf. ReportsBase words.params.now };
 
     fn answer(
         &self,
         alloc: Global,
-        conf: &Conf,
-        message: &MessageView<'_>,
+        _conf: &Conf,
+        context: &Context<'_, '_>,
     ) -> Result<Outcome, Stop> {
-        write_base(alloc, conf, self.params.as_bytes(), message)
+        write_base(alloc, self.params.as_bytes(), context)
     }
 }
 
@@ -70,28 +76,34 @@ impl<'a> OverMessage for VerifyWords<'a> {
         &self,
         alloc: Global,
         conf: &Conf,
-        message: &MessageView<'_>,
+        context: &Context<'_, '_>,
     ) -> Result<Outcome, Stop> {
-        Ok(write_verdicts(alloc, conf, self.now, self.label, message)?)
+        Ok(write_verdicts(alloc, conf, self.now, self.label, context)?)
     }
 }
 
-/// Does the command over the input, which is to be one whole message.
-fn over_input<C: OverMessage>(
+/// Does the command over the input, which is to be one whole message of either kind. A response is
+/// read as one to a request with another method than HEAD (RFC 9112 section 6.3).
+fn over_input<'x, C: OverMessage>(
     alloc: Global,
     command: &C,
-    conf: &Conf,
-    input: &[u8],
+    conf: &'x Conf,
+    input: &'x [u8],
 ) -> Result<Outcome, Stop>
     requires timely { C.is_timely command.now }
     requires short { length input.now ≤ MAX_INPUT_BYTES }
     ensures report { IfOutcome result
-        (ReportsInput (C.reports command.now (meaning conf.now)) input.now) }
+        (ReportsMessage (C.reports command.now) (meaning conf.now) input.now) }
     ensures after { IfOutcome result IsAfterInput }
     ensures reads_nothing { ReadsNothing result }
 {
-    let message = read_input(alloc, input)?;
-    command.answer(alloc, conf, &message)
+    let reading = Reading {
+        expect: Expect::Any,
+        to_head: false,
+    };
+    let message = read_input(alloc, reading, Role::Input, input)?;
+    let context = context_for(conf, &message, None);
+    command.answer(alloc, conf, &context)
 }
 
 /// Does the command over what the source gives: reads it to its end, or one byte past the limit.
@@ -103,14 +115,18 @@ fn over_source<C: OverMessage, S: Source>(
 ) -> Result<Outcome, Stop>
     requires { C.is_timely command.now }
     ensures report { IfOutcome result
-        (HasInput (ReportsInput (C.reports command.now (meaning conf.now)))
-        (Leaves (Some MAX_INPUT_BYTES) (source.new ≡ source.old)
+        (HasInput (ReportsMessage (C.reports command.now) (meaning conf.now))
+        (Leaves (Whole MAX_INPUT_BYTES) (source.new ≡ source.old)
         (S.left source.old) (S.left source.new)) (S.left source.old)) }
     ensures cause { CountsStop (S.faults source.old) (S.faults source.new) result }
     ensures later { S.faults source.old ≤ S.faults source.new }
     ensures few { LosesAtMost (MAX_INPUT_BYTES + 1) (S.left source.old) (S.left source.new) }
+    ensures ended { S.ended source.old ≡ 0 → S.ended source.new ≤ 1 }
 {
-    let input = fill(alloc, source, MAX_INPUT_BYTES)?;
+    let input = match fill(alloc, source, MAX_INPUT_BYTES) {
+        Ok(input) => input,
+        Err(error) => return Err(Stop::of_fill(MAX_INPUT_BYTES, error)),
+    };
     over_input(alloc, command, conf, input.bytes())
 }
 
@@ -125,14 +141,18 @@ pub fn over_files<C: OverMessage, F: Shelf, S: Source>(
     requires { C.is_timely command.now }
     ensures report { IfOutcome result (HasOutcome
         (ReportsFiles (C.reports command.now) (option_map (λ word. word.now) name.entry))
-        (Leaves (Some MAX_INPUT_BYTES) (source.new ≡ source.old)
-        (S.left source.old) (S.left source.new)) (F.files shelf.old) (S.left source.old)) }
+        (Leaves (Whole MAX_INPUT_BYTES) (source.new ≡ source.old)
+        (S.left source.old) (S.left source.new))
+        (AreFound (F.files shelf.old) (conf_alone (option_map (λ word. word.now) name.entry)))
+        (S.left source.old)) }
     ensures cause { CountsOne (source.new ≡ source.old) (F.faults shelf.old) (F.faults shelf.new)
         (S.faults source.old) (S.faults source.new) result }
     ensures shelf_later { F.faults shelf.old ≤ F.faults shelf.new }
     ensures source_later { S.faults source.old ≤ S.faults source.new }
     ensures few { LosesAtMost (MAX_INPUT_BYTES + 1) (S.left source.old) (S.left source.new) }
-    ensures asked { F.asked shelf.new ≤ F.asked shelf.old + 1 }
+    ensures ended { S.ended source.old ≡ 0 → S.ended source.new ≤ 1 }
+    ensures asked { F.asked shelf.new ≤ F.asked shelf.old
+        + file_count (conf_alone (option_map (λ word. word.now) name.entry)) }
     ensures files { KeepsFiles (F.files shelf.old) (F.files shelf.new) }
     ensures unasked { IfNone name.entry (shelf.new ≡ shelf.old) }
 {

@@ -1,10 +1,11 @@
 //! The top call: all that the program does.
 
-ghost use Rattle.std.specs.Prelude.{◌≡◌, ◌⊎◌, ◌+◌, ◌≤◌, Err, map, string_bytes};
+ghost use Rattle.std.specs.Prelude.{◌≡◌, ◌⊎◌, ◌≤◌, Err, map, string_bytes};
 ghost use Rattle.hms_io.specs.Files.{KeepsFiles};
 ghost use Rattle.command_line.specs.Command.{NoCommand};
-ghost use Rattle.hms.specs.Report.{HasReport, Ends, CountsFaults, CountsReads, LosesAtMost, NamesNoFile, ReadsNoInput};
-ghost use Rattle.output_lines.specs.declared.refusal.Refusal.TheVariants.{Arguments};
+ghost use Rattle.hms.specs.Commands.{NamesNoFile, ReadsNoInput, ReadsWhole, AsksForNamed, ReadsFew};
+ghost use Rattle.hms.specs.Ends.{HasReport, Ends, CountsFaults, CountsReads};
+ghost use Rattle.refusals.specs.declared.refusal.Refusal.TheVariants.{Arguments};
 ghost use Rattle.commands.specs.declared.stop.Stop.TheVariants.{Refused};
 ghost use Rattle.commands.specs.Stops.{IfOutcome};
 ghost use Rattle.hms.specs.tools.Parts.{CountsOne};
@@ -13,7 +14,7 @@ use crate::over_message::over_files;
 use command_line::{Command, read_words};
 use commands::{Outcome, Stop, write_help, write_version};
 use hms_io::{Failed, Shelf, Sink, Source, Status, put_all};
-use output_lines::{MAX_INPUT_BYTES, Refusal};
+use refusals::Refusal;
 use std::alloc::Global;
 
 /// Does what the arguments ask for.
@@ -29,8 +30,11 @@ fn run_command<F: Shelf, S: Source>(
         (S.faults source.old) (S.faults source.new) result }
     ensures shelf_later { F.faults shelf.old ≤ F.faults shelf.new }
     ensures source_later { S.faults source.old ≤ S.faults source.new }
-    ensures few { LosesAtMost (MAX_INPUT_BYTES + 1) (S.left source.old) (S.left source.new) }
-    ensures asked { F.asked shelf.new ≤ F.asked shelf.old + 1 }
+    ensures few { ReadsFew (map string_bytes arguments.now)
+        (S.left source.old) (S.left source.new) }
+    ensures ended { S.ended source.old ≡ 0 → S.ended source.new ≤ 1 }
+    ensures asked { AsksForNamed (map string_bytes arguments.now)
+        (F.asked shelf.old) (F.asked shelf.new) }
     ensures files { KeepsFiles (F.files shelf.old) (F.files shelf.new) }
     ensures refused { NoCommand (map string_bytes arguments.now)
         → result ≡ Err (Refused Arguments) }
@@ -58,8 +62,10 @@ pub fn run<F: Shelf, S: Source, K: Sink>(
     source: &mut S,
     out: &mut K,
 ) -> Status
-    // What the sink took is the report of the arguments, the files and the input, by the status.
-    ensures ends { Ends (map string_bytes arguments.now) (F.files shelf.old)
+    // What the sink took is the report of the arguments, the files and the input, by the status,
+    // for each command that writes nothing before it has read all.
+    ensures ends { ReadsWhole (map string_bytes arguments.now)
+        → Ends (map string_bytes arguments.now) (F.files shelf.old)
         (source.new ≡ source.old) (S.left source.old) (S.left source.new)
         (K.taken out.old) (K.taken out.new) result }
 
@@ -71,9 +77,13 @@ pub fn run<F: Shelf, S: Source, K: Sink>(
     ensures unasked { NamesNoFile (map string_bytes arguments.now) → shelf.new ≡ shelf.old }
     ensures files { KeepsFiles (F.files shelf.old) (F.files shelf.new) }
 
-    // At most one byte past the limit is read, and at most one file is asked for, at any status.
-    ensures few { LosesAtMost (MAX_INPUT_BYTES + 1) (S.left source.old) (S.left source.new) }
-    ensures asked { F.asked shelf.new ≤ F.asked shelf.old + 1 }
+    // At any status at most one byte past the limit is read, the source isn't read after its end,
+    // and at most so many files are asked for as the command names.
+    ensures few { ReadsFew (map string_bytes arguments.now)
+        (S.left source.old) (S.left source.new) }
+    ensures ended { S.ended source.old ≡ 0 → S.ended source.new ≤ 1 }
+    ensures asked { AsksForNamed (map string_bytes arguments.now)
+        (F.asked shelf.old) (F.asked shelf.new) }
 
     // The counts of faults say when a read or a write failed.
     ensures reads { CountsReads (source.new ≡ source.old) result

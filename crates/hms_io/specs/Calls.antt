@@ -2,6 +2,7 @@
 use Rattle.std.specs.Prelude.{ℕ, ◌==◌, Bool, List}
 use Rattle.std.specs.List.{list_any}
 
+-- what a device in memory keeps of its calls: those that are to fail, and what was counted
 pub record CallLog : Type 0 where
   -- the numbers of the calls that fail
   pub fails : List ℕ

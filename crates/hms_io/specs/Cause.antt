@@ -7,7 +7,7 @@ use Rattle.hms_io.specs.declared.read_write.FillError.TheVariants.{Memory, Faile
 abbrev pub one_more : ℕ → ℕ
 one_more count = min (count + 1) (2 ^ 64 - 1)
 
--- the count rose, or stands at its last value
+-- the count rose, or is at its last value
 abbrev pub Rose : ℕ → ℕ → Type 0
 Rose before now = one_more before ≤ now
 

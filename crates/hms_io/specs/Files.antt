@@ -11,7 +11,7 @@ use Rattle.hms_io.specs.declared.whole_file.FileError.TheVariants.{Memory, Faile
 abbrev pub FileMap : Type 0
 FileMap = map.FinMap (slice_cmp nat_cmp) (List ℕ)
 
--- the first bytes of the file stand in the piece, as many as fit, and a missing file gives None
+-- the first bytes of the file are in the piece, as many as fit, and a missing file gives None
 abbrev pub GivesFile : Option (List ℕ) → List ℕ → Option ℕ → Type 0
 GivesFile None piece None = ⊤
 GivesFile (Some file) piece (Some n) =

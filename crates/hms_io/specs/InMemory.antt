@@ -3,12 +3,16 @@ use Rattle.std.specs.Prelude.{ℕ, List, Bool, length, ◌==◌}
 use Rattle.hms_io.specs.Calls.{CallLog}
 use Rattle.hms_io.specs.Files.{FileMap}
 
+-- a source in memory: the bytes that it has left, how many it gives at once, its calls
 pub record MemorySource : Type 0 where
   pub left : List ℕ
+  -- how many calls were made from the one on that reported the end, at most 2^64 - 1
+  pub ended : ℕ
   -- the most bytes that one call gives
   pub piece : ℕ
   pub calls : CallLog
 
+-- a sink in memory: the bytes that it took, its room, how many it takes at once, its calls
 pub record MemorySink : Type 0 where
   pub taken : List ℕ
   -- the most bytes that it takes in all
@@ -21,6 +25,7 @@ pub record MemorySink : Type 0 where
 abbrev pub is_full : MemorySink → Bool
 is_full sink = length sink.taken == sink.room
 
+-- a shelf in memory: its files by their names, and its calls
 pub record MemoryShelf : Type 0 where
   pub files : FileMap
   pub calls : CallLog

@@ -2,11 +2,15 @@
 use Rattle.std.specs.Prelude.{ℕ, ◌-◌, List, Option, length, take}
 use Rattle.std.specs.Option.{option_map}
 
+-- a source over a reader of std: the bytes that it has left, and its faults
 pub record ReaderSource : Type 0 where
   -- the bytes that the reader has left, where they are known
   pub left : Option (List ℕ)
+  -- how many calls were made from the one on that reported the end, at most 2^64 - 1
+  pub ended : ℕ
   pub faults : ℕ
 
+-- a sink over a writer of std: the bytes that it took, and its faults
 pub record WriterSink : Type 0 where
   -- the bytes that the writer took and flushed, where they are known
   pub taken : Option (List ℕ)
@@ -14,6 +18,7 @@ pub record WriterSink : Type 0 where
   pub unflushed : ℕ
   pub faults : ℕ
 
+-- a shelf over the files of a folder, of which nothing is known but how often it was asked
 pub record FolderShelf : Type 0 where
   -- how many files were asked for, at most 2^64 - 1
   pub asked : ℕ

@@ -1,5 +1,7 @@
--- What reading does to the bytes that a source has left, where they are known.
-use Rattle.std.specs.Prelude.{◌≡◌, ℕ, ◌≤◌, List, [], length, drop, Option, Some, IfSome}
+-- What reading does to the bytes that a source has left, where they are known, and to the count of
+-- the calls from its end on.
+use Rattle.std.specs.Prelude.{◌≡◌, ℕ, ◌==◌, ◌≤◌, nat_lt, Bool, false, ◌&&◌, ◌||◌, if◌then◌else◌, List, [], length, drop, Option, Some, IfSome, Result, Ok, Err}
+use Rattle.hms_io.specs.Cause.{one_more}
 
 -- the text is all that was left, and nothing is left now
 abbrev pub GivesAll : Option (List ℕ) → Option (List ℕ) → List ℕ → Type 0
@@ -8,3 +10,12 @@ GivesAll before now text = IfSome before (λ all. (text ≡ all) × (now ≡ Som
 -- just the first n bytes are gone
 abbrev pub LosesPrefix : Option (List ℕ) → Option (List ℕ) → ℕ → Type 0
 LosesPrefix before now n = IfSome before (λ all. (n ≤ length all) × (now ≡ Some (drop n all)))
+
+-- the answer for the piece reports the end: 0, where the piece isn't empty
+abbrev pub reports_end : {E : Type 0} → Result ℕ E → List ℕ → Bool
+reports_end (Ok count) piece = count == 0 && nat_lt 0 (length piece)
+reports_end (Err error) piece = false
+
+-- the count of the calls from the one on that reported the end, after one more call
+abbrev pub calls_from_end : ℕ → Bool → ℕ
+calls_from_end count is_end = if is_end || nat_lt 0 count then one_more count else count

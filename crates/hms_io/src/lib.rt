@@ -12,6 +12,7 @@
 
 mod calls;
 mod dir_shelf;
+mod end;
 mod faults;
 mod mem_shelf;
 mod mem_sink;

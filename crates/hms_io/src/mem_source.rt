@@ -5,8 +5,10 @@ ghost use Rattle.std.specs.Io.{ReadsAtMost};
 ghost use Rattle.std.specs.Io.KnownBytes.{ReadConsumes};
 ghost use Rattle.hms_io.specs.Calls.{fails_next};
 ghost use Rattle.hms_io.specs.Cause.{HasCause, one_more};
+ghost use Rattle.hms_io.specs.Reading.{calls_from_end, reports_end};
 
 use crate::calls::Calls;
+use crate::end::EndCount;
 use crate::faults::Failed;
 use crate::source::Source;
 use sfv_text::Memory;
@@ -20,6 +22,7 @@ pub struct MemSource {
     bytes: Vec<u8>,
     at: usize,
     piece: usize,
+    ended: EndCount,
     calls: Calls,
 }
 
@@ -31,6 +34,7 @@ impl Model for MemSource {
 
     ghost view = { λ s. record {
       left = drop s.at s.bytes.items;
+      ended = s.ended;
       piece = s.piece;
       calls = s.calls;
     } };
@@ -50,6 +54,7 @@ impl MemSource {
         requires { 1 ≤ piece }
         ensures { IfOk result (λ s. s ≡ record {
           left = bytes.now;
+          ended = 0;
           piece = piece;
           calls = record { fails = fails.now; made = 0; faults = 0 };
         }) }
@@ -60,6 +65,7 @@ impl MemSource {
             bytes,
             at: 0,
             piece,
+            ended: EndCount::new(),
             calls,
         })
     }
@@ -72,10 +78,14 @@ impl Source for MemSource {
 
     ghost faults = { λ s. s.calls.faults };
 
+    ghost ended = { λ s. s.ended };
+
     fn read(&mut self, into: &mut [u8]) -> Result<usize, Failed>
         ensures bound { ReadsAtMost result into.new }
         ensures bytes { ReadConsumes (Some self.old.left) (Some self.new.left) result into.new }
         ensures cause { HasCause self.old.calls.faults self.new.calls.faults result }
+        ensures ended { self.new.ended ≡
+            calls_from_end self.old.ended (reports_end result into.new) }
 
         // It fails at the given calls alone, and else gives as much as it may.
         ensures fails { is_err result ≡ fails_next self.old.calls }
@@ -88,12 +98,16 @@ impl Source for MemSource {
         ensures same_fails { self.new.calls.fails ≡ self.old.calls.fails }
         ensures same_piece { self.new.piece ≡ self.old.piece }
     {
-        self.calls.next()?;
+        if let Err(failed) = self.calls.next() {
+            self.ended.count_call(false);
+            return Err(failed);
+        }
         let left = self.bytes.len() - self.at;
         let amount = left.min(self.piece).min(into.len());
         let end = self.at + amount;
         into[..amount].copy_from_slice(&self.bytes[self.at..end]);
         self.at = end;
+        self.ended.count_call(amount == 0 && !into.is_empty());
         Ok(amount)
     }
 }

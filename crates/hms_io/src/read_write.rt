@@ -80,6 +80,9 @@ pub fn fill<S: Source>(alloc: Global, source: &mut S, limit: usize) -> Result<Te
     ensures needed { IsErrOf result FillError.Memory →
         IfSome (S.left source.old) (λ all. 1 ≤ length all) }
     ensures later { S.faults source.old ≤ S.faults source.new }
+
+    // Once the end was reported, the source isn't read again.
+    ensures ended { S.ended source.old ≡ 0 → S.ended source.new ≤ 1 }
     ensures cause { MatchResult result (λ _. S.faults source.new ≡ S.faults source.old)
         (HasFillCause (S.faults source.old) (S.faults source.new)) }
 {

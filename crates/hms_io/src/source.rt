@@ -1,9 +1,10 @@
 //! What gives bytes.
 
-ghost use Rattle.std.specs.Prelude.{ℕ, List, Option};
+ghost use Rattle.std.specs.Prelude.{◌≡◌, ℕ, List, Option};
 ghost use Rattle.std.specs.Io.{ReadsAtMost};
 ghost use Rattle.std.specs.Io.KnownBytes.{ReadConsumes};
 ghost use Rattle.hms_io.specs.Cause.{HasCause};
+ghost use Rattle.hms_io.specs.Reading.{calls_from_end, reports_end};
 
 use crate::faults::Failed;
 
@@ -19,10 +20,15 @@ pub trait Source {
     // How many faults were counted.
     ghost faults: { Self → ℕ };
 
+    // How many calls were made from the one on that reported the end, up to 2^64 - 1.
+    ghost ended: { Self → ℕ };
+
     /// Gives bytes at the start of the piece, and answers how many. 0 for a piece that isn't empty
     /// means the end. A failed call gives none, but may have changed the piece.
     fn read(&mut self, into: &mut [u8]) -> Result<usize, Failed>
         ensures bound { ReadsAtMost result into.new }
         ensures bytes { ReadConsumes (left self.old) (left self.new) result into.new }
-        ensures cause { HasCause (faults self.old) (faults self.new) result };
+        ensures cause { HasCause (faults self.old) (faults self.new) result }
+        ensures ended { ended self.new ≡
+            calls_from_end (ended self.old) (reports_end result into.new) };
 }

@@ -4,7 +4,9 @@ ghost use Rattle.std.specs.Prelude.{◌≡◌, OnErr};
 ghost use Rattle.std.specs.Io.{ReadsAtMost};
 ghost use Rattle.std.specs.Io.KnownBytes.{ReadConsumes};
 ghost use Rattle.hms_io.specs.Cause.{HasCause, one_more};
+ghost use Rattle.hms_io.specs.Reading.{calls_from_end, reports_end};
 
+use crate::end::EndCount;
 use crate::faults::{Failed, Faults};
 use crate::source::Source;
 use std::io::Read;
@@ -15,6 +17,7 @@ use std::marker::Model;
 #[derive(Drop)]
 pub struct StdSource<R: Read> {
     reader: R,
+    ended: EndCount,
     faults: Faults,
 }
 
@@ -23,18 +26,33 @@ impl<R: Read> Model for StdSource<R> {
 
     ghost Value = { ReaderSource };
 
-    ghost view = { λ s. record { left = R.remaining s.reader; faults = s.faults } };
+    ghost view = { λ s. record {
+      left = R.remaining s.reader;
+      ended = s.ended;
+      faults = s.faults;
+    } };
 }
 
 impl<R: Read> StdSource<R> {
     /// A source of what the reader gives.
     pub fn new(reader: R) -> StdSource<R>
-        ensures { result ≡ record { left = R.remaining reader; faults = 0 } }
+        ensures { result ≡ record { left = R.remaining reader; ended = 0; faults = 0 } }
     {
         StdSource {
             reader,
+            ended: EndCount::new(),
             faults: Faults::new(),
         }
+    }
+}
+
+// Whether the answer for the piece reports the end.
+fn is_end(answer: &Result<usize, Failed>, piece: &[u8]) -> bool
+    ensures { result ≡ reports_end answer.now piece.now }
+{
+    match answer {
+        Ok(count) => *count == 0 && !piece.is_empty(),
+        Err(_) => false,
     }
 }
 
@@ -43,12 +61,18 @@ impl<R: Read> Source for StdSource<R> {
 
     ghost faults = { λ s. s.faults };
 
+    ghost ended = { λ s. s.ended };
+
     fn read(&mut self, into: &mut [u8]) -> Result<usize, Failed>
         ensures bound { ReadsAtMost result into.new }
         ensures bytes { ReadConsumes self.old.left self.new.left result into.new }
         ensures cause { HasCause self.old.faults self.new.faults result }
+        ensures ended { self.new.ended ≡
+            calls_from_end self.old.ended (reports_end result into.new) }
         ensures counts_one { OnErr result (self.new.faults ≡ one_more self.old.faults) }
     {
-        self.faults.check(self.reader.read(into))
+        let answer = self.faults.check(self.reader.read(into));
+        self.ended.count_call(is_end(&answer, into));
+        answer
     }
 }

@@ -49,7 +49,7 @@ IsBodyError ToEnd count start fault bytes =
     (MAX_CONTENT_BYTES < length bytes) × (fault ≡ ContentTooLong)
 IsBodyError Chunked count start fault bytes = IsChunkedError start fault bytes
 
--- bytes of the content, or of what ends it, are missing after a head, and none is wrong
+-- bytes of the content are missing after a head, or the end of its chunks or its trailer section
 abbrev pub IsBodyUnfinished : Framing → ℕ → List ℕ → Type 0
 IsBodyUnfinished None count bytes = ⊥
 IsBodyUnfinished Length count bytes = (count ≤ MAX_CONTENT_BYTES) × (length bytes < count)
@@ -87,7 +87,7 @@ IsMessageError expect to_head bytes fault =
     ((cause : HeadError) × IsHeadError bytes cause × (fault ≡ error_of cause))
     ⊎ After SpellsHead (IsErrorAfterHead expect to_head fault) bytes
 
--- No fault is in the bytes, and more are missing: the end of the head may still come, or the
+-- No fault is judged yet, and bytes are missing: the end of the head may still come, or the
 -- head is whole, of the expected kind and framed, and its body's end may.
 abbrev pub IsMessageUnfinished : Expect → Bool → List ℕ → Type 0
 IsMessageUnfinished expect to_head bytes =

@@ -7,6 +7,7 @@ use Rattle.msg_body.specs.declared.content.ContentPieces.{ContentPieces}
 use Rattle.msg_body.specs.declared.content.ContentPieces.TheVariants as pieces
 use Rattle.msg_body.specs.Views.{BodyParts, plain_parts, chunked_parts}
 
+-- what a view of a body has: the content in one piece, or chunks and a trailer section
 abbrev pub body_parts : BodyView → BodyParts
 body_parts (body.Plain content) = plain_parts content.now
 body_parts (body.Chunked chunks trailer) = chunked_parts chunks trailer

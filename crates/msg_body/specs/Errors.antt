@@ -18,19 +18,19 @@ error_of head.BadStart = BadStart
 error_of (head.TooManyLines side) = TooManyLines side
 error_of (head.BadLine side index) = BadLine side index
 
--- for this error of what says how its content ends
+-- the error of a message for this error of what says how its content ends
 abbrev pub framing_error : FramingError → MessageError
 framing_error framing.Conflict = FramingConflict
 framing_error framing.BadLength = BadLength
 framing_error framing.CodingRefused = CodingRefused
 
--- for this error of its chunks, which begin at the offset
+-- the error of a message for this error of its chunks, which begin at the offset
 abbrev pub chunk_error : ℕ → ChunkError → MessageError
 chunk_error start chunk.Memory = Memory
 chunk_error start chunk.TooLong = ContentTooLong
 chunk_error start (chunk.Bad offset) = BadChunk (start + offset)
 
--- for this error of its trailer section, which begins at the offset
+-- the error of a message for this error of its trailer section, which begins at the offset
 abbrev pub trailer_error : ℕ → HeadError → MessageError
 trailer_error start head.Memory = Memory
 trailer_error start (head.TooLong side) = TooLong side

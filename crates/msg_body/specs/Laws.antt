@@ -7,7 +7,7 @@ use Rattle.msg_body.specs.declared.error.MessageError.{MessageError}
 use Rattle.msg_body.specs.Causes.{IsMessageError, IsMessageUnfinished}
 use Rattle.msg_body.specs.Messages.{Message, Spells, SpellsMessage, is_expected}
 
--- Bytes spell at most one message.
+-- Bytes spell at most one message. It follows from `OneMessageAt`, over the bytes alone.
 abbrev pub OneMessage : Type 0
 OneMessage =
     (to_head : Bool) (bytes : List ℕ) (one other : Message) →

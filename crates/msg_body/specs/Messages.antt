@@ -23,6 +23,7 @@ is_expected Request start = is_request start
 is_expected Response start = not (is_request start)
 is_expected Any start = true
 
+-- the text of a message: its head, and then its body (RFC 9112 section 2.1)
 abbrev pub message_text : Message → List ℕ
 message_text message = head_text message.head ++ body_text message.body
 

@@ -1,6 +1,7 @@
 //! The view of a message.
 
-ghost use Rattle.std.specs.Prelude.{◌≡◌, ◌<◌, length, slice_get, Some};
+ghost use Rattle.std.specs.Prelude.{◌≡◌, ◌<◌, length, filter, slice_get, Some};
+ghost use Rattle.msg_head.specs.Names.{has_name};
 ghost use Rattle.msg_head.specs.Views.{field_line_of, start_line_of};
 ghost use Rattle.msg_body.specs.Views.{message_of, lines_on, message_content};
 ghost use Rattle.msg_body.specs.Content.{body_parts, content_left};
@@ -8,7 +9,7 @@ ghost use Rattle.msg_body.specs.Content.{body_parts, content_left};
 use crate::body::BodyView;
 use crate::content::ContentPieces;
 use framing::Framing;
-use msg_head::{FieldLines, HeadView, LineView, Side, Start};
+use msg_head::{HeadView, LineView, NamedFieldLines, Side, Start};
 use std::marker::Model;
 
 /// A message, borrowed from its bytes. A contract sees it as the views of its head and its body and
@@ -91,15 +92,15 @@ impl<'m> MessageView<'m> {
         }
     }
 
-    /// The field lines of the side, in order.
-    pub fn lines(&self, side: Side) -> FieldLines<'_, 'm>
-        ensures { result ≡ lines_on side (message_of self.now) }
+    /// The field lines of the side that have the name, which is in lower case, in order.
+    pub fn lines_named(&self, side: Side, name: &[u8]) -> NamedFieldLines<'_, 'm>
+        ensures { result ≡ filter (has_name name.now) (lines_on side (message_of self.now)) }
     {
         match side {
-            Side::Header => self.head.lines(),
+            Side::Header => self.head.lines_named(name),
             Side::Trailer => match &self.body {
-                BodyView::Plain(_) => FieldLines::empty(),
-                BodyView::Chunked(_, trailer) => trailer.lines(),
+                BodyView::Plain(_) => NamedFieldLines::empty(),
+                BodyView::Chunked(_, trailer) => trailer.lines_named(name),
             },
         }
     }

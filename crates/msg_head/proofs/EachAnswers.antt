@@ -22,7 +22,7 @@ use Rattle.msg_head.specs.Trailers.{IsTrailerText, SpellsTrailer, IsTrailerSecti
 use Rattle.msg_head.specs.Causes.{IsHeadError, IsFirstBadLine}
 use Rattle.msg_head.specs.TrailerCauses.{IsTrailerError}
 use Rattle.msg_head.specs.Laws.{EachHasAHeadAnswer, EachHasATrailerAnswer}
-use Rattle.msg_head.specs.tools.Texts.{EndsWithLf, BeginsWithCrlf, IsClean, IsCleanUpTo}
+use Rattle.msg_head.specs.tools.Texts.{EndsWithLf, IsClean, IsCleanUpTo}
 use Rattle.msg_head.specs.tools.Prefixes.{BeginsWithStart}
 use Rattle.msg_head.specs.tools.Judged.{IsSectionFault}
 use Rattle.msg_head.specs.tools.TrailerJudged.{IsTrailerSectionFault}

@@ -28,5 +28,7 @@ pub mod Deciding
 pub mod EachAnswers
 mod Bytes
 mod Lowered
+pub mod ByName
+pub mod NamedLists
 mod TextLaws
 mod Unfolded

@@ -1,5 +1,5 @@
 -- Each answer to bytes has its cause, and no two causes are met.
-use Rattle.std.proofs.Common.{◌≢◌, ℕ, inl, inr, List, ◌∷◌, [], ◌++◌, sym, ◌∙◌, arith, append_assoc}
+use Rattle.std.proofs.Common.{◌≢◌, ℕ, List, ◌∷◌, [], ◌++◌, sym, ◌∙◌, arith, append_assoc}
 use Rattle.std.specs.Prelude.{Result, Ok, Err}
 use Rattle.byte_grammar.specs.Causes.{AnswersWhere}
 use Rattle.byte_grammar.proofs.AnswerLaws.{NamesFault, memory_if, answers_where}

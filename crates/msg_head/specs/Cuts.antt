@@ -32,7 +32,7 @@ IsNaked before c after =
     ⊎ ((c ≡ byte "\r") × ((more : List ℕ) → after ≢ byte "\n" ∷ more))
     ⊎ ((c ≡ byte "\n") × ((less : List ℕ) → before ≢ less ++ byte "\r" ∷ []))
 
--- such a byte is in the text at the offset
+-- a naked end is in the text at the offset
 pub record IsNakedEnd (text : List ℕ) (offset : ℕ) : Type 0 where
   pub before : List ℕ
   pub c : ℕ
@@ -41,6 +41,7 @@ pub record IsNakedEnd (text : List ℕ) (offset : ℕ) : Type 0 where
   pub naked : IsNaked before c after
   pub stands : offset ≡ length before
 
+-- the naked end at the offset is the first one of the text
 pub record IsFirstNakedEnd (text : List ℕ) (offset : ℕ) : Type 0 where
   pub is : IsNakedEnd text offset
   pub none_before : (other : ℕ) → other < offset → ¬ IsNakedEnd text other

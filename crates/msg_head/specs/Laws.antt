@@ -16,13 +16,13 @@ OneHead =
     (bytes : List ℕ) (one other : Head) (n m : ℕ) →
     SpellsHead one n bytes → SpellsHead other m bytes → (one ≡ other) × (n ≡ m)
 
--- A text is that of at most one head.
+-- A text is that of at most one head. It follows from `OneHead`, over the text alone.
 abbrev pub OneHeadOfText : Type 0
 OneHeadOfText =
     (bytes : List ℕ) (one other : Head) →
     IsHeadText one bytes → IsHeadText other bytes → one ≡ other
 
--- No head's text is a proper prefix of another head's text.
+-- No head's text is a proper prefix of another head's text. It follows from `OneHead`, too.
 abbrev pub NoHeadInPrefix : Type 0
 NoHeadInPrefix =
     (one other : Head) (n : ℕ) →

@@ -14,6 +14,7 @@ pub record RawPieces : Type 0 where
 abbrev pub is_continuation : List ℕ → Bool
 is_continuation piece = starts_in is_blank piece && list_all is_line_byte piece
 
+-- the first piece has no end of a line in it, and each further one continues it after a fold
 abbrev pub are_pieces : RawPieces → Bool
 are_pieces pieces = list_all is_line_byte pieces.first && list_all is_continuation pieces.continued
 

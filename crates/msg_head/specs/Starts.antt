@@ -4,13 +4,13 @@ use Rattle.std.specs.List.{list_all}
 use Rattle.std.specs.Str.{byte, bytes_eq}
 use Rattle.byte_grammar.specs.Classes.{is_token, is_visible, is_digit, is_line_byte}
 
--- RFC 9112 section 3
+-- a request line: method, target and version (RFC 9112 section 3)
 pub record RequestLine : Type 0 where
   pub method : List ℕ
   pub target : List ℕ
   pub version : List ℕ
 
--- RFC 9112 section 4; there is no reason where the second SP isn't there
+-- a status line (RFC 9112 section 4); there is no reason where the second SP isn't there
 pub record StatusLine : Type 0 where
   pub version : List ℕ
   pub code : List ℕ
@@ -20,7 +20,7 @@ pub record StatusLine : Type 0 where
 abbrev pub is_target : List ℕ → Bool
 is_target text = nat_lt 0 (length text) && list_all is_visible text
 
--- HTTP-version: RFC 9112 section 2.3. Of the versions that it has these two are read.
+-- HTTP-version (RFC 9112 section 2.3): of the versions that it has these two are read
 abbrev pub is_version : List ℕ → Bool
 is_version text = bytes_eq text (codes "HTTP/1.1") || bytes_eq text (codes "HTTP/1.0")
 
@@ -55,15 +55,17 @@ abbrev pub status_text : StatusLine → List ℕ
 status_text line =
     line.version ++ byte " " ∷ (line.code ++ (reason_text line.reason ++ codes "\r\n"))
 
--- RFC 9112 section 2.1
+-- a start line is one of the two (RFC 9112 section 2.1)
 pub data StartLine : Type 0 where
   request : RequestLine → StartLine
   status : StatusLine → StartLine
 
+-- the parts are those of a request line or of a status line (RFC 9112 section 2.1)
 abbrev pub IsStartLine : StartLine → Type 0
 IsStartLine (request line) = IsRequestLine line
 IsStartLine (status line) = IsStatusLine line
 
+-- the text of a start line, CRLF at its end (RFC 9112 section 2.1)
 abbrev pub start_text : StartLine → List ℕ
 start_text (request line) = request_text line
 start_text (status line) = status_text line

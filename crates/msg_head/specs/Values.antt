@@ -20,13 +20,14 @@ pub record IsTrimmed (piece text : List ℕ) : Type 0 where
   pub first : IsFalse (starts_in is_blank text)
   pub last : IsFalse (starts_in is_blank (reverse text))
 
--- each piece's text
+-- these are the texts of the pieces, one for each
 abbrev pub AreTrimmed : List (List ℕ) → List (List ℕ) → Type 0
 AreTrimmed [] [] = ⊤
 AreTrimmed (piece ∷ pieces) (text ∷ texts) = IsTrimmed piece text × AreTrimmed pieces texts
 AreTrimmed [] (text ∷ texts) = ⊥
 AreTrimmed (piece ∷ pieces) [] = ⊥
 
+-- the text isn't empty
 abbrev pub has_bytes : List ℕ → Bool
 has_bytes text = nat_lt 0 (length text)
 

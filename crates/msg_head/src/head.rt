@@ -14,6 +14,7 @@ use crate::error::{HeadError, Side};
 use crate::limits::MAX_HEAD_BYTES;
 use crate::line::read_lines;
 use crate::section::{first_fault, head_section};
+use crate::section_lines::SectionLines;
 use crate::slices::prefix_of;
 use crate::start::read_start;
 use crate::view::HeadView;
@@ -39,7 +40,8 @@ fn read_section<'m>(alloc: Global, section: &'m [u8]) -> Result<HeadView<'m>, He
         return Err(HeadError::BadStart);
     };
     let spans = read_lines(alloc, Side::Header, section, rest)?;
-    Ok(HeadView::new(section, start, spans))
+    let lines = SectionLines::new(alloc, section, spans)?;
+    Ok(HeadView::new(start, lines))
 }
 
 // The answer to bytes, by its cause.

@@ -2,8 +2,9 @@
 //! lines after chunked content. And of each field line its name and its value (RFC 9110 section
 //! 5.1, RFC 9421 section 2.1).
 //!
-//! A head is read from the start of the bytes that hold it, and the view of it borrows them. Raw
-//! values keep their obsolete line folding. The value of a line comes as borrowed pieces: its raw
+//! A head is read from the start of the bytes that hold it, and the view of it borrows them. It
+//! keeps the lines in order of their names too, by which the lines of a name are found. Raw values
+//! keep their obsolete line folding. The value of a line comes as borrowed pieces: its raw
 //! value without the blanks at its ends, each run of blanks and obsolete folds in it replaced by
 //! one space.
 //!
@@ -18,14 +19,16 @@
 
 mod blanks;
 mod error;
-mod field_lines;
 mod head;
+mod index;
 mod laws;
 mod limits;
 mod line;
 mod name;
+mod named_lines;
 mod pieces;
 mod section;
+mod section_lines;
 mod slices;
 mod start;
 mod trailer;
@@ -33,11 +36,11 @@ mod value;
 mod view;
 
 pub use error::{HeadError, Side};
-pub use field_lines::FieldLines;
 pub use head::{HeadRead, read_head};
 pub use laws::{head_laws, heads_have_one_answer, trailers_have_one_answer, value_laws};
 pub use limits::{MAX_HEAD_BYTES, MAX_HEAD_LINES};
 pub use line::{LineSpan, LineView};
+pub use named_lines::NamedFieldLines;
 pub use pieces::Pieces;
 pub use start::Start;
 pub use trailer::{TrailerRead, TrailerView, read_trailer};

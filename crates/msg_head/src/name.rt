@@ -7,8 +7,8 @@ ghost use Rattle.msg_head.specs.Names.{has_name};
 
 use crate::line::LineView;
 
-// Whether the text in lower case is the name.
-fn is_lowered(text: &[u8], name: &[u8]) -> bool
+/// Whether the text in lower case is the name.
+pub(crate) fn is_lowered(text: &[u8], name: &[u8]) -> bool
     ensures { result ≡ bytes_eq (str_to_ascii_lowercase text.now) name.now }
 {
     text.len() == name.len()

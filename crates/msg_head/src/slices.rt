@@ -1,7 +1,7 @@
 //! Parts of slices of bytes.
 
 ghost use Rattle.std.specs.Prelude.{◌≡◌, ◌≢◌, ◌++◌, ℕ, List, [], ◌∷◌, ◌≤◌, length, take, drop, false, IfSome, IfNone, IsTrue, IsFalse, codes};
-ghost use Rattle.std.specs.List.{list_all};
+ghost use Rattle.std.specs.List.{list_all, slice_range};
 ghost use Rattle.std.specs.Str.{byte};
 ghost use Rattle.msg_head.specs.tools.Texts.{BeginsWithCrlf};
 ghost use Rattle.msg_head.specs.tools.Prefixes.{StandsBefore, NoneStandsBefore};
@@ -25,6 +25,16 @@ pub(crate) fn rest_from(bytes: &[u8], offset: usize) -> &[u8]
     ensures { result.now ≡ drop offset bytes.now }
 {
     &bytes[offset..]
+}
+
+/// The bytes from the one offset up to the other, as many of them as there are.
+pub(crate) fn part_of(bytes: &[u8], begin: usize, end: usize) -> &[u8]
+    ensures { result.now ≡ slice_range bytes.now begin end }
+{
+    if bytes.len() < begin || end < begin {
+        return &[];
+    }
+    prefix_of(rest_from(bytes, begin), end - begin)
 }
 
 /// What comes after the prefix, where the bytes begin with it.

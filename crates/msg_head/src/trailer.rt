@@ -1,6 +1,6 @@
 //! Reads a trailer section.
 
-ghost use Rattle.std.specs.Prelude.{◌≡◌, ◌≢◌, ℕ, ◌<◌, ◌≤◌, ◌↔◌, List, length, slice_get, Some, IsTrue, IfOk, IfErr, Ok};
+ghost use Rattle.std.specs.Prelude.{◌≡◌, ◌≢◌, ℕ, ◌≤◌, ◌↔◌, List, length, IfOk, IfErr, Ok};
 ghost use Rattle.byte_grammar.specs.Causes.{AnswersWhere};
 ghost use Rattle.msg_head.specs.Lines.{FieldLine};
 ghost use Rattle.msg_head.specs.Trailers.{SpellsTrailer, IsTrailerSection, IsTrailerUnfinished};
@@ -11,54 +11,52 @@ ghost use Rattle.msg_head.specs.tools.Texts.{IsClean};
 ghost use Rattle.msg_head.specs.tools.TrailerJudged.{IsTrailerSectionView, IsTrailerSectionFault, ExplainsTrailer};
 
 use crate::error::{HeadError, Side};
-use crate::field_lines::FieldLines;
 use crate::limits::MAX_HEAD_BYTES;
-use crate::line::{LineSpan, LineView, line_at, read_lines};
+use crate::line::{LineView, read_lines};
+use crate::named_lines::NamedFieldLines;
 use crate::section::{first_fault, trailer_section};
+use crate::section_lines::SectionLines;
 use crate::slices::prefix_of;
 use std::alloc::Global;
 use std::marker::Model;
 
 /// A trailer section, borrowed from its bytes. A contract sees it as the bytes and the offsets of
-/// the field lines.
+/// the field lines, which fill the bytes.
 #[derive(Debug, Drop)]
 pub struct TrailerView<'m> {
-    bytes: &'m [u8],
-    lines: Vec<LineSpan>,
+    section: SectionLines<'m>,
 }
 
 impl<'m> Model for TrailerView<'m> {
-    ghost use Rattle.std.specs.Prelude.{length, IsTrue};
-    ghost use Rattle.std.specs.List.{list_all};
-    ghost use Rattle.msg_head.specs.Views.{lies_in};
-    ghost use Rattle.msg_head.specs.TrailerViews.{TrailerParts};
+    ghost use Rattle.msg_head.specs.TrailerViews.{TrailerParts, TrailerFills};
 
     ghost Value = { TrailerParts };
 
-    ghost view = { λ t. record { bytes = t.bytes.now; spans = t.lines.items } };
+    ghost view = { λ t. t.section };
 
-    ghost invariant = { λ t. IsTrue (list_all (lies_in (length t.bytes.now)) t.lines.items) };
+    ghost invariant = { λ t. TrailerFills t.section };
 }
 
 impl<'m> TrailerView<'m> {
-    ghost use Rattle.std.specs.Prelude.{◌≡◌, ◌<◌, length, slice_get, Some, IsTrue};
-    ghost use Rattle.std.specs.List.{list_all};
-    ghost use Rattle.msg_head.specs.Views.{lies_in, field_line_of};
-    ghost use Rattle.msg_head.specs.TrailerViews.{trailer_lines_of};
+    ghost use Rattle.std.specs.Prelude.{◌≡◌, ◌<◌, length, filter, slice_get, Some};
+    ghost use Rattle.msg_head.specs.Names.{has_name};
+    ghost use Rattle.msg_head.specs.Views.{field_line_of};
+    ghost use Rattle.msg_head.specs.TrailerViews.{TrailerFills, trailer_lines_of};
 
-    // The view of a trailer section whose field lines are at these offsets.
-    fn new(bytes: &'m [u8], lines: Vec<LineSpan>) -> TrailerView<'m>
-        requires { IsTrue (list_all (lies_in (length bytes.now)) lines.items) }
-        ensures { result ≡ record { bytes = bytes.now; spans = lines.items } }
+    // The view of a trailer section of these field lines.
+    fn new(section: SectionLines<'m>) -> TrailerView<'m>
+        requires { TrailerFills section }
+        ensures { result ≡ section.entry }
     {
-        TrailerView { bytes, lines }
+        TrailerView { section }
     }
 
     /// How many field lines there are.
     pub fn line_count(&self) -> usize
-        ensures { result ≡ length self.now.spans }
+        ensures count { result ≡ length self.now.spans }
+        ensures fills { TrailerFills self.now }
     {
-        self.lines.len()
+        self.section.count()
     }
 
     /// The field line with that index in their order.
@@ -66,14 +64,15 @@ impl<'m> TrailerView<'m> {
         requires { index < length self.now.spans }
         ensures { slice_get (trailer_lines_of self.now) index ≡ Some (field_line_of result) }
     {
-        line_at(self.bytes, self.lines[index])
+        self.section.line(index)
     }
 
-    /// The field lines, in order.
-    pub fn lines(&self) -> FieldLines<'_, 'm>
-        ensures { result ≡ trailer_lines_of self.now }
+    /// The field lines that have the name, which is in lower case, in order. They are found in
+    /// steps in proportion to the logarithm of the number of field lines.
+    pub fn lines_named(&self, name: &[u8]) -> NamedFieldLines<'_, 'm>
+        ensures { result ≡ filter (has_name name.now) (trailer_lines_of self.now) }
     {
-        FieldLines::new(self.bytes, &self.lines)
+        self.section.lines_named(name)
     }
 }
 
@@ -95,7 +94,8 @@ fn read_section<'m>(alloc: Global, section: &'m [u8]) -> Result<TrailerView<'m>,
         → IfErr result (λ fault. IsTrailerSectionFault section.now fault) }
 {
     let spans = read_lines(alloc, Side::Trailer, section, section)?;
-    Ok(TrailerView::new(section, spans))
+    let lines = SectionLines::new(alloc, section, spans)?;
+    Ok(TrailerView::new(lines))
 }
 
 // The answer to bytes, by its cause.

@@ -1,54 +1,56 @@
 //! The view of a head.
 
-ghost use Rattle.std.specs.Prelude.{◌≡◌, ◌<◌, length, slice_get, Some, IsTrue};
-ghost use Rattle.std.specs.List.{list_all};
-ghost use Rattle.msg_head.specs.Views.{View, lies_in, lines_of, field_line_of, start_line_of};
+ghost use Rattle.std.specs.Prelude.{◌≡◌, ◌<◌, length, filter, slice_get, Some};
+ghost use Rattle.msg_head.specs.Names.{has_name};
+ghost use Rattle.msg_head.specs.Views.{View, Fills, lines_of, field_line_of, start_line_of};
 
-use crate::field_lines::FieldLines;
-use crate::line::{LineSpan, LineView, line_at};
+use crate::line::LineView;
+use crate::named_lines::NamedFieldLines;
+use crate::section_lines::SectionLines;
 use crate::start::Start;
 use std::marker::Model;
 
 /// A head, borrowed from its bytes. A contract sees it as the bytes, the start line and the offsets
-/// of the field lines, of which the head that they spell is a function.
+/// of the field lines, of which the head that they spell is a function. These fill the bytes.
 #[derive(Debug, Drop)]
 pub struct HeadView<'m> {
-    bytes: &'m [u8],
     start: Start<'m>,
-    lines: Vec<LineSpan>,
+    section: SectionLines<'m>,
 }
 
 impl<'m> Model for HeadView<'m> {
-    ghost use Rattle.std.specs.Prelude.{length, IsTrue};
-    ghost use Rattle.std.specs.List.{list_all};
-    ghost use Rattle.msg_head.specs.Views.{View, start_line_of, lies_in};
+    ghost use Rattle.msg_head.specs.Views.{View, Fills, start_line_of};
 
     ghost Value = { View };
 
     ghost view = { λ h. record {
-      bytes = h.bytes.now;
+      bytes = h.section.bytes;
       start = start_line_of h.start;
-      spans = h.lines.items;
+      spans = h.section.spans;
     } };
 
-    ghost invariant = { λ h. IsTrue (list_all (lies_in (length h.bytes.now)) h.lines.items) };
+    ghost invariant = { λ h. Fills (record {
+      bytes = h.section.bytes;
+      start = start_line_of h.start;
+      spans = h.section.spans;
+    }) };
 }
 
 impl<'m> HeadView<'m> {
-    /// The view of a head whose field lines are at these offsets.
-    pub(crate) fn new(bytes: &'m [u8], start: Start<'m>, lines: Vec<LineSpan>) -> HeadView<'m>
-        requires { IsTrue (list_all (lies_in (length bytes.now)) lines.items) }
+    /// The view of a head of this start line and these field lines.
+    pub(crate) fn new(start: Start<'m>, section: SectionLines<'m>) -> HeadView<'m>
+        requires { Fills (record {
+          bytes = section.bytes;
+          start = start_line_of start;
+          spans = section.spans;
+        }) }
         ensures { result ≡ record {
-          bytes = bytes.now;
+          bytes = section.entry.bytes;
           start = start_line_of start.entry;
-          spans = lines.items;
+          spans = section.entry.spans;
         } }
     {
-        HeadView {
-            bytes,
-            start,
-            lines,
-        }
+        HeadView { start, section }
     }
 
     /// The start line.
@@ -60,9 +62,10 @@ impl<'m> HeadView<'m> {
 
     /// How many field lines there are.
     pub fn line_count(&self) -> usize
-        ensures { result ≡ length self.now.spans }
+        ensures count { result ≡ length self.now.spans }
+        ensures fills { Fills self.now }
     {
-        self.lines.len()
+        self.section.count()
     }
 
     /// The field line with that index in their order.
@@ -70,13 +73,14 @@ impl<'m> HeadView<'m> {
         requires { index < length self.now.spans }
         ensures { slice_get (lines_of self.now) index ≡ Some (field_line_of result) }
     {
-        line_at(self.bytes, self.lines[index])
+        self.section.line(index)
     }
 
-    /// The field lines, in order.
-    pub fn lines(&self) -> FieldLines<'_, 'm>
-        ensures { result ≡ lines_of self.now }
+    /// The field lines that have the name, which is in lower case, in order. They are found in
+    /// steps in proportion to the logarithm of the number of field lines.
+    pub fn lines_named(&self, name: &[u8]) -> NamedFieldLines<'_, 'm>
+        ensures { result ≡ filter (has_name name.now) (lines_of self.now) }
     {
-        FieldLines::new(self.bytes, &self.lines)
+        self.section.lines_named(name)
     }
 }

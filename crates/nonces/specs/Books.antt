@@ -12,6 +12,7 @@ pub record Entry : Type 0 where
   -- the last moment at which it would be accepted, had it not been seen
   pub until : ℕ
 
+-- the entries that are remembered at a moment, and how many and how long they may be
 pub record Book : Type 0 where
   pub entries : List Entry
   -- how many entries it can hold
@@ -20,19 +21,20 @@ pub record Book : Type 0 where
   pub window : ℕ
   pub moment : ℕ
 
+-- the book of these parts
 abbrev pub book_of : List Entry → ℕ → ℕ → ℕ → Book
 book_of entries capacity window moment =
     record { entries = entries; capacity = capacity; window = window; moment = moment }
 
--- it lives at this moment
+-- the entry lives at this moment
 abbrev pub is_live : ℕ → Entry → Bool
 is_live now entry = nat_le now entry.until
 
--- those that live at this moment
+-- the entries that live at this moment
 abbrev pub live_entries : ℕ → List Entry → List Entry
 live_entries now entries = filter (is_live now) entries
 
--- it has this keyid and this nonce
+-- the entry has this keyid and this nonce
 abbrev pub is_of : List ℕ → List ℕ → Entry → Bool
 is_of keyid nonce entry = bytes_eq entry.keyid keyid && bytes_eq entry.nonce nonce
 
@@ -40,7 +42,7 @@ is_of keyid nonce entry = bytes_eq entry.keyid keyid && bytes_eq entry.nonce non
 abbrev pub is_seen : List ℕ → List ℕ → List Entry → Bool
 is_seen keyid nonce entries = list_any (is_of keyid nonce) entries
 
--- no keyid stands twice with the same nonce
+-- no keyid is there twice with the same nonce
 abbrev pub HasDistinctNonces : List Entry → Type 0
 HasDistinctNonces entries = (keyid nonce : List ℕ) → count_by (is_of keyid nonce) entries ≤ 1
 
@@ -49,7 +51,7 @@ pub record HaveSameEntries (xs ys : List Entry) : Type 0 where
   pub members : (entry : Entry) → Contains xs entry ↔ Contains ys entry
   pub length : length xs ≡ length ys
 
--- it holds as many entries as it can
+-- the book holds as many entries as it can
 abbrev pub is_full : Book → Bool
 is_full book = length book.entries == book.capacity
 

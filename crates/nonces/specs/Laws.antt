@@ -6,11 +6,11 @@ use Rattle.nonces.specs.Books.{Entry, HasDistinctNonces, HaveSameEntries, is_see
 abbrev pub IsSameAsItself : Type 0
 IsSameAsItself = (xs : List Entry) → HaveSameEntries xs xs
 
--- whichever of the two comes first
+-- two lists have the same entries, whichever of them comes first
 abbrev pub IsSameBothWays : Type 0
 IsSameBothWays = (xs ys : List Entry) → HaveSameEntries xs ys → HaveSameEntries ys xs
 
--- by a third that has the same entries as both
+-- two lists have the same entries, where both have those of a third
 abbrev pub IsSameThrough : Type 0
 IsSameThrough =
     (xs ys zs : List Entry) → HaveSameEntries xs ys → HaveSameEntries ys zs → HaveSameEntries xs zs
@@ -21,13 +21,13 @@ IsSeenAlike =
     (xs ys : List Entry) (keyid nonce : List ℕ) → HaveSameEntries xs ys
     → is_seen keyid nonce xs ≡ is_seen keyid nonce ys
 
--- with one more entry they still have the same
+-- two lists that have the same entries have them with one more, too
 abbrev pub IsSameWithOneMore : Type 0
 IsSameWithOneMore =
     (xs ys : List Entry) (entry : Entry) → HaveSameEntries xs ys
     → HaveSameEntries (entry ∷ xs) (entry ∷ ys)
 
--- the same of them live
+-- of two lists that have the same entries the same ones live
 abbrev pub HaveSameLive : Type 0
 HaveSameLive =
     (now : ℕ) (xs ys : List Entry) → HasDistinctNonces xs → HasDistinctNonces ys

@@ -2,6 +2,7 @@
 use Rattle.settings.specs.declared.conf.Conf.{Conf}
 use Rattle.settings.specs.Configuration.{Configuration}
 
+-- the configuration that a `Conf` stands for, part by part
 abbrev pub meaning : Conf → Configuration
 meaning conf =
     record {

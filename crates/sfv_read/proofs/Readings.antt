@@ -8,7 +8,7 @@ use Rattle.byte_grammar.proofs.Laws.{ok_is}
 use Rattle.byte_grammar.proofs.Whole.{Judges, judges, one_value}
 use Rattle.sfv_read.specs.declared.error.SfError.{SfError}
 use Rattle.sfv_read.specs.declared.error.SfError.TheVariants.{Memory, Syntax, ItemKind}
-use Rattle.sfv_read.specs.Laws.{HasOneValue, IsDecided}
+use Rattle.sfv_read.specs.Laws.{HasOneValue, HasValueOrNone}
 use Rattle.sfv_read.specs.Fault.{IsRead, IsSfError, BeginsItemKind}
 use Rattle.sfv_read.specs.tools.Answers.{StopsAt, MarksItemKind, Answers}
 use Rattle.sfv_read.specs.Reads.{ReadsItem, ReadsInner, ReadsList, ReadsDict}
@@ -78,14 +78,14 @@ pub dict_has_one_value : HasOneValue ReadsDict
 dict_has_one_value = one_value dict_judges
 
 -- a text is read as a value of a kind, or as none
-pub item_is_decided : IsDecided ReadsItem
+pub item_is_decided : HasValueOrNone ReadsItem
 item_is_decided = decided item_judges
 
-pub inner_is_decided : IsDecided ReadsInner
+pub inner_is_decided : HasValueOrNone ReadsInner
 inner_is_decided = decided inner_judges
 
-pub list_is_decided : IsDecided ReadsList
+pub list_is_decided : HasValueOrNone ReadsList
 list_is_decided = decided list_judges
 
-pub dict_is_decided : IsDecided ReadsDict
+pub dict_is_decided : HasValueOrNone ReadsDict
 dict_is_decided = decided dict_judges

@@ -1,9 +1,15 @@
 -- The laws of texts, from a reading of whole texts.
-use Rattle.std.proofs.Common.{◌≡◌, ◌↔◌, ◌⊎◌, ℕ, Bool, true, List, Result, Ok, Err, inl, inr, refl, sym, ap, subst}
+use Rattle.std.proofs.Common.{◌≡◌, ◌↔◌, ◌⊎◌, ℕ, zero, suc, ◌-◌, Bool, true, List, ◌++◌, length, take, drop, Result, Ok, Err, inl, inr, refl, sym, ap, subst, ◌∙◌, arith}
+use Rattle.std.specs.Prelude.{codes}
+use Rattle.std.proofs.lemmas.Bool.{cases_Bool, false≢true}
+use Rattle.byte_grammar.specs.Language.{starts_in}
+use Rattle.byte_grammar.specs.tools.Walks.{unread}
+use Rattle.byte_grammar.specs.FaultOffset.{IsFaultOffset}
 use Rattle.byte_grammar.proofs.OffsetLaws.{one_offset}
 use Rattle.byte_grammar.proofs.Whole.{Judges, one_value}
+use Rattle.sfv_read.specs.Class.{is_marker}
 use Rattle.sfv_read.specs.Fault.{BeginsItemKind, IsSfError}
-use Rattle.sfv_read.specs.Laws.{HasOneAnswer, IsDecided}
+use Rattle.sfv_read.specs.Laws.{HasFault, HasOneAnswer, HasValueOrNone}
 use Rattle.sfv_read.specs.declared.error.SfError.{SfError}
 use Rattle.sfv_read.specs.declared.error.SfError.TheVariants.{Memory, Syntax, ItemKind}
 
@@ -15,12 +21,46 @@ distinct_texts {V} {L} j test text_of reads v w a b = (
 )
 
 -- the reading tells whether a text has a value
-pub decided : {V : Type 0} {L : List ℕ → V → Type 0} {r : List ℕ → Result V ℕ} → Judges L r → IsDecided L
+pub decided : {V : Type 0} {L : List ℕ → V → Type 0} {r : List ℕ → Result V ℕ} → Judges L r → HasValueOrNone L
 decided {V} {L} {r} j text = by_reading (r text) refl
   where
     by_reading : (answer : Result V ℕ) → r text ≡ answer → ((v : V) × L text v) ⊎ ((v : V) → L text v → ⊥)
     by_reading (Ok v) e = inl (v, j.ok text v e)
     by_reading (Err n) e = inr (j.offset text n e).none
+
+zero_or_not : (n : ℕ) → (n ≡ 0) ⊎ (n ≡ 0 → ⊥)
+zero_or_not zero = inl refl
+zero_or_not (suc n) = inr (λ e. absurd (omega (arith, e)))
+
+module _ {V : Type 0} {L : List ℕ → V → Type 0} {r : List ℕ → Result V ℕ} (j : Judges L r) where
+  -- whether a Date or a Display String could stand at an offset is decided
+  item_kind_or_not : (text : List ℕ) (offset : ℕ) → BeginsItemKind L text offset ⊎ (BeginsItemKind L text offset → ⊥)
+  item_kind_or_not text offset = elim (cases_Bool (starts_in is_marker (drop offset text))) [
+    | inl marked ↦ elim (zero_or_not (unread (r (take offset text ++ codes "?1")))) [
+      | inl whole ↦ inl (record { marker = marked; item = j.begins (take offset text ++ codes "?1") whole })
+      | inr some ↦ inr (λ b. some (j.all (take offset text ++ codes "?1") b.item))
+    ]
+    | inr none ↦ inr (λ b. false≢true (sym none ∙ b.marker))
+  ]
+
+  offset_of : (text : List ℕ) → ((v : V) → L text v → ⊥) → (offset : ℕ) × IsFaultOffset L text offset
+  offset_of text none = by_reading (r text) refl
+    where
+      by_reading : (answer : Result V ℕ) → r text ≡ answer → (offset : ℕ) × IsFaultOffset L text offset
+      by_reading (Ok v) e = absurd (none v (j.ok text v e))
+      by_reading (Err n) e = (length text - n, j.offset text n e)
+
+  fault_of : (text : List ℕ) → ((v : V) → L text v → ⊥) → (e : SfError) × IsSfError L text e × (e ≡ Memory → ⊥)
+  fault_of text none =
+      let at = offset_of text none in
+      elim (item_kind_or_not text at.0) [
+        | inl kind ↦ (ItemKind at.0, (at.1, kind), λ e. absurd cc)
+        | inr other ↦ (Syntax at.0, (at.1, other), λ e. absurd cc)
+      ]
+
+  -- a text that has no value has a fault
+  pub has_fault : HasFault L
+  has_fault = record { offset = offset_of; fault = fault_of }
 
 module _ {V : Type 0} (L : List ℕ → V → Type 0) where
   one_kind : (text : List ℕ) (p q : ℕ) → IsSfError L text (Syntax p) → IsSfError L text (ItemKind q) → ⊥

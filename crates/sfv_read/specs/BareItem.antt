@@ -13,7 +13,7 @@ use Rattle.sfv_text.specs.Strict.{string_text, bool_text}
 use Rattle.byte_grammar.specs.Classes.{is_digit}
 use Rattle.sfv_read.specs.Class.{is_minus}
 
--- negative where a sign stands
+-- the number, negative where there is a sign
 abbrev pub with_sign : List ℕ → ℕ → ℤ
 with_sign [] n = pos n
 with_sign (_ ∷ _) n = neg_ℤ (pos n)

@@ -8,46 +8,57 @@ use Rattle.sfv_read.specs.declared.class.SfClass.TheVariants.{Escapable, Unescap
 
 -- ---- one byte
 
+-- `-`, which begins a negative number (RFC 9651 section 3.3.1)
 abbrev pub is_minus : ℕ → Bool
 is_minus c = c == byte "-"
 
+-- `.`, the point of a Decimal (RFC 9651 section 3.3.2)
 abbrev pub is_dot : ℕ → Bool
 is_dot c = c == byte "."
 
+-- `"`, at both ends of a String (RFC 9651 section 3.3.3)
 abbrev pub is_quote : ℕ → Bool
 is_quote c = c == byte "\""
 
+-- `\`, before an escaped character of a String (RFC 9651 section 3.3.3)
 abbrev pub is_backslash : ℕ → Bool
 is_backslash c = c == byte "\\"
 
+-- `;`, which begins a parameter (RFC 9651 section 3.1.2)
 abbrev pub is_semicolon : ℕ → Bool
 is_semicolon c = c == byte ";"
 
+-- `,`, between two members (RFC 9651 sections 3.1 and 3.2)
 abbrev pub is_comma : ℕ → Bool
 is_comma c = c == byte ","
 
+-- `=`, between a key and its value (RFC 9651 sections 3.1.2 and 3.2)
 abbrev pub is_equals : ℕ → Bool
 is_equals c = c == byte "="
 
+-- `?`, which begins a Boolean (RFC 9651 section 3.3.6)
 abbrev pub is_question : ℕ → Bool
 is_question c = c == byte "?"
 
+-- `(`, which begins an Inner List (RFC 9651 section 3.1.1)
 abbrev pub is_open : ℕ → Bool
 is_open c = c == byte "("
 
+-- `)`, which ends the Items of an Inner List (RFC 9651 section 3.1.1)
 abbrev pub is_close : ℕ → Bool
 is_close c = c == byte ")"
 
+-- `:`, at both ends of a Byte Sequence (RFC 9651 section 3.3.5)
 abbrev pub is_colon : ℕ → Bool
 is_colon c = c == byte ":"
 
 -- ---- several bytes
 
--- what stands in a String after a backslash alone (RFC 9651 section 3.3.3)
+-- what a String has after a backslash alone (RFC 9651 section 3.3.3)
 abbrev pub is_escapable : ℕ → Bool
 is_escapable c = (c == byte "\"") || (c == byte "\\")
 
--- what stands in a String as it is (RFC 9651 section 3.3.3)
+-- what a String has without a backslash before it (RFC 9651 section 3.3.3)
 abbrev pub is_unescaped : ℕ → Bool
 is_unescaped c = is_string_byte c && (not (c == byte "\"") && not (c == byte "\\"))
 
@@ -63,6 +74,7 @@ is_base64 c = is_alpha c || (is_digit c || ((c == byte "+") || (c == byte "/")))
 abbrev pub is_marker : ℕ → Bool
 is_marker c = (c == byte "@") || (c == byte "%")
 
+-- the bytes of a class of structured fields, by its name
 abbrev pub members : SfClass → ℕ → Bool
 members Escapable c = is_escapable c
 members Unescaped c = is_unescaped c

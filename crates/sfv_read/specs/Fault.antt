@@ -14,7 +14,7 @@ IsRead (Err Memory) v = Unit {0}
 IsRead (Err (Syntax _)) v = ⊥
 IsRead (Err (ItemKind _)) v = ⊥
 
--- a marker stands at the offset, and `?1` could stand there
+-- a marker is at the offset, and `?1` could be there
 pub record BeginsItemKind {V : Type 0} (L : List ℕ → V → Type 0) (text : List ℕ) (offset : ℕ)
     : Type 0 where
   pub marker : IsTrue (starts_in is_marker (drop offset text))

@@ -31,7 +31,7 @@ pub record IsParameter (text : List ℕ) (p : Pair BareItem) : Type 0 where
   pub is_key : IsKey key p.key
   pub is_value : IsValue value p.value
 
--- parameters one after the other, as they stand
+-- parameters one after the other, as they are written
 abbrev pub AreParameters : List ℕ → List (Pair BareItem) → Type 0
 AreParameters text ps = Each IsParameter text ps
 

@@ -1,5 +1,6 @@
 -- Laws of the texts that are read.
 use Rattle.std.specs.Prelude.{◌≡◌, ◌↔◌, ◌⊎◌, ℕ, Bool, List, IsTrue}
+use Rattle.byte_grammar.specs.FaultOffset.{IsFaultOffset}
 use Rattle.sfv_read.specs.Fault.{IsSfError}
 use Rattle.sfv_read.specs.declared.error.SfError.{SfError}
 use Rattle.sfv_read.specs.declared.error.SfError.TheVariants.{Memory}
@@ -15,8 +16,15 @@ pub record HasOneAnswer {V : Type 0} (L : List ℕ → V → Type 0) : Type 0 wh
   pub no_fault : (text : List ℕ) (v : V) (e : SfError) → L text v → IsSfError L text e → e ≡ Memory
 
 -- each text has a value or none
-abbrev pub IsDecided : {V : Type 0} → (List ℕ → V → Type 0) → Type 0
-IsDecided {V} L = (text : List ℕ) → ((v : V) × L text v) ⊎ ((v : V) → ¬ L text v)
+abbrev pub HasValueOrNone : {V : Type 0} → (List ℕ → V → Type 0) → Type 0
+HasValueOrNone {V} L = (text : List ℕ) → ((v : V) × L text v) ⊎ ((v : V) → ¬ L text v)
+
+-- A text that has no value has an offset of its first fault, and a fault other than being out of
+-- memory.
+pub record HasFault {V : Type 0} (L : List ℕ → V → Type 0) : Type 0 where
+  pub offset : (text : List ℕ) → ((v : V) → ¬ L text v) → (offset : ℕ) × IsFaultOffset L text offset
+  pub fault : (text : List ℕ) → ((v : V) → ¬ L text v)
+      → (e : SfError) × IsSfError L text e × ¬ (e ≡ Memory)
 
 -- what is read passes the test
 abbrev pub ReadsOnly : {V : Type 0} → (List ℕ → V → Type 0) → (V → Bool) → Type 0

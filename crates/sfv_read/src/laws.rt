@@ -2,7 +2,7 @@
 
 ghost use Rattle.sfv_text.specs.Range.{is_item_in_range, is_inner_in_range, is_list_in_range, is_dict_in_range};
 ghost use Rattle.sfv_text.specs.Strict.{item_text, inner_text, list_text, dict_text};
-ghost use Rattle.sfv_read.specs.Laws.{HasOneValue, HasOneAnswer, IsDecided, ReadsOnly, ReadsBack, HasDistinctTexts};
+ghost use Rattle.sfv_read.specs.Laws.{HasOneValue, HasOneAnswer, HasValueOrNone, HasFault, ReadsOnly, ReadsBack, HasDistinctTexts};
 ghost use Rattle.sfv_read.specs.Reads.{ReadsItem, ReadsInner, ReadsList, ReadsDict};
 
 /// A text reads as at most one value of a kind.
@@ -23,10 +23,19 @@ pub fn a_text_has_one_answer()
 
 /// A text is read as some value of a kind, or as none.
 pub fn a_text_is_read_or_not()
-    ensures item { IsDecided ReadsItem }
-    ensures inner { IsDecided ReadsInner }
-    ensures list { IsDecided ReadsList }
-    ensures dict { IsDecided ReadsDict }
+    ensures item { HasValueOrNone ReadsItem }
+    ensures inner { HasValueOrNone ReadsInner }
+    ensures list { HasValueOrNone ReadsList }
+    ensures dict { HasValueOrNone ReadsDict }
+{}
+
+/// A text that has no value of a kind has an offset of its first fault, and a fault that isn't out
+/// of memory.
+pub fn a_text_not_read_has_a_fault()
+    ensures item { HasFault ReadsItem }
+    ensures inner { HasFault ReadsInner }
+    ensures list { HasFault ReadsList }
+    ensures dict { HasFault ReadsDict }
 {}
 
 /// What is read is in range: numbers are of at most 15 digits, keys are distinct, and so on.

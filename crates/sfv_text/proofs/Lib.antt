@@ -3,3 +3,4 @@ pub mod Groups
 pub mod Printable
 pub mod PutLaws
 pub mod IndexLaws
+pub mod ValueLaws

@@ -4,10 +4,11 @@ use Rattle.std.specs.List.{find, list_any}
 use Rattle.std.specs.Str.{bytes_eq}
 use Rattle.sfv_text.specs.declared.pair.Pair.{Pair}
 
+-- the pair has this key
 abbrev pub has_key : {V : Type 0} → List ℕ → Pair V → Bool
 has_key key pair = bytes_eq pair.key key
 
--- no key stands twice
+-- no two pairs have one key
 abbrev pub have_distinct_keys : {V : Type 0} → List (Pair V) → Bool
 have_distinct_keys [] = true
 have_distinct_keys (pair ∷ pairs) =
@@ -21,7 +22,7 @@ value_of pairs key = option_map (λ pair. pair.value) (find (has_key key) pairs)
 abbrev pub with_value : {V : Type 0} → List ℕ → V → Pair V → Pair V
 with_value key value pair = if has_key key pair then record pair { value = value } else pair
 
--- the value stands in place of the key's value, or the pair comes at the end
+-- the pairs, with this value in place of the key's value, or with the pair at the end
 abbrev pub put : {V : Type 0} → List (Pair V) → List ℕ → V → List (Pair V)
 put pairs key value =
     if list_any (has_key key) pairs then map (with_value key value) pairs

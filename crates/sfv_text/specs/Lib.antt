@@ -1,4 +1,5 @@
 pub mod Classes
+pub mod Displayed
 pub mod Equality
 pub mod Keys
 pub mod Laws

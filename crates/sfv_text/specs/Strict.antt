@@ -36,7 +36,7 @@ decimal_text z =
     sign_text z
     ++ (decimal (unsigned_abs z / 1000) ++ byte "." ∷ fraction_text (unsigned_abs z % 1000))
 
--- `"` and `\` stand after a `\`
+-- a character of a String; `"` and `\` come after a `\` (section 4.1.6)
 abbrev pub character_text : ℕ → List ℕ
 character_text c = if (c == byte "\"") || (c == byte "\\") then byte "\\" ∷ c ∷ [] else c ∷ []
 
@@ -53,6 +53,7 @@ abbrev pub bool_text : Bool → List ℕ
 bool_text false = codes "?0"
 bool_text true = codes "?1"
 
+-- a bare item, by its kind (section 4.1.3.1)
 abbrev pub bare_text : BareItem → List ℕ
 bare_text (Integer z) = integer_text z
 bare_text (Decimal z) = decimal_text z
@@ -63,33 +64,36 @@ bare_text (Boolean b) = bool_text b
 
 -- ---- parameters (section 4.1.1.2)
 
--- Boolean true is not written
+-- what a parameter has after its key; Boolean true is not written (section 4.1.1.2)
 abbrev pub param_value_text : BareItem → List ℕ
 param_value_text (Boolean true) = []
 param_value_text bare = byte "=" ∷ bare_text bare
 
+-- a parameter: `;`, the key, and its value (section 4.1.1.2)
 abbrev pub param_text : Pair BareItem → List ℕ
 param_text param = byte ";" ∷ (param.key ++ param_value_text param.value)
 
+-- parameters, one after the other (section 4.1.1.2)
 abbrev pub params_text : List (Pair BareItem) → List ℕ
 params_text params = flat_map param_text params
 
 -- ---- items, Inner Lists, Lists and Dictionaries
 
--- (section 4.1.3)
+-- an Item: its bare item, and its parameters (section 4.1.3)
 abbrev pub item_text : Item → List ℕ
 item_text item = bare_text item.bare ++ params_text item.params
 
--- (section 4.1.1.1)
+-- an Inner List: its Items in parentheses, and its parameters (section 4.1.1.1)
 abbrev pub inner_text : InnerList → List ℕ
 inner_text inner =
     byte "(" ∷ (join_by item_text (codes " ") inner.items ++ byte ")" ∷ params_text inner.params)
 
+-- a member of a List: an Item or an Inner List (section 4.1.1)
 abbrev pub member_text : Member → List ℕ
 member_text (ItemMember item) = item_text item
 member_text (InnerMember inner) = inner_text inner
 
--- (section 4.1.1)
+-- a List: its members, with a comma and a space between two (section 4.1.1)
 abbrev pub list_text : List Member → List ℕ
 list_text members = join_by member_text (codes ", ") members
 
@@ -98,13 +102,15 @@ abbrev pub dict_item_text : BareItem → List (Pair BareItem) → List ℕ
 dict_item_text (Boolean true) params = params_text params
 dict_item_text bare params = byte "=" ∷ (bare_text bare ++ params_text params)
 
+-- what a member of a Dictionary has after its key (section 4.1.2)
 abbrev pub dict_value_text : Member → List ℕ
 dict_value_text (ItemMember item) = dict_item_text item.bare item.params
 dict_value_text (InnerMember inner) = byte "=" ∷ inner_text inner
 
+-- a member of a Dictionary: the key, and what comes after it (section 4.1.2)
 abbrev pub dict_member_text : Pair Member → List ℕ
 dict_member_text entry = entry.key ++ dict_value_text entry.value
 
--- (section 4.1.2)
+-- a Dictionary: its members, with a comma and a space between two (section 4.1.2)
 abbrev pub dict_text : List (Pair Member) → List ℕ
 dict_text entries = join_by dict_member_text (codes ", ") entries

@@ -31,5 +31,5 @@ pub use pair::Pair;
 pub use pairs::Pairs;
 pub use print::{print_bare, print_dict, print_inner, print_item, print_list, print_member};
 pub use sequence::Sequence;
-pub use text::Text;
+pub use text::{Text, append_number, append_words};
 pub use value::{BareItem, Dict, InnerList, Item, Items, List, Member, Params};

@@ -1,9 +1,11 @@
 //! Bytes that are owned.
 
 ghost use Rattle.std.specs.Prelude.{◌≡◌, ◌≤◌, ◌++◌, [], length, IfOk, IfErr, OnOk, OnErr};
+ghost use Rattle.std.specs.Fmt.{decimal};
 
 use crate::memory::Memory;
 use std::alloc::Global;
+use std::fmt;
 use std::marker::Model;
 
 /// Owned bytes. A contract sees a text as the list of its bytes.
@@ -71,4 +73,41 @@ impl Text {
     {
         Text::from_bytes(alloc, self.bytes())
     }
+}
+
+/// The bytes as characters: a byte of ASCII is the character itself, and another one that of its
+/// number.
+impl fmt::Display for Text {
+    ghost use Rattle.std.specs.Prelude.{Some};
+    ghost use Rattle.sfv_text.specs.Displayed.{displayed};
+
+    ghost output = { λ text. Some (displayed text) };
+
+    fn fmt<W: fmt::Write>(&self, f: &mut fmt::Formatter<W>) -> fmt::Result {
+        for byte in self.bytes() {
+            f.write_char(*byte as char)?;
+        }
+        Ok(())
+    }
+}
+
+/// Adds two pieces at the end. After an error the first may have been added.
+pub fn append_words(first: &[u8], second: &[u8], text: &mut Text) -> Result<(), Memory>
+    ensures { OnOk result (text.new ≡ text.old ++ (first.now ++ second.now)) }
+{
+    text.append(first)?;
+    text.append(second)
+}
+
+/// Adds a piece and a number in decimal at the end. After an error the piece may have been added.
+pub fn append_number(
+    alloc: Global,
+    word: &[u8],
+    number: usize,
+    text: &mut Text,
+) -> Result<(), Memory>
+    ensures { OnOk result (text.new ≡ text.old ++ (word.now ++ decimal number)) }
+{
+    let digits = format!(in alloc; "{number}")?;
+    append_words(word, digits.as_bytes(), text)
 }

@@ -1,9 +1,11 @@
 //! The values of structured fields (RFC 9651 section 3).
 
-ghost use Rattle.std.specs.Prelude.{◌≡◌, ◌≤◌, ◌↔◌, ◌⊎◌, length, option_map, option_and_then, IsTrue, IfOk, IfErr};
+ghost use Rattle.std.specs.Prelude.{◌≡◌, ◌≤◌, ◌↔◌, ◌⊎◌, length, option_map, option_and_then, IsTrue, IfOk, IfErr, IfSome};
+ghost use Rattle.std.specs.List.{list_all};
 ghost use Rattle.sfv_text.specs.Equality.{is_equal_bare, is_equal_param};
 ghost use Rattle.sfv_text.specs.Keys.{value_of};
 ghost use Rattle.sfv_text.specs.Parts.{byte_sequence_in, integer_in, string_in};
+ghost use Rattle.sfv_text.specs.Range.{are_params_in_range, is_string_byte};
 ghost use Rattle.sfv_text.specs.Values.{own_bytes};
 
 use crate::memory::Memory;
@@ -106,8 +108,10 @@ impl Pairs<BareItem> {
 
     /// The characters of the parameter of the key, where it is a String (RFC 9651 section 3.3.3).
     pub fn string(&self, key: &[u8]) -> Option<&Text>
-        ensures { option_map (λ text. text.now) result
+        ensures is { option_map (λ text. text.now) result
             ≡ option_and_then string_in (value_of self.now key.now) }
+        ensures in_range { IsTrue (are_params_in_range self.now)
+            → IfSome result (λ text. IsTrue (list_all is_string_byte text.now)) }
     {
         match self.find(key) {
             Some(BareItem::Str(text)) => Some(text),

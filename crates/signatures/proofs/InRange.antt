@@ -2,14 +2,15 @@
 use Rattle.std.proofs.Common.{◌≡◌, Bool, true, ◌&&◌, List, [], ◌∷◌, ℕ, Some, Result, Ok, Err, sym, ap, ◌∙◌, inl, inr}
 use Rattle.std.specs.Prelude.{IfOk}
 use Rattle.std.specs.List.{list_all}
-use Rattle.std.proofs.lemmas.Bool.{cases_Bool, and_parts}
+use Rattle.std.proofs.lemmas.Bool.{and_parts}
 use Rattle.std.proofs.lemmas.List.Folds.{list_all-map}
-use Rattle.sfv_text.specs.Keys.{has_key, have_distinct_keys, value_of}
+use Rattle.sfv_text.specs.Keys.{have_distinct_keys, value_of}
 use Rattle.sfv_text.specs.Range.{is_key, is_item_in_range, are_params_in_range, is_inner_in_range, is_member_in_range, is_dict_member_in_range, is_dict_in_range}
 use Rattle.sfv_text.specs.declared.pair.Pair.{Pair}
 use Rattle.sfv_text.specs.declared.value.InnerList.{InnerList}
 use Rattle.sfv_text.specs.declared.value.Member.{Member}
 use Rattle.sfv_text.specs.declared.value.Member.TheVariants.{InnerList as InnerMember}
+use Rattle.sfv_text.proofs.ValueLaws.{value_passes}
 use Rattle.sfv_read.proofs.InRange.{dict_read_in_range}
 use Rattle.msg_head.specs.declared.error.Side.TheVariants.{Header}
 use Rattle.msg_body.specs.Messages.{Message}
@@ -22,17 +23,6 @@ use Rattle.signatures.specs.Laws.{IsSignatureInRange}
 use Rattle.signatures.specs.declared.label.LabelFault.{LabelFault}
 use Rattle.signatures.specs.declared.label.LabelRead.{LabelRead}
 use Rattle.signatures.specs.tools.Answered.{ExplainsLabel}
-
--- the value of a key stands in a pair, and that pair passes a test that each pair passes
-value_passes : {V : Type 0} (test : Pair V → Bool) (pairs : List (Pair V)) (key : List ℕ) (value : V) → list_all test pairs ≡ true → value_of pairs key ≡ Some value
-    → (pair : Pair V) × (test pair ≡ true) × (pair.value ≡ value)
-value_passes test [] key value all there = absurd cc
-value_passes test (pair ∷ pairs) key value all there =
-    let h = and_parts (test pair) (list_all test pairs) all in
-    elim (cases_Bool (has_key key pair)) [
-      | inl found ↦ let same : pair.value ≡ value = let e = rw found at there in cc in (pair, h.0, same)
-      | inr other ↦ value_passes test pairs key value h.1 (rw other at there)
-    ]
 
 pub inner_in_range : (dict : List (Pair Member)) (key : List ℕ) (list : InnerList) → is_dict_in_range dict ≡ true → value_of dict key ≡ Some (InnerMember list)
     → is_inner_in_range list ≡ true

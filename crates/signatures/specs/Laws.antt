@@ -13,7 +13,7 @@ use Rattle.signatures.specs.Words.{rule_number}
 abbrev pub HasLabels : Type 0
 HasLabels = (message : Message) → (labels : List (List ℕ)) × AreLabels message labels
 
--- it has one
+-- a message has at most one list of labels
 abbrev pub HasOneListOfLabels : Type 0
 HasOneListOfLabels =
     (message : Message) (labels others : List (List ℕ))
@@ -26,21 +26,21 @@ HasSignatureOrNot =
     → ((params : SigParams) × (tag : List ℕ) × HasSignature message label params tag)
     ⊎ ((rule : Rule) × (place : Place) × IsLabelUnread message label rule place)
 
--- it has one signature of the label
+-- a message has at most one signature of a label
 abbrev pub HasOneSignature : Type 0
 HasOneSignature =
     (message : Message) (label : List ℕ) (params others : SigParams) (tag other : List ℕ)
     → HasSignature message label params tag → HasSignature message label others other
     → (params ≡ others) × (tag ≡ other)
 
--- one rule is the first that fails, with one place
+-- at most one rule is the first that fails, with one place
 abbrev pub IsUnreadByOneRule : Type 0
 IsUnreadByOneRule =
     (message : Message) (label : List ℕ) (rule other : Rule) (place another : Place)
     → IsLabelUnread message label rule place → IsLabelUnread message label other another
     → (rule ≡ other) × (place ≡ another)
 
--- where it has a signature of the label, no rule fails
+-- where the message has a signature of the label, no rule of reading fails
 abbrev pub HasNoFailureWhereRead : Type 0
 HasNoFailureWhereRead =
     (message : Message) (label : List ℕ) (params : SigParams) (tag : List ℕ) (rule : Rule)
@@ -53,7 +53,7 @@ IsUnreadByRulesTo12 =
     (message : Message) (label : List ℕ) (rule : Rule) (place : Place)
     → FailsToRead message label rule place → rule_number rule ≤ 12
 
--- its signature parameters can stand in a structured field
+-- the signature parameters of a message can be written as a structured field
 abbrev pub IsSignatureInRange : Type 0
 IsSignatureInRange =
     (message : Message) (label : List ℕ) (params : SigParams) (tag : List ℕ)

@@ -68,10 +68,11 @@ pub record Failure : Type 0 where
   pub rule : Rule
   pub place : Place
 
+-- the number of the rule that fails, by which failures are ordered
 abbrev pub failure_number : Failure → ℕ
 failure_number failure = rule_number failure.rule
 
--- the rule fails so, and no rule of a lesser number fails
+-- the rule fails at the place, and no rule of a lesser number fails
 abbrev pub IsFirstFailure : (Rule → Place → Type 0) → Rule → Place → Type 0
 IsFirstFailure Table rule place =
     IsFirst failure_number (λ failure. Table failure.rule failure.place)

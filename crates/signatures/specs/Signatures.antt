@@ -25,7 +25,7 @@ signature_name = codes "signature"
 abbrev pub HasField : Message → List ℕ → Type 0
 HasField message name = IsTrue (is_there (lines_on Header message) name)
 
--- it has one, and the combined value reads as this Dictionary
+-- the message has the field, and its combined value reads as this Dictionary
 pub record HasDict (message : Message) (name : List ℕ) (dict : List (Pair Member)) : Type 0 where
   pub there : HasField message name
   pub reads : ReadsDict (combined_value (lines_on Header message) name) dict

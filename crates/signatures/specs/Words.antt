@@ -1,16 +1,20 @@
 -- The numbers and the words of the rules, and what faults say.
-use Rattle.std.specs.Prelude.{ℕ, List, ◌++◌, ◌∷◌, codes}
+use Rattle.std.specs.Prelude.{ℕ, List, [], ◌++◌, ◌∷◌, codes}
 use Rattle.std.specs.Fmt.{decimal}
 use Rattle.std.specs.Str.{byte}
+use Rattle.sfv_text.specs.Displayed.{displayed}
+use Rattle.component_ids.specs.Reasons.{word_of}
 use Rattle.content_digest.specs.Algorithms.{key_of}
 use Rattle.signatures.specs.declared.place.DigestReason.{DigestReason}
 use Rattle.signatures.specs.declared.place.DigestReason.TheVariants.{Uncovered, Malformed, NoneKnown, Mismatch}
+use Rattle.signatures.specs.declared.place.Place.{Place}
+use Rattle.signatures.specs.declared.place.Place.TheVariants.{None as Nowhere, Index, Component, Name, Identifier, Digest as DigestPlace}
 use Rattle.signatures.specs.declared.rule.Rule.{Rule}
 use Rattle.signatures.specs.declared.rule.Rule.TheVariants.{InputAbsent, InputMalformed, SignatureAbsent, SignatureMalformed, LabelNotInInput, LabelNotInSignature, InputNotList, SignatureNotBytes, ComponentsMany, ComponentBad, ComponentRepeated, ParameterBad, AlgRefused, AlgUnknown, KeyidAbsent, KeyUnknown, ComponentRequired, CreatedAbsent, CreatedAhead, TooOld, ExpiresAbsent, Expired, TagWrong, NonceAbsent, NonceRepeated, NonceLong, Absent, Ambiguous, Underivable, Unreadable, NotAscii, MacMismatch, Digest, NoncesFull}
 use Rattle.signatures.specs.declared.label.LabelFault.{LabelFault}
 use Rattle.signatures.specs.declared.label.LabelFault.TheVariants as fault
 
--- by which the rules are ordered
+-- the number of a rule, by which the rules are ordered
 abbrev pub rule_number : Rule → ℕ
 rule_number InputAbsent = 1
 rule_number InputMalformed = 2
@@ -47,7 +51,7 @@ rule_number MacMismatch = 32
 rule_number Digest = 33
 rule_number NoncesFull = 34
 
--- by which output names them
+-- the word of a rule, by which output names it
 abbrev pub rule_word : Rule → List ℕ
 rule_word InputAbsent = codes "input-absent"
 rule_word InputMalformed = codes "input-malformed"
@@ -91,8 +95,19 @@ reason_word Malformed = codes "malformed"
 reason_word NoneKnown = codes "none-known"
 reason_word (Mismatch algorithm) = codes "mismatch " ++ key_of algorithm
 
+-- where a rule fails, after a space; a component by its name alone
+abbrev pub displayed_place : Place → List ℕ
+displayed_place Nowhere = []
+displayed_place (Index index) = byte " " ∷ decimal index
+displayed_place (Component index reason) =
+    byte " " ∷ (decimal index ++ byte " " ∷ word_of reason)
+displayed_place (Name text) = byte " " ∷ displayed text
+displayed_place (Identifier id) = byte " " ∷ displayed id.name
+displayed_place (DigestPlace reason) = byte " " ∷ reason_word reason
+
 -- what a fault says
 abbrev pub label_fault_text : LabelFault → List ℕ
 label_fault_text fault.Memory = codes "out of memory"
 label_fault_text (fault.Rule rule place) =
-    codes "rule " ++ (decimal (rule_number rule) ++ byte " " ∷ rule_word rule)
+    codes "rule " ++ (decimal (rule_number rule)
+    ++ byte " " ∷ (rule_word rule ++ displayed_place place))

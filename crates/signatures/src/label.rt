@@ -37,9 +37,9 @@ impl fmt::Display for LabelFault {
     fn fmt<W: fmt::Write>(&self, f: &mut fmt::Formatter<W>) -> fmt::Result {
         match self {
             LabelFault::Memory => f.write_str("out of memory"),
-            LabelFault::Rule(rule, _) => {
+            LabelFault::Rule(rule, place) => {
                 let number = rule.number();
-                write!(f, "rule {number} {rule}")
+                write!(f, "rule {number} {rule}{place}")
             }
         }
     }

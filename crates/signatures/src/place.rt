@@ -6,6 +6,7 @@ ghost use Rattle.signatures.specs.Words.{reason_word};
 use component_ids::{BadReason, ComponentId};
 use content_digest::Algorithm;
 use sfv_text::Text;
+use std::fmt;
 
 /// Where a rule fails.
 #[derive(Debug, Drop)]
@@ -23,6 +24,31 @@ pub enum Place {
     Identifier(ComponentId),
     /// At the digest of the content, for this reason.
     Digest(DigestReason),
+}
+
+/// It begins with a space where it isn't empty. A component has its name alone.
+impl fmt::Display for Place {
+    ghost use Rattle.std.specs.Prelude.{Some};
+    ghost use Rattle.signatures.specs.Words.{displayed_place};
+
+    ghost output = { λ place. Some (displayed_place place) };
+
+    fn fmt<W: fmt::Write>(&self, f: &mut fmt::Formatter<W>) -> fmt::Result {
+        match self {
+            Place::None => Ok(()),
+            Place::Index(index) => write!(f, " {index}"),
+            Place::Component(index, reason) => write!(f, " {index} {reason}"),
+            Place::Name(text) => write!(f, " {text}"),
+            Place::Identifier(id) => {
+                let name = &id.name;
+                write!(f, " {name}")
+            }
+            Place::Digest(reason) => {
+                let word = reason.word();
+                write!(f, " {word}")
+            }
+        }
+    }
 }
 
 /// Why the digest of the content isn't accepted (RFC 9530 section 2).

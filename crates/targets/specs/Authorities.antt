@@ -18,7 +18,7 @@ pub record IsLiteral (host : List ℕ) : Type 0 where
   pub each : IsTrue (list_all is_literal_byte inner)
   pub joined : host ≡ byte "[" ∷ (inner ++ codes "]")
 
--- RFC 3986 section 3.2.2
+-- host: an IP-literal, a reg-name or an address of four numbers (RFC 3986 section 3.2.2)
 abbrev pub IsHost : List ℕ → Type 0
 IsHost host = IsLiteral host ⊎ IsTrue (is_reg_name host)
 

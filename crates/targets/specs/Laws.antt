@@ -18,7 +18,7 @@ OneAuthority =
     (text host other : List ℕ) (port last : Option (List ℕ)) →
     IsAuthority text host port → IsAuthority text other last → (host ≡ other) × (port ≡ last)
 
--- Under a scheme it has at most one value.
+-- Under a scheme a text has at most one value as an authority.
 abbrev pub OneAuthorityValue : Type 0
 OneAuthorityValue =
     (scheme text one other : List ℕ) →
@@ -53,7 +53,7 @@ pub record AreVisible (parts : TargetParts) : Type 0 where
   pub path : IsTrue (list_all is_visible parts.path)
   pub query : IfSome parts.query (λ text. IsTrue (list_all is_visible text))
 
--- So do those of a target that has visible bytes alone.
+-- A target that has visible bytes alone has such parts.
 abbrev pub HasVisibleParts : Type 0
 HasVisibleParts =
     (method target : List ℕ) (parts : TargetParts) →
@@ -65,7 +65,7 @@ HasVisibleText =
     (text host : List ℕ) (port : Option (List ℕ)) →
     IsAuthority text host port → IsTrue (list_all is_visible text)
 
--- So does its value.
+-- The value of an authority has visible bytes alone.
 abbrev pub HasVisibleValue : Type 0
 HasVisibleValue =
     (scheme text value : List ℕ) →

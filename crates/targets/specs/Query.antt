@@ -20,6 +20,7 @@ pub record QueryPair : Type 0 where
 abbrev pub decoded : List ℕ → List ℕ
 decoded raw = utf8_lossy (decode raw)
 
+-- the name and the value of a pair as it is written, decoded
 abbrev pub decoded_pair : List ℕ × List ℕ → QueryPair
 decoded_pair raw = record { name = decoded raw.0; value = decoded raw.1 }
 
@@ -32,6 +33,7 @@ pairs query = map decoded_pair (raw_pairs query)
 abbrev pub encoded_byte : ℕ → List ℕ
 encoded_byte c = if is_unchanged c then c ∷ [] else percent_encode_byte c
 
+-- the text with each of its bytes encoded in this way (RFC 9421 section 2.2.8)
 abbrev pub encoded : List ℕ → List ℕ
 encoded text = flat_map encoded_byte text
 
@@ -40,6 +42,7 @@ abbrev pub values_under : List ℕ → List QueryPair → List (List ℕ)
 values_under name all =
     map (λ pair. encoded pair.value) (filter (λ pair. bytes_eq (encoded pair.name) name) all)
 
+-- the encoded values that the query has under the encoded name (RFC 9421 section 2.2.8)
 abbrev pub matches : List ℕ → List ℕ → List (List ℕ)
 matches query name = values_under name (pairs query)
 
@@ -55,7 +58,7 @@ IsFound values Many = 2 ≤ length values
 abbrev pub HasPrintableEncodings : Type 0
 HasPrintableEncodings = (text : List ℕ) → IsTrue (list_all is_string_byte (encoded text))
 
--- so has each value that a query has under a name
+-- each value that a query has under a name has printable bytes of ASCII alone
 abbrev pub HasPrintableMatches : Type 0
 HasPrintableMatches =
     (query name : List ℕ) → IsTrue (list_all (list_all is_string_byte) (matches query name))

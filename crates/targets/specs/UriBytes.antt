@@ -35,6 +35,7 @@ is_host_byte c = is_unreserved_or_delim c || (c == byte "%")
 abbrev pub is_literal_byte : ℕ → Bool
 is_literal_byte c = is_unreserved_or_delim c || (c == byte ":")
 
+-- the bytes of a class of URIs, by its name
 abbrev pub members : UriByte → ℕ → Bool
 members Scheme c = is_scheme_byte c
 members Authority c = is_authority_byte c

@@ -5,6 +5,7 @@ use Rattle.targets.specs.declared.authority.Authority.{Authority}
 use Rattle.targets.specs.Targets.{TargetParts}
 use Rattle.targets.specs.Authorities.{AuthorityParts}
 
+-- the parts of a target that its borrowed texts stand for
 abbrev pub parts_of : Target → TargetParts
 parts_of target = record {
   form = target.form;
@@ -14,6 +15,7 @@ parts_of target = record {
   query = option_map (λ text. text.now) target.query;
 }
 
+-- the host and the port that the borrowed texts stand for
 abbrev pub authority_parts : Authority → AuthorityParts
 authority_parts authority = record {
   host = authority.host.now;

@@ -21,7 +21,7 @@ pub(crate) fn rest_after<'m>(prefix: &[u8], bytes: &'m [u8]) -> Option<&'m [u8]>
     bytes.strip_prefix(prefix)
 }
 
-/// What stands after the mark, or nothing where the bytes are empty; None where they are neither.
+/// What comes after the mark, or nothing where the bytes are empty; None where they are neither.
 pub(crate) fn read_marked<C: ByteClass>(mark: u8, class: C, bytes: &[u8]) -> Option<Option<&[u8]>>
     ensures some { IfSome result (λ part.
         IsMarked mark (C.members class) bytes.now (option_map (λ text. text.now) part)) }

@@ -43,7 +43,7 @@ fn encode_again(alloc: Global, raw: &[u8]) -> Result<Text, Memory>
     Ok(Text::from_vec(out.into_bytes()))
 }
 
-/// Whether the name of a pair, as it stands in the query, is this one, which is percent-encoded.
+/// Whether the name of a pair, as the query has it, is this one, which is percent-encoded.
 fn has_param_name(alloc: Global, raw: &[u8], name: &[u8]) -> Result<bool, Memory>
     ensures { IfOk result (λ test. test ≡ bytes_eq (encoded (decoded raw.now)) name.now) }
 {
@@ -51,7 +51,7 @@ fn has_param_name(alloc: Global, raw: &[u8], name: &[u8]) -> Result<bool, Memory
     Ok(encoded.bytes() == name)
 }
 
-/// What is found with one more value, as it stands in the query.
+/// What is found with one more value, as the query has it.
 fn found_with(alloc: Global, found: ParamFound, raw: &[u8]) -> Result<ParamFound, Memory>
     ensures { (values : List (List ℕ)) → IsFound values found
         → IfOk result (IsFound (values ++ encoded (decoded raw.now) ∷ [])) }

@@ -34,7 +34,7 @@ pub struct Target<'m> {
     pub authority: Option<&'m [u8]>,
     /// The path, which may be empty (RFC 3986 section 3.3).
     pub path: &'m [u8],
-    /// What stands after the first `?` (RFC 3986 section 3.4); None where there is none.
+    /// What comes after the first `?` (RFC 3986 section 3.4); None where there is none.
     pub query: Option<&'m [u8]>,
 }
 

@@ -16,7 +16,7 @@ pub(crate) enum UriByte {
     Path,
     /// What a query has before a fragment.
     Query,
-    /// What a host has that stands in no brackets.
+    /// What a host has that is in no brackets.
     Host,
     /// What a host has within its brackets.
     Literal,

@@ -1,10 +1,14 @@
-// Tests of sig_base.
+// Tests of component_values and sig_base.
+
+ghost use Rattle.std.specs.Prelude.{IsTrue};
+ghost use Rattle.component_ids.specs.SignatureParams.{are_sig_params_in_range};
 
 use crate::components::{Fed, REQUEST, RESPONSE, message_of, params_of};
-use component_ids::{Scheme, Types};
-use component_values::{Context, prepare};
+use component_ids::{Scheme, SigParams, Types};
+use component_values::{Context, Prepared, prepare};
+use msg_body::MessageView;
 use sig_base::{base_bytes, feed_base};
-use std::test::Fail;
+use std::alloc::Global;
 
 // The signature parameters and the signature base of RFC 9421 section 2.4.
 const PARAMS: &[u8] = b"(\"@status\" \"content-digest\" \"content-type\" \"@authority\";req \
@@ -24,24 +28,75 @@ NNyealdVLvRwEmTHWXvJwew==:\n\
 \"@method\";req \"@path\";req \"content-digest\";req);\
 created=1618884479;keyid=\"test-key-ecc-p256\"";
 
-#[test]
-fn the_base_of_a_response_is_that_of_the_rfc(rt: HostRuntime) -> Result<(), Fail> {
-    let alloc = rt.alloc();
-    let request = message_of(alloc, REQUEST)?;
-    let response = message_of(alloc, RESPONSE)?;
-    let types = Types::standard(alloc)?;
+// Whether the base is this one, made as a text and fed.
+fn is_base(alloc: Global, prepared: &Prepared<'_, '_>, base: &[u8]) -> bool {
+    let mut fed = Fed::new(alloc);
+    feed_base(prepared, &mut fed);
+    match base_bytes(alloc, prepared) {
+        Ok(text) => text.bytes() == base && fed.is(base),
+        Err(_) => false,
+    }
+}
+
+// A request, the response to it, signature parameters, and the base over them.
+#[derive(Clone, Copy)]
+struct Exchange {
+    request: &'static [u8],
+    response: &'static [u8],
+    params: &'static [u8],
+    base: &'static [u8],
+}
+
+const EXCHANGES: [Exchange; 1] = [Exchange {
+    request: REQUEST,
+    response: RESPONSE,
+    params: PARAMS,
+    base: BASE,
+}];
+
+// Whether the response to the request has the base over the signature parameters.
+fn has_base(
+    alloc: Global,
+    request: &MessageView<'_>,
+    response: &MessageView<'_>,
+    params: &SigParams,
+    base: &[u8],
+) -> bool
+    requires { IsTrue (are_sig_params_in_range params.now) }
+{
+    let Ok(types) = Types::standard(alloc) else {
+        return false;
+    };
     let context = Context {
-        message: &response,
-        related: Some(&request),
+        message: response,
+        related: Some(request),
         scheme: Scheme::Https,
         types: &types,
     };
-    let params = params_of(alloc, PARAMS)?;
-    let prepared = prepare(alloc, &context, &params)?;
-    let text = base_bytes(alloc, &prepared)?;
-    assert_eq!(rt; text.bytes(), BASE);
-    let mut fed = Fed::new(alloc);
-    feed_base(&prepared, &mut fed);
-    assert!(rt; fed.is(BASE));
-    Ok(())
+    match prepare(alloc, &context, params) {
+        Ok(prepared) => is_base(alloc, &prepared, base),
+        Err(_) => false,
+    }
+}
+
+fn holds(alloc: Global, exchange: &Exchange) -> bool {
+    let Some(params) = params_of(alloc, exchange.params) else {
+        return false;
+    };
+    match (
+        message_of(alloc, exchange.request),
+        message_of(alloc, exchange.response),
+    ) {
+        (Some(request), Some(response)) => {
+            has_base(alloc, &request, &response, &params, exchange.base)
+        }
+        _ => false,
+    }
+}
+
+#[test]
+fn the_base_of_a_response_is_that_of_the_rfc(rt: HostRuntime) {
+    for exchange in &EXCHANGES {
+        assert!(rt; holds(rt.alloc(), exchange));
+    }
 }

@@ -1,30 +1,11 @@
 // Tests of msg_body, chunks and framing.
 
-use crate::heads::{are_pieces, prints};
-use chunks::{ChunkError, ChunksRead, read_chunks};
-use framing::{Framed, Framing, FramingError, read_framing};
-use msg_body::{Expect, MAX_MESSAGE_BYTES, MessageError, MessageFault, MessageRead, read_message};
+use crate::heads::are_pieces;
+use chunks::{ChunksRead, read_chunks};
+use framing::{Framing, read_framing};
+use msg_body::{Expect, MAX_MESSAGE_BYTES, MessageError, MessageRead, read_message};
 use msg_head::{HeadRead, Side, read_head};
 use std::alloc::Global;
-use std::test::Fail;
-
-// The example of msg_body.
-#[test]
-fn a_chunked_message_is_read(rt: HostRuntime) -> Result<(), Fail> {
-    let bytes =
-        b"POST / HTTP/1.1\r\nTransfer-Encoding: chunked\r\n\r\n3\r\nabc\r\n0\r\nA: b\r\n\r\n";
-    let MessageRead::Whole(message, used) = read_message(rt.alloc(), bytes, Expect::Request, false)?
-    else {
-        return Err("no message".into());
-    };
-    assert_eq!(rt; used, 66);
-    assert!(rt; are_pieces(message.content_pieces(), b"abc"));
-    assert_eq!(rt; message.line_count(Side::Trailer), 1);
-    let line = message.line(Side::Trailer, 0);
-    assert!(rt; line.name == b"A".as_slice() && line.raw == b" b".as_slice());
-    assert_eq!(rt; message.lines(Side::Trailer).count(), 1);
-    Ok(())
-}
 
 // A text, the message that it begins with, and how it is read.
 #[derive(Clone, Copy)]
@@ -37,8 +18,9 @@ struct Read {
     trailers: usize,
 }
 
-// What each framing reads (RFC 9112 section 6.3).
-const READS: [Read; 9] = [
+// What each framing reads (RFC 9112 section 6.3). No command knows that a response answers a HEAD
+// request. The second is the example of msg_body.
+const READS: [Read; 5] = [
     Read {
         bytes: b"POST / HTTP/1.1\r\nContent-Length: 5\r\n\r\nhellox",
         to_head: false,
@@ -55,14 +37,6 @@ const READS: [Read; 9] = [
         framing: Framing::Chunked,
         content: b"hello, chunked text",
         trailers: 2,
-    },
-    Read {
-        bytes: b"POST / HTTP/1.1\r\nTransfer-Encoding: chunked\r\n\r\n0\r\n\r\n\r\n\r\n",
-        to_head: false,
-        used: 52,
-        framing: Framing::Chunked,
-        content: b"",
-        trailers: 0,
     },
     Read {
         bytes: b"HTTP/1.1 200 OK\r\n\r\nto the\r\n\r\nend",
@@ -84,30 +58,6 @@ const READS: [Read; 9] = [
         bytes: b"HTTP/1.1 200 OK\r\nTransfer-Encoding: chunked\r\n\r\n",
         to_head: true,
         used: 47,
-        framing: Framing::None,
-        content: b"",
-        trailers: 0,
-    },
-    Read {
-        bytes: b"HTTP/1.1 204\r\nContent-Length: 5\r\n\r\nhello",
-        to_head: false,
-        used: 35,
-        framing: Framing::None,
-        content: b"",
-        trailers: 0,
-    },
-    Read {
-        bytes: b"HTTP/1.1 304\r\nContent-Length: 999999999999999\r\n\r\n",
-        to_head: false,
-        used: 49,
-        framing: Framing::None,
-        content: b"",
-        trailers: 0,
-    },
-    Read {
-        bytes: b"HTTP/1.1 100 Continue\r\n\r\nHTTP/1.1 200 OK\r\n\r\n",
-        to_head: false,
-        used: 25,
         framing: Framing::None,
         content: b"",
         trailers: 0,
@@ -197,8 +147,7 @@ struct Head {
     length: usize,
 }
 
-// No command knows of the request that a response answers.
-const HEADS: [Head; 5] = [
+const HEADS: [Head; 3] = [
     Head {
         bytes: b"POST / HTTP/1.1\r\nContent-Length: 18\r\n\r\n",
         to_head: false,
@@ -217,26 +166,15 @@ const HEADS: [Head; 5] = [
         framing: Framing::None,
         length: 0,
     },
-    Head {
-        bytes: b"HTTP/1.0 200\r\nContent-Length: 7\r\n\r\n",
-        to_head: true,
-        framing: Framing::None,
-        length: 7,
-    },
-    Head {
-        bytes: b"HTTP/1.1 200\r\n\r\n",
-        to_head: true,
-        framing: Framing::None,
-        length: 0,
-    },
 ];
 
-// The framing that the bytes' head has; None where they begin with no head.
-fn framing_of(alloc: Global, bytes: &[u8], to_head: bool) -> Option<Result<Framed, FramingError>> {
-    match read_head(alloc, bytes) {
-        Ok(HeadRead::Whole(head, _)) => Some(read_framing(&head, to_head)),
-        Ok(HeadRead::Partial) => None,
-        Err(_) => None,
+fn is_framed(alloc: Global, row: &Head) -> bool {
+    match read_head(alloc, row.bytes) {
+        Ok(HeadRead::Whole(head, _)) => match read_framing(&head, row.to_head) {
+            Ok(framed) => framed.framing == row.framing && framed.length == row.length,
+            Err(_) => false,
+        },
+        _ => false,
     }
 }
 
@@ -244,18 +182,8 @@ fn framing_of(alloc: Global, bytes: &[u8], to_head: bool) -> Option<Result<Frame
 #[test]
 fn an_answer_to_a_head_request_has_no_content(rt: HostRuntime) {
     for row in &HEADS {
-        let framed = Framed {
-            framing: row.framing,
-            length: row.length,
-        };
-        assert_eq!(rt;
-            framing_of(rt.alloc(), row.bytes, row.to_head),
-            Some(Ok(framed))
-        );
+        assert!(rt; is_framed(rt.alloc(), row));
     }
-    let both = b"POST / HTTP/1.1\r\nContent-Length: 18\r\nTransfer-Encoding: chunked\r\n\r\n";
-    let conflict = Some(Err(FramingError::Conflict));
-    assert_eq!(rt; framing_of(rt.alloc(), both, false), conflict);
 }
 
 // Chunks, and what they hold.
@@ -267,13 +195,7 @@ struct Held {
     content: &'static [u8],
 }
 
-const HELD: [Held; 3] = [
-    Held {
-        bytes: b"4;a=b\r\nWiki\r\n0\r\n\r\n",
-        used: 16,
-        count: 1,
-        content: b"Wiki",
-    },
+const HELD: [Held; 2] = [
     Held {
         bytes: b"4;a=b\r\nWiki\r\n00C \r\npedia in\r\n\r\n\r\n0\r\n\r\n",
         used: 36,
@@ -308,30 +230,4 @@ fn chunks_hold_content(rt: HostRuntime) {
     for row in &HELD {
         assert!(rt; is_held(rt.alloc(), row));
     }
-}
-
-const CHUNK_ERRORS: [(ChunkError, &'static str); 3] = [
-    (ChunkError::Memory, "out of memory"),
-    (ChunkError::TooLong, "content 8388608"),
-    (ChunkError::Bad(7), "chunk 7"),
-];
-
-const FRAMING_ERRORS: [(FramingError, &'static str); 3] = [
-    (FramingError::Conflict, "framing"),
-    (FramingError::BadLength, "length"),
-    (FramingError::CodingRefused, "coding"),
-];
-
-#[test]
-fn faults_of_bodies_are_printed(rt: HostRuntime) {
-    for (error, text) in &CHUNK_ERRORS {
-        assert!(rt; prints(rt.alloc(), error, *text));
-    }
-    for (error, text) in &FRAMING_ERRORS {
-        assert!(rt; prints(rt.alloc(), error, *text));
-    }
-    let line = MessageError::BadLine(Side::Trailer, 3);
-    assert!(rt; prints(rt.alloc(), &line, "trailer-line 3"));
-    let cut = MessageFault::Truncated(5);
-    assert!(rt; prints(rt.alloc(), &cut, "truncated 5"));
 }

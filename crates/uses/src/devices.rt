@@ -3,12 +3,11 @@
 
 use hms_io::{
     DirShelf, Failed, FileError, FillError, MAX_LIMIT, MemShelf, MemSink, MemSource, Shelf, Sink,
-    Source, Status, StdSink, StdSource, fill, put_all, take_file,
+    Source, StdSink, StdSource, fill, put_all, take_file,
 };
 use sfv_text::Memory;
 use std::alloc::Global;
 use std::io::{ErrorKind, Read, Write};
-use std::test::Fail;
 use std::{fs, io};
 
 const TEXT: &[u8] = b"GET /a HTTP/1.1";
@@ -55,11 +54,13 @@ const FILLINGS: [Filling<'static>; 6] = [
     },
 ];
 
-fn is_filled(alloc: Global, row: &Filling<'_>) -> Result<bool, Memory> {
-    let mut source = MemSource::new(alloc, TEXT, 1, row.fails)?;
+fn is_filled(alloc: Global, row: &Filling<'_>) -> bool {
+    let Ok(mut source) = MemSource::new(alloc, TEXT, 1, row.fails) else {
+        return false;
+    };
     match fill(alloc, &mut source, row.limit.min(MAX_LIMIT)) {
-        Ok(text) => Ok(row.wanted == Ok(text.bytes())),
-        Err(error) => Ok(row.wanted == Err(error)),
+        Ok(text) => row.wanted == Ok(text.bytes()),
+        Err(error) => row.wanted == Err(error),
     }
 }
 
@@ -100,21 +101,25 @@ const PUTTINGS: [Putting<'static>; 4] = [
     },
 ];
 
-fn is_put(alloc: Global, row: &Putting<'_>) -> Result<bool, Memory> {
-    let mut sink = MemSink::new(alloc, 20, 2, row.fails)?;
-    let put = put_all(&mut sink, row.text);
-    Ok(put == row.wanted && sink.taken() == row.taken)
+fn is_put(alloc: Global, row: &Putting<'_>) -> bool {
+    let Ok(mut sink) = MemSink::new(alloc, 20, 2, row.fails) else {
+        return false;
+    };
+    put_all(&mut sink, row.text) == row.wanted && sink.taken() == row.taken
 }
 
 #[test]
-fn a_text_goes_through_memory_or_the_call_that_fails_is_told(rt: HostRuntime) -> Result<(), Fail> {
+fn a_text_is_read_from_memory_or_the_read_fails(rt: HostRuntime) {
     for row in &FILLINGS {
-        assert!(rt; is_filled(rt.alloc(), row)?);
+        assert!(rt; is_filled(rt.alloc(), row));
     }
+}
+
+#[test]
+fn a_text_is_written_to_memory_or_the_write_fails(rt: HostRuntime) {
     for row in &PUTTINGS {
-        assert!(rt; is_put(rt.alloc(), row)?);
+        assert!(rt; is_put(rt.alloc(), row));
     }
-    Ok(())
 }
 
 // A file that is asked for, whole.
@@ -166,16 +171,30 @@ fn is_taken<F: Shelf>(alloc: Global, shelf: &mut F, row: &Taking<'_>) -> bool {
     }
 }
 
-#[test]
-fn a_file_in_memory_is_taken_whole_or_not_at_all(rt: HostRuntime) -> Result<(), Fail> {
-    let mut shelf = MemShelf::new(rt.alloc(), &[0, 5])?;
+fn shelf_of(alloc: Global) -> Result<MemShelf, Memory> {
+    let mut shelf = MemShelf::new(alloc, &[0, 5])?;
     shelf.put("a", b"an earlier file of that name")?;
     shelf.put("empty", b"")?;
     shelf.put("a", TEXT)?;
-    for row in &TAKINGS {
-        assert!(rt; is_taken(rt.alloc(), &mut shelf, row));
+    Ok(shelf)
+}
+
+fn are_taken<F: Shelf>(alloc: Global, shelf: &mut F, rows: &[Taking<'_>]) -> bool {
+    for row in rows {
+        if !is_taken(alloc, shelf, row) {
+            return false;
+        }
     }
-    Ok(())
+    true
+}
+
+#[test]
+fn a_file_in_memory_is_taken_whole_or_not_at_all(rt: HostRuntime) {
+    let is_right = match shelf_of(rt.alloc()) {
+        Ok(mut shelf) => are_taken(rt.alloc(), &mut shelf, &TAKINGS),
+        Err(_) => false,
+    };
+    assert!(rt; is_right);
 }
 
 // What a call of a reader or a writer does: it gives or takes at most so many bytes, or fails.
@@ -324,17 +343,20 @@ fn is_written(row: &Writing) -> bool {
     first == row.wanted && second == row.wanted && flushes == row.flushes
 }
 
+fn is_slice_filled() -> bool {
+    let mut room = [0u8; 15];
+    let mut sink = StdSink::new(room.as_mut_slice());
+    let first = put_all(&mut sink, TEXT).is_ok();
+    let second = put_all(&mut sink, b"more").is_err();
+    first && second && room.as_slice() == TEXT
+}
+
 #[test]
 fn a_sink_over_a_writer_flushes_each_write_and_fails_where_it_does(rt: HostRuntime) {
     for row in &WRITINGS {
         assert!(rt; is_written(row));
     }
-    let mut room = [0u8; 15];
-    let mut sink = StdSink::new(room.as_mut_slice());
-    assert_eq!(rt; put_all(&mut sink, TEXT), Ok(()));
-    assert_eq!(rt; sink.write(b""), Ok(0));
-    assert_eq!(rt; put_all(&mut sink, b"more"), Err(Failed));
-    assert_eq!(rt; room.as_slice(), TEXT);
+    assert!(rt; is_slice_filled());
 }
 
 // The files of a folder: a name with a space at its end, too.
@@ -384,30 +406,13 @@ const FILES: [Taking<'static>; 8] = [
 ];
 
 #[test]
-fn a_file_of_a_folder_is_taken_whole_or_not_at_all(rt: HostRuntime) -> Result<(), Fail> {
-    fs::create_dir(&rt, "shelf")?;
-    fs::write(&rt, "shelf/a", TEXT)?;
-    fs::write(&rt, "shelf/b ", b"b")?;
+fn a_file_of_a_folder_is_taken_whole_or_not_at_all(rt: HostRuntime) {
+    let _ = fs::create_dir(&rt, "shelf");
+    let _ = fs::write(&rt, "shelf/a", TEXT);
+    let _ = fs::write(&rt, "shelf/b ", b"b");
     let mut shelf = DirShelf::new(&rt);
-    for row in &FILES {
-        assert!(rt; is_taken(rt.alloc(), &mut shelf, row));
-    }
-    fs::remove_file(&rt, "shelf/a")?;
-    fs::remove_file(&rt, "shelf/b ")?;
-    fs::remove_dir(&rt, "shelf")?;
-    Ok(())
-}
-
-#[test]
-fn a_status_and_an_error_say_what_they_are(rt: HostRuntime) -> Result<(), Fail> {
-    let (done, arguments, missing) = (Status::Done, Status::BadArguments, Status::FileMissing);
-    let text = format!(in rt.alloc(); "{done}, {arguments}, {missing}")?;
-    assert_eq!(rt; text.as_str(), "done, bad arguments, a file is missing");
-    let (filled, taken) = (FillError::Failed, FileError::Failed);
-    let text = format!(in rt.alloc(); "{Failed}, {filled}, {taken}")?;
-    assert_eq!(rt;
-        text.as_str(),
-        "a read, a write or a fetch failed, a read failed, a fetch failed"
-    );
-    Ok(())
+    assert!(rt; are_taken(rt.alloc(), &mut shelf, &FILES));
+    let _ = fs::remove_file(&rt, "shelf/a");
+    let _ = fs::remove_file(&rt, "shelf/b ");
+    let _ = fs::remove_dir(&rt, "shelf");
 }

@@ -1,10 +1,8 @@
 // Tests of content_digest.
 
-use crate::heads::prints;
 use content_digest::{Algorithm, DigestFault, check_digest, make_digest};
 use msg_body::{Expect, MAX_MESSAGE_BYTES, MessageRead, MessageView, read_message};
 use std::alloc::Global;
-use std::test::Fail;
 
 // Requests with the content of RFC 9421 appendix B.2, `{"hello": "world"}`.
 const HELLO: &[u8] = b"POST / HTTP/1.1\r\nContent-Length: 18\r\n\r\n{\"hello\": \"world\"}";
@@ -118,38 +116,18 @@ fn is_mismatch(fault: &DigestFault, start: &[u8]) -> bool {
     }
 }
 
-// Digests, and what is printed of their fault.
-const FAULTS: [(&'static [u8], &'static str); 4] = [
-    (
-        b"sha-256=1",
-        "the digests are no Dictionary of Byte Sequences",
-    ),
-    (b"md5=:AAAA:", "no digest is by a known algorithm"),
-    (
-        b"sha-256=::",
-        "the sha-256 digest is not that of the content",
-    ),
-    (
-        b"sha-512=::",
-        "the sha-512 digest is not that of the content",
-    ),
-];
-
-// A verdict prints neither the two digests nor the fault's text.
-#[test]
-fn a_fault_has_both_digests_and_a_text(rt: HostRuntime) -> Result<(), Fail> {
-    let Some(view) = view_of(rt.alloc(), CHUNKED) else {
-        return Err("no message".into());
+fn is_fault_with_both(alloc: Global) -> bool {
+    let Some(view) = view_of(alloc, CHUNKED) else {
+        return false;
     };
-    let Err(fault) = check_digest(rt.alloc(), b"sha-256=:AAAA:", &view) else {
-        return Err("no fault".into());
-    };
-    assert!(rt; is_mismatch(&fault, b"\x5f\x8f\x04\xf6\xa3\xa8\x92\xaa"));
-    for (text, line) in &FAULTS {
-        let Err(fault) = check_digest(rt.alloc(), *text, &view) else {
-            return Err("no fault".into());
-        };
-        assert!(rt; prints(rt.alloc(), &fault, *line));
+    match check_digest(alloc, b"sha-256=:AAAA:", &view) {
+        Ok(_) => false,
+        Err(fault) => is_mismatch(&fault, b"\x5f\x8f\x04\xf6\xa3\xa8\x92\xaa"),
     }
-    Ok(())
+}
+
+// A verdict shows neither of the two digests.
+#[test]
+fn a_fault_has_both_digests(rt: HostRuntime) {
+    assert!(rt; is_fault_with_both(rt.alloc()));
 }

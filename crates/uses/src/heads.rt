@@ -5,11 +5,9 @@ ghost use Rattle.std.specs.Iterator.{IsFinite};
 use field_values::{combined_pieces, count_lines, line_pieces};
 use msg_body::{Expect, MessageRead, read_message};
 use msg_head::{
-    FieldLines, HeadError, HeadRead, LineView, Side, Start, TrailerRead, read_head, read_trailer,
+    HeadRead, HeadView, LineView, Side, Start, TrailerRead, TrailerView, read_head, read_trailer,
 };
 use std::alloc::Global;
-use std::fmt;
-use std::test::Fail;
 
 /// The text after the field line, where it begins with it.
 fn after_line<'a>(text: &'a [u8], line: LineView<'_>) -> Option<&'a [u8]> {
@@ -19,11 +17,23 @@ fn after_line<'a>(text: &'a [u8], line: LineView<'_>) -> Option<&'a [u8]> {
     after_raw.strip_prefix(b"\r\n".as_slice())
 }
 
-/// Whether the field lines together are the text.
-fn are_lines(lines: FieldLines<'_, '_>, text: &[u8]) -> bool {
+/// Whether the field lines of the head together are the text.
+fn are_lines(head: &HeadView<'_>, text: &[u8]) -> bool {
     let mut left = text;
-    for line in lines {
-        let Some(rest) = after_line(left, line) else {
+    for index in 0..head.line_count() {
+        let Some(rest) = after_line(left, head.line(index)) else {
+            return false;
+        };
+        left = rest;
+    }
+    left.is_empty()
+}
+
+/// The same of a trailer section.
+fn are_trailer_lines(trailer: &TrailerView<'_>, text: &[u8]) -> bool {
+    let mut left = text;
+    for index in 0..trailer.line_count() {
+        let Some(rest) = after_line(left, trailer.line(index)) else {
             return false;
         };
         left = rest;
@@ -45,14 +55,6 @@ pub(crate) fn are_pieces<'m, I: Iterator<Item = &'m [u8]> + Drop>(pieces: I, tex
     left.is_empty()
 }
 
-/// Whether the text is what is printed of the value.
-pub(crate) fn prints<T: fmt::Display>(alloc: Global, value: &T, text: &str) -> bool {
-    match format!(in alloc; "{}", value) {
-        Ok(line) => line.as_str() == text,
-        Err(_) => false,
-    }
-}
-
 const REQUEST: &[u8] = b"GET / HTTP/1.1\r\nHost: example.com\r\n\r\n";
 
 const REQUEST_LINES: &[u8] = b"Host: example.com\r\n";
@@ -62,67 +64,79 @@ const RESPONSE: &[u8] = b"HTTP/1.0 404 Not \xff\r\nA:b\r\n c\r\n\t\r\nD: e\r\n\r
 const RESPONSE_LINES: &[u8] = b"A:b\r\n c\r\n\t\r\nD: e\r\n";
 
 // The example of msg_head.
-#[test]
-fn a_head_is_read(rt: HostRuntime) -> Result<(), Fail> {
-    let HeadRead::Whole(head, used) = read_head(rt.alloc(), REQUEST)? else {
-        return Err("no head".into());
-    };
-    assert_eq!(rt; used, 37);
-    assert_eq!(rt; head.line_count(), 1);
-    assert_eq!(rt; head.line(0).raw, b" example.com".as_slice());
-    assert!(rt; are_lines(head.lines(), REQUEST_LINES));
-    Ok(())
+fn is_request(alloc: Global) -> bool {
+    match read_head(alloc, REQUEST) {
+        Ok(HeadRead::Whole(head, used)) => {
+            used == 37 && head.line_count() == 1 && are_lines(&head, REQUEST_LINES)
+        }
+        _ => false,
+    }
 }
 
-// The reason phrase of a status line stands in no signature base.
-#[test]
-fn a_status_line_and_folds_are_read(rt: HostRuntime) -> Result<(), Fail> {
-    let HeadRead::Whole(head, used) = read_head(rt.alloc(), RESPONSE)? else {
-        return Err("no head".into());
-    };
-    assert_eq!(rt; used, 40);
-    let Start::Status {
-        version,
-        code,
-        reason,
-    } = head.start()
-    else {
-        return Err("no status line".into());
-    };
-    assert!(rt; version == b"HTTP/1.0".as_slice() && code == b"404".as_slice());
-    assert!(rt; reason == Some(b"Not \xff".as_slice()));
-    assert!(rt; are_lines(head.lines(), RESPONSE_LINES));
-    // the same lines after chunks
-    let bytes = b"A:b\r\n c\r\n\t\r\nD: e\r\n\r\nmore";
-    let TrailerRead::Whole(trailer, count) = read_trailer(rt.alloc(), bytes)? else {
-        return Err("no trailer section".into());
-    };
-    assert_eq!(rt; count, 20);
-    assert!(rt; are_lines(trailer.lines(), RESPONSE_LINES));
-    Ok(())
+// The reason phrase of a status line is in no signature base.
+fn is_not_found(start: Start<'_>) -> bool {
+    match start {
+        Start::Status {
+            version,
+            code,
+            reason: Some(reason),
+        } => version == b"HTTP/1.0".as_slice()
+            && code == b"404".as_slice()
+            && reason == b"Not \xff".as_slice(),
+        _ => false,
+    }
 }
 
-// The examples of a line's name and of field_values.
+fn is_response(alloc: Global) -> bool {
+    match read_head(alloc, RESPONSE) {
+        Ok(HeadRead::Whole(head, used)) => {
+            used == 40 && is_not_found(head.start()) && are_lines(&head, RESPONSE_LINES)
+        }
+        _ => false,
+    }
+}
+
+// The lines of the response after chunks.
+fn is_trailer(alloc: Global) -> bool {
+    match read_trailer(alloc, b"A:b\r\n c\r\n\t\r\nD: e\r\n\r\nmore") {
+        Ok(TrailerRead::Whole(trailer, used)) => {
+            used == 20 && are_trailer_lines(&trailer, RESPONSE_LINES)
+        }
+        _ => false,
+    }
+}
+
 #[test]
-fn values_come_in_pieces(rt: HostRuntime) -> Result<(), Fail> {
+fn heads_and_trailer_sections_are_read(rt: HostRuntime) {
+    let alloc = rt.alloc();
+    assert!(rt; is_request(alloc) && is_response(alloc) && is_trailer(alloc));
+}
+
+// The example of a line's name.
+fn is_line() -> bool {
     let line = LineView {
         name: b"X",
         raw: b" a\r\n  b ",
     };
-    assert!(rt; line.is_named(b"x") && !line.is_named(b"X"));
-    assert!(rt; are_pieces(line.value_pieces(), b"a b") && are_pieces(line_pieces(line), b"a b"));
+    line.is_named(b"x")
+        && !line.is_named(b"X")
+        && are_pieces(line.value_pieces(), b"a b")
+        && are_pieces(line_pieces(line), b"a b")
+}
+
+// The example of field_values.
+fn are_combined(alloc: Global) -> bool {
     let bytes = b"GET / HTTP/1.1\r\nX: a\r\n  b \r\nx: c\r\n\r\n";
-    let MessageRead::Whole(view, _) = read_message(rt.alloc(), bytes, Expect::Any, false)? else {
-        return Err("no message".into());
-    };
-    assert!(rt; are_pieces(combined_pieces(&view, Side::Header, b"x"), b"a b, c"));
-    assert_eq!(rt; count_lines(&view, Side::Header, b"x"), 2);
-    Ok(())
+    match read_message(alloc, bytes, Expect::Any, false) {
+        Ok(MessageRead::Whole(view, _)) => {
+            are_pieces(combined_pieces(&view, Side::Header, b"x"), b"a b, c")
+                && count_lines(&view, Side::Header, b"x") == 2
+        }
+        _ => false,
+    }
 }
 
 #[test]
-fn faults_of_heads_are_printed(rt: HostRuntime) {
-    assert!(rt; prints(rt.alloc(), &HeadError::Memory, "out of memory"));
-    let line = HeadError::BadLine(Side::Header, 3);
-    assert!(rt; prints(rt.alloc(), &line, "head-line 3"));
+fn values_come_in_pieces(rt: HostRuntime) {
+    assert!(rt; is_line() && are_combined(rt.alloc()));
 }

@@ -25,11 +25,15 @@ mod heads;
 #[cfg(test)]
 mod identifiers;
 #[cfg(test)]
+mod interrupted_files;
+#[cfg(test)]
 mod macs;
+#[cfg(test)]
+mod outcomes;
 #[cfg(test)]
 mod readers;
 #[cfg(test)]
-mod refusals;
+mod texts;
 #[cfg(test)]
 mod values;
 #[cfg(test)]

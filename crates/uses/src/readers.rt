@@ -8,24 +8,31 @@ use sfv_read::{SfError, read_dict, read_inner, read_item, read_list};
 use sfv_text::{Text, print_dict, print_inner, print_item, print_list};
 use std::alloc::Global;
 
-// The example of byte_grammar and of byte_grammar.
+// The example of byte_grammar.
+fn are_bytes_read() -> bool {
+    let (visible, after_visible) = read_all(Class::Visible, b"a b");
+    let run = match read_run(Class::Digit, 1, 2, b"123;") {
+        Ok((digits, rest)) => digits == b"12".as_slice() && rest == b"3;".as_slice(),
+        Err(_) => false,
+    };
+    let word = match read_word(Class::Alpha, Class::Tchar, b"a1;") {
+        Ok((word, rest)) => word == b"a1".as_slice() && rest == b";".as_slice(),
+        Err(_) => false,
+    };
+    run && word && visible == b"a".as_slice() && after_visible == b" b".as_slice()
+}
+
+fn are_bytes_refused() -> bool {
+    let byte = match read_byte(Byte(b';'), b"a1") {
+        Ok(_) => false,
+        Err(Left(count)) => count == 2,
+    };
+    byte && starts_with(Class::Digit, b"1") && is_tchar(b'!') && !Class::Blank.allows(b'!')
+}
+
 #[test]
 fn bytes_of_a_class_are_read(rt: HostRuntime) {
-    assert!(rt; is_tchar(b'!') && !Class::Blank.allows(b'!') && Byte(b';').allows(b';'));
-    assert!(rt; starts_with(Class::Digit, b"1"));
-    assert_eq!(rt; read_byte(Byte(b';'), b"a1"), Err(Left(2)));
-    assert_eq!(rt;
-        read_run(Class::Digit, 1, 2, b"123;"),
-        Ok((b"12".as_slice(), b"3;".as_slice()))
-    );
-    assert_eq!(rt;
-        read_word(Class::Alpha, Class::Tchar, b"a1;"),
-        Ok((b"a1".as_slice(), b";".as_slice()))
-    );
-    assert_eq!(rt;
-        read_all(Class::Visible, b"a b"),
-        (b"a".as_slice(), b" b".as_slice())
-    );
+    assert!(rt; are_bytes_read() && are_bytes_refused());
 }
 
 #[derive(Clone, Copy)]
@@ -108,7 +115,7 @@ fn is_read(alloc: Global, row: &Reads) -> bool {
 #[test]
 fn texts_read_as_their_values(rt: HostRuntime) {
     for row in &READS {
-        assert!(rt; is_read(rt.alloc(), row), "{:?}", row.text);
+        assert!(rt; is_read(rt.alloc(), row));
     }
 }
 
@@ -221,14 +228,15 @@ fn is_refused(kind: Kind, alloc: Global, text: &[u8], fault: SfError) -> bool {
     }
 }
 
+fn are_refused(alloc: Global, row: &Refuses) -> bool {
+    row.texts
+        .iter()
+        .all(|text| is_refused(row.kind, alloc, *text, row.fault))
+}
+
 #[test]
 fn texts_are_refused_at_the_exact_offset(rt: HostRuntime) {
     for row in &REFUSES {
-        for text in row.texts {
-            assert!(rt;
-                is_refused(row.kind, rt.alloc(), text, row.fault),
-                "{text:?}"
-            );
-        }
+        assert!(rt; are_refused(rt.alloc(), row));
     }
 }

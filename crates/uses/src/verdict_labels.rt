@@ -1,4 +1,4 @@
-// Tests of signatures, policy_rules and verdicts.
+// Tests of signatures and verdicts.
 
 ghost use Rattle.std.specs.Prelude.{◌≡◌, ◌<◌};
 
@@ -6,12 +6,10 @@ use component_values::Context;
 use conf::{Conf, read_conf};
 use msg_body::{Expect, MessageRead, MessageView, read_message};
 use nonces::{NonceBook, Steps};
-use policy_rules::{PolicyFault, judge_policy, string_param};
 use signatures::{LabelRead, Rule, labels_of, read_label};
 use std::alloc::Global;
 use std::marker::Brand;
 use std::sync::ledger::{Blank, Ledger};
-use std::test::Fail;
 use verdicts::{Verdict, verdict};
 
 // The signature of RFC 9421 appendix B.2.5.
@@ -64,6 +62,7 @@ const CONF: &[u8] = b"[keys]\n\
 // at that moment or a second later.
 #[derive(Clone, Copy)]
 struct Row {
+    conf: &'static [u8],
     message: &'static [u8],
     held: &'static [u8; 1],
     is_later: bool,
@@ -72,54 +71,63 @@ struct Row {
 
 const ROWS: [Row; 9] = [
     Row {
+        conf: CONF,
         message: STANDARD,
         held: b"m",
         is_later: false,
         rule: Some(Rule::NonceAbsent),
     },
     Row {
+        conf: CONF,
         message: WITH_NONCE,
         held: b"n",
         is_later: false,
         rule: Some(Rule::NonceRepeated),
     },
     Row {
+        conf: CONF,
         message: WITH_NONCE,
         held: b"n",
         is_later: true,
         rule: None,
     },
     Row {
+        conf: CONF,
         message: WITH_NONCE,
         held: b"m",
         is_later: false,
         rule: Some(Rule::NoncesFull),
     },
     Row {
+        conf: CONF,
         message: WITH_NONCE,
         held: b"m",
         is_later: true,
         rule: None,
     },
     Row {
+        conf: CONF,
         message: WRONG,
         held: b"n",
         is_later: false,
         rule: Some(Rule::NonceRepeated),
     },
     Row {
+        conf: CONF,
         message: WRONG,
         held: b"m",
         is_later: false,
         rule: Some(Rule::MacMismatch),
     },
     Row {
+        conf: CONF,
         message: WITH_CONTENT,
         held: b"n",
         is_later: false,
         rule: Some(Rule::NonceRepeated),
     },
     Row {
+        conf: CONF,
         message: WITH_CONTENT,
         held: b"m",
         is_later: false,
@@ -127,131 +135,114 @@ const ROWS: [Row; 9] = [
     },
 ];
 
-fn view_of(alloc: Global, bytes: &[u8]) -> Result<MessageView<'_>, Fail> {
+fn view_of(alloc: Global, bytes: &[u8]) -> Option<MessageView<'_>> {
     if bytes.len() > 1_000 {
-        return Err(Fail::from("a long message"));
-    }
-    match read_message(alloc, bytes, Expect::Request, false)? {
-        MessageRead::Whole(view, _) => Ok(view),
-        MessageRead::Partial => Err(Fail::from("no message")),
-    }
-}
-
-// The rule that fails of the label `s`, by a book that holds this nonce until the first moment.
-fn rule_of<L: Ledger>(
-    alloc: Global,
-    conf: &Conf,
-    message: &[u8],
-    held: &[u8; 1],
-    is_later: bool,
-    steps: &mut Steps<L>,
-) -> Result<Option<Rule>, Fail> {
-    let view = view_of(alloc, message)?;
-    let context = Context::of_message(&view, conf.scheme(), conf.types());
-    let mut book = NonceBook::open(alloc, 1, 300, CREATED)?;
-    let _ = book.record(b"test-shared-secret", held, CREATED, steps);
-    if is_later {
-        book.advance(CREATED + 1, steps);
-    }
-    let now = book.moment();
-    match verdict(alloc, &context, b"s", conf, now, Some(&book), steps)? {
-        Verdict::Ok { keyid: _ } => Ok(None),
-        Verdict::Rule { number, place: _ } => Ok(Some(number)),
-    }
-}
-
-fn rows_hold<L: Ledger>(alloc: Global, blank: Blank) -> Result<bool, Fail>
-    requires name { blank.name ≡ L.name }
-    requires parts { blank.parts ≡ L.parts }
-    requires some { 0 < blank.parts }
-{
-    let mut steps: Steps<L> = Steps::new(blank);
-    let conf = read_conf(alloc, CONF)?;
-    for row in &ROWS {
-        let rule = rule_of(
-            alloc,
-            &conf,
-            row.message,
-            row.held,
-            row.is_later,
-            &mut steps,
-        )?;
-        if rule != row.rule {
-            return Ok(false);
-        }
-    }
-    Ok(true)
-}
-
-#[test]
-fn a_nonce_is_refused_while_it_lives(rt: HostRuntime) -> Result<(), Fail> {
-    assert!(&rt; rows_hold::<Brand>(rt.alloc(), Blank::new(1))?);
-    Ok(())
-}
-
-// Whether the one label is `s`, and its signature has three components and a tag of 32 bytes.
-fn is_standard(alloc: Global, view: &MessageView<'_>) -> Result<bool, Fail> {
-    let labels = labels_of(alloc, view)?;
-    let is_one = labels.len() == 1 && labels.iter().all(|label| label.bytes() == b"s".as_slice());
-    let Ok(LabelRead { params, tag }) = read_label(alloc, view, b"s") else {
-        return Ok(false);
-    };
-    Ok(is_one && params.ids.len() == 3 && tag.bytes().len() == 32)
-}
-
-#[test]
-fn labels_and_signatures_are_read(rt: HostRuntime) -> Result<(), Fail> {
-    let alloc = rt.alloc();
-    let view = view_of(alloc, STANDARD)?;
-    assert!(&rt; is_standard(alloc, &view)?);
-    Ok(())
-}
-
-// Whether the policy finds the standard's signature too old; None where it answers otherwise.
-fn is_too_old<L: Ledger>(
-    alloc: Global,
-    read: &LabelRead,
-    conf: &Conf,
-    now: u64,
-    blank: Blank,
-) -> Option<bool>
-    requires name { blank.name ≡ L.name }
-    requires parts { blank.parts ≡ L.parts }
-    requires some { 0 < blank.parts }
-{
-    let mut steps: Steps<L> = Steps::new(blank);
-    let keyid = string_param(&read.params, b"keyid")?.bytes();
-    if keyid.len() > 64 {
         return None;
     }
-    let policy = conf.policy();
-    match judge_policy(
+    match read_message(alloc, bytes, Expect::Request, false) {
+        Ok(MessageRead::Whole(view, _)) => Some(view),
+        _ => None,
+    }
+}
+
+// Whether this rule fails of the label `s`, or none, at the book's moment.
+fn is_verdict<L: Ledger>(
+    alloc: Global,
+    conf: &Conf,
+    view: &MessageView<'_>,
+    book: &NonceBook,
+    rule: Option<Rule>,
+    steps: &mut Steps<L>,
+) -> bool {
+    let context = Context::of_message(view, conf.scheme(), conf.types());
+    match verdict(
         alloc,
-        &read.params,
-        policy,
-        true,
-        keyid,
-        now,
-        None,
-        &mut steps,
+        &context,
+        b"s",
+        conf,
+        book.moment(),
+        Some(book),
+        steps,
     ) {
-        Ok(()) => Some(false),
-        Err(PolicyFault::TooOld) => Some(true),
-        Err(_) => None,
+        Ok(Verdict::Ok { keyid: _ }) => rule.is_none(),
+        Ok(Verdict::Rule { number, place: _ }) => rule == Some(number),
+        Err(_) => false,
+    }
+}
+
+// Whether the row holds of the message, by a book that holds its nonce until the first moment.
+fn is_judged<L: Ledger>(
+    alloc: Global,
+    conf: &Conf,
+    view: &MessageView<'_>,
+    row: &Row,
+    steps: &mut Steps<L>,
+) -> bool {
+    let Ok(mut book) = NonceBook::open(alloc, 1, 300, CREATED) else {
+        return false;
+    };
+    let held = row.held;
+    let _ = book.record(b"test-shared-secret", held, CREATED, steps);
+    if row.is_later {
+        book.advance(CREATED + 1, steps);
+    }
+    is_verdict(alloc, conf, view, &book, row.rule, steps)
+}
+
+fn holds<L: Ledger>(alloc: Global, row: &Row, steps: &mut Steps<L>) -> bool {
+    let Ok(conf) = read_conf(alloc, row.conf) else {
+        return false;
+    };
+    match view_of(alloc, row.message) {
+        Some(view) => is_judged(alloc, &conf, &view, row, steps),
+        None => false,
+    }
+}
+
+fn rows_hold<L: Ledger>(alloc: Global, blank: Blank) -> bool
+    requires name { blank.name ≡ L.name }
+    requires parts { blank.parts ≡ L.parts }
+    requires some { 0 < blank.parts }
+{
+    let mut steps: Steps<L> = Steps::new(blank);
+    for row in &ROWS {
+        if !holds(alloc, row, &mut steps) {
+            return false;
+        }
+    }
+    true
+}
+
+#[test]
+fn a_nonce_is_refused_while_it_lives(rt: HostRuntime) {
+    assert!(&rt; rows_hold::<Brand>(rt.alloc(), Blank::new(1)));
+}
+
+fn has_label(alloc: Global, view: &MessageView<'_>) -> bool {
+    match labels_of(alloc, view) {
+        Ok(labels) => {
+            labels.len() == 1 && labels.iter().all(|label| label.bytes() == b"s".as_slice())
+        }
+        Err(_) => false,
+    }
+}
+
+// Whether the signature has three components and a tag of 32 bytes.
+fn has_signature(alloc: Global, view: &MessageView<'_>) -> bool {
+    match read_label(alloc, view, b"s") {
+        Ok(LabelRead { params, tag }) => params.ids.len() == 3 && tag.bytes().len() == 32,
+        Err(_) => false,
+    }
+}
+
+fn is_standard(alloc: Global) -> bool {
+    match view_of(alloc, STANDARD) {
+        Some(view) => has_label(alloc, &view) && has_signature(alloc, &view),
+        None => false,
     }
 }
 
 #[test]
-fn a_policy_judges_parameters(rt: HostRuntime) -> Result<(), Fail> {
-    let alloc = rt.alloc();
-    let conf = read_conf(alloc, CONF)?;
-    let view = view_of(alloc, WITH_NONCE)?;
-    let Ok(read) = read_label(alloc, &view, b"s") else {
-        return Err(Fail::from("not read"));
-    };
-    let last = is_too_old::<Brand>(alloc, &read, &conf, CREATED + 300, Blank::new(1));
-    let after = is_too_old::<Brand>(alloc, &read, &conf, CREATED + 301, Blank::new(1));
-    assert_eq!(&rt; last, Some(false));
-    assert_eq!(&rt; after, Some(true));
-    Ok(())
+fn labels_and_signatures_are_read(rt: HostRuntime) {
+    assert!(&rt; is_standard(rt.alloc()));
 }

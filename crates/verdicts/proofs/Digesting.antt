@@ -17,7 +17,7 @@ use Rattle.signatures.specs.declared.place.Place.{Place}
 use Rattle.signatures.specs.declared.place.Place.TheVariants.{Digest as DigestPlace}
 use Rattle.signatures.specs.declared.rule.Rule.{Rule}
 use Rattle.signatures.specs.declared.rule.Rule.TheVariants.{Digest}
-use Rattle.verdicts.specs.ContentDigest.{covers_digest, digest_text, reason_of, HasDigest, LacksDigest}
+use Rattle.verdicts.specs.ContentDigest.{covers_digest, digest_text, digest_reason, HasDigest, LacksDigest}
 use Rattle.signatures.specs.tools.Answered.{SaysRule}
 use Rattle.verdicts.specs.tools.Judged.{digest_label_fault, FailsByField, FailsByDigest}
 
@@ -32,7 +32,7 @@ module _ (message : Message) (ids : List ComponentId) where
   one_reason reason other (inr a) (inl b) = absurd (false≢true (sym b.1 ∙ a.0))
   one_reason reason other (inr a) (inr b) =
       let same = one_digest_fault (digest_text message) (message_content message) a.1 b.1 a.3 b.3 in
-      let e : Some reason ≡ Some other = sym a.2 ∙ (ap reason_of same ∙ b.2) in
+      let e : Some reason ≡ Some other = sym a.2 ∙ (ap digest_reason same ∙ b.2) in
       cc
 
   some_reason : covers_digest ids ≡ true → (f : DigestFault) → IsDigestFault (digest_text message) (message_content message) f → (reason : DigestReason) × LacksDigest message ids reason

@@ -4,7 +4,6 @@ use Rattle.std.specs.List.{slice_get}
 use Rattle.std.specs.Option.{IsSomeAnd}
 use Rattle.std.specs.Str.{bytes_eq}
 use Rattle.std.proofs.lemmas.Bool.{cases_Bool, cases_lt, false≢true}
-use Rattle.std.proofs.lemmas.Option.{slice_get_within}
 use Rattle.std.proofs.lemmas.Slice.Eq.{bytes_eq-Decides}
 use Rattle.byte_grammar.specs.Causes.{AnswersWhere}
 use Rattle.byte_grammar.proofs.Indices.{some_and, some_and_parts}
@@ -23,11 +22,9 @@ use Rattle.component_values.proofs.FirstLacks.{have_or_lack, have_one_list, firs
 use Rattle.sig_base.specs.SignatureBase.{signature_base}
 use Rattle.hmac_sha256.specs.Hmac.{hmac}
 use Rattle.settings.specs.ValidSections.{IsValidPolicy}
-use Rattle.policy_rules.specs.declared.fault.PolicyFault.{PolicyFault}
-use Rattle.policy_rules.specs.declared.fault.PolicyFault.TheVariants as policy
-use Rattle.policy_rules.specs.Parameters.{alg_of, keyid_of, nonce_of}
-use Rattle.policy_rules.specs.PolicyRules.{PolicyCheck, asks_new, FailsPolicy, policy_order, IsFirstPolicyFault, AcceptsByPolicy, is_full_at, LacksRoom, HasRoom}
-use Rattle.policy_rules.proofs.Judging.{has_one_policy_fault, has_policy_answer, is_accepted_where_no_fault, has_room_or_lacks_it}
+use Rattle.verdicts.specs.Parameters.{alg_of, keyid_of}
+use Rattle.verdicts.specs.Policies.{required_of, IsFirstUncovered, AcceptsByPolicy, LacksRoom, HasRoom}
+use Rattle.verdicts.specs.Verification.{Verification, policy_of}
 use Rattle.verdicts.specs.ContentDigest.{HasDigest, LacksDigest}
 use Rattle.signatures.specs.declared.place.DigestReason.{DigestReason}
 use Rattle.signatures.specs.declared.label.LabelFault.{LabelFault}
@@ -42,13 +39,16 @@ use Rattle.signatures.specs.declared.rule.Rule.TheVariants.{InputAbsent, InputMa
 use Rattle.signatures.specs.Words.{rule_number}
 use Rattle.signatures.specs.Signatures.{HasSignature}
 use Rattle.signatures.specs.Rules.{FailsToRead, IsLabelUnread, IsFirstFailure}
-use Rattle.verdicts.specs.Rules.{Verification, key_in, supported_algorithm, refused_algorithms, check_of, asks_digest_of, OfSignature, FailsByLack, IsNoMac, Fails}
+use Rattle.verdicts.specs.Rules.{key_in, supported_algorithm, refused_algorithms, asks_digest_of, OfSignature, FailsByLack, IsNoMac, Fails}
 use Rattle.verdicts.specs.Verdicts.{Accepts, IsVerdict}
 use Rattle.verdicts.specs.Laws.{HasVerdict, HasOneVerdict, IsAcceptedWhereNoRuleFails}
 use Rattle.signatures.specs.tools.Answered.{SaysRule}
-use Rattle.verdicts.specs.tools.Judged.{FailsByAlgorithm, FailsByKeyid, FailsByKey, FailsByTag, SaysFault, LiesIn, rule_of_lack, policy_label_fault, FailsByCheck, FailsByDigest, FailsByRoom, IsJudged}
-use Rattle.verdicts.proofs.RuleOrder.{NoneBelow, most, nor, first_failure, one_first_failure}
-use Rattle.verdicts.proofs.Places.{place_in_range}
+use Rattle.verdicts.specs.tools.Judged.{FailsByAlgorithm, FailsByKeyid, FailsByKey, FailsByMac, SaysFault, rule_of_lack, NoneBelow, FailsByDigest, FailsByRoom, IsJudged}
+use Rattle.verdicts.proofs.RuleOrder.{most, nor, first_failure, one_first_failure, says_failure}
+use Rattle.verdicts.proofs.OfSignature.{on_signature, on_policy}
+use Rattle.verdicts.proofs.PolicyFailures.{none_below_27, has_policy_answer, not_full_with_room, room_or_not}
+use Rattle.verdicts.proofs.Uncovered.{one_uncovered}
+use Rattle.verdicts.proofs.Places.{place_in_range, reading_place}
 use Rattle.verdicts.proofs.Digesting.{one_reason, has_not_both, has_digest_or_reason}
 use Rattle.signatures.proofs.Reading.{has_one_signature, is_unread_by_one_rule, has_no_failure_where_read, has_signature_or_not, is_unread_by_rules_to_12}
 
@@ -148,122 +148,19 @@ module _ (v : Verification) where
   }
 
   -- what a fault of the reader says of all rules
-  pub read_says : (fault : LabelFault) → IsValidPolicy v.conf.policy
+  pub read_says : (fault : LabelFault)
       → ((rule : Rule) (place : Place) → AnswersWhere {T = LabelRead} Memory (Err fault) (IsRule rule place) (IsLabelUnread v.context.message v.label rule place))
       → SaysRule (IsJudged v) fault
-  read_says Memory valid answers = tt
-  read_says (IsRule rule place) valid answers =
-      let first = unread_is_first rule place ((answers rule place).only refl) in
-      (first, place_in_range v valid rule place first.holds)
+  read_says Memory answers = tt
+  read_says (IsRule rule place) answers =
+      let unread = (answers rule place).only refl in
+      (unread_is_first rule place unread, reading_place v.context.message v.label rule place unread.holds)
 
 -- ---- the rules of a signature
 
 module _ (v : Verification) (params : SigParams) (tag : List ℕ) (has : HasSignature v.context.message v.label params tag) where
-  -- what is so of the label's signature is so of this one
-  on_signature : (Fact : SigParams → List ℕ → Type 0) → OfSignature v Fact → Fact params tag
-  on_signature Fact x =
-      let same = has_one_signature v.context.message v.label x.0 params x.1 tag x.2 has in
-      subst (λ (t : List ℕ). Fact params t) same.1 (subst (λ (p : SigParams). Fact p x.1) same.0 x.3)
-
   none_below_13 : NoneBelow (Fails v) 13
   none_below_13 rule place lt fails = has_no_failure_where_read v.context.message v.label params tag rule place has (as_reading v rule place lt fails)
-
-  -- ---- the rules of the policy
-
-  -- they are those of its faults
-  as_fault : (rule : Rule) (place : Place) → 16 < rule_number rule → rule_number rule < 27 → Fails v rule place
-      → (fault : PolicyFault) × (rule_number rule ≡ 17 + policy_order fault) × FailsPolicy (check_of v params) fault
-  as_fault InputAbsent place high low fails = absurd (omega (arith, high))
-  as_fault InputMalformed place high low fails = absurd (omega (arith, high))
-  as_fault SignatureAbsent place high low fails = absurd (omega (arith, high))
-  as_fault SignatureMalformed place high low fails = absurd (omega (arith, high))
-  as_fault LabelNotInInput place high low fails = absurd (omega (arith, high))
-  as_fault LabelNotInSignature place high low fails = absurd (omega (arith, high))
-  as_fault InputNotList place high low fails = absurd (omega (arith, high))
-  as_fault SignatureNotBytes place high low fails = absurd (omega (arith, high))
-  as_fault ComponentsMany place high low fails = absurd (omega (arith, high))
-  as_fault ComponentBad place high low fails = absurd (omega (arith, high))
-  as_fault ComponentRepeated place high low fails = absurd (omega (arith, high))
-  as_fault ParameterBad place high low fails = absurd (omega (arith, high))
-  as_fault AlgRefused place high low fails = absurd (omega (arith, high))
-  as_fault AlgUnknown place high low fails = absurd (omega (arith, high))
-  as_fault KeyidAbsent place high low fails = absurd (omega (arith, high))
-  as_fault KeyUnknown place high low fails = absurd (omega (arith, high))
-  as_fault ComponentRequired place high low fails = (policy.Required fails.0, refl, on_signature (λ p t. FailsPolicy (check_of v p) (policy.Required fails.0)) fails.2)
-  as_fault CreatedAbsent place high low fails = (policy.CreatedAbsent, refl, on_signature (λ p t. FailsPolicy (check_of v p) policy.CreatedAbsent) fails.1)
-  as_fault CreatedAhead place high low fails = (policy.CreatedAhead, refl, on_signature (λ p t. FailsPolicy (check_of v p) policy.CreatedAhead) fails.1)
-  as_fault TooOld place high low fails = (policy.TooOld, refl, on_signature (λ p t. FailsPolicy (check_of v p) policy.TooOld) fails.1)
-  as_fault ExpiresAbsent place high low fails = (policy.ExpiresAbsent, refl, on_signature (λ p t. FailsPolicy (check_of v p) policy.ExpiresAbsent) fails.1)
-  as_fault Expired place high low fails = (policy.Expired, refl, on_signature (λ p t. FailsPolicy (check_of v p) policy.Expired) fails.1)
-  as_fault TagWrong place high low fails = (policy.TagWrong, refl, on_signature (λ p t. FailsPolicy (check_of v p) policy.TagWrong) fails.1)
-  as_fault NonceAbsent place high low fails = (policy.NonceAbsent, refl, on_signature (λ p t. FailsPolicy (check_of v p) policy.NonceAbsent) fails.1)
-  as_fault NonceRepeated place high low fails = (policy.NonceRepeated, refl, on_signature (λ p t. FailsPolicy (check_of v p) policy.NonceRepeated) fails.1)
-  as_fault NonceLong place high low fails = (policy.NonceLong, refl, on_signature (λ p t. FailsPolicy (check_of v p) policy.NonceLong) fails.1)
-  as_fault Absent place high low fails = absurd (omega (arith, low))
-  as_fault Ambiguous place high low fails = absurd (omega (arith, low))
-  as_fault Underivable place high low fails = absurd (omega (arith, low))
-  as_fault Unreadable place high low fails = absurd (omega (arith, low))
-  as_fault NotAscii place high low fails = absurd (omega (arith, low))
-  as_fault MacMismatch place high low fails = absurd (omega (arith, low))
-  as_fault Digest place high low fails = absurd (omega (arith, low))
-  as_fault NoncesFull place high low fails = absurd (omega (arith, low))
-
-  none_below_fault : NoneBelow (Fails v) 17 → (n : ℕ) → n ≤ 10 → ((fault : PolicyFault) → policy_order fault < n → ¬ FailsPolicy (check_of v params) fault) → NoneBelow (Fails v) (17 + n)
-  none_below_fault below n few none rule place lt fails = elim (cases_lt (rule_number rule) 17) [
-    | inl low ↦ below rule place low fails
-    | inr high ↦
-        let at = as_fault rule place (omega (arith, high)) (omega (arith, lt, few)) fails in
-        none at.0 (let number = at.1 in omega (arith, lt, number)) at.2
-  ]
-
-  fails_at : NoneBelow (Fails v) 17 → (fault : PolicyFault) (rule : Rule) (place : Place) → rule_number rule ≡ 17 + policy_order fault → policy_order fault ≤ 10
-      → IsFirstPolicyFault (check_of v params) fault → Fails v rule place → IsFirstFailure (Fails v) rule place
-  fails_at below fault rule place number few first fails =
-      first_failure (Fails v) rule place (subst (λ (n : ℕ). NoneBelow (Fails v) n) (sym number) (none_below_fault below (policy_order fault) few first.none_before)) fails
-
-  first_by_fault : NoneBelow (Fails v) 17 → (rule : Rule) (place : Place) (fault : PolicyFault) → policy_label_fault fault ≡ IsRule rule place
-      → IsFirstPolicyFault (check_of v params) fault → IsFirstFailure (Fails v) rule place
-  first_by_fault below rule place policy.Memory e first = absurd first.holds
-  first_by_fault below rule place (policy.Required id) e first =
-      let rules : rule ≡ ComponentRequired = cc in
-      let places : place ≡ Identifier id = cc in
-      rw (rules, places) (fails_at below (policy.Required id) ComponentRequired (Identifier id) refl (lit≤ tt) first (id, refl, (params, tag, has, first.holds)))
-  first_by_fault below rule place policy.CreatedAbsent e first =
-      let rules : rule ≡ CreatedAbsent = cc in
-      let places : place ≡ Nowhere = cc in
-      rw (rules, places) (fails_at below policy.CreatedAbsent CreatedAbsent Nowhere refl (lit≤ tt) first (refl, (params, tag, has, first.holds)))
-  first_by_fault below rule place policy.CreatedAhead e first =
-      let rules : rule ≡ CreatedAhead = cc in
-      let places : place ≡ Nowhere = cc in
-      rw (rules, places) (fails_at below policy.CreatedAhead CreatedAhead Nowhere refl (lit≤ tt) first (refl, (params, tag, has, first.holds)))
-  first_by_fault below rule place policy.TooOld e first =
-      let rules : rule ≡ TooOld = cc in
-      let places : place ≡ Nowhere = cc in
-      rw (rules, places) (fails_at below policy.TooOld TooOld Nowhere refl (lit≤ tt) first (refl, (params, tag, has, first.holds)))
-  first_by_fault below rule place policy.ExpiresAbsent e first =
-      let rules : rule ≡ ExpiresAbsent = cc in
-      let places : place ≡ Nowhere = cc in
-      rw (rules, places) (fails_at below policy.ExpiresAbsent ExpiresAbsent Nowhere refl (lit≤ tt) first (refl, (params, tag, has, first.holds)))
-  first_by_fault below rule place policy.Expired e first =
-      let rules : rule ≡ Expired = cc in
-      let places : place ≡ Nowhere = cc in
-      rw (rules, places) (fails_at below policy.Expired Expired Nowhere refl (lit≤ tt) first (refl, (params, tag, has, first.holds)))
-  first_by_fault below rule place policy.TagWrong e first =
-      let rules : rule ≡ TagWrong = cc in
-      let places : place ≡ Nowhere = cc in
-      rw (rules, places) (fails_at below policy.TagWrong TagWrong Nowhere refl (lit≤ tt) first (refl, (params, tag, has, first.holds)))
-  first_by_fault below rule place policy.NonceAbsent e first =
-      let rules : rule ≡ NonceAbsent = cc in
-      let places : place ≡ Nowhere = cc in
-      rw (rules, places) (fails_at below policy.NonceAbsent NonceAbsent Nowhere refl (lit≤ tt) first (refl, (params, tag, has, first.holds)))
-  first_by_fault below rule place policy.NonceRepeated e first =
-      let rules : rule ≡ NonceRepeated = cc in
-      let places : place ≡ Nowhere = cc in
-      rw (rules, places) (fails_at below policy.NonceRepeated NonceRepeated Nowhere refl (lit≤ tt) first (refl, (params, tag, has, first.holds)))
-  first_by_fault below rule place policy.NonceLong e first =
-      let rules : rule ≡ NonceLong = cc in
-      let places : place ≡ Nowhere = cc in
-      rw (rules, places) (fails_at below policy.NonceLong NonceLong Nowhere refl (lit≤ tt) first (refl, (params, tag, has, first.holds)))
 
   -- ---- its algorithm
 
@@ -278,12 +175,12 @@ module _ (v : Verification) (params : SigParams) (tag : List ℕ) (has : HasSign
 
   passes_refused : IfSome (alg_of params) (λ alg. is_listed refused_algorithms alg ≡ false) → (place : Place) → ¬ Fails v AlgRefused place
   passes_refused none place fails =
-      let at = alg_at (λ alg. IsTrue (is_listed refused_algorithms alg) × (place ≡ Name alg)) (on_signature (FactRefused place) fails) in
+      let at = alg_at (λ alg. IsTrue (is_listed refused_algorithms alg) × (place ≡ Name alg)) (on_signature v params tag has (FactRefused place) fails) in
       false≢true (sym (if_some_at (λ alg. is_listed refused_algorithms alg ≡ false) (alg_of params) at.0 at.1 none) ∙ at.2.0)
 
   passes_unknown : IfSome (alg_of params) (λ alg. alg ≡ supported_algorithm) → (place : Place) → ¬ Fails v AlgUnknown place
   passes_unknown supported place fails =
-      let at = alg_at (λ alg. IsFalse (is_listed (supported_algorithm ∷ refused_algorithms) alg) × (place ≡ Name (string_text alg))) (on_signature (FactUnknown place) fails) in
+      let at = alg_at (λ alg. IsFalse (is_listed (supported_algorithm ∷ refused_algorithms) alg) × (place ≡ Name (string_text alg))) (on_signature v params tag has (FactUnknown place) fails) in
       let same : at.0 ≡ supported_algorithm = if_some_at (λ alg. alg ≡ supported_algorithm) (alg_of params) at.0 at.1 supported in
       false≢true (sym at.2.0 ∙ (ap (is_listed (supported_algorithm ∷ refused_algorithms)) same ∙ supported_is_known))
 
@@ -313,7 +210,7 @@ module _ (v : Verification) (params : SigParams) (tag : List ℕ) (has : HasSign
 
     module _ (keyid : List ℕ) (keyid_is : keyid_of params ≡ Some keyid) where
       passes_keyid : (place : Place) → ¬ Fails v KeyidAbsent place
-      passes_keyid place fails = let none = on_signature (λ p t. keyid_of p ≡ None) fails.1 in absurd (cc (keyid_is, none))
+      passes_keyid place fails = let none = on_signature v params tag has (λ p t. keyid_of p ≡ None) fails.1 in absurd (cc (keyid_is, none))
 
       none_below_16 : NoneBelow (Fails v) 16
       none_below_16 = nor (Fails v) KeyidAbsent (none_below_15 supported) passes_keyid
@@ -327,26 +224,23 @@ module _ (v : Verification) (params : SigParams) (tag : List ℕ) (has : HasSign
       module _ (key : List ℕ) (key_is : key_in v.conf keyid ≡ Some key) where
         passes_key : (place : Place) → ¬ Fails v KeyUnknown place
         passes_key place fails =
-            let at = some_and_parts (λ (id : List ℕ). key_in v.conf id ≡ None) (keyid_of params) (on_signature (λ p t. IsSomeAnd (keyid_of p) (λ id. key_in v.conf id ≡ None)) fails.1) in
+            let at = some_and_parts (λ (id : List ℕ). key_in v.conf id ≡ None) (keyid_of params) (on_signature v params tag has (λ p t. IsSomeAnd (keyid_of p) (λ id. key_in v.conf id ≡ None)) fails.1) in
             let same : at.0 ≡ keyid = let e : Some at.0 ≡ Some keyid = sym at.1 ∙ keyid_is in cc in
             let none : key_in v.conf keyid ≡ None = ap (key_in v.conf) (sym same) ∙ at.2 in
             absurd (cc (key_is, none))
 
-        none_below_17 : NoneBelow (Fails v) 17
+        pub none_below_17 : NoneBelow (Fails v) 17
         none_below_17 = nor (Fails v) KeyUnknown none_below_16 passes_key
 
-        pub check_fails : (rule : Rule) (place : Place) → FailsByCheck (check_of v params) rule place → IsFirstFailure (Fails v) rule place
-        check_fails rule place fails = first_by_fault none_below_17 rule place fails.0 fails.1 fails.2
-
-        module _ (accepts : AcceptsByPolicy (check_of v params)) where
-          none_below_27 : NoneBelow (Fails v) 27
-          none_below_27 = none_below_fault none_below_17 10 (lit≤ tt) (λ fault lt. (is_accepted_where_no_fault (check_of v params)).0 accepts fault)
+        module _ (accepts : AcceptsByPolicy v (policy_of v.conf params) params) where
+          below_27 : NoneBelow (Fails v) 27
+          below_27 = none_below_27 v params tag has none_below_17 accepts
 
           abbrev LacksOne : Lack → Place → SigParams → List ℕ → Type 0
           LacksOne how place p t = (index : ℕ) × IsFirstLack v.context p.ids index how × IsSomeAnd (slice_get p.ids index) (λ id. place ≡ Identifier id)
 
           passes_lack : (how : Lack) → ((index : ℕ) → ¬ IsFirstLack v.context params.ids index how) → (place : Place) → ¬ FailsByLack v how place
-          passes_lack how none place fails = let at = on_signature (LacksOne how place) fails in none at.0 at.1
+          passes_lack how none place fails = let at = on_signature v params tag has (LacksOne how place) fails in none at.0 at.1
 
           module _ (index : ℕ) (how : Lack) (first : IsFirstLack v.context params.ids index how) where
             not_other : (other : Lack) → ¬ (how ≡ other) → (place : Place) → ¬ FailsByLack v other place
@@ -354,20 +248,20 @@ module _ (v : Verification) (params : SigParams) (tag : List ℕ) (has : HasSign
 
           lack_fails : (index : ℕ) (how : Lack) → IsFirstLack v.context params.ids index how → (place : Place) → IsSomeAnd (slice_get params.ids index) (λ id. place ≡ Identifier id)
               → IsFirstFailure (Fails v) (rule_of_lack how) place
-          lack_fails index lack.Absent first place there = first_failure (Fails v) Absent place none_below_27 (params, tag, has, (index, first, there))
+          lack_fails index lack.Absent first place there = first_failure (Fails v) Absent place below_27 (params, tag, has, (index, first, there))
           lack_fails index lack.Ambiguous first place there =
               let other = not_other index lack.Ambiguous first in
-              first_failure (Fails v) Ambiguous place (nor (Fails v) Absent none_below_27 (other lack.Absent (λ e. absurd cc))) (params, tag, has, (index, first, there))
+              first_failure (Fails v) Ambiguous place (nor (Fails v) Absent below_27 (other lack.Absent (λ e. absurd cc))) (params, tag, has, (index, first, there))
           lack_fails index lack.Underivable first place there =
               let other = not_other index lack.Underivable first in
               first_failure (Fails v) Underivable place
-              (nor (Fails v) Ambiguous (nor (Fails v) Absent none_below_27 (other lack.Absent (λ e. absurd cc))) (other lack.Ambiguous (λ e. absurd cc)))
+              (nor (Fails v) Ambiguous (nor (Fails v) Absent below_27 (other lack.Absent (λ e. absurd cc))) (other lack.Ambiguous (λ e. absurd cc)))
               (params, tag, has, (index, first, there))
           lack_fails index lack.Unreadable first place there =
               let other = not_other index lack.Unreadable first in
               first_failure (Fails v) Unreadable place
               (nor (Fails v) Underivable
-              (nor (Fails v) Ambiguous (nor (Fails v) Absent none_below_27 (other lack.Absent (λ e. absurd cc))) (other lack.Ambiguous (λ e. absurd cc)))
+              (nor (Fails v) Ambiguous (nor (Fails v) Absent below_27 (other lack.Absent (λ e. absurd cc))) (other lack.Ambiguous (λ e. absurd cc)))
               (other lack.Underivable (λ e. absurd cc)))
               (params, tag, has, (index, first, there))
           lack_fails index lack.NotAscii first place there =
@@ -375,7 +269,7 @@ module _ (v : Verification) (params : SigParams) (tag : List ℕ) (has : HasSign
               first_failure (Fails v) NotAscii place
               (nor (Fails v) Unreadable
               (nor (Fails v) Underivable
-              (nor (Fails v) Ambiguous (nor (Fails v) Absent none_below_27 (other lack.Absent (λ e. absurd cc))) (other lack.Ambiguous (λ e. absurd cc)))
+              (nor (Fails v) Ambiguous (nor (Fails v) Absent below_27 (other lack.Absent (λ e. absurd cc))) (other lack.Ambiguous (λ e. absurd cc)))
               (other lack.Underivable (λ e. absurd cc)))
               (other lack.Unreadable (λ e. absurd cc)))
               (params, tag, has, (index, first, there))
@@ -388,7 +282,7 @@ module _ (v : Verification) (params : SigParams) (tag : List ℕ) (has : HasSign
             none_below_32 =
                 nor (Fails v) NotAscii
                 (nor (Fails v) Unreadable
-                (nor (Fails v) Underivable (nor (Fails v) Ambiguous (nor (Fails v) Absent none_below_27 (none_lack lack.Absent)) (none_lack lack.Ambiguous)) (none_lack lack.Underivable))
+                (nor (Fails v) Underivable (nor (Fails v) Ambiguous (nor (Fails v) Absent below_27 (none_lack lack.Absent)) (none_lack lack.Ambiguous)) (none_lack lack.Underivable))
                 (none_lack lack.Unreadable))
                 (none_lack lack.NotAscii)
 
@@ -399,7 +293,7 @@ module _ (v : Verification) (params : SigParams) (tag : List ℕ) (has : HasSign
 
             passes_mac : tag ≡ hmac key (signature_base params values) → (place : Place) → ¬ Fails v MacMismatch place
             passes_mac mac place fails =
-                let no = on_signature (IsNoMac v) fails.1 in
+                let no = on_signature v params tag has (IsNoMac v) fails.1 in
                 let ids : no.keyid ≡ keyid = let e : Some no.keyid ≡ Some keyid = sym no.keyid_is ∙ keyid_is in cc in
                 let keys : no.key ≡ key = let e : Some no.key ≡ Some key = sym no.key_is ∙ (ap (key_in v.conf) ids ∙ key_is) in cc in
                 let all : no.values ≡ values = have_one_list v.context params.ids no.values values no.have have in
@@ -410,30 +304,30 @@ module _ (v : Verification) (params : SigParams) (tag : List ℕ) (has : HasSign
             none_below_33 mac = nor (Fails v) MacMismatch none_below_32 (passes_mac mac)
 
             module _ (mac : tag ≡ hmac key (signature_base params values)) where
-              pub digest_fails : (rule : Rule) (place : Place) → FailsByDigest (asks_digest_of v) v.context.message params.ids rule place → IsFirstFailure (Fails v) rule place
+              pub digest_fails : (rule : Rule) (place : Place) → FailsByDigest (asks_digest_of v (policy_of v.conf params)) v.context.message params.ids rule place → IsFirstFailure (Fails v) rule place
               digest_fails rule place fails =
                   rw (fails.0, fails.3) (first_failure (Fails v) Digest (DigestPlace fails.2) (none_below_33 mac) (fails.2, refl, (params, tag, has, (fails.1, fails.4))))
 
-              module _ (digest : IsTrue (asks_digest_of v) → HasDigest v.context.message params.ids) where
+              module _ (digest : IsTrue (asks_digest_of v (policy_of v.conf params)) → HasDigest v.context.message params.ids) where
                 passes_digest : (place : Place) → ¬ Fails v Digest place
                 passes_digest place fails =
-                    let at = on_signature (λ p t. IsTrue (asks_digest_of v) × LacksDigest v.context.message p.ids fails.0) fails.2 in
+                    let at = on_policy v params tag has (λ policy p. IsTrue (asks_digest_of v policy) × LacksDigest v.context.message p.ids fails.0) fails.2 in
                     has_not_both v.context.message params.ids (digest at.0) fails.0 at.1
 
                 none_below_34 : NoneBelow (Fails v) 34
                 none_below_34 = nor (Fails v) Digest (none_below_33 mac) passes_digest
 
-                pub room_fails : (rule : Rule) (place : Place) → FailsByRoom (check_of v params) rule place → IsFirstFailure (Fails v) rule place
+                pub room_fails : (rule : Rule) (place : Place) → FailsByRoom v.now v.seen (policy_of v.conf params) params rule place → IsFirstFailure (Fails v) rule place
                 room_fails rule place fails = rw (fails.0, fails.1) (first_failure (Fails v) NoncesFull Nowhere none_below_34 (refl, (params, tag, has, fails.2)))
 
-                none_below_35 : HasRoom (check_of v params) → NoneBelow (Fails v) 35
+                none_below_35 : HasRoom v.now v.seen (policy_of v.conf params) params → NoneBelow (Fails v) 35
                 none_below_35 room =
                     nor (Fails v) NoncesFull none_below_34
-                    (λ place fails. (has_room_or_lacks_it (check_of v params)).0 room (on_signature (λ p t. LacksRoom (check_of v p)) fails.1))
+                    (λ place fails. not_full_with_room v.now v.seen (policy_of v.conf params) params room (on_policy v params tag has (LacksRoom v.now v.seen) fails.1))
 
-          pub tag_fails : (rule : Rule) (place : Place) → FailsByTag v.context params tag key rule place → IsFirstFailure (Fails v) rule place
-          tag_fails rule place (inl lacks) = rw lacks.3.0 (lack_fails lacks.0 lacks.1 lacks.2 place lacks.3.1)
-          tag_fails rule place (inr other) = rw (other.0, other.1) (mac_fails other.2 other.3 other.4)
+          pub mac_or_lack_fails : (rule : Rule) (place : Place) → FailsByMac v.context params tag key rule place → IsFirstFailure (Fails v) rule place
+          mac_or_lack_fails rule place (inl lacks) = rw lacks.3.0 (lack_fails lacks.0 lacks.1 lacks.2 place lacks.3.1)
+          mac_or_lack_fails rule place (inr other) = rw (other.0, other.1) (mac_fails other.2 other.3 other.4)
 
 -- ---- what the parts of a verdict answer
 
@@ -442,41 +336,22 @@ abbrev pub IsAnswered : MessageContext → SigParams → ValueFault → Type 0
 IsAnswered context params fault =
     (index : ℕ) (how : Lack) → AnswersWhere {T = Prepared} value.Memory (Err fault) (value.Lacks index how) (IsFirstLack context params.ids index how)
 
-pub lies_in : (context : MessageContext) (params : SigParams) (fault : ValueFault) → IsAnswered context params fault → LiesIn (length params.ids) fault
-lies_in context params value.Memory answered = tt
-lies_in context params (value.Lacks index how) answered =
-    let first = (answered index how).only refl in
-    let there = some_and_parts (λ (id : ComponentId). Lacks context id how) (slice_get params.ids index) first.there in
-    slice_get_within params.ids index there.0 there.1
-
 pub lack_says : (context : MessageContext) (params : SigParams) (tag key : List ℕ) (fault : ValueFault) (result : LabelFault) → IsAnswered context params fault
-    → SaysFault params.ids fault result → SaysRule (FailsByTag context params tag key) result
+    → SaysFault params.ids fault result → SaysRule (FailsByMac context params tag key) result
 lack_says context params tag key fault Memory answered says = tt
 lack_says context params tag key value.Memory (IsRule rule place) answered says = absurd says
 lack_says context params tag key (value.Lacks index how) (IsRule rule place) answered says = inl (index, how, (answered index how).only refl, says)
 
--- what a fault of the policy says of its rule
-pub policy_says : (c : PolicyCheck) (f : PolicyFault)
-    → ((one : PolicyFault) → ¬ (one ≡ policy.Memory) → AnswersWhere {T = Unit} policy.Memory (Err f) one (IsFirstPolicyFault c one)) → SaysRule (FailsByCheck c) (policy_label_fault f)
-policy_says c policy.Memory answers = tt
-policy_says c (policy.Required id) answers = (policy.Required id, refl, (answers (policy.Required id) (λ e. absurd cc)).only refl)
-policy_says c policy.CreatedAbsent answers = (policy.CreatedAbsent, refl, (answers policy.CreatedAbsent (λ e. absurd cc)).only refl)
-policy_says c policy.CreatedAhead answers = (policy.CreatedAhead, refl, (answers policy.CreatedAhead (λ e. absurd cc)).only refl)
-policy_says c policy.TooOld answers = (policy.TooOld, refl, (answers policy.TooOld (λ e. absurd cc)).only refl)
-policy_says c policy.ExpiresAbsent answers = (policy.ExpiresAbsent, refl, (answers policy.ExpiresAbsent (λ e. absurd cc)).only refl)
-policy_says c policy.Expired answers = (policy.Expired, refl, (answers policy.Expired (λ e. absurd cc)).only refl)
-policy_says c policy.TagWrong answers = (policy.TagWrong, refl, (answers policy.TagWrong (λ e. absurd cc)).only refl)
-policy_says c policy.NonceAbsent answers = (policy.NonceAbsent, refl, (answers policy.NonceAbsent (λ e. absurd cc)).only refl)
-policy_says c policy.NonceRepeated answers = (policy.NonceRepeated, refl, (answers policy.NonceRepeated (λ e. absurd cc)).only refl)
-policy_says c policy.NonceLong answers = (policy.NonceLong, refl, (answers policy.NonceLong (λ e. absurd cc)).only refl)
+-- the first rule that fails has a place that can stand in a structured field
+pub says_judged : (v : Verification) → ((params : SigParams) → IsValidPolicy (policy_of v.conf params)) → (fault : LabelFault)
+    → SaysRule (IsFirstFailure (Fails v)) fault → SaysRule (IsJudged v) fault
+says_judged v valid Memory first = tt
+says_judged v valid (IsRule rule place) first = (first, place_in_range v valid rule place first.holds)
 
--- what a fault says, where each rule that fails is the first
-pub says_first : (v : Verification) → IsValidPolicy v.conf.policy → (FailsSo : Rule → Place → Type 0) (fault : LabelFault)
+-- so has each rule that fails so, where each of these is the first
+pub says_first : (v : Verification) → ((params : SigParams) → IsValidPolicy (policy_of v.conf params)) → (FailsSo : Rule → Place → Type 0) (fault : LabelFault)
     → ((rule : Rule) (place : Place) → FailsSo rule place → IsFirstFailure (Fails v) rule place) → SaysRule FailsSo fault → SaysRule (IsJudged v) fault
-says_first v valid FailsSo Memory firsts says = tt
-says_first v valid FailsSo (IsRule rule place) firsts says =
-    let first = firsts rule place says in
-    (first, place_in_range v valid rule place first.holds)
+says_first v valid FailsSo fault firsts says = says_judged v valid fault (says_failure (Fails v) FailsSo fault firsts says)
 
 -- ---- the laws
 
@@ -511,17 +386,15 @@ lack_place v how p q a b =
 -- one required component is the first that isn't covered
 required_place : (v : Verification) (p q : Place) → Fails v ComponentRequired p → Fails v ComponentRequired q → p ≡ q
 required_place v p q a b =
-    let x = on_signature v b.2.0 b.2.1 b.2.2 (λ params tag. FailsPolicy (check_of v params) (policy.Required a.0)) a.2 in
-    let c = check_of v b.2.0 in
-    let one : IsFirstPolicyFault c (policy.Required a.0) = record { holds = x; none_before = λ other lt. absurd (omega (arith, lt)) } in
-    let two : IsFirstPolicyFault c (policy.Required b.0) = record { holds = b.2.3; none_before = λ other lt. absurd (omega (arith, lt)) } in
-    let e = has_one_policy_fault c (policy.Required a.0) (policy.Required b.0) one two in
-    let same : a.0 ≡ b.0 = cc in
-    a.1 ∙ (ap (λ (id : ComponentId). Identifier id) same ∙ sym b.1)
+    let policy = policy_of v.conf b.0 in
+    let x = on_policy v b.0 b.1 b.2 (λ asked params. (id : ComponentId) × (p ≡ Identifier id) × IsFirstUncovered params.ids (required_of v asked) id) a in
+    let y = b.3 in
+    let same = one_uncovered b.0.ids (required_of v policy) x.0 y.0 x.2 y.2 in
+    x.1 ∙ (ap (λ (id : ComponentId). Identifier id) same ∙ sym y.1)
 
 digest_place : (v : Verification) (p q : Place) → Fails v Digest p → Fails v Digest q → p ≡ q
 digest_place v p q a b =
-    let x = on_signature v b.2.0 b.2.1 b.2.2 (λ params tag. IsTrue (asks_digest_of v) × LacksDigest v.context.message params.ids a.0) a.2 in
+    let x = on_policy v b.2.0 b.2.1 b.2.2 (λ policy params. IsTrue (asks_digest_of v policy) × LacksDigest v.context.message params.ids a.0) a.2 in
     let same = one_reason v.context.message b.2.0.ids a.0 b.0 x.1 b.2.3.1 in
     a.1 ∙ (ap (λ (r : DigestReason). DigestPlace r) same ∙ sym b.1)
 
@@ -576,42 +449,16 @@ has_one_verdict v (Refused rule place) (Refused other another) a b =
 
 -- ---- some verdict
 
-room_or_not : (c : PolicyCheck) → HasRoom c ⊎ LacksRoom c
-room_or_not c = elim (cases_Bool (is_full_at c.now c.seen)) [
-  | inr free ↦ inl (λ asks nonce. free)
-  | inl full ↦ elim (cases_Bool (asks_new c.policy.nonce)) [
-    | inr ignored ↦ inl (λ asks nonce. absurd (false≢true (sym ignored ∙ asks)))
-    | inl asks ↦ elim (cases_Bool (is_some (nonce_of c.params))) [
-      | inr none ↦ inl (λ _ nonce. absurd (false≢true (sym none ∙ nonce)))
-      | inl nonce ↦ inr (record { asks = asks; nonce = nonce; full = full })
-    ]
-  ]
-]
-
 abbrev SomeVerdict : Verification → Type 0
 SomeVerdict v = (verdict : Verdict) × IsVerdict v verdict
 
 module _ (v : Verification) (params : SigParams) (tag : List ℕ) (has : HasSignature v.context.message v.label params tag)
     (supported : IfSome (alg_of params) (λ alg. alg ≡ supported_algorithm)) where
   module _ (keyid key : List ℕ) (keyid_is : keyid_of params ≡ Some keyid) (key_is : key_in v.conf keyid ≡ Some key) where
-    by_fault : (fault : PolicyFault) → IsFirstPolicyFault (check_of v params) fault → SomeVerdict v
-    by_fault policy.Memory first = absurd first.holds
-    by_fault (policy.Required id) first =
-        (Refused ComponentRequired (Identifier id), check_fails v params tag has supported keyid keyid_is key key_is ComponentRequired (Identifier id) (policy.Required id, refl, first))
-    by_fault policy.CreatedAbsent first = (Refused CreatedAbsent Nowhere, check_fails v params tag has supported keyid keyid_is key key_is CreatedAbsent Nowhere (policy.CreatedAbsent, refl, first))
-    by_fault policy.CreatedAhead first = (Refused CreatedAhead Nowhere, check_fails v params tag has supported keyid keyid_is key key_is CreatedAhead Nowhere (policy.CreatedAhead, refl, first))
-    by_fault policy.TooOld first = (Refused TooOld Nowhere, check_fails v params tag has supported keyid keyid_is key key_is TooOld Nowhere (policy.TooOld, refl, first))
-    by_fault policy.ExpiresAbsent first = (Refused ExpiresAbsent Nowhere, check_fails v params tag has supported keyid keyid_is key key_is ExpiresAbsent Nowhere (policy.ExpiresAbsent, refl, first))
-    by_fault policy.Expired first = (Refused Expired Nowhere, check_fails v params tag has supported keyid keyid_is key key_is Expired Nowhere (policy.Expired, refl, first))
-    by_fault policy.TagWrong first = (Refused TagWrong Nowhere, check_fails v params tag has supported keyid keyid_is key key_is TagWrong Nowhere (policy.TagWrong, refl, first))
-    by_fault policy.NonceAbsent first = (Refused NonceAbsent Nowhere, check_fails v params tag has supported keyid keyid_is key key_is NonceAbsent Nowhere (policy.NonceAbsent, refl, first))
-    by_fault policy.NonceRepeated first = (Refused NonceRepeated Nowhere, check_fails v params tag has supported keyid keyid_is key key_is NonceRepeated Nowhere (policy.NonceRepeated, refl, first))
-    by_fault policy.NonceLong first = (Refused NonceLong Nowhere, check_fails v params tag has supported keyid keyid_is key key_is NonceLong Nowhere (policy.NonceLong, refl, first))
-
-    module _ (accepts : AcceptsByPolicy (check_of v params)) where
+    module _ (accepts : AcceptsByPolicy v (policy_of v.conf params) params) where
       module _ (values : List (List ℕ)) (have : HaveValues v.context params.ids values) (mac : tag ≡ hmac key (signature_base params values)) where
-        by_room : (IsTrue (asks_digest_of v) → HasDigest v.context.message params.ids) → SomeVerdict v
-        by_room digest = elim (room_or_not (check_of v params)) [
+        by_room : (IsTrue (asks_digest_of v (policy_of v.conf params)) → HasDigest v.context.message params.ids) → SomeVerdict v
+        by_room digest = elim (room_or_not v.now v.seen (policy_of v.conf params) params) [
           | inl room ↦ (
             Accepted keyid,
             record {
@@ -637,7 +484,7 @@ module _ (v : Verification) (params : SigParams) (tag : List ℕ) (has : HasSign
         ]
 
         by_digest : SomeVerdict v
-        by_digest = elim (cases_Bool (asks_digest_of v)) [
+        by_digest = elim (cases_Bool (asks_digest_of v (policy_of v.conf params))) [
           | inr not_asked ↦ by_room (λ asked. absurd (false≢true (sym not_asked ∙ asked)))
           | inl asked ↦ elim (has_digest_or_reason v.context.message params.ids) [
             | inl digest ↦ by_room (λ _. digest)
@@ -665,12 +512,12 @@ module _ (v : Verification) (params : SigParams) (tag : List ℕ) (has : HasSign
                 (some_and (λ (id : ComponentId). Identifier there.0 ≡ Identifier id) (slice_get params.ids lacks.0) there.0 there.1 refl),
           )
 
-    by_policy : AcceptsByPolicy (check_of v params) ⊎ ((fault : PolicyFault) × IsFirstPolicyFault (check_of v params) fault) → SomeVerdict v
+    by_policy : AcceptsByPolicy v (policy_of v.conf params) params ⊎ ((rule : Rule) × (place : Place) × IsFirstFailure (Fails v) rule place) → SomeVerdict v
     by_policy (inl accepts) = by_values accepts (have_or_lack v.context params.ids)
-    by_policy (inr fails) = by_fault fails.0 fails.1
+    by_policy (inr fails) = (Refused fails.0 fails.1, fails.2)
 
   by_key : (keyid : List ℕ) → keyid_of params ≡ Some keyid → (key : Option (List ℕ)) → key_in v.conf keyid ≡ key → SomeVerdict v
-  by_key keyid keyid_is (Some key) key_is = by_policy keyid key keyid_is key_is (has_policy_answer (check_of v params))
+  by_key keyid keyid_is (Some key) key_is = by_policy keyid key keyid_is key_is (has_policy_answer v params tag has (none_below_17 v params tag has supported keyid keyid_is key key_is))
   by_key keyid keyid_is None none = (Refused KeyUnknown Nowhere, key_fails v params tag has supported keyid keyid_is KeyUnknown Nowhere (refl, refl, none))
 
   by_keyid : (keyid : Option (List ℕ)) → keyid_of params ≡ keyid → SomeVerdict v

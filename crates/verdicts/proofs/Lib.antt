@@ -1,4 +1,7 @@
 pub mod RuleOrder
 pub mod Digesting
+mod OfSignature
+mod Uncovered
+pub mod PolicyFailures
 pub mod Judging
 mod Places

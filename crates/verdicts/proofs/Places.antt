@@ -16,15 +16,16 @@ use Rattle.derived_values.specs.declared.lack.Lack.TheVariants as lack
 use Rattle.framing.specs.Framings.{is_request}
 use Rattle.settings.specs.declared.policy.Policy.{Policy}
 use Rattle.settings.specs.ValidSections.{IsValidPolicy}
-use Rattle.policy_rules.specs.Parameters.{alg_of}
-use Rattle.policy_rules.specs.PolicyRules.{required_ids}
+use Rattle.verdicts.specs.Parameters.{alg_of}
+use Rattle.verdicts.specs.Policies.{required_ids}
+use Rattle.verdicts.specs.Verification.{Verification, policy_of}
 use Rattle.signatures.specs.declared.place.Place.{Place}
 use Rattle.signatures.specs.declared.place.Place.TheVariants.{Name, Identifier}
 use Rattle.signatures.specs.declared.rule.Rule.{Rule}
 use Rattle.signatures.specs.declared.rule.Rule.TheVariants.{InputAbsent, InputMalformed, SignatureAbsent, SignatureMalformed, LabelNotInInput, LabelNotInSignature, InputNotList, SignatureNotBytes, ComponentsMany, ComponentBad, ComponentRepeated, ParameterBad, AlgRefused, AlgUnknown, KeyidAbsent, KeyUnknown, ComponentRequired, CreatedAbsent, CreatedAhead, TooOld, ExpiresAbsent, Expired, TagWrong, NonceAbsent, NonceRepeated, NonceLong, Absent, Ambiguous, Underivable, Unreadable, NotAscii, MacMismatch, Digest, NoncesFull}
 use Rattle.signatures.specs.Signatures.{HasSignature}
 use Rattle.signatures.specs.Rules.{FailsToRead}
-use Rattle.verdicts.specs.Rules.{Verification, supported_algorithm, refused_algorithms, FailsByLack, Fails}
+use Rattle.verdicts.specs.Rules.{supported_algorithm, refused_algorithms, FailsByLack, Fails}
 use Rattle.verdicts.specs.Verdicts.{is_place_in_range}
 use Rattle.signatures.proofs.InRange.{is_signature_in_range}
 
@@ -32,7 +33,7 @@ use Rattle.signatures.proofs.InRange.{is_signature_in_range}
 ids_in_range : (message : Message) (label : List ℕ) (params : SigParams) (tag : List ℕ) → HasSignature message label params tag → list_all is_id_in_range params.ids ≡ true
 ids_in_range message label params tag has = (and_parts (list_all is_id_in_range params.ids) (are_params_in_range params.params) (is_signature_in_range message label params tag has)).0
 
-reading_place : (message : Message) (label : List ℕ) (rule : Rule) (place : Place) → FailsToRead message label rule place → is_place_in_range place ≡ true
+pub reading_place : (message : Message) (label : List ℕ) (rule : Rule) (place : Place) → FailsToRead message label rule place → is_place_in_range place ≡ true
 reading_place message label InputAbsent place fails = rw fails.0 refl
 reading_place message label InputMalformed place fails = rw fails.0 refl
 reading_place message label SignatureAbsent place fails = rw fails.0 refl
@@ -61,13 +62,15 @@ required_in_range : (policy : Policy) (is_request : Bool) → IsValidPolicy poli
 required_in_range policy true valid = valid.require_request.in_range
 required_in_range policy false valid = valid.require_response.in_range
 
-required_place : (v : Verification) → IsValidPolicy v.conf.policy → (place : Place) → Fails v ComponentRequired place → is_place_in_range place ≡ true
+required_place : (v : Verification) → ((params : SigParams) → IsValidPolicy (policy_of v.conf params)) → (place : Place) → Fails v ComponentRequired place → is_place_in_range place ≡ true
 required_place v valid place fails =
-    let first = fails.2.3 in
+    let policy = policy_of v.conf fails.0 in
+    let found = fails.3 in
+    let first = found.2 in
     let is_asked = is_request v.context.message.head.start in
-    rw fails.1 (all_at is_id_in_range (required_ids v.conf.policy is_asked) first.index fails.0 (required_in_range v.conf.policy is_asked valid) first.there)
+    rw found.1 (all_at is_id_in_range (required_ids policy is_asked) first.index found.0 (required_in_range policy is_asked (valid fails.0)) first.there)
 
-pub place_in_range : (v : Verification) → IsValidPolicy v.conf.policy → (rule : Rule) (place : Place) → Fails v rule place → is_place_in_range place ≡ true
+pub place_in_range : (v : Verification) → ((params : SigParams) → IsValidPolicy (policy_of v.conf params)) → (rule : Rule) (place : Place) → Fails v rule place → is_place_in_range place ≡ true
 place_in_range v valid InputAbsent place fails = reading_place v.context.message v.label InputAbsent place fails
 place_in_range v valid InputMalformed place fails = reading_place v.context.message v.label InputMalformed place fails
 place_in_range v valid SignatureAbsent place fails = reading_place v.context.message v.label SignatureAbsent place fails

@@ -2,17 +2,17 @@
 use Rattle.std.proofs.Common.{◌≡◌, ◌<◌, ◌+◌, ℕ, subst, arith, inl, inr}
 use Rattle.std.proofs.lemmas.Bool.{cases_order}
 use Rattle.signatures.specs.declared.rule.Rule.{Rule}
+use Rattle.signatures.specs.declared.label.LabelFault.{LabelFault}
+use Rattle.signatures.specs.declared.label.LabelFault.TheVariants.{Memory, Rule as IsRule}
 use Rattle.signatures.specs.declared.place.Place.{Place}
 use Rattle.signatures.specs.Words.{rule_number}
 use Rattle.signatures.specs.Rules.{IsFirstFailure}
+use Rattle.signatures.specs.tools.Answered.{SaysRule}
+use Rattle.verdicts.specs.tools.Judged.{NoneBelow}
 use Rattle.signatures.proofs.Numbers.{has_its_own_number, has_number}
 
 pub most : (rule : Rule) → rule_number rule < 35
 most rule = let within = has_number rule in omega (arith, within.1)
-
--- no rule of a lesser number fails
-abbrev pub NoneBelow : (Rule → Place → Type 0) → ℕ → Type 0
-NoneBelow Table n = (rule : Rule) (place : Place) → rule_number rule < n → ¬ Table rule place
 
 module _ (Table : Rule → Place → Type 0) where
   -- nor does this one
@@ -41,3 +41,9 @@ module _ (Table : Rule → Place → Type 0) where
       | inr more ↦ absurd (a.none_before (record { rule = other; place = another }) more b.holds)
     ]
   ]
+
+  -- a fault is the first rule that fails, where each rule that fails so is
+  pub says_failure : (FailsSo : Rule → Place → Type 0) (fault : LabelFault) → ((rule : Rule) (place : Place) → FailsSo rule place → IsFirstFailure Table rule place)
+      → SaysRule FailsSo fault → SaysRule (IsFirstFailure Table) fault
+  says_failure FailsSo Memory firsts says = tt
+  says_failure FailsSo (IsRule rule place) firsts says = firsts rule place says

@@ -34,32 +34,33 @@ digest_name = codes "content-digest"
 abbrev pub keeps_whole : Pair BareItem → Bool
 keeps_whole param = is_listed (codes "sf" ∷ codes "bs" ∷ []) param.key
 
+-- the component is the whole field `Content-Digest` of the header
 abbrev pub is_whole_digest : ComponentId → Bool
 is_whole_digest id = bytes_eq id.name digest_name && list_all keeps_whole id.params
 
--- a covered component is that field
+-- a covered component is the field of the digests
 abbrev pub covers_digest : List ComponentId → Bool
 covers_digest ids = list_any is_whole_digest ids
 
--- the field's combined value
+-- the combined value of the field of the digests
 abbrev pub digest_text : Message → List ℕ
 digest_text message = combined_value (lines_on Header message) digest_name
 
--- it is covered, and its digests are those of the content
+-- the field of the digests is covered, and they are those of the content
 pub record HasDigest (message : Message) (ids : List ComponentId) : Type 0 where
   pub covered : IsTrue (covers_digest ids)
   pub holds : DigestHolds (digest_text message) (message_content message)
 
 -- the reason, where the digests have a fault
-abbrev pub reason_of : DigestFault → Option DigestReason
-reason_of fault.Memory = None
-reason_of fault.Malformed = Some Malformed
-reason_of fault.NoneKnown = Some NoneKnown
-reason_of (fault.Mismatch algorithm kept computed) = Some (Mismatch algorithm)
+abbrev pub digest_reason : DigestFault → Option DigestReason
+digest_reason fault.Memory = None
+digest_reason fault.Malformed = Some Malformed
+digest_reason fault.NoneKnown = Some NoneKnown
+digest_reason (fault.Mismatch algorithm kept computed) = Some (Mismatch algorithm)
 
--- it isn't covered, or it is and its digests have a fault for this reason
+-- the field isn't covered, or it is and its digests have a fault for this reason
 abbrev pub LacksDigest : Message → List ComponentId → DigestReason → Type 0
 LacksDigest message ids reason =
     ((reason ≡ Uncovered) × IsFalse (covers_digest ids))
-    ⊎ (IsTrue (covers_digest ids) × (f : DigestFault) × (reason_of f ≡ Some reason)
+    ⊎ (IsTrue (covers_digest ids) × (f : DigestFault) × (digest_reason f ≡ Some reason)
     × IsDigestFault (digest_text message) (message_content message) f)

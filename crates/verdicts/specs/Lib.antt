@@ -1,5 +1,9 @@
+pub mod Verification
+pub mod Parameters
+pub mod Policies
 pub mod ContentDigest
 pub mod Rules
 pub mod Verdicts
+pub mod VerdictLine
 pub mod Laws
 pub mod tools

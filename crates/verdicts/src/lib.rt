@@ -1,5 +1,5 @@
 //! The verdict on a label of a message (RFC 9421 section 3.2): accepted, or the first rule that
-//! fails.
+//! fails. The 34 rules, what a policy asks among them, and the line of a label and its verdict.
 //!
 //! ```text
 //! let now = book.moment();
@@ -10,17 +10,28 @@
 //! ```
 #![tactic(auto)]
 
+mod algorithm;
+mod coverage;
 mod digest;
 mod judge;
 mod laws;
+mod line;
+mod mac;
+mod nonce;
 mod outcome;
 mod policy;
+mod tag_param;
+mod times;
+mod verification;
 
 pub use judge::{verdict, verdict_in};
 pub use laws::a_label_has_one_verdict;
+pub use line::append_verdict_line;
+pub use mac::tag_matches;
 pub use nonces::MAX_MOMENT;
 pub use outcome::Verdict;
 pub use signatures::{
     DigestReason, LabelFault, LabelRead, Labels, Place, Rule, SignatureFields,
     a_label_has_one_reading, a_message_has_one_list_of_labels, labels_of, read_label,
 };
+pub use verification::Verification;

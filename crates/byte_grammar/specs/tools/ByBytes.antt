@@ -1,5 +1,5 @@
 -- The entries of a map whose keys are owned bytes, under those bytes.
--- No public clause cites this module.
+-- No public clause cites this module but the views of such maps.
 use Rattle.std.specs.Prelude.{ℕ, List, map, Vec}
 use Rattle.std.specs.declared.alloc.Global.{Global}
 

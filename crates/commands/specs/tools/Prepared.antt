@@ -1,23 +1,18 @@
 -- What is answered for a message and signature parameters. No public clause cites this module.
-use Rattle.std.specs.Prelude.{◌≡◌, ◌<◌, ◌⊎◌, ⊤, ℕ, List, slice_get, IsSomeAnd}
+use Rattle.std.specs.Prelude.{◌≡◌, ◌⊎◌, ℕ, List, slice_get, IsSomeAnd}
 use Rattle.component_ids.specs.Identifiers.{id_text}
 use Rattle.component_ids.specs.declared.id.ComponentId.{ComponentId}
 use Rattle.derived_values.specs.declared.lack.Lack.{Lack}
 use Rattle.component_values.specs.declared.fault.ValueFault.{ValueFault}
 use Rattle.component_values.specs.declared.fault.ValueFault.TheVariants as fault
-use Rattle.output_lines.specs.declared.refusal.Refusal.TheVariants.{Command}
-use Rattle.output_lines.specs.declared.refusal.CommandRefusal.TheVariants.{Lacks}
+use Rattle.refusals.specs.declared.refusal.Refusal.TheVariants.{Command}
+use Rattle.refusals.specs.declared.refusal.CommandRefusal.TheVariants.{Lacks}
 use Rattle.commands.specs.declared.stop.Stop.{Stop}
 use Rattle.commands.specs.declared.stop.Stop.TheVariants.{Memory, Refused}
 
 -- the refusal for a component that lacks a value so, and has this identifier
 abbrev pub stop_for_lack : Lack → List ℕ → Stop
 stop_for_lack lack id = Refused (Command (Lacks lack id))
-
--- the index of a lack is one of so many
-abbrev pub LiesIn : ℕ → ValueFault → Type 0
-LiesIn count fault.Memory = ⊤
-LiesIn count (fault.Lacks index lack) = index < count
 
 -- the stop says the fault of these components, or that memory ran out
 abbrev pub SaysFault : List ComponentId → ValueFault → Stop → Type 0

@@ -1,5 +1,5 @@
 -- The code of a map of kinds by the bytes of names.
--- No public clause cites this module.
+-- No public clause cites this module but the view of `Types`.
 use Rattle.std.specs.Prelude.{◌≡◌, ℕ, zero, suc, refl}
 use Rattle.std.specs.FinMap as finite
 use Rattle.std.specs.Coded.{Coded, code_by, coded_list, coded_ℕ}

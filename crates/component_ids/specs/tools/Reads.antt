@@ -42,6 +42,6 @@ IsListFault list (BadParameter key) =
 IsListFault list fault = IsIdsFault list.items fault
 
 -- what an answer says of the list that was read
-abbrev pub Explains : InnerList → Result SigParams IdFault → Type 0
-Explains list (Ok params) = IsParamsOf list params
-Explains list (Err fault) = IsListFault list fault
+abbrev pub ExplainsParams : InnerList → Result SigParams IdFault → Type 0
+ExplainsParams list (Ok params) = IsParamsOf list params
+ExplainsParams list (Err fault) = IsListFault list fault

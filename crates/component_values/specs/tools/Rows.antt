@@ -1,4 +1,4 @@
--- What the parts of the code answer. No public clause cites this module.
+-- What the parts of the code answer. No public clause cites this module but the view of `Prepared`.
 use Rattle.std.specs.Prelude.{⊤, ℕ, List, Result, Ok, Err}
 use Rattle.msg_head.specs.Lines.{FieldLine}
 use Rattle.msg_body.specs.Views.{message_of, lines_on}

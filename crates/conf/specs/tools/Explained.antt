@@ -8,6 +8,6 @@ use Rattle.conf.specs.Meaning.{Configures}
 use Rattle.conf.specs.Refusals.{IsConfFault}
 
 -- the text is the configuration, or the fault is its first; or memory ran out
-abbrev pub Explains : List ℕ → Result Conf ConfFault → Type 0
-Explains text (Ok conf) = Configures text (meaning conf)
-Explains text (Err fault) = (fault ≡ Memory) ⊎ IsConfFault text fault
+abbrev pub ExplainsConf : List ℕ → Result Conf ConfFault → Type 0
+ExplainsConf text (Ok conf) = Configures text (meaning conf)
+ExplainsConf text (Err fault) = (fault ≡ Memory) ⊎ IsConfFault text fault

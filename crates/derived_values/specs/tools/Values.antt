@@ -1,4 +1,4 @@
--- The text of a value, by its parts. No public clause cites this module.
+-- The text of a value, by its parts. No public clause cites this module but the view of a value.
 use Rattle.std.specs.Prelude.{⊤, ℕ, List, ◌∷◌, ◌++◌, codes, Result, Ok, Err, option_map}
 use Rattle.std.specs.Str.{byte, str_to_ascii_lowercase}
 use Rattle.targets.specs.declared.authority.Authority.{Authority}

@@ -1,8 +1,9 @@
 -- What the parts of a run keep. No public clause cites this module.
 use Rattle.std.specs.Prelude.{◌≡◌, ⊤, ℕ, Result, Err}
-use Rattle.hms.specs.Report.{OneRose}
-use Rattle.output_lines.specs.declared.refusal.Refusal.TheVariants.{Command, Input}
-use Rattle.output_lines.specs.declared.refusal.InputRefusal.TheVariants.{Message as NoMessage}
+use Rattle.hms.specs.Ends.{OneRose}
+use Rattle.refusals.specs.declared.role.Role.TheVariants.{Input}
+use Rattle.refusals.specs.declared.file.FileRefusal.TheVariants.{Message as NoMessage}
+use Rattle.refusals.specs.declared.refusal.Refusal.TheVariants.{Of, Command}
 use Rattle.commands.specs.declared.outcome.Outcome.{Outcome}
 use Rattle.commands.specs.declared.outcome.Outcome.TheVariants.{Done, NotOk, Refused}
 use Rattle.commands.specs.declared.stop.Stop.{Stop}
@@ -10,9 +11,9 @@ use Rattle.commands.specs.declared.stop.Stop.TheVariants.{ReadFault}
 
 -- only a failed read raises just one of the two counts
 abbrev pub CountsOne : Type 0 → ℕ → ℕ → ℕ → ℕ → Result Outcome Stop → Type 0
-CountsOne Unread shelf shelf_now source source_now (Err ReadFault) =
-    OneRose Unread shelf shelf_now source source_now
-CountsOne Unread shelf shelf_now source source_now result =
+CountsOne Same shelf shelf_now source source_now (Err ReadFault) =
+    OneRose Same shelf shelf_now source source_now
+CountsOne Same shelf shelf_now source source_now result =
     (shelf_now ≡ shelf) × (source_now ≡ source)
 
 -- the outcome is the command's own: no refusal, or one of the command
@@ -24,5 +25,5 @@ IsOwn (Refused refusal) = ⊥
 
 -- the outcome comes once all of the input was read
 abbrev pub IsAfterInput : Outcome → Type 0
-IsAfterInput (Refused (Input (NoMessage fault))) = ⊤
+IsAfterInput (Refused (Of Input (NoMessage fault))) = ⊤
 IsAfterInput outcome = IsOwn outcome

@@ -1,5 +1,6 @@
 -- What the parts of a verdict answer. No public clause cites this module.
-use Rattle.std.specs.Prelude.{◌≡◌, ◌⊎◌, ◌<◌, ⊤, ℕ, Bool, IsTrue, IsFalse, Option, None, IfSome, IsSomeAnd, List, ◌∷◌, slice_get, Result}
+use Rattle.std.specs.Prelude.{◌≡◌, ◌⊎◌, ◌<◌, ◌≤◌, ◌+◌, ⊤, ℕ, pos, ℤ, ◌≤ℤ◌, ◌<ℤ◌, Bool, IsTrue, IsFalse, Option, Some, None, IsSome, IfSome, IsSomeAnd, List, ◌∷◌, length, slice_get, Result}
+use Rattle.std.specs.List.{list_any}
 use Rattle.sfv_text.specs.Strict.{string_text}
 use Rattle.component_ids.specs.Table.{is_listed}
 use Rattle.component_ids.specs.declared.id.ComponentId.{ComponentId}
@@ -12,10 +13,15 @@ use Rattle.component_values.specs.declared.fault.ValueFault.{ValueFault}
 use Rattle.component_values.specs.declared.fault.ValueFault.TheVariants as value
 use Rattle.sig_base.specs.SignatureBase.{signature_base}
 use Rattle.hmac_sha256.specs.Hmac.{hmac}
-use Rattle.policy_rules.specs.declared.fault.PolicyFault.{PolicyFault}
-use Rattle.policy_rules.specs.declared.fault.PolicyFault.TheVariants as policy
-use Rattle.policy_rules.specs.Parameters.{alg_of, keyid_of}
-use Rattle.policy_rules.specs.PolicyRules.{PolicyCheck, IsFirstPolicyFault, LacksRoom}
+use Rattle.settings.specs.declared.policy.Policy.{Policy}
+use Rattle.settings.specs.declared.policy.NonceUse.{NonceUse}
+use Rattle.settings.specs.declared.policy.NonceUse.TheVariants.{Require}
+use Rattle.nonces.specs.declared.limits.TheConstants.{MAX_NONCE_BYTES}
+use Rattle.nonces.specs.Books.{Book}
+use Rattle.component_ids.specs.Sameness.{is_same}
+use Rattle.verdicts.specs.Parameters.{alg_of, keyid_of}
+use Rattle.verdicts.specs.Policies.{IsFirstUncovered, IsAhead, IsTooOld, asks_new, AcceptsByPolicy, LacksRoom}
+use Rattle.verdicts.specs.Verification.{Verification, policy_of}
 use Rattle.msg_body.specs.Messages.{Message}
 use Rattle.content_digest.specs.Faults.{IsDigestFault}
 use Rattle.content_digest.specs.declared.fault.DigestFault.{DigestFault}
@@ -30,8 +36,10 @@ use Rattle.signatures.specs.declared.place.Place.{Place}
 use Rattle.signatures.specs.declared.place.Place.TheVariants.{None as Nowhere, Name, Identifier, Digest as DigestPlace}
 use Rattle.signatures.specs.declared.rule.Rule.{Rule}
 use Rattle.signatures.specs.declared.rule.Rule.TheVariants.{AlgRefused, AlgUnknown, KeyidAbsent, KeyUnknown, ComponentRequired, CreatedAbsent, CreatedAhead, TooOld, ExpiresAbsent, Expired, TagWrong, NonceAbsent, NonceRepeated, NonceLong, Absent, Ambiguous, Underivable, Unreadable, NotAscii, MacMismatch, Digest, NoncesFull}
+use Rattle.signatures.specs.Words.{rule_number}
+use Rattle.signatures.specs.Signatures.{HasSignature}
 use Rattle.signatures.specs.Rules.{IsFirstFailure}
-use Rattle.verdicts.specs.Rules.{Verification, supported_algorithm, refused_algorithms, Fails}
+use Rattle.verdicts.specs.Rules.{supported_algorithm, refused_algorithms, Fails}
 use Rattle.verdicts.specs.Verdicts.{Accepts, is_place_in_range}
 use Rattle.signatures.specs.tools.Answered.{Explains}
 
@@ -68,11 +76,6 @@ rule_of_lack lack.Underivable = Underivable
 rule_of_lack lack.Unreadable = Unreadable
 rule_of_lack lack.NotAscii = NotAscii
 
--- the index of a lack is one of so many
-abbrev pub LiesIn : ℕ → ValueFault → Type 0
-LiesIn count value.Memory = ⊤
-LiesIn count (value.Lacks index lack) = index < count
-
 -- the rule and the place say so of the component at the index
 abbrev pub SaysLack : List ComponentId → ℕ → Lack → Rule → Place → Type 0
 SaysLack ids index lack rule place =
@@ -85,39 +88,102 @@ SaysFault ids value.Memory (Refused rule place) = ⊥
 SaysFault ids (value.Lacks index lack) (Refused rule place) = SaysLack ids index lack rule place
 
 -- a rule from 27 to 32 fails
-abbrev pub FailsByTag : MessageContext → SigParams → List ℕ → List ℕ → Rule → Place → Type 0
-FailsByTag context params tag key rule place =
+abbrev pub FailsByMac : MessageContext → SigParams → List ℕ → List ℕ → Rule → Place → Type 0
+FailsByMac context params tag key rule place =
     ((index : ℕ) × (lack : Lack) × IsFirstLack context params.ids index lack
     × SaysLack params.ids index lack rule place)
     ⊎ ((rule ≡ MacMismatch) × (place ≡ Nowhere) × (values : List (List ℕ))
     × HaveValues context params.ids values
     × ¬ (tag ≡ hmac key (signature_base params values)))
 
-abbrev pub ExplainsTag : MessageContext → SigParams → List ℕ → List ℕ → Result Unit LabelFault
+abbrev pub ExplainsMac : MessageContext → SigParams → List ℕ → List ℕ → Result Unit LabelFault
     → Type 0
-ExplainsTag context params tag key result =
+ExplainsMac context params tag key result =
     Explains (λ _. (values : List (List ℕ)) × HaveValues context params.ids values
-    × (tag ≡ hmac key (signature_base params values))) (FailsByTag context params tag key) result
+    × (tag ≡ hmac key (signature_base params values))) (FailsByMac context params tag key) result
 
--- the fault of the label, by that of the policy
-abbrev pub policy_label_fault : PolicyFault → LabelFault
-policy_label_fault policy.Memory = Memory
-policy_label_fault (policy.Required id) = Refused ComponentRequired (Identifier id)
-policy_label_fault policy.CreatedAbsent = Refused CreatedAbsent Nowhere
-policy_label_fault policy.CreatedAhead = Refused CreatedAhead Nowhere
-policy_label_fault policy.TooOld = Refused TooOld Nowhere
-policy_label_fault policy.ExpiresAbsent = Refused ExpiresAbsent Nowhere
-policy_label_fault policy.Expired = Refused Expired Nowhere
-policy_label_fault policy.TagWrong = Refused TagWrong Nowhere
-policy_label_fault policy.NonceAbsent = Refused NonceAbsent Nowhere
-policy_label_fault policy.NonceRepeated = Refused NonceRepeated Nowhere
-policy_label_fault policy.NonceLong = Refused NonceLong Nowhere
+-- ---- rules 17 to 26
 
--- a rule from 17 to 26 fails: that of the first fault
-abbrev pub FailsByCheck : PolicyCheck → Rule → Place → Type 0
-FailsByCheck c rule place =
-    (fault : PolicyFault) × (policy_label_fault fault ≡ Refused rule place)
-    × IsFirstPolicyFault c fault
+-- a test that answers whether the component is covered
+abbrev pub is_covered : List ComponentId → ComponentId → Bool
+is_covered covered id = list_any (λ own. is_same own id) covered
+
+-- rule 17 fails
+abbrev pub FailsByCoverage : List ComponentId → List ComponentId → Rule → Place → Type 0
+FailsByCoverage covered required rule place =
+    (rule ≡ ComponentRequired) × (id : ComponentId) × (place ≡ Identifier id)
+    × IsFirstUncovered covered required id
+
+-- a rule from 18 to 20 fails
+abbrev pub FailsByCreated : Policy → ℕ → Option ℤ → Rule → Place → Type 0
+FailsByCreated policy now created CreatedAbsent place = (place ≡ Nowhere) × (created ≡ None)
+FailsByCreated policy now created CreatedAhead place =
+    (place ≡ Nowhere) × IsSomeAnd created (IsAhead policy now)
+FailsByCreated policy now created TooOld place =
+    (place ≡ Nowhere) × IsSomeAnd created (λ z.
+    (z ≤ℤ pos (now + policy.skew)) × IsTooOld policy now z)
+FailsByCreated policy now created rule place = ⊥
+
+pub record PassesExpires (policy : Policy) (now : ℕ) (expires : Option ℤ) : Type 0 where
+  pub there : IsTrue policy.expires → IsSome expires
+  pub later : IfSome expires (λ z. pos now ≤ℤ z)
+
+-- rule 21 or 22 fails
+abbrev pub FailsByExpires : Policy → ℕ → Option ℤ → Rule → Place → Type 0
+FailsByExpires policy now expires ExpiresAbsent place =
+    (place ≡ Nowhere) × IsTrue policy.expires × (expires ≡ None)
+FailsByExpires policy now expires Expired place =
+    (place ≡ Nowhere) × IsSomeAnd expires (λ z. z <ℤ pos now)
+FailsByExpires policy now expires rule place = ⊥
+
+abbrev pub PassesTagParam : Option (List ℕ) → Option (List ℕ) → Type 0
+PassesTagParam asked tag = IfSome asked (λ text. tag ≡ Some text)
+
+-- rule 23 fails
+abbrev pub FailsByTagParam : Option (List ℕ) → Option (List ℕ) → Rule → Place → Type 0
+FailsByTagParam asked tag rule place =
+    (rule ≡ TagWrong) × (place ≡ Nowhere) × IsSomeAnd asked (λ text. ¬ (tag ≡ Some text))
+
+-- the moment of the book
+abbrev pub moment_of : Option Book → ℕ
+moment_of None = 0
+moment_of (Some book) = book.moment
+
+-- of a nonce that is judged, by whether it was seen
+pub record PassesNonce (asked : NonceUse) (is_seen : List ℕ → Bool) (nonce : Option (List ℕ))
+    : Type 0 where
+  pub there : asked ≡ Require → IsSome nonce
+  pub new : IsTrue (asks_new asked)
+      → IfSome nonce (λ text. IsFalse (is_seen text) × (length text ≤ MAX_NONCE_BYTES))
+
+-- a rule from 24 to 26 fails
+abbrev pub FailsByNonce : NonceUse → (List ℕ → Bool) → Option (List ℕ) → Rule → Place → Type 0
+FailsByNonce asked is_seen nonce NonceAbsent place =
+    (place ≡ Nowhere) × (asked ≡ Require) × (nonce ≡ None)
+FailsByNonce asked is_seen nonce NonceRepeated place =
+    (place ≡ Nowhere) × IsTrue (asks_new asked) × IsSomeAnd nonce (λ text. IsTrue (is_seen text))
+FailsByNonce asked is_seen nonce NonceLong place =
+    (place ≡ Nowhere) × IsTrue (asks_new asked) × IsSomeAnd nonce (λ text.
+    IsFalse (is_seen text) × (MAX_NONCE_BYTES < length text))
+FailsByNonce asked is_seen nonce rule place = ⊥
+
+-- the rule of a nonce that isn't there
+abbrev pub IsAbsentNonce : NonceUse → Rule → Place → Type 0
+IsAbsentNonce asked rule place =
+    (rule ≡ NonceAbsent) × (place ≡ Nowhere) × (asked ≡ Require)
+
+-- no rule of a lesser number fails
+abbrev pub NoneBelow : (Rule → Place → Type 0) → ℕ → Type 0
+NoneBelow Table n = (rule : Rule) (place : Place) → rule_number rule < n → ¬ Table rule place
+
+-- what the policy answers, where no rule up to 16 fails
+abbrev pub ExplainsPolicy : Verification → SigParams → Result Unit LabelFault → Type 0
+ExplainsPolicy v params result =
+    (tag : List ℕ) → HasSignature v.context.message v.label params tag → NoneBelow (Fails v) 17
+    → Explains (λ _. AcceptsByPolicy v (policy_of v.conf params) params)
+    (IsFirstFailure (Fails v)) result
+
+-- ---- rules 33 and 34
 
 -- the fault of the label, by that of the digests
 abbrev pub digest_label_fault : DigestFault → LabelFault
@@ -140,8 +206,9 @@ FailsByDigest asked message ids rule place =
     × LacksDigest message ids reason
 
 -- rule 34 fails
-abbrev pub FailsByRoom : PolicyCheck → Rule → Place → Type 0
-FailsByRoom c rule place = (rule ≡ NoncesFull) × (place ≡ Nowhere) × LacksRoom c
+abbrev pub FailsByRoom : ℕ → Option Book → Policy → SigParams → Rule → Place → Type 0
+FailsByRoom now seen policy params rule place =
+    (rule ≡ NoncesFull) × (place ≡ Nowhere) × LacksRoom now seen policy params
 
 -- the first rule that fails, at a component that can stand in a structured field
 abbrev pub IsJudged : Verification → Rule → Place → Type 0

@@ -1,4 +1,4 @@
-use Rattle.commands.proofs.ConfFiles.{configured_without}
+use Rattle.commands.proofs.FoundFiles.{configured_without}
 use Rattle.commands.proofs.configured.read_configuration.Goals as goal
 
 pub returns-in_ok-empty_conf-in-None-clause-ok : goal.returns-in_ok-empty_conf-in-None-clause-ok

@@ -14,7 +14,7 @@ returns-in-Err-Memory-clause-reads g c =
     record { shelf_later = c.in-Err-Memory.ensures.shelf_later; source_later = c.in-Err-Memory.ensures.source_later; rose = λ e. absurd (cc e); kept = inr counted }
 
 pub returns-in-Ok-put_all-clause-ends : goal.returns-in-Ok-put_all-clause-ends
-returns-in-Ok-put_all-clause-ends g c = elim c.match-run_command.branch [
+returns-in-Ok-put_all-clause-ends g c = λ whole. elim c.match-run_command.branch [
   | in-Ok w ↦ written_outcome (map string_bytes c.args.arguments.now) (g.F.Shelf.files c.args.shelf.now) (c.run_command.new.source ≡ c.args.source.now) (g.S.Source.left c.args.source.now) (g.S.Source.left c.run_command.new.source)
       (g.K.Sink.taken c.args.out.now) (g.K.Sink.taken c.put_all.new.sink) c.match-run_command.outcome c.status-status.result c.bytes.result.now
       (rw w.outcome-is w.in-Ok.ensures.report) c.status-status.ensures (c.bytes.ensures ∙ c.in-Ok-into_output.ensures) c.in-Ok-put_all.ensures.ok
@@ -24,7 +24,7 @@ returns-in-Ok-put_all-clause-ends g c = elim c.match-run_command.branch [
 ]
 
 pub returns-clause-ends : goal.returns-clause-ends
-returns-clause-ends g c = elim c.match-run_command.branch [
+returns-clause-ends g c = λ whole. elim c.match-run_command.branch [
   | in-Ok w ↦ failed_outcome (map string_bytes c.args.arguments.now) (g.F.Shelf.files c.args.shelf.now) (c.run_command.new.source ≡ c.args.source.now) (g.S.Source.left c.args.source.now) (g.S.Source.left c.run_command.new.source)
       (g.K.Sink.taken c.args.out.now) (g.K.Sink.taken c.put_all.new.sink) c.match-run_command.outcome c.bytes.result.now
       (rw w.outcome-is w.in-Ok.ensures.report) (c.bytes.ensures ∙ c.in-Ok-into_output.ensures) c.in-Err.ensures.prefix

@@ -1,8 +1,8 @@
-use Rattle.std.proofs.Common.{◌≡◌, map, string_bytes, refl, Ok}
-use Rattle.command_line.specs.Command.{Help, Version, Base, Verify, base_words, verify_words, line_of}
-use Rattle.output_lines.specs.declared.refusal.TheConstants.{MAX_INPUT_BYTES}
-use Rattle.hms.proofs.Reports.{alone, never, no_command, none_named, spelled}
-use Rattle.hms.proofs.Sources.{none_gone}
+use Rattle.std.proofs.Common.{◌≡◌, ◌+◌, ◌≤◌, map, string_bytes, refl, Ok}
+use Rattle.command_line.specs.Command.{CommandLine, Help, Version, Base, Verify, base_words, verify_words, line_of}
+use Rattle.commands.specs.Files.{Conf, file_count}
+use Rattle.hms.specs.Commands.{input_use, name_of, LosesFew}
+use Rattle.hms.proofs.Reports.{alone, never_read, never, no_command, none_named, of_command, spelled}
 use Rattle.hms.proofs.run.run_command.Goals as goal
 
 pub returns-in_default-clause-report : goal.returns-in_default-clause-report
@@ -11,42 +11,66 @@ returns-in_default-clause-report g c =
     (g.S.Source.left c.args.source.now) c.in_default.ensures.none refl
 
 pub returns-in_default-clause-few : goal.returns-in_default-clause-few
-returns-in_default-clause-few g c = none_gone _ (g.S.Source.left c.args.source.now) (g.S.Source.left c.args.source.now) refl
+returns-in_default-clause-few g c = λ command is. absurd (c.in_default.ensures.none command is)
+
+pub returns-in_default-clause-asked : goal.returns-in_default-clause-asked
+returns-in_default-clause-asked g c = λ command is. absurd (c.in_default.ensures.none command is)
 
 pub returns-in_ok-write_help-in-Help-clause-report : goal.returns-in_ok-write_help-in-Help-clause-report
 returns-in_ok-write_help-in-Help-clause-report g c =
     let outcome = c.in_ok-write_help-in-Help.field-0 in
     spelled (map string_bytes c.args.arguments.now) Help (rw c.in-Help.is at c.in-Some.ensures.some) (g.F.Shelf.files c.args.shelf.now) (c.args.source.now ≡ c.args.source.now)
     (g.S.Source.left c.args.source.now) (g.S.Source.left c.args.source.now) (Ok outcome)
-    (alone Help (g.F.Shelf.files c.args.shelf.now) (c.args.source.now ≡ c.args.source.now) (g.S.Source.left c.args.source.now) (g.S.Source.left c.args.source.now) outcome refl refl
-    (λ files input. c.in_ok-write_help-in-Help.ensures))
+    (alone Help (g.F.Shelf.files c.args.shelf.now) (c.args.source.now ≡ c.args.source.now) (g.S.Source.left c.args.source.now) (g.S.Source.left c.args.source.now) outcome refl refl refl
+    (λ found input. c.in_ok-write_help-in-Help.ensures))
 
 pub returns-in_ok-write_version-in-Version-clause-report : goal.returns-in_ok-write_version-in-Version-clause-report
 returns-in_ok-write_version-in-Version-clause-report g c =
     let outcome = c.in_ok-write_version-in-Version.field-0 in
     spelled (map string_bytes c.args.arguments.now) Version (rw c.in-Version.is at c.in-Some.ensures.some) (g.F.Shelf.files c.args.shelf.now) (c.args.source.now ≡ c.args.source.now)
     (g.S.Source.left c.args.source.now) (g.S.Source.left c.args.source.now) (Ok outcome)
-    (alone Version (g.F.Shelf.files c.args.shelf.now) (c.args.source.now ≡ c.args.source.now) (g.S.Source.left c.args.source.now) (g.S.Source.left c.args.source.now) outcome refl refl
-    (λ files input. c.in_ok-write_version-in-Version.ensures))
+    (alone Version (g.F.Shelf.files c.args.shelf.now) (c.args.source.now ≡ c.args.source.now) (g.S.Source.left c.args.source.now) (g.S.Source.left c.args.source.now) outcome refl refl refl
+    (λ found input. c.in_ok-write_version-in-Version.ensures))
 
 pub returns-in-Base-clause-report : goal.returns-in-Base-clause-report
 returns-in-Base-clause-report g c =
     spelled (map string_bytes c.args.arguments.now) (Base (base_words c.in-Base.words)) (rw c.in-Base.is at c.in-Some.ensures.some) (g.F.Shelf.files c.args.shelf.now)
     (c.over_files.new.source ≡ c.args.source.now) (g.S.Source.left c.args.source.now) (g.S.Source.left c.over_files.new.source) c.over_files.result c.over_files.ensures.report
 
+pub returns-in-Base-clause-few : goal.returns-in-Base-clause-few
+returns-in-Base-clause-few g c =
+    of_command (λ (line : CommandLine). LosesFew (input_use line) (g.S.Source.left c.args.source.now) (g.S.Source.left c.over_files.new.source))
+    (map string_bytes c.args.arguments.now) (Base (base_words c.in-Base.words)) (rw c.in-Base.is at c.in-Some.ensures.some) c.over_files.ensures.few
+
+pub returns-in-Base-clause-asked : goal.returns-in-Base-clause-asked
+returns-in-Base-clause-asked g c =
+    of_command (λ (line : CommandLine). g.F.Shelf.asked c.over_files.new.shelf ≤ g.F.Shelf.asked c.args.shelf.now + file_count (name_of line))
+    (map string_bytes c.args.arguments.now) (Base (base_words c.in-Base.words)) (rw c.in-Base.is at c.in-Some.ensures.some) c.over_files.ensures.asked
+
 pub returns-in-Base-clause-unread : goal.returns-in-Base-clause-unread
-returns-in-Base-clause-unread g c = λ none. never MAX_INPUT_BYTES (none (Base (base_words c.in-Base.words)) (rw c.in-Base.is at c.in-Some.ensures.some))
+returns-in-Base-clause-unread g c = λ none. never_read _ (none (Base (base_words c.in-Base.words)) (rw c.in-Base.is at c.in-Some.ensures.some))
 
 pub returns-in-Base-clause-unasked : goal.returns-in-Base-clause-unasked
-returns-in-Base-clause-unasked g c = λ named. none_named (λ word. word.now) c.in-Base.words.conf _ (named (Base (base_words c.in-Base.words)) (rw c.in-Base.is at c.in-Some.ensures.some)) c.over_files.ensures.unasked
+returns-in-Base-clause-unasked g c = λ named.
+    none_named (λ word. word.now) c.in-Base.words.conf _ (named (Base (base_words c.in-Base.words)) (rw c.in-Base.is at c.in-Some.ensures.some) Conf) c.over_files.ensures.unasked
 
 pub returns-in-Verify-clause-report : goal.returns-in-Verify-clause-report
 returns-in-Verify-clause-report g c =
     spelled (map string_bytes c.args.arguments.now) (Verify (verify_words c.in-Verify.words)) (rw c.in-Verify.is at c.in-Some.ensures.some) (g.F.Shelf.files c.args.shelf.now)
     (c.over_files-in-Verify.new.source ≡ c.args.source.now) (g.S.Source.left c.args.source.now) (g.S.Source.left c.over_files-in-Verify.new.source) c.over_files-in-Verify.result c.over_files-in-Verify.ensures.report
 
+pub returns-in-Verify-clause-few : goal.returns-in-Verify-clause-few
+returns-in-Verify-clause-few g c =
+    of_command (λ (line : CommandLine). LosesFew (input_use line) (g.S.Source.left c.args.source.now) (g.S.Source.left c.over_files-in-Verify.new.source))
+    (map string_bytes c.args.arguments.now) (Verify (verify_words c.in-Verify.words)) (rw c.in-Verify.is at c.in-Some.ensures.some) c.over_files-in-Verify.ensures.few
+
+pub returns-in-Verify-clause-asked : goal.returns-in-Verify-clause-asked
+returns-in-Verify-clause-asked g c =
+    of_command (λ (line : CommandLine). g.F.Shelf.asked c.over_files-in-Verify.new.shelf ≤ g.F.Shelf.asked c.args.shelf.now + file_count (name_of line))
+    (map string_bytes c.args.arguments.now) (Verify (verify_words c.in-Verify.words)) (rw c.in-Verify.is at c.in-Some.ensures.some) c.over_files-in-Verify.ensures.asked
+
 pub returns-in-Verify-clause-unread : goal.returns-in-Verify-clause-unread
-returns-in-Verify-clause-unread g c = λ none. never MAX_INPUT_BYTES (none (Verify (verify_words c.in-Verify.words)) (rw c.in-Verify.is at c.in-Some.ensures.some))
+returns-in-Verify-clause-unread g c = λ none. never_read _ (none (Verify (verify_words c.in-Verify.words)) (rw c.in-Verify.is at c.in-Some.ensures.some))
 
 pub returns-in-Verify-clause-unasked : goal.returns-in-Verify-clause-unasked
-returns-in-Verify-clause-unasked g c = λ named. never c.in-Verify.words.conf.now (named (Verify (verify_words c.in-Verify.words)) (rw c.in-Verify.is at c.in-Some.ensures.some))
+returns-in-Verify-clause-unasked g c = λ named. never c.in-Verify.words.conf.now (named (Verify (verify_words c.in-Verify.words)) (rw c.in-Verify.is at c.in-Some.ensures.some) Conf)

@@ -7,6 +7,7 @@ abbrev pub invariant-reads : goal.invariant-reads
 invariant-reads g l = record {
   size : length l.text + l.room ≡ l.limit + 1;
   kept : g.S.Source.faults l.source ≡ g.S.Source.faults l.initial.source;
+  unended : g.S.Source.ended l.initial.source ≡ 0 → g.S.Source.ended l.source ≡ 0;
   took : Consumes (g.S.Source.left l.initial.source) (g.S.Source.left l.source) l.text;
 }
 

@@ -1,5 +1,4 @@
-use Rattle.msg_body.specs.Views.{message_of}
-use Rattle.conf.specs.ConfMeaning.{meaning}
+use Rattle.component_values.specs.Context.{context_of}
 use Rattle.hms.proofs.Layers.{went_on}
 use Rattle.hms.proofs.Sources.{own_of_base}
 use Rattle.hms.proofs.over_message.BaseWordsOverMessage.answer.Goals as goal
@@ -9,4 +8,4 @@ returns-clause-report c = rw c.as_bytes.ensures.value at c.write_base.ensures.re
 
 pub returns-clause-own : goal.returns-clause-own
 returns-clause-own c =
-    went_on (own_of_base c.as_bytes.result.now (meaning c.args.conf.now) (message_of c.args.message.now)) c.write_base.result c.write_base.ensures.report
+    went_on (own_of_base c.as_bytes.result.now (context_of c.args.context.now)) c.write_base.result c.write_base.ensures.report

@@ -1,0 +1,56 @@
+-- Laws of the crates below that something is read or has a fault, in the form that the proofs here
+-- use.
+use Rattle.std.proofs.Common.{◌⊎◌, ◌≤◌, ℕ, List, length, refl}
+use Rattle.std.specs.Prelude.{IsTrue}
+use Rattle.sfv_read.specs.Laws.{HasValueOrNone, HasFault}
+use Rattle.sfv_read.specs.Reads.{ReadsInner}
+use Rattle.sfv_read.proofs.Readings.{inner_is_decided, inner_judges}
+use Rattle.sfv_read.proofs.TextLaws.{has_fault}
+use Rattle.component_ids.specs.Laws.{HasAnswer as HasIdsAnswer}
+use Rattle.component_ids.proofs.Judged as ids
+use Rattle.component_values.specs.Laws.{HaveOrLack}
+use Rattle.component_values.proofs.FirstLacks.{have_or_lack}
+use Rattle.msg_body.specs.Causes.{IsMessageError, IsMessageUnfinished}
+use Rattle.msg_body.specs.Messages.{Message, SpellsMessage, is_expected}
+use Rattle.msg_body.specs.declared.error.MessageError.{MessageError}
+use Rattle.msg_body.proofs.EachAnswers.{each_has_a_message_answer}
+use Rattle.conf.specs.Laws.{HasConfAnswer, IsStandardOfEmpty}
+use Rattle.conf.proofs.AnswerLaws as conf
+use Rattle.conf.proofs.EmptyLaws.{empty_configures}
+use Rattle.settings.specs.Standard.{standard_configuration}
+use Rattle.signatures.specs.Laws.{HasLabels}
+use Rattle.signatures.proofs.Reading.{has_labels}
+use Rattle.verdicts.specs.Laws.{HasVerdict}
+use Rattle.verdicts.proofs.Judging.{has_verdict}
+use Rattle.commands.specs.declared.message.Reading.{Reading}
+use Rattle.refusals.specs.declared.refusal.TheConstants.{MAX_INPUT_BYTES}
+
+pub conf_answer_of : HasConfAnswer
+conf_answer_of = conf.has_answer
+
+pub empty_says : IsStandardOfEmpty
+empty_says = empty_configures standard_configuration refl
+
+pub inner_or_not : HasValueOrNone ReadsInner
+inner_or_not = inner_is_decided
+
+pub inner_fault : HasFault ReadsInner
+inner_fault = has_fault inner_judges
+
+pub ids_answer : HasIdsAnswer
+ids_answer = ids.has_answer
+
+pub values_or_lack : HaveOrLack
+values_or_lack = have_or_lack
+
+pub message_answer : (r : Reading) (input : List ℕ) → length input ≤ MAX_INPUT_BYTES
+    → ((message : Message) × (used : ℕ) × SpellsMessage r.to_head message used input × IsTrue (is_expected r.expect message.head.start))
+    ⊎ ((fault : MessageError) × IsMessageError r.expect r.to_head input fault)
+    ⊎ IsMessageUnfinished r.expect r.to_head input
+message_answer r input short = each_has_a_message_answer r.expect r.to_head input short
+
+pub some_labels : HasLabels
+some_labels = has_labels
+
+pub some_verdict : HasVerdict
+some_verdict = has_verdict

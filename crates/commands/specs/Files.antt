@@ -1,0 +1,51 @@
+-- The files that a command reads, by what they are to it.
+use Rattle.std.specs.Prelude.{◌≡◌, ℕ, List, [], ◌∷◌, length, Option, None, IfSome, is_some}
+use Rattle.std.specs.List.{filter}
+use Rattle.std.specs.FinMap as map
+use Rattle.hms_io.specs.Files.{FileMap}
+
+-- what a file is to a command
+pub data FileRole : Type 0 where
+  -- the configuration
+  Conf : FileRole
+  -- the request that a response answers
+  Request : FileRole
+  -- the message that says which signatures are wanted
+  Wanted : FileRole
+  -- the script of changes to a message
+  Script : FileRole
+  -- what a command compares its input with
+  Other : FileRole
+
+-- the name of the file of each role, where it has one
+abbrev pub FileNames : Type 0
+FileNames = FileRole → Option (List ℕ)
+
+-- a configuration alone, or no file
+abbrev pub conf_alone : Option (List ℕ) → FileNames
+conf_alone name Conf = name
+conf_alone name role = None
+
+-- how many files have a name
+abbrev pub file_count : FileNames → ℕ
+file_count names =
+    length (filter (λ role. is_some (names role)) (Conf ∷ Request ∷ Wanted ∷ Script ∷ Other ∷ []))
+
+-- what was found for each role: a text, or none
+abbrev pub Found : Type 0
+Found = FileRole → Option (List ℕ)
+
+-- Where there is a name and the files are known, what was found is the file of that name, or none.
+abbrev pub IsFound : Option FileMap → Option (List ℕ) → Option (List ℕ) → Type 0
+IsFound shelf name found = IfSome name (λ n. IfSome shelf (λ files. found ≡ map.get files n))
+
+-- the same for each role
+abbrev pub AreFound : Option FileMap → FileNames → Found → Type 0
+AreFound shelf names found = (role : FileRole) → IsFound shelf (names role) (found role)
+
+-- the fact holds of what was found under the name
+pub record HasFound (shelf : Option FileMap) (name : Option (List ℕ))
+    (P : Option (List ℕ) → Type 0) : Type 0 where
+  pub found : Option (List ℕ)
+  pub known : IsFound shelf name found
+  pub holds : P found

@@ -1,0 +1,72 @@
+-- What each command reads: the files that it names, and its input.
+use Rattle.std.specs.Prelude.{◌≡◌, ◌+◌, ◌≤◌, ℕ, Bool, true, IsTrue, List, Option, None}
+use Rattle.hms_io.specs.Files.{FileMap}
+use Rattle.hms_io.specs.Reading.{LosesPrefix}
+use Rattle.command_line.specs.Command.{CommandLine, Help, Version, Base, Verify, IsCommand, conf_of}
+use Rattle.commands.specs.Files.{FileRole, FileNames, Found, AreFound, conf_alone, file_count}
+use Rattle.refusals.specs.declared.refusal.TheConstants.{MAX_INPUT_BYTES}
+
+-- the name of the file of each role
+abbrev pub name_of : CommandLine → FileNames
+name_of command = conf_alone (conf_of command)
+
+-- how a command reads its input
+pub data InputUse : Type 0 where
+  -- not at all
+  Unread : InputUse
+  -- to its end before anything is written, and at most so many bytes of it
+  Whole : ℕ → InputUse
+
+abbrev pub input_use : CommandLine → InputUse
+input_use Help = Unread
+input_use Version = Unread
+input_use (Base words) = Whole MAX_INPUT_BYTES
+input_use (Verify words) = Whole MAX_INPUT_BYTES
+
+-- what the command comes to is known before anything is written
+abbrev pub is_whole : InputUse → Bool
+is_whole Unread = true
+is_whole (Whole limit) = true
+
+-- at most so many bytes are gone, the first ones
+abbrev pub LosesAtMost : ℕ → Option (List ℕ) → Option (List ℕ) → Type 0
+LosesAtMost most before now = (n : ℕ) × (n ≤ most) × LosesPrefix before now n
+
+-- of an input at most one byte past the limit is gone
+abbrev pub LosesFew : InputUse → Option (List ℕ) → Option (List ℕ) → Type 0
+LosesFew Unread before now = LosesAtMost 0 before now
+LosesFew (Whole limit) before now = LosesAtMost (limit + 1) before now
+
+-- ---- the same for arguments
+
+-- the arguments are no command, or one that names no file
+abbrev pub NamesNoFile : List (List ℕ) → Type 0
+NamesNoFile arguments =
+    (command : CommandLine) → IsCommand arguments command
+    → (role : FileRole) → name_of command role ≡ None
+
+-- the arguments are no command, or one that reads no input
+abbrev pub ReadsNoInput : List (List ℕ) → Type 0
+ReadsNoInput arguments =
+    (command : CommandLine) → IsCommand arguments command → input_use command ≡ Unread
+
+-- the arguments are no command, or one that writes nothing before it has read all
+abbrev pub ReadsWhole : List (List ℕ) → Type 0
+ReadsWhole arguments =
+    (command : CommandLine) → IsCommand arguments command → IsTrue (is_whole (input_use command))
+
+-- what was found of the files that the command names
+abbrev pub AreFoundFor : List (List ℕ) → Option FileMap → Found → Type 0
+AreFoundFor arguments shelf found =
+    (command : CommandLine) → IsCommand arguments command → AreFound shelf (name_of command) found
+
+-- at most so many files are asked for as the command names
+abbrev pub AsksForNamed : List (List ℕ) → ℕ → ℕ → Type 0
+AsksForNamed arguments before now =
+    (command : CommandLine) → IsCommand arguments command
+    → now ≤ before + file_count (name_of command)
+
+-- at most so many bytes are gone as the command may read
+abbrev pub ReadsFew : List (List ℕ) → Option (List ℕ) → Option (List ℕ) → Type 0
+ReadsFew arguments before now =
+    (command : CommandLine) → IsCommand arguments command → LosesFew (input_use command) before now

@@ -1,0 +1,105 @@
+-- Field lines in order of their names. No public clause cites this module.
+use Rattle.std.specs.Prelude.{◌≡◌, ℕ, Bool, IsTrue, IsFalse, List, length, filter, map, nat_lt}
+use Rattle.std.specs.Int.{from_be_bytes, w64}
+use Rattle.std.specs.List.{All, list_all, range_with_len, slice_index_or}
+use Rattle.std.specs.List.Sorted.{IsPermutation, IsSortedBy}
+use Rattle.std.specs.Cmp.Lexicographic.{slice_cmp}
+use Rattle.std.specs.Ordering.{ordering_then, nat_cmp, is_lt}
+use Rattle.std.specs.Str.{str_to_ascii_lowercase}
+use Rattle.std.specs.declared.cmp.Ordering.{Ordering}
+use Rattle.msg_head.specs.declared.line.LineSpan.{LineSpan}
+use Rattle.msg_head.specs.declared.index.IndexEntry.{IndexEntry}
+use Rattle.msg_head.specs.Lines.{FieldLine}
+use Rattle.msg_head.specs.Names.{has_name}
+use Rattle.msg_head.specs.Views.{line_at, lies_in}
+
+-- where no line is
+abbrev pub no_span : LineSpan
+no_span = record { name = 0; colon = 0; end = 0 }
+
+-- the field line with the index
+abbrev pub line_by : List ℕ → List LineSpan → ℕ → FieldLine
+line_by bytes spans index = line_at bytes (slice_index_or spans index no_span)
+
+-- its name in lower case
+abbrev pub lowered_name : List ℕ → List LineSpan → ℕ → List ℕ
+lowered_name bytes spans index = str_to_ascii_lowercase (line_by bytes spans index).name
+
+-- the number that the first eight bytes are, 0 for each that is missing
+abbrev pub first_bytes : List ℕ → ℕ
+first_bytes text = from_be_bytes w64 text
+
+-- how two names in lower case are ordered: by the first bytes that differ
+abbrev pub name_cmp : List ℕ → List ℕ → Ordering
+name_cmp = slice_cmp nat_cmp
+
+-- how two names are ordered of which the first bytes are known: by these, and then as a whole
+abbrev pub key_cmp : ℕ × List ℕ → ℕ × List ℕ → Ordering
+key_cmp one other = ordering_then (nat_cmp one.0 other.0) (name_cmp one.1 other.1)
+
+-- the first bytes of a name and the name, in lower case
+abbrev pub key_of : List ℕ → ℕ × List ℕ
+key_of name = (first_bytes (str_to_ascii_lowercase name), str_to_ascii_lowercase name)
+
+-- those of the entry's line, of which the entry has the first bytes
+abbrev pub entry_key : List ℕ → List LineSpan → IndexEntry → ℕ × List ℕ
+entry_key bytes spans entry = (entry.first_bytes, lowered_name bytes spans entry.line)
+
+-- whether the one entry comes before the other: by the names, and then by the indexes of the lines
+abbrev pub comes_before : List ℕ → List LineSpan → IndexEntry → IndexEntry → Bool
+comes_before bytes spans one other =
+    is_lt (ordering_then (key_cmp (entry_key bytes spans one) (entry_key bytes spans other))
+    (nat_cmp one.line other.line))
+
+-- whether the entry's name comes before the name of that key
+abbrev pub is_below : List ℕ → List LineSpan → ℕ × List ℕ → IndexEntry → Bool
+is_below bytes spans key entry = is_lt (key_cmp (entry_key bytes spans entry) key)
+
+-- whether the line with the index has the name
+abbrev pub is_line_named : List ℕ → List LineSpan → List ℕ → ℕ → Bool
+is_line_named bytes spans name index = has_name name (line_by bytes spans index)
+
+-- whether the entry's line has the name
+abbrev pub is_named : List ℕ → List LineSpan → List ℕ → IndexEntry → Bool
+is_named bytes spans name entry = is_line_named bytes spans name entry.line
+
+-- the entry of the line with the index
+abbrev pub entry_of : List ℕ → List LineSpan → ℕ → IndexEntry
+entry_of bytes spans index = record {
+  first_bytes = first_bytes (lowered_name bytes spans index);
+  line = index;
+}
+
+-- the entry is that of its line
+abbrev pub IsEntry : List ℕ → List LineSpan → IndexEntry → Type 0
+IsEntry bytes spans entry = entry.first_bytes ≡ first_bytes (lowered_name bytes spans entry.line)
+
+-- each line's entry is there once, and they are in order
+pub record IsIndexOf (bytes : List ℕ) (spans : List LineSpan) (index : List IndexEntry)
+    : Type 0 where
+  pub each : IsPermutation (map (entry_of bytes spans) (range_with_len 0 (length spans))) index
+  pub sorted : IsSortedBy (comes_before bytes spans) index
+
+-- those of lines whose names don't come before the name
+pub record IsRestFrom (bytes : List ℕ) (spans : List LineSpan) (name : List ℕ)
+    (index rest : List IndexEntry) : Type 0 where
+  pub sorted : IsSortedBy (comes_before bytes spans) rest
+  pub above : All (λ entry. IsFalse (is_below bytes spans (key_of name) entry)) rest
+  pub right : All (IsEntry bytes spans) rest
+  pub all : filter (is_named bytes spans name) rest ≡ filter (is_named bytes spans name) index
+
+-- the spans lie in the bytes, and the index is theirs
+pub record AreIndexed (bytes : List ℕ) (spans : List LineSpan) (index : List IndexEntry)
+    : Type 0 where
+  pub lie : IsTrue (list_all (lies_in (length bytes)) spans)
+  pub index_is : IsIndexOf bytes spans index
+
+-- the field line of the entry
+abbrev pub entry_line : List ℕ → List LineSpan → IndexEntry → FieldLine
+entry_line bytes spans entry = line_by bytes spans entry.line
+
+-- the spans lie in the bytes, and there is one for each of the entries
+pub record AreChosen (bytes : List ℕ) (spans : List LineSpan) (entries : List IndexEntry)
+    : Type 0 where
+  pub lie : IsTrue (list_all (lies_in (length bytes)) spans)
+  pub inside : IsTrue (list_all (λ entry. nat_lt entry.line (length spans)) entries)

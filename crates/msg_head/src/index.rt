@@ -1,0 +1,196 @@
+//! The order of field lines by name.
+
+ghost use Rattle.std.specs.Prelude.{◌≡◌, length, map, filter, slice_index, IfOk};
+ghost use Rattle.std.specs.List.{range_with_len};
+ghost use Rattle.std.specs.Ordering.{ordering_then, nat_cmp};
+ghost use Rattle.std.specs.Str.{str_to_ascii_lowercase};
+ghost use Rattle.msg_head.specs.tools.Index.{first_bytes, line_by, name_cmp, key_cmp, entry_key, entry_of, is_below, is_named, IsIndexOf, IsRestFrom};
+
+use crate::line::LineSpan;
+use crate::name::is_lowered;
+use crate::slices::part_of;
+use std::alloc::{AllocError, Global};
+use std::cmp::Ordering;
+
+/// What the index has of a field line. The first bytes of the name decide most comparisons.
+#[derive(Clone, Copy, Debug)]
+pub(crate) struct IndexEntry {
+    /// The first eight bytes of the name in lower case, as a number.
+    first_bytes: u64,
+    /// The index of the line among the field lines.
+    pub(crate) line: usize,
+}
+
+// The byte of the name at the offset in lower case, and NUL where there is none.
+fn lowered_at(name: &[u8], offset: usize) -> u8
+    ensures { result ≡ slice_index (str_to_ascii_lowercase name.now) offset }
+{
+    match name.get(offset) {
+        Some(byte) => byte.to_ascii_lowercase(),
+        None => b'\0',
+    }
+}
+
+// The first eight bytes of the name in lower case as a number, NUL for each that is missing.
+fn first_bytes(name: &[u8]) -> u64
+    ensures { result ≡ first_bytes (str_to_ascii_lowercase name.now) }
+{
+    u64::from_be_bytes([
+        lowered_at(name, 0),
+        lowered_at(name, 1),
+        lowered_at(name, 2),
+        lowered_at(name, 3),
+        lowered_at(name, 4),
+        lowered_at(name, 5),
+        lowered_at(name, 6),
+        lowered_at(name, 7),
+    ])
+}
+
+// How two names are ordered, in which case doesn't count.
+fn compare_names(one: &[u8], other: &[u8]) -> Ordering
+    ensures { result
+        ≡ name_cmp (str_to_ascii_lowercase one.now) (str_to_ascii_lowercase other.now) }
+{
+    let mut one = one;
+    let mut other = other;
+    'bytes: loop {
+        let Some((first, after_first)) = one.split_first() else {
+            return if other.is_empty() {
+                Ordering::Equal
+            } else {
+                Ordering::Less
+            };
+        };
+        let Some((second, after_second)) = other.split_first() else {
+            return Ordering::Greater;
+        };
+        match first.to_ascii_lowercase().cmp(&second.to_ascii_lowercase()) {
+            Ordering::Less => return Ordering::Less,
+            Ordering::Greater => return Ordering::Greater,
+            Ordering::Equal => {
+                one = after_first;
+                other = after_second;
+            }
+        }
+    }
+}
+
+// The name of the line with the index; empty where there is no such line.
+fn name_at<'m>(bytes: &'m [u8], spans: &[LineSpan], index: usize) -> &'m [u8]
+    ensures { result.now ≡ (line_by bytes.now spans.now index).name }
+{
+    match spans.get(index) {
+        Some(span) => part_of(bytes, span.name, span.colon),
+        None => &[],
+    }
+}
+
+// The entry of the line with the index.
+fn entry_of(bytes: &[u8], spans: &[LineSpan], line: usize) -> IndexEntry
+    ensures { result ≡ entry_of bytes.now spans.now line }
+{
+    IndexEntry {
+        first_bytes: first_bytes(name_at(bytes, spans, line)),
+        line,
+    }
+}
+
+// How two entries are ordered.
+fn compare_entries(bytes: &[u8], spans: &[LineSpan], one: IndexEntry, other: IndexEntry) -> Ordering
+    ensures { result ≡ ordering_then
+        (key_cmp (entry_key bytes.now spans.now one) (entry_key bytes.now spans.now other))
+        (nat_cmp one.line other.line) }
+{
+    match one.first_bytes.cmp(&other.first_bytes) {
+        Ordering::Equal => {
+            compare_names(
+                name_at(bytes, spans, one.line),
+                name_at(bytes, spans, other.line),
+            )
+            .then(one.line.cmp(&other.line))
+        }
+        decided => decided,
+    }
+}
+
+// The entries of the lines, in order of the lines.
+fn entries_of(
+    alloc: Global,
+    bytes: &[u8],
+    spans: &[LineSpan],
+) -> Result<Vec<IndexEntry>, AllocError>
+    ensures { IfOk result (λ entries. entries.items
+        ≡ map (entry_of bytes.now spans.now) (range_with_len 0 (length spans.now))) }
+{
+    let mut entries = Vec::with_capacity(alloc, spans.len())?;
+    for line in 0..spans.len() {
+        entries.push(entry_of(bytes, spans, line))?;
+    }
+    Ok(entries)
+}
+
+/// The entries of the lines, in order of their names in lower case. Those of one name keep their
+/// order.
+pub(crate) fn index_of(
+    alloc: Global,
+    bytes: &[u8],
+    spans: &[LineSpan],
+) -> Result<Vec<IndexEntry>, AllocError>
+    ensures { IfOk result (λ index. IsIndexOf bytes.now spans.now index.items) }
+{
+    let mut index = entries_of(alloc, bytes, spans)?;
+    index.sort_unstable_by(|one, other| compare_entries(bytes, spans, *one, *other));
+    Ok(index)
+}
+
+// Whether the name of the entry's line comes before the name, whose first bytes are these.
+fn is_below(bytes: &[u8], spans: &[LineSpan], name: &[u8], first: u64, entry: IndexEntry) -> bool
+    ensures { result
+        ≡ is_below bytes.now spans.now (first, str_to_ascii_lowercase name.now) entry }
+{
+    match entry.first_bytes.cmp(&first) {
+        Ordering::Less => true,
+        Ordering::Equal => {
+            compare_names(name_at(bytes, spans, entry.line), name) == Ordering::Less
+        }
+        Ordering::Greater => false,
+    }
+}
+
+// Whether the entry's line has the name.
+fn is_named(bytes: &[u8], spans: &[LineSpan], name: &[u8], entry: IndexEntry) -> bool
+    ensures { result ≡ is_named bytes.now spans.now name.now entry }
+{
+    is_lowered(name_at(bytes, spans, entry.line), name)
+}
+
+// The entries from the first on whose line's name doesn't come before the name.
+fn rest_from_name<'h>(
+    bytes: &[u8],
+    spans: &[LineSpan],
+    index: &'h [IndexEntry],
+    name: &[u8],
+) -> &'h [IndexEntry]
+    requires { IsIndexOf bytes.now spans.now index.now }
+    ensures { IsRestFrom bytes.now spans.now name.now index.now result.now }
+{
+    let first = first_bytes(name);
+    let begin = index.partition_point(|entry| is_below(bytes, spans, name, first, *entry));
+    index.split_at(begin).1
+}
+
+/// The entries of the lines that have the name, in order of the lines.
+pub(crate) fn named_part<'h>(
+    bytes: &[u8],
+    spans: &[LineSpan],
+    index: &'h [IndexEntry],
+    name: &[u8],
+) -> &'h [IndexEntry]
+    requires { IsIndexOf bytes.now spans.now index.now }
+    ensures { result.now ≡ filter (is_named bytes.now spans.now name.now) index.now }
+{
+    let rest = rest_from_name(bytes, spans, index, name);
+    let count = rest.partition_point(|entry| is_named(bytes, spans, name, *entry));
+    rest.split_at(count).0
+}

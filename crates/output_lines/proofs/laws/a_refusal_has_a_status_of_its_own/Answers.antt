@@ -1,5 +1,0 @@
-use Rattle.output_lines.proofs.Statuses.{status_of_refusal}
-use Rattle.output_lines.proofs.laws.a_refusal_has_a_status_of_its_own.Goals as goal
-
-pub returns : goal.returns
-returns c = status_of_refusal

@@ -1,9 +1,0 @@
-//! Laws of refusals. Each function does nothing; its contract is the law.
-
-ghost use Rattle.output_lines.specs.Laws.{HasStatusOfRefusal};
-
-/// The status of a refusal is none of those of other ends: that a run is done, or that a device
-/// failed, or that memory ran out.
-pub fn a_refusal_has_a_status_of_its_own()
-    ensures { HasStatusOfRefusal }
-{}

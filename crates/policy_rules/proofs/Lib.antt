@@ -1,3 +1,0 @@
-mod Uncovered
-mod InRange
-pub mod Judging

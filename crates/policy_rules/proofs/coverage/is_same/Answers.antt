@@ -1,5 +1,0 @@
-use Rattle.policy_rules.proofs.Uncovered.{same_test}
-use Rattle.policy_rules.proofs.coverage.is_same.Goals as goal
-
-pub returns : goal.returns
-returns c = same_test c.args.a.now c.args.b.now c.same_id.result c.same_id.ensures

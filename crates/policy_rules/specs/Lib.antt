@@ -1,4 +1,0 @@
-pub mod Parameters
-pub mod PolicyRules
-pub mod Laws
-pub mod tools

@@ -1,0 +1,48 @@
+-- The status of a refusal.
+use Rattle.msg_body.specs.declared.error.MessageError.{MessageError}
+use Rattle.msg_body.specs.declared.error.MessageError.TheVariants as error
+use Rattle.msg_body.specs.declared.error.MessageFault.{MessageFault}
+use Rattle.msg_body.specs.declared.error.MessageFault.TheVariants as fault
+use Rattle.refusals.specs.Laws.{IsOfRefusal, HasStatusOfRefusal}
+use Rattle.refusals.specs.Refusal.{command_status}
+use Rattle.refusals.specs.Texts.{message_status, fault_status, file_status}
+use Rattle.refusals.specs.declared.file.FileRefusal.{FileRefusal}
+use Rattle.refusals.specs.declared.file.FileRefusal.TheVariants.{Missing, TooLong, Message, Conf}
+use Rattle.refusals.specs.declared.refusal.Refusal.TheVariants.{Arguments, Of, Command}
+use Rattle.refusals.specs.declared.refusal.CommandRefusal.{CommandRefusal}
+use Rattle.refusals.specs.declared.refusal.CommandRefusal.TheVariants.{Syntax, ItemKind, Ids, Lacks}
+
+of_message : (e : MessageError) → IsOfRefusal (message_status e)
+of_message error.Memory = tt
+of_message (error.TooLong side) = tt
+of_message (error.NakedEnd offset) = tt
+of_message error.BadStart = tt
+of_message (error.TooManyLines side) = tt
+of_message (error.BadLine side index) = tt
+of_message error.FramingConflict = tt
+of_message error.BadLength = tt
+of_message error.CodingRefused = tt
+of_message (error.BadChunk offset) = tt
+of_message error.ContentTooLong = tt
+
+of_fault : (f : MessageFault) → IsOfRefusal (fault_status f)
+of_fault (fault.Refused e) = of_message e
+of_fault (fault.Truncated count) = tt
+of_fault (fault.Trailing offset) = tt
+
+of_file : (refusal : FileRefusal) → IsOfRefusal (file_status refusal)
+of_file Missing = tt
+of_file (TooLong limit) = tt
+of_file (Message f) = of_fault f
+of_file (Conf f) = tt
+
+of_command : (refusal : CommandRefusal) → IsOfRefusal (command_status refusal)
+of_command (Syntax offset) = tt
+of_command (ItemKind offset) = tt
+of_command (Ids f) = tt
+of_command (Lacks lack id) = tt
+
+pub status_of_refusal : HasStatusOfRefusal
+status_of_refusal Arguments = tt
+status_of_refusal (Of role refusal) = of_file refusal
+status_of_refusal (Command refusal) = of_command refusal

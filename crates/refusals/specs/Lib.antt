@@ -1,0 +1,3 @@
+pub mod Laws
+pub mod Refusal
+pub mod Texts

@@ -1,0 +1,54 @@
+-- The line that a refusal writes, and the status that it gives.
+use Rattle.std.specs.Prelude.{ℕ, List, [], ◌∷◌, ◌++◌, codes}
+use Rattle.std.specs.Fmt.{decimal}
+use Rattle.std.specs.Str.{byte}
+use Rattle.component_ids.specs.declared.fault.IdFault.{IdFault}
+use Rattle.component_ids.specs.declared.fault.IdFault.TheVariants.{Memory, TooMany, BadComponent, Repeated, BadParameter}
+use Rattle.component_ids.specs.Reasons.{word_of}
+use Rattle.derived_values.specs.Words.{lack_word}
+use Rattle.hms_io.specs.declared.status.Status.{Status}
+use Rattle.hms_io.specs.declared.status.Status.TheVariants.{BadArguments, BadInput}
+use Rattle.refusals.specs.Texts.{role_text, file_text, file_status}
+use Rattle.refusals.specs.declared.refusal.Refusal.{Refusal}
+use Rattle.refusals.specs.declared.refusal.Refusal.TheVariants.{Arguments, Of, Command}
+use Rattle.refusals.specs.declared.refusal.CommandRefusal.{CommandRefusal}
+use Rattle.refusals.specs.declared.refusal.CommandRefusal.TheVariants.{Syntax, ItemKind, Ids, Lacks}
+
+-- the word of a fault of identifiers, with its place; being out of memory is none
+abbrev pub ids_text : IdFault → List ℕ
+ids_text Memory = []
+ids_text TooMany = codes "components-many"
+ids_text (BadComponent index reason) =
+    codes "component-bad " ++ (decimal index ++ byte " " ∷ word_of reason)
+ids_text (Repeated index) = codes "component-repeated " ++ decimal index
+ids_text (BadParameter key) = codes "parameter-bad " ++ key
+
+-- why PARAMS are refused, or which component lacks a value, and how
+abbrev pub command_text : CommandRefusal → List ℕ
+command_text (Syntax offset) = codes "params-syntax " ++ decimal offset
+command_text (ItemKind offset) = codes "params-kind " ++ decimal offset
+command_text (Ids fault) = ids_text fault
+command_text (Lacks lack id) = lack_word lack ++ byte " " ∷ id
+
+-- what is refused, and why
+abbrev pub refusal_text : Refusal → List ℕ
+refusal_text Arguments = codes "words"
+refusal_text (Of role refusal) = (role_text role ++ codes " ") ++ file_text refusal
+refusal_text (Command refusal) = codes "command " ++ command_text refusal
+
+-- the one line that a refusal writes
+abbrev pub refusal_line : Refusal → List ℕ
+refusal_line refusal = codes "refused " ++ (refusal_text refusal ++ codes "\n")
+
+-- the status that a command's own refusal gives
+abbrev pub command_status : CommandRefusal → Status
+command_status (Syntax offset) = BadInput
+command_status (ItemKind offset) = BadInput
+command_status (Ids fault) = BadInput
+command_status (Lacks lack id) = BadInput
+
+-- the status of a refusal, by what is refused and why
+abbrev pub refusal_status : Refusal → Status
+refusal_status Arguments = BadArguments
+refusal_status (Of role refusal) = file_status refusal
+refusal_status (Command refusal) = command_status refusal

@@ -1,0 +1,86 @@
+//! Why a text is refused that a run reads, and the status that this gives.
+
+ghost use Rattle.std.specs.Prelude.{◌≡◌, ◌++◌, option_copied, OnOk};
+ghost use Rattle.refusals.specs.Texts.{path_text, file_text, message_status, fault_status, file_status};
+
+use conf::ConfFault;
+use hms_io::Status;
+use msg_body::{MessageError, MessageFault};
+use sfv_text::{Memory, Text, append_number, append_words};
+use std::alloc::Global;
+
+/// Why a text is refused: that of a file, or the input.
+#[derive(Debug, Drop)]
+pub enum FileRefusal {
+    /// There is no file of the name.
+    Missing,
+    /// It has more bytes than this limit.
+    TooLong(usize),
+    /// It isn't one whole message (RFC 9112 section 2.1). The error of the fault is never out of
+    /// memory.
+    Message(MessageFault),
+    /// It is no configuration. The fault is never out of memory.
+    Conf(ConfFault),
+}
+
+impl FileRefusal {
+    /// The status that the refusal gives.
+    pub fn status(&self) -> Status
+        ensures { result ≡ file_status self.now }
+    {
+        match self {
+            FileRefusal::Missing => Status::FileMissing,
+            FileRefusal::TooLong(_) => Status::LimitPassed,
+            FileRefusal::Message(fault) => fault_status(*fault),
+            FileRefusal::Conf(_) => Status::BadConf,
+        }
+    }
+}
+
+fn message_status(error: MessageError) -> Status
+    ensures { result ≡ message_status error }
+{
+    match error {
+        MessageError::TooLong(_) => Status::LimitPassed,
+        MessageError::TooManyLines(_) => Status::LimitPassed,
+        MessageError::ContentTooLong => Status::LimitPassed,
+        _ => Status::BadInput,
+    }
+}
+
+fn fault_status(fault: MessageFault) -> Status
+    ensures { result ≡ fault_status fault }
+{
+    match fault {
+        MessageFault::Refused(error) => message_status(error),
+        _ => Status::BadInput,
+    }
+}
+
+// Adds a path, after a space, where there is one.
+fn append_path(path: Option<&[u8]>, line: &mut Text) -> Result<(), Memory>
+    ensures { OnOk result (line.new ≡ line.old ++ path_text (option_copied path.entry)) }
+{
+    match path {
+        None => Ok(()),
+        Some(path) => append_words(b" ", path, line),
+    }
+}
+
+// Adds why a text is refused, at the end of the line.
+pub fn append_file(alloc: Global, refusal: &FileRefusal, line: &mut Text) -> Result<(), Memory>
+    ensures { OnOk result (line.new ≡ line.old ++ file_text refusal.now) }
+{
+    match refusal {
+        FileRefusal::Missing => line.append(b"missing"),
+        FileRefusal::TooLong(limit) => append_number(alloc, b"bytes ", *limit, line),
+        FileRefusal::Message(fault) => {
+            let text = format!(in alloc; "{fault}")?;
+            line.append(text.as_bytes())
+        }
+        FileRefusal::Conf(fault) => {
+            append_number(alloc, b"", fault.number() as usize, line)?;
+            append_path(fault.path(), line)
+        }
+    }
+}

@@ -1,0 +1,20 @@
+//! Why a run of `hms` is refused: the line that it writes, and the status that it gives.
+//!
+//! ```text
+//! let refusal = Refusal::Of(Role::Input, FileRefusal::Message(MessageFault::Truncated(0)));
+//! refusal.line(alloc)? // `refused input truncated 0` and LF
+//! refusal.status()     // Status::BadInput
+//! ```
+#![tactic(auto)]
+
+mod file;
+mod laws;
+mod line;
+mod refusal;
+mod refusal_text;
+mod role;
+
+pub use file::FileRefusal;
+pub use laws::a_refusal_has_a_status_of_its_own;
+pub use refusal::{CommandRefusal, MAX_CONF_BYTES, MAX_INPUT_BYTES, Refusal};
+pub use role::Role;

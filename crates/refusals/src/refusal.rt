@@ -1,0 +1,82 @@
+//! Refusals: why a run is refused, the status that this gives, and the one line that says so.
+
+ghost use Rattle.std.specs.Prelude.{◌≡◌, IfOk};
+ghost use Rattle.refusals.specs.Refusal.{command_status, refusal_line, refusal_status};
+
+use crate::file::FileRefusal;
+use crate::refusal_text::append_refusal;
+use crate::role::Role;
+use component_ids::IdFault;
+use component_values::Lack;
+use hms_io::Status;
+use sfv_text::{Memory, Text};
+use std::alloc::Global;
+
+/// The most bytes of an input that is one message, and of a file that is one.
+pub const MAX_INPUT_BYTES: usize = 16_777_216;
+
+/// The most bytes of a configuration.
+pub const MAX_CONF_BYTES: usize = 65_536;
+
+/// Why a run is refused.
+#[derive(Debug, Drop)]
+pub enum Refusal {
+    /// The arguments are no command.
+    Arguments,
+    /// A text that the command reads isn't accepted.
+    Of(Role, FileRefusal),
+    /// The command can't be done over what it has read.
+    Command(CommandRefusal),
+}
+
+/// Why a command is refused.
+#[derive(Debug, Drop)]
+pub enum CommandRefusal {
+    /// PARAMS are no Inner List (RFC 9651 section 3.1.1): the longest prefix that begins one has so
+    /// many bytes.
+    Syntax(usize),
+    /// The same, where a Date or a Display String is in place of an item.
+    ItemKind(usize),
+    /// PARAMS are no signature parameters (RFC 9421 section 2.3). The fault is never out of memory.
+    Ids(IdFault),
+    /// The first covered component without a value, and how it lacks it. The text is that of its
+    /// identifier, quotes and parameters included.
+    Lacks(Lack, Text),
+}
+
+impl Refusal {
+    /// The status that the refusal gives.
+    pub fn status(&self) -> Status
+        ensures { result ≡ refusal_status self.now }
+    {
+        match self {
+            Refusal::Arguments => Status::BadArguments,
+            Refusal::Of(_, refusal) => refusal.status(),
+            Refusal::Command(refusal) => refusal.status(),
+        }
+    }
+
+    /// The one line that says what is refused and why, with its line end.
+    pub fn line(&self, alloc: Global) -> Result<Text, Memory>
+        ensures { IfOk result (λ line. line ≡ refusal_line self.now) }
+    {
+        let mut line = Text::from_bytes(alloc, b"refused ")?;
+        append_refusal(alloc, self, &mut line)?;
+        line.append(b"\n")?;
+        Ok(line)
+    }
+}
+
+impl CommandRefusal {
+    /// The status that the refusal gives.
+    pub fn status(&self) -> Status
+        ensures { result ≡ command_status self.now }
+    {
+        match self {
+            CommandRefusal::Syntax(_) => Status::BadInput,
+            CommandRefusal::ItemKind(_) => Status::BadInput,
+            CommandRefusal::Ids(_) => Status::BadInput,
+            CommandRefusal::Lacks(_, _) => Status::BadInput,
+        }
+    }
+}

@@ -1,0 +1,72 @@
+//! The text of a refusal. Each function adds its part at the end of the line.
+
+ghost use Rattle.std.specs.Prelude.{◌≡◌, ◌++◌, ◌∷◌, codes, OnOk};
+ghost use Rattle.std.specs.Str.{byte};
+ghost use Rattle.derived_values.specs.Words.{lack_word};
+ghost use Rattle.refusals.specs.Texts.{role_text};
+ghost use Rattle.refusals.specs.Refusal.{ids_text, command_text, refusal_text};
+
+use crate::file::append_file;
+use crate::line::append_component;
+use crate::refusal::{CommandRefusal, Refusal};
+use crate::role::Role;
+use component_ids::IdFault;
+use component_values::Lack;
+use sfv_text::{Memory, Text, append_number, append_words};
+use std::alloc::Global;
+
+fn append_role(alloc: Global, role: Role, line: &mut Text) -> Result<(), Memory>
+    ensures { OnOk result (line.new ≡ line.old ++ (role_text role ++ codes " ")) }
+{
+    let text = format!(in alloc; "{role}")?;
+    append_words(text.as_bytes(), b" ", line)
+}
+
+fn append_ids(alloc: Global, fault: &IdFault, line: &mut Text) -> Result<(), Memory>
+    ensures { OnOk result (line.new ≡ line.old ++ ids_text fault.now) }
+{
+    match fault {
+        IdFault::Memory => Ok(()),
+        IdFault::TooMany => line.append(b"components-many"),
+        IdFault::BadComponent(index, reason) => {
+            append_component(alloc, b"component-bad ", *index, *reason, line)
+        }
+        IdFault::Repeated(index) => append_number(alloc, b"component-repeated ", *index, line),
+        IdFault::BadParameter(key) => append_words(b"parameter-bad ", key.bytes(), line),
+    }
+}
+
+fn append_lack(lack: Lack, id: &Text, line: &mut Text) -> Result<(), Memory>
+    ensures { OnOk result (line.new ≡ line.old ++ (lack_word lack ++ byte " " ∷ id.now)) }
+{
+    line.append(lack.word().as_bytes())?;
+    append_words(b" ", id.bytes(), line)
+}
+
+fn append_command(alloc: Global, refusal: &CommandRefusal, line: &mut Text) -> Result<(), Memory>
+    ensures { OnOk result (line.new ≡ line.old ++ command_text refusal.now) }
+{
+    match refusal {
+        CommandRefusal::Syntax(offset) => append_number(alloc, b"params-syntax ", *offset, line),
+        CommandRefusal::ItemKind(offset) => append_number(alloc, b"params-kind ", *offset, line),
+        CommandRefusal::Ids(fault) => append_ids(alloc, fault, line),
+        CommandRefusal::Lacks(lack, id) => append_lack(*lack, id, line),
+    }
+}
+
+/// Adds what is refused, and why.
+pub fn append_refusal(alloc: Global, refusal: &Refusal, line: &mut Text) -> Result<(), Memory>
+    ensures { OnOk result (line.new ≡ line.old ++ refusal_text refusal.now) }
+{
+    match refusal {
+        Refusal::Arguments => line.append(b"words"),
+        Refusal::Of(role, cause) => {
+            append_role(alloc, *role, line)?;
+            append_file(alloc, cause, line)
+        }
+        Refusal::Command(cause) => {
+            line.append(b"command ")?;
+            append_command(alloc, cause, line)
+        }
+    }
+}

@@ -1,8 +1,0 @@
-use Rattle.std.proofs.Common.{refl}
-use Rattle.verdicts.proofs.policy.judge_room.Goals as goal
-
-pub returns-then-has_room : goal.returns-then-has_room
-returns-then-has_room c = λ is_request now at. (c.if-has_room.ensures.room is_request now at).0 refl
-
-pub returns-else-has_room : goal.returns-else-has_room
-returns-else-has_room c = λ is_request now at. (refl, refl, (c.if-has_room.ensures.full is_request now at).0 refl)

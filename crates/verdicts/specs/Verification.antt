@@ -1,0 +1,42 @@
+-- What a label is judged by.
+use Rattle.std.specs.Prelude.{◌≡◌, ℕ, Option, IfSome, List, option_copied}
+use Rattle.component_ids.specs.declared.params.SigParams.{SigParams}
+use Rattle.component_values.specs.Context.{MessageContext, context_of}
+use Rattle.component_values.specs.declared.context.Context.{Context}
+use Rattle.settings.specs.Configuration.{Configuration}
+use Rattle.settings.specs.declared.policy.Policy.{Policy}
+use Rattle.settings.specs.ConfMeaning.{meaning}
+use Rattle.nonces.specs.Books.{Book}
+use Rattle.verdicts.specs.declared.verification.Verification.{Verification as Borrowed}
+
+-- what the values of components are drawn from, the label, the configuration, the moment in seconds
+-- since the epoch, and the nonces that were seen, where they are remembered
+pub record Verification : Type 0 where
+  pub context : MessageContext
+  pub label : List ℕ
+  pub conf : Configuration
+  pub now : ℕ
+  pub seen : Option Book
+
+-- the same parts, where the context is borrowed
+abbrev pub verification_of : Context → List ℕ → Configuration → ℕ → Option Book → Verification
+verification_of context label conf now seen = record {
+  context = context_of context;
+  label = label;
+  conf = conf;
+  now = now;
+  seen = seen;
+}
+
+-- the verification that the borrowed parts stand for
+abbrev pub model_of : Borrowed → Verification
+model_of v =
+    verification_of v.context.now v.label.now (meaning v.conf.now) v.now (option_copied v.seen)
+
+-- the moment of a book is this one
+abbrev pub IsAt : ℕ → Option Book → Type 0
+IsAt now seen = IfSome seen (λ book. book.moment ≡ now)
+
+-- the policy by which signature parameters are judged
+abbrev pub policy_of : Configuration → SigParams → Policy
+policy_of conf params = conf.policy

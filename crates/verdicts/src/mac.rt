@@ -1,0 +1,75 @@
+//! The signature base and the tag of a signature: rules 27 to 32.
+
+ghost use Rattle.std.specs.Prelude.{◌≡◌, ◌<◌, ◌↔◌, IsTrue, length};
+ghost use Rattle.component_ids.specs.SignatureParams.{are_sig_params_in_range};
+ghost use Rattle.component_values.specs.Context.{context_of};
+ghost use Rattle.sig_base.specs.SignatureBase.{signature_base};
+ghost use Rattle.hmac_sha256.specs.Hmac.{hmac};
+ghost use Rattle.component_values.specs.Faults.{HasIndexBelow};
+ghost use Rattle.verdicts.specs.tools.Judged.{ExplainsMac, SaysFault, rule_of_lack};
+
+use component_ids::ComponentId;
+use component_values::{Context, Lack, Prepared, ValueFault, prepare};
+use hmac_sha256::{Hmac, same_tag};
+use sig_base::feed_base;
+use signatures::{LabelFault, LabelRead, Place, Rule};
+use std::alloc::Global;
+
+/// The rule of a component that lacks a value so.
+fn rule_of_lack(lack: Lack) -> Rule
+    ensures { result ≡ rule_of_lack lack }
+{
+    match lack {
+        Lack::Absent => Rule::Absent,
+        Lack::Ambiguous => Rule::Ambiguous,
+        Lack::Underivable => Rule::Underivable,
+        Lack::Unreadable => Rule::Unreadable,
+        Lack::NotAscii => Rule::NotAscii,
+    }
+}
+
+/// The fault of a label whose components aren't prepared.
+fn fault_of_lack(alloc: Global, ids: &[ComponentId], fault: ValueFault) -> LabelFault
+    requires { HasIndexBelow (length ids.now) fault }
+    ensures { SaysFault ids.now fault result }
+{
+    match fault {
+        ValueFault::Memory => LabelFault::Memory,
+        ValueFault::Lacks(index, lack) => match ids[index].copy(alloc) {
+            Ok(id) => LabelFault::Rule(rule_of_lack(lack), Place::Identifier(id)),
+            Err(_memory) => LabelFault::Memory,
+        },
+    }
+}
+
+/// Whether the tag is the HMAC of the signature base under the key, all its bytes (RFC 9421 section
+/// 3.3.3).
+pub fn tag_matches(prepared: &Prepared<'_, '_>, key: &[u8], tag: &[u8]) -> bool
+    ensures { IsTrue result ↔ (tag.now
+        ≡ hmac key.now (signature_base prepared.now.params prepared.now.values)) }
+{
+    let mut mac = Hmac::new(key);
+    feed_base(prepared, &mut mac);
+    same_tag(tag, &mac.finish())
+}
+
+/// Whether each component has its value, and the tag is right: rules 27 to 32.
+pub(crate) fn judge_mac(
+    alloc: Global,
+    context: &Context<'_, '_>,
+    read: &LabelRead,
+    key: &[u8],
+) -> Result<(), LabelFault>
+    requires { IsTrue (are_sig_params_in_range read.now.params) }
+    ensures { ExplainsMac (context_of context.now) read.now.params read.now.tag key.now result }
+{
+    let prepared = match prepare(alloc, context, &read.params) {
+        Ok(prepared) => prepared,
+        Err(fault) => return Err(fault_of_lack(alloc, read.params.ids.as_slice(), fault)),
+    };
+    if tag_matches(&prepared, key, read.tag.bytes()) {
+        Ok(())
+    } else {
+        Err(LabelFault::Rule(Rule::MacMismatch, Place::None))
+    }
+}
