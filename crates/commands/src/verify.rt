@@ -1,11 +1,11 @@
 //! The command `verify`: the verdicts on a message's labels (RFC 9421 section 3.2).
 
-ghost use Rattle.std.specs.Prelude.{◌≡◌, ◌≤◌, ◌<◌, [], ◌∷◌, None, option_map, IfOk};
+ghost use Rattle.std.specs.Prelude.{◌≡◌, ◌≤◌, ◌<◌, [], ◌∷◌, option_map, IfOk};
 ghost use Rattle.msg_body.specs.Messages.{Message};
 ghost use Rattle.component_values.specs.Context.{context_of};
 ghost use Rattle.conf.specs.ConfMeaning.{meaning};
 ghost use Rattle.signatures.specs.Fields.{AreFieldsOf};
-ghost use Rattle.verdicts.specs.Verification.{verification_of};
+ghost use Rattle.verdicts.specs.Verification.{IsAt, model_of};
 ghost use Rattle.commands.specs.Verify.{AreAsked, ReportsVerdicts};
 ghost use Rattle.commands.specs.tools.Verdicts.{WritesVerdict, ReportsLabels};
 
@@ -22,31 +22,20 @@ use verdicts::{
 };
 
 /// Judges the label and adds its line. It answers whether the label is accepted.
-fn write_line<'x, L: Ledger>(
+fn write_line<L: Ledger>(
     alloc: Global,
     fields: &SignatureFields,
-    context: &'x Context<'_, '_>,
-    label: &'x [u8],
-    conf: &'x Conf,
-    now: u64,
+    verification: &Verification<'_, '_, '_>,
     lines: &mut Text,
     steps: &mut Steps<L>,
 ) -> Result<bool, Memory>
-    requires fields { AreFieldsOf (context_of context.now).message fields.now }
-    requires now { now ≤ MAX_MOMENT }
-    ensures { IfOk result (WritesVerdict
-        (verification_of context.now label.now (meaning conf.now) now None)
-        label.now lines.old lines.new) }
+    requires fields { AreFieldsOf (model_of verification.now).context.message fields.now }
+    requires now { IsAt (model_of verification.now).now (model_of verification.now).seen }
+    ensures { IfOk result (WritesVerdict (model_of verification.entry.now)
+        (model_of verification.entry.now).label lines.old lines.new) }
 {
-    let verification = Verification {
-        context,
-        label,
-        conf,
-        now,
-        seen: None,
-    };
-    let verdict = verdict_in(alloc, fields, &verification, steps)?;
-    append_verdict_line(alloc, label, &verdict, lines)?;
+    let verdict = verdict_in(alloc, fields, verification, steps)?;
+    append_verdict_line(alloc, verification.label, &verdict, lines)?;
     Ok(match verdict {
         Verdict::Ok { .. } => true,
         Verdict::Rule { .. } => false,
@@ -75,16 +64,14 @@ fn write_lines<L: Ledger>(
     let mut lines = Text::new(alloc);
     let mut all_accepted = true;
     for label in labels {
-        let is_accepted = write_line(
-            alloc,
-            fields,
+        let verification = Verification {
             context,
-            label.bytes(),
+            label: label.bytes(),
             conf,
             now,
-            &mut lines,
-            &mut steps,
-        )?;
+            seen: None,
+        };
+        let is_accepted = write_line(alloc, fields, &verification, &mut lines, &mut steps)?;
         all_accepted &= is_accepted;
     }
     Ok(if all_accepted {

@@ -1,7 +1,7 @@
 //! Which values a key takes.
 
 ghost use Rattle.std.specs.Prelude.{◌≡◌, is_some, codes, nat_lt, if◌then◌else◌};
-ghost use Rattle.std.specs.List.{list_all, list_any};
+ghost use Rattle.std.specs.List.{list_all};
 ghost use Rattle.std.specs.Str.{bytes_eq};
 ghost use Rattle.toml.specs.Data.{as_str, get_member};
 ghost use Rattle.toml.specs.View.{table_view, view};
@@ -14,6 +14,7 @@ ghost use Rattle.conf.specs.Values.{are_strings, clashes, has_type, is_allowed, 
 
 use crate::members::{member, number_or, table_in};
 use crate::table::{TableName, ValueRule};
+use byte_grammar::is_listed;
 use component_ids::is_field_name;
 use settings::{
     DEFAULT_MAX_AGE, DEFAULT_SKEW, DigestUse, MAX_AGE, MAX_ENTRIES, MAX_EXPIRES_AFTER, MAX_SKEW,
@@ -64,12 +65,6 @@ pub(crate) fn has_type(rule: ValueRule, value: &Value) -> bool
 }
 
 // ---- texts
-
-fn is_listed(texts: &[&[u8]], text: &[u8]) -> bool
-    ensures { result ≡ list_any (λ t. bytes_eq text.now t.now) texts.now }
-{
-    texts.iter().any(|other| text == *other)
-}
 
 /// Whether `keys` has the keyid.
 fn is_keyid_of(document: &Table, keyid: &str) -> bool
