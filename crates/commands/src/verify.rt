@@ -43,13 +43,13 @@ fn write_line<L: Ledger>(
 }
 
 /// The lines of the labels, in order. Steps are counted and the count is let go.
-fn write_lines<L: Ledger>(
+fn write_lines<'x, L: Ledger>(
     alloc: Global,
-    conf: &Conf,
+    conf: &'x Conf,
     now: u64,
-    context: &Context<'_, '_>,
+    context: &'x Context<'_, '_>,
     fields: &SignatureFields,
-    labels: &[Text],
+    labels: &'x [Text],
     blank: Blank,
 ) -> Result<Outcome, Memory>
     requires fields { AreFieldsOf (context_of context.now).message fields.now }

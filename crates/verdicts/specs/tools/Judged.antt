@@ -158,14 +158,14 @@ pub record PassesNonce (asked : NonceUse) (is_seen : List ℕ → Bool) (nonce :
 
 -- a rule from 24 to 26 fails
 abbrev pub FailsByNonce : NonceUse → (List ℕ → Bool) → Option (List ℕ) → Rule → Place → Type 0
-FailsByNonce asked is_seen nonce NonceAbsent place =
-    (place ≡ Nowhere) × (asked ≡ Require) × (nonce ≡ None)
-FailsByNonce asked is_seen nonce NonceRepeated place =
-    (place ≡ Nowhere) × IsTrue (asks_new asked) × IsSomeAnd nonce (λ text. IsTrue (is_seen text))
-FailsByNonce asked is_seen nonce NonceLong place =
-    (place ≡ Nowhere) × IsTrue (asks_new asked) × IsSomeAnd nonce (λ text.
+FailsByNonce asked is_seen own NonceAbsent place =
+    (place ≡ Nowhere) × (asked ≡ Require) × (own ≡ None)
+FailsByNonce asked is_seen own NonceRepeated place =
+    (place ≡ Nowhere) × IsTrue (asks_new asked) × IsSomeAnd own (λ text. IsTrue (is_seen text))
+FailsByNonce asked is_seen own NonceLong place =
+    (place ≡ Nowhere) × IsTrue (asks_new asked) × IsSomeAnd own (λ text.
     IsFalse (is_seen text) × (MAX_NONCE_BYTES < length text))
-FailsByNonce asked is_seen nonce rule place = ⊥
+FailsByNonce asked is_seen own rule place = ⊥
 
 -- the rule of a nonce that isn't there
 abbrev pub IsAbsentNonce : NonceUse → Rule → Place → Type 0
