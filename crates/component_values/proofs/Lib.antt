@@ -1,3 +1,4 @@
+mod FoundLines
 mod Below
 pub mod FirstLacks
 pub mod RowLaws

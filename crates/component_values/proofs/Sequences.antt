@@ -1,12 +1,12 @@
 -- Byte Sequences one after the other.
-use Rattle.std.proofs.Common.{◌≡◌, ℕ, ◌==◌, true, false, List, [], ◌∷◌, ◌++◌, length, map, codes, inl, inr, refl, sym, ap, ◌∙◌, append_assoc, append-nil, arith, length-append}
+use Rattle.std.proofs.Common.{◌≡◌, ℕ, ◌==◌, true, false, List, [], ◌∷◌, ◌++◌, length, codes, inl, inr, refl, sym, ap, ◌∙◌, append_assoc, append-nil, arith, length-append}
 use Rattle.std.specs.List.{flat_map}
 use Rattle.std.proofs.lemmas.Bool.{cases_Bool, eqb-true}
 use Rattle.std.proofs.lemmas.Grind.{flat_map-append}
 use Rattle.std.proofs.lemmas.List.{map-append}
 use Rattle.sfv_text.specs.Strict.{bytes_text}
 use Rattle.msg_head.specs.Lines.{FieldLine}
-use Rattle.msg_head.specs.Values.{value}
+use Rattle.msg_head.specs.Values.{value, line_values}
 use Rattle.component_values.specs.Values.{byte_sequences}
 
 -- the first one
@@ -35,10 +35,6 @@ not_first values bytes = elim (cases_Bool (length (values ++ bytes ∷ []) == 0)
   | inr some ↦ sym some
 ]
 
--- the values of these lines
-abbrev pub values_of : List FieldLine → List (List ℕ)
-values_of lines = map (λ (l : FieldLine). value l.raw) lines
-
 -- one more line
-pub values_more : (done : List FieldLine) (line : FieldLine) → values_of (done ++ line ∷ []) ≡ values_of done ++ value line.raw ∷ []
+pub values_more : (done : List FieldLine) (line : FieldLine) → line_values (done ++ line ∷ []) ≡ line_values done ++ value line.raw ∷ []
 values_more done line = map-append (λ (l : FieldLine). value l.raw) done (line ∷ [])

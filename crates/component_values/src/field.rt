@@ -1,76 +1,77 @@
 //! How the value of a component is fed, or how it lacks one.
 
-ghost use Rattle.std.specs.Prelude.{◌≡◌, Ok, Err, MatchResult};
+ghost use Rattle.std.specs.Prelude.{◌≡◌, ℕ, List, filter, Ok, Err, MatchResult};
 ghost use Rattle.framing.specs.Framings.{is_request};
 ghost use Rattle.msg_body.specs.Views.{message_of};
-ghost use Rattle.msg_head.specs.Values.{combined_value};
+ghost use Rattle.msg_head.specs.Lines.{FieldLine};
+ghost use Rattle.msg_head.specs.Names.{has_name};
+ghost use Rattle.msg_head.specs.Values.{joined_value};
 ghost use Rattle.component_values.specs.Context.{context_of};
 ghost use Rattle.component_values.specs.Values.{plain_value, FormRow, FieldRow, ComesTo, side_of, message_for, related_message};
-ghost use Rattle.component_values.specs.tools.Rows.{PlansRow, field_lines, form_meant};
+ghost use Rattle.component_values.specs.tools.Rows.{PlansRow, form_meant};
 
 use crate::context::Context;
 use crate::form::{Form, form_of};
-use crate::lines::{NamedLines, is_ascii, is_there};
+use crate::lines::is_ascii;
 use crate::plan::Plan;
 use crate::strict::{member_value, strict_value};
 use component_ids::{ComponentId, FieldKind, has_param, is_field_name};
 use derived_values::{Lack, NoValue, derived_value};
-use field_values::combined_text;
+use field_values::joined_text;
 use framing::is_request;
 use msg_body::MessageView;
-use msg_head::Side;
+use msg_head::{NamedFieldLines, Side};
 use sfv_text::Params;
 use std::alloc::Global;
 
 /// The combined value itself, which has to be ASCII.
-fn plain_plan<'a, 'm>(field: NamedLines<'a, 'm>) -> Result<Plan<'a, 'm>, NoValue>
-    ensures { PlansRow (λ answer. answer ≡ plain_value
-        (combined_value (field_lines field.entry) field.entry.name.now)) result }
+fn plain_plan<'a, 'm>(lines: NamedFieldLines<'a, 'm>) -> Result<Plan<'a, 'm>, NoValue>
+    ensures { PlansRow (λ answer. answer ≡ plain_value (joined_value lines.entry)) result }
 {
-    if !is_ascii(field) {
+    if !is_ascii(&lines) {
         return Err(NoValue::Lacks(Lack::NotAscii));
     }
-    Ok(Plan::Combined(field))
+    Ok(Plan::Combined(lines))
 }
 
 /// How the value of a field that has lines is fed, in the form that is asked for.
 fn plan_in_form<'a, 'm>(
     alloc: Global,
-    field: NamedLines<'a, 'm>,
+    found: NamedFieldLines<'a, 'm>,
     kind: Option<FieldKind>,
     form: Form<'_>,
 ) -> Result<Plan<'a, 'm>, NoValue>
-    ensures { PlansRow (FormRow (form_meant form.entry) kind (field_lines field.entry)
-        field.entry.name.now) result }
+    ensures { (lines : List FieldLine) (name : List ℕ) → found.entry ≡ filter (has_name name) lines
+        → PlansRow (FormRow (form_meant form.entry) kind lines name) result }
 {
     match form {
-        Form::ByteSequences => Ok(Plan::ByteSequences(field)),
+        Form::ByteSequences => Ok(Plan::ByteSequences(found)),
         Form::Member(key) => {
-            let text = combined_text(alloc, field.message, field.side, field.name)?;
+            let text = joined_text(alloc, found)?;
             Ok(Plan::Text(member_value(alloc, kind, key, text.bytes())?))
         }
         Form::Strict => {
-            let text = combined_text(alloc, field.message, field.side, field.name)?;
+            let text = joined_text(alloc, found)?;
             Ok(Plan::Text(strict_value(alloc, kind, text.bytes())?))
         }
-        Form::Plain => plain_plan(field),
+        Form::Plain => plain_plan(found),
     }
 }
 
-/// How the value of a field is fed.
+/// How the value of a field is fed, of which these lines were found.
 fn field_plan<'a, 'm>(
     alloc: Global,
-    field: NamedLines<'a, 'm>,
+    found: NamedFieldLines<'a, 'm>,
     kind: Option<FieldKind>,
     params: &Params,
 ) -> Result<Plan<'a, 'm>, NoValue>
-    ensures { PlansRow (FieldRow params.now kind (field_lines field.entry) field.entry.name.now)
-        result }
+    ensures { (lines : List FieldLine) (name : List ℕ) → found.entry ≡ filter (has_name name) lines
+        → PlansRow (FieldRow params.now kind lines name) result }
 {
-    if !is_there(field) {
+    if found.is_empty() {
         return Err(NoValue::Lacks(Lack::Absent));
     }
-    plan_in_form(alloc, field, kind, form_of(params))
+    plan_in_form(alloc, found, kind, form_of(params))
 }
 
 /// The side whose lines a component is drawn from.
@@ -128,11 +129,7 @@ pub(crate) fn component_plan<'a, 'm>(
         let value = derived_value(alloc, message, context.scheme, id)?;
         return Ok(Plan::Derived(value));
     }
-    let field = NamedLines {
-        message,
-        side: side_of(&id.params),
-        name: id.name.bytes(),
-    };
+    let found = message.lines_named(side_of(&id.params), id.name.bytes());
     let kind = context.types.kind_of(id.name.bytes());
-    field_plan(alloc, field, kind, &id.params)
+    field_plan(alloc, found, kind, &id.params)
 }

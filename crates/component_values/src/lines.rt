@@ -1,40 +1,21 @@
-//! The lines of a field, and what is fed of them.
+//! What is fed of the lines of a field.
 
 ghost use Rattle.std.specs.Prelude.{◌≡◌, ◌==◌, ◌++◌, ◌∷◌, [], ℕ, List, length};
 ghost use Rattle.std.specs.Char.{is_ascii};
 ghost use Rattle.std.specs.List.{list_all};
-ghost use Rattle.msg_head.specs.Values.{value, values, combined_value, is_there};
+ghost use Rattle.msg_head.specs.Values.{value, line_values, joined_value};
 ghost use Rattle.component_values.specs.Values.{byte_sequences};
-ghost use Rattle.component_values.specs.tools.Rows.{field_lines};
 
 use crate::byte_sequence::feed_byte_sequence;
-use field_values::{combined_pieces, count_lines};
-use msg_body::MessageView;
-use msg_head::{LineView, Side};
+use field_values::joined_pieces;
+use msg_head::{LineView, NamedFieldLines};
 use sfv_text::Absorb;
 
-/// The lines of a message's side that have a name.
-#[derive(Clone, Copy)]
-pub(crate) struct NamedLines<'a, 'm> {
-    pub message: &'a MessageView<'m>,
-    pub side: Side,
-    /// In lower case.
-    pub name: &'a [u8],
-}
-
-/// Whether there is a line.
-pub(crate) fn is_there(field: NamedLines<'_, '_>) -> bool
-    ensures { result ≡ is_there (field_lines field.entry) field.entry.name.now }
+/// Whether the combined value of the lines is ASCII.
+pub(crate) fn is_ascii(lines: &NamedFieldLines<'_, '_>) -> bool
+    ensures { result ≡ list_all is_ascii (joined_value lines.now) }
 {
-    count_lines(field.message, field.side, field.name) > 0
-}
-
-/// Whether the combined value is ASCII.
-pub(crate) fn is_ascii(field: NamedLines<'_, '_>) -> bool
-    ensures { result ≡ list_all is_ascii
-        (combined_value (field_lines field.entry) field.entry.name.now) }
-{
-    for piece in combined_pieces(field.message, field.side, field.name) {
+    for piece in joined_pieces(lines.again()) {
         if !piece.is_ascii() {
             return false;
         }
@@ -42,12 +23,12 @@ pub(crate) fn is_ascii(field: NamedLines<'_, '_>) -> bool
     true
 }
 
-/// Feeds the combined value.
-pub(crate) fn feed_combined<A: Absorb>(field: NamedLines<'_, '_>, into: &mut A)
-    ensures { (text : List ℕ) → A.absorbed into.old text → A.absorbed into.new
-        (text ++ combined_value (field_lines field.entry) field.entry.name.now) }
+/// Feeds the combined value of the lines.
+pub(crate) fn feed_combined<A: Absorb>(lines: &NamedFieldLines<'_, '_>, into: &mut A)
+    ensures { (text : List ℕ) → A.absorbed into.old text
+        → A.absorbed into.new (text ++ joined_value lines.now) }
 {
-    for piece in combined_pieces(field.message, field.side, field.name) {
+    for piece in joined_pieces(lines.again()) {
         into.absorb(piece);
     }
 }
@@ -69,12 +50,12 @@ fn feed_next_sequence<A: Absorb>(is_first: bool, line: LineView<'_>, into: &mut 
 
 /// Feeds the value of each line as a Byte Sequence, with a comma and a space between them (RFC 9421
 /// section 2.1.3).
-pub(crate) fn feed_byte_sequences<A: Absorb>(field: NamedLines<'_, '_>, into: &mut A)
-    ensures { (text : List ℕ) → A.absorbed into.old text → A.absorbed into.new
-        (text ++ byte_sequences (values (field_lines field.entry) field.entry.name.now)) }
+pub(crate) fn feed_byte_sequences<A: Absorb>(lines: &NamedFieldLines<'_, '_>, into: &mut A)
+    ensures { (text : List ℕ) → A.absorbed into.old text
+        → A.absorbed into.new (text ++ byte_sequences (line_values lines.now)) }
 {
     let mut is_first = true;
-    for line in field.message.lines_named(field.side, field.name) {
+    for line in lines.again() {
         feed_next_sequence(is_first, line, into);
         is_first = false;
     }

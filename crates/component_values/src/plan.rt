@@ -3,17 +3,18 @@
 ghost use Rattle.std.specs.Prelude.{◌++◌, ℕ, List};
 ghost use Rattle.component_values.specs.tools.Rows.{planned_text};
 
-use crate::lines::{NamedLines, feed_byte_sequences, feed_combined};
+use crate::lines::{feed_byte_sequences, feed_combined};
 use derived_values::Derived;
+use msg_head::NamedFieldLines;
 use sfv_text::{Absorb, Text};
 
 /// How the value of a component is fed. But for a text it is borrowed from its message.
 #[derive(Drop)]
 pub(crate) enum Plan<'a, 'm> {
     /// The combined value of these lines.
-    Combined(NamedLines<'a, 'm>),
+    Combined(NamedFieldLines<'a, 'm>),
     /// The value of each of these lines as a Byte Sequence.
-    ByteSequences(NamedLines<'a, 'm>),
+    ByteSequences(NamedFieldLines<'a, 'm>),
     /// The value of a derived component.
     Derived(Derived<'m>),
     /// A strict text (RFC 9421 sections 2.1.1 and 2.1.2).
@@ -27,8 +28,8 @@ impl<'a, 'm> Plan<'a, 'm> {
             → A.absorbed into.new (text ++ planned_text self.now) }
     {
         match self {
-            Plan::Combined(field) => feed_combined(*field, into),
-            Plan::ByteSequences(field) => feed_byte_sequences(*field, into),
+            Plan::Combined(lines) => feed_combined(lines, into),
+            Plan::ByteSequences(lines) => feed_byte_sequences(lines, into),
             Plan::Derived(value) => value.feed(into),
             Plan::Text(text) => into.absorb(text.bytes()),
         }

@@ -1,18 +1,14 @@
 -- What an iterator over the pieces of a combined value has left.
-use Rattle.std.specs.Prelude.{ℕ, ◌+◌, ◌*◌, List, [], ◌∷◌, ◌++◌, if◌then◌else◌, length, map, codes}
-use Rattle.std.specs.List.{flat_map, join_by}
+use Rattle.std.specs.Prelude.{ℕ, ◌+◌, ◌*◌, List, [], ◌∷◌, ◌++◌, if◌then◌else◌, length, codes}
+use Rattle.std.specs.List.{flat_map}
 use Rattle.msg_head.specs.Lines.{FieldLine}
 use Rattle.field_values.specs.declared.combined.Combined.{Combined}
-use Rattle.msg_head.specs.Values.{value}
+use Rattle.msg_head.specs.Values.{line_values, joined_value}
 use Rattle.msg_head.specs.LeftInLines.{value_left, pieces_bound}
 
 -- a comma, a space and the value
 abbrev pub after_comma : List ℕ → List ℕ
 after_comma text = codes ", " ++ text
-
--- the values of these lines
-abbrev pub line_values : List FieldLine → List (List ℕ)
-line_values lines = map (λ line. value line.raw) lines
 
 -- the combined value's bytes that are left
 abbrev pub combined_left : Combined → List ℕ
@@ -20,7 +16,7 @@ combined_left combined =
     value_left combined.current ++
     (if combined.is_started
     then flat_map after_comma (line_values combined.lines)
-    else join_by (λ text. text) (codes ", ") (line_values combined.lines))
+    else joined_value combined.lines)
 
 -- no more pieces come of these lines than this, the commas before them included
 abbrev pub lines_bound : List FieldLine → ℕ

@@ -1,7 +1,6 @@
 //! The values of a field's lines, joined.
 
-use msg_body::MessageView;
-use msg_head::{NamedFieldLines, Pieces, Side};
+use msg_head::{NamedFieldLines, Pieces};
 
 /// The pieces of a field's combined value that are left.
 #[derive(Debug, Drop)]
@@ -41,17 +40,15 @@ impl<'a, 'm> Iterator for Combined<'a, 'm> {
 
 impl<'a, 'm> Combined<'a, 'm> {
     ghost use Rattle.std.specs.Prelude.{◌≡◌};
-    ghost use Rattle.msg_body.specs.Views.{message_of, lines_on};
-    ghost use Rattle.msg_head.specs.Values.{combined_value};
+    ghost use Rattle.msg_head.specs.Values.{joined_value};
     ghost use Rattle.field_values.specs.LeftInFields.{combined_left};
 
-    /// All pieces of the combined value.
-    pub(crate) fn new(view: &'a MessageView<'m>, side: Side, name: &'a [u8]) -> Combined<'a, 'm>
-        ensures { combined_left result
-            ≡ combined_value (lines_on side (message_of view.now)) name.now }
+    /// All pieces of the values of these lines, joined.
+    pub(crate) fn new(lines: NamedFieldLines<'a, 'm>) -> Combined<'a, 'm>
+        ensures { combined_left result ≡ joined_value lines.entry }
     {
         Combined {
-            lines: view.lines_named(side, name),
+            lines,
             current: Pieces::empty(),
             is_started: false,
         }

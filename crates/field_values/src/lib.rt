@@ -15,6 +15,6 @@ mod lines;
 mod text;
 
 pub use combined::Combined;
-pub use field::{combined_pieces, line_pieces};
+pub use field::{combined_pieces, joined_pieces, line_pieces};
 pub use lines::count_lines;
-pub use text::combined_text;
+pub use text::{combined_text, joined_text};

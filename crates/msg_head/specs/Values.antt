@@ -72,6 +72,14 @@ value raw = join_by (λ text. text) (codes " ") (texts_of raw)
 abbrev pub values : List FieldLine → List ℕ → List (List ℕ)
 values lines name = map (λ line. value line.raw) (filter (has_name name) lines)
 
+-- the values of these lines
+abbrev pub line_values : List FieldLine → List (List ℕ)
+line_values lines = map (λ line. value line.raw) lines
+
+-- the values of these lines joined by a comma and a space
+abbrev pub joined_value : List FieldLine → List ℕ
+joined_value lines = join_by (λ text. text) (codes ", ") (line_values lines)
+
 -- the combined value: the values joined by a comma and a space
 abbrev pub combined_value : List FieldLine → List ℕ → List ℕ
 combined_value lines name = join_by (λ text. text) (codes ", ") (values lines name)

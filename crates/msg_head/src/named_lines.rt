@@ -41,6 +41,13 @@ impl<'h, 'm> NamedFieldLines<'h, 'm> {
         NamedFieldLines { bytes, spans, left }
     }
 
+    /// The same once more.
+    pub fn again(&self) -> NamedFieldLines<'h, 'm>
+        ensures { result ≡ self.now }
+    {
+        NamedFieldLines::new(self.bytes, self.spans, self.left)
+    }
+
     /// No field lines.
     pub fn empty() -> NamedFieldLines<'h, 'm>
         ensures { result ≡ [] }

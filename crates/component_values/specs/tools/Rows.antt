@@ -1,30 +1,22 @@
 -- What the parts of the code answer. No public clause cites this module but the view of `Prepared`.
 use Rattle.std.specs.Prelude.{⊤, ℕ, List, Result, Ok, Err}
-use Rattle.msg_head.specs.Lines.{FieldLine}
-use Rattle.msg_body.specs.Views.{message_of, lines_on}
-use Rattle.msg_head.specs.Values.{values, combined_value}
+use Rattle.msg_head.specs.Values.{line_values, joined_value}
 use Rattle.component_values.specs.Values.{byte_sequences}
 use Rattle.derived_values.specs.declared.lack.Lack.{Lack}
 use Rattle.derived_values.specs.declared.lack.NoValue.{NoValue}
 use Rattle.derived_values.specs.declared.lack.NoValue.TheVariants.{Memory, Lacks}
 use Rattle.component_values.specs.declared.fault.ValueFault.{ValueFault}
 use Rattle.component_values.specs.declared.fault.ValueFault.TheVariants as fault
-use Rattle.component_values.specs.declared.lines.NamedLines.{NamedLines}
 use Rattle.component_values.specs.Forms as spec
 use Rattle.component_values.specs.declared.form.Form.{Form}
 use Rattle.component_values.specs.declared.form.Form.TheVariants as form
 use Rattle.component_values.specs.declared.plan.Plan.{Plan}
 use Rattle.component_values.specs.declared.plan.Plan.TheVariants as plan
 
--- the lines among which those of the field are
-abbrev pub field_lines : NamedLines → List FieldLine
-field_lines field = lines_on field.side (message_of field.message.now)
-
 -- the text that is fed
 abbrev pub planned_text : Plan → List ℕ
-planned_text (plan.Combined field) = combined_value (field_lines field) field.name.now
-planned_text (plan.ByteSequences field) =
-    byte_sequences (values (field_lines field) field.name.now)
+planned_text (plan.Combined lines) = joined_value lines
+planned_text (plan.ByteSequences lines) = byte_sequences (line_values lines)
 planned_text (plan.Derived text) = text
 planned_text (plan.Text text) = text
 
