@@ -20,6 +20,7 @@ mod pair;
 mod pairs;
 mod print;
 mod sequence;
+mod short;
 mod text;
 mod value;
 

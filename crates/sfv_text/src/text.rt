@@ -4,31 +4,54 @@ ghost use Rattle.std.specs.Prelude.{◌≡◌, ◌≤◌, ◌++◌, [], length, 
 ghost use Rattle.std.specs.Fmt.{decimal};
 
 use crate::memory::Memory;
+use crate::short::{IN_PLACE, Short};
 use std::alloc::Global;
 use std::fmt;
 use std::marker::Model;
 
+/// Where the bytes of a text are.
+#[derive(Debug, Drop)]
+enum Held {
+    InPlace(Short),
+    Allocated(Vec<u8>),
+}
+
 /// Owned bytes. A contract sees a text as the list of its bytes.
 #[derive(Debug, Drop)]
 pub struct Text {
-    bytes: Vec<u8>,
+    alloc: Global,
+    held: Held,
 }
 
 impl Model for Text {
     ghost use Rattle.std.specs.Prelude.{ℕ, List};
+    ghost use Rattle.sfv_text.specs.tools.Held.{bytes_held};
 
     ghost Value = { List ℕ };
 
-    ghost view = { λ t. t.bytes.items };
+    ghost view = { λ t. bytes_held t.held };
+}
+
+// The bytes, and the piece after them, as a vector.
+fn allocated(alloc: Global, bytes: &[u8], piece: &[u8]) -> Result<Vec<u8>, Memory>
+    requires { length bytes.now ≤ IN_PLACE }
+    ensures { IfOk result (λ vec. vec.items ≡ bytes.now ++ piece.now) }
+{
+    let mut vec = Vec::with_capacity(alloc, bytes.len() + piece.len())?;
+    vec.extend_from_slice(bytes)?;
+    vec.extend_from_slice(piece)?;
+    Ok(vec)
 }
 
 impl Text {
     /// The empty text. It takes no memory.
+    #[tactic(auto, unfolding(crate::specs::tools::Held::bytes_held))]
     pub fn new(alloc: Global) -> Text
         ensures { result ≡ [] }
     {
         Text {
-            bytes: Vec::new(alloc),
+            alloc,
+            held: Held::InPlace(Short::new()),
         }
     }
 
@@ -43,26 +66,45 @@ impl Text {
     }
 
     /// The text that the vector holds. It takes no memory.
+    #[tactic(auto, unfolding(crate::specs::tools::Held::bytes_held))]
     pub fn from_vec(bytes: Vec<u8>) -> Text
         ensures { result ≡ bytes.items }
     {
-        Text { bytes }
+        Text {
+            alloc: *bytes.allocator(),
+            held: Held::Allocated(bytes),
+        }
     }
 
     /// The bytes, in order.
+    #[tactic(auto, unfolding(crate::specs::tools::Held::bytes_held))]
     pub fn bytes(&self) -> &[u8]
         ensures { result.now ≡ self.now }
     {
-        self.bytes.as_slice()
+        match &self.held {
+            Held::InPlace(bytes) => bytes.bytes(),
+            Held::Allocated(bytes) => bytes.as_slice(),
+        }
     }
 
     /// Adds the piece at the end.
+    #[tactic(auto, unfolding(crate::specs::tools::Held::bytes_held))]
     pub fn append(&mut self, piece: &[u8]) -> Result<(), Memory>
         ensures ok { OnOk result (self.new ≡ self.old ++ piece.now) }
         ensures err { OnErr result (self.new ≡ self.old) }
         ensures needed { OnErr result (1 ≤ length piece.now) }
     {
-        self.bytes.extend_from_slice(piece)?;
+        match &mut self.held {
+            Held::Allocated(bytes) => bytes.extend_from_slice(piece)?,
+            Held::InPlace(bytes) => {
+                if bytes.fits(piece) {
+                    bytes.append(piece);
+                } else {
+                    let vec = allocated(self.alloc, bytes.bytes(), piece)?;
+                    self.held = Held::Allocated(vec);
+                }
+            }
+        }
         Ok(())
     }
 
