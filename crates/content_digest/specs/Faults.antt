@@ -1,5 +1,5 @@
 -- Why digests aren't accepted: RFC 9530 section 2.
-use Rattle.std.specs.Prelude.{◌≡◌, ◌≢◌, ◌⊎◌, ℕ, IsTrue, IsFalse, Some, IsSomeAnd, List, take, slice_get}
+use Rattle.std.specs.Prelude.{◌≡◌, ◌≢◌, ◌⊎◌, ℕ, IsTrue, IsFalse, Some, IsSomeAnd, List, take, slice_get, codes}
 use Rattle.std.specs.List.{list_all, list_any}
 use Rattle.byte_grammar.specs.Causes.{IsFirst}
 use Rattle.sfv_text.specs.declared.pair.Pair.{Pair}
@@ -8,6 +8,7 @@ use Rattle.sfv_read.specs.declared.error.SfError.{SfError}
 use Rattle.sfv_read.specs.declared.error.SfError.TheVariants as sf
 use Rattle.sfv_read.specs.Reads.{ReadsDict}
 use Rattle.content_digest.specs.declared.algorithm.Algorithm.{Algorithm}
+use Rattle.content_digest.specs.declared.algorithm.Algorithm.TheVariants.{Sha256, Sha512}
 use Rattle.content_digest.specs.declared.fault.DigestFault.{DigestFault}
 use Rattle.content_digest.specs.declared.fault.DigestFault.TheVariants.{Memory, Malformed, NoneKnown, Mismatch}
 use Rattle.content_digest.specs.Algorithms.{algorithm_of, digest_by}
@@ -19,6 +20,14 @@ abbrev pub fault_of : SfError → DigestFault
 fault_of sf.Memory = Memory
 fault_of (sf.Syntax offset) = Malformed
 fault_of (sf.ItemKind offset) = Malformed
+
+-- the word that output has for it
+abbrev pub fault_text : DigestFault → List ℕ
+fault_text Memory = codes "out of memory"
+fault_text Malformed = codes "malformed"
+fault_text NoneKnown = codes "none-known"
+fault_text (Mismatch Sha256 kept computed) = codes "mismatch sha-256"
+fault_text (Mismatch Sha512 kept computed) = codes "mismatch sha-512"
 
 -- the member is of the algorithm, and its bytes are others than the content's digest
 pub record Differs (content : List ℕ) (member : Pair Member) (algorithm : Algorithm)

@@ -28,15 +28,21 @@ pub enum DigestFault {
     },
 }
 
+/// The word that output has for it.
 impl fmt::Display for DigestFault {
+    ghost use Rattle.std.specs.Prelude.{Some};
+    ghost use Rattle.content_digest.specs.Faults.{fault_text};
+
+    ghost output = { λ fault. Some (fault_text fault) };
+
     fn fmt<W: fmt::Write>(&self, f: &mut fmt::Formatter<W>) -> fmt::Result {
         f.write_str(match self {
             DigestFault::Memory => "out of memory",
-            DigestFault::Malformed => "the digests are no Dictionary of Byte Sequences",
-            DigestFault::NoneKnown => "no digest is by a known algorithm",
+            DigestFault::Malformed => "malformed",
+            DigestFault::NoneKnown => "none-known",
             DigestFault::Mismatch { algorithm, .. } => match algorithm {
-                Algorithm::Sha256 => "the sha-256 digest is not that of the content",
-                Algorithm::Sha512 => "the sha-512 digest is not that of the content",
+                Algorithm::Sha256 => "mismatch sha-256",
+                Algorithm::Sha512 => "mismatch sha-512",
             },
         })
     }

@@ -5,4 +5,5 @@ pub mod InMemory
 pub mod OverStd
 pub mod Reading
 pub mod Status
+pub mod Words
 pub mod tools

@@ -32,6 +32,11 @@ pub enum FillError {
 }
 
 impl fmt::Display for FillError {
+    ghost use Rattle.std.specs.Prelude.{Some};
+    ghost use Rattle.hms_io.specs.Words.{fill_error_text};
+
+    ghost output = { λ it. Some (fill_error_text it) };
+
     fn fmt<W: fmt::Write>(&self, f: &mut fmt::Formatter<W>) -> fmt::Result {
         f.write_str(match self {
             FillError::Memory => "out of memory",

@@ -51,6 +51,11 @@ impl Status {
 }
 
 impl fmt::Display for Status {
+    ghost use Rattle.std.specs.Prelude.{Some};
+    ghost use Rattle.hms_io.specs.Words.{status_text};
+
+    ghost output = { λ it. Some (status_text it) };
+
     fn fmt<W: fmt::Write>(&self, f: &mut fmt::Formatter<W>) -> fmt::Result {
         f.write_str(match self {
             Status::Done => "done",

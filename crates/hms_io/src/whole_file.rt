@@ -25,6 +25,11 @@ pub enum FileError {
 }
 
 impl fmt::Display for FileError {
+    ghost use Rattle.std.specs.Prelude.{Some};
+    ghost use Rattle.hms_io.specs.Words.{file_error_text};
+
+    ghost output = { λ it. Some (file_error_text it) };
+
     fn fmt<W: fmt::Write>(&self, f: &mut fmt::Formatter<W>) -> fmt::Result {
         f.write_str(match self {
             FileError::Memory => "out of memory",

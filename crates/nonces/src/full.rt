@@ -8,6 +8,10 @@ use std::fmt;
 pub struct Full;
 
 impl fmt::Display for Full {
+    ghost use Rattle.std.specs.Prelude.{Some, codes};
+
+    ghost output = { λ _. Some (codes "the book of nonces is full") };
+
     fn fmt<W: fmt::Write>(&self, f: &mut fmt::Formatter<W>) -> fmt::Result {
         f.write_str("the book of nonces is full")
     }

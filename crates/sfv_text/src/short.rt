@@ -3,7 +3,7 @@
 use std::marker::Model;
 
 /// So many bytes are held in place, with no allocation: names, keys and labels mostly are.
-pub(crate) const IN_PLACE: usize = 23;
+const IN_PLACE: usize = 23;
 
 /// At most that many bytes. A contract sees their list.
 #[derive(Debug, Drop)]

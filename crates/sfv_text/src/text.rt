@@ -4,54 +4,38 @@ ghost use Rattle.std.specs.Prelude.{◌≡◌, ◌≤◌, ◌++◌, [], length, 
 ghost use Rattle.std.specs.Fmt.{decimal};
 
 use crate::memory::Memory;
-use crate::short::{IN_PLACE, Short};
+use crate::short::Short;
 use std::alloc::Global;
 use std::fmt;
 use std::marker::Model;
 
-/// Where the bytes of a text are.
-#[derive(Debug, Drop)]
-enum Held {
-    InPlace(Short),
-    Allocated(Vec<u8>),
-}
-
 /// Owned bytes. A contract sees a text as the list of its bytes.
 #[derive(Debug, Drop)]
 pub struct Text {
-    alloc: Global,
-    held: Held,
+    /// All bytes, where they are few.
+    short: Short,
+    /// All bytes, where they are more.
+    long: Vec<u8>,
 }
 
 impl Model for Text {
-    ghost use Rattle.std.specs.Prelude.{ℕ, List};
-    ghost use Rattle.sfv_text.specs.tools.Held.{bytes_held};
+    ghost use Rattle.std.specs.Prelude.{ℕ, ◌≡◌, ◌<◌, ◌++◌, [], List, length};
 
     ghost Value = { List ℕ };
 
-    ghost view = { λ t. bytes_held t.held };
-}
+    ghost view = { λ t. t.short ++ t.long.items };
 
-// The bytes, and the piece after them, as a vector.
-fn allocated(alloc: Global, bytes: &[u8], piece: &[u8]) -> Result<Vec<u8>, Memory>
-    requires { length bytes.now ≤ IN_PLACE }
-    ensures { IfOk result (λ vec. vec.items ≡ bytes.now ++ piece.now) }
-{
-    let mut vec = Vec::with_capacity(alloc, bytes.len() + piece.len())?;
-    vec.extend_from_slice(bytes)?;
-    vec.extend_from_slice(piece)?;
-    Ok(vec)
+    ghost invariant = { λ t. 0 < length t.long.items → t.short ≡ [] };
 }
 
 impl Text {
     /// The empty text. It takes no memory.
-    #[tactic(auto, unfolding(crate::specs::tools::Held::bytes_held))]
     pub fn new(alloc: Global) -> Text
         ensures { result ≡ [] }
     {
         Text {
-            alloc,
-            held: Held::InPlace(Short::new()),
+            short: Short::new(),
+            long: Vec::new(alloc),
         }
     }
 
@@ -66,45 +50,42 @@ impl Text {
     }
 
     /// The text that the vector holds. It takes no memory.
-    #[tactic(auto, unfolding(crate::specs::tools::Held::bytes_held))]
     pub fn from_vec(bytes: Vec<u8>) -> Text
         ensures { result ≡ bytes.items }
     {
         Text {
-            alloc: *bytes.allocator(),
-            held: Held::Allocated(bytes),
+            short: Short::new(),
+            long: bytes,
         }
     }
 
     /// The bytes, in order.
-    #[tactic(auto, unfolding(crate::specs::tools::Held::bytes_held))]
     pub fn bytes(&self) -> &[u8]
         ensures { result.now ≡ self.now }
     {
-        match &self.held {
-            Held::InPlace(bytes) => bytes.bytes(),
-            Held::Allocated(bytes) => bytes.as_slice(),
+        if self.long.is_empty() {
+            self.short.bytes()
+        } else {
+            self.long.as_slice()
         }
     }
 
     /// Adds the piece at the end.
-    #[tactic(auto, unfolding(crate::specs::tools::Held::bytes_held))]
     pub fn append(&mut self, piece: &[u8]) -> Result<(), Memory>
         ensures ok { OnOk result (self.new ≡ self.old ++ piece.now) }
         ensures err { OnErr result (self.new ≡ self.old) }
         ensures needed { OnErr result (1 ≤ length piece.now) }
     {
-        match &mut self.held {
-            Held::Allocated(bytes) => bytes.extend_from_slice(piece)?,
-            Held::InPlace(bytes) => {
-                if bytes.fits(piece) {
-                    bytes.append(piece);
-                } else {
-                    let vec = allocated(self.alloc, bytes.bytes(), piece)?;
-                    self.held = Held::Allocated(vec);
-                }
+        if self.long.is_empty() {
+            if self.short.fits(piece) {
+                self.short.append(piece);
+                return Ok(());
             }
+            self.long.reserve(self.short.bytes().len() + piece.len())?;
+            self.long.extend_from_slice(self.short.bytes())?;
+            self.short = Short::new();
         }
+        self.long.extend_from_slice(piece)?;
         Ok(())
     }
 

@@ -33,8 +33,6 @@ mod outcomes;
 #[cfg(test)]
 mod readers;
 #[cfg(test)]
-mod texts;
-#[cfg(test)]
 mod values;
 #[cfg(test)]
 mod verdict_labels;
