@@ -4,7 +4,7 @@ use Rattle.std.proofs.lemmas.List.{take-append-drop, take_rest, length-take-le, 
 use Rattle.std.proofs.lemmas.Map.Text.{is_eq-slice_cmp}
 use Rattle.std.proofs.Math.Seq.{take-add, take-append-add, take-take, drop-append_seam, take-append_seam}
 use Rattle.std.proofs.KnownBytes.{Appends-trans, Consumes-trans}
-use Rattle.std.specs.Io.KnownBytes.{Appends, Consumes}
+use Rattle.std.specs.Io.KnownBytes.{Appends, Consumes, Keeps}
 use Rattle.std.specs.Cmp.Lexicographic.{slice_cmp}
 use Rattle.std.specs.FinMap.{find}
 use Rattle.std.specs.Ordering.{nat_cmp}
@@ -46,6 +46,16 @@ pub loses_at_most : {T E : Type 0} (result : Result T E) (a b c : Option (List �
     → n ≤ length piece → Consumes a b text → Consumes b c (take n piece) → OnErr result ((k : ℕ) × (k ≤ most) × LosesPrefix a c k)
 loses_at_most (Ok x) a b c text piece n most within short p q = tt
 loses_at_most (Err e) a b c text piece n most within short p q = (length text + n, within, loses_more a b c text piece n short p q)
+
+-- a text was consumed, and then nothing, so no more than the limit is gone
+pub loses_kept : {T E : Type 0} (result : Result T E) (a b c : Option (List ℕ)) (text : List ℕ) (most : ℕ) → length text ≤ most
+    → Consumes a b text → Keeps b c → OnErr result ((k : ℕ) × (k ≤ most) × LosesPrefix a c k)
+loses_kept (Ok x) a b c text most within p q = tt
+loses_kept (Err e) None b c text most within p q = (length text, within, tt)
+loses_kept (Err e) (Some all) None c text most within p q = absurd p
+loses_kept (Err e) (Some all) (Some rest) None text most within p q = absurd q
+loses_kept (Err e) (Some all) (Some rest) (Some now) text most within p q =
+    (length text, within, subst (λ n. LosesPrefix (Some all) (Some n) (length text)) (sym q) (loses_prefix (Some all) (Some rest) text p))
 
 -- the first entry of a log is the file, where its name is the one
 pub found_first : (name : List ℕ) (first : List ℕ × List ℕ) (rest log : List (List ℕ × List ℕ)) (same : Bool) → log ≡ first ∷ rest
