@@ -4,7 +4,7 @@ ghost use Rattle.std.specs.Prelude.{◌≡◌, length, map, filter, slice_index,
 ghost use Rattle.std.specs.List.{range_with_len};
 ghost use Rattle.std.specs.Ordering.{ordering_then, nat_cmp};
 ghost use Rattle.std.specs.Str.{str_to_ascii_lowercase};
-ghost use Rattle.msg_head.specs.tools.Index.{first_bytes, line_by, name_cmp, key_cmp, entry_key, entry_of, is_below, is_named, IsIndexOf, IsRestFrom};
+ghost use Rattle.msg_head.specs.tools.Index.{first_bytes, after_first, line_by, text_cmp, name_cmp, key_cmp, entry_key, entry_of, is_below, is_named, IsIndexOf, IsRestFrom};
 
 use crate::line::LineSpan;
 use crate::name::is_lowered;
@@ -47,10 +47,20 @@ fn first_bytes(name: &[u8]) -> u64
     ])
 }
 
-// How two names are ordered, in which case doesn't count.
-fn compare_names(one: &[u8], other: &[u8]) -> Ordering
+// What comes after the first eight bytes of the name.
+fn after_first(name: &[u8]) -> &[u8]
+    ensures { result.now ≡ after_first name.now }
+{
+    match name.split_at_checked(8) {
+        Some((_, rest)) => rest,
+        None => &[],
+    }
+}
+
+// How two texts are ordered, in which case doesn't count.
+fn compare_texts(one: &[u8], other: &[u8]) -> Ordering
     ensures { result
-        ≡ name_cmp (str_to_ascii_lowercase one.now) (str_to_ascii_lowercase other.now) }
+        ≡ text_cmp (str_to_ascii_lowercase one.now) (str_to_ascii_lowercase other.now) }
 {
     let mut one = one;
     let mut other = other;
@@ -74,6 +84,14 @@ fn compare_names(one: &[u8], other: &[u8]) -> Ordering
             }
         }
     }
+}
+
+// How two names of equal first bytes are ordered, in which case doesn't count.
+fn compare_names(one: &[u8], other: &[u8]) -> Ordering
+    ensures { result
+        ≡ name_cmp (str_to_ascii_lowercase one.now) (str_to_ascii_lowercase other.now) }
+{
+    compare_texts(after_first(one), after_first(other)).then(one.len().cmp(&other.len()))
 }
 
 // The name of the line with the index; empty where there is no such line.
