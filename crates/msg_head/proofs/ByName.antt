@@ -71,7 +71,7 @@ equal_parts Equal p e = (refl, e)
 equal_parts Greater p e = absurd (false≢true e)
 
 -- keys of texts that are neither less nor greater have one text
-pub same_names : (one other : List ℕ) → AreBytes one → AreBytes other → is_lt (key_cmp (first_bytes one, one) (first_bytes other, other)) ≡ false → is_gt (key_cmp (first_bytes one, one) (first_bytes other, other)) ≡ false → one ≡ other
+same_names : (one other : List ℕ) → AreBytes one → AreBytes other → is_lt (key_cmp (first_bytes one, one) (first_bytes other, other)) ≡ false → is_gt (key_cmp (first_bytes one, one) (first_bytes other, other)) ≡ false → one ≡ other
 same_names one other are too low high =
     let parts = equal_parts (nat_cmp (first_bytes one) (first_bytes other)) (name_cmp one other) (equal_from (key_cmp (first_bytes one, one) (first_bytes other, other)) low high) in
     let others = equal_parts (text_cmp (after_first one) (after_first other)) (nat_cmp (length one) (length other)) parts.1 in
@@ -85,6 +85,10 @@ named_key bytes spans name entry right is =
     let same : str_to_ascii_lowercase text ≡ name = (bytes_eq-Decides (str_to_ascii_lowercase text) name).0 is in
     let lowered : str_to_ascii_lowercase text ≡ str_to_ascii_lowercase name = sym (ap str_to_ascii_lowercase (sym same) ∙ lower_again text) in
     λ i. ((right ∙ ap first_bytes lowered) i, lowered i)
+
+-- and the name's first bytes
+pub named_first_bytes : (bytes : List ℕ) (spans : List LineSpan) (name : List ℕ) (entry : IndexEntry) → IsEntry bytes spans entry → is_named bytes spans name entry ≡ true → entry.first_bytes ≡ first_bytes (str_to_ascii_lowercase name)
+named_first_bytes bytes spans name entry right is = ap (λ (key : ℕ × List ℕ). key.0) (named_key bytes spans name entry right is)
 
 -- ---- lists that a test parts
 
@@ -175,7 +179,7 @@ rest_is bytes spans name index n is within first rest =
       all = sym (ap (filter named) (sym (take-append-drop n index)) ∙ filter-append named (take n index) (drop n index) ∙ ap (λ (xs : List IndexEntry). xs ++ filter named (drop n index)) none);
     }
 
-pub named_first : (bytes : List ℕ) (spans : List LineSpan) (name : List ℕ) (index rest : List IndexEntry) → AreBytes bytes → IsRestFrom bytes spans name index rest → IsPartitionedBy (is_named bytes spans name) rest
+named_first : (bytes : List ℕ) (spans : List LineSpan) (name : List ℕ) (index rest : List IndexEntry) → AreBytes bytes → IsRestFrom bytes spans name index rest → IsPartitionedBy (is_named bytes spans name) rest
 named_first bytes spans name index rest are is i j d low high passes =
     let a = slice_index_or rest i d in
     let b = slice_index_or rest j d in
@@ -189,9 +193,15 @@ named_first bytes spans name index rest are is i j d low high passes =
         (rw (← is.right i d less, ← is.right j d high) below) (rw (← is.right i d less, ← is.right j d high) above) in
     ap (λ (t : List ℕ). bytes_eq t name) one ∙ passes
 
-pub part_is : (bytes : List ℕ) (spans : List LineSpan) (name : List ℕ) (index rest : List IndexEntry) (n : ℕ) → IsRestFrom bytes spans name index rest → n ≤ length rest → AllWithin (λ entry. is_named bytes spans name entry ≡ true) rest 0 n → AllWithin (λ entry. is_named bytes spans name entry ≡ false) rest n (length rest) → take n rest ≡ filter (is_named bytes spans name) index
-part_is bytes spans name index rest n is within first others =
+-- the rest's first entries up to one whose line hasn't the name
+pub part_is : (bytes : List ℕ) (spans : List LineSpan) (name : List ℕ) (index rest : List IndexEntry) (n : ℕ) → AreBytes bytes → IsRestFrom bytes spans name index rest → n ≤ length rest → AllWithin (λ entry. is_named bytes spans name entry ≡ true) rest 0 n → ((d : IndexEntry) → n < length rest → is_named bytes spans name (slice_index_or rest n d) ≡ false) → take n rest ≡ filter (is_named bytes spans name) index
+part_is bytes spans name index rest n are is within first stops =
     let named = is_named bytes spans name in
+    let parted = named_first bytes spans name index rest are is in
+    let others : AllWithin (λ entry. named entry ≡ false) rest n (length rest) = λ k d low high. elim (cases_Bool (named (slice_index_or rest k d))) [
+      | inl passes ↦ absurd (false≢true (sym (stops d (omega (arith, low, high))) ∙ parted n k d low high passes))
+      | inr not ↦ not
+    ] in
     let all = filter_all named (take n rest) (all_first (λ entry. named entry ≡ true) rest n within first) in
     let none = filter_none named (drop n rest) (all_rest (λ entry. named entry ≡ false) rest n within others) in
     sym (sym is.all

@@ -4,7 +4,7 @@ ghost use Rattle.std.specs.Prelude.{◌≡◌, length, map, filter, slice_index,
 ghost use Rattle.std.specs.List.{range_with_len};
 ghost use Rattle.std.specs.Ordering.{ordering_then, nat_cmp};
 ghost use Rattle.std.specs.Str.{str_to_ascii_lowercase};
-ghost use Rattle.msg_head.specs.tools.Index.{first_bytes, after_first, line_by, text_cmp, name_cmp, key_cmp, entry_key, entry_of, is_below, is_named, IsIndexOf, IsRestFrom};
+ghost use Rattle.msg_head.specs.tools.Index.{first_bytes, after_first, line_by, text_cmp, name_cmp, key_cmp, entry_key, entry_of, is_below, is_named, IsEntry, IsIndexOf, IsRestFrom};
 
 use crate::line::LineSpan;
 use crate::name::is_lowered;
@@ -176,11 +176,13 @@ fn is_below(bytes: &[u8], spans: &[LineSpan], name: &[u8], first: u64, entry: In
     }
 }
 
-// Whether the entry's line has the name.
-fn is_named(bytes: &[u8], spans: &[LineSpan], name: &[u8], entry: IndexEntry) -> bool
+// Whether the line of the entry, a right one, has the name, whose first bytes are these.
+fn is_named(bytes: &[u8], spans: &[LineSpan], name: &[u8], first: u64, entry: IndexEntry) -> bool
+    requires right { IsEntry bytes.now spans.now entry }
+    requires first { first ≡ first_bytes (str_to_ascii_lowercase name.now) }
     ensures { result ≡ is_named bytes.now spans.now name.now entry }
 {
-    is_lowered(name_at(bytes, spans, entry.line), name)
+    entry.first_bytes == first && is_lowered(name_at(bytes, spans, entry.line), name)
 }
 
 // The entries from the first on whose line's name doesn't come before the name.
@@ -189,11 +191,12 @@ fn rest_from_name<'h>(
     spans: &[LineSpan],
     index: &'h [IndexEntry],
     name: &[u8],
+    first: u64,
 ) -> &'h [IndexEntry]
-    requires { IsIndexOf bytes.now spans.now index.now }
+    requires right { IsIndexOf bytes.now spans.now index.now }
+    requires first { first ≡ first_bytes (str_to_ascii_lowercase name.now) }
     ensures { IsRestFrom bytes.now spans.now name.now index.now result.now }
 {
-    let first = first_bytes(name);
     let begin = index.partition_point(|entry| is_below(bytes, spans, name, first, *entry));
     index.split_at(begin).1
 }
@@ -208,7 +211,12 @@ pub(crate) fn named_part<'h>(
     requires { IsIndexOf bytes.now spans.now index.now }
     ensures { result.now ≡ filter (is_named bytes.now spans.now name.now) index.now }
 {
-    let rest = rest_from_name(bytes, spans, index, name);
-    let count = rest.partition_point(|entry| is_named(bytes, spans, name, *entry));
-    rest.split_at(count).0
+    let first = first_bytes(name);
+    let rest = rest_from_name(bytes, spans, index, name, first);
+    for (count, entry) in rest.iter().enumerate() {
+        if !is_named(bytes, spans, name, first, *entry) {
+            return rest.split_at(count).0;
+        }
+    }
+    rest
 }
