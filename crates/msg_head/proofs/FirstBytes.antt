@@ -1,6 +1,6 @@
 -- Names in lower case by their first eight bytes, as a number, what comes after these, and their length.
-use Rattle.std.proofs.Common.{◌≡◌, ℕ, zero, suc, ◌+◌, ◌-◌, ◌≤◌, ◌<◌, List, [], ◌∷◌, length, take, drop, map, Bool, true, false, sym, ◌∙◌, ap, arith, refl, subst, inl, inr}
-use Rattle.std.specs.Prelude.{slice_index}
+use Rattle.std.proofs.Common.{◌≡◌, ℕ, zero, suc, ◌+◌, ◌-◌, ◌≤◌, ◌<◌, List, [], ◌∷◌, ◌++◌, length, take, drop, map, Bool, true, false, sym, ◌∙◌, ap, arith, refl, subst, inl, inr}
+use Rattle.std.specs.Prelude.{slice_index, replicate}
 use Rattle.std.specs.Int.{to_be_bytes, w64}
 use Rattle.std.specs.List.{All, slice_index_or, slice_range, range_with_len}
 use Rattle.std.specs.Char.{to_ascii_lowercase}
@@ -34,6 +34,31 @@ lowered_part bytes begin end are =
     let P : ℕ → Type 0 = λ c. c < 256 in
     let part = All-take P (end - begin) (drop begin bytes) (All-drop P begin bytes (All-from_get_or P bytes 0 (λ k less. are k))) in
     at_each _ (All-map P to_ascii_lowercase (slice_range bytes begin end) (λ k d less. lowered_byte _ (part k d less)))
+
+lowered_at : (text : List ℕ) (k : ℕ) → slice_index (str_to_ascii_lowercase text) k ≡ to_ascii_lowercase (slice_index text k)
+lowered_at [] k = refl
+lowered_at (c ∷ text) zero = refl
+lowered_at (c ∷ text) (suc k) = lowered_at text k
+
+-- texts with the same first eight bytes have the same number
+pub same_first : (one other : List ℕ) → ((k : ℕ) → k < 8 → slice_index one k ≡ slice_index other k) → first_bytes (str_to_ascii_lowercase one) ≡ first_bytes (str_to_ascii_lowercase other)
+same_first one other same =
+    let at : (k : ℕ) → k < 8 → slice_index (str_to_ascii_lowercase one) k ≡ slice_index (str_to_ascii_lowercase other) k = λ k less. lowered_at one k ∙ ap to_ascii_lowercase (same k less) ∙ sym (lowered_at other k) in
+    rw (at 0 (omega arith), at 1 (omega arith), at 2 (omega arith), at 3 (omega arith), at 4 (omega arith), at 5 (omega arith), at 6 (omega arith), at 7 (omega arith)) refl
+
+-- zeros after a text are as good as its end
+pub zeros_after : (text zeros : List ℕ) → ((k : ℕ) → slice_index zeros k ≡ 0) → (k : ℕ) → slice_index (text ++ zeros) k ≡ slice_index text k
+zeros_after [] zeros none k = none k
+zeros_after (c ∷ text) zeros none zero = refl
+zeros_after (c ∷ text) zeros none (suc k) = zeros_after text zeros none k
+
+zero_at : (n k : ℕ) → slice_index (replicate n 0) k ≡ 0
+zero_at zero k = refl
+zero_at (suc n) zero = refl
+zero_at (suc n) (suc k) = zero_at n k
+
+pub zeros_rest : (n k : ℕ) → slice_index (drop n (replicate 8 0)) k ≡ 0
+zeros_rest n k = get_or-drop n (replicate 8 0) k 0 ∙ zero_at 8 (n + k)
 
 -- the first eight bytes, 0 for each that is missing
 abbrev first_eight : List ℕ → List ℕ

@@ -21,30 +21,17 @@ pub(crate) struct IndexEntry {
     pub(crate) line: usize,
 }
 
-// The byte of the name at the offset in lower case, and NUL where there is none.
-fn lowered_at(name: &[u8], offset: usize) -> u8
-    ensures { result ≡ slice_index (str_to_ascii_lowercase name.now) offset }
-{
-    match name.get(offset) {
-        Some(byte) => byte.to_ascii_lowercase(),
-        None => b'\0',
-    }
-}
-
 // The first eight bytes of the name in lower case as a number, NUL for each that is missing.
 fn first_bytes(name: &[u8]) -> u64
     ensures { result ≡ first_bytes (str_to_ascii_lowercase name.now) }
 {
-    u64::from_be_bytes([
-        lowered_at(name, 0),
-        lowered_at(name, 1),
-        lowered_at(name, 2),
-        lowered_at(name, 3),
-        lowered_at(name, 4),
-        lowered_at(name, 5),
-        lowered_at(name, 6),
-        lowered_at(name, 7),
-    ])
+    let mut bytes = [b'\0'; 8];
+    match name.first_chunk() {
+        Some(first) => bytes = *first,
+        None => bytes[..name.len()].copy_from_slice(name),
+    }
+    bytes.make_ascii_lowercase();
+    u64::from_be_bytes(bytes)
 }
 
 // What comes after the first eight bytes of the name.
@@ -62,28 +49,8 @@ fn compare_texts(one: &[u8], other: &[u8]) -> Ordering
     ensures { result
         ≡ text_cmp (str_to_ascii_lowercase one.now) (str_to_ascii_lowercase other.now) }
 {
-    let mut one = one;
-    let mut other = other;
-    'bytes: loop {
-        let Some((first, after_first)) = one.split_first() else {
-            return if other.is_empty() {
-                Ordering::Equal
-            } else {
-                Ordering::Less
-            };
-        };
-        let Some((second, after_second)) = other.split_first() else {
-            return Ordering::Greater;
-        };
-        match first.to_ascii_lowercase().cmp(&second.to_ascii_lowercase()) {
-            Ordering::Less => return Ordering::Less,
-            Ordering::Greater => return Ordering::Greater,
-            Ordering::Equal => {
-                one = after_first;
-                other = after_second;
-            }
-        }
-    }
+    let ones = one.iter().map(|byte| byte.to_ascii_lowercase());
+    ones.cmp(other.iter().map(|byte| byte.to_ascii_lowercase()))
 }
 
 // How two names of equal first bytes are ordered, in which case doesn't count.
