@@ -190,7 +190,7 @@ named_first bytes spans name index rest are is i j d low high passes =
     let below : is_lt (key_cmp (entry_key bytes spans a) (entry_key bytes spans b)) ≡ false = ap (λ (key : ℕ × List ℕ). is_lt (key_cmp (entry_key bytes spans a) key)) same ∙ is.above i d less in
     let above = keys_up bytes spans a b (up_far bytes spans rest is.sorted i j d low high) in
     let one = same_names x y (lowered_line bytes spans a.line are) (lowered_line bytes spans b.line are)
-        (rw (← is.right i d less, ← is.right j d high) below) (rw (← is.right i d less, ← is.right j d high) above) in
+    (rw (← is.right i d less, ← is.right j d high) below) (rw (← is.right i d less, ← is.right j d high) above) in
     ap (λ (t : List ℕ). bytes_eq t name) one ∙ passes
 
 -- the rest's first entries up to one whose line hasn't the name

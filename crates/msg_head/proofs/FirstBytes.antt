@@ -1,5 +1,5 @@
 -- Names in lower case by their first eight bytes, as a number, what comes after these, and their length.
-use Rattle.std.proofs.Common.{◌≡◌, ℕ, zero, suc, ◌+◌, ◌-◌, ◌≤◌, ◌<◌, List, [], ◌∷◌, ◌++◌, length, take, drop, map, Bool, true, false, sym, ◌∙◌, ap, arith, refl, subst, inl, inr}
+use Rattle.std.proofs.Common.{◌≡◌, ℕ, zero, suc, ◌+◌, ◌-◌, ◌<◌, List, [], ◌∷◌, ◌++◌, length, drop, map, true, sym, ◌∙◌, ap, arith, refl, inl, inr}
 use Rattle.std.specs.Prelude.{slice_index, replicate}
 use Rattle.std.specs.Int.{to_be_bytes, w64}
 use Rattle.std.specs.List.{All, slice_index_or, slice_range, range_with_len}
@@ -10,9 +10,9 @@ use Rattle.std.specs.Cmp.{unsigned_ties}
 use Rattle.std.proofs.lemmas.Bool.{cases_lt, eqb-true}
 use Rattle.std.proofs.lemmas.Bool.Decides.{nat_tests}
 use Rattle.std.proofs.lemmas.Grind.{same_number_lists}
-use Rattle.std.proofs.lemmas.List.{get_or-drop, get_or_default}
+use Rattle.std.proofs.lemmas.List.{get_or-drop}
 use Rattle.std.proofs.lemmas.List.FromFn.{get_or-map-range_with_len}
-use Rattle.std.proofs.lemmas.List.Elements.{All-from_get_or, All-get_or, All-take, All-drop, All-map}
+use Rattle.std.proofs.lemmas.List.Elements.{All-from_get_or, All-take, All-drop, All-map}
 use Rattle.std.proofs.lemmas.Nat.{be_bytes_8}
 use Rattle.msg_head.specs.tools.Index.{first_bytes, after_first}
 

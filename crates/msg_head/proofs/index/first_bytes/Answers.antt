@@ -1,4 +1,4 @@
-use Rattle.std.proofs.Common.{◌++◌, sym, ap, ◌∙◌, drop, length, List, ℕ}
+use Rattle.std.proofs.Common.{◌++◌, ap, ◌∙◌, drop, length}
 use Rattle.std.specs.Prelude.{slice_index, replicate}
 use Rattle.std.specs.Int.{from_be_bytes, w64}
 use Rattle.std.proofs.lemmas.List.{get_or-take}
