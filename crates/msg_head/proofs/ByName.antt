@@ -16,7 +16,8 @@ use Rattle.std.proofs.lemmas.Slice.Eq.{bytes_eq-Decides}
 use Rattle.std.proofs.lemmas.Str.Ascii.{lowercase-lowercase}
 use Rattle.msg_head.specs.declared.line.LineSpan.{LineSpan}
 use Rattle.msg_head.specs.declared.index.IndexEntry.{IndexEntry}
-use Rattle.msg_head.specs.tools.Index.{first_bytes, lowered_name, name_cmp, key_cmp, key_of, entry_key, entry_of, comes_before, is_below, is_named, line_by, IsEntry, IsIndexOf, IsRestFrom}
+use Rattle.msg_head.specs.tools.Index.{no_span, first_bytes, after_first, lowered_name, text_cmp, name_cmp, key_cmp, key_of, entry_key, entry_of, comes_before, is_below, is_named, line_by, IsEntry, IsIndexOf, IsRestFrom}
+use Rattle.msg_head.proofs.FirstBytes.{AreBytes, lowered_part, same_text, same_number}
 
 -- ---- two names
 
@@ -43,7 +44,9 @@ not_above Greater r p e h = absurd (false≢true (sym (rw e at h)))
 
 -- the keys are in a total order
 pub key_total : IsTotalOrder key_cmp
-key_total = then_total (on_total (λ (key : ℕ × List ℕ). key.0) nat_cmp_total) (on_total (λ (key : ℕ × List ℕ). key.1) nat_list_cmp_total)
+key_total =
+    let others : IsTotalOrder (λ (x y : ℕ × List ℕ). name_cmp x.1 y.1) = then_total (on_total (λ (key : ℕ × List ℕ). after_first key.1) nat_list_cmp_total) (on_total (λ (key : ℕ × List ℕ). length key.1) nat_cmp_total) in
+    then_total (on_total (λ (key : ℕ × List ℕ). key.0) nat_cmp_total) others
 
 -- what isn't above a key that comes before another comes before it
 below_cases : (x y z : ℕ × List ℕ) (o : Ordering) → key_cmp x z ≡ o → is_gt (key_cmp x y) ≡ false → key_cmp y z ≡ Less → is_lt o ≡ true
@@ -61,15 +64,19 @@ below_cases x y z Greater e h k =
 below_from : (x y z : ℕ × List ℕ) → is_gt (key_cmp x y) ≡ false → is_lt (key_cmp y z) ≡ true → is_lt (key_cmp x z) ≡ true
 below_from x y z h k = below_cases x y z (key_cmp x z) refl h (less_from (key_cmp y z) k)
 
--- the second part of an order that is equal is equal
-equal_second : (o p : Ordering) → is_eq (ordering_then o p) ≡ true → is_eq p ≡ true
-equal_second Less p e = absurd (false≢true e)
-equal_second Equal p e = e
-equal_second Greater p e = absurd (false≢true e)
+-- where an order by two parts is equal, so is each part
+equal_parts : (o p : Ordering) → is_eq (ordering_then o p) ≡ true → (is_eq o ≡ true) × (is_eq p ≡ true)
+equal_parts Less p e = absurd (false≢true e)
+equal_parts Equal p e = (refl, e)
+equal_parts Greater p e = absurd (false≢true e)
 
--- keys that are neither less nor greater have one name
-pub same_names : (x y : ℕ × List ℕ) → is_lt (key_cmp x y) ≡ false → is_gt (key_cmp x y) ≡ false → bytes_eq x.1 y.1 ≡ true
-same_names x y low high = sym (is_eq-slice_cmp x.1 y.1) ∙ equal_second (nat_cmp x.0 y.0) (name_cmp x.1 y.1) (equal_from (key_cmp x y) low high)
+-- keys of texts that are neither less nor greater have one text
+same_names : (one other : List ℕ) → AreBytes one → AreBytes other → is_lt (key_cmp (first_bytes one, one) (first_bytes other, other)) ≡ false → is_gt (key_cmp (first_bytes one, one) (first_bytes other, other)) ≡ false → one ≡ other
+same_names one other are too low high =
+    let parts = equal_parts (nat_cmp (first_bytes one) (first_bytes other)) (name_cmp one other) (equal_from (key_cmp (first_bytes one, one) (first_bytes other, other)) low high) in
+    let others = equal_parts (text_cmp (after_first one) (after_first other)) (nat_cmp (length one) (length other)) parts.1 in
+    let rest = (bytes_eq-Decides (after_first one) (after_first other)).0 (sym (is_eq-slice_cmp (after_first one) (after_first other)) ∙ others.0) in
+    same_text one other are too (same_number _ _ parts.0) rest (same_number _ _ others.1)
 
 -- an entry whose line has the name has the name's key
 pub named_key : (bytes : List ℕ) (spans : List LineSpan) (name : List ℕ) (entry : IndexEntry) → IsEntry bytes spans entry → is_named bytes spans name entry ≡ true → entry_key bytes spans entry ≡ key_of name
@@ -78,6 +85,10 @@ named_key bytes spans name entry right is =
     let same : str_to_ascii_lowercase text ≡ name = (bytes_eq-Decides (str_to_ascii_lowercase text) name).0 is in
     let lowered : str_to_ascii_lowercase text ≡ str_to_ascii_lowercase name = sym (ap str_to_ascii_lowercase (sym same) ∙ lower_again text) in
     λ i. ((right ∙ ap first_bytes lowered) i, lowered i)
+
+-- and the name's first bytes
+pub named_first_bytes : (bytes : List ℕ) (spans : List LineSpan) (name : List ℕ) (entry : IndexEntry) → IsEntry bytes spans entry → is_named bytes spans name entry ≡ true → entry.first_bytes ≡ first_bytes (str_to_ascii_lowercase name)
+named_first_bytes bytes spans name entry right is = ap (λ (key : ℕ × List ℕ). key.0) (named_key bytes spans name entry right is)
 
 -- ---- lists that a test parts
 
@@ -100,6 +111,12 @@ filter_all p [] all = refl
 filter_all p (x ∷ xs) all = rw (All-head (λ x. p x ≡ true) x xs all) (ap (λ ys. x ∷ ys) (filter_all p xs (All-tail (λ x. p x ≡ true) x xs all)))
 
 -- ---- where a name's lines are in the index
+
+-- the name of a line of bytes is bytes
+lowered_line : (bytes : List ℕ) (spans : List LineSpan) (line : ℕ) → AreBytes bytes → AreBytes (lowered_name bytes spans line)
+lowered_line bytes spans line are =
+    let span = slice_index_or spans line no_span in
+    lowered_part bytes span.name span.colon are
 
 -- the order of entries is one
 pub index_order : (bytes : List ℕ) (spans : List LineSpan) → IsStrictWeakOrder (comes_before bytes spans)
@@ -162,20 +179,29 @@ rest_is bytes spans name index n is within first rest =
       all = sym (ap (filter named) (sym (take-append-drop n index)) ∙ filter-append named (take n index) (drop n index) ∙ ap (λ (xs : List IndexEntry). xs ++ filter named (drop n index)) none);
     }
 
-pub named_first : (bytes : List ℕ) (spans : List LineSpan) (name : List ℕ) (index rest : List IndexEntry) → IsRestFrom bytes spans name index rest → IsPartitionedBy (is_named bytes spans name) rest
-named_first bytes spans name index rest is i j d low high passes =
+named_first : (bytes : List ℕ) (spans : List LineSpan) (name : List ℕ) (index rest : List IndexEntry) → AreBytes bytes → IsRestFrom bytes spans name index rest → IsPartitionedBy (is_named bytes spans name) rest
+named_first bytes spans name index rest are is i j d low high passes =
     let a = slice_index_or rest i d in
     let b = slice_index_or rest j d in
-    let same = named_key bytes spans name b (is.right j d high) passes in
+    let x = lowered_name bytes spans a.line in
+    let y = lowered_name bytes spans b.line in
     let less : i < length rest = omega (arith, low, high) in
+    let same = named_key bytes spans name b (is.right j d high) passes in
     let below : is_lt (key_cmp (entry_key bytes spans a) (entry_key bytes spans b)) ≡ false = ap (λ (key : ℕ × List ℕ). is_lt (key_cmp (entry_key bytes spans a) key)) same ∙ is.above i d less in
-    let one = same_names (entry_key bytes spans a) (entry_key bytes spans b) below (keys_up bytes spans a b (up_far bytes spans rest is.sorted i j d low high)) in
-    let name_is : lowered_name bytes spans b.line ≡ name = (bytes_eq-Decides (lowered_name bytes spans b.line) name).0 passes in
-    ap (λ (t : List ℕ). bytes_eq (lowered_name bytes spans a.line) t) (sym name_is) ∙ one
+    let above = keys_up bytes spans a b (up_far bytes spans rest is.sorted i j d low high) in
+    let one = same_names x y (lowered_line bytes spans a.line are) (lowered_line bytes spans b.line are)
+    (rw (← is.right i d less, ← is.right j d high) below) (rw (← is.right i d less, ← is.right j d high) above) in
+    ap (λ (t : List ℕ). bytes_eq t name) one ∙ passes
 
-pub part_is : (bytes : List ℕ) (spans : List LineSpan) (name : List ℕ) (index rest : List IndexEntry) (n : ℕ) → IsRestFrom bytes spans name index rest → n ≤ length rest → AllWithin (λ entry. is_named bytes spans name entry ≡ true) rest 0 n → AllWithin (λ entry. is_named bytes spans name entry ≡ false) rest n (length rest) → take n rest ≡ filter (is_named bytes spans name) index
-part_is bytes spans name index rest n is within first others =
+-- the rest's first entries up to one whose line hasn't the name
+pub part_is : (bytes : List ℕ) (spans : List LineSpan) (name : List ℕ) (index rest : List IndexEntry) (n : ℕ) → AreBytes bytes → IsRestFrom bytes spans name index rest → n ≤ length rest → AllWithin (λ entry. is_named bytes spans name entry ≡ true) rest 0 n → ((d : IndexEntry) → n < length rest → is_named bytes spans name (slice_index_or rest n d) ≡ false) → take n rest ≡ filter (is_named bytes spans name) index
+part_is bytes spans name index rest n are is within first stops =
     let named = is_named bytes spans name in
+    let parted = named_first bytes spans name index rest are is in
+    let others : AllWithin (λ entry. named entry ≡ false) rest n (length rest) = λ k d low high. elim (cases_Bool (named (slice_index_or rest k d))) [
+      | inl passes ↦ absurd (false≢true (sym (stops d (omega (arith, low, high))) ∙ parted n k d low high passes))
+      | inr not ↦ not
+    ] in
     let all = filter_all named (take n rest) (all_first (λ entry. named entry ≡ true) rest n within first) in
     let none = filter_none named (drop n rest) (all_rest (λ entry. named entry ≡ false) rest n within others) in
     sym (sym is.all

@@ -29,6 +29,7 @@ pub mod EachAnswers
 mod Bytes
 mod Lowered
 pub mod ByName
+mod FirstBytes
 pub mod NamedLists
 mod TextLaws
 mod Unfolded

@@ -4,7 +4,7 @@ ghost use Rattle.std.specs.Prelude.{◌≡◌, length, map, filter, slice_index,
 ghost use Rattle.std.specs.List.{range_with_len};
 ghost use Rattle.std.specs.Ordering.{ordering_then, nat_cmp};
 ghost use Rattle.std.specs.Str.{str_to_ascii_lowercase};
-ghost use Rattle.msg_head.specs.tools.Index.{first_bytes, line_by, name_cmp, key_cmp, entry_key, entry_of, is_below, is_named, IsIndexOf, IsRestFrom};
+ghost use Rattle.msg_head.specs.tools.Index.{first_bytes, after_first, line_by, text_cmp, name_cmp, key_cmp, entry_key, entry_of, is_below, is_named, IsEntry, IsIndexOf, IsRestFrom};
 
 use crate::line::LineSpan;
 use crate::name::is_lowered;
@@ -21,59 +21,44 @@ pub(crate) struct IndexEntry {
     pub(crate) line: usize,
 }
 
-// The byte of the name at the offset in lower case, and NUL where there is none.
-fn lowered_at(name: &[u8], offset: usize) -> u8
-    ensures { result ≡ slice_index (str_to_ascii_lowercase name.now) offset }
-{
-    match name.get(offset) {
-        Some(byte) => byte.to_ascii_lowercase(),
-        None => b'\0',
-    }
-}
-
 // The first eight bytes of the name in lower case as a number, NUL for each that is missing.
 fn first_bytes(name: &[u8]) -> u64
     ensures { result ≡ first_bytes (str_to_ascii_lowercase name.now) }
 {
-    u64::from_be_bytes([
-        lowered_at(name, 0),
-        lowered_at(name, 1),
-        lowered_at(name, 2),
-        lowered_at(name, 3),
-        lowered_at(name, 4),
-        lowered_at(name, 5),
-        lowered_at(name, 6),
-        lowered_at(name, 7),
-    ])
+    let mut bytes = [b'\0'; 8];
+    match name.first_chunk() {
+        Some(first) => bytes = *first,
+        None => bytes[..name.len()].copy_from_slice(name),
+    }
+    bytes.make_ascii_lowercase();
+    u64::from_be_bytes(bytes)
 }
 
-// How two names are ordered, in which case doesn't count.
+// What comes after the first eight bytes of the name.
+fn after_first(name: &[u8]) -> &[u8]
+    ensures { result.now ≡ after_first name.now }
+{
+    match name.split_at_checked(8) {
+        Some((_, rest)) => rest,
+        None => &[],
+    }
+}
+
+// How two texts are ordered, in which case doesn't count.
+fn compare_texts(one: &[u8], other: &[u8]) -> Ordering
+    ensures { result
+        ≡ text_cmp (str_to_ascii_lowercase one.now) (str_to_ascii_lowercase other.now) }
+{
+    let ones = one.iter().map(|byte| byte.to_ascii_lowercase());
+    ones.cmp(other.iter().map(|byte| byte.to_ascii_lowercase()))
+}
+
+// How two names of equal first bytes are ordered, in which case doesn't count.
 fn compare_names(one: &[u8], other: &[u8]) -> Ordering
     ensures { result
         ≡ name_cmp (str_to_ascii_lowercase one.now) (str_to_ascii_lowercase other.now) }
 {
-    let mut one = one;
-    let mut other = other;
-    'bytes: loop {
-        let Some((first, after_first)) = one.split_first() else {
-            return if other.is_empty() {
-                Ordering::Equal
-            } else {
-                Ordering::Less
-            };
-        };
-        let Some((second, after_second)) = other.split_first() else {
-            return Ordering::Greater;
-        };
-        match first.to_ascii_lowercase().cmp(&second.to_ascii_lowercase()) {
-            Ordering::Less => return Ordering::Less,
-            Ordering::Greater => return Ordering::Greater,
-            Ordering::Equal => {
-                one = after_first;
-                other = after_second;
-            }
-        }
-    }
+    compare_texts(after_first(one), after_first(other)).then(one.len().cmp(&other.len()))
 }
 
 // The name of the line with the index; empty where there is no such line.
@@ -158,11 +143,13 @@ fn is_below(bytes: &[u8], spans: &[LineSpan], name: &[u8], first: u64, entry: In
     }
 }
 
-// Whether the entry's line has the name.
-fn is_named(bytes: &[u8], spans: &[LineSpan], name: &[u8], entry: IndexEntry) -> bool
+// Whether the line of the entry, a right one, has the name, whose first bytes are these.
+fn is_named(bytes: &[u8], spans: &[LineSpan], name: &[u8], first: u64, entry: IndexEntry) -> bool
+    requires right { IsEntry bytes.now spans.now entry }
+    requires first { first ≡ first_bytes (str_to_ascii_lowercase name.now) }
     ensures { result ≡ is_named bytes.now spans.now name.now entry }
 {
-    is_lowered(name_at(bytes, spans, entry.line), name)
+    entry.first_bytes == first && is_lowered(name_at(bytes, spans, entry.line), name)
 }
 
 // The entries from the first on whose line's name doesn't come before the name.
@@ -171,11 +158,12 @@ fn rest_from_name<'h>(
     spans: &[LineSpan],
     index: &'h [IndexEntry],
     name: &[u8],
+    first: u64,
 ) -> &'h [IndexEntry]
-    requires { IsIndexOf bytes.now spans.now index.now }
+    requires right { IsIndexOf bytes.now spans.now index.now }
+    requires first { first ≡ first_bytes (str_to_ascii_lowercase name.now) }
     ensures { IsRestFrom bytes.now spans.now name.now index.now result.now }
 {
-    let first = first_bytes(name);
     let begin = index.partition_point(|entry| is_below(bytes, spans, name, first, *entry));
     index.split_at(begin).1
 }
@@ -190,7 +178,12 @@ pub(crate) fn named_part<'h>(
     requires { IsIndexOf bytes.now spans.now index.now }
     ensures { result.now ≡ filter (is_named bytes.now spans.now name.now) index.now }
 {
-    let rest = rest_from_name(bytes, spans, index, name);
-    let count = rest.partition_point(|entry| is_named(bytes, spans, name, *entry));
-    rest.split_at(count).0
+    let first = first_bytes(name);
+    let rest = rest_from_name(bytes, spans, index, name, first);
+    for (count, entry) in rest.iter().enumerate() {
+        if !is_named(bytes, spans, name, first, *entry) {
+            return rest.split_at(count).0;
+        }
+    }
+    rest
 }

@@ -1,5 +1,5 @@
 -- Field lines in order of their names. No public clause cites this module.
-use Rattle.std.specs.Prelude.{◌≡◌, ℕ, Bool, IsTrue, IsFalse, List, length, filter, map, nat_lt}
+use Rattle.std.specs.Prelude.{◌≡◌, ℕ, Bool, IsTrue, IsFalse, List, length, drop, filter, map, nat_lt}
 use Rattle.std.specs.Int.{from_be_bytes, w64}
 use Rattle.std.specs.List.{All, list_all, range_with_len, slice_index_or}
 use Rattle.std.specs.List.Sorted.{IsPermutation, IsSortedBy}
@@ -29,11 +29,21 @@ lowered_name bytes spans index = str_to_ascii_lowercase (line_by bytes spans ind
 abbrev pub first_bytes : List ℕ → ℕ
 first_bytes text = from_be_bytes w64 text
 
--- how two names in lower case are ordered: by the first bytes that differ
-abbrev pub name_cmp : List ℕ → List ℕ → Ordering
-name_cmp = slice_cmp nat_cmp
+-- what comes after the first eight bytes
+abbrev pub after_first : List ℕ → List ℕ
+after_first text = drop 8 text
 
--- how two names are ordered of which the first bytes are known: by these, and then as a whole
+-- how two texts in lower case are ordered: by the first bytes that differ
+abbrev pub text_cmp : List ℕ → List ℕ → Ordering
+text_cmp = slice_cmp nat_cmp
+
+-- how two names in lower case are ordered of which the first eight bytes are the same: by what
+-- comes after them, and then by length
+abbrev pub name_cmp : List ℕ → List ℕ → Ordering
+name_cmp one other = ordering_then (text_cmp (after_first one) (after_first other))
+    (nat_cmp (length one) (length other))
+
+-- how two names are ordered of which the first bytes are known: by these, and then by the rest
 abbrev pub key_cmp : ℕ × List ℕ → ℕ × List ℕ → Ordering
 key_cmp one other = ordering_then (nat_cmp one.0 other.0) (name_cmp one.1 other.1)
 

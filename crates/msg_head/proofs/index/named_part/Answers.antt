@@ -1,8 +1,20 @@
-use Rattle.std.proofs.Common.{rules, ◌∙◌}
-use Rattle.std.proofs.lemmas.Fn.{always_returns_same}
+use Rattle.std.proofs.Common.{◌∙◌, arith, sym, ap}
+use Rattle.std.proofs.lemmas.List.{take_all, get_or_default}
 use Rattle.msg_head.specs.tools.Index.{is_named}
-use Rattle.msg_head.proofs.ByName.{named_first, part_is}
+use Rattle.msg_head.proofs.ByName.{part_is}
 use Rattle.msg_head.proofs.index.named_part.Goals as goal
+
+pub returns-then-not-is_named : goal.returns-then-not-is_named
+returns-then-not-is_named c =
+    let bytes = c.args.bytes.now in
+    let spans = c.args.spans.now in
+    let name = c.args.name.now in
+    let index = c.args.index.now in
+    let rest = c.rest_from_name-rest.result.now in
+    let count = c.loop-count.count in
+    c.split_at.ensures.front
+    ∙ part_is bytes spans name index rest count (λ k. omega (arith, c.type_inv.bytes k)) c.rest_from_name-rest.ensures c.loop-count.auto.count-end c.loop-count.invariant
+    (λ d less. ap (is_named bytes spans name) (get_or_default rest count d _ less) ∙ sym c.is_named.ensures ∙ c.if-not-is_named.true)
 
 pub returns : goal.returns
 returns c =
@@ -11,6 +23,6 @@ returns c =
     let name = c.args.name.now in
     let index = c.args.index.now in
     let rest = c.rest_from_name-rest.result.now in
-    let is = c.rest_from_name-rest.ensures in
-    let point = c.partition_point-count.ensures.partitioned (is_named bytes spans name) (always_returns_same _ _ _ (λ a r g called. search rules)) (named_first bytes spans name index rest is) in
-    c.split_at.ensures.front ∙ part_is bytes spans name index rest c.partition_point-count.result is c.partition_point-count.ensures.bound point.0 point.1
+    sym (take_all c.loop-count.count rest c.loop-count-test.false)
+    ∙ part_is bytes spans name index rest c.loop-count.count (λ k. omega (arith, c.type_inv.bytes k)) c.rest_from_name-rest.ensures c.loop-count.auto.count-end c.loop-count.invariant
+    (λ d less. absurd (omega (arith, less, c.loop-count-test.false)))

@@ -11,8 +11,8 @@ returns c =
     let spans = c.args.spans.now in
     let name = c.args.name.now in
     let index = c.args.index.now in
-    let first = c.first_bytes-first.result in
+    let first = c.args.first in
     let lowered = str_to_ascii_lowercase name in
-    let split = c.partition_point-begin.ensures.partitioned (is_below bytes spans (first, lowered)) (always_returns_same _ _ _ (λ a r g called. search rules)) (below_first bytes spans (first, lowered) index c.requires.sorted) in
-    let point = rw c.first_bytes-first.ensures at split in
-    rw c.split_at.ensures.back (rest_is bytes spans name index c.partition_point-begin.result c.requires c.partition_point-begin.ensures.bound point.0 point.1)
+    let split = c.partition_point-begin.ensures.partitioned (is_below bytes spans (first, lowered)) (always_returns_same _ _ _ (λ a r g called. search rules)) (below_first bytes spans (first, lowered) index c.requires.right.sorted) in
+    let point = rw c.requires.first at split in
+    rw c.split_at.ensures.back (rest_is bytes spans name index c.partition_point-begin.result c.requires.right c.partition_point-begin.ensures.bound point.0 point.1)
