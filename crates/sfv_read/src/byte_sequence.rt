@@ -55,7 +55,7 @@ fn decode(alloc: Global, letters: &[u8]) -> Result<Option<Text>, PartError>
     ensures err { IfErr result (λ e. e ≡ Memory) }
 {
     match STANDARD_NO_PAD.decode(alloc, letters) {
-        Ok(bytes) => Ok(Some(Text::from_bytes(alloc, bytes.as_slice())?)),
+        Ok(bytes) => Ok(Some(Text::from_vec(bytes))),
         Err(DecodeAllocError::OutOfMemory) => Err(PartError::Memory),
         Err(DecodeAllocError::DecodeError(_)) => Ok(None),
     }

@@ -2,13 +2,11 @@
 use Rattle.std.specs.Prelude.{ℕ, ◌+◌, ◌-◌, ◌*◌, ◌/◌, ◌%◌, ◌^◌, Bool, true, false, ◌||◌, List, [], ◌∷◌, ◌++◌, length, nat_eq, nat_lt, Option, Some, None, Ok, Err, if◌then◌else◌}
 use Rattle.std.specs.Str.{byte}
 use Rattle.byte_grammar.specs.Walk.{Reader, ◌>>=◌, byte_read, run_read, all_read, word_read}
-use Rattle.byte_grammar.specs.tools.Walks.{optional_read, pick_read, turns_read}
+use Rattle.byte_grammar.specs.tools.Walks.{optional_read, pick_read, turns_read, with_state}
 use Rattle.sfv_text.specs.declared.value.BareItem.{BareItem}
 use Rattle.sfv_text.specs.declared.value.BareItem.TheVariants.{Integer, Decimal, Str, Token, Bytes, Bool as Boolean}
 use Rattle.sfv_read.specs.declared.bare.BareKind.{BareKind}
 use Rattle.sfv_read.specs.declared.bare.BareKind.TheVariants.{Number as NumberKind, String as StringKind, Token as TokenKind, ByteSequence as ByteSequenceKind, Boolean as BooleanKind}
-use Rattle.sfv_read.specs.declared.string.CharKind.{CharKind}
-use Rattle.sfv_read.specs.declared.string.CharKind.TheVariants.{Finish, Escape, Plain}
 use Rattle.sfv_text.specs.Range.{is_token_first, is_token_rest}
 use Rattle.byte_grammar.specs.Classes.{is_digit}
 use Rattle.sfv_read.specs.Class.{is_minus, is_dot, is_quote, is_backslash, is_unescaped, is_escapable, is_question, is_bit, is_colon, is_equals, is_base64}
@@ -40,29 +38,30 @@ number_read bytes = do
 
 -- ---- Strings
 
-abbrev pub char_kind : ℕ → Option CharKind
-char_kind c =
-    if is_quote c then Some Finish
-    else (if is_backslash c then Some Escape
-    else (if is_unescaped c then Some Plain else None))
+-- a backslash, the character that it escapes, and those after it that stand for themselves
+unfoldable pub escaped_run_read : Reader (List ℕ)
+escaped_run_read bytes =
+    byte_read is_backslash bytes >>= λ b. word_read is_escapable is_unescaped b.1
 
-abbrev pub char_by : CharKind → Reader (Option ℕ)
-char_by Finish bytes = byte_read is_quote bytes >>= λ d. Ok (None, d.1)
-char_by Escape bytes = do
-  d ← byte_read is_backslash bytes
-  e ← byte_read is_escapable d.1
-  Ok (Some e.0, e.1)
-char_by Plain bytes = byte_read is_unescaped bytes >>= λ d. Ok (Some d.0, d.1)
+-- an escaped run where a backslash comes
+unfoldable pub next_run_read : Reader (Option (List ℕ))
+next_run_read bytes = optional_read is_backslash escaped_run_read bytes
 
--- a character, or the quote after the last
-unfoldable pub char_read : Reader (Option ℕ)
-char_read bytes = pick_read char_kind char_by bytes
+abbrev pub with_run : List ℕ → List ℕ → List ℕ
+with_run text run = text ++ run
 
-abbrev pub chars_read : Reader (List ℕ)
-chars_read bytes = turns_read char_read bytes
+-- characters that stand for themselves, and escaped runs
+unfoldable pub characters_read : Reader (List ℕ)
+characters_read bytes =
+    all_read is_unescaped bytes
+    >>= λ first. with_state with_run first.0 (turns_read next_run_read first.1)
 
 unfoldable pub string_read : Reader (List ℕ)
-string_read bytes = byte_read is_quote bytes >>= λ q. chars_read q.1
+string_read bytes = do
+  q ← byte_read is_quote bytes
+  s ← characters_read q.1
+  e ← byte_read is_quote s.1
+  Ok (s.0, e.1)
 
 -- ---- Byte Sequences
 

@@ -7,10 +7,10 @@ use Rattle.sfv_read.proofs.byte_sequence.decode.Goals as goal
 is_strict : IsStrict standard_no_pad
 is_strict = (refl, refl)
 
-pub returns-in_ok-from_bytes-in-Ok-clause-ok : goal.returns-in_ok-from_bytes-in-Ok-clause-ok
-returns-in_ok-from_bytes-in-Ok-clause-ok c =
+pub returns-in-Ok-clause-ok : goal.returns-in-Ok-clause-ok
+returns-in-Ok-clause-ok c =
     let d = decodes c.args.letters.now c.in-Ok.bytes.items (c.in-Ok.ensures.exact is_strict) c.in-Ok.ensures.bytes in
-    (d.0, c.in_ok-from_bytes-in-Ok.ensures.ok ∙ c.as_slice.ensures.value ∙ d.1)
+    (d.0, c.from_vec.ensures ∙ d.1)
 
 pub returns-in-Err-DecodeError-clause-ok : goal.returns-in-Err-DecodeError-clause-ok
 returns-in-Err-DecodeError-clause-ok c =
