@@ -137,7 +137,7 @@ fn write_characters(characters: &[u8], text: &mut Text) -> Result<(), Memory>
     }
 }
 
-fn write_string(characters: &[u8], text: &mut Text) -> Result<(), Memory>
+pub(crate) fn write_string(characters: &[u8], text: &mut Text) -> Result<(), Memory>
     ensures { OnOk result (text.new ≡ text.old ++ string_text characters.now) }
 {
     text.append(b"\"")?;
