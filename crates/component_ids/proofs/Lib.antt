@@ -2,4 +2,5 @@ pub mod SameLaws
 pub mod RepeatedLaws
 pub mod FaultLaws
 pub mod AnswerLaws
+pub mod PrintLaws
 pub mod Judged

@@ -1,9 +1,8 @@
 //! Component identifiers.
 
 ghost use Rattle.std.specs.Prelude.{◌≡◌, IfOk};
-ghost use Rattle.component_ids.specs.Identifiers.{item_of};
 
-use sfv_text::{BareItem, Item, Memory, Params, Sequence, Text};
+use sfv_text::{Memory, Params, Sequence, Text};
 use std::alloc::Global;
 
 /// A component identifier (RFC 9421 section 2).
@@ -25,16 +24,6 @@ impl ComponentId {
     {
         Ok(ComponentId {
             name: self.name.copy(alloc)?,
-            params: self.params.copy(alloc)?,
-        })
-    }
-
-    /// The item that stands for it.
-    pub(crate) fn to_item(&self, alloc: Global) -> Result<Item, Memory>
-        ensures { IfOk result (λ item. item ≡ item_of self.now) }
-    {
-        Ok(Item {
-            bare: BareItem::Str(self.name.copy(alloc)?),
             params: self.params.copy(alloc)?,
         })
     }

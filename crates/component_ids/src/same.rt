@@ -2,6 +2,7 @@
 
 ghost use Rattle.std.specs.Prelude.{◌≡◌, ◌↔◌, IsTrue, IfSome, IfNone};
 ghost use Rattle.std.specs.List.{list_any};
+ghost use Rattle.std.specs.Str.{bytes_eq};
 ghost use Rattle.component_ids.specs.Causes.{IsFirstRepeated};
 ghost use Rattle.component_ids.specs.Identifiers.{IsSameId, AreDistinct};
 ghost use Rattle.component_ids.specs.Sameness.{is_among, are_among, is_same};
@@ -22,10 +23,17 @@ fn are_among(others: &Params, params: &Params) -> bool
     params.iter().all(|param| is_among(others, param))
 }
 
+/// Whether the names agree. The last bytes are compared first, in which most names differ.
+fn is_same_name(a: &[u8], b: &[u8]) -> bool
+    ensures { result ≡ bytes_eq a.now b.now }
+{
+    a.last() == b.last() && a == b
+}
+
 fn is_same(a: &ComponentId, b: &ComponentId) -> bool
     ensures { result ≡ is_same a.now b.now }
 {
-    a.name.bytes() == b.name.bytes()
+    is_same_name(a.name.bytes(), b.name.bytes())
         && are_among(&b.params, &a.params)
         && are_among(&a.params, &b.params)
 }

@@ -1,4 +1,5 @@
 pub mod EqualityLaws
+pub mod EscapeLaws
 pub mod Groups
 pub mod Printable
 pub mod PutLaws

@@ -2,12 +2,13 @@
 //!
 //! Each function adds its part at the end of the text.
 
-ghost use Rattle.std.specs.Prelude.{◌≡◌, ◌++◌, ◌≤◌, ◌<◌, length, OnOk};
+ghost use Rattle.std.specs.Prelude.{◌≡◌, ◌++◌, ◌≤◌, ◌<◌, length, IfSome, OnOk};
 ghost use Rattle.std.specs.Fmt.{decimal};
-ghost use Rattle.std.specs.List.{flat_map};
+ghost use Rattle.std.specs.List.{flat_map, position};
 ghost use Rattle.base64.specs.Engines.{standard};
 ghost use Rattle.base64.specs.GeneralPurpose.{encode_of};
 ghost use Rattle.sfv_text.specs.Strict.{sign_text, integer_text, fraction_text, decimal_text, character_text, string_text, bytes_text, bool_text, bare_text};
+ghost use Rattle.sfv_text.specs.tools.Escapes.{is_escaped};
 
 use crate::memory::Memory;
 use crate::text::Text;
@@ -81,26 +82,62 @@ fn write_decimal(thousandths: i64, text: &mut Text) -> Result<(), Memory>
     write_fraction(size % 1000, text)
 }
 
+/// Whether the character has a `\` before it in the text.
+fn is_escaped(character: u8) -> bool
+    ensures { result ≡ is_escaped character }
+{
+    character == b'"' || character == b'\\'
+}
+
 fn write_character(character: u8, text: &mut Text) -> Result<(), Memory>
     ensures { OnOk result (text.new ≡ text.old ++ character_text character) }
 {
-    if character == b'"' || character == b'\\' {
+    if is_escaped(character) {
         text.append(&[b'\\', character])
     } else {
         text.append(&[character])
     }
 }
 
+/// The offset of the first character that is escaped.
+fn first_escaped(characters: &[u8]) -> Option<usize>
+    ensures is { result ≡ position is_escaped characters.now }
+    ensures within { IfSome result (λ offset. offset < length characters.now) }
+{
+    characters
+        .iter()
+        .position(|character| is_escaped(*character))
+}
+
+/// The characters before the first that is escaped, and the others.
+#[tactic(auto, using(crate::proofs::EscapeLaws::plain_all, crate::proofs::EscapeLaws::plain_before))]
+fn split_plain(characters: &[u8]) -> (&[u8], &[u8])
+    ensures parts { result.0.now ++ result.1.now ≡ characters.now }
+    ensures plain { flat_map character_text result.0.now ≡ result.0.now }
+{
+    match first_escaped(characters) {
+        Some(offset) => characters.split_at(offset),
+        None => (characters, &[]),
+    }
+}
+
+/// Characters that are not escaped are added as one piece.
 fn write_characters(characters: &[u8], text: &mut Text) -> Result<(), Memory>
     ensures { OnOk result (text.new ≡ text.old ++ flat_map character_text characters.now) }
 {
-    for character in characters {
+    let mut rest = characters;
+    loop {
+        let (plain, others) = split_plain(rest);
+        text.append(plain)?;
+        let [character, others @ ..] = others else {
+            return Ok(());
+        };
         write_character(*character, text)?;
+        rest = others;
     }
-    Ok(())
 }
 
-fn write_string(characters: &[u8], text: &mut Text) -> Result<(), Memory>
+pub(crate) fn write_string(characters: &[u8], text: &mut Text) -> Result<(), Memory>
     ensures { OnOk result (text.new ≡ text.old ++ string_text characters.now) }
 {
     text.append(b"\"")?;

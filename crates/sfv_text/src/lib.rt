@@ -30,7 +30,10 @@ pub use laws::{equality_is_tested, keys_stay_distinct, strict_texts_are_printabl
 pub use memory::Memory;
 pub use pair::Pair;
 pub use pairs::Pairs;
-pub use print::{print_bare, print_dict, print_inner, print_item, print_list, print_member};
+pub use print::{
+    append_params, append_string_item, print_bare, print_dict, print_inner, print_item, print_list,
+    print_member,
+};
 pub use sequence::Sequence;
 pub use text::{Text, append_number, append_words};
 pub use value::{BareItem, Dict, InnerList, Item, Items, List, Member, Params};

@@ -3,9 +3,10 @@
 ghost use Rattle.std.specs.Prelude.{◌≡◌, ◌++◌, IsTrue, IfOk, OnOk};
 ghost use Rattle.std.specs.List.{list_all, join_by};
 ghost use Rattle.sfv_text.specs.Range.{is_bare_in_range, is_item_in_range, is_inner_in_range, is_member_in_range, is_list_in_range, is_dict_in_range, is_string_byte};
+ghost use Rattle.sfv_text.specs.declared.value.BareItem.TheVariants.{Str};
 ghost use Rattle.sfv_text.specs.Strict.{bare_text, param_value_text, params_text, item_text, inner_text, member_text, list_text, dict_item_text, dict_value_text, dict_text};
 
-use crate::bare::write_bare;
+use crate::bare::{write_bare, write_string};
 use crate::memory::Memory;
 use crate::pair::Pair;
 use crate::text::Text;
@@ -145,7 +146,9 @@ impl Write for Pair<BareItem> {
     }
 }
 
-fn write_params(params: &Params, text: &mut Text) -> Result<(), Memory>
+/// Adds the strict text of parameters (RFC 9651 section 4.1.1.2) at the end. After an error a part
+/// of it may have been added.
+pub fn append_params(params: &Params, text: &mut Text) -> Result<(), Memory>
     ensures { OnOk result (text.new ≡ text.old ++ params_text params.now) }
 {
     let pairs = params.as_slice();
@@ -155,6 +158,16 @@ fn write_params(params: &Params, text: &mut Text) -> Result<(), Memory>
     Ok(())
 }
 
+/// Adds the strict text of an Item whose bare item is a String (RFC 9651 section 4.1.3) at the end,
+/// from its characters and parameters. After an error a part of it may have been added.
+pub fn append_string_item(characters: &[u8], params: &Params, text: &mut Text) -> Result<(), Memory>
+    ensures { OnOk result (text.new ≡ text.old
+        ++ item_text (record { bare = Str characters.now; params = params.now })) }
+{
+    write_string(characters, text)?;
+    append_params(params, text)
+}
+
 impl Write for Item {
     ghost use Rattle.sfv_text.specs.Strict.{item_text};
 
@@ -162,7 +175,7 @@ impl Write for Item {
 
     fn write(&self, text: &mut Text) -> Result<(), Memory> {
         write_bare(&self.bare, text)?;
-        write_params(&self.params, text)
+        append_params(&self.params, text)
     }
 }
 
@@ -175,7 +188,7 @@ impl Write for InnerList {
         text.append(b"(")?;
         write_joined(self.items.as_slice(), BETWEEN_ITEMS, text)?;
         text.append(b")")?;
-        write_params(&self.params, text)
+        append_params(&self.params, text)
     }
 }
 
@@ -197,7 +210,7 @@ fn write_dict_item(item: &Item, text: &mut Text) -> Result<(), Memory>
     ensures { OnOk result (text.new ≡ text.old ++ dict_item_text item.now.bare item.now.params) }
 {
     match item.bare {
-        BareItem::Bool(true) => write_params(&item.params, text),
+        BareItem::Bool(true) => append_params(&item.params, text),
         _ => {
             text.append(b"=")?;
             item.write(text)
