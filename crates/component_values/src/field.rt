@@ -1,11 +1,12 @@
 //! How the value of a component is fed, or how it lacks one.
 
-ghost use Rattle.std.specs.Prelude.{◌≡◌, ℕ, List, filter, Ok, Err, MatchResult};
+ghost use Rattle.std.specs.Prelude.{◌≡◌, List, filter, Ok, Err, MatchResult};
 ghost use Rattle.framing.specs.Framings.{is_request};
 ghost use Rattle.msg_body.specs.Views.{message_of};
 ghost use Rattle.msg_head.specs.Lines.{FieldLine};
 ghost use Rattle.msg_head.specs.Names.{has_name};
 ghost use Rattle.msg_head.specs.Values.{joined_value};
+ghost use Rattle.component_ids.specs.Types.{kind_in};
 ghost use Rattle.component_values.specs.Context.{context_of};
 ghost use Rattle.component_values.specs.Values.{plain_value, FormRow, FieldRow, ComesTo, side_of, message_for, related_message};
 ghost use Rattle.component_values.specs.tools.Rows.{PlansRow, form_meant};
@@ -15,7 +16,7 @@ use crate::form::{Form, form_of};
 use crate::lines::is_ascii;
 use crate::plan::Plan;
 use crate::strict::{member_value, strict_value};
-use component_ids::{ComponentId, FieldKind, has_param, is_field_name};
+use component_ids::{ComponentId, Types, has_param, is_field_name};
 use derived_values::{Lack, NoValue, derived_value};
 use field_values::joined_text;
 use framing::is_request;
@@ -34,25 +35,30 @@ fn plain_plan<'a, 'm>(lines: NamedFieldLines<'a, 'm>) -> Result<Plan<'a, 'm>, No
     Ok(Plan::Combined(lines))
 }
 
-/// How the value of a field that has lines is fed, in the form that is asked for.
+/// How the value of a field that has lines is fed, in the form that is asked for. The field's kind
+/// is looked for where the form needs it.
 fn plan_in_form<'a, 'm>(
     alloc: Global,
+    types: &Types,
+    name: &[u8],
     found: NamedFieldLines<'a, 'm>,
-    kind: Option<FieldKind>,
     form: Form<'_>,
 ) -> Result<Plan<'a, 'm>, NoValue>
-    ensures { (lines : List FieldLine) (name : List ℕ) → found.entry ≡ filter (has_name name) lines
-        → PlansRow (FormRow (form_meant form.entry) kind lines name) result }
+    ensures { (lines : List FieldLine) → found.entry ≡ filter (has_name name.now) lines
+        → PlansRow (FormRow (form_meant form.entry) (kind_in types.now name.now) lines name.now)
+        result }
 {
     match form {
         Form::ByteSequences => Ok(Plan::ByteSequences(found)),
         Form::Member(key) => {
             let text = joined_text(alloc, found)?;
-            Ok(Plan::Text(member_value(alloc, kind, key, text.bytes())?))
+            let member = member_value(alloc, types.kind_of(name), key, text.bytes())?;
+            Ok(Plan::Text(member))
         }
         Form::Strict => {
             let text = joined_text(alloc, found)?;
-            Ok(Plan::Text(strict_value(alloc, kind, text.bytes())?))
+            let strict = strict_value(alloc, types.kind_of(name), text.bytes())?;
+            Ok(Plan::Text(strict))
         }
         Form::Plain => plain_plan(found),
     }
@@ -61,17 +67,18 @@ fn plan_in_form<'a, 'm>(
 /// How the value of a field is fed, of which these lines were found.
 fn field_plan<'a, 'm>(
     alloc: Global,
+    types: &Types,
+    id: &ComponentId,
     found: NamedFieldLines<'a, 'm>,
-    kind: Option<FieldKind>,
-    params: &Params,
 ) -> Result<Plan<'a, 'm>, NoValue>
-    ensures { (lines : List FieldLine) (name : List ℕ) → found.entry ≡ filter (has_name name) lines
-        → PlansRow (FieldRow params.now kind lines name) result }
+    ensures { (lines : List FieldLine) → found.entry ≡ filter (has_name id.now.name) lines
+        → PlansRow (FieldRow id.now.params (kind_in types.now id.now.name) lines id.now.name)
+        result }
 {
     if found.is_empty() {
         return Err(NoValue::Lacks(Lack::Absent));
     }
-    plan_in_form(alloc, found, kind, form_of(params))
+    plan_in_form(alloc, types, id.name.bytes(), found, form_of(&id.params))
 }
 
 /// The side whose lines a component is drawn from.
@@ -130,6 +137,5 @@ pub(crate) fn component_plan<'a, 'm>(
         return Ok(Plan::Derived(value));
     }
     let found = message.lines_named(side_of(&id.params), id.name.bytes());
-    let kind = context.types.kind_of(id.name.bytes());
-    field_plan(alloc, found, kind, &id.params)
+    field_plan(alloc, context.types, id, found)
 }
