@@ -1,14 +1,14 @@
 -- A string that is read is one, and a string is read.
-use Rattle.std.proofs.Common.{◌≡◌, ℕ, ◌<◌, ◌&&◌, ◌||◌, Bool, true, false, not, cond, eqb, List, [], ◌∷◌, ◌++◌, length, Some, Ok, refl, sym, ap, subst, ◌∙◌, append_assoc, arith}
+use Rattle.std.proofs.Common.{◌≡◌, ℕ, ◌<◌, ◌&&◌, ◌||◌, Bool, true, false, not, cond, eqb, List, [], ◌∷◌, ◌++◌, length, Some, None, Ok, Err, refl, sym, ap, subst, ◌∙◌, append_assoc, arith}
 use Rattle.std.specs.List.{list_all, flat_map}
 use Rattle.std.proofs.lemmas.Bool.{eqb-true}
 use Rattle.std.proofs.lemmas.Bool.Decides.{nat_tests}
 use Rattle.std.proofs.lemmas.List.{append-nil}
 use Rattle.std.proofs.lemmas.List.Concat.{flat_map-append}
-use Rattle.byte_grammar.specs.Language.{Each, IsWord, after_all}
+use Rattle.byte_grammar.specs.Language.{Each, IsWord, after_all, starts_in}
 use Rattle.byte_grammar.specs.tools.Languages.{Then, Mapped, Optional, IsByte, IsAll}
 use Rattle.byte_grammar.specs.Walk.{◌>>=◌}
-use Rattle.byte_grammar.specs.tools.Walks.{Next, with_turns, turns_read}
+use Rattle.byte_grammar.specs.tools.Walks.{Next, with_turns, turns_read, optional_read}
 use Rattle.sfv_text.specs.Range.{is_string_byte}
 use Rattle.sfv_text.specs.Strict.{character_text}
 use Rattle.sfv_read.specs.BareItem.{IsString}
@@ -226,3 +226,17 @@ runs_step bytes = turns_step meets_turn run_grows bytes
 
 pub runs_shorter : (bytes run rest : List ℕ) → next_run_read bytes ≡ Ok (Some run, rest) → length rest < length bytes
 runs_shorter bytes run rest e = shorter meets_turn run_grows bytes run rest e
+
+-- a turn, where a backslash comes and where none does
+module _ (bytes : List ℕ) where
+  pub no_run : starts_in is_backslash bytes ≡ false → next_run_read bytes ≡ Ok (None, bytes)
+  unfolding next_run_read optional_read
+  no_run none = rw none refl
+
+  pub some_run : (run rest : List ℕ) → starts_in is_backslash bytes ≡ true → escaped_run_read bytes ≡ Ok (run, rest) → next_run_read bytes ≡ Ok (Some run, rest)
+  unfolding next_run_read optional_read
+  some_run run rest some e = rw (some, e) refl
+
+  pub run_err : (n : ℕ) → starts_in is_backslash bytes ≡ true → escaped_run_read bytes ≡ Err n → next_run_read bytes ≡ Err n
+  unfolding next_run_read optional_read
+  run_err n some e = rw (some, e) refl

@@ -1,9 +1,8 @@
 //! Strings (RFC 9651 section 3.3.3).
 
-ghost use Rattle.std.specs.Prelude.{option_map};
 ghost use Rattle.byte_grammar.specs.Gives.{Gives};
 ghost use Rattle.sfv_read.specs.tools.Gives.{GivesUnlessMemory};
-ghost use Rattle.sfv_read.specs.tools.BareWalk.{escaped_run_read, next_run_read, characters_read, string_read};
+ghost use Rattle.sfv_read.specs.tools.BareWalk.{escaped_run_read, characters_read, string_read};
 
 use crate::class::SfClass;
 use crate::error::PartError;
@@ -29,29 +28,12 @@ fn read_characters(alloc: Global, bytes: &[u8]) -> Result<(Text, &[u8]), PartErr
     let (first, after) = read_all(SfClass::Unescaped, bytes);
     let mut text = Text::from_bytes(alloc, first)?;
     let mut rest = after;
-    'runs: loop {
-        let (next, after) = read_next_run(rest)?;
-        match next {
-            None => return Ok((text, after)),
-            Some(run) => {
-                text.append(run)?;
-                rest = after;
-            }
-        }
+    'runs: while starts_with(Byte(b'\\'), rest) {
+        let (run, after) = read_escaped_run(rest)?;
+        text.append(run)?;
+        rest = after;
     }
-}
-
-/// Reads an escaped run where a backslash comes.
-#[tactic(auto, unfolding(crate::specs::tools::BareWalk::next_run_read, byte_grammar::specs::tools::Walks::optional_read))]
-fn read_next_run(bytes: &[u8]) -> Result<(Option<&[u8]>, &[u8]), Left>
-    ensures { Gives (λ x. (option_map (λ run. run.now) x.0, x.1.now)) result
-        (next_run_read bytes.now) }
-{
-    if !starts_with(Byte(b'\\'), bytes) {
-        return Ok((None, bytes));
-    }
-    let (run, rest) = read_escaped_run(bytes)?;
-    Ok((Some(run), rest))
+    Ok((text, rest))
 }
 
 /// Reads a backslash, the character that it escapes, and those after it that stand for themselves.
