@@ -38,7 +38,7 @@ and_one false c = refl
 pub more_lines : (conf : Configuration) (moment : ℕ) (context : MessageContext) (labels : List (List ℕ)) (n : ℕ) (label lines now : List ℕ) (accepted one all : Bool)
     → n < length labels → label ≡ get_or labels n label
     → AreLinesSoFar conf moment context (take n labels) lines accepted
-    → WritesVerdict (verification_for conf moment context label) label lines now one
+    → WritesVerdict (verification_for conf moment context label) lines now one
     → all ≡ (accepted && one)
     → AreLinesSoFar conf moment context (take (n + 1) labels) now all
 more_lines conf moment context labels n label lines now accepted one all lt is so_far more both =

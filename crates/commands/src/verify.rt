@@ -1,6 +1,6 @@
 //! The command `verify`: the verdicts on a message's labels (RFC 9421 section 3.2).
 
-ghost use Rattle.std.specs.Prelude.{◌≡◌, ◌≤◌, ◌<◌, [], ◌∷◌, option_map, IfOk};
+ghost use Rattle.std.specs.Prelude.{◌≡◌, ◌≤◌, ◌<◌, [], ◌∷◌, None, option_map, IfOk};
 ghost use Rattle.msg_body.specs.Messages.{Message};
 ghost use Rattle.component_values.specs.Context.{context_of};
 ghost use Rattle.conf.specs.ConfMeaning.{meaning};
@@ -31,8 +31,8 @@ fn write_line<L: Ledger>(
 ) -> Result<bool, Memory>
     requires fields { AreFieldsOf (model_of verification.now).context.message fields.now }
     requires now { IsAt (model_of verification.now).now (model_of verification.now).seen }
-    ensures { IfOk result (WritesVerdict (model_of verification.entry.now)
-        (model_of verification.entry.now).label lines.old lines.new) }
+    ensures { IfOk result
+        (WritesVerdict (model_of verification.entry.now) lines.old lines.new) }
 {
     let verdict = verdict_in(alloc, fields, verification, steps)?;
     append_verdict_line(alloc, verification.label, &verdict, lines)?;
@@ -42,35 +42,29 @@ fn write_line<L: Ledger>(
     })
 }
 
-/// The lines of the labels, in order. Steps are counted and the count is let go.
+/// The lines of the labels, in order, each judged as the first label is said to be. Steps are
+/// counted and the count is let go.
 fn write_lines<'x, L: Ledger>(
     alloc: Global,
-    conf: &'x Conf,
-    now: u64,
-    context: &'x Context<'_, '_>,
+    first: &Verification<'x, '_, '_>,
     fields: &SignatureFields,
     labels: &'x [Text],
     blank: Blank,
 ) -> Result<Outcome, Memory>
-    requires fields { AreFieldsOf (context_of context.now).message fields.now }
-    requires now { now ≤ MAX_MOMENT }
+    requires fields { AreFieldsOf (model_of first.now).context.message fields.now }
+    requires now { first.now.now ≤ MAX_MOMENT }
+    requires seen { (model_of first.now).seen ≡ None }
     requires name { blank.name ≡ L.name }
     requires parts { blank.parts ≡ L.parts }
     requires some { 0 < blank.parts }
-    ensures { IfOk result
-        (ReportsLabels (meaning conf.now) now (context_of context.now) labels.now) }
+    ensures { IfOk result (ReportsLabels (model_of first.now).conf first.now.now
+        (model_of first.now).context labels.now) }
 {
     let mut steps: Steps<L> = Steps::new(blank);
     let mut lines = Text::new(alloc);
     let mut all_accepted = true;
     for label in labels {
-        let verification = Verification {
-            context,
-            label: label.bytes(),
-            conf,
-            now,
-            seen: None,
-        };
+        let verification = first.of_label(label.bytes());
         let is_accepted = write_line(alloc, fields, &verification, &mut lines, &mut steps)?;
         all_accepted &= is_accepted;
     }
@@ -125,6 +119,12 @@ pub fn write_verdicts(
 {
     let fields = SignatureFields::read(alloc, context.message)?;
     let labels = asked_labels(alloc, label, &fields)?;
-    let blank = Blank::new(1);
-    write_lines::<Brand>(alloc, conf, now, context, &fields, labels.as_slice(), blank)
+    let first = Verification {
+        context,
+        label: b"",
+        conf,
+        now,
+        seen: None,
+    };
+    write_lines::<Brand>(alloc, &first, &fields, labels.as_slice(), Blank::new(1))
 }

@@ -18,7 +18,7 @@ pub enum BadReason {
     ParameterUnknown,
     /// A parameter's value is of a wrong type.
     ParameterType,
-    /// `bs` stands beside `sf` or `key`.
+    /// `bs` comes with `sf` or `key`.
     ParametersClash,
     /// `@query-param` has no `name`.
     NameMissing,

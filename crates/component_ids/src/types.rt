@@ -20,7 +20,7 @@ pub enum FieldKind {
     Dictionary,
 }
 
-/// Which fields are structured, and how, by their names in lower case. No message tells it: an
+/// Which fields are structured, and how, by their names in lower case. No message says it: an
 /// application has to know it (RFC 9421 section 2.1.1).
 #[derive(Debug, Drop)]
 pub struct Types {

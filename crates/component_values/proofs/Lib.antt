@@ -1,4 +1,3 @@
-mod FoundLines
 mod Below
 pub mod FirstLacks
 pub mod RowLaws

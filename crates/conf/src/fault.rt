@@ -10,7 +10,7 @@ use std::fmt;
 /// Why a text is no configuration, in the order in which they are judged.
 ///
 /// A path is that of a key, as `sign.label`; of the entries of `keys` and `types` it is the table's
-/// name, and of an unknown key the name of the table where it stands, `top` for the document.
+/// name, and of an unknown key the name of the table that has it, `top` for the document.
 #[derive(Debug, Drop)]
 pub enum ConfFault {
     /// Out of memory, which is judged nowhere: it may come in place of any other answer.

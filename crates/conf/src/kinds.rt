@@ -1,4 +1,4 @@
-//! The kinds of fields that a document tells.
+//! The kinds of fields that a document gives.
 
 ghost use Rattle.std.specs.Prelude.{◌≡◌, IfOk, OnOk, codes};
 ghost use Rattle.toml.specs.Data.{get_member};

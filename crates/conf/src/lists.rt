@@ -1,4 +1,4 @@
-//! The lists of covered components that a document tells.
+//! The lists of covered components of a document.
 
 ghost use Rattle.std.specs.Prelude.{IfErr, IfOk};
 ghost use Rattle.toml.specs.View.{table_view};

@@ -16,7 +16,7 @@ use sfv_text::Memory;
 use std::alloc::Global;
 use toml::Table;
 
-/// What the table `policy` of the document says, with the components that it tells; without the
+/// What the table `policy` of the document says, with the components that it lists; without the
 /// table, what holds where nothing is said.
 pub(crate) fn policy_of(
     alloc: Global,

@@ -16,7 +16,7 @@ use sfv_text::{Memory, Text};
 use std::alloc::Global;
 use toml::Table;
 
-/// What the table `sign` of the document says, with the components that it tells; none where it has
+/// What the table `sign` of the document says, with the components that it lists; none where it has
 /// no label or no keyid.
 pub(crate) fn sign_of(
     alloc: Global,

@@ -63,7 +63,7 @@ pub(crate) enum ValueRule {
 pub(crate) struct Row {
     /// Its path in faults.
     pub(crate) path: &'static str,
-    /// The table where it stands.
+    /// The table that has it.
     pub(crate) place: TableName,
     /// Its name in that table.
     pub(crate) key: &'static str,

@@ -16,7 +16,7 @@ use sfv_text::{Memory, Text};
 use std::alloc::Global;
 use toml::Table;
 
-/// The scheme of the document; `https` where it tells none.
+/// The scheme of the document; `https` where it has none.
 pub(crate) fn scheme_in(document: &Table) -> Scheme
     ensures { result ≡ configured_scheme (get_member (codes "scheme") (table_view document.now)) }
 {

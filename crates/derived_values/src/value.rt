@@ -15,7 +15,7 @@ pub(crate) struct TargetUri<'m> {
     pub scheme: &'m [u8],
     pub authority: Authority<'m>,
     pub path: &'m [u8],
-    /// What stands after `?`; None where there is no `?`.
+    /// What comes after `?`; None where there is no `?`.
     pub query: Option<&'m [u8]>,
 }
 
@@ -42,7 +42,7 @@ pub(crate) enum Parts<'m> {
     Scheme(&'m [u8]),
     /// `@authority`.
     Authority(Authority<'m>),
-    /// What stands after `?`: `@query`.
+    /// What comes after `?`: `@query`.
     Query(&'m [u8]),
     /// `@target-uri`.
     TargetUri(TargetUri<'m>),

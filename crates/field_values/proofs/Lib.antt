@@ -1,1 +1,2 @@
+pub mod FoundLines
 mod LineCounts

@@ -7,7 +7,7 @@
 //! same_tag(&hmac.finish(), tag)
 //! ```
 //!
-//! Nothing here takes memory or refuses anything. How long a call takes may tell of the key and of
+//! Nothing here takes memory or refuses anything. How long a call takes may depend on the key and on
 //! the tags.
 #![tactic(auto)]
 

@@ -18,7 +18,7 @@ use std::marker::Model;
 /// 0, and the count stops at 2^64 - 1.
 #[derive(Drop)]
 pub struct MemShelf {
-    // Names and files, the newest first, so the first of a name is the one that stands.
+    // Names and files, the newest first, so the first of a name is the one that counts.
     log: VecDeque<(Text, Text)>,
     alloc: Global,
     calls: Calls,

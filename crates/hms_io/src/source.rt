@@ -10,7 +10,7 @@ use crate::faults::Failed;
 
 /// What gives bytes.
 ///
-/// Its count of faults never falls. It rises where a call answers `Failed` (or stands at its last
+/// Its count of faults never falls. It rises where a call answers `Failed` (or stays at its last
 /// value, 2^64 - 1), and every other answer leaves it as it was. The bytes left may be unknown, as
 /// those of a terminal are, and then only the clauses on counts and lengths say anything.
 pub trait Source {

@@ -2,9 +2,7 @@
 use Rattle.std.specs.Prelude.{ℕ, List, [], ◌∷◌, ◌++◌, codes}
 use Rattle.std.specs.Fmt.{decimal}
 use Rattle.std.specs.Str.{byte}
-use Rattle.component_ids.specs.declared.fault.IdFault.{IdFault}
-use Rattle.component_ids.specs.declared.fault.IdFault.TheVariants.{Memory, TooMany, BadComponent, Repeated, BadParameter}
-use Rattle.component_ids.specs.Reasons.{word_of}
+use Rattle.component_ids.specs.Causes.{id_fault_text}
 use Rattle.derived_values.specs.Words.{lack_word}
 use Rattle.hms_io.specs.declared.status.Status.{Status}
 use Rattle.hms_io.specs.declared.status.Status.TheVariants.{BadArguments, BadInput}
@@ -14,20 +12,11 @@ use Rattle.refusals.specs.declared.refusal.Refusal.TheVariants.{Arguments, Of, C
 use Rattle.refusals.specs.declared.refusal.CommandRefusal.{CommandRefusal}
 use Rattle.refusals.specs.declared.refusal.CommandRefusal.TheVariants.{Syntax, ItemKind, Ids, Lacks}
 
--- the word of a fault of identifiers, with its place; being out of memory is none
-abbrev pub ids_text : IdFault → List ℕ
-ids_text Memory = []
-ids_text TooMany = codes "components-many"
-ids_text (BadComponent index reason) =
-    codes "component-bad " ++ (decimal index ++ byte " " ∷ word_of reason)
-ids_text (Repeated index) = codes "component-repeated " ++ decimal index
-ids_text (BadParameter key) = codes "parameter-bad " ++ key
-
 -- why PARAMS are refused, or which component lacks a value, and how
 abbrev pub command_text : CommandRefusal → List ℕ
 command_text (Syntax offset) = codes "params-syntax " ++ decimal offset
 command_text (ItemKind offset) = codes "params-kind " ++ decimal offset
-command_text (Ids fault) = ids_text fault
+command_text (Ids fault) = id_fault_text fault
 command_text (Lacks lack id) = lack_word lack ++ byte " " ∷ id
 
 -- what is refused, and why

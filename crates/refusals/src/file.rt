@@ -57,7 +57,7 @@ fn fault_status(fault: MessageFault) -> Status
     }
 }
 
-// Adds a path, after a space, where there is one.
+/// Adds a path, after a space, where there is one.
 fn append_path(path: Option<&[u8]>, line: &mut Text) -> Result<(), Memory>
     ensures { OnOk result (line.new ≡ line.old ++ path_text (option_copied path.entry)) }
 {
@@ -67,7 +67,7 @@ fn append_path(path: Option<&[u8]>, line: &mut Text) -> Result<(), Memory>
     }
 }
 
-// Adds why a text is refused, at the end of the line.
+/// Adds why a text is refused, at the end of the line.
 pub fn append_file(alloc: Global, refusal: &FileRefusal, line: &mut Text) -> Result<(), Memory>
     ensures { OnOk result (line.new ≡ line.old ++ file_text refusal.now) }
 {

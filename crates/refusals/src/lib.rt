@@ -9,7 +9,6 @@
 
 mod file;
 mod laws;
-mod line;
 mod refusal;
 mod refusal_text;
 mod role;

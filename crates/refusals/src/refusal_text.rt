@@ -2,12 +2,12 @@
 
 ghost use Rattle.std.specs.Prelude.{◌≡◌, ◌++◌, ◌∷◌, codes, OnOk};
 ghost use Rattle.std.specs.Str.{byte};
+ghost use Rattle.component_ids.specs.Causes.{id_fault_text};
 ghost use Rattle.derived_values.specs.Words.{lack_word};
 ghost use Rattle.refusals.specs.Texts.{role_text};
-ghost use Rattle.refusals.specs.Refusal.{ids_text, command_text, refusal_text};
+ghost use Rattle.refusals.specs.Refusal.{command_text, refusal_text};
 
 use crate::file::append_file;
-use crate::line::append_component;
 use crate::refusal::{CommandRefusal, Refusal};
 use crate::role::Role;
 use component_ids::IdFault;
@@ -23,17 +23,10 @@ fn append_role(alloc: Global, role: Role, line: &mut Text) -> Result<(), Memory>
 }
 
 fn append_ids(alloc: Global, fault: &IdFault, line: &mut Text) -> Result<(), Memory>
-    ensures { OnOk result (line.new ≡ line.old ++ ids_text fault.now) }
+    ensures { OnOk result (line.new ≡ line.old ++ id_fault_text fault.now) }
 {
-    match fault {
-        IdFault::Memory => Ok(()),
-        IdFault::TooMany => line.append(b"components-many"),
-        IdFault::BadComponent(index, reason) => {
-            append_component(alloc, b"component-bad ", *index, *reason, line)
-        }
-        IdFault::Repeated(index) => append_number(alloc, b"component-repeated ", *index, line),
-        IdFault::BadParameter(key) => append_words(b"parameter-bad ", key.bytes(), line),
-    }
+    let text = format!(in alloc; "{fault}")?;
+    line.append(text.as_bytes())
 }
 
 fn append_lack(lack: Lack, id: &Text, line: &mut Text) -> Result<(), Memory>

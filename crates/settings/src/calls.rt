@@ -58,7 +58,7 @@ impl Conf {
         Ok(Conf::new(Scheme::Https, Keys::new(alloc), types, policy, None))
     }
 
-    /// The scheme of requests that don't tell it (RFC 9421 section 2.2.4).
+    /// The scheme of requests that don't name it (RFC 9421 section 2.2.4).
     pub fn scheme(&self) -> Scheme
         ensures { result ≡ (meaning self.now).scheme }
     {

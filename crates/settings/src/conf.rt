@@ -7,7 +7,7 @@ use crate::policy::Policy;
 use crate::sign_conf::SignConf;
 use component_ids::{Scheme, Types};
 
-/// A configuration: what no message tells, and has to be known to verify or to sign one.
+/// A configuration: what no message says, and has to be known to verify or to sign one.
 ///
 /// Its keyids have 1 to `MAX_KEYID_BYTES` printable bytes of ASCII, its keys 1 to `MAX_KEY_BYTES`
 /// bytes. How signatures are judged and messages are signed is valid: `max-age` and twice `skew`

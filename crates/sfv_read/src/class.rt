@@ -7,17 +7,17 @@ use byte_grammar::{ByteClass, Class, is_tchar};
 /// The classes of bytes that structured fields have of their own (RFC 9651 section 3).
 #[derive(Clone, Copy)]
 pub enum SfClass {
-    /// What stands in a String after a backslash alone.
+    /// What a String has after a backslash alone.
     Escapable,
-    /// What stands in a String as it is.
+    /// What a String has as it is.
     Unescaped,
     /// What a key begins with.
     KeyFirst,
-    /// What stands in a key after its first byte.
+    /// What a key has after its first byte.
     KeyRest,
     /// What a Token begins with.
     TokenFirst,
-    /// What stands in a Token after its first byte.
+    /// What a Token has after its first byte.
     TokenRest,
     /// What says which Boolean it is.
     Bit,

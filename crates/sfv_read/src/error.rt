@@ -17,7 +17,7 @@ pub enum SfError {
     Memory,
     /// No text that is read goes on so at this offset.
     Syntax(usize),
-    /// `@` or `%` stands at this offset, where an item or a parameter's value may begin: a Date or
+    /// `@` or `%` is at this offset, where an item or a parameter's value may begin: a Date or
     /// a Display String (RFC 9651 sections 3.3.7 and 3.3.8), which aren't read.
     ItemKind(usize),
 }

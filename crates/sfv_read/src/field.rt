@@ -60,7 +60,7 @@ fn fault_at<F: Field>(alloc: Global, text: &[u8], offset: usize) -> SfError
     }
 }
 
-/// Whether `?1` could stand after the prefix.
+/// Whether `?1` could come after the prefix.
 #[tactic(auto, unfolding(byte_grammar::specs::tools::Walks::whole_read))]
 fn takes_item<F: Field>(alloc: Global, prefix: &[u8]) -> Result<bool, PartError>
     ensures ok { IfOk result (λ b.

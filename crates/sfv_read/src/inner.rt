@@ -60,7 +60,7 @@ fn read_more(alloc: Global, first: Items, bytes: &[u8]) -> Result<(Items, &[u8])
     }
 }
 
-/// Reads spaces and an Item, or the parenthesis. An Item stands after a space alone.
+/// Reads spaces and an Item, or the parenthesis. An Item comes after a space alone.
 #[tactic(auto, unfolding(crate::specs::tools::InnerWalk::next_item_read))]
 fn read_next_item(alloc: Global, bytes: &[u8]) -> Result<(Option<Item>, &[u8]), PartError>
     ensures { GivesUnlessMemory (λ x. (x.0, x.1.now)) result (next_item_read bytes.now) }

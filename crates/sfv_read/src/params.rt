@@ -22,8 +22,8 @@ pub fn read_item_text(alloc: Global, bytes: &[u8]) -> Result<(Item, &[u8]), Part
     Ok((Item { bare, params }, rest))
 }
 
-/// Reads parameters one after the other. A repeated key stands where it first stood and has its
-/// last value.
+/// Reads parameters one after the other. A repeated key keeps its first place and has its last
+/// value.
 pub fn read_parameters(alloc: Global, bytes: &[u8]) -> Result<(Params, &[u8]), PartError>
     ensures { GivesUnlessMemory (λ x. (x.0, x.1.now)) result (parameters_read bytes.now) }
 {

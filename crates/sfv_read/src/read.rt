@@ -46,7 +46,7 @@ pub fn read_list(alloc: Global, text: &[u8]) -> Result<List, SfError>
 }
 
 /// Reads a Dictionary (RFC 9651 section 4.2.2), with spaces at both ends. A text of spaces alone is
-/// the empty Dictionary. A repeated key stands where it first stood and has its last value.
+/// the empty Dictionary. A repeated key keeps its first place and has its last value.
 pub fn read_dict(alloc: Global, text: &[u8]) -> Result<Dict, SfError>
     ensures ok { IfOk result (λ value. ReadsDict text.now value) }
     ensures in_range { IfOk result (λ value. IsTrue (is_dict_in_range value)) }

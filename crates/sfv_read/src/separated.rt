@@ -14,7 +14,7 @@ use std::alloc::Global;
 
 /// What is made of members that are separated by commas.
 pub trait Separated: Drop {
-    /// A member, as it stands in the text.
+    /// A member, as it is in the text.
     type Part: Drop;
 
     // How a member is read, what is made of none, and what of one more.

@@ -111,7 +111,7 @@ impl<V: Drop> Pairs<V> {
         self.pairs.as_slice()
     }
 
-    /// Replaces the value of the key where it stands, or adds the pair at the end. Out of memory,
+    /// Replaces the value of the key in its place, or adds the pair at the end. Out of memory,
     /// the key and the value are dropped.
     #[tactic(auto, using(crate::proofs::PutLaws::none_has, crate::proofs::PutLaws::put_new, crate::proofs::PutLaws::put_found, crate::proofs::PutLaws::put_found_distinct, crate::proofs::PutLaws::put_new_distinct, crate::proofs::IndexLaws::same_places))]
     pub fn put(&mut self, key: Text, value: V) -> Result<(), Memory>

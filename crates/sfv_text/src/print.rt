@@ -218,7 +218,7 @@ fn write_dict_item(item: &Item, text: &mut Text) -> Result<(), Memory>
     }
 }
 
-/// What stands after the key.
+/// What comes after the key.
 fn write_dict_value(value: &Member, text: &mut Text) -> Result<(), Memory>
     ensures { OnOk result (text.new ≡ text.old ++ dict_value_text value.now) }
 {

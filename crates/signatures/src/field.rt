@@ -4,7 +4,7 @@ ghost use Rattle.std.specs.Prelude.{◌≡◌, IfOk};
 ghost use Rattle.msg_body.specs.Views.{message_of};
 ghost use Rattle.signatures.specs.Fields.{IsFieldOf};
 
-use field_values::{combined_text, count_lines};
+use field_values::joined_text;
 use msg_body::MessageView;
 use msg_head::Side;
 use sfv_read::{SfError, read_dict};
@@ -30,10 +30,11 @@ pub(crate) fn read_field(
 ) -> Result<DictField, Memory>
     ensures { IfOk result (IsFieldOf (message_of view.now) name.now) }
 {
-    if count_lines(view, Side::Header, name) == 0 {
+    let lines = view.lines_named(Side::Header, name);
+    if lines.is_empty() {
         return Ok(DictField::Absent);
     }
-    let text = combined_text(alloc, view, Side::Header, name)?;
+    let text = joined_text(alloc, lines)?;
     match read_dict(alloc, text.bytes()) {
         Ok(dict) => Ok(DictField::Dict(dict)),
         Err(SfError::Memory) => Err(Memory),

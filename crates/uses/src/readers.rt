@@ -1,4 +1,4 @@
-// Tests of sfv_read, and of the readers of bytes that it stands on.
+// Tests of sfv_read, and of the readers of bytes below it.
 
 use SfError::{ItemKind, Syntax};
 use byte_grammar::{

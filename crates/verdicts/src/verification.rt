@@ -18,3 +18,23 @@ pub struct Verification<'v, 'a, 'm> {
     /// The nonces that were seen, where they are remembered. The moment of the book is `now`.
     pub seen: Option<&'v NonceBook>,
 }
+
+impl<'v, 'a, 'm> Verification<'v, 'a, 'm> {
+    ghost use Rattle.std.specs.Prelude.{◌≡◌, option_copied};
+    ghost use Rattle.settings.specs.ConfMeaning.{meaning};
+    ghost use Rattle.verdicts.specs.Verification.{model_of, verification_of};
+
+    /// The same for another label.
+    pub fn of_label(&self, label: &'v [u8]) -> Verification<'v, 'a, 'm>
+        ensures { model_of result ≡ verification_of self.now.context.now label.now
+            (meaning self.now.conf.now) self.now.now (option_copied self.now.seen) }
+    {
+        Verification {
+            context: self.context,
+            label,
+            conf: self.conf,
+            now: self.now,
+            seen: self.seen,
+        }
+    }
+}

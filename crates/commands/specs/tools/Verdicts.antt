@@ -11,12 +11,12 @@ use Rattle.commands.specs.Verify.{AreVerdicts, is_accepted, verdict_lines, verdi
 use Rattle.commands.specs.declared.outcome.Outcome.{Outcome}
 
 -- the line of the label's verdict is added, and it is said whether it is accepted
-pub record WritesVerdict (v : Verification) (label before now : List ℕ) (accepted : Bool)
+pub record WritesVerdict (v : Verification) (before now : List ℕ) (accepted : Bool)
     : Type 0 where
   pub verdict : Verdict
   pub is : IsVerdict v verdict
   pub accepted_is : accepted ≡ is_accepted verdict
-  pub added : now ≡ before ++ verdict_line (label, verdict)
+  pub added : now ≡ before ++ verdict_line (v.label, verdict)
 
 -- the lines of these labels are the outcome
 pub record ReportsLabels (conf : Configuration) (moment : ℕ) (context : MessageContext)

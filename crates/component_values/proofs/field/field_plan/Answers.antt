@@ -4,7 +4,7 @@ use Rattle.component_values.specs.Forms.{Form}
 use Rattle.component_values.specs.Values.{FormRow, LineRow}
 use Rattle.component_values.specs.tools.Rows.{PlansRow}
 use Rattle.component_ids.specs.Types.{kind_in}
-use Rattle.component_values.proofs.FoundLines.{none_there, some_there}
+use Rattle.field_values.proofs.FoundLines.{none_there, some_there}
 use Rattle.component_values.proofs.field.field_plan.Goals as goal
 
 pub returns-then-is_empty : goal.returns-then-is_empty
