@@ -1,6 +1,6 @@
 //! The order of field lines by name.
 
-ghost use Rattle.std.specs.Prelude.{◌≡◌, length, map, filter, slice_index, IfOk};
+ghost use Rattle.std.specs.Prelude.{◌≡◌, length, map, filter, IfOk};
 ghost use Rattle.std.specs.List.{range_with_len};
 ghost use Rattle.std.specs.Ordering.{ordering_then, nat_cmp};
 ghost use Rattle.std.specs.Str.{str_to_ascii_lowercase};
@@ -143,7 +143,7 @@ fn is_below(bytes: &[u8], spans: &[LineSpan], name: &[u8], first: u64, entry: In
     }
 }
 
-// Whether the line of the entry, a right one, has the name, whose first bytes are these.
+// Whether the entry's line has the name, whose first bytes are these.
 fn is_named(bytes: &[u8], spans: &[LineSpan], name: &[u8], first: u64, entry: IndexEntry) -> bool
     requires right { IsEntry bytes.now spans.now entry }
     requires first { first ≡ first_bytes (str_to_ascii_lowercase name.now) }
