@@ -1,7 +1,7 @@
 -- Names in lower case by their first eight bytes, as a number, what comes after these, and their length.
-use Rattle.std.proofs.Common.{◌≡◌, ℕ, zero, suc, ◌+◌, ◌-◌, ◌<◌, List, [], ◌∷◌, ◌++◌, length, drop, map, true, sym, ◌∙◌, ap, arith, refl, inl, inr}
+use Rattle.std.proofs.Common.{◌≡◌, ℕ, zero, suc, ◌+◌, ◌*◌, zero-add, ◌-◌, ◌<◌, List, [], ◌∷◌, ◌++◌, length, drop, map, true, sym, ◌∙◌, ap, arith, refl, inl, inr}
 use Rattle.std.specs.Prelude.{slice_index, replicate}
-use Rattle.std.specs.Int.{to_be_bytes, w64}
+use Rattle.std.specs.Int.{to_be_bytes, from_be_bytes, w64}
 use Rattle.std.specs.List.{All, slice_index_or, slice_range, range_with_len}
 use Rattle.std.specs.Char.{to_ascii_lowercase}
 use Rattle.std.specs.Ordering.{is_eq, nat_cmp}
@@ -41,10 +41,10 @@ lowered_at (c ∷ text) zero = refl
 lowered_at (c ∷ text) (suc k) = lowered_at text k
 
 -- texts with the same first eight bytes have the same number
-pub same_first : (one other : List ℕ) → ((k : ℕ) → k < 8 → slice_index one k ≡ slice_index other k) → first_bytes (str_to_ascii_lowercase one) ≡ first_bytes (str_to_ascii_lowercase other)
+pub same_first : (one other : List ℕ) → ((k : ℕ) → k < 16 → slice_index one k ≡ slice_index other k) → first_bytes (str_to_ascii_lowercase one) ≡ first_bytes (str_to_ascii_lowercase other)
 same_first one other same =
-    let at : (k : ℕ) → k < 8 → slice_index (str_to_ascii_lowercase one) k ≡ slice_index (str_to_ascii_lowercase other) k = λ k less. lowered_at one k ∙ ap to_ascii_lowercase (same k less) ∙ sym (lowered_at other k) in
-    rw (at 0 (omega arith), at 1 (omega arith), at 2 (omega arith), at 3 (omega arith), at 4 (omega arith), at 5 (omega arith), at 6 (omega arith), at 7 (omega arith)) refl
+    let at : (k : ℕ) → k < 16 → slice_index (str_to_ascii_lowercase one) k ≡ slice_index (str_to_ascii_lowercase other) k = λ k less. lowered_at one k ∙ ap to_ascii_lowercase (same k less) ∙ sym (lowered_at other k) in
+    rw (at 0 (omega arith), at 1 (omega arith), at 2 (omega arith), at 3 (omega arith), at 4 (omega arith), at 5 (omega arith), at 6 (omega arith), at 7 (omega arith), at 8 (omega arith), at 9 (omega arith), at 10 (omega arith), at 11 (omega arith), at 12 (omega arith), at 13 (omega arith), at 14 (omega arith), at 15 (omega arith)) refl
 
 -- zeros after a text are as good as its end
 pub zeros_after : (text zeros : List ℕ) → ((k : ℕ) → slice_index zeros k ≡ 0) → (k : ℕ) → slice_index (text ++ zeros) k ≡ slice_index text k
@@ -57,37 +57,56 @@ zero_at zero k = refl
 zero_at (suc n) zero = refl
 zero_at (suc n) (suc k) = zero_at n k
 
-pub zeros_rest : (n k : ℕ) → slice_index (drop n (replicate 8 0)) k ≡ 0
-zeros_rest n k = get_or-drop n (replicate 8 0) k 0 ∙ zero_at 8 (n + k)
+pub zeros_rest : (n k : ℕ) → slice_index (drop n (replicate 16 0)) k ≡ 0
+zeros_rest n k = get_or-drop n (replicate 16 0) k 0 ∙ zero_at 16 (n + k)
 
--- the first eight bytes, 0 for each that is missing
-abbrev first_eight : List ℕ → List ℕ
-first_eight text = map (slice_index text) (range_with_len 0 8)
+-- the eight bytes from that one on, 0 for each that is missing
+abbrev eight_from : ℕ → List ℕ → List ℕ
+eight_from n text = map (slice_index text) (range_with_len n 8)
 
-eight_bytes : (text : List ℕ) → AreBytes text → AreBytes (first_eight text)
-eight_bytes text are = at_each (first_eight text) (All-map (λ c. c < 256) (slice_index text) (range_with_len 0 8) (λ k d less. are (slice_index_or (range_with_len 0 8) k d)))
+eight_bytes : (n : ℕ) (text : List ℕ) → AreBytes text → AreBytes (eight_from n text)
+eight_bytes n text are = at_each (eight_from n text) (All-map (λ c. c < 256) (slice_index text) (range_with_len n 8) (λ k d less. are (slice_index_or (range_with_len n 8) k d)))
 
-eight_of : (text : List ℕ) → AreBytes text → to_be_bytes w64 (first_bytes text) ≡ first_eight text
-eight_of text are = be_bytes_8 (first_eight text) (first_bytes text) refl (eight_bytes text are) refl
+eight_of : (n : ℕ) (text : List ℕ) → AreBytes text → to_be_bytes w64 (from_be_bytes w64 (eight_from n text)) ≡ eight_from n text
+eight_of n text are = be_bytes_8 (eight_from n text) (from_be_bytes w64 (eight_from n text)) refl (eight_bytes n text are) refl
 
-same_eight : (one other : List ℕ) → AreBytes one → AreBytes other → first_bytes one ≡ first_bytes other → first_eight one ≡ first_eight other
-same_eight one other are too same = sym (eight_of one are) ∙ ap (to_be_bytes w64) same ∙ eight_of other too
+number_of : (text : List ℕ) → AreBytes text → from_be_bytes w64 text < 18446744073709551616
+number_of text are = omega (arith, are 0, are 1, are 2, are 3, are 4, are 5, are 6, are 7)
 
-eight_at : (text : List ℕ) (k : ℕ) → k < 8 → slice_index (first_eight text) k ≡ slice_index text k
-eight_at text k less = get_or-map-range_with_len (slice_index text) 0 8 k k 0 less (omega arith)
+-- eight bytes and eight bytes
+two_numbers : (text : List ℕ) → first_bytes text ≡ from_be_bytes w64 (eight_from 0 text) * 18446744073709551616 + from_be_bytes w64 (eight_from 8 text)
+two_numbers text = omega arith
 
-same_at : (one other : List ℕ) → first_eight one ≡ first_eight other → after_first one ≡ after_first other → (k : ℕ) → slice_index one k ≡ slice_index other k
-same_at one other first rest k = elim (cases_lt k 8) [
-  | inl less ↦ sym (eight_at one k less) ∙ ap (λ t. slice_index t k) first ∙ eight_at other k less
-  | inr more ↦
-      let far : k ≡ 8 + (k - 8) = omega (arith, more) in
-      rw far (sym (get_or-drop 8 one (k - 8) 0) ∙ ap (λ t. slice_index t (k - 8)) rest ∙ get_or-drop 8 other (k - 8) 0)
+halves : (a b c d : ℕ) → b < 18446744073709551616 → d < 18446744073709551616 → a * 18446744073709551616 + b ≡ c * 18446744073709551616 + d → (a ≡ c) × (b ≡ d)
+halves a b c d small low e = (omega (arith, small, low, e), omega (arith, small, low, e))
+
+same_eight : (n : ℕ) (one other : List ℕ) → AreBytes one → AreBytes other → from_be_bytes w64 (eight_from n one) ≡ from_be_bytes w64 (eight_from n other) → eight_from n one ≡ eight_from n other
+same_eight n one other are too same = sym (eight_of n one are) ∙ ap (to_be_bytes w64) same ∙ eight_of n other too
+
+eight_at : (n : ℕ) (text : List ℕ) (k : ℕ) → k < 8 → slice_index (eight_from n text) k ≡ slice_index text (n + k)
+eight_at n text k less = get_or-map-range_with_len (slice_index text) n 8 k (n + k) 0 less (omega arith)
+
+same_in : (n : ℕ) (one other : List ℕ) → eight_from n one ≡ eight_from n other → (k : ℕ) → k < 8 → slice_index one (n + k) ≡ slice_index other (n + k)
+same_in n one other same k less = sym (eight_at n one k less) ∙ ap (λ t. slice_index t k) same ∙ eight_at n other k less
+
+same_at : (one other : List ℕ) → eight_from 0 one ≡ eight_from 0 other → eight_from 8 one ≡ eight_from 8 other → after_first one ≡ after_first other → (k : ℕ) → slice_index one k ≡ slice_index other k
+same_at one other first second rest k = elim (cases_lt k 8) [
+  | inl less ↦ rw (sym (zero-add k)) (same_in 0 one other first k less)
+  | inr more ↦ elim (cases_lt k 16) [
+    | inl less ↦
+        let near : k ≡ 8 + (k - 8) = omega (arith, more) in
+        rw near (same_in 8 one other second (k - 8) (omega (arith, less, more)))
+    | inr far ↦
+        let past : k ≡ 16 + (k - 16) = omega (arith, far) in
+        rw past (sym (get_or-drop 16 one (k - 16) 0) ∙ ap (λ t. slice_index t (k - 16)) rest ∙ get_or-drop 16 other (k - 16) 0)
+  ]
 ]
 
 -- the first bytes as a number, the others and the length decide a name
 pub same_text : (one other : List ℕ) → AreBytes one → AreBytes other → first_bytes one ≡ first_bytes other → after_first one ≡ after_first other → length one ≡ length other → one ≡ other
 same_text one other are too first rest long =
-    same_number_lists one other long (λ k less. same_at one other (same_eight one other are too first) rest k)
+    let parts = halves _ _ _ _ (number_of (eight_from 8 one) (eight_bytes 8 one are)) (number_of (eight_from 8 other) (eight_bytes 8 other too)) (sym (two_numbers one) ∙ first ∙ two_numbers other) in
+    same_number_lists one other long (λ k less. same_at one other (same_eight 0 one other are too parts.0) (same_eight 8 one other are too parts.1) rest k)
 
 -- numbers of which none is less are the same
 pub same_number : (one other : ℕ) → is_eq (nat_cmp one other) ≡ true → one ≡ other

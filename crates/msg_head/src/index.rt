@@ -1,6 +1,6 @@
 //! The order of field lines by name.
 
-ghost use Rattle.std.specs.Prelude.{◌≡◌, length, map, filter, slice_index, IfOk};
+ghost use Rattle.std.specs.Prelude.{◌≡◌, length, map, filter, IfOk};
 ghost use Rattle.std.specs.List.{range_with_len};
 ghost use Rattle.std.specs.Ordering.{ordering_then, nat_cmp};
 ghost use Rattle.std.specs.Str.{str_to_ascii_lowercase};
@@ -15,30 +15,30 @@ use std::cmp::Ordering;
 /// What the index has of a field line. The first bytes of the name decide most comparisons.
 #[derive(Clone, Copy, Debug)]
 pub(crate) struct IndexEntry {
-    /// The first eight bytes of the name in lower case, as a number.
-    first_bytes: u64,
+    /// The first sixteen bytes of the name in lower case, as a number.
+    first_bytes: u128,
     /// The index of the line among the field lines.
     pub(crate) line: usize,
 }
 
-// The first eight bytes of the name in lower case as a number, NUL for each that is missing.
-fn first_bytes(name: &[u8]) -> u64
+// The first sixteen bytes of the name in lower case as a number, NUL for each that is missing.
+fn first_bytes(name: &[u8]) -> u128
     ensures { result ≡ first_bytes (str_to_ascii_lowercase name.now) }
 {
-    let mut bytes = [b'\0'; 8];
+    let mut bytes = [b'\0'; 16];
     match name.first_chunk() {
         Some(first) => bytes = *first,
         None => bytes[..name.len()].copy_from_slice(name),
     }
     bytes.make_ascii_lowercase();
-    u64::from_be_bytes(bytes)
+    u128::from_be_bytes(bytes)
 }
 
-// What comes after the first eight bytes of the name.
+// What comes after the first sixteen bytes of the name.
 fn after_first(name: &[u8]) -> &[u8]
     ensures { result.now ≡ after_first name.now }
 {
-    match name.split_at_checked(8) {
+    match name.split_at_checked(16) {
         Some((_, rest)) => rest,
         None => &[],
     }
@@ -130,7 +130,7 @@ pub(crate) fn index_of(
 }
 
 // Whether the name of the entry's line comes before the name, whose first bytes are these.
-fn is_below(bytes: &[u8], spans: &[LineSpan], name: &[u8], first: u64, entry: IndexEntry) -> bool
+fn is_below(bytes: &[u8], spans: &[LineSpan], name: &[u8], first: u128, entry: IndexEntry) -> bool
     ensures { result
         ≡ is_below bytes.now spans.now (first, str_to_ascii_lowercase name.now) entry }
 {
@@ -143,8 +143,8 @@ fn is_below(bytes: &[u8], spans: &[LineSpan], name: &[u8], first: u64, entry: In
     }
 }
 
-// Whether the line of the entry, a right one, has the name, whose first bytes are these.
-fn is_named(bytes: &[u8], spans: &[LineSpan], name: &[u8], first: u64, entry: IndexEntry) -> bool
+// Whether the entry's line has the name, whose first bytes are these.
+fn is_named(bytes: &[u8], spans: &[LineSpan], name: &[u8], first: u128, entry: IndexEntry) -> bool
     requires right { IsEntry bytes.now spans.now entry }
     requires first { first ≡ first_bytes (str_to_ascii_lowercase name.now) }
     ensures { result ≡ is_named bytes.now spans.now name.now entry }
@@ -158,7 +158,7 @@ fn rest_from_name<'h>(
     spans: &[LineSpan],
     index: &'h [IndexEntry],
     name: &[u8],
-    first: u64,
+    first: u128,
 ) -> &'h [IndexEntry]
     requires right { IsIndexOf bytes.now spans.now index.now }
     requires first { first ≡ first_bytes (str_to_ascii_lowercase name.now) }

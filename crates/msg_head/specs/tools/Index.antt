@@ -1,6 +1,6 @@
 -- Field lines in order of their names. No public clause cites this module.
 use Rattle.std.specs.Prelude.{◌≡◌, ℕ, Bool, IsTrue, IsFalse, List, length, drop, filter, map, nat_lt}
-use Rattle.std.specs.Int.{from_be_bytes, w64}
+use Rattle.std.specs.Int.{from_be_bytes, w128}
 use Rattle.std.specs.List.{All, list_all, range_with_len, slice_index_or}
 use Rattle.std.specs.List.Sorted.{IsPermutation, IsSortedBy}
 use Rattle.std.specs.Cmp.Lexicographic.{slice_cmp}
@@ -25,19 +25,19 @@ line_by bytes spans index = line_at bytes (slice_index_or spans index no_span)
 abbrev pub lowered_name : List ℕ → List LineSpan → ℕ → List ℕ
 lowered_name bytes spans index = str_to_ascii_lowercase (line_by bytes spans index).name
 
--- the number that the first eight bytes are, 0 for each that is missing
+-- the number that the first sixteen bytes are, 0 for each that is missing
 abbrev pub first_bytes : List ℕ → ℕ
-first_bytes text = from_be_bytes w64 text
+first_bytes text = from_be_bytes w128 text
 
--- what comes after the first eight bytes
+-- what comes after the first sixteen bytes
 abbrev pub after_first : List ℕ → List ℕ
-after_first text = drop 8 text
+after_first text = drop 16 text
 
 -- how two texts in lower case are ordered: by the first bytes that differ
 abbrev pub text_cmp : List ℕ → List ℕ → Ordering
 text_cmp = slice_cmp nat_cmp
 
--- how two names in lower case are ordered of which the first eight bytes are the same: by what
+-- how two names in lower case are ordered of which the first sixteen bytes are the same: by what
 -- comes after them, and then by length
 abbrev pub name_cmp : List ℕ → List ℕ → Ordering
 name_cmp one other = ordering_then (text_cmp (after_first one) (after_first other))

@@ -7,4 +7,4 @@ pub returns : goal.returns
 returns c =
     let one = c.args.one.now in
     let other = c.args.other.now in
-    rw (length-map one to_ascii_lowercase, length-map other to_ascii_lowercase, drop-map to_ascii_lowercase 8 one, drop-map to_ascii_lowercase 8 other) (search rules)
+    rw (length-map one to_ascii_lowercase, length-map other to_ascii_lowercase, drop-map to_ascii_lowercase 16 one, drop-map to_ascii_lowercase 16 other) (search rules)

@@ -1,6 +1,6 @@
 use Rattle.std.proofs.Common.{◌++◌, ap, ◌∙◌, drop, length}
 use Rattle.std.specs.Prelude.{slice_index, replicate}
-use Rattle.std.specs.Int.{from_be_bytes, w64}
+use Rattle.std.specs.Int.{from_be_bytes, w128}
 use Rattle.std.proofs.lemmas.List.{get_or-take}
 use Rattle.msg_head.proofs.FirstBytes.{same_first, zeros_after, zeros_rest}
 use Rattle.msg_head.proofs.index.first_bytes.Goals.{in-Some, in-None}
@@ -11,8 +11,8 @@ returns c =
     let name = c.args.name.now in
     let bytes = c.match-first_chunk.bytes in
     c.from_be_bytes.ensures
-    ∙ ap (from_be_bytes w64) c.make_ascii_lowercase.ensures.after
+    ∙ ap (from_be_bytes w128) c.make_ascii_lowercase.ensures.after
     ∙ elim c.match-first_chunk.branch [
-      | in-Some w ↦ same_first bytes name (λ k less. ap (λ t. slice_index t k) (w.bytes-is ∙ w.in-Some.ensures.cases.same) ∙ get_or-take 8 name k 0 less)
-      | in-None w ↦ same_first bytes name (λ k less. ap (λ t. slice_index t k) (w.bytes-is ∙ ap (λ t. t ++ drop (length name) (replicate 8 0)) w.copy_from_slice.ensures.after) ∙ zeros_after name (drop (length name) (replicate 8 0)) (zeros_rest (length name)) k)
+      | in-Some w ↦ same_first bytes name (λ k less. ap (λ t. slice_index t k) (w.bytes-is ∙ w.in-Some.ensures.cases.same) ∙ get_or-take 16 name k 0 less)
+      | in-None w ↦ same_first bytes name (λ k less. ap (λ t. slice_index t k) (w.bytes-is ∙ ap (λ t. t ++ drop (length name) (replicate 16 0)) w.copy_from_slice.ensures.after) ∙ zeros_after name (drop (length name) (replicate 16 0)) (zeros_rest (length name)) k)
     ]
