@@ -3,6 +3,7 @@ pub mod Reasons
 pub mod Identifiers
 pub mod Sameness
 pub mod SignatureParams
+pub mod Printed
 pub mod Causes
 pub mod Laws
 pub mod Types

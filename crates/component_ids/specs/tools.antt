@@ -1,3 +1,4 @@
 pub mod Kinds
 pub mod Reads
 pub mod Rows
+pub mod Spans

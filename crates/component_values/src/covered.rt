@@ -1,9 +1,7 @@
 //! The values of the components that a signature covers.
 
 ghost use Rattle.std.specs.Prelude.{◌≡◌, ◌≢◌, ℕ, map, length, IsTrue, IfOk, IfErr};
-ghost use Rattle.std.specs.List.{list_all};
 ghost use Rattle.byte_grammar.specs.Causes.{AnswersWhere};
-ghost use Rattle.component_ids.specs.Identifiers.{id_text, is_id_in_range};
 ghost use Rattle.component_ids.specs.SignatureParams.{are_sig_params_in_range};
 ghost use Rattle.derived_values.specs.declared.lack.Lack.{Lack};
 ghost use Rattle.component_values.specs.Context.{context_of};
@@ -17,8 +15,8 @@ use crate::fault::{ValueFault, lack_fault};
 use crate::field::component_plan;
 use crate::plan::Plan;
 use crate::prepared::Prepared;
-use component_ids::{ComponentId, SigParams, print_id, print_params};
-use sfv_text::{Memory, Sequence, Text};
+use component_ids::{ComponentId, ParamsText, SigParams};
+use sfv_text::Sequence;
 use std::alloc::Global;
 
 /// How the value of each component is fed, or the first that lacks one.
@@ -42,18 +40,6 @@ fn plans_of<'a, 'm>(
     Ok(plans)
 }
 
-/// The strict text of each identifier.
-fn id_texts(alloc: Global, ids: &[ComponentId]) -> Result<Sequence<Text>, Memory>
-    requires { IsTrue (list_all is_id_in_range ids.now) }
-    ensures { IfOk result (λ texts. texts ≡ map id_text ids.now) }
-{
-    let mut texts = Sequence::new(alloc);
-    for id in ids {
-        texts.push(print_id(alloc, id)?)?;
-    }
-    Ok(texts)
-}
-
 /// The components that the signature parameters cover, or the first that lacks a value.
 #[tactic(auto, using(crate::proofs::FirstLacks::kept_count))]
 fn prepare_components<'a, 'm>(
@@ -65,13 +51,11 @@ fn prepare_components<'a, 'm>(
     ensures { ExplainsPrepared (context_of context.now) params.now result }
 {
     let plans = plans_of(alloc, context, params.ids.as_slice())?;
-    let id_texts = id_texts(alloc, params.ids.as_slice())?;
-    let params_text = print_params(alloc, params)?;
+    let text = ParamsText::of(alloc, params)?;
     Ok(Prepared {
         params,
         plans,
-        id_texts,
-        params_text,
+        text,
     })
 }
 

@@ -5,18 +5,17 @@ ghost use Rattle.component_ids.specs.Identifiers.{id_text};
 ghost use Rattle.component_ids.specs.SignatureParams.{sig_params_text};
 
 use crate::plan::Plan;
-use component_ids::SigParams;
-use sfv_text::{Absorb, Sequence, Text};
+use component_ids::{ParamsText, SigParams};
+use sfv_text::{Absorb, Sequence};
 use std::marker::Model;
 
-/// The components that signature parameters cover, each with its value, and the texts by which they
-/// stand in a signature base. A contract sees the signature parameters and the values.
+/// The components that signature parameters cover, each with its value, and the text of the
+/// signature parameters. A contract sees the signature parameters and the values.
 #[derive(Drop)]
 pub struct Prepared<'a, 'm> {
     pub(crate) params: &'a SigParams,
     pub(crate) plans: Sequence<Plan<'a, 'm>>,
-    pub(crate) id_texts: Sequence<Text>,
-    pub(crate) params_text: Text,
+    pub(crate) text: ParamsText,
 }
 
 impl<'a, 'm> Model for Prepared<'a, 'm> {
@@ -33,8 +32,8 @@ impl<'a, 'm> Model for Prepared<'a, 'm> {
       values = map planned_text p.plans;
     } };
 
-    ghost invariant = { λ p. (p.id_texts ≡ map id_text p.params.now.ids)
-        × (p.params_text ≡ sig_params_text p.params.now)
+    ghost invariant = { λ p. (p.text.ids ≡ map id_text p.params.now.ids)
+        × (p.text.whole ≡ sig_params_text p.params.now)
         × (length p.plans ≡ length p.params.now.ids) };
 }
 
@@ -59,14 +58,14 @@ impl<'a, 'm> Prepared<'a, 'm> {
         requires { index < length self.now.params.ids }
         ensures { option_map id_text (slice_get self.now.params.ids index) ≡ Some result.now }
     {
-        self.id_texts.get(index).bytes()
+        self.text.id_text(index)
     }
 
     /// The strict text of the signature parameters (RFC 9421 section 2.3).
     pub fn params_text(&self) -> &[u8]
         ensures { result.now ≡ sig_params_text self.now.params }
     {
-        self.params_text.bytes()
+        self.text.text()
     }
 
     /// Feeds the component's value.
