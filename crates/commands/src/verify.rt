@@ -106,12 +106,12 @@ fn asked_labels(
 /// The lines of the verdicts on the labels that are asked for: on the given one, whether or not the
 /// message has it, or else on each that the message has, and on `-` where it has none. The moment
 /// is in seconds since the epoch. No nonce is remembered.
-pub fn write_verdicts(
+pub fn write_verdicts<'x>(
     alloc: Global,
-    conf: &Conf,
+    conf: &'x Conf,
     now: u64,
     label: Option<&str>,
-    context: &Context<'_, '_>,
+    context: &'x Context<'_, '_>,
 ) -> Result<Outcome, Memory>
     requires { now ≤ MAX_MOMENT }
     ensures { IfOk result (ReportsVerdicts (option_map (λ word. word.now) label.entry)
