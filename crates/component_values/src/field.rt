@@ -18,7 +18,7 @@ use crate::plan::Plan;
 use crate::strict::{member_value, strict_value};
 use component_ids::{ComponentId, Types, has_param, is_field_name};
 use derived_values::{Lack, NoValue, derived_value};
-use field_values::joined_text;
+use field_values::joined_value;
 use framing::is_request;
 use msg_body::MessageView;
 use msg_head::{NamedFieldLines, Side};
@@ -51,13 +51,13 @@ fn plan_in_form<'a, 'm>(
     match form {
         Form::ByteSequences => Ok(Plan::ByteSequences(found)),
         Form::Member(key) => {
-            let text = joined_text(alloc, found)?;
-            let member = member_value(alloc, types.kind_of(name), key, text.bytes())?;
+            let value = joined_value(alloc, found)?;
+            let member = member_value(alloc, types.kind_of(name), key, value.bytes())?;
             Ok(Plan::Text(member))
         }
         Form::Strict => {
-            let text = joined_text(alloc, found)?;
-            let strict = strict_value(alloc, types.kind_of(name), text.bytes())?;
+            let value = joined_value(alloc, found)?;
+            let strict = strict_value(alloc, types.kind_of(name), value.bytes())?;
             Ok(Plan::Text(strict))
         }
         Form::Plain => plain_plan(found),

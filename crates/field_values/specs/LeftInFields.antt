@@ -1,9 +1,9 @@
 -- What an iterator over the pieces of a combined value has left.
-use Rattle.std.specs.Prelude.{ℕ, ◌+◌, ◌*◌, List, [], ◌∷◌, ◌++◌, if◌then◌else◌, length, codes}
+use Rattle.std.specs.Prelude.{ℕ, ◌+◌, ◌*◌, List, [], ◌∷◌, ◌++◌, length, codes}
 use Rattle.std.specs.List.{flat_map}
 use Rattle.msg_head.specs.Lines.{FieldLine}
 use Rattle.field_values.specs.declared.combined.Combined.{Combined}
-use Rattle.msg_head.specs.Values.{line_values, joined_value}
+use Rattle.msg_head.specs.Values.{line_values}
 use Rattle.msg_head.specs.LeftInLines.{value_left, pieces_bound}
 
 -- a comma, a space and the value
@@ -13,10 +13,7 @@ after_comma text = codes ", " ++ text
 -- the combined value's bytes that are left
 abbrev pub combined_left : Combined → List ℕ
 combined_left combined =
-    value_left combined.current ++
-    (if combined.is_started
-    then flat_map after_comma (line_values combined.lines)
-    else joined_value combined.lines)
+    value_left combined.current ++ flat_map after_comma (line_values combined.lines)
 
 -- no more pieces come of these lines than this, the commas before them included
 abbrev pub lines_bound : List FieldLine → ℕ

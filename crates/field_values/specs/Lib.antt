@@ -1,2 +1,3 @@
+pub mod FieldValues
 pub mod LeftInFields
 pub use Rattle.msg_head.specs.Values

@@ -5,12 +5,10 @@ use msg_head::{NamedFieldLines, Pieces};
 /// The pieces of a field's combined value that are left.
 #[derive(Debug, Drop)]
 pub struct Combined<'a, 'm> {
-    // The lines of the name after the current one.
-    lines: NamedFieldLines<'a, 'm>,
-    // The current line's value.
+    // What is left of the current line's value.
     current: Pieces<'m>,
-    // Whether a line of the name has come.
-    is_started: bool,
+    // The lines after the current one.
+    lines: NamedFieldLines<'a, 'm>,
 }
 
 impl<'a, 'm> Iterator for Combined<'a, 'm> {
@@ -30,11 +28,7 @@ impl<'a, 'm> Iterator for Combined<'a, 'm> {
         }
         let line = self.lines.next()?;
         self.current = line.value_pieces();
-        if self.is_started {
-            return Some(b", ");
-        }
-        self.is_started = true;
-        Some(&[])
+        Some(b", ")
     }
 }
 
@@ -47,10 +41,14 @@ impl<'a, 'm> Combined<'a, 'm> {
     pub(crate) fn new(lines: NamedFieldLines<'a, 'm>) -> Combined<'a, 'm>
         ensures { combined_left result ≡ joined_value lines.entry }
     {
+        let mut others = lines;
+        let current = match others.next() {
+            Some(line) => line.value_pieces(),
+            None => Pieces::empty(),
+        };
         Combined {
-            lines,
-            current: Pieces::empty(),
-            is_started: false,
+            current,
+            lines: others,
         }
     }
 }

@@ -1,6 +1,7 @@
 //! Values of fields, as borrowed pieces (RFC 9421 section 2.1).
 //!
-//! The values of a field's lines are joined by a comma and a space. No call takes memory or fails.
+//! The values of a field's lines are joined by a comma and a space. Only a text or a joined value that
+//! is in several pieces takes memory.
 //!
 //! ```text
 //! // A line `X: a\r\n  b ` and a line `x: c`
@@ -13,8 +14,10 @@ mod combined;
 mod field;
 mod lines;
 mod text;
+mod value;
 
 pub use combined::Combined;
 pub use field::{combined_pieces, joined_pieces, line_pieces};
 pub use lines::count_lines;
-pub use text::{combined_text, joined_text};
+pub use text::combined_text;
+pub use value::{FieldValue, joined_value};

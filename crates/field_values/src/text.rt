@@ -2,24 +2,13 @@
 
 ghost use Rattle.std.specs.Prelude.{◌≡◌, IfOk};
 ghost use Rattle.msg_body.specs.Views.{message_of, lines_on};
-ghost use Rattle.msg_head.specs.Values.{combined_value, joined_value};
+ghost use Rattle.msg_head.specs.Values.{combined_value};
 
-use crate::field::joined_pieces;
+use crate::field::combined_pieces;
 use msg_body::MessageView;
-use msg_head::{NamedFieldLines, Side};
+use msg_head::Side;
 use sfv_text::{Memory, Text};
 use std::alloc::Global;
-
-/// The values of these lines, joined by a comma and a space.
-pub fn joined_text(alloc: Global, lines: NamedFieldLines<'_, '_>) -> Result<Text, Memory>
-    ensures { IfOk result (λ text. text ≡ joined_value lines.entry) }
-{
-    let mut text = Text::new(alloc);
-    for piece in joined_pieces(lines) {
-        text.append(piece)?;
-    }
-    Ok(text)
-}
 
 /// The combined value of the side's lines that have the name, which is in lower case (RFC 9421
 /// section 2.1).
@@ -32,5 +21,9 @@ pub fn combined_text(
     ensures { IfOk result (λ text. text
         ≡ combined_value (lines_on side (message_of message.now)) name.now) }
 {
-    joined_text(alloc, message.lines_named(side, name))
+    let mut text = Text::new(alloc);
+    for piece in combined_pieces(message, side, name) {
+        text.append(piece)?;
+    }
+    Ok(text)
 }

@@ -4,7 +4,7 @@ ghost use Rattle.std.specs.Prelude.{◌≡◌, IfOk};
 ghost use Rattle.msg_body.specs.Views.{message_of};
 ghost use Rattle.signatures.specs.Fields.{IsFieldOf};
 
-use field_values::joined_text;
+use field_values::joined_value;
 use msg_body::MessageView;
 use msg_head::Side;
 use sfv_read::{SfError, read_dict};
@@ -34,8 +34,8 @@ pub(crate) fn read_field(
     if lines.is_empty() {
         return Ok(DictField::Absent);
     }
-    let text = joined_text(alloc, lines)?;
-    match read_dict(alloc, text.bytes()) {
+    let value = joined_value(alloc, lines)?;
+    match read_dict(alloc, value.bytes()) {
         Ok(dict) => Ok(DictField::Dict(dict)),
         Err(SfError::Memory) => Err(Memory),
         Err(SfError::Syntax(_)) => Ok(DictField::Malformed),

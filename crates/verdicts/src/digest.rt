@@ -10,7 +10,7 @@ ghost use Rattle.verdicts.specs.tools.Judged.{digest_label_fault, FailsByField, 
 
 use component_ids::{ComponentId, SigParams};
 use content_digest::{DigestFault, check_digest};
-use field_values::combined_text;
+use field_values::joined_value;
 use msg_body::MessageView;
 use msg_head::Side;
 use settings::DigestUse;
@@ -72,8 +72,9 @@ fn judge_field(alloc: Global, message: &MessageView<'_>) -> Result<(), LabelFaul
     ensures { Explains (λ _. DigestHolds (digest_text (message_of message.now))
         (message_content (message_of message.now))) (FailsByField (message_of message.now)) result }
 {
-    let text = combined_text(alloc, message, Side::Header, b"content-digest")?;
-    match check_digest(alloc, text.bytes(), message) {
+    let lines = message.lines_named(Side::Header, b"content-digest");
+    let value = joined_value(alloc, lines)?;
+    match check_digest(alloc, value.bytes(), message) {
         Ok(()) => Ok(()),
         Err(fault) => Err(fault_of_digest(fault)),
     }

@@ -1,18 +1,37 @@
-use Rattle.std.proofs.Common.{◌≡◌, true, ◌∙◌}
+use Rattle.std.proofs.Common.{◌≡◌, ℕ, List, true, sym, ap, subst, ◌∙◌}
+use Rattle.std.proofs.lemmas.Bool.{false≢true}
+use Rattle.sfv_read.specs.Reads.{ReadsDict}
 use Rattle.msg_head.specs.declared.error.Side.TheVariants.{Header}
 use Rattle.msg_body.specs.Views.{message_of, lines_on}
-use Rattle.msg_head.specs.Values.{is_there}
-use Rattle.signatures.proofs.Reading.{positive, unread_field}
+use Rattle.msg_head.specs.Values.{is_there, joined_value, combined_value}
+use Rattle.field_values.proofs.FoundLines.{none_there, some_there}
+use Rattle.signatures.proofs.Reading.{unread_field}
 use Rattle.signatures.proofs.field.read_field.Goals as goal
+
+pub returns-then-is_empty : goal.returns-then-is_empty
+returns-then-is_empty c = λ has.
+    let message = message_of c.args.view.now in
+    let none = none_there (lines_on Header message) c.lines_named-lines.result c.args.name.now c.lines_named-lines.ensures (sym c.is_empty.ensures ∙ c.if-is_empty.true) in
+    false≢true (sym none ∙ has)
+
+pub returns-in-Ok : goal.returns-in-Ok
+returns-in-Ok c =
+    let message = message_of c.args.view.now in
+    let there = some_there (lines_on Header message) c.lines_named-lines.result c.args.name.now c.lines_named-lines.ensures (sym c.is_empty.ensures ∙ c.if-is_empty.false) in
+    let text_is : c.bytes.result.now ≡ combined_value (lines_on Header message) c.args.name.now =
+    c.bytes.ensures ∙ (c.in_ok-value.ensures ∙ ap joined_value c.lines_named-lines.ensures) in
+    record { there = there; reads = subst (λ (t : List ℕ). ReadsDict t c.in-Ok.dict) text_is c.in-Ok.ensures.ok }
 
 pub returns-in-Err-Syntax : goal.returns-in-Err-Syntax
 returns-in-Err-Syntax c =
     let message = message_of c.args.view.now in
-    let there : is_there (lines_on Header message) c.args.name.now ≡ true = c.count_lines.ensures.there ∙ positive c.count_lines.result c.if-count_lines-eq0.false in
-    unread_field message c.args.name.now c.bytes.result.now there (c.bytes.ensures ∙ c.in_ok-text.ensures) (rw c.in-Err-Syntax.field-0-is at c.in-Err-Syntax.ensures.only)
+    let there : is_there (lines_on Header message) c.args.name.now ≡ true =
+    some_there (lines_on Header message) c.lines_named-lines.result c.args.name.now c.lines_named-lines.ensures (sym c.is_empty.ensures ∙ c.if-is_empty.false) in
+    unread_field message c.args.name.now c.bytes.result.now there (c.bytes.ensures ∙ (c.in_ok-value.ensures ∙ ap joined_value c.lines_named-lines.ensures)) (rw c.in-Err-Syntax.field-0-is at c.in-Err-Syntax.ensures.only)
 
 pub returns : goal.returns
 returns c =
     let message = message_of c.args.view.now in
-    let there : is_there (lines_on Header message) c.args.name.now ≡ true = c.count_lines.ensures.there ∙ positive c.count_lines.result c.if-count_lines-eq0.false in
-    unread_field message c.args.name.now c.bytes.result.now there (c.bytes.ensures ∙ c.in_ok-text.ensures) (rw c.in-Err-ItemKind.field-0-is at c.in-Err-ItemKind.ensures.only)
+    let there : is_there (lines_on Header message) c.args.name.now ≡ true =
+    some_there (lines_on Header message) c.lines_named-lines.result c.args.name.now c.lines_named-lines.ensures (sym c.is_empty.ensures ∙ c.if-is_empty.false) in
+    unread_field message c.args.name.now c.bytes.result.now there (c.bytes.ensures ∙ (c.in_ok-value.ensures ∙ ap joined_value c.lines_named-lines.ensures)) (rw c.in-Err-ItemKind.field-0-is at c.in-Err-ItemKind.ensures.only)
