@@ -52,12 +52,12 @@ fn write_lines<'x, L: Ledger>(
     blank: Blank,
 ) -> Result<Outcome, Memory>
     requires fields { AreFieldsOf (model_of first.now).context.message fields.now }
-    requires now { first.now.now ≤ MAX_MOMENT }
+    requires now { (model_of first.now).now ≤ MAX_MOMENT }
     requires seen { (model_of first.now).seen ≡ None }
     requires name { blank.name ≡ L.name }
     requires parts { blank.parts ≡ L.parts }
     requires some { 0 < blank.parts }
-    ensures { IfOk result (ReportsLabels (model_of first.now).conf first.now.now
+    ensures { IfOk result (ReportsLabels (model_of first.now).conf (model_of first.now).now
         (model_of first.now).context labels.now) }
 {
     let mut steps: Steps<L> = Steps::new(blank);

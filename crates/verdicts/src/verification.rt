@@ -20,14 +20,18 @@ pub struct Verification<'v, 'a, 'm> {
 }
 
 impl<'v, 'a, 'm> Verification<'v, 'a, 'm> {
-    ghost use Rattle.std.specs.Prelude.{◌≡◌, option_copied};
-    ghost use Rattle.settings.specs.ConfMeaning.{meaning};
-    ghost use Rattle.verdicts.specs.Verification.{model_of, verification_of};
+    ghost use Rattle.std.specs.Prelude.{◌≡◌};
+    ghost use Rattle.verdicts.specs.Verification.{model_of};
 
     /// The same for another label.
     pub fn of_label(&self, label: &'v [u8]) -> Verification<'v, 'a, 'm>
-        ensures { model_of result ≡ verification_of self.now.context.now label.now
-            (meaning self.now.conf.now) self.now.now (option_copied self.now.seen) }
+        ensures { model_of result ≡ record {
+          context = (model_of self.entry.now).context;
+          label = label.now;
+          conf = (model_of self.entry.now).conf;
+          now = (model_of self.entry.now).now;
+          seen = (model_of self.entry.now).seen;
+        } }
     {
         Verification {
             context: self.context,
