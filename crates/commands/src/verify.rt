@@ -57,8 +57,8 @@ fn write_lines<'x, L: Ledger>(
     requires name { blank.name ≡ L.name }
     requires parts { blank.parts ≡ L.parts }
     requires some { 0 < blank.parts }
-    ensures { IfOk result (ReportsLabels (model_of first.now).conf (model_of first.now).now
-        (model_of first.now).context labels.now) }
+    ensures { IfOk result (ReportsLabels (model_of first.entry.now).conf
+        (model_of first.entry.now).now (model_of first.entry.now).context labels.now) }
 {
     let mut steps: Steps<L> = Steps::new(blank);
     let mut lines = Text::new(alloc);
