@@ -30,6 +30,7 @@ mod Bytes
 mod Lowered
 pub mod ByName
 mod FirstBytes
+mod NameOrder
 pub mod NamedLists
 mod TextLaws
 mod Unfolded

@@ -6,7 +6,7 @@ use Rattle.std.specs.List.Sorted.{IsSortedBy, IsPermutation}
 use Rattle.std.specs.Ordering.{is_lt, ordering_then, nat_cmp}
 use Rattle.std.specs.declared.cmp.Ordering.{Ordering}
 use Rattle.std.proofs.lemmas.Bool.{cases_Bool, cases_order, false≢true, eq-eqb, ne_eqb, and_from, lt-ltb}
-use Rattle.std.proofs.lemmas.Cmp.{tied_itself}
+use Rattle.std.proofs.lemmas.Cmp.{nat_list_cmp_total, tied_itself}
 use Rattle.std.proofs.lemmas.List.Elements.{All-head, All-tail, All-filter, All-map}
 use Rattle.std.proofs.lemmas.List.FromFn.{fill_by_all, get_or-range_with_len, length-range_with_len}
 use Rattle.std.proofs.lemmas.List.Sorted.{All-permutation, sum_by-IsPermutation, IsPermutation-map}
@@ -15,8 +15,8 @@ use Rattle.msg_head.specs.declared.line.LineSpan.{LineSpan}
 use Rattle.msg_head.specs.Names.{has_name}
 use Rattle.msg_head.specs.Views.{line_at}
 use Rattle.msg_head.specs.declared.index.IndexEntry.{IndexEntry}
-use Rattle.msg_head.specs.tools.Index.{no_span, key_cmp, entry_key, entry_of, entry_line, comes_before, is_line_named, is_named, line_by, IsEntry, IsIndexOf}
-use Rattle.msg_head.proofs.ByName.{up_far, key_total, named_key, all_right}
+use Rattle.msg_head.specs.tools.Index.{no_span, lowered_name, text_cmp, entry_of, entry_line, comes_before, is_line_named, is_named, line_by, IsIndexOf}
+use Rattle.msg_head.proofs.ByName.{up_far, named_text}
 
 -- ---- lists of numbers that hold each as often as others, and don't fall
 
@@ -96,10 +96,10 @@ range_rises p low from (suc n) less = elim (cases_Bool (p from)) [
   | inr not ↦ rw not (range_rises p low (from + 1) n (omega (arith, less)))
 ]
 
--- of two entries in order with one key the first has the lower index
-same_name_up : (x y : ℕ × List ℕ) (a b : ℕ) → x ≡ y → is_lt (ordering_then (key_cmp y x) (nat_cmp b a)) ≡ false → a ≤ b
+-- of two entries in order with one name the first has the lower index
+same_name_up : (x y : List ℕ) (a b : ℕ) → x ≡ y → is_lt (ordering_then (text_cmp y x) (nat_cmp b a)) ≡ false → a ≤ b
 same_name_up x y a b same up =
-    let equal = ap (λ (key : ℕ × List ℕ). key_cmp y key) same ∙ tied_itself key_total y in
+    let equal = ap (text_cmp y) same ∙ tied_itself nat_list_cmp_total y in
     let by_index : is_lt (nat_cmp b a) ≡ false = sym (ap (λ (o : Ordering). is_lt (ordering_then o (nat_cmp b a))) equal) ∙ up in
     elim (cases_order b a) [
       | inl e ↦ omega (arith, e)
@@ -110,10 +110,10 @@ same_name_up x y a b same up =
     below : (b a : ℕ) → b < a → is_lt (nat_cmp b a) ≡ true
     below b a less = rw (lt-ltb b a less)
 
-named_up : (bytes : List ℕ) (spans : List LineSpan) (name : List ℕ) (a b : IndexEntry) → IsEntry bytes spans a → IsEntry bytes spans b → is_named bytes spans name a ≡ true → is_named bytes spans name b ≡ true → comes_before bytes spans b a ≡ false → a.line ≤ b.line
-named_up bytes spans name a b right other_right one other up =
-    let same = named_key bytes spans name a right one ∙ sym (named_key bytes spans name b other_right other) in
-    same_name_up (entry_key bytes spans a) (entry_key bytes spans b) a.line b.line same up
+named_up : (bytes : List ℕ) (spans : List LineSpan) (name : List ℕ) (a b : IndexEntry) → is_named bytes spans name a ≡ true → is_named bytes spans name b ≡ true → comes_before bytes spans b a ≡ false → a.line ≤ b.line
+named_up bytes spans name a b one other up =
+    let same = named_text bytes spans name a one ∙ sym (named_text bytes spans name b other) in
+    same_name_up (lowered_name bytes spans a.line) (lowered_name bytes spans b.line) a.line b.line same up
 
 sorted_tail : {X : Type 0} (lt : X → X → Bool) (x : X) (xs : List X) → IsSortedBy lt (x ∷ xs) → IsSortedBy lt xs
 sorted_tail lt x xs up k d low high =
@@ -130,17 +130,15 @@ after_first bytes spans x xs up k d less = up_far bytes spans (x ∷ xs) up 0 (s
 abbrev lines_of : List IndexEntry → List ℕ
 lines_of entries = map (λ (entry : IndexEntry). entry.line) entries
 
-named_rises : (bytes : List ℕ) (spans : List LineSpan) (name : List ℕ) (low : ℕ) (xs : List IndexEntry) → IsSortedBy (comes_before bytes spans) xs → All (IsEntry bytes spans) xs → All (λ y. is_named bytes spans name y ≡ true → low ≤ y.line) xs → Rises low (lines_of (filter (is_named bytes spans name) xs))
-named_rises bytes spans name low [] up right above = tt
-named_rises bytes spans name low (x ∷ xs) up right above =
+named_rises : (bytes : List ℕ) (spans : List LineSpan) (name : List ℕ) (low : ℕ) (xs : List IndexEntry) → IsSortedBy (comes_before bytes spans) xs → All (λ y. is_named bytes spans name y ≡ true → low ≤ y.line) xs → Rises low (lines_of (filter (is_named bytes spans name) xs))
+named_rises bytes spans name low [] up above = tt
+named_rises bytes spans name low (x ∷ xs) up above =
     let P : IndexEntry → Type 0 = λ y. is_named bytes spans name y ≡ true → low ≤ y.line in
     let rest = sorted_tail (comes_before bytes spans) x xs up in
     let after = after_first bytes spans x xs up in
-    let here = All-head (IsEntry bytes spans) x xs right in
-    let others = All-tail (IsEntry bytes spans) x xs right in
     elim (cases_Bool (is_named bytes spans name x)) [
-      | inl is ↦ rw is (All-head P x xs above is, named_rises bytes spans name x.line xs rest others (λ k d less named. named_up bytes spans name x (slice_index_or xs k d) here (others k d less) is named (after k d less)))
-      | inr not ↦ rw not (named_rises bytes spans name low xs rest others (All-tail P x xs above))
+      | inl is ↦ rw is (All-head P x xs above is, named_rises bytes spans name x.line xs rest (λ k d less named. named_up bytes spans name x (slice_index_or xs k d) is named (after k d less)))
+      | inr not ↦ rw not (named_rises bytes spans name low xs rest (All-tail P x xs above))
     ]
 
 map_filter : {X Y : Type 0} (f : X → Y) (p : Y → Bool) (xs : List X) → map f (filter (λ x. p (f x)) xs) ≡ filter p (map f xs)
@@ -166,7 +164,7 @@ named_index bytes spans name index is =
     let moved : IsPermutation lines (lines_of index) =
     subst (λ (xs : List ℕ). IsPermutation xs (lines_of index)) (lines_again bytes spans lines) (IsPermutation-map line (map (entry_of bytes spans) lines) index is.each) in
     let parts : lines_of (filter (is_named bytes spans name) index) ≡ filter named (lines_of index) = map_filter line named index in
-    let up = named_rises bytes spans name 0 index is.sorted (all_right bytes spans index is) (λ k d less is_one. omega arith) in
+    let up = named_rises bytes spans name 0 index is.sorted (λ k d less is_one. omega arith) in
     filter_permuted named lines (lines_of index) moved
     (range_rises named 0 0 (length spans) (omega arith))
     (subst (λ (xs : List ℕ). Rises 0 xs) parts up)

@@ -2,9 +2,8 @@
 
 ghost use Rattle.std.specs.Prelude.{◌≡◌, length, map, filter, IfOk};
 ghost use Rattle.std.specs.List.{range_with_len};
-ghost use Rattle.std.specs.Ordering.{ordering_then, nat_cmp};
 ghost use Rattle.std.specs.Str.{str_to_ascii_lowercase};
-ghost use Rattle.msg_head.specs.tools.Index.{first_bytes, after_first, line_by, text_cmp, name_cmp, key_cmp, entry_key, entry_of, is_below, is_named, IsEntry, IsIndexOf, IsRestFrom};
+ghost use Rattle.msg_head.specs.tools.Index.{first_bytes, after_first, line_by, text_cmp, name_cmp, entry_cmp, entry_of, is_key_below, is_named, IsEntry, IsIndexOf, IsRestFrom};
 
 use crate::line::LineSpan;
 use crate::name::is_lowered;
@@ -83,9 +82,7 @@ fn entry_of(bytes: &[u8], spans: &[LineSpan], line: usize) -> IndexEntry
 
 // How two entries are ordered.
 fn compare_entries(bytes: &[u8], spans: &[LineSpan], one: IndexEntry, other: IndexEntry) -> Ordering
-    ensures { result ≡ ordering_then
-        (key_cmp (entry_key bytes.now spans.now one) (entry_key bytes.now spans.now other))
-        (nat_cmp one.line other.line) }
+    ensures { result ≡ entry_cmp bytes.now spans.now one other }
 {
     match one.first_bytes.cmp(&other.first_bytes) {
         Ordering::Equal => {
@@ -132,7 +129,7 @@ pub(crate) fn index_of(
 // Whether the name of the entry's line comes before the name, whose first bytes are these.
 fn is_below(bytes: &[u8], spans: &[LineSpan], name: &[u8], first: u128, entry: IndexEntry) -> bool
     ensures { result
-        ≡ is_below bytes.now spans.now (first, str_to_ascii_lowercase name.now) entry }
+        ≡ is_key_below bytes.now spans.now (first, str_to_ascii_lowercase name.now) entry }
 {
     match entry.first_bytes.cmp(&first) {
         Ordering::Less => true,

@@ -29,41 +29,24 @@ lowered_name bytes spans index = str_to_ascii_lowercase (line_by bytes spans ind
 abbrev pub first_bytes : List ℕ → ℕ
 first_bytes text = from_be_bytes w128 text
 
--- what comes after the first sixteen bytes
-abbrev pub after_first : List ℕ → List ℕ
-after_first text = drop 16 text
-
--- how two texts in lower case are ordered: by the first bytes that differ
+-- how two texts in lower case are ordered: by the first byte that differs, and where there is none
+-- the shorter comes first
 abbrev pub text_cmp : List ℕ → List ℕ → Ordering
 text_cmp = slice_cmp nat_cmp
 
--- how two names in lower case are ordered of which the first sixteen bytes are the same: by what
--- comes after them, and then by length
-abbrev pub name_cmp : List ℕ → List ℕ → Ordering
-name_cmp one other = ordering_then (text_cmp (after_first one) (after_first other))
-    (nat_cmp (length one) (length other))
+-- how the lines with the indexes are ordered: by name in lower case, and then by index
+abbrev pub line_cmp : List ℕ → List LineSpan → ℕ → ℕ → Ordering
+line_cmp bytes spans one other = ordering_then
+    (text_cmp (lowered_name bytes spans one) (lowered_name bytes spans other)) (nat_cmp one other)
 
--- how two names are ordered of which the first bytes are known: by these, and then by the rest
-abbrev pub key_cmp : ℕ × List ℕ → ℕ × List ℕ → Ordering
-key_cmp one other = ordering_then (nat_cmp one.0 other.0) (name_cmp one.1 other.1)
-
--- the first bytes of a name and the name, in lower case
-abbrev pub key_of : List ℕ → ℕ × List ℕ
-key_of name = (first_bytes (str_to_ascii_lowercase name), str_to_ascii_lowercase name)
-
--- those of the entry's line, of which the entry has the first bytes
-abbrev pub entry_key : List ℕ → List LineSpan → IndexEntry → ℕ × List ℕ
-entry_key bytes spans entry = (entry.first_bytes, lowered_name bytes spans entry.line)
-
--- whether the one entry comes before the other: by the names, and then by the indexes of the lines
+-- whether the line of the one entry comes before that of the other
 abbrev pub comes_before : List ℕ → List LineSpan → IndexEntry → IndexEntry → Bool
-comes_before bytes spans one other =
-    is_lt (ordering_then (key_cmp (entry_key bytes spans one) (entry_key bytes spans other))
-    (nat_cmp one.line other.line))
+comes_before bytes spans one other = is_lt (line_cmp bytes spans one.line other.line)
 
--- whether the entry's name comes before the name of that key
-abbrev pub is_below : List ℕ → List LineSpan → ℕ × List ℕ → IndexEntry → Bool
-is_below bytes spans key entry = is_lt (key_cmp (entry_key bytes spans entry) key)
+-- whether the name of the entry's line comes before the name
+abbrev pub is_below : List ℕ → List LineSpan → List ℕ → IndexEntry → Bool
+is_below bytes spans name entry =
+    is_lt (text_cmp (lowered_name bytes spans entry.line) (str_to_ascii_lowercase name))
 
 -- whether the line with the index has the name
 abbrev pub is_line_named : List ℕ → List LineSpan → List ℕ → ℕ → Bool
@@ -84,7 +67,8 @@ entry_of bytes spans index = record {
 abbrev pub IsEntry : List ℕ → List LineSpan → IndexEntry → Type 0
 IsEntry bytes spans entry = entry.first_bytes ≡ first_bytes (lowered_name bytes spans entry.line)
 
--- each line's entry is there once, and they are in order
+-- each line's entry is there once, in order of the lines' names in lower case and, where these are
+-- the same, of the lines
 pub record IsIndexOf (bytes : List ℕ) (spans : List LineSpan) (index : List IndexEntry)
     : Type 0 where
   pub each : IsPermutation (map (entry_of bytes spans) (range_with_len 0 (length spans))) index
@@ -94,7 +78,7 @@ pub record IsIndexOf (bytes : List ℕ) (spans : List LineSpan) (index : List In
 pub record IsRestFrom (bytes : List ℕ) (spans : List LineSpan) (name : List ℕ)
     (index rest : List IndexEntry) : Type 0 where
   pub sorted : IsSortedBy (comes_before bytes spans) rest
-  pub above : All (λ entry. IsFalse (is_below bytes spans (key_of name) entry)) rest
+  pub above : All (λ entry. IsFalse (is_below bytes spans name entry)) rest
   pub right : All (IsEntry bytes spans) rest
   pub all : filter (is_named bytes spans name) rest ≡ filter (is_named bytes spans name) index
 
@@ -113,3 +97,33 @@ pub record AreChosen (bytes : List ℕ) (spans : List LineSpan) (entries : List 
     : Type 0 where
   pub lie : IsTrue (list_all (lies_in (length bytes)) spans)
   pub inside : IsTrue (list_all (λ entry. nat_lt entry.line (length spans)) entries)
+
+-- ---- how the code compares, which gives that order
+
+-- what comes after the first sixteen bytes
+abbrev pub after_first : List ℕ → List ℕ
+after_first text = drop 16 text
+
+-- how it orders two names in lower case of which the first sixteen bytes are the same: by what
+-- comes after them, and then by length
+abbrev pub name_cmp : List ℕ → List ℕ → Ordering
+name_cmp one other = ordering_then (text_cmp (after_first one) (after_first other))
+    (nat_cmp (length one) (length other))
+
+-- how it orders two names with their first bytes: by these, and then by the names
+abbrev pub key_cmp : ℕ × List ℕ → ℕ × List ℕ → Ordering
+key_cmp one other = ordering_then (nat_cmp one.0 other.0) (name_cmp one.1 other.1)
+
+-- the first bytes that the entry has, and the name of its line in lower case
+abbrev pub entry_key : List ℕ → List LineSpan → IndexEntry → ℕ × List ℕ
+entry_key bytes spans entry = (entry.first_bytes, lowered_name bytes spans entry.line)
+
+-- how it orders two entries: by these, and then by the indexes of the lines
+abbrev pub entry_cmp : List ℕ → List LineSpan → IndexEntry → IndexEntry → Ordering
+entry_cmp bytes spans one other =
+    ordering_then (key_cmp (entry_key bytes spans one) (entry_key bytes spans other))
+    (nat_cmp one.line other.line)
+
+-- whether it has the entry's name before the name in lower case with those first bytes
+abbrev pub is_key_below : List ℕ → List LineSpan → ℕ × List ℕ → IndexEntry → Bool
+is_key_below bytes spans key entry = is_lt (key_cmp (entry_key bytes spans entry) key)

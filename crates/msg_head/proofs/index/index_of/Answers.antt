@@ -1,14 +1,22 @@
-use Rattle.std.proofs.Common.{rules}
+use Rattle.std.proofs.Common.{rules, arith, length, map}
+use Rattle.std.specs.List.{range_with_len}
+use Rattle.std.specs.List.Sorted.{IsPermutation}
+use Rattle.std.specs.Ordering.{is_lt}
 use Rattle.std.proofs.lemmas.Fn.{always_returns_same}
-use Rattle.msg_head.specs.tools.Index.{comes_before}
-use Rattle.msg_head.proofs.ByName.{index_order}
+use Rattle.msg_head.specs.declared.index.IndexEntry.{IndexEntry}
+use Rattle.msg_head.specs.tools.Index.{entry_cmp, entry_of}
+use Rattle.msg_head.proofs.ByName.{all_right}
+use Rattle.msg_head.proofs.NameOrder.{entry_order, sorted_is}
 use Rattle.msg_head.proofs.index.index_of.Goals as goal
 
 pub returns : goal.returns
 returns c =
     let bytes = c.args.bytes.now in
     let spans = c.args.spans.now in
+    let index = c.sort_unstable_by.new.self.items in
+    let each : IsPermutation (map (entry_of bytes spans) (range_with_len 0 (length spans))) index = rw (← c.in_ok-index.ensures) c.sort_unstable_by.ensures.permutation in
+    let sorted = c.sort_unstable_by.ensures.sorted (λ (one other : IndexEntry). is_lt (entry_cmp bytes spans one other)) (entry_order bytes spans) (always_returns_same _ _ _ (λ a r g k. search rules)) in
     record {
-      each = rw (← c.in_ok-index.ensures) c.sort_unstable_by.ensures.permutation;
-      sorted = c.sort_unstable_by.ensures.sorted (comes_before bytes spans) (index_order bytes spans) (always_returns_same _ _ _ (λ a r g k. search rules));
+      each = each;
+      sorted = sorted_is bytes spans index (λ k. omega (arith, c.type_inv.bytes k)) (all_right bytes spans index each) sorted;
     }

@@ -1,0 +1,202 @@
+-- The order of names by their first bytes as a number, what comes after these, and the length is that of the names.
+use Rattle.std.proofs.Common.{◌≡◌, ℕ, zero, suc, ◌+◌, ◌*◌, ◌^◌, ◌<◌, ◌≤◌, List, [], ◌∷◌, length, drop, true, false, sym, ◌∙◌, ap, arith, refl, inl, inr, Ordering, Less, Equal, Greater}
+use Rattle.std.specs.Prelude.{slice_index}
+use Rattle.std.specs.List.{All, slice_index_or}
+use Rattle.std.specs.List.Sorted.{IsSortedBy, IsPartitionedBy, IsPartitionPoint}
+use Rattle.std.specs.Ordering.{is_lt, ordering_then, nat_cmp}
+use Rattle.std.specs.Cmp.{IsTotalOrder, IsStrictWeakOrder, nat_cmp_is}
+use Rattle.std.specs.Str.{str_to_ascii_lowercase}
+use Rattle.std.proofs.lemmas.Bool.{cases_order}
+use Rattle.std.proofs.lemmas.Cmp.{nat_list_cmp_total, nat_cmp_total, on_total, then_total}
+use Rattle.std.proofs.lemmas.List.Sorted.{ranks_by}
+use Rattle.msg_head.specs.declared.line.LineSpan.{LineSpan}
+use Rattle.msg_head.specs.declared.index.IndexEntry.{IndexEntry}
+use Rattle.msg_head.specs.tools.Index.{no_span, first_bytes, after_first, lowered_name, text_cmp, comes_before, is_below, name_cmp, key_cmp, entry_key, entry_cmp, is_key_below, IsEntry, IsIndexOf}
+use Rattle.msg_head.proofs.ByName.{all_right, below_first}
+use Rattle.msg_head.proofs.FirstBytes.{AreBytes, lowered_bytes, lowered_part}
+
+-- ---- two numbers by a first digit and what is below it
+
+-- a first digit that is less makes the number less
+step : (p x y : ℕ) → x < y → x * p + p ≤ y * p
+step p x zero less = absurd (omega (arith, less))
+step p zero (suc y) less = omega arith
+step p (suc x) (suc y) less =
+    let rest : x * p + p ≤ y * p = step p x y (omega (arith, less)) in
+    omega (arith, rest)
+
+lower : (x y : ℕ) → x < y → nat_cmp x y ≡ Less
+lower x y less = sym (nat_cmp_is x y Less less)
+
+same : (x y : ℕ) → x ≡ y → nat_cmp x y ≡ Equal
+same x y e = sym (nat_cmp_is x y Equal e)
+
+higher : (x y : ℕ) → y < x → nat_cmp x y ≡ Greater
+higher x y more = sym (nat_cmp_is x y Greater more)
+
+by_rest : (k a b m n : ℕ) → a ≡ k + m → b ≡ k + n → nat_cmp a b ≡ nat_cmp m n
+by_rest k a b m n one other = elim (cases_order m n) [
+  | inl e ↦ same a b (omega (arith, one, other, e)) ∙ sym (same m n e)
+  | inr (inl less) ↦ lower a b (omega (arith, one, other, less)) ∙ sym (lower m n less)
+  | inr (inr more) ↦ higher a b (omega (arith, one, other, more)) ∙ sym (higher m n more)
+]
+
+one_longer : (m n : ℕ) → nat_cmp (suc m) (suc n) ≡ nat_cmp m n
+one_longer m n = by_rest 1 (suc m) (suc n) m n (omega arith) (omega arith)
+
+by_digit : (p x y m n : ℕ) → m < p → n < p → nat_cmp (x * p + m) (y * p + n) ≡ ordering_then (nat_cmp x y) (nat_cmp m n)
+by_digit p x y m n low small =
+    let then : Ordering → Ordering = λ o. ordering_then o (nat_cmp m n) in
+    elim (cases_order x y) [
+      | inl e ↦ ap (λ z. nat_cmp (z * p + m) (y * p + n)) e ∙ by_rest (y * p) (y * p + m) (y * p + n) m n refl refl ∙ sym (ap then (same x y e))
+      | inr (inl less) ↦ lower (x * p + m) (y * p + n) (omega (arith, step p x y less, low)) ∙ sym (ap then (lower x y less))
+      | inr (inr more) ↦ higher (x * p + m) (y * p + n) (omega (arith, step p y x more, small)) ∙ sym (ap then (higher x y more))
+    ]
+
+-- ---- the number of the first bytes
+
+-- the number that the first k bytes are, 0 for each that is missing
+abbrev number : ℕ → List ℕ → ℕ
+number zero text = 0
+number (suc k) [] = 0
+number (suc k) (c ∷ text) = c * 256 ^ k + number k text
+
+number_below : (k : ℕ) (text : List ℕ) → AreBytes text → number k text < 256 ^ k
+number_below zero text are = omega arith
+number_below (suc k) [] are =
+    let rest : number k [] < 256 ^ k = number_below k [] are in
+    omega (arith, rest)
+number_below (suc k) (c ∷ text) are =
+    let rest : number k text < 256 ^ k = number_below k text (λ j. are (suc j)) in
+    omega (arith, rest, step (256 ^ k) c 256 (are 0))
+
+-- the same from an index on
+abbrev number_from : ℕ → ℕ → List ℕ → ℕ
+number_from zero from text = 0
+number_from (suc k) from text = slice_index text from * 256 ^ k + number_from k (suc from) text
+
+from_later : (k from c : ℕ) (text : List ℕ) → number_from k (suc from) (c ∷ text) ≡ number_from k from text
+from_later zero from c text = refl
+from_later (suc k) from c text = ap (λ n. slice_index text from * 256 ^ k + n) (from_later k (suc from) c text)
+
+from_none : (k from : ℕ) → number_from k from [] ≡ 0
+from_none zero from = refl
+from_none (suc k) from = omega (arith, from_none k (suc from))
+
+from_first : (k : ℕ) (text : List ℕ) → number_from k 0 text ≡ number k text
+from_first zero text = refl
+from_first (suc k) [] = from_none (suc k) 0
+from_first (suc k) (c ∷ text) = ap (λ n. c * 256 ^ k + n) (from_later k 0 c text ∙ from_first k text)
+
+first_is : (text : List ℕ) → first_bytes text ≡ number 16 text
+first_is text =
+    let sum : first_bytes text ≡ number_from 16 0 text = omega arith in
+    sum ∙ from_first 16 text
+
+-- ---- the order
+
+then_assoc : (o p q : Ordering) → ordering_then (ordering_then o p) q ≡ ordering_then o (ordering_then p q)
+then_assoc Less p q = refl
+then_assoc Equal p q = refl
+then_assoc Greater p q = refl
+
+-- texts by the first k bytes as a number, what comes after these, and the length
+abbrev part_cmp : ℕ → List ℕ → List ℕ → Ordering
+part_cmp k one other = ordering_then (nat_cmp (number k one) (number k other)) (ordering_then (text_cmp (drop k one) (drop k other)) (nat_cmp (length one) (length other)))
+
+whole_is : (one other : List ℕ) → ordering_then (text_cmp one other) (nat_cmp (length one) (length other)) ≡ text_cmp one other
+whole_is [] [] = refl
+whole_is [] (y ∷ other) = refl
+whole_is (x ∷ one) [] = refl
+whole_is (x ∷ one) (y ∷ other) =
+    let rest = text_cmp one other in
+    ap (ordering_then (ordering_then (nat_cmp x y) rest)) (one_longer (length one) (length other))
+    ∙ then_assoc (nat_cmp x y) rest (nat_cmp (length one) (length other))
+    ∙ ap (ordering_then (nat_cmp x y)) (whole_is one other)
+
+none_less : (n m : ℕ) (rest : List ℕ) → ordering_then (nat_cmp 0 n) (ordering_then (text_cmp [] rest) (nat_cmp 0 (suc m))) ≡ Less
+none_less zero m [] = lower 0 (suc m) (omega arith)
+none_less zero m (c ∷ rest) = refl
+none_less (suc n) m rest = ap (λ o. ordering_then o (ordering_then (text_cmp [] rest) (nat_cmp 0 (suc m)))) (lower 0 (suc n) (omega arith))
+
+none_more : (n m : ℕ) (rest : List ℕ) → ordering_then (nat_cmp n 0) (ordering_then (text_cmp rest []) (nat_cmp (suc m) 0)) ≡ Greater
+none_more zero m [] = higher (suc m) 0 (omega arith)
+none_more zero m (c ∷ rest) = refl
+none_more (suc n) m rest = ap (λ o. ordering_then o (ordering_then (text_cmp rest []) (nat_cmp (suc m) 0))) (higher (suc n) 0 (omega arith))
+
+part_is : (k : ℕ) (one other : List ℕ) → AreBytes one → AreBytes other → part_cmp k one other ≡ text_cmp one other
+part_is zero one other are too = whole_is one other
+part_is (suc k) [] [] are too = refl
+part_is (suc k) [] (y ∷ other) are too = none_less (number (suc k) (y ∷ other)) (length other) (drop k other)
+part_is (suc k) (x ∷ one) [] are too = none_more (number (suc k) (x ∷ one)) (length one) (drop k one)
+part_is (suc k) (x ∷ one) (y ∷ other) are too =
+    let a = number k one in
+    let b = number k other in
+    let after = text_cmp (drop k one) (drop k other) in
+    let rest = ordering_then after (nat_cmp (length one) (length other)) in
+    let ones : AreBytes one = λ j. are (suc j) in
+    let others : AreBytes other = λ j. too (suc j) in
+    ap (λ o. ordering_then (nat_cmp (number (suc k) (x ∷ one)) (number (suc k) (y ∷ other))) (ordering_then after o)) (one_longer (length one) (length other))
+    ∙ ap (λ o. ordering_then o rest) (by_digit (256 ^ k) x y a b (number_below k one ones) (number_below k other others))
+    ∙ then_assoc (nat_cmp x y) (nat_cmp a b) rest
+    ∙ ap (ordering_then (nat_cmp x y)) (part_is k one other ones others)
+
+-- keys of names are in the order of the names
+pub keys_are : (one other : List ℕ) → AreBytes one → AreBytes other → key_cmp (first_bytes one, one) (first_bytes other, other) ≡ text_cmp one other
+keys_are one other are too =
+    let rest = ordering_then (text_cmp (drop 16 one) (drop 16 other)) (nat_cmp (length one) (length other)) in
+    ap (λ n. ordering_then (nat_cmp n (first_bytes other)) rest) (first_is one)
+    ∙ ap (λ n. ordering_then (nat_cmp (number 16 one) n) rest) (first_is other)
+    ∙ part_is 16 one other are too
+
+-- ---- entries
+
+-- the name of a line of bytes is bytes
+lowered_line : (bytes : List ℕ) (spans : List LineSpan) (line : ℕ) → AreBytes bytes → AreBytes (lowered_name bytes spans line)
+lowered_line bytes spans line are =
+    let span = slice_index_or spans line no_span in
+    lowered_part bytes span.name span.colon are
+
+-- the keys are in a total order
+key_total : IsTotalOrder key_cmp
+key_total =
+    let others : IsTotalOrder (λ (x y : ℕ × List ℕ). name_cmp x.1 y.1) = then_total (on_total (λ (key : ℕ × List ℕ). after_first key.1) nat_list_cmp_total) (on_total (λ (key : ℕ × List ℕ). length key.1) nat_cmp_total) in
+    then_total (on_total (λ (key : ℕ × List ℕ). key.0) nat_cmp_total) others
+
+-- and so are the entries, whatever first bytes they have
+pub entry_order : (bytes : List ℕ) (spans : List LineSpan) → IsStrictWeakOrder (λ (one other : IndexEntry). is_lt (entry_cmp bytes spans one other))
+entry_order bytes spans =
+    ranks_by (then_total (on_total (entry_key bytes spans) key_total) (on_total (λ (entry : IndexEntry). entry.line) nat_cmp_total)) (λ (entry : IndexEntry). entry)
+
+before_is : (bytes : List ℕ) (spans : List LineSpan) (one other : IndexEntry) → AreBytes bytes → IsEntry bytes spans one → IsEntry bytes spans other → is_lt (entry_cmp bytes spans one other) ≡ comes_before bytes spans one other
+before_is bytes spans one other are right too =
+    let x = lowered_name bytes spans one.line in
+    let y = lowered_name bytes spans other.line in
+    let lines = nat_cmp one.line other.line in
+    ap (λ n. is_lt (ordering_then (key_cmp (n, x) (other.first_bytes, y)) lines)) right
+    ∙ ap (λ n. is_lt (ordering_then (key_cmp (first_bytes x, x) (n, y)) lines)) too
+    ∙ ap (λ o. is_lt (ordering_then o lines)) (keys_are x y (lowered_line bytes spans one.line are) (lowered_line bytes spans other.line are))
+
+-- entries of lines that the code has put in order are in that of the names
+pub sorted_is : (bytes : List ℕ) (spans : List LineSpan) (index : List IndexEntry) → AreBytes bytes → All (IsEntry bytes spans) index → IsSortedBy (λ (one other : IndexEntry). is_lt (entry_cmp bytes spans one other)) index → IsSortedBy (comes_before bytes spans) index
+sorted_is bytes spans index are right up k d low high =
+    let next = slice_index_or index (k + 1) d in
+    let here = slice_index_or index k d in
+    sym (before_is bytes spans next here are (right (k + 1) d high) (right k d (omega (arith, high)))) ∙ up k d low high
+
+-- the code has an entry before a name where its name is
+below_is : (bytes : List ℕ) (spans : List LineSpan) (name : List ℕ) (first : ℕ) (entry : IndexEntry) → AreBytes bytes → AreBytes name → first ≡ first_bytes (str_to_ascii_lowercase name) → IsEntry bytes spans entry → is_key_below bytes spans (first, str_to_ascii_lowercase name) entry ≡ is_below bytes spans name entry
+below_is bytes spans name first entry are too e right =
+    let x = lowered_name bytes spans entry.line in
+    let y = str_to_ascii_lowercase name in
+    ap (λ n. is_lt (key_cmp (n, x) (first, y))) right
+    ∙ ap (λ n. is_lt (key_cmp (first_bytes x, x) (n, y))) e
+    ∙ ap is_lt (keys_are x y (lowered_line bytes spans entry.line are) (lowered_bytes name too))
+
+-- so where it parts the index by a name, the names do
+pub split_is : (bytes : List ℕ) (spans : List LineSpan) (name : List ℕ) (first : ℕ) (index : List IndexEntry) (n : ℕ) → AreBytes bytes → AreBytes name → first ≡ first_bytes (str_to_ascii_lowercase name) → IsIndexOf bytes spans index → n ≤ length index → (IsPartitionedBy (is_key_below bytes spans (first, str_to_ascii_lowercase name)) index → IsPartitionPoint (λ entry. is_key_below bytes spans (first, str_to_ascii_lowercase name) entry ≡ true) (λ entry. is_key_below bytes spans (first, str_to_ascii_lowercase name) entry ≡ false) index n) → IsPartitionPoint (λ entry. is_below bytes spans name entry ≡ true) (λ entry. is_below bytes spans name entry ≡ false) index n
+split_is bytes spans name first index n are too e is within split =
+    let right = all_right bytes spans index is.each in
+    let same : (k : ℕ) (d : IndexEntry) → k < length index → is_key_below bytes spans (first, str_to_ascii_lowercase name) (slice_index_or index k d) ≡ is_below bytes spans name (slice_index_or index k d) = λ k d less. below_is bytes spans name first (slice_index_or index k d) are too e (right k d less) in
+    let parted = split (λ i j d low high passes. same i d (omega (arith, low, high)) ∙ below_first bytes spans name index is.sorted i j d low high (sym (same j d high) ∙ passes)) in
+    (λ k d low high. sym (same k d (omega (arith, high, within))) ∙ parted.0 k d low high, λ k d low high. sym (same k d high) ∙ parted.1 k d low high)
