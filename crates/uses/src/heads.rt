@@ -2,10 +2,11 @@
 
 ghost use Rattle.std.specs.Iterator.{IsFinite};
 
-use field_values::{combined_pieces, count_lines, line_pieces};
+use field_values::{combined_pieces, count_lines, joined_value, line_pieces};
 use msg_body::{Expect, MessageRead, read_message};
 use msg_head::{
-    HeadRead, HeadView, LineView, Side, Start, TrailerRead, TrailerView, read_head, read_trailer,
+    HeadRead, HeadView, LineView, NamedFieldLines, Side, Start, TrailerRead, TrailerView,
+    read_head, read_trailer,
 };
 use std::alloc::Global;
 
@@ -124,6 +125,14 @@ fn is_line() -> bool {
         && are_pieces(line_pieces(line), b"a b")
 }
 
+// Whether the values of the lines are the text, joined.
+fn is_value(alloc: Global, lines: NamedFieldLines<'_, '_>, text: &[u8]) -> bool {
+    match joined_value(alloc, lines) {
+        Ok(value) => value.bytes() == text,
+        Err(_) => false,
+    }
+}
+
 // The example of field_values.
 fn are_combined(alloc: Global) -> bool {
     let bytes = b"GET / HTTP/1.1\r\nX: a\r\n  b \r\nx: c\r\n\r\n";
@@ -131,6 +140,7 @@ fn are_combined(alloc: Global) -> bool {
         Ok(MessageRead::Whole(view, _)) => {
             are_pieces(combined_pieces(&view, Side::Header, b"x"), b"a b, c")
                 && count_lines(&view, Side::Header, b"x") == 2
+                && is_value(alloc, view.lines_named(Side::Header, b"x"), b"a b, c")
         }
         _ => false,
     }

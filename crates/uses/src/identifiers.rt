@@ -1,6 +1,8 @@
 // Tests of component_ids.
 
-use component_ids::{ComponentId, FieldKind, Types, print_id, print_params, read_params};
+use component_ids::{
+    ComponentId, FieldKind, ParamsText, Types, print_id, print_params, read_params,
+};
 use sfv_read::read_inner;
 use sfv_text::{Memory, Params, Text};
 use std::alloc::Global;
@@ -22,6 +24,23 @@ fn are_printed(alloc: Global, text: &[u8]) -> bool {
     }
 }
 
+// Whether the text of signature parameters has that of the second identifier at its place.
+fn has_second(alloc: Global, text: &[u8], second: &[u8]) -> bool {
+    let Ok(list) = read_inner(alloc, text) else {
+        return false;
+    };
+    let Ok(params) = read_params(alloc, &list) else {
+        return false;
+    };
+    if params.ids.len() < 2 {
+        return false;
+    }
+    match ParamsText::of(alloc, &params) {
+        Ok(printed) => printed.text() == text && printed.id_text(1) == second,
+        Err(_) => false,
+    }
+}
+
 // Whether an identifier is copied and printed.
 fn is_printed(alloc: Global) -> Result<bool, Memory> {
     let id = ComponentId {
@@ -36,6 +55,7 @@ fn is_printed(alloc: Global) -> Result<bool, Memory> {
 #[test]
 fn signature_parameters_and_identifiers_are_copied_and_printed(rt: HostRuntime) {
     assert!(rt; are_printed(rt.alloc(), br#"("@method" "date");created=1"#));
+    assert!(rt; has_second(rt.alloc(), br#"("@method" "date");created=1"#, br#""date""#));
     assert!(rt; is_printed(rt.alloc()) == Ok(true));
 }
 

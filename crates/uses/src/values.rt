@@ -1,7 +1,10 @@
 // Tests of sfv_text.
 
 use sfv_read::read_item;
-use sfv_text::{BareItem, Dict, Item, Items, List, Member, Memory, Params, Text, print_item};
+use sfv_text::{
+    BareItem, Dict, Item, Items, List, Member, Memory, Params, Text, append_params,
+    append_string_item, print_item,
+};
 use std::alloc::Global;
 
 // Whether the Item is read, copied and printed as it is written.
@@ -35,14 +38,23 @@ fn is_integer(item: &Item, number: i64) -> bool {
 fn is_text(alloc: Global) -> Result<bool, Memory> {
     let mut text = Text::from_bytes(alloc, b"a")?;
     text.append(b"bc")?;
-    Ok(text.copy(alloc)?.bytes() == b"abc".as_slice())
+    let copy = text.copy(alloc)?;
+    text.append(b"defghijklmnopqrstuvw")?;
+    text.append(b"xyz")?;
+    Ok(
+        copy.bytes() == b"abc".as_slice()
+            && text.bytes() == b"abcdefghijklmnopqrstuvwxyz".as_slice(),
+    )
 }
 
 // Whether a parameter that is put is found.
 fn is_put(alloc: Global) -> Result<bool, Memory> {
     let mut params = Params::new(alloc);
     params.put(Text::from_bytes(alloc, b"a")?, BareItem::Integer(7))?;
-    Ok(params.copy(alloc)?.integer(b"a") == Some(7))
+    let mut text = Text::new(alloc);
+    append_params(&params, &mut text)?;
+    append_string_item(b"b", &params, &mut text)?;
+    Ok(params.copy(alloc)?.integer(b"a") == Some(7) && text.bytes() == br#";a=7"b";a=7"#.as_slice())
 }
 
 fn seven(alloc: Global) -> Item {
