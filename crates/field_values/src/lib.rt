@@ -1,7 +1,7 @@
 //! Values of fields, as borrowed pieces (RFC 9421 section 2.1).
 //!
-//! The values of a field's lines are joined by a comma and a space. Only a text or a joined value that
-//! is in several pieces takes memory.
+//! The values of a field's lines are joined by a comma and a space. Memory is taken only by a text,
+//! and by a joined value that is in several pieces.
 //!
 //! ```text
 //! // A line `X: a\r\n  b ` and a line `x: c`

@@ -7,8 +7,8 @@
 //! same_tag(&hmac.finish(), tag)
 //! ```
 //!
-//! Nothing here takes memory or refuses anything. How long a call takes may depend on the key and on
-//! the tags.
+//! Nothing here takes memory or refuses anything. How long a call takes may depend on the key and
+//! on the tags.
 #![tactic(auto)]
 
 mod key;
