@@ -1,4 +1,4 @@
-//! Readers of the four kinds of structured field.
+//! Readers of the four kinds of structured field, and of one member of a Dictionary.
 
 ghost use Rattle.std.specs.Prelude.{List as Listed, IfOk, IfErr, IfSome, IsTrue};
 ghost use Rattle.sfv_text.specs.declared.value.Item.{Item};
