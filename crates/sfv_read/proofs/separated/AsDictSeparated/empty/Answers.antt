@@ -1,5 +1,5 @@
 use Rattle.sfv_read.proofs.Members.{dict_members_shorter, dict_members_step}
-use Rattle.sfv_read.proofs.separated.DictSeparated.empty.Goals as goal
+use Rattle.sfv_read.proofs.separated.AsDictSeparated.empty.Goals as goal
 
 pub returns-clause-shorter : goal.returns-clause-shorter
 returns-clause-shorter c = dict_members_shorter

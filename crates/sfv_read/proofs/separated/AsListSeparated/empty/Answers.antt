@@ -1,5 +1,5 @@
 use Rattle.sfv_read.proofs.Members.{members_shorter, members_step}
-use Rattle.sfv_read.proofs.separated.ListSeparated.empty.Goals as goal
+use Rattle.sfv_read.proofs.separated.AsListSeparated.empty.Goals as goal
 
 pub returns-clause-shorter : goal.returns-clause-shorter
 returns-clause-shorter c = members_shorter
