@@ -13,4 +13,5 @@ pub mod Members
 pub mod Readings
 pub mod InRange
 pub mod StrictReads
+pub mod MoreMembers
 pub mod TextLaws

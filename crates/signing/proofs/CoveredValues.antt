@@ -1,0 +1,143 @@
+-- The values of covered components, where a message takes the lines of a signature.
+use Rattle.std.proofs.Common.{◌≡◌, ℕ, Bool, true, false, Option, Some, None, Result, Ok, Err, List, codes, refl, sym, ap, subst, inl, inr}
+use Rattle.std.specs.List.{join_by}
+use Rattle.byte_grammar.proofs.Indices.{some_and, some_and_parts}
+use Rattle.sfv_text.specs.Keys.{value_of}
+use Rattle.sfv_text.specs.Strict.{member_text}
+use Rattle.sfv_text.specs.declared.pair.Pair.{Pair}
+use Rattle.sfv_text.specs.declared.value.BareItem.{BareItem}
+use Rattle.sfv_text.specs.declared.value.Member.{Member}
+use Rattle.sfv_read.specs.Reads.{ReadsDict}
+use Rattle.msg_head.specs.Lines.{FieldLine}
+use Rattle.msg_head.specs.Starts.{StartLine, request, status}
+use Rattle.msg_head.specs.Values.{combined_value, is_there, values}
+use Rattle.msg_body.specs.Messages.{Message}
+use Rattle.component_ids.specs.Table.{is_field_name}
+use Rattle.component_ids.specs.declared.id.ComponentId.{ComponentId}
+use Rattle.component_ids.specs.declared.scheme.Scheme.{Scheme}
+use Rattle.component_ids.specs.declared.types.FieldKind.{FieldKind}
+use Rattle.component_ids.specs.declared.types.FieldKind.TheVariants as kind
+use Rattle.targets.specs.Targets.{TargetParts, path_of}
+use Rattle.derived_values.specs.Derived.{RequestParts, DerivedRow, FormedRow, RequestRow, StartRow, TargetAuthorityRow, TargetRow, TargetUriRow, AuthorityRow, named_authority, scheme_of, sole_value}
+use Rattle.derived_values.specs.declared.derived.DerivedName.{DerivedName}
+use Rattle.derived_values.specs.declared.derived.DerivedName.TheVariants.{Method, RequestTarget, Status, OfTarget}
+use Rattle.derived_values.specs.declared.derived.TargetName.{TargetName}
+use Rattle.derived_values.specs.declared.derived.TargetName.TheVariants as target
+use Rattle.derived_values.specs.declared.lack.Lack.{Lack}
+use Rattle.component_values.specs.Context.{MessageContext}
+use Rattle.component_values.specs.Forms.{Form, form_of}
+use Rattle.component_values.specs.Forms as form
+use Rattle.component_values.specs.Values.{FieldRow, FormRow, KeyRow, KindRow, LineRow, MemberRow, MessageRow, NameRow, related_message}
+
+-- ---- derived components
+
+-- requests that differ in lines of other names than `Host`
+module _ (method text : List ℕ) (xs ys : List FieldLine) (scheme : Scheme) (hosts : values ys (codes "host") ≡ values xs (codes "host")) where
+  abbrev before : RequestParts
+  before = record { method = method; target = text; lines = xs; scheme = scheme }
+
+  abbrev after : RequestParts
+  after = record { method = method; target = text; lines = ys; scheme = scheme }
+
+  named_same : (authority : Option (List ℕ)) → named_authority before authority ≡ named_authority after authority
+  named_same None = ap sole_value (sym hosts)
+  named_same (Some given) = refl
+
+  authority_same : (parts : TargetParts) (result : Result (List ℕ) Lack) → TargetAuthorityRow before parts result → TargetAuthorityRow after parts result
+  authority_same parts result row = subst (λ (named : Result (List ℕ) Lack). AuthorityRow (scheme_of before parts) named result) (named_same parts.authority) row
+
+  uri_same : (path : Option (List ℕ)) (parts : TargetParts) (result : Result (List ℕ) Lack) → TargetUriRow path before parts result → TargetUriRow path after parts result
+  uri_same None parts result row = row
+  uri_same (Some path) parts result row = (row.0, authority_same parts row.0 row.1, row.2)
+
+  target_same : (name : TargetName) (params : List (Pair BareItem)) (parts : TargetParts) (result : Result (List ℕ) Lack) → TargetRow name params before parts result → TargetRow name params after parts result
+  target_same target.Scheme params parts result row = row
+  target_same target.Authority params parts result row = authority_same parts result row
+  target_same target.Path params parts result row = row
+  target_same target.Query params parts result row = row
+  target_same target.TargetUri params parts result row = uri_same (path_of parts) parts result row
+  target_same target.QueryParam params parts result row = row
+
+  formed_same : (name : TargetName) (params : List (Pair BareItem)) (result : Result (List ℕ) Lack) → FormedRow name params before result → FormedRow name params after result
+  formed_same name params result (inl row) = inl (row.0, row.1, target_same name params row.0 result row.2)
+  formed_same name params result (inr row) = inr row
+
+  request_same : (name : DerivedName) (params : List (Pair BareItem)) (result : Result (List ℕ) Lack) → RequestRow name params before result → RequestRow name params after result
+  request_same Method params result row = row
+  request_same RequestTarget params result row = row
+  request_same Status params result row = row
+  request_same (OfTarget name) params result row = formed_same name params result row
+
+module _ (xs ys : List FieldLine) (hosts : values ys (codes "host") ≡ values xs (codes "host")) (params : List (Pair BareItem)) (scheme : Scheme) where
+  start_same : (name : DerivedName) (start : StartLine) (result : Result (List ℕ) Lack) → StartRow name params scheme xs start result → StartRow name params scheme ys start result
+  start_same name (request line) result row = request_same line.method line.target xs ys scheme hosts name params result row
+  start_same name (status line) result row = row
+
+  pub derived_same : (name : Option DerivedName) (start : StartLine) (result : Result (List ℕ) Lack) → DerivedRow name params scheme xs start result → DerivedRow name params scheme ys start result
+  derived_same None start result row = row
+  derived_same (Some name) start result row = start_same name start result row
+
+-- ---- fields
+
+-- a field of whose name there are the same values
+module _ (xs ys : List FieldLine) (name : List ℕ) (there : is_there ys name ≡ is_there xs name) (same : values ys name ≡ values xs name) where
+  combined_same : combined_value xs name ≡ combined_value ys name
+  combined_same = ap (λ (ts : List (List ℕ)). join_by (λ t. t) (codes ", ") ts) (sym same)
+
+  form_same : (form : Form) (field : Option FieldKind) (result : Result (List ℕ) Lack) → FormRow form field xs name result → FormRow form field ys name result
+  form_same form.wrapped field result row = rw same row
+  form_same (form.member key) field result row = subst (λ (t : List ℕ). KeyRow field key t result) combined_same row
+  form_same form.strict field result row = subst (λ (t : List ℕ). KindRow field t result) combined_same row
+  form_same form.plain field result row = rw same row
+
+  line_same : (is : Bool) (params : List (Pair BareItem)) (field : Option FieldKind) (result : Result (List ℕ) Lack) → LineRow is params field xs name result → LineRow is params field ys name result
+  line_same false params field result row = row
+  line_same true params field result row = form_same (form_of params) field result row
+
+  pub field_same : (params : List (Pair BareItem)) (field : Option FieldKind) (result : Result (List ℕ) Lack) → FieldRow params field xs name result → FieldRow params field ys name result
+  field_same params field result row = rw there (line_same (is_there xs name) params field result row)
+
+-- a field that has further members
+module _ (xs ys : List FieldLine) (name key : List ℕ) (there : is_there ys name ≡ true)
+    (kept : (dict : List (Pair Member)) (member : Member) → is_there xs name ≡ true → ReadsDict (combined_value xs name) dict → value_of dict key ≡ Some member
+    → (more : List (Pair Member)) × ReadsDict (combined_value ys name) more × (value_of more key ≡ Some member)) where
+  member_same : (value : List ℕ) → is_there xs name ≡ true → MemberRow key (combined_value xs name) (Ok value) → MemberRow key (combined_value ys name) (Ok value)
+  member_same value here row =
+      let found = some_and_parts (λ (member : Member). value ≡ member_text member) (value_of row.0 key) row.2 in
+      let more = kept row.0 found.0 here row.1 found.1 in
+      (more.0, more.1, some_and (λ (member : Member). value ≡ member_text member) (value_of more.0 key) found.0 more.2 found.2)
+
+  key_same : (field : Option FieldKind) (value : List ℕ) → is_there xs name ≡ true → KeyRow field key (combined_value xs name) (Ok value) → KeyRow field key (combined_value ys name) (Ok value)
+  key_same (Some kind.Item) value here row = absurd cc
+  key_same (Some kind.List) value here row = absurd cc
+  key_same (Some kind.Dictionary) value here row = member_same value here row
+  key_same None value here row = member_same value here row
+
+  key_line : (is : Bool) (params : List (Pair BareItem)) (field : Option FieldKind) (value : List ℕ) → form_of params ≡ form.member key → is_there xs name ≡ is → LineRow is params field xs name (Ok value)
+      → LineRow true params field ys name (Ok value)
+  key_line false params field value form here row = absurd cc
+  key_line true params field value form here row =
+      subst (λ (f : Form). FormRow f field ys name (Ok value)) (sym form) (key_same field value here (subst (λ (f : Form). FormRow f field xs name (Ok value)) form row))
+
+  pub key_field : (params : List (Pair BareItem)) (field : Option FieldKind) (value : List ℕ) → form_of params ≡ form.member key → FieldRow params field xs name (Ok value) → FieldRow params field ys name (Ok value)
+  key_field params field value form row = rw there (key_line (is_there xs name) params field value form refl row)
+
+-- ---- components
+
+-- the message is another one of the same start line and body
+module _ (context other : MessageContext) (related : other.related ≡ context.related) (scheme : other.scheme ≡ context.scheme) (types : other.types ≡ context.types)
+    (start : other.message.head.start ≡ context.message.head.start) where
+  name_same : (is : Bool) (id : ComponentId) (message : Message) (result : Result (List ℕ) Lack) → NameRow is context id message result → NameRow is other id message result
+  name_same true id message result row = rw types row
+  name_same false id message result row = rw scheme row
+
+  row_same : (drawn : Result Message Lack) (id : ComponentId) (result : Result (List ℕ) Lack) → MessageRow drawn context id result → MessageRow drawn other id result
+  row_same (Err lack) id result row = row
+  row_same (Ok message) id result row = name_same (is_field_name id.name) id message result row
+
+  related_same : related_message other ≡ related_message context
+  related_same = rw (start, related) refl
+
+  -- a component of the related request
+  pub req_same : (id : ComponentId) (result : Result (List ℕ) Lack) → MessageRow (related_message context) context id result → MessageRow (related_message other) other id result
+  req_same id result row = subst (λ (drawn : Result Message Lack). MessageRow drawn other id result) (sym related_same) (row_same (related_message context) id result row)
