@@ -10,7 +10,7 @@ mod Making
 mod Made
 mod TakenMembers
 mod SignatureLines
-mod CoveredValues
+mod MemberValues
 mod TagLengths
 mod Verifiable
 mod Filling

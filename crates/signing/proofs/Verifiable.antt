@@ -30,8 +30,10 @@ use Rattle.component_ids.specs.declared.types.FieldKind.{FieldKind}
 use Rattle.component_values.specs.Context.{MessageContext}
 use Rattle.component_values.specs.Forms.{form_of, member_key}
 use Rattle.component_values.specs.Forms as form
-use Rattle.component_values.specs.Values.{FieldRow, Has, HaveValues, NameRow}
-use Rattle.derived_values.specs.Derived.{derived_of}
+use Rattle.component_values.specs.Laws.{AreAlikeFor, HasSameValues}
+use Rattle.component_values.specs.Values.{FieldRow, Has, HaveValues, NameRow, side_of}
+use Rattle.component_values.proofs.LineLaws.{depends_on_its_lines}
+use Rattle.msg_body.specs.Views.{lines_on}
 use Rattle.hmac_sha256.specs.Hmac.{hmac}
 use Rattle.sig_base.specs.SignatureBase.{signature_base}
 use Rattle.signatures.specs.Signatures.{AreLabels, HasSignature, input_name, signature_name}
@@ -44,7 +46,7 @@ use Rattle.signing.specs.declared.fault.SignFault.{SignFault}
 use Rattle.signing.specs.declared.spec.SignSpec.{SignSpec}
 use Rattle.signing.specs.tools.Judged.{ExplainsSign, IsMade, NoneBelow}
 use Rattle.signing.proofs.AddedLines.{FrameNothing, digest_are_lines, digest_frame_nothing}
-use Rattle.signing.proofs.CoveredValues.{derived_same, field_same, key_field, req_same}
+use Rattle.signing.proofs.MemberValues.{key_field}
 use Rattle.signing.proofs.DigestBytes.{sha256_bytes}
 use Rattle.signing.proofs.Lengthened.{is_lengthened}
 use Rattle.signing.proofs.Making.{within}
@@ -89,6 +91,16 @@ form_is id key is named = elim (cases_Bool (has_param id.params (codes "bs"))) [
 key_named : (label : List ℕ) (o : Option (List ℕ)) → is_label_or_none label o ≡ false → (key : List ℕ) × (o ≡ Some key)
 key_named label None is = absurd (false≢true (sym is))
 key_named label (Some key) is = (key, refl)
+
+-- both fields of signatures have field names
+listed_is_field : (name : List ℕ) → is_listed (signature_name ∷ input_name ∷ []) name ≡ true → is_field_name name ≡ true
+listed_is_field name listed = elim (or_cases (bytes_eq name signature_name) (bytes_eq name input_name || false) listed) [
+  | inl one ↦ ap is_field_name ((bytes_eq-Decides name signature_name).0 one)
+  | inr two ↦ elim (or_cases (bytes_eq name input_name) false two) [
+    | inl is ↦ ap is_field_name ((bytes_eq-Decides name input_name).0 is)
+    | inr no_more ↦ absurd (false≢true no_more)
+  ]
+]
 
 -- ---- no component covers the signature
 
@@ -234,34 +246,36 @@ module _ (context : MessageContext) (spec : SignSpec) (valid : IsValidSpec spec)
     ]
   ]
 
-  header_kept : (id : ComponentId) (value : List ℕ) → is_identifier (item_of id) ≡ true → covers_itself spec.label id ≡ false → has_param id.params (codes "req") ≡ false → has_param id.params (codes "tr") ≡ false
-      → FieldRow id.params (kind_in context.types id.name) (with_digest context.message spec.digest).head.lines id.name (Ok value)
-      → FieldRow id.params (kind_in context.types id.name) (signed_message context.message spec tag).head.lines id.name (Ok value)
-  header_kept id value is uncovered own header row = elim (cases_Bool (is_listed (signature_name ∷ input_name ∷ []) id.name)) [
-    | inl listed ↦
-        let named = key_named spec.label (member_key id.params) (rw (listed, own, header) at uncovered) in
-        listed_kept id value listed named.0 (form_is id named.0 is named.1) row
-    | inr other ↦
-        let same = none_of id.name (signature_other spec valid tag bytes id.name other) in
-        field_same (with_digest context.message spec.digest).head.lines (signed_message context.message spec tag).head.lines id.name same.0 same.1 id.params (kind_in context.types id.name) (Ok value) row
-  ]
+  alike : (id : ComponentId) → (has_param id.params (codes "req") ≡ false → HasSameValues (lines_on (side_of id.params) (with_digest context.message spec.digest)) (lines_on (side_of id.params) (signed_message context.message spec tag)) id.name)
+      → AreAlikeFor id (with_digest context.message spec.digest) (signed_message context.message spec tag)
+  alike id own = record { start = refl; hosts = (none_of (codes "host") (signature_other spec valid tag bytes (codes "host") refl)).1; own = own }
 
-  name_kept : (field : Bool) (id : ComponentId) (value : List ℕ) → is_identifier (item_of id) ≡ true → covers_itself spec.label id ≡ false → has_param id.params (codes "req") ≡ false
-      → NameRow field (context_with_digest context spec.digest) id (with_digest context.message spec.digest) (Ok value)
+  kept_alike : (id : ComponentId) (value : List ℕ)
+      → (has_param id.params (codes "req") ≡ false → HasSameValues (lines_on (side_of id.params) (with_digest context.message spec.digest)) (lines_on (side_of id.params) (signed_message context.message spec tag)) id.name)
+      → Has (context_with_digest context spec.digest) id value → Has (context_with context (signed_message context.message spec tag)) id value
+  kept_alike id value own has = depends_on_its_lines (context_with_digest context spec.digest) (signed_message context.message spec tag) id (Ok value) (alike id own) has
+
+  name_kept : (field : Bool) (id : ComponentId) (value : List ℕ) → is_field_name id.name ≡ field → is_listed (signature_name ∷ input_name ∷ []) id.name ≡ true → has_param id.params (codes "tr") ≡ false → (key : List ℕ)
+      → form_of id.params ≡ form.member key → NameRow field (context_with_digest context spec.digest) id (with_digest context.message spec.digest) (Ok value)
       → NameRow field (context_with context (signed_message context.message spec tag)) id (signed_message context.message spec tag) (Ok value)
-  name_kept false id value is uncovered own row =
-      derived_same (with_digest context.message spec.digest).head.lines (signed_message context.message spec tag).head.lines (none_of (codes "host") (signature_other spec valid tag bytes (codes "host") refl)).1
-      id.params context.scheme (derived_of id.name) context.message.head.start (Ok value) row
-  name_kept true id value is uncovered own row = elim (cases_Bool (has_param id.params (codes "tr"))) [
-    | inl trailer ↦ rw trailer (rw trailer at row)
-    | inr header ↦ rw header (header_kept id value is uncovered own header (rw header at row))
-  ]
+  name_kept false id value is listed header key form row = absurd (false≢true (sym is ∙ listed_is_field id.name listed))
+  name_kept true id value is listed header key form row = rw header (listed_kept id value listed key form (rw header at row))
 
   value_kept : (id : ComponentId) (value : List ℕ) → is_identifier (item_of id) ≡ true → covers_itself spec.label id ≡ false → Has (context_with_digest context spec.digest) id value
       → Has (context_with context (signed_message context.message spec tag)) id value
   value_kept id value is uncovered has = elim (cases_Bool (has_param id.params (codes "req"))) [
-    | inl req ↦ rw req (req_same (context_with_digest context spec.digest) (context_with context (signed_message context.message spec tag)) refl refl refl refl id (Ok value) (rw req at has))
-    | inr own ↦ rw own (name_kept (is_field_name id.name) id value is uncovered own (rw own at has))
+    | inl req ↦ kept_alike id value (λ own. absurd (false≢true (sym own ∙ req))) has
+    | inr own ↦ elim (cases_Bool (has_param id.params (codes "tr"))) [
+      | inl trailer ↦ kept_alike id value (λ _. rw trailer (record { there = refl; same = refl })) has
+      | inr header ↦ elim (cases_Bool (is_listed (signature_name ∷ input_name ∷ []) id.name)) [
+        | inl listed ↦
+            let named = key_named spec.label (member_key id.params) (rw (listed, own, header) at uncovered) in
+            rw own (name_kept (is_field_name id.name) id value refl listed header named.0 (form_is id named.0 is named.1) (rw own at has))
+        | inr other ↦
+            let same = none_of id.name (signature_other spec valid tag bytes id.name other) in
+            kept_alike id value (λ _. rw header (record { there = same.0; same = same.1 })) has
+      ]
+    ]
   ]
 
   pub values_kept : (ids : List ComponentId) (texts : List (List ℕ)) → list_all (λ id. is_identifier (item_of id)) ids ≡ true → list_any (covers_itself spec.label) ids ≡ false

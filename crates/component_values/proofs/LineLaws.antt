@@ -1,24 +1,22 @@
--- The values of covered components, where a message takes the lines of a signature.
+-- What a component comes to depends on the lines of its name, and on those of `Host`.
 use Rattle.std.proofs.Common.{◌≡◌, ℕ, Bool, true, false, Option, Some, None, Result, Ok, Err, List, codes, refl, sym, ap, subst, inl, inr}
+use Rattle.std.proofs.lemmas.Bool.{cases_Bool}
 use Rattle.std.specs.List.{join_by}
-use Rattle.byte_grammar.proofs.Indices.{some_and, some_and_parts}
-use Rattle.sfv_text.specs.Keys.{value_of}
-use Rattle.sfv_text.specs.Strict.{member_text}
 use Rattle.sfv_text.specs.declared.pair.Pair.{Pair}
 use Rattle.sfv_text.specs.declared.value.BareItem.{BareItem}
-use Rattle.sfv_text.specs.declared.value.Member.{Member}
-use Rattle.sfv_read.specs.Reads.{ReadsDict}
 use Rattle.msg_head.specs.Lines.{FieldLine}
 use Rattle.msg_head.specs.Starts.{StartLine, request, status}
 use Rattle.msg_head.specs.Values.{combined_value, is_there, values}
 use Rattle.msg_body.specs.Messages.{Message}
-use Rattle.component_ids.specs.Table.{is_field_name}
+use Rattle.msg_body.specs.Views.{lines_on}
+use Rattle.msg_head.specs.declared.error.Side.TheVariants.{Header}
+use Rattle.component_ids.specs.Types.{kind_in}
+use Rattle.component_ids.specs.Table.{is_field_name, has_param}
 use Rattle.component_ids.specs.declared.id.ComponentId.{ComponentId}
 use Rattle.component_ids.specs.declared.scheme.Scheme.{Scheme}
 use Rattle.component_ids.specs.declared.types.FieldKind.{FieldKind}
-use Rattle.component_ids.specs.declared.types.FieldKind.TheVariants as kind
 use Rattle.targets.specs.Targets.{TargetParts, path_of}
-use Rattle.derived_values.specs.Derived.{RequestParts, DerivedRow, FormedRow, RequestRow, StartRow, TargetAuthorityRow, TargetRow, TargetUriRow, AuthorityRow, named_authority, scheme_of, sole_value}
+use Rattle.derived_values.specs.Derived.{derived_of, RequestParts, DerivedRow, FormedRow, RequestRow, StartRow, TargetAuthorityRow, TargetRow, TargetUriRow, AuthorityRow, named_authority, scheme_of, sole_value}
 use Rattle.derived_values.specs.declared.derived.DerivedName.{DerivedName}
 use Rattle.derived_values.specs.declared.derived.DerivedName.TheVariants.{Method, RequestTarget, Status, OfTarget}
 use Rattle.derived_values.specs.declared.derived.TargetName.{TargetName}
@@ -27,7 +25,8 @@ use Rattle.derived_values.specs.declared.lack.Lack.{Lack}
 use Rattle.component_values.specs.Context.{MessageContext}
 use Rattle.component_values.specs.Forms.{Form, form_of}
 use Rattle.component_values.specs.Forms as form
-use Rattle.component_values.specs.Values.{FieldRow, FormRow, KeyRow, KindRow, LineRow, MemberRow, MessageRow, NameRow, related_message}
+use Rattle.component_values.specs.Laws.{DependsOnItsLines, HasSameValues}
+use Rattle.component_values.specs.Values.{side_of, FieldRow, FormRow, KeyRow, KindRow, LineRow, MessageRow, NameRow, related_message}
 
 -- ---- derived components
 
@@ -97,47 +96,37 @@ module _ (xs ys : List FieldLine) (name : List ℕ) (there : is_there ys name �
   pub field_same : (params : List (Pair BareItem)) (field : Option FieldKind) (result : Result (List ℕ) Lack) → FieldRow params field xs name result → FieldRow params field ys name result
   field_same params field result row = rw there (line_same (is_there xs name) params field result row)
 
--- a field that has further members
-module _ (xs ys : List FieldLine) (name key : List ℕ) (there : is_there ys name ≡ true)
-    (kept : (dict : List (Pair Member)) (member : Member) → is_there xs name ≡ true → ReadsDict (combined_value xs name) dict → value_of dict key ≡ Some member
-    → (more : List (Pair Member)) × ReadsDict (combined_value ys name) more × (value_of more key ≡ Some member)) where
-  member_same : (value : List ℕ) → is_there xs name ≡ true → MemberRow key (combined_value xs name) (Ok value) → MemberRow key (combined_value ys name) (Ok value)
-  member_same value here row =
-      let found = some_and_parts (λ (member : Member). value ≡ member_text member) (value_of row.0 key) row.2 in
-      let more = kept row.0 found.0 here row.1 found.1 in
-      (more.0, more.1, some_and (λ (member : Member). value ≡ member_text member) (value_of more.0 key) found.0 more.2 found.2)
-
-  key_same : (field : Option FieldKind) (value : List ℕ) → is_there xs name ≡ true → KeyRow field key (combined_value xs name) (Ok value) → KeyRow field key (combined_value ys name) (Ok value)
-  key_same (Some kind.Item) value here row = absurd cc
-  key_same (Some kind.List) value here row = absurd cc
-  key_same (Some kind.Dictionary) value here row = member_same value here row
-  key_same None value here row = member_same value here row
-
-  key_line : (is : Bool) (params : List (Pair BareItem)) (field : Option FieldKind) (value : List ℕ) → form_of params ≡ form.member key → is_there xs name ≡ is → LineRow is params field xs name (Ok value)
-      → LineRow true params field ys name (Ok value)
-  key_line false params field value form here row = absurd cc
-  key_line true params field value form here row =
-      subst (λ (f : Form). FormRow f field ys name (Ok value)) (sym form) (key_same field value here (subst (λ (f : Form). FormRow f field xs name (Ok value)) form row))
-
-  pub key_field : (params : List (Pair BareItem)) (field : Option FieldKind) (value : List ℕ) → form_of params ≡ form.member key → FieldRow params field xs name (Ok value) → FieldRow params field ys name (Ok value)
-  key_field params field value form row = rw there (key_line (is_there xs name) params field value form refl row)
-
 -- ---- components
 
--- the message is another one of the same start line and body
-module _ (context other : MessageContext) (related : other.related ≡ context.related) (scheme : other.scheme ≡ context.scheme) (types : other.types ≡ context.types)
-    (start : other.message.head.start ≡ context.message.head.start) where
-  name_same : (is : Bool) (id : ComponentId) (message : Message) (result : Result (List ℕ) Lack) → NameRow is context id message result → NameRow is other id message result
-  name_same true id message result row = rw types row
-  name_same false id message result row = rw scheme row
+module _ (context : MessageContext) (other : Message) where
+  abbrev moved : MessageContext
+  moved = record context { message = other }
 
-  row_same : (drawn : Result Message Lack) (id : ComponentId) (result : Result (List ℕ) Lack) → MessageRow drawn context id result → MessageRow drawn other id result
-  row_same (Err lack) id result row = row
-  row_same (Ok message) id result row = name_same (is_field_name id.name) id message result row
+  drawn_same : (is : Bool) (id : ComponentId) (message : Message) (result : Result (List ℕ) Lack) → NameRow is context id message result → NameRow is moved id message result
+  drawn_same true id message result row = row
+  drawn_same false id message result row = row
 
-  related_same : related_message other ≡ related_message context
-  related_same = rw (start, related) refl
+  related_row : (drawn : Result Message Lack) (id : ComponentId) (result : Result (List ℕ) Lack) → MessageRow drawn context id result → MessageRow drawn moved id result
+  related_row (Err lack) id result row = row
+  related_row (Ok message) id result row = drawn_same (is_field_name id.name) id message result row
 
-  -- a component of the related request
-  pub req_same : (id : ComponentId) (result : Result (List ℕ) Lack) → MessageRow (related_message context) context id result → MessageRow (related_message other) other id result
-  req_same id result row = subst (λ (drawn : Result Message Lack). MessageRow drawn other id result) (sym related_same) (row_same (related_message context) id result row)
+  module _ (start : other.head.start ≡ context.message.head.start) where
+    related_same : related_message moved ≡ related_message context
+    related_same = rw start refl
+
+    module _ (hosts : values (lines_on Header other) (codes "host") ≡ values (lines_on Header context.message) (codes "host")) (id : ComponentId) where
+      own_row : (is : Bool) (result : Result (List ℕ) Lack) → HasSameValues (lines_on (side_of id.params) context.message) (lines_on (side_of id.params) other) id.name → NameRow is context id context.message result
+          → NameRow is moved id other result
+      own_row true result same row =
+          field_same (lines_on (side_of id.params) context.message) (lines_on (side_of id.params) other) id.name same.there same.same id.params (kind_in context.types id.name) result row
+      own_row false result same row =
+          subst (λ (s : StartLine). DerivedRow (derived_of id.name) id.params context.scheme (lines_on Header other) s result) (sym start)
+          (derived_same (lines_on Header context.message) (lines_on Header other) hosts id.params context.scheme (derived_of id.name) context.message.head.start result row)
+
+pub depends_on_its_lines : DependsOnItsLines
+depends_on_its_lines context other id result alike comes = elim (cases_Bool (has_param id.params (codes "req"))) [
+  | inl req ↦
+      rw req (subst (λ (drawn : Result Message Lack). MessageRow drawn (record context { message = other }) id result) (sym (related_same context other alike.start))
+      (related_row context other (related_message context) id result (rw req at comes)))
+  | inr own ↦ rw own (own_row context other alike.start alike.hosts id (is_field_name id.name) result (alike.own own) (rw own at comes))
+]
