@@ -7,3 +7,4 @@ mod DerivedValues
 mod Encoded
 mod Sequences
 mod Unread
+pub mod LineLaws

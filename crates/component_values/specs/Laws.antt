@@ -1,14 +1,19 @@
 -- Laws of components and their values.
-use Rattle.std.specs.Prelude.{◌≡◌, ◌⊎◌, ℕ, Bool, ◌&&◌, IsTrue, IfSome, List}
+use Rattle.std.specs.Prelude.{◌≡◌, ◌⊎◌, ℕ, Bool, ◌&&◌, IsTrue, IsFalse, IfSome, Result, List, codes}
 use Rattle.std.specs.Char.{is_ascii}
 use Rattle.std.specs.List.{list_all}
 use Rattle.byte_grammar.specs.Classes.{is_line_byte}
 use Rattle.sfv_text.specs.Classes.{is_byte}
+use Rattle.msg_head.specs.declared.error.Side.TheVariants.{Header}
+use Rattle.msg_head.specs.Lines.{FieldLine}
+use Rattle.msg_head.specs.Values.{is_there, values}
 use Rattle.msg_body.specs.Messages.{Message, Spells}
+use Rattle.msg_body.specs.Views.{lines_on}
+use Rattle.component_ids.specs.Table.{has_param}
 use Rattle.component_ids.specs.declared.id.ComponentId.{ComponentId}
 use Rattle.derived_values.specs.declared.lack.Lack.{Lack}
 use Rattle.component_values.specs.Context.{MessageContext}
-use Rattle.component_values.specs.Values.{Has, Lacks, HaveValues, IsFirstLack}
+use Rattle.component_values.specs.Values.{ComesTo, Has, Lacks, HaveValues, IsFirstLack, side_of}
 
 -- a component has a value, or lacks one
 abbrev pub HasOrLacks : Type 0
@@ -55,6 +60,29 @@ abbrev pub HasCleanValues : Type 0
 HasCleanValues =
     (context : MessageContext) (id : ComponentId) (value : List ℕ) → HasMessages context
     → Has context id value → IsTrue (list_all is_value_byte value)
+
+-- ---- the lines that a component is drawn from
+
+-- both have lines of the name or neither has, with the same values
+pub record HasSameValues (lines others : List FieldLine) (name : List ℕ) : Type 0 where
+  pub there : is_there others name ≡ is_there lines name
+  pub same : values others name ≡ values lines name
+
+-- The messages have one start line, and the same values of the component's name on its side and of
+-- `Host`.
+pub record AreAlikeFor (id : ComponentId) (message other : Message) : Type 0 where
+  pub start : other.head.start ≡ message.head.start
+  pub hosts : values (lines_on Header other) (codes "host")
+      ≡ values (lines_on Header message) (codes "host")
+  pub own : IsFalse (has_param id.params (codes "req")) → HasSameValues
+      (lines_on (side_of id.params) message) (lines_on (side_of id.params) other) id.name
+
+-- a component comes to the same in messages that are alike for it
+abbrev pub DependsOnItsLines : Type 0
+DependsOnItsLines =
+    (context : MessageContext) (other : Message) (id : ComponentId)
+    (result : Result (List ℕ) Lack) → AreAlikeFor id context.message other
+    → ComesTo context id result → ComesTo (record context { message = other }) id result
 
 -- ---- the components of a signature
 

@@ -1,6 +1,6 @@
 //! Laws of components and their values. Each function does nothing; its contract is the law.
 
-ghost use Rattle.component_values.specs.Laws.{HasOrLacks, HasOneValueOnly, LacksInOneWay, LacksNoValue, HasCleanValues, HaveOrLack, HaveOneList, HaveOneFirstLack, HaveNoLack};
+ghost use Rattle.component_values.specs.Laws.{HasOrLacks, HasOneValueOnly, LacksInOneWay, LacksNoValue, HasCleanValues, DependsOnItsLines, HaveOrLack, HaveOneList, HaveOneFirstLack, HaveNoLack};
 
 /// A component has one value, or lacks one in one way, and not both. A value that is drawn from
 /// messages that bytes spell is ASCII, and has no NUL, CR or LF.
@@ -10,6 +10,12 @@ pub fn components_have_one_answer()
     ensures lack { LacksInOneWay }
     ensures either { LacksNoValue }
     ensures clean { HasCleanValues }
+{}
+
+/// What a component comes to depends on the start line, on the lines of its name, and on those of
+/// `Host`.
+pub fn components_depend_on_their_lines()
+    ensures { DependsOnItsLines }
 {}
 
 /// The components of a signature have one list of values, or one of them is the first that lacks

@@ -27,5 +27,7 @@ pub use context::Context;
 pub use covered::prepare;
 pub use derived_values::Lack;
 pub use fault::ValueFault;
-pub use laws::{components_have_one_answer, signatures_have_one_answer};
+pub use laws::{
+    components_depend_on_their_lines, components_have_one_answer, signatures_have_one_answer,
+};
 pub use prepared::Prepared;

@@ -34,3 +34,4 @@ mod NameOrder
 pub mod NamedLists
 mod TextLaws
 mod Unfolded
+pub mod MoreLines

@@ -1,8 +1,13 @@
 -- Laws of heads, of trailer sections and of values.
-use Rattle.std.specs.Prelude.{◌≡◌, ◌≢◌, ◌⊎◌, ◌↔◌, ℕ, ◌<◌, List, ◌++◌, length, take, codes}
+use Rattle.std.specs.Prelude.{◌≡◌, ◌≢◌, ◌⊎◌, ◌↔◌, ℕ, ◌<◌, IsTrue, IsFalse, List, [], ◌∷◌, ◌++◌, length, take, reverse, codes}
+use Rattle.std.specs.List.{list_all}
+use Rattle.std.specs.Str.{byte}
+use Rattle.byte_grammar.specs.Classes.{is_blank, is_line_byte}
+use Rattle.byte_grammar.specs.Language.{starts_in}
+use Rattle.msg_head.specs.Names.{has_name}
 use Rattle.msg_head.specs.Cuts.{IsSection}
 use Rattle.msg_head.specs.RawValues.{IsRaw}
-use Rattle.msg_head.specs.Values.{IsLineValue, value}
+use Rattle.msg_head.specs.Values.{IsLineValue, combined_value, has_bytes, is_there, value, values}
 use Rattle.msg_head.specs.Heads.{Head, IsHead, IsHeadText, SpellsHead, IsUnfinished, head_text}
 use Rattle.msg_head.specs.Causes.{IsHeadError}
 use Rattle.msg_head.specs.Lines.{FieldLine}
@@ -118,3 +123,28 @@ NoTrailerAnswerYet =
 -- A line's raw value has one value, the one that is computed.
 abbrev pub RawHasOneValue : Type 0
 RawHasOneValue = (raw text : List ℕ) → IsRaw raw → (IsLineValue raw text) ↔ (text ≡ value raw)
+
+-- A text without folds that has no blank at either end is the value of the text after SP.
+abbrev pub HasItsValueAfterSpace : Type 0
+HasItsValueAfterSpace =
+    (text : List ℕ) → IsTrue (list_all is_line_byte text) → IsTrue (has_bytes text)
+    → IsFalse (starts_in is_blank text) → IsFalse (starts_in is_blank (reverse text))
+    → value (byte " " ∷ text) ≡ text
+
+-- ---- further lines
+
+-- Further lines change nothing of a name that none of them has.
+abbrev pub KeepsOtherNames : Type 0
+KeepsOtherNames =
+    (lines further : List FieldLine) (name : List ℕ) → IsFalse (is_there further name)
+    → (is_there (lines ++ further) name ≡ is_there lines name)
+    × (values (lines ++ further) name ≡ values lines name)
+
+-- The value of a further line comes last, after a comma and a space where another line has the
+-- name.
+abbrev pub CombinesFurtherLine : Type 0
+CombinesFurtherLine =
+    (lines : List FieldLine) (line : FieldLine) (name : List ℕ) → IsTrue (has_name name line)
+    → (IsTrue (is_there lines name) → combined_value (lines ++ line ∷ []) name
+    ≡ combined_value lines name ++ (codes ", " ++ value line.raw))
+    × (IsFalse (is_there lines name) → combined_value (lines ++ line ∷ []) name ≡ value line.raw)

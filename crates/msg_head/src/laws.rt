@@ -1,6 +1,6 @@
 //! Laws of heads, of trailer sections and of values.
 
-ghost use Rattle.msg_head.specs.Laws.{OneHead, OneHeadOfText, NoHeadInPrefix, EndsAtFirstEnd, EachHasAHeadAnswer, OneHeadFault, NoFaultAtHead, NoHeadAnswerYet, OneTrailer, TrailerSectionIs, TrailerEndsAtFirstEnd, EachHasATrailerAnswer, OneTrailerFault, NoFaultAtTrailer, NoTrailerAnswerYet, RawHasOneValue};
+ghost use Rattle.msg_head.specs.Laws.{OneHead, OneHeadOfText, NoHeadInPrefix, EndsAtFirstEnd, EachHasAHeadAnswer, OneHeadFault, NoFaultAtHead, NoHeadAnswerYet, OneTrailer, TrailerSectionIs, TrailerEndsAtFirstEnd, EachHasATrailerAnswer, OneTrailerFault, NoFaultAtTrailer, NoTrailerAnswerYet, RawHasOneValue, HasItsValueAfterSpace, KeepsOtherNames, CombinesFurtherLine};
 
 /// The laws of heads: bytes begin with at most one head, a text is that of at most one head, no
 /// head's text is a proper prefix of another's, and a head ends at the first CRLF CRLF.
@@ -37,4 +37,12 @@ pub fn trailers_have_one_answer()
 /// the blanks at their ends, those that are not empty, joined by one space.
 pub fn value_laws()
     ensures value { RawHasOneValue }
+    ensures after_space { HasItsValueAfterSpace }
+{}
+
+/// The laws of lines that come after others: they keep the values of names that they don't have,
+/// and the value of one more line comes last.
+pub fn further_line_laws()
+    ensures others { KeepsOtherNames }
+    ensures further { CombinesFurtherLine }
 {}

@@ -37,7 +37,9 @@ mod view;
 
 pub use error::{HeadError, Side};
 pub use head::{HeadRead, read_head};
-pub use laws::{head_laws, heads_have_one_answer, trailers_have_one_answer, value_laws};
+pub use laws::{
+    further_line_laws, head_laws, heads_have_one_answer, trailers_have_one_answer, value_laws,
+};
 pub use limits::{MAX_HEAD_BYTES, MAX_HEAD_LINES};
 pub use line::{LineSpan, LineView};
 pub use named_lines::NamedFieldLines;

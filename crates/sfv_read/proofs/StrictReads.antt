@@ -241,7 +241,7 @@ dict_value_reads : (v : Member) → is_member_in_range v ≡ true → IsDictValu
 dict_value_reads (ItemMember item) h = dict_item_reads item.bare item.params h
 dict_value_reads (InnerMember list) h = inl (inner_text list, refl, inner_reads list h)
 
-dict_member_reads : (p : Pair Member) → is_dict_member_in_range p ≡ true → IsDictMember (dict_member_text p) p
+pub dict_member_reads : (p : Pair Member) → is_dict_member_in_range p ≡ true → IsDictMember (dict_member_text p) p
 dict_member_reads p h =
     let both = and_is (is_key p.key) (is_member_in_range p.value) h in
     record { key = p.key; rest = dict_value_text p.value; joined = refl; is_key = word_reads is_key_first is_key_rest p.key both.0; value = dict_value_reads p.value both.1 }

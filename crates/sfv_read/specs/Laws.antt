@@ -1,7 +1,15 @@
 -- Laws of the texts that are read.
-use Rattle.std.specs.Prelude.{◌≡◌, ◌↔◌, ◌⊎◌, ℕ, Bool, List, IsTrue}
+use Rattle.std.specs.Prelude.{◌≡◌, ◌↔◌, ◌⊎◌, ℕ, Bool, List, [], ◌++◌, IsTrue, IsFalse, reverse, codes}
+use Rattle.byte_grammar.specs.Classes.{is_blank}
 use Rattle.byte_grammar.specs.FaultOffset.{IsFaultOffset}
+use Rattle.byte_grammar.specs.Language.{starts_in}
+use Rattle.sfv_text.specs.Keys.{put}
+use Rattle.sfv_text.specs.Range.{is_dict_member_in_range}
+use Rattle.sfv_text.specs.Strict.{dict_member_text}
+use Rattle.sfv_text.specs.declared.pair.Pair.{Pair}
+use Rattle.sfv_text.specs.declared.value.Member.{Member}
 use Rattle.sfv_read.specs.Fault.{IsSfError}
+use Rattle.sfv_read.specs.Reads.{ReadsDict}
 use Rattle.sfv_read.specs.declared.error.SfError.{SfError}
 use Rattle.sfv_read.specs.declared.error.SfError.TheVariants.{Memory}
 
@@ -39,3 +47,20 @@ ReadsBack {V} L test text_of = (v : V) → IsTrue (test v) → L (text_of v) v
 abbrev pub HasDistinctTexts : {V : Type 0} → (V → Bool) → (V → List ℕ) → Type 0
 HasDistinctTexts {V} test text_of =
     (v w : V) → IsTrue (test v) → IsTrue (test w) → (text_of v ≡ text_of w) ↔ (v ≡ w)
+
+-- ---- a further member
+
+-- After a Dictionary that has members, a comma, SP and the strict text of a member put its value at
+-- its key.
+abbrev pub ReadsFurtherMember : Type 0
+ReadsFurtherMember =
+    (text : List ℕ) (dict : List (Pair Member)) (member : Pair Member) → ReadsDict text dict
+    → ¬ (dict ≡ []) → IsTrue (is_dict_member_in_range member)
+    → ReadsDict (text ++ (codes ", " ++ dict_member_text member)) (put dict member.key member.value)
+
+-- the strict text of a member has no blank at either end
+abbrev pub HasNoBlankEnds : Type 0
+HasNoBlankEnds =
+    (member : Pair Member) → IsTrue (is_dict_member_in_range member)
+    → IsFalse (starts_in is_blank (dict_member_text member))
+    × IsFalse (starts_in is_blank (reverse (dict_member_text member)))

@@ -2,7 +2,7 @@
 
 ghost use Rattle.sfv_text.specs.Range.{is_item_in_range, is_inner_in_range, is_list_in_range, is_dict_in_range};
 ghost use Rattle.sfv_text.specs.Strict.{item_text, inner_text, list_text, dict_text};
-ghost use Rattle.sfv_read.specs.Laws.{HasOneValue, HasOneAnswer, HasValueOrNone, HasFault, ReadsOnly, ReadsBack, HasDistinctTexts};
+ghost use Rattle.sfv_read.specs.Laws.{HasOneValue, HasOneAnswer, HasValueOrNone, HasFault, ReadsOnly, ReadsBack, HasDistinctTexts, ReadsFurtherMember, HasNoBlankEnds};
 ghost use Rattle.sfv_read.specs.Reads.{ReadsItem, ReadsInner, ReadsList, ReadsDict};
 
 /// A text reads as at most one value of a kind.
@@ -60,4 +60,11 @@ pub fn strict_texts_are_distinct()
     ensures inner { HasDistinctTexts is_inner_in_range inner_text }
     ensures list { HasDistinctTexts is_list_in_range list_text }
     ensures dict { HasDistinctTexts is_dict_in_range dict_text }
+{}
+
+/// A member whose strict text comes after a Dictionary and a comma is put at its key. Its text has
+/// no blank at either end.
+pub fn a_dictionary_takes_a_further_member()
+    ensures further { ReadsFurtherMember }
+    ensures ends { HasNoBlankEnds }
 {}

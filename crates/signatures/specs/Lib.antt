@@ -1,3 +1,4 @@
+pub mod Algorithms
 pub mod Signatures
 pub mod Fields
 pub mod Rules

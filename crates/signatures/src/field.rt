@@ -13,7 +13,7 @@ use std::alloc::Global;
 
 /// What was read of a header field that is to be a Dictionary (RFC 9651 section 3.2).
 #[derive(Debug, Drop)]
-pub(crate) enum DictField {
+pub enum DictField {
     /// No line has the name.
     Absent,
     /// The combined value is no Dictionary.
@@ -23,11 +23,7 @@ pub(crate) enum DictField {
 }
 
 /// Reads the header field of the name, which is in lower case.
-pub(crate) fn read_field(
-    alloc: Global,
-    view: &MessageView<'_>,
-    name: &[u8],
-) -> Result<DictField, Memory>
+pub fn read_field(alloc: Global, view: &MessageView<'_>, name: &[u8]) -> Result<DictField, Memory>
     ensures { IfOk result (IsFieldOf (message_of view.now) name.now) }
 {
     let lines = view.lines_named(Side::Header, name);

@@ -10,6 +10,7 @@
 //! ```
 #![tactic(auto)]
 
+mod algorithm;
 mod field;
 mod fields;
 mod label;
@@ -19,6 +20,8 @@ mod place;
 mod read;
 mod rule;
 
+pub use algorithm::{SUPPORTED_ALGORITHM, is_refused_algorithm};
+pub use field::{DictField, read_field};
 pub use fields::{SignatureFields, labels_of, read_label};
 pub use label::{LabelFault, LabelRead, Labels};
 pub use laws::{

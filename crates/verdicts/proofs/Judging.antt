@@ -39,7 +39,8 @@ use Rattle.signatures.specs.declared.rule.Rule.TheVariants.{InputAbsent, InputMa
 use Rattle.signatures.specs.Words.{rule_number}
 use Rattle.signatures.specs.Signatures.{HasSignature}
 use Rattle.signatures.specs.Rules.{FailsToRead, IsLabelUnread, IsFirstFailure}
-use Rattle.verdicts.specs.Rules.{key_in, supported_algorithm, refused_algorithms, asks_digest_of, OfSignature, FailsByLack, IsNoMac, Fails}
+use Rattle.signatures.specs.Algorithms.{supported_algorithm, refused_algorithms}
+use Rattle.verdicts.specs.Rules.{key_in, asks_digest_of, OfSignature, FailsByLack, IsNoMac, Fails}
 use Rattle.verdicts.specs.Verdicts.{Accepts, IsVerdict}
 use Rattle.verdicts.specs.Laws.{HasVerdict, HasOneVerdict, IsAcceptedWhereNoRuleFails}
 use Rattle.signatures.specs.tools.Answered.{SaysRule}

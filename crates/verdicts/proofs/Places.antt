@@ -25,7 +25,8 @@ use Rattle.signatures.specs.declared.rule.Rule.{Rule}
 use Rattle.signatures.specs.declared.rule.Rule.TheVariants.{InputAbsent, InputMalformed, SignatureAbsent, SignatureMalformed, LabelNotInInput, LabelNotInSignature, InputNotList, SignatureNotBytes, ComponentsMany, ComponentBad, ComponentRepeated, ParameterBad, AlgRefused, AlgUnknown, KeyidAbsent, KeyUnknown, ComponentRequired, CreatedAbsent, CreatedAhead, TooOld, ExpiresAbsent, Expired, TagWrong, NonceAbsent, NonceRepeated, NonceLong, Absent, Ambiguous, Underivable, Unreadable, NotAscii, MacMismatch, Digest, NoncesFull}
 use Rattle.signatures.specs.Signatures.{HasSignature}
 use Rattle.signatures.specs.Rules.{FailsToRead}
-use Rattle.verdicts.specs.Rules.{supported_algorithm, refused_algorithms, FailsByLack, Fails}
+use Rattle.signatures.specs.Algorithms.{supported_algorithm, refused_algorithms}
+use Rattle.verdicts.specs.Rules.{FailsByLack, Fails}
 use Rattle.verdicts.specs.Verdicts.{is_place_in_range}
 use Rattle.signatures.proofs.InRange.{is_signature_in_range}
 

@@ -1,10 +1,17 @@
 -- Laws of verdicts.
-use Rattle.std.specs.Prelude.{◌≡◌, ◌↔◌, ℕ, List}
+use Rattle.std.specs.Prelude.{◌≡◌, ◌↔◌, ℕ, Bool, ◌&&◌, ◌||◌, nat_le, IsTrue, IsFalse, Some, List}
+use Rattle.component_ids.specs.declared.params.SigParams.{SigParams}
+use Rattle.component_values.specs.Values.{HaveValues}
+use Rattle.sig_base.specs.SignatureBase.{signature_base}
+use Rattle.hmac_sha256.specs.Hmac.{hmac}
 use Rattle.signatures.specs.declared.place.Place.{Place}
 use Rattle.signatures.specs.declared.rule.Rule.{Rule}
+use Rattle.signatures.specs.Signatures.{HasSignature}
+use Rattle.signatures.specs.Words.{rule_number}
 use Rattle.verdicts.specs.declared.outcome.Verdict.{Verdict}
 use Rattle.verdicts.specs.Verification.{Verification}
-use Rattle.verdicts.specs.Rules.{Fails}
+use Rattle.verdicts.specs.Parameters.{keyid_of}
+use Rattle.verdicts.specs.Rules.{Fails, key_in}
 use Rattle.verdicts.specs.Verdicts.{Accepts, IsVerdict}
 
 -- a label has a verdict
@@ -22,3 +29,37 @@ abbrev pub IsAcceptedWhereNoRuleFails : Type 0
 IsAcceptedWhereNoRuleFails =
     (v : Verification)
     → ((keyid : List ℕ) × Accepts v keyid) ↔ ((rule : Rule) (place : Place) → ¬ Fails v rule place)
+
+-- ---- signed messages
+
+-- rules 1 to 12, by which a signature is read, and 27 to 32, by which its components have values
+-- and its tag is right
+abbrev pub is_rule_of_signing : Rule → Bool
+is_rule_of_signing rule =
+    nat_le (rule_number rule) 12 || (nat_le 27 (rule_number rule) && nat_le (rule_number rule) 32)
+
+-- The message has the label's signature with the values of its components, and its tag is the HMAC
+-- under the key that is configured for its `keyid`. So is what a signer with that key writes.
+pub record IsRightlySigned (v : Verification) (keyid : List ℕ) : Type 0 where
+  pub params : SigParams
+  pub tag : List ℕ
+  pub signature : HasSignature v.context.message v.label params tag
+  pub keyid_is : keyid_of params ≡ Some keyid
+  pub key : List ℕ
+  pub key_is : key_in v.conf keyid ≡ Some key
+  pub values : List (List ℕ)
+  pub have : HaveValues v.context params.ids values
+  pub mac : tag ≡ hmac key (signature_base params values)
+
+-- of a label that is signed so, no rule of signing fails
+abbrev pub HoldsRulesOfSigning : Type 0
+HoldsRulesOfSigning =
+    (v : Verification) (keyid : List ℕ) (rule : Rule) (place : Place) → IsRightlySigned v keyid
+    → IsTrue (is_rule_of_signing rule) → ¬ Fails v rule place
+
+-- it is accepted where none of the other rules fails
+abbrev pub IsAcceptedByOtherRules : Type 0
+IsAcceptedByOtherRules =
+    (v : Verification) (keyid : List ℕ) → IsRightlySigned v keyid
+    → ((rule : Rule) (place : Place) → IsFalse (is_rule_of_signing rule) → ¬ Fails v rule place)
+    → Accepts v keyid

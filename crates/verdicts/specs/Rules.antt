@@ -26,22 +26,13 @@ use Rattle.signatures.specs.declared.place.DigestReason.{DigestReason}
 use Rattle.signatures.specs.declared.place.Place.{Place}
 use Rattle.signatures.specs.declared.place.Place.TheVariants.{None as Nowhere, Name, Identifier, Digest as DigestPlace}
 use Rattle.verdicts.specs.ContentDigest.{asks_digest, LacksDigest}
+use Rattle.signatures.specs.Algorithms.{supported_algorithm, refused_algorithms}
 use Rattle.signatures.specs.Signatures.{HasSignature}
 use Rattle.signatures.specs.Rules.{FailsToRead}
 
 -- the key that is configured for the `keyid`
 abbrev pub key_in : Configuration → List ℕ → Option (List ℕ)
 key_in conf keyid = map.get conf.keys keyid
-
--- the one algorithm that is supported (RFC 9421 section 3.3.3)
-abbrev pub supported_algorithm : List ℕ
-supported_algorithm = codes "hmac-sha256"
-
--- the other registered algorithms (RFC 9421 section 6.2.2)
-abbrev pub refused_algorithms : List (List ℕ)
-refused_algorithms =
-    codes "rsa-pss-sha512" ∷ codes "rsa-v1_5-sha256" ∷ codes "ecdsa-p256-sha256"
-    ∷ codes "ecdsa-p384-sha384" ∷ codes "ed25519" ∷ []
 
 -- the message has a signature of the label, so that rules 1 to 12 hold, and the fact holds of it
 abbrev pub OfSignature : Verification → (SigParams → List ℕ → Type 0) → Type 0

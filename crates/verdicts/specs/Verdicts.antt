@@ -15,7 +15,8 @@ use Rattle.verdicts.specs.ContentDigest.{HasDigest}
 use Rattle.signatures.specs.Signatures.{HasSignature}
 use Rattle.signatures.specs.Rules.{IsFirstFailure}
 use Rattle.verdicts.specs.Verification.{Verification, policy_of}
-use Rattle.verdicts.specs.Rules.{key_in, supported_algorithm, asks_digest_of, Fails}
+use Rattle.signatures.specs.Algorithms.{supported_algorithm}
+use Rattle.verdicts.specs.Rules.{key_in, asks_digest_of, Fails}
 
 -- The label is accepted: the message has its signature, made by the supported algorithm with the
 -- key that `keyid` names, which the policy accepts at this moment; each covered component has its

@@ -1,10 +1,17 @@
-//! Laws of verdicts. The function does nothing; its contract is the law.
+//! Laws of verdicts. Each function does nothing; its contract is the law.
 
-ghost use Rattle.verdicts.specs.Laws.{HasVerdict, HasOneVerdict, IsAcceptedWhereNoRuleFails};
+ghost use Rattle.verdicts.specs.Laws.{HasVerdict, HasOneVerdict, IsAcceptedWhereNoRuleFails, HoldsRulesOfSigning, IsAcceptedByOtherRules};
 
 /// A label has one verdict, and it is accepted exactly where no rule fails.
 pub fn a_label_has_one_verdict()
     ensures some { HasVerdict }
     ensures one { HasOneVerdict }
     ensures accepted { IsAcceptedWhereNoRuleFails }
+{}
+
+/// Of a label that is signed with the key of its `keyid`, rules 1 to 12 and 27 to 32 hold, so it is
+/// accepted where the others hold.
+pub fn a_signed_label_is_accepted_by_the_other_rules()
+    ensures holds { HoldsRulesOfSigning }
+    ensures accepted { IsAcceptedByOtherRules }
 {}

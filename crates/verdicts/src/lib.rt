@@ -25,7 +25,7 @@ mod times;
 mod verification;
 
 pub use judge::{verdict, verdict_in};
-pub use laws::a_label_has_one_verdict;
+pub use laws::{a_label_has_one_verdict, a_signed_label_is_accepted_by_the_other_rules};
 pub use line::append_verdict_line;
 pub use mac::tag_matches;
 pub use nonces::MAX_MOMENT;

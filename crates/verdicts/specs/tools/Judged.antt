@@ -39,7 +39,8 @@ use Rattle.signatures.specs.declared.rule.Rule.TheVariants.{AlgRefused, AlgUnkno
 use Rattle.signatures.specs.Words.{rule_number}
 use Rattle.signatures.specs.Signatures.{HasSignature}
 use Rattle.signatures.specs.Rules.{IsFirstFailure}
-use Rattle.verdicts.specs.Rules.{supported_algorithm, refused_algorithms, Fails}
+use Rattle.signatures.specs.Algorithms.{supported_algorithm, refused_algorithms}
+use Rattle.verdicts.specs.Rules.{Fails}
 use Rattle.verdicts.specs.Verdicts.{Accepts, is_place_in_range}
 use Rattle.signatures.specs.tools.Answered.{Explains}
 

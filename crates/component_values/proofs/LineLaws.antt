@@ -1,0 +1,132 @@
+-- What a component comes to depends on the lines of its name, and on those of `Host`.
+use Rattle.std.proofs.Common.{◌≡◌, ℕ, Bool, true, false, Option, Some, None, Result, Ok, Err, List, codes, refl, sym, ap, subst, inl, inr}
+use Rattle.std.proofs.lemmas.Bool.{cases_Bool}
+use Rattle.std.specs.List.{join_by}
+use Rattle.sfv_text.specs.declared.pair.Pair.{Pair}
+use Rattle.sfv_text.specs.declared.value.BareItem.{BareItem}
+use Rattle.msg_head.specs.Lines.{FieldLine}
+use Rattle.msg_head.specs.Starts.{StartLine, request, status}
+use Rattle.msg_head.specs.Values.{combined_value, is_there, values}
+use Rattle.msg_body.specs.Messages.{Message}
+use Rattle.msg_body.specs.Views.{lines_on}
+use Rattle.msg_head.specs.declared.error.Side.TheVariants.{Header}
+use Rattle.component_ids.specs.Types.{kind_in}
+use Rattle.component_ids.specs.Table.{is_field_name, has_param}
+use Rattle.component_ids.specs.declared.id.ComponentId.{ComponentId}
+use Rattle.component_ids.specs.declared.scheme.Scheme.{Scheme}
+use Rattle.component_ids.specs.declared.types.FieldKind.{FieldKind}
+use Rattle.targets.specs.Targets.{TargetParts, path_of}
+use Rattle.derived_values.specs.Derived.{derived_of, RequestParts, DerivedRow, FormedRow, RequestRow, StartRow, TargetAuthorityRow, TargetRow, TargetUriRow, AuthorityRow, named_authority, scheme_of, sole_value}
+use Rattle.derived_values.specs.declared.derived.DerivedName.{DerivedName}
+use Rattle.derived_values.specs.declared.derived.DerivedName.TheVariants.{Method, RequestTarget, Status, OfTarget}
+use Rattle.derived_values.specs.declared.derived.TargetName.{TargetName}
+use Rattle.derived_values.specs.declared.derived.TargetName.TheVariants as target
+use Rattle.derived_values.specs.declared.lack.Lack.{Lack}
+use Rattle.component_values.specs.Context.{MessageContext}
+use Rattle.component_values.specs.Forms.{Form, form_of}
+use Rattle.component_values.specs.Forms as form
+use Rattle.component_values.specs.Laws.{DependsOnItsLines, HasSameValues}
+use Rattle.component_values.specs.Values.{side_of, FieldRow, FormRow, KeyRow, KindRow, LineRow, MessageRow, NameRow, related_message}
+
+-- ---- derived components
+
+-- requests that differ in lines of other names than `Host`
+module _ (method text : List ℕ) (xs ys : List FieldLine) (scheme : Scheme) (hosts : values ys (codes "host") ≡ values xs (codes "host")) where
+  abbrev before : RequestParts
+  before = record { method = method; target = text; lines = xs; scheme = scheme }
+
+  abbrev after : RequestParts
+  after = record { method = method; target = text; lines = ys; scheme = scheme }
+
+  named_same : (authority : Option (List ℕ)) → named_authority before authority ≡ named_authority after authority
+  named_same None = ap sole_value (sym hosts)
+  named_same (Some given) = refl
+
+  authority_same : (parts : TargetParts) (result : Result (List ℕ) Lack) → TargetAuthorityRow before parts result → TargetAuthorityRow after parts result
+  authority_same parts result row = subst (λ (named : Result (List ℕ) Lack). AuthorityRow (scheme_of before parts) named result) (named_same parts.authority) row
+
+  uri_same : (path : Option (List ℕ)) (parts : TargetParts) (result : Result (List ℕ) Lack) → TargetUriRow path before parts result → TargetUriRow path after parts result
+  uri_same None parts result row = row
+  uri_same (Some path) parts result row = (row.0, authority_same parts row.0 row.1, row.2)
+
+  target_same : (name : TargetName) (params : List (Pair BareItem)) (parts : TargetParts) (result : Result (List ℕ) Lack) → TargetRow name params before parts result → TargetRow name params after parts result
+  target_same target.Scheme params parts result row = row
+  target_same target.Authority params parts result row = authority_same parts result row
+  target_same target.Path params parts result row = row
+  target_same target.Query params parts result row = row
+  target_same target.TargetUri params parts result row = uri_same (path_of parts) parts result row
+  target_same target.QueryParam params parts result row = row
+
+  formed_same : (name : TargetName) (params : List (Pair BareItem)) (result : Result (List ℕ) Lack) → FormedRow name params before result → FormedRow name params after result
+  formed_same name params result (inl row) = inl (row.0, row.1, target_same name params row.0 result row.2)
+  formed_same name params result (inr row) = inr row
+
+  request_same : (name : DerivedName) (params : List (Pair BareItem)) (result : Result (List ℕ) Lack) → RequestRow name params before result → RequestRow name params after result
+  request_same Method params result row = row
+  request_same RequestTarget params result row = row
+  request_same Status params result row = row
+  request_same (OfTarget name) params result row = formed_same name params result row
+
+module _ (xs ys : List FieldLine) (hosts : values ys (codes "host") ≡ values xs (codes "host")) (params : List (Pair BareItem)) (scheme : Scheme) where
+  start_same : (name : DerivedName) (start : StartLine) (result : Result (List ℕ) Lack) → StartRow name params scheme xs start result → StartRow name params scheme ys start result
+  start_same name (request line) result row = request_same line.method line.target xs ys scheme hosts name params result row
+  start_same name (status line) result row = row
+
+  pub derived_same : (name : Option DerivedName) (start : StartLine) (result : Result (List ℕ) Lack) → DerivedRow name params scheme xs start result → DerivedRow name params scheme ys start result
+  derived_same None start result row = row
+  derived_same (Some name) start result row = start_same name start result row
+
+-- ---- fields
+
+-- a field of whose name there are the same values
+module _ (xs ys : List FieldLine) (name : List ℕ) (there : is_there ys name ≡ is_there xs name) (same : values ys name ≡ values xs name) where
+  combined_same : combined_value xs name ≡ combined_value ys name
+  combined_same = ap (λ (ts : List (List ℕ)). join_by (λ t. t) (codes ", ") ts) (sym same)
+
+  form_same : (form : Form) (field : Option FieldKind) (result : Result (List ℕ) Lack) → FormRow form field xs name result → FormRow form field ys name result
+  form_same form.wrapped field result row = rw same row
+  form_same (form.member key) field result row = subst (λ (t : List ℕ). KeyRow field key t result) combined_same row
+  form_same form.strict field result row = subst (λ (t : List ℕ). KindRow field t result) combined_same row
+  form_same form.plain field result row = rw same row
+
+  line_same : (is : Bool) (params : List (Pair BareItem)) (field : Option FieldKind) (result : Result (List ℕ) Lack) → LineRow is params field xs name result → LineRow is params field ys name result
+  line_same false params field result row = row
+  line_same true params field result row = form_same (form_of params) field result row
+
+  pub field_same : (params : List (Pair BareItem)) (field : Option FieldKind) (result : Result (List ℕ) Lack) → FieldRow params field xs name result → FieldRow params field ys name result
+  field_same params field result row = rw there (line_same (is_there xs name) params field result row)
+
+-- ---- components
+
+module _ (context : MessageContext) (other : Message) where
+  abbrev moved : MessageContext
+  moved = record context { message = other }
+
+  drawn_same : (is : Bool) (id : ComponentId) (message : Message) (result : Result (List ℕ) Lack) → NameRow is context id message result → NameRow is moved id message result
+  drawn_same true id message result row = row
+  drawn_same false id message result row = row
+
+  related_row : (drawn : Result Message Lack) (id : ComponentId) (result : Result (List ℕ) Lack) → MessageRow drawn context id result → MessageRow drawn moved id result
+  related_row (Err lack) id result row = row
+  related_row (Ok message) id result row = drawn_same (is_field_name id.name) id message result row
+
+  module _ (start : other.head.start ≡ context.message.head.start) where
+    related_same : related_message moved ≡ related_message context
+    related_same = rw start refl
+
+    module _ (hosts : values (lines_on Header other) (codes "host") ≡ values (lines_on Header context.message) (codes "host")) (id : ComponentId) where
+      own_row : (is : Bool) (result : Result (List ℕ) Lack) → HasSameValues (lines_on (side_of id.params) context.message) (lines_on (side_of id.params) other) id.name → NameRow is context id context.message result
+          → NameRow is moved id other result
+      own_row true result same row =
+          field_same (lines_on (side_of id.params) context.message) (lines_on (side_of id.params) other) id.name same.there same.same id.params (kind_in context.types id.name) result row
+      own_row false result same row =
+          subst (λ (s : StartLine). DerivedRow (derived_of id.name) id.params context.scheme (lines_on Header other) s result) (sym start)
+          (derived_same (lines_on Header context.message) (lines_on Header other) hosts id.params context.scheme (derived_of id.name) context.message.head.start result row)
+
+pub depends_on_its_lines : DependsOnItsLines
+depends_on_its_lines context other id result alike comes = elim (cases_Bool (has_param id.params (codes "req"))) [
+  | inl req ↦
+      rw req (subst (λ (drawn : Result Message Lack). MessageRow drawn (record context { message = other }) id result) (sym (related_same context other alike.start))
+      (related_row context other (related_message context) id result (rw req at comes)))
+  | inr own ↦ rw own (own_row context other alike.start alike.hosts id (is_field_name id.name) result (alike.own own) (rw own at comes))
+]

@@ -1,0 +1,19 @@
+mod Fields
+mod Causes
+mod Asking
+mod LineTexts
+pub mod Inserting
+mod DigestBytes
+mod AddedLines
+mod Lengthened
+mod Making
+mod Made
+mod TakenMembers
+mod SignatureLines
+mod MemberValues
+mod TagLengths
+mod Verifiable
+mod Filling
+mod Wishing
+mod WishSpecs
+mod Wanting

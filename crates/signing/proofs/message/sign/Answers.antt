@@ -1,0 +1,14 @@
+use Rattle.component_values.specs.Context.{context_of}
+use Rattle.signing.proofs.Made.{signed_is, fault_is}
+use Rattle.signing.proofs.Verifiable.{verifiable_is}
+use Rattle.signing.proofs.message.sign.Goals as goal
+
+pub returns-clause-ok : goal.returns-clause-ok
+returns-clause-ok c = signed_is (context_of c.args.context.now) c.args.spec.now c.judge.result c.judge.ensures
+
+pub returns-clause-fault : goal.returns-clause-fault
+returns-clause-fault c = fault_is (context_of c.args.context.now) c.args.spec.now c.judge.result c.judge.ensures
+
+pub returns-clause-verifiable : goal.returns-clause-verifiable
+returns-clause-verifiable c =
+    verifiable_is (context_of c.args.context.now) c.args.spec.now c.args.bytes.now c.judge.result c.requires.valid c.requires.spells c.judge.ensures

@@ -1,0 +1,9 @@
+pub mod Specs
+pub mod Asked
+pub mod Written
+pub mod Signed
+pub mod SignCauses
+pub mod Wishes
+pub mod WishCauses
+pub mod Words
+pub mod tools

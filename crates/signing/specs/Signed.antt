@@ -1,0 +1,36 @@
+-- The signed message (RFC 9421 sections 3.1 and 4), and that it can be verified (section 3.2).
+use Rattle.std.specs.Prelude.{◌≡◌, ℕ, List, [], ◌∷◌, ◌++◌}
+use Rattle.msg_body.specs.Messages.{Message, Spells, message_text}
+use Rattle.component_ids.specs.declared.params.SigParams.{SigParams}
+use Rattle.component_values.specs.Context.{MessageContext}
+use Rattle.component_values.specs.Values.{HaveValues}
+use Rattle.sig_base.specs.SignatureBase.{signature_base}
+use Rattle.hmac_sha256.specs.Hmac.{hmac}
+use Rattle.signatures.specs.Signatures.{HasSignature, AreLabels}
+use Rattle.signing.specs.Written.{answers_head, context_with, context_with_digest, signed_message}
+use Rattle.signing.specs.declared.spec.SignSpec.{SignSpec}
+
+-- The text is the message, after its header lines the line of its digest and those of the
+-- signature. The tag is the HMAC of the signature base over the values that the components have in
+-- the message with the line of its digest (section 3.3.3).
+pub record IsSigned (context : MessageContext) (spec : SignSpec) (text : List ℕ) : Type 0 where
+  pub values : List (List ℕ)
+  pub have : HaveValues (context_with_digest context spec.digest) spec.params.ids values
+  pub text_is : text ≡ message_text (signed_message context.message spec
+      (hmac spec.key (signature_base spec.params values)))
+
+-- The text is that of a message that has the signature: it has the parameters that are asked for,
+-- each component has its value in that message, and the tag is the HMAC of the signature base. The
+-- signatures that were there are kept, and the new label comes after theirs.
+pub record IsVerifiable (context : MessageContext) (spec : SignSpec) (text : List ℕ) : Type 0 where
+  pub written : Message
+  pub spells : Spells (answers_head context.related) written text
+  pub tag : List ℕ
+  pub signature : HasSignature written spec.label spec.params tag
+  pub values : List (List ℕ)
+  pub have : HaveValues (context_with context written) spec.params.ids values
+  pub mac : tag ≡ hmac spec.key (signature_base spec.params values)
+  pub kept : (label : List ℕ) (params : SigParams) (other : List ℕ)
+      → HasSignature context.message label params other → HasSignature written label params other
+  pub labels : (labels : List (List ℕ)) → AreLabels context.message labels
+      → AreLabels written (labels ++ spec.label ∷ [])

@@ -1,0 +1,89 @@
+-- Messages with further header lines, and the lines that signing adds.
+use Rattle.std.specs.Prelude.{ℕ, Bool, false, Option, Some, None, List, [], ◌∷◌, ◌++◌, codes, if◌then◌else◌}
+use Rattle.std.specs.Str.{byte, bytes_eq}
+use Rattle.sfv_text.specs.Strict.{bytes_text, dict_text}
+use Rattle.msg_head.specs.declared.error.Side.TheVariants.{Header}
+use Rattle.msg_head.specs.Lines.{FieldLine}
+use Rattle.msg_head.specs.Starts.{StartLine, request, status}
+use Rattle.msg_head.specs.Values.{is_there}
+use Rattle.msg_body.specs.Messages.{Message}
+use Rattle.msg_body.specs.Views.{lines_on, message_content}
+use Rattle.component_ids.specs.SignatureParams.{sig_params_text}
+use Rattle.component_values.specs.Context.{MessageContext}
+use Rattle.content_digest.specs.Digests.{digest_dict}
+use Rattle.content_digest.specs.declared.algorithm.Algorithm.{Algorithm}
+use Rattle.signing.specs.declared.spec.SignSpec.{SignSpec}
+
+-- ---- messages
+
+-- the message with these lines after its header lines
+abbrev pub with_lines : Message → List FieldLine → Message
+with_lines message lines = record {
+  head = record { start = message.head.start; lines = message.head.lines ++ lines };
+  framing = message.framing;
+  body = message.body;
+}
+
+-- the request's method is HEAD (RFC 9110 section 9.3.2)
+abbrev pub is_head_request : StartLine → Bool
+is_head_request (request line) = bytes_eq line.method (codes "HEAD")
+is_head_request (status line) = false
+
+-- the message answers a HEAD request
+abbrev pub answers_head : Option Message → Bool
+answers_head None = false
+answers_head (Some related) = is_head_request related.head.start
+
+-- ---- lines
+
+-- the line of a field of this value
+abbrev pub line_of : List ℕ → List ℕ → FieldLine
+line_of name value = record { name = name; raw = byte " " ∷ value }
+
+-- the field that has the digests of the content (RFC 9530 section 2)
+abbrev pub digest_name : List ℕ
+digest_name = codes "content-digest"
+
+-- the line of the content's digest, where one is asked for and the header has no such line (RFC
+-- 9530 section 2)
+abbrev pub digest_lines : Message → Option Algorithm → List FieldLine
+digest_lines message None = []
+digest_lines message (Some algorithm) =
+    if is_there (lines_on Header message) digest_name then []
+    else line_of (codes "Content-Digest")
+    (dict_text (digest_dict algorithm (message_content message))) ∷ []
+
+-- the line of a Dictionary of one member, by its key and the strict text of its value
+abbrev pub member_line : List ℕ → List ℕ → List ℕ → FieldLine
+member_line name key value = line_of name (key ++ byte "=" ∷ value)
+
+-- the label's signature parameters and its tag (RFC 9421 sections 4.1 and 4.2)
+abbrev pub signature_lines : SignSpec → List ℕ → List FieldLine
+signature_lines spec tag =
+    member_line (codes "Signature-Input") spec.label (sig_params_text spec.params)
+    ∷ member_line (codes "Signature") spec.label (bytes_text tag) ∷ []
+
+-- ---- messages that are signed
+
+-- the message with the line of its digest
+abbrev pub with_digest : Message → Option Algorithm → Message
+with_digest message digest = with_lines message (digest_lines message digest)
+
+-- the context, this message in place of its own
+abbrev pub context_with : MessageContext → Message → MessageContext
+context_with context message = record {
+  message = message;
+  related = context.related;
+  scheme = context.scheme;
+  types = context.types;
+}
+
+-- the context, its message with the line of its digest
+abbrev pub context_with_digest : MessageContext → Option Algorithm → MessageContext
+context_with_digest context digest =
+    context_with context (with_digest context.message digest)
+
+-- the message with the line of its digest and those of the signature with this tag
+abbrev pub signed_message : Message → SignSpec → List ℕ → Message
+signed_message message spec tag =
+    with_lines message (digest_lines message spec.digest ++ signature_lines spec tag)

@@ -1,0 +1,29 @@
+//! Signs messages (RFC 9421 section 3.1): what a configuration or a field `Accept-Signature` (RFC
+//! 9421 section 5.1) asks to be signed, and the signed message.
+//!
+//! ```text
+//! let spec = spec_of(alloc, conf, true, 1618884473, None)?; // what the configuration asks for
+//! let text = sign(alloc, bytes, &context, &spec)?;          // the message with its signature
+//! for spec in wanted(alloc, view, conf, now)?.iter() { .. } // one for each wish of the field
+//! ```
+#![tactic(auto)]
+
+mod asked;
+mod fault;
+mod lines;
+mod mac;
+mod message;
+mod parts;
+mod place;
+mod refuse;
+mod self_cover;
+mod spec;
+mod wish;
+mod wishes;
+
+pub use asked::spec_of;
+pub use fault::{SignFault, WantFault};
+pub use mac::TAG_BYTES;
+pub use message::sign;
+pub use spec::{SignSpec, Specs};
+pub use wishes::wanted;

@@ -1,0 +1,209 @@
+//! Signs a message.
+
+ghost use Rattle.std.specs.Prelude.{◌≡◌, ◌≢◌, ◌+◌, ◌++◌, length, IfOk};
+ghost use Rattle.byte_grammar.specs.Causes.{AnswersWhere};
+ghost use Rattle.msg_head.specs.Views.{start_line_of};
+ghost use Rattle.msg_body.specs.Messages.{Spells};
+ghost use Rattle.component_values.specs.Context.{context_of};
+ghost use Rattle.signing.specs.declared.fault.SignFault.{SignFault};
+ghost use Rattle.signing.specs.SignCauses.{IsSignFault, limit_passed_by};
+ghost use Rattle.signing.specs.Signed.{IsSigned, IsVerifiable};
+ghost use Rattle.signing.specs.Specs.{IsValidSpec};
+ghost use Rattle.signing.specs.Written.{answers_head, context_with_digest, digest_lines, is_head_request, with_digest};
+ghost use Rattle.signing.specs.tools.Judged.{ExplainsSign, ExplainsTag, IsMade, NoneBelow};
+ghost use Rattle.signing.specs.tools.Lines.{AreLines};
+ghost use Rattle.signing.specs.tools.Parts.{ArePartsOf};
+
+use crate::fault::SignFault;
+use crate::lines::{AddedLines, digest_lines, signature_lines};
+use crate::mac::{TAG_BYTES, tag_of};
+use crate::parts::{Parts, parts_of};
+use crate::refuse::judge_label;
+use crate::spec::SignSpec;
+use component_values::Context;
+use msg_body::{Expect, MAX_MESSAGE_BYTES, MessageRead, read_message};
+use msg_head::{MAX_HEAD_BYTES, MAX_HEAD_LINES, Start};
+use sfv_text::{Memory, Text};
+use std::alloc::Global;
+
+/// The first limit that is passed.
+fn limit_passed_by(head: u128, lines: u128, message: u128) -> Option<usize>
+    ensures { result ≡ limit_passed_by head lines message }
+{
+    if head > MAX_HEAD_BYTES as u128 {
+        return Some(MAX_HEAD_BYTES);
+    }
+    if lines > MAX_HEAD_LINES as u128 {
+        return Some(MAX_HEAD_LINES);
+    }
+    if message > MAX_MESSAGE_BYTES as u128 {
+        return Some(MAX_MESSAGE_BYTES);
+    }
+    None
+}
+
+/// The first limit that a message of these parts passes with both lists of lines.
+fn passed_limit(parts: Parts<'_>, digest: &AddedLines, signature: &AddedLines) -> Option<usize>
+    ensures { result ≡ limit_passed_by
+        (length parts.entry.before.now + (length digest.now.text + length signature.now.text) + 2)
+        (parts.entry.lines + (digest.now.count + signature.now.count))
+        (length parts.entry.before.now + (length digest.now.text + length signature.now.text)
+        + length parts.entry.after.now) }
+{
+    let added = digest.text.bytes().len() as u128 + signature.text.bytes().len() as u128;
+    let head = parts.before.len() as u128 + added;
+    let lines = parts.lines as u128 + (digest.count as u128 + signature.count as u128);
+    limit_passed_by(head + 2, lines, head + parts.after.len() as u128)
+}
+
+/// The bytes of a message of these parts with further lines, given by their bytes.
+fn text_of(alloc: Global, parts: Parts<'_>, digest: &[u8], signature: &[u8]) -> Result<Text, Memory>
+    ensures { IfOk result (λ text. text
+        ≡ parts.entry.before.now ++ (digest.now ++ (signature.now ++ parts.entry.after.now))) }
+{
+    let mut text = Text::new(alloc);
+    text.append(parts.before)?;
+    text.append(digest)?;
+    text.append(signature)?;
+    text.append(parts.after)?;
+    Ok(text)
+}
+
+fn is_head_request(start: Start<'_>) -> bool
+    ensures { result ≡ is_head_request (start_line_of start.entry) }
+{
+    match start {
+        Start::Request { method, .. } => method == b"HEAD".as_slice(),
+        Start::Status { .. } => false,
+    }
+}
+
+/// Whether the message of the context answers a HEAD request.
+fn answers_head(context: &Context<'_, '_>) -> bool
+    ensures { result ≡ answers_head (context_of context.now).related }
+{
+    match context.related {
+        Some(request) => is_head_request(request.start()),
+        None => false,
+    }
+}
+
+/// The tag of a message that is read from its bytes, the line of its digest among them.
+fn tag_of_bytes(
+    alloc: Global,
+    bytes: &[u8],
+    context: &Context<'_, '_>,
+    spec: &SignSpec,
+) -> Result<[u8; TAG_BYTES], SignFault>
+    requires valid { IsValidSpec spec.now }
+    requires spells { Spells (answers_head (context_of context.now).related)
+        (with_digest (context_of context.now).message spec.now.digest) bytes.now }
+    ensures { ExplainsTag (context_with_digest (context_of context.now) spec.now.digest) spec.now
+        result }
+{
+    match read_message(alloc, bytes, Expect::Any, answers_head(context)) {
+        Ok(MessageRead::Whole(message, _)) => {
+            let context = Context {
+                message: &message,
+                related: context.related,
+                scheme: context.scheme,
+                types: context.types,
+            };
+            tag_of(alloc, &context, spec)
+        }
+        Ok(MessageRead::Partial) => unreachable!(),
+        Err(_) => Err(SignFault::Memory),
+    }
+}
+
+/// The tag of the message with the line of its digest.
+fn tag_with_digest(
+    alloc: Global,
+    context: &Context<'_, '_>,
+    spec: &SignSpec,
+    parts: Parts<'_>,
+    digest: &AddedLines,
+) -> Result<[u8; TAG_BYTES], SignFault>
+    requires valid { IsValidSpec spec.now }
+    requires parts { ArePartsOf (context_of context.now).message parts }
+    requires lines { AreLines digest.now
+        (digest_lines (context_of context.now).message spec.now.digest) }
+    requires spells { Spells (answers_head (context_of context.now).related)
+        (with_digest (context_of context.now).message spec.now.digest)
+        (parts.before.now ++ (digest.now.text ++ parts.after.now)) }
+    ensures { ExplainsTag (context_with_digest (context_of context.now) spec.now.digest) spec.now
+        result }
+{
+    if digest.count == 0 {
+        return tag_of(alloc, context, spec);
+    }
+    let text = text_of(alloc, parts, digest.text.bytes(), &[])?;
+    tag_of_bytes(alloc, text.bytes(), context, spec)
+}
+
+/// The signed message, where it passes no limit and no component lacks a value.
+fn make(
+    alloc: Global,
+    bytes: &[u8],
+    context: &Context<'_, '_>,
+    spec: &SignSpec,
+) -> Result<Text, SignFault>
+    requires valid { IsValidSpec spec.now }
+    requires spells { Spells (answers_head (context_of context.now).related)
+        (context_of context.now).message bytes.now }
+    ensures { NoneBelow (context_of context.now) spec.now 6 → ExplainsSign (context_of context.now)
+        spec.now (IsMade (context_of context.now) spec.now) result }
+{
+    let digest = digest_lines(alloc, context.message, spec.digest)?;
+    let sized = signature_lines(alloc, spec, &[0; TAG_BYTES])?;
+    let parts = parts_of(context.message, bytes);
+    if let Some(limit) = passed_limit(parts, &digest, &sized) {
+        return Err(SignFault::TooLong(limit));
+    }
+    let tag = match tag_with_digest(alloc, context, spec, parts, &digest) {
+        Ok(tag) => tag,
+        Err(fault) => return Err(fault),
+    };
+    let signature = signature_lines(alloc, spec, &tag)?;
+    Ok(text_of(alloc, parts, digest.text.bytes(), signature.text.bytes())?)
+}
+
+fn judge(
+    alloc: Global,
+    bytes: &[u8],
+    context: &Context<'_, '_>,
+    spec: &SignSpec,
+) -> Result<Text, SignFault>
+    requires valid { IsValidSpec spec.now }
+    requires spells { Spells (answers_head (context_of context.now).related)
+        (context_of context.now).message bytes.now }
+    ensures { ExplainsSign (context_of context.now) spec.now
+        (IsMade (context_of context.now) spec.now) result }
+{
+    judge_label(alloc, context, spec)?;
+    make(alloc, bytes, context, spec)
+}
+
+/// Signs the message of the context, whose bytes these are (RFC 9421 section 3.1).
+///
+/// The answer is the message with these lines after its header lines: `Content-Digest`, where a
+/// digest is asked for and the header has no such line (RFC 9530 section 2), then
+/// `Signature-Input` and `Signature` with a member of the label each.
+pub fn sign(
+    alloc: Global,
+    bytes: &[u8],
+    context: &Context<'_, '_>,
+    spec: &SignSpec,
+) -> Result<Text, SignFault>
+    requires valid { IsValidSpec spec.now }
+    requires spells { Spells (answers_head (context_of context.now).related)
+        (context_of context.now).message bytes.now }
+    ensures ok { IfOk result (IsSigned (context_of context.now) spec.now) }
+    ensures verifiable { IfOk result (IsVerifiable (context_of context.now) spec.now) }
+
+    // The first fault whose cause holds is answered, and no other.
+    ensures fault { (fault : SignFault) → fault ≢ SignFault.Memory → AnswersWhere SignFault.Memory
+        result fault (IsSignFault (context_of context.now) spec.now fault) }
+{
+    judge(alloc, bytes, context, spec)
+}

@@ -1,0 +1,21 @@
+//! What is asked to be signed.
+
+use component_ids::SigParams;
+use content_digest::Algorithm;
+use sfv_text::{Sequence, Text};
+
+/// What a signature is to be: its label, its parameters and its key.
+#[derive(Drop)]
+pub struct SignSpec {
+    /// The label, a key of a Dictionary (RFC 9421 section 4).
+    pub label: Text,
+    /// The covered components and the parameters (RFC 9421 section 2.3).
+    pub params: SigParams,
+    /// The key of HMAC.
+    pub key: Text,
+    /// The algorithm of the digest of the content that is added, where one is (RFC 9530 section 2).
+    pub digest: Option<Algorithm>,
+}
+
+/// What is asked to be signed, in order.
+pub type Specs = Sequence<SignSpec>;
