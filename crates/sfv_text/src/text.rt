@@ -1,10 +1,11 @@
 //! Bytes that are owned.
 
-ghost use Rattle.std.specs.Prelude.{◌≡◌, ◌≤◌, ◌++◌, [], length, IfOk, IfErr, OnOk, OnErr};
+ghost use Rattle.std.specs.Prelude.{◌≡◌, ◌≤◌, ◌<◌, ◌++◌, ◌∷◌, [], length, IfOk, IfErr, OnOk, OnErr};
 ghost use Rattle.std.specs.Fmt.{decimal};
+ghost use Rattle.sfv_text.specs.declared.short.TheConstants.{IN_PLACE};
 
 use crate::memory::Memory;
-use crate::short::Short;
+use crate::short::{IN_PLACE, Short};
 use std::alloc::Global;
 use std::fmt;
 use std::marker::Model;
@@ -39,13 +40,29 @@ impl Text {
         }
     }
 
-    /// A text of these bytes.
-    pub fn from_bytes(alloc: Global, bytes: &[u8]) -> Result<Text, Memory>
-        ensures ok { IfOk result (λ text. text ≡ bytes.now) }
-        ensures needed { IfErr result (λ _. 1 ≤ length bytes.now) }
+    /// The empty text, with room for so many bytes.
+    pub fn with_capacity(alloc: Global, capacity: usize) -> Result<Text, Memory>
+        ensures ok { IfOk result (λ text. text ≡ []) }
+        ensures needed { IfErr result (λ _. IN_PLACE < capacity) }
     {
         let mut text = Text::new(alloc);
-        text.append(bytes)?;
+        if capacity > IN_PLACE {
+            text.long.reserve(capacity)?;
+        }
+        Ok(text)
+    }
+
+    /// A text of these bytes. Where they are few it takes no memory.
+    pub fn from_bytes(alloc: Global, bytes: &[u8]) -> Result<Text, Memory>
+        ensures ok { IfOk result (λ text. text ≡ bytes.now) }
+        ensures needed { IfErr result (λ _. IN_PLACE < length bytes.now) }
+    {
+        let mut text = Text::new(alloc);
+        if text.short.fits(bytes) {
+            text.short.append(bytes);
+        } else {
+            text.long.extend_from_slice(bytes)?;
+        }
         Ok(text)
     }
 
@@ -89,12 +106,30 @@ impl Text {
         Ok(())
     }
 
-    /// An equal text of its own.
+    /// Adds the byte at the end.
+    pub fn push(&mut self, byte: u8) -> Result<(), Memory>
+        ensures ok { OnOk result (self.new ≡ self.old ++ byte ∷ []) }
+        ensures err { OnErr result (self.new ≡ self.old) }
+    {
+        if self.long.is_empty() {
+            return self.append(&[byte]);
+        }
+        self.long.push(byte)?;
+        Ok(())
+    }
+
+    /// An equal text of its own. Where its bytes are few it takes no memory.
     pub fn copy(&self, alloc: Global) -> Result<Text, Memory>
         ensures ok { IfOk result (λ text. text ≡ self.now) }
-        ensures needed { IfErr result (λ _. 1 ≤ length self.now) }
+        ensures needed { IfErr result (λ _. IN_PLACE < length self.now) }
     {
-        Text::from_bytes(alloc, self.bytes())
+        if self.long.is_empty() {
+            return Ok(Text {
+                short: self.short.copy(),
+                long: Vec::new(alloc),
+            });
+        }
+        Text::from_bytes(alloc, self.long.as_slice())
     }
 }
 
