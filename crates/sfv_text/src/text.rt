@@ -13,20 +13,21 @@ use std::marker::Model;
 /// Owned bytes. A contract sees a text as the list of its bytes.
 #[derive(Debug, Drop)]
 pub struct Text {
-    /// All bytes, where they are few.
+    /// All bytes, where the other has no room.
     short: Short,
-    /// All bytes, where they are more.
+    /// All bytes, where it has room.
     long: Vec<u8>,
 }
 
 impl Model for Text {
-    ghost use Rattle.std.specs.Prelude.{ℕ, ◌≡◌, ◌<◌, ◌++◌, [], List, length};
+    ghost use Rattle.std.specs.Prelude.{ℕ, ◌≡◌, ◌<◌, ◌++◌, [], List};
+    ghost use Rattle.std.specs.Vec.{vec_capacity};
 
     ghost Value = { List ℕ };
 
     ghost view = { λ t. t.short ++ t.long.items };
 
-    ghost invariant = { λ t. 0 < length t.long.items → t.short ≡ [] };
+    ghost invariant = { λ t. 0 < vec_capacity t.long → t.short ≡ [] };
 }
 
 impl Text {
@@ -57,13 +58,14 @@ impl Text {
         ensures ok { IfOk result (λ text. text ≡ bytes.now) }
         ensures needed { IfErr result (λ _. IN_PLACE < length bytes.now) }
     {
-        let mut text = Text::new(alloc);
-        if text.short.fits(bytes) {
-            text.short.append(bytes);
+        let mut short = Short::new();
+        let mut long = Vec::new(alloc);
+        if short.fits(bytes) {
+            short.append(bytes);
         } else {
-            text.long.extend_from_slice(bytes)?;
+            long.extend_from_slice(bytes)?;
         }
-        Ok(text)
+        Ok(Text { short, long })
     }
 
     /// The text that the vector holds. It takes no memory.
@@ -80,7 +82,7 @@ impl Text {
     pub fn bytes(&self) -> &[u8]
         ensures { result.now ≡ self.now }
     {
-        if self.long.is_empty() {
+        if self.long.capacity() == 0 {
             self.short.bytes()
         } else {
             self.long.as_slice()
@@ -93,16 +95,20 @@ impl Text {
         ensures err { OnErr result (self.new ≡ self.old) }
         ensures needed { OnErr result (1 ≤ length piece.now) }
     {
-        if self.long.is_empty() {
-            if self.short.fits(piece) {
-                self.short.append(piece);
-                return Ok(());
-            }
-            self.long.reserve(self.short.bytes().len() + piece.len())?;
-            self.long.extend_from_slice(self.short.bytes())?;
-            self.short = Short::new();
+        if self.long.capacity() > 0 {
+            self.long.extend_from_slice(piece)?;
+            return Ok(());
         }
-        self.long.extend_from_slice(piece)?;
+        if self.short.fits(piece) {
+            self.short.append(piece);
+            return Ok(());
+        }
+        let few = self.short.bytes();
+        let mut long = Vec::with_capacity(*self.long.allocator(), few.len() + piece.len())?;
+        long.extend_from_slice(few)?;
+        long.extend_from_slice(piece)?;
+        self.short = Short::new();
+        self.long = long;
         Ok(())
     }
 
@@ -111,7 +117,7 @@ impl Text {
         ensures ok { OnOk result (self.new ≡ self.old ++ byte ∷ []) }
         ensures err { OnErr result (self.new ≡ self.old) }
     {
-        if self.long.is_empty() {
+        if self.long.capacity() == 0 {
             return self.append(&[byte]);
         }
         self.long.push(byte)?;
@@ -123,7 +129,7 @@ impl Text {
         ensures ok { IfOk result (λ text. text ≡ self.now) }
         ensures needed { IfErr result (λ _. IN_PLACE < length self.now) }
     {
-        if self.long.is_empty() {
+        if self.long.capacity() == 0 {
             return Ok(Text {
                 short: self.short.copy(),
                 long: Vec::new(alloc),
