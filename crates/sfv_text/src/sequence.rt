@@ -81,7 +81,8 @@ impl<T: Drop> Sequence<T> {
         ensures ok { OnOk result (self.new ≡ self.old ++ element ∷ []) }
         ensures err { OnErr result (self.new ≡ self.old) }
     {
-        self.elements.push(element)?;
+        self.elements.reserve(1)?;
+        self.elements.push_reserved(element);
         Ok(())
     }
 }

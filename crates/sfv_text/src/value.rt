@@ -105,7 +105,9 @@ impl Pairs<BareItem> {
         }
         let mut copies = Vec::with_capacity(alloc, params.len())?;
         for param in params {
-            copies.push(copy_of_param(alloc, param)?)?;
+            let copy = copy_of_param(alloc, param)?;
+            copies.reserve(1)?;
+            copies.push_reserved(copy);
         }
         Ok(Pairs::from_vec(copies))
     }
