@@ -12,3 +12,4 @@ pub mod AnswerLaws
 pub mod OffsetLaws
 pub mod ListLaws
 pub mod MapLaws
+pub mod Tables

@@ -35,7 +35,7 @@ pub struct SigParams {
 fn copy_of_ids(alloc: Global, ids: &[ComponentId]) -> Result<Ids, Memory>
     ensures { IfOk result (λ copies. copies ≡ ids.now) }
 {
-    let mut copies = Ids::new(alloc);
+    let mut copies = Ids::with_capacity(alloc, ids.len())?;
     for id in ids {
         copies.push(id.copy(alloc)?)?;
     }

@@ -14,6 +14,9 @@ use sfv_text::{Memory, Text, append_params};
 use std::alloc::Global;
 use std::marker::Model;
 
+/// The text of signature parameters mostly is no longer than so many bytes.
+const MOSTLY: usize = 256;
+
 /// Where an identifier is in the text of signature parameters, in offsets from its first byte.
 #[derive(Clone, Copy, Debug)]
 pub(crate) struct IdSpan {
@@ -73,7 +76,7 @@ fn write_ids(alloc: Global, ids: &[ComponentId], text: &mut Text) -> Result<Vec<
     };
     write_id(first, text, &mut spans)?;
     for id in others {
-        text.append(b" ")?;
+        text.push(b' ')?;
         write_id(id, text, &mut spans)?;
     }
     Ok(spans)
@@ -86,9 +89,9 @@ fn write_params(alloc: Global, params: &SigParams, text: &mut Text) -> Result<Ve
     ensures parts { IfOk result (λ spans.
         HasParts text.new spans.items (map id_text params.now.ids)) }
 {
-    text.append(b"(")?;
+    text.push(b'(')?;
     let spans = write_ids(alloc, params.ids.as_slice(), text)?;
-    text.append(b")")?;
+    text.push(b')')?;
     append_params(&params.params, text)?;
     Ok(spans)
 }
@@ -102,7 +105,7 @@ impl ParamsText {
         ensures ids { IfOk result (λ text. text.ids ≡ map id_text params.now.ids) }
         ensures printable { IfOk result (λ text. IsTrue (list_all is_string_byte text.whole)) }
     {
-        let mut text = Text::new(alloc);
+        let mut text = Text::with_capacity(alloc, MOSTLY)?;
         let spans = write_params(alloc, params, &mut text)?;
         Ok(ParamsText { text, spans })
     }

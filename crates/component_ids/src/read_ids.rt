@@ -55,7 +55,7 @@ fn read_each(alloc: Global, items: &[Item]) -> Result<Ids, IdFault>
     ensures each { IfOk result (λ ids. AreIdentifiers items.now) }
     ensures fault { IfErr result (λ fault. IsIdsFault items.now fault) }
 {
-    let mut ids = Ids::new(alloc);
+    let mut ids = Ids::with_capacity(alloc, items.len())?;
     for (index, item) in items.iter().enumerate() {
         match read_id(alloc, item) {
             Ok(id) => ids.push(id)?,

@@ -1,4 +1,3 @@
-mod Below
 pub mod FirstLacks
 pub mod RowLaws
 mod CleanLaws

@@ -30,7 +30,7 @@ fn plans_of<'a, 'm>(
     ensures fault { IfErr result (λ fault.
         IsFaultOf (context_of context.now) ids.now fault) }
 {
-    let mut plans = Sequence::new(alloc);
+    let mut plans = Sequence::with_capacity(alloc, ids.len())?;
     for id in ids {
         match component_plan(alloc, context, id) {
             Ok(plan) => plans.push(plan)?,

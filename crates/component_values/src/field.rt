@@ -26,13 +26,17 @@ use sfv_text::Params;
 use std::alloc::Global;
 
 /// The combined value itself, which has to be ASCII.
-fn plain_plan<'a, 'm>(lines: NamedFieldLines<'a, 'm>) -> Result<Plan<'a, 'm>, NoValue>
+fn plain_plan<'a, 'm>(
+    alloc: Global,
+    lines: NamedFieldLines<'a, 'm>,
+) -> Result<Plan<'a, 'm>, NoValue>
     ensures { PlansRow (λ answer. answer ≡ plain_value (joined_value lines.entry)) result }
 {
-    if !is_ascii(&lines) {
+    let value = joined_value(alloc, lines)?;
+    if !is_ascii(value.bytes()) {
         return Err(NoValue::Lacks(Lack::NotAscii));
     }
-    Ok(Plan::Combined(lines))
+    Ok(Plan::Combined(value))
 }
 
 /// How the value of a field that has lines is fed, in the form that is asked for. The field's kind
@@ -60,7 +64,7 @@ fn plan_in_form<'a, 'm>(
             let strict = strict_value(alloc, types.kind_of(name), value.bytes())?;
             Ok(Plan::Text(strict))
         }
-        Form::Plain => plain_plan(found),
+        Form::Plain => plain_plan(alloc, found),
     }
 }
 

@@ -141,6 +141,15 @@ fn fault_from(side: Side, index: usize, left: &[u8]) -> HeadError
     }
 }
 
+// For how many lines there is room from the start on: most heads have no more, and most trailer
+// sections have none.
+fn room_for(side: Side) -> usize {
+    match side {
+        Side::Header => 16,
+        Side::Trailer => 0,
+    }
+}
+
 /// Where the field lines are that the rest of the bytes is, an empty line after them.
 // Compiled by itself its loop is a fifth faster, since its variables keep to registers.
 #[inline(never)]
@@ -157,7 +166,7 @@ pub(crate) fn read_lines(
     ensures err { (lines : List RawPieces) → AreLinesOf rest.now lines
         → IfErr result (λ fault. IsLinesFault side lines fault) }
 {
-    let mut spans = Vec::new(alloc);
+    let mut spans = Vec::with_capacity(alloc, room_for(side))?;
     let mut left = rest;
     'lines: loop {
         if begins_with_crlf(left) {

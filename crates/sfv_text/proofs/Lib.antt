@@ -1,3 +1,4 @@
+pub mod Digits
 pub mod EqualityLaws
 pub mod EscapeLaws
 pub mod Groups

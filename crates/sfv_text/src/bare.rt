@@ -28,22 +28,30 @@ pub(crate) fn write_bare(bare: &BareItem, text: &mut Text) -> Result<(), Memory>
     }
 }
 
+/// A number of 64 bits has at most so many digits.
+const MAX_DIGITS: usize = 20;
+
 #[tactic(auto, using(std::proofs::lemmas::Fmt::decimal_digit))]
 fn write_number(value: u64, text: &mut Text) -> Result<(), Memory>
     ensures { OnOk result (text.new ≡ text.old ++ decimal value) }
 {
-    if value >= 10 {
-        write_number(value / 10, text)?;
-        return text.append(&[b'0' + (value % 10) as u8]);
+    let mut digits = [b'0'; MAX_DIGITS];
+    let mut last = MAX_DIGITS - 1;
+    let mut left = value;
+    'digits: while left >= 10 {
+        digits[last] = b'0' + (left % 10) as u8;
+        left /= 10;
+        last -= 1;
     }
-    text.append(&[b'0' + value as u8])
+    digits[last] = b'0' + left as u8;
+    text.append(&digits[last..])
 }
 
 fn write_sign(value: i64, text: &mut Text) -> Result<(), Memory>
     ensures { OnOk result (text.new ≡ text.old ++ sign_text value) }
 {
     if value < 0 {
-        return text.append(b"-");
+        return text.push(b'-');
     }
     Ok(())
 }
@@ -78,7 +86,7 @@ fn write_decimal(thousandths: i64, text: &mut Text) -> Result<(), Memory>
     let size = thousandths.unsigned_abs();
     write_sign(thousandths, text)?;
     write_number(size / 1000, text)?;
-    text.append(b".")?;
+    text.push(b'.')?;
     write_fraction(size % 1000, text)
 }
 
@@ -95,7 +103,7 @@ fn write_character(character: u8, text: &mut Text) -> Result<(), Memory>
     if is_escaped(character) {
         text.append(&[b'\\', character])
     } else {
-        text.append(&[character])
+        text.push(character)
     }
 }
 
@@ -140,9 +148,9 @@ fn write_characters(characters: &[u8], text: &mut Text) -> Result<(), Memory>
 pub(crate) fn write_string(characters: &[u8], text: &mut Text) -> Result<(), Memory>
     ensures { OnOk result (text.new ≡ text.old ++ string_text characters.now) }
 {
-    text.append(b"\"")?;
+    text.push(b'"')?;
     write_characters(characters, text)?;
-    text.append(b"\"")
+    text.push(b'"')
 }
 
 /// Up to 48 bytes in base64, which are at most 64 symbols.
@@ -170,9 +178,9 @@ fn write_base64(bytes: &[u8], text: &mut Text) -> Result<(), Memory>
 fn write_bytes(bytes: &[u8], text: &mut Text) -> Result<(), Memory>
     ensures { OnOk result (text.new ≡ text.old ++ bytes_text bytes.now) }
 {
-    text.append(b":")?;
+    text.push(b':')?;
     write_base64(bytes, text)?;
-    text.append(b":")
+    text.push(b':')
 }
 
 fn write_bool(value: bool, text: &mut Text) -> Result<(), Memory>

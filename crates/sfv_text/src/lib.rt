@@ -35,5 +35,6 @@ pub use print::{
     print_member,
 };
 pub use sequence::Sequence;
+pub use short::IN_PLACE;
 pub use text::{Text, append_number, append_words};
 pub use value::{BareItem, Dict, InnerList, Item, Items, List, Member, Params};

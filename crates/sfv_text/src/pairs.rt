@@ -125,7 +125,7 @@ impl<V: Drop> Pairs<V> {
                 self.pairs.reserve(1)?;
                 let alloc = *self.pairs.allocator();
                 index_new(alloc, &mut self.index, self.pairs.as_slice(), key.bytes())?;
-                self.pairs.push(Pair { key, value })?;
+                self.pairs.push_reserved(Pair { key, value });
             }
         }
         Ok(())

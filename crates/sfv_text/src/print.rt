@@ -128,7 +128,7 @@ fn write_param_value(value: &BareItem, text: &mut Text) -> Result<(), Memory>
     match value {
         BareItem::Bool(true) => Ok(()),
         _ => {
-            text.append(b"=")?;
+            text.push(b'=')?;
             write_bare(value, text)
         }
     }
@@ -140,7 +140,7 @@ impl Write for Pair<BareItem> {
     ghost text_of = { param_text };
 
     fn write(&self, text: &mut Text) -> Result<(), Memory> {
-        text.append(b";")?;
+        text.push(b';')?;
         text.append(self.key.bytes())?;
         write_param_value(&self.value, text)
     }
@@ -185,9 +185,9 @@ impl Write for InnerList {
     ghost text_of = { inner_text };
 
     fn write(&self, text: &mut Text) -> Result<(), Memory> {
-        text.append(b"(")?;
+        text.push(b'(')?;
         write_joined(self.items.as_slice(), BETWEEN_ITEMS, text)?;
-        text.append(b")")?;
+        text.push(b')')?;
         append_params(&self.params, text)
     }
 }
@@ -212,7 +212,7 @@ fn write_dict_item(item: &Item, text: &mut Text) -> Result<(), Memory>
     match item.bare {
         BareItem::Bool(true) => append_params(&item.params, text),
         _ => {
-            text.append(b"=")?;
+            text.push(b'=')?;
             item.write(text)
         }
     }
@@ -225,7 +225,7 @@ fn write_dict_value(value: &Member, text: &mut Text) -> Result<(), Memory>
     match value {
         Member::Item(item) => write_dict_item(item, text),
         Member::InnerList(inner) => {
-            text.append(b"=")?;
+            text.push(b'=')?;
             inner.write(text)
         }
     }

@@ -1,6 +1,6 @@
 //! Lists that own their elements.
 
-ghost use Rattle.std.specs.Prelude.{◌≡◌, ◌↔◌, ◌<◌, ◌++◌, ◌∷◌, [], Some, length, slice_get, IsTrue, OnOk, OnErr};
+ghost use Rattle.std.specs.Prelude.{◌≡◌, ◌↔◌, ◌<◌, ◌++◌, ◌∷◌, [], Some, length, slice_get, IsTrue, IfOk, OnOk, OnErr};
 ghost use Rattle.std.specs.Slice.Iter.{iter_rest};
 
 use crate::memory::Memory;
@@ -30,6 +30,14 @@ impl<T: Drop> Sequence<T> {
         Sequence {
             elements: Vec::new(alloc),
         }
+    }
+
+    /// The empty list, with room for so many elements.
+    pub fn with_capacity(alloc: Global, capacity: usize) -> Result<Self, Memory>
+        ensures { IfOk result (λ list. list ≡ []) }
+    {
+        let elements = Vec::with_capacity(alloc, capacity)?;
+        Ok(Sequence { elements })
     }
 
     /// How many elements it has.
@@ -73,7 +81,8 @@ impl<T: Drop> Sequence<T> {
         ensures ok { OnOk result (self.new ≡ self.old ++ element ∷ []) }
         ensures err { OnErr result (self.new ≡ self.old) }
     {
-        self.elements.push(element)?;
+        self.elements.reserve(1)?;
+        self.elements.push_reserved(element);
         Ok(())
     }
 }

@@ -3,7 +3,7 @@
 use std::marker::Model;
 
 /// So many bytes are held in place, with no allocation: names, keys and labels mostly are.
-const IN_PLACE: usize = 23;
+pub const IN_PLACE: usize = 23;
 
 /// At most that many bytes. A contract sees their list.
 #[derive(Debug, Drop)]
@@ -41,6 +41,16 @@ impl Short {
         ensures short { length self.now ≤ IN_PLACE }
     {
         &self.buffer[..self.count as usize]
+    }
+
+    /// The same bytes.
+    pub(crate) fn copy(&self) -> Short
+        ensures { result ≡ self.now }
+    {
+        Short {
+            buffer: self.buffer,
+            count: self.count,
+        }
     }
 
     /// Whether the piece fits after the bytes.

@@ -1,7 +1,8 @@
 //! The values of structured fields (RFC 9651 section 3).
 
-ghost use Rattle.std.specs.Prelude.{◌≡◌, ◌≤◌, ◌↔◌, ◌⊎◌, length, option_map, option_and_then, IsTrue, IfOk, IfErr, IfSome};
+ghost use Rattle.std.specs.Prelude.{◌≡◌, ◌≤◌, ◌<◌, ◌↔◌, ◌⊎◌, length, option_map, option_and_then, IsTrue, IfOk, IfErr, IfSome};
 ghost use Rattle.std.specs.List.{list_all};
+ghost use Rattle.sfv_text.specs.declared.short.TheConstants.{IN_PLACE};
 ghost use Rattle.sfv_text.specs.Equality.{is_equal_bare, is_equal_param};
 ghost use Rattle.sfv_text.specs.Keys.{value_of};
 ghost use Rattle.sfv_text.specs.Parts.{byte_sequence_in, integer_in, string_in};
@@ -41,7 +42,7 @@ impl BareItem {
     /// An equal bare item of its own.
     pub fn copy(&self, alloc: Global) -> Result<BareItem, Memory>
         ensures ok { IfOk result (λ bare. bare ≡ self.now) }
-        ensures needed { IfErr result (λ _. 1 ≤ length (own_bytes self.now)) }
+        ensures needed { IfErr result (λ _. IN_PLACE < length (own_bytes self.now)) }
     {
         match self {
             BareItem::Integer(value) => Ok(BareItem::Integer(*value)),
@@ -99,9 +100,14 @@ impl Pairs<BareItem> {
         ensures needed { IfErr result (λ _. 1 ≤ length self.now) }
     {
         let params = self.as_slice();
-        let mut copies = Vec::new(alloc);
+        if params.is_empty() {
+            return Ok(Pairs::new(alloc));
+        }
+        let mut copies = Vec::with_capacity(alloc, params.len())?;
         for param in params {
-            copies.push(copy_of_param(alloc, param)?)?;
+            let copy = copy_of_param(alloc, param)?;
+            copies.reserve(1)?;
+            copies.push_reserved(copy);
         }
         Ok(Pairs::from_vec(copies))
     }
@@ -141,7 +147,7 @@ impl Item {
     /// An equal Item of its own.
     pub fn copy(&self, alloc: Global) -> Result<Item, Memory>
         ensures ok { IfOk result (λ item. item ≡ self.now) }
-        ensures needed { IfErr result (λ _. (1 ≤ length (own_bytes self.now.bare))
+        ensures needed { IfErr result (λ _. (IN_PLACE < length (own_bytes self.now.bare))
             ⊎ (1 ≤ length self.now.params)) }
     {
         Ok(Item {

@@ -37,7 +37,8 @@ fn is_integer(item: &Item, number: i64) -> bool {
 // Whether a text that is added to and copied has the bytes.
 fn is_text(alloc: Global) -> Result<bool, Memory> {
     let mut text = Text::from_bytes(alloc, b"a")?;
-    text.append(b"bc")?;
+    text.append(b"b")?;
+    text.push(b'c')?;
     let copy = text.copy(alloc)?;
     text.append(b"defghijklmnopqrstuvw")?;
     text.append(b"xyz")?;
@@ -45,6 +46,14 @@ fn is_text(alloc: Global) -> Result<bool, Memory> {
         copy.bytes() == b"abc".as_slice()
             && text.bytes() == b"abcdefghijklmnopqrstuvwxyz".as_slice(),
     )
+}
+
+// Whether a text that begins with room for its bytes has them.
+fn has_room(alloc: Global) -> Result<bool, Memory> {
+    let mut text = Text::with_capacity(alloc, 24)?;
+    text.push(b'a')?;
+    text.append(b"bc")?;
+    Ok(text.copy(alloc)?.bytes() == b"abc".as_slice())
 }
 
 // Whether a parameter that is put is found.
@@ -66,7 +75,7 @@ fn seven(alloc: Global) -> Item {
 
 // Whether an Item that is pushed is there.
 fn is_pushed(alloc: Global) -> Result<bool, Memory> {
-    let mut items = Items::new(alloc);
+    let mut items = Items::with_capacity(alloc, 1)?;
     items.push(seven(alloc))?;
     Ok(items.len() == 1 && items.iter().all(|item| is_integer(item, 7)))
 }
@@ -90,7 +99,7 @@ fn is_right(answer: Result<bool, Memory>) -> bool {
 #[test]
 fn values_are_built(rt: HostRuntime) {
     let alloc = rt.alloc();
-    assert!(rt; is_right(is_text(alloc)) && is_right(is_put(alloc)));
+    assert!(rt; is_right(is_text(alloc)) && is_right(has_room(alloc)) && is_right(is_put(alloc)));
     assert!(rt; is_right(is_pushed(alloc)) && is_right(are_members(alloc)));
 }
 

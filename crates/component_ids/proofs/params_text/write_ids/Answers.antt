@@ -31,10 +31,10 @@ loop-id-preserved c =
     let done = take i others in
     let more : take (i + 1) others ≡ done ++ id ∷ [] = (take_at_read others i id c.loop-id-test.true).1 ∙ ap (λ (x : ComponentId). done ++ x ∷ []) (sym c.id-item.is) in
     record {
-      text = rw more (text_more c.write_id.new.text c.loop-id.text c.append.new.self c.write_id-in-loop-id.new.text done id c.loop-id.invariant.text c.in_ok-append.ensures.ok c.in_ok-write_id-2.ensures.text);
+      text = rw more (text_more c.write_id.new.text c.loop-id.text c.push.new.self c.write_id-in-loop-id.new.text done id c.loop-id.invariant.text c.in_ok-push.ensures.ok c.in_ok-write_id-2.ensures.text);
       parts = λ parts has.
           let before : List (List ℕ) = parts ++ map id_text done in
-          let kept = parts_kept c.loop-id.text c.append.new.self (codes " ") c.loop-id.spans.items before c.in_ok-append.ensures.ok (c.loop-id.invariant.parts parts has) in
+          let kept = parts_kept c.loop-id.text c.push.new.self (codes " ") c.loop-id.spans.items before c.in_ok-push.ensures.ok (c.loop-id.invariant.parts parts has) in
           rw (more, map_push id_text done id, ← append_assoc parts (map id_text done) (id_text id ∷ [])) (c.in_ok-write_id-2.ensures.parts before kept);
     }
 
