@@ -1,3 +1,4 @@
+mod Below
 pub mod FirstLacks
 pub mod RowLaws
 mod CleanLaws

@@ -1,6 +1,6 @@
 //! How the value of a component is fed, or how it lacks one.
 
-ghost use Rattle.std.specs.Prelude.{◌≡◌, List, filter, Ok, Err, MatchResult};
+ghost use Rattle.std.specs.Prelude.{◌≡◌, List, filter, Ok, Err, IfSome, MatchResult};
 ghost use Rattle.framing.specs.Framings.{is_request};
 ghost use Rattle.msg_body.specs.Views.{message_of};
 ghost use Rattle.msg_head.specs.Lines.{FieldLine};
@@ -13,30 +13,45 @@ ghost use Rattle.component_values.specs.tools.Rows.{PlansRow, form_meant};
 
 use crate::context::Context;
 use crate::form::{Form, form_of};
-use crate::lines::is_ascii;
+use crate::lines::{is_ascii, is_ascii_text};
 use crate::plan::Plan;
 use crate::strict::{member_value, strict_value};
 use component_ids::{ComponentId, Types, has_param, is_field_name};
 use derived_values::{Lack, NoValue, derived_value};
-use field_values::joined_value;
+use field_values::{joined_pieces, joined_value};
 use framing::is_request;
 use msg_body::MessageView;
 use msg_head::{NamedFieldLines, Side};
 use sfv_text::Params;
 use std::alloc::Global;
 
+/// The combined value where it is one piece of the message: that of one line that isn't folded.
+fn one_piece<'m>(lines: NamedFieldLines<'_, 'm>) -> Option<&'m [u8]>
+    ensures { IfSome result (λ piece. piece.now ≡ joined_value lines.entry) }
+{
+    let mut pieces = joined_pieces(lines);
+    let first = pieces.next()?;
+    match pieces.next() {
+        Some(_) => None,
+        None => Some(first),
+    }
+}
+
 /// The combined value itself, which has to be ASCII.
-fn plain_plan<'a, 'm>(
-    alloc: Global,
-    lines: NamedFieldLines<'a, 'm>,
-) -> Result<Plan<'a, 'm>, NoValue>
+fn plain_plan<'a, 'm>(lines: NamedFieldLines<'a, 'm>) -> Result<Plan<'a, 'm>, NoValue>
     ensures { PlansRow (λ answer. answer ≡ plain_value (joined_value lines.entry)) result }
 {
-    let value = joined_value(alloc, lines)?;
-    if !is_ascii(value.bytes()) {
+    if let Some(value) = one_piece(lines.again()) {
+        return if is_ascii_text(value) {
+            Ok(Plan::Piece(value))
+        } else {
+            Err(NoValue::Lacks(Lack::NotAscii))
+        };
+    }
+    if !is_ascii(&lines) {
         return Err(NoValue::Lacks(Lack::NotAscii));
     }
-    Ok(Plan::Combined(value))
+    Ok(Plan::Combined(lines))
 }
 
 /// How the value of a field that has lines is fed, in the form that is asked for. The field's kind
@@ -64,7 +79,7 @@ fn plan_in_form<'a, 'm>(
             let strict = strict_value(alloc, types.kind_of(name), value.bytes())?;
             Ok(Plan::Text(strict))
         }
-        Form::Plain => plain_plan(alloc, found),
+        Form::Plain => plain_plan(found),
     }
 }
 

@@ -3,18 +3,18 @@
 ghost use Rattle.std.specs.Prelude.{◌++◌, ℕ, List};
 ghost use Rattle.component_values.specs.tools.Rows.{planned_text};
 
-use crate::lines::feed_byte_sequences;
+use crate::lines::{feed_byte_sequences, feed_combined};
 use derived_values::Derived;
-use field_values::FieldValue;
 use msg_head::NamedFieldLines;
 use sfv_text::{Absorb, Text};
 
-/// How the value of a component is fed. But for a text, and a combined value of several pieces, it is
-/// borrowed from its message.
+/// How the value of a component is fed. But for a text it is borrowed from its message.
 #[derive(Drop)]
 pub(crate) enum Plan<'a, 'm> {
-    /// The combined value.
-    Combined(FieldValue<'m>),
+    /// A combined value that is one piece of the message.
+    Piece(&'m [u8]),
+    /// The combined value of these lines.
+    Combined(NamedFieldLines<'a, 'm>),
     /// The value of each of these lines as a Byte Sequence.
     ByteSequences(NamedFieldLines<'a, 'm>),
     /// The value of a derived component.
@@ -30,7 +30,8 @@ impl<'a, 'm> Plan<'a, 'm> {
             → A.absorbed into.new (text ++ planned_text self.now) }
     {
         match self {
-            Plan::Combined(value) => into.absorb(value.bytes()),
+            Plan::Piece(value) => into.absorb(value),
+            Plan::Combined(lines) => feed_combined(lines, into),
             Plan::ByteSequences(lines) => feed_byte_sequences(lines, into),
             Plan::Derived(value) => value.feed(into),
             Plan::Text(text) => into.absorb(text.bytes()),

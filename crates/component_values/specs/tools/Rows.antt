@@ -1,7 +1,6 @@
 -- What the parts of the code answer. No public clause cites this module but the view of `Prepared`.
 use Rattle.std.specs.Prelude.{⊤, ℕ, List, Result, Ok, Err}
-use Rattle.msg_head.specs.Values.{line_values}
-use Rattle.field_values.specs.FieldValues.{value_bytes}
+use Rattle.msg_head.specs.Values.{line_values, joined_value}
 use Rattle.component_values.specs.Values.{byte_sequences}
 use Rattle.derived_values.specs.declared.lack.Lack.{Lack}
 use Rattle.derived_values.specs.declared.lack.NoValue.{NoValue}
@@ -16,7 +15,8 @@ use Rattle.component_values.specs.declared.plan.Plan.TheVariants as plan
 
 -- the text that is fed
 abbrev pub planned_text : Plan → List ℕ
-planned_text (plan.Combined value) = value_bytes value
+planned_text (plan.Piece value) = value.now
+planned_text (plan.Combined lines) = joined_value lines
 planned_text (plan.ByteSequences lines) = byte_sequences (line_values lines)
 planned_text (plan.Derived text) = text
 planned_text (plan.Text text) = text
