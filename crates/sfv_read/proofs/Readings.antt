@@ -11,7 +11,6 @@ use Rattle.sfv_read.specs.declared.error.SfError.TheVariants.{Memory, Syntax, It
 use Rattle.sfv_read.specs.Laws.{HasOneValue, HasValueOrNone}
 use Rattle.sfv_read.specs.Fault.{IsRead, IsSfError, BeginsItemKind}
 use Rattle.sfv_read.specs.tools.Answers.{StopsAt, MarksItemKind, Answers}
-use Rattle.sfv_text.specs.declared.pair.Pair.{Pair}
 use Rattle.sfv_text.specs.declared.value.Member.{Member}
 use Rattle.sfv_text.specs.Keys.{value_of}
 use Rattle.sfv_read.specs.Reads.{ReadsItem, ReadsInner, ReadsList, ReadsDict, ReadsDictMember}
