@@ -150,16 +150,6 @@ text_refused (Some name) found None cause taken is = absurd is
 text_refused (Some name) found (Some text) cause taken is =
     subst (λ (t : Option (List ℕ)). IsFileRefused (IsInputRefused one_request) t cause) (sym taken.0) is
 
-taken_within : (name found text : Option (List ℕ)) → IsTaken name found text → IfSome text (λ t. length t ≤ MAX_INPUT_BYTES)
-taken_within None found text taken = subst (λ (t : Option (List ℕ)). IfSome t (λ u. length u ≤ MAX_INPUT_BYTES)) (sym taken) tt
-taken_within (Some name) found None taken = tt
-taken_within (Some name) found (Some text) taken = taken.1
-
--- a text that is taken is within the limit
-pub short_text : (shelf : Option FileMap) (name text : Option (List ℕ)) → HasFound shelf name (λ found. IsTaken name found text)
-    → IfSome text (λ t. length t ≤ MAX_INPUT_BYTES)
-short_text shelf name text has = taken_within name has.found text has.holds
-
 -- a message that is borrowed
 pub same_related : {X : Type 0} (f : X → MessageParts) (view : Option X) (parts : Option MessageParts) → option_map f view ≡ parts
     → option_map (λ v. message_of (f v)) view ≡ option_map (λ p. message_of p) parts
@@ -265,6 +255,11 @@ module _ (Then : Configuration → MessageContext → Outcome → Type 0) (conf_
           leaves = reported.holds.leaves;
         };
       }) result
+
+-- files that are kept twice are kept
+pub keeps_both : (before middle now : Option FileMap) → KeepsFiles before middle → KeepsFiles middle now → KeepsFiles before now
+keeps_both None middle now keeps also = tt
+keeps_both (Some files) middle now keeps also = subst (λ (shelf : Option FileMap). KeepsFiles shelf now) keeps also
 
 -- how many files are asked for, where none is that isn't named
 pub one_asked : {X S : Type 0} (asked : S → ℕ) (f : X → List ℕ) (conf request : Option X) (before now : S) → IfNone conf (now ≡ before) → asked now ≤ asked before + 1

@@ -51,7 +51,14 @@ fn run_command<F: Shelf, S: Source>(
             over_files(alloc, &words, words.conf, words.request, shelf, source)
         }
         Command::Verify(words) => {
-            over_files(alloc, &words, Some(words.conf), words.request, shelf, source)
+            over_files(
+                alloc,
+                &words,
+                Some(words.conf),
+                words.request,
+                shelf,
+                source,
+            )
         }
     }
 }

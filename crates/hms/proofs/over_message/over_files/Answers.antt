@@ -2,7 +2,7 @@ use Rattle.std.proofs.Common.{◌≡◌, refl}
 use Rattle.std.specs.Prelude.{option_map}
 use Rattle.conf.specs.ConfMeaning.{meaning}
 use Rattle.std.proofs.lemmas.Result.{err_from_is_err_and}
-use Rattle.hms.proofs.Reports.{both_asked, conf_read, conf_stopped, none_asked, none_asked_before, one_asked}
+use Rattle.hms.proofs.Reports.{both_asked, conf_read, conf_stopped, keeps_both, none_asked, none_asked_before, one_asked}
 use Rattle.hms.proofs.Sources.{none_gone}
 use Rattle.hms.proofs.over_message.over_files.Goals as goal
 
@@ -38,3 +38,8 @@ returns-clause-asked g c =
 pub returns-clause-unasked : goal.returns-clause-unasked
 returns-clause-unasked g c =
     none_asked c.args.conf c.args.request c.args.shelf.now c.read_configuration.new.shelf c.over_request.new.shelf c.in_ok-conf.ensures.unasked c.over_request.ensures.unasked
+
+pub returns-clause-files : goal.returns-clause-files
+returns-clause-files g c =
+    keeps_both (g.F.Shelf.files c.args.shelf.now) (g.F.Shelf.files c.read_configuration.new.shelf) (g.F.Shelf.files c.over_request.new.shelf)
+    c.in_ok-conf.ensures.files c.over_request.ensures.files
