@@ -1,5 +1,5 @@
 -- Arguments spell one command.
-use Rattle.std.proofs.Common.{◌≡◌, ℕ, List, [], ◌∷◌, ◌++◌, Option, Some, None, true, false, get_or, refl, sym, ap, ◌∙◌}
+use Rattle.std.proofs.Common.{◌≡◌, ℕ, List, [], ◌∷◌, Option, Some, None, true, false, get_or, refl, sym, ap, ◌∙◌}
 use Rattle.std.specs.Prelude.{IsSomeAnd, codes, nat_eq}
 use Rattle.std.specs.Str.{byte}
 use Rattle.std.specs.Str.Parse.{digits_value}
@@ -24,7 +24,8 @@ one_base arguments one other a b =
     let same = after_two (codes "base") (codes "base") one.params other.params a.words b.words (sym a.joined ∙ b.joined) in
     let options = one_list a.options b.options (sym a.are.joined ∙ (same.1 ∙ b.are.joined)) in
     let confs : one.conf ≡ other.conf = a.conf_is ∙ (ap (λ (all : List (Pair (List ℕ))). value_of all (codes "--conf")) options ∙ sym b.conf_is) in
-    λ i. Base (record { params = same.0 i; conf = confs i })
+    let requests : one.request ≡ other.request = a.request_is ∙ (ap (λ (all : List (Pair (List ℕ))). value_of all (codes "--request")) options ∙ sym b.request_is) in
+    λ i. Base (record { params = same.0 i; conf = confs i; request = requests i })
 
 moment_is : (digits other : Option (List ℕ)) (n m : ℕ) → digits ≡ other → IsSomeAnd digits (λ word. n ≡ digits_value 10 word)
     → IsSomeAnd other (λ word. m ≡ digits_value 10 word) → n ≡ m
@@ -41,7 +42,8 @@ one_verify arguments one other a b =
     let moments : one.now ≡ other.now =
     moment_is (value_of a.options (codes "--now")) (value_of b.options (codes "--now")) one.now other.now (word (codes "--now")) a.now_is b.now_is in
     let labels : one.label ≡ other.label = a.label_is ∙ (word (codes "--label") ∙ sym b.label_is) in
-    λ i. Verify (record { conf = confs i; now = moments i; label = labels i })
+    let requests : one.request ≡ other.request = a.request_is ∙ (word (codes "--request") ∙ sym b.request_is) in
+    λ i. Verify (record { conf = confs i; now = moments i; label = labels i; request = requests i })
 
 first_is : (a b : List ℕ) (x y : List (List ℕ)) → a ∷ x ≡ b ∷ y → a ≡ b
 first_is a b x y e = cc

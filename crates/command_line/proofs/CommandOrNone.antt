@@ -8,7 +8,7 @@ use Rattle.std.proofs.lemmas.Bool.{cases_Bool, and_parts, false≢true}
 use Rattle.std.proofs.lemmas.Slice.Eq.{bytes_eq-Decides}
 use Rattle.sfv_text.specs.Keys.{have_distinct_keys, value_of}
 use Rattle.sfv_text.specs.declared.pair.Pair.{Pair}
-use Rattle.command_line.specs.Command.{CommandLine, Help, Version, Base, Verify, BaseWords, VerifyWords, IsCommand, NoCommand, SpellsBase, SpellsVerify}
+use Rattle.command_line.specs.Command.{Help, Version, Base, Verify, BaseWords, VerifyWords, NoCommand, SpellsBase, SpellsVerify}
 use Rattle.command_line.specs.Laws.{HasCommandOrNone}
 use Rattle.command_line.specs.Options.{may_have, takes, words_of, AreOptions}
 use Rattle.command_line.specs.declared.options.CommandName.{CommandName}
@@ -73,8 +73,8 @@ BaseOrNone arguments = ((base : BaseWords) × SpellsBase arguments base) ⊎ ((b
 base_of : (params : List ℕ) (words : List (List ℕ)) → BaseOrNone (codes "base" ∷ params ∷ words)
 base_of params words = elim (options_or_none name.Base words) [
   | inl some ↦ inl (
-    record { params = params; conf = value_of some.0 (codes "--conf") },
-    record { words = words; options = some.0; joined = refl; are = some.1; conf_is = refl },
+    record { params = params; conf = value_of some.0 (codes "--conf"); request = value_of some.0 (codes "--request") },
+    record { words = words; options = some.0; joined = refl; are = some.1; conf_is = refl; request_is = refl },
   )
   | inr none ↦ inr (λ base is.
       let others = (first_is (codes "base") (codes "base") (params ∷ words) (base.params ∷ is.words) is.joined).1 in
@@ -111,7 +111,7 @@ verify_with words options are (Some conf) None conf_is now_is = inr (λ verify i
     let none : value_of is.options (codes "--now") ≡ None = ap (λ (all : List (Pair (List ℕ))). value_of all (codes "--now")) same ∙ now_is in
     subst (λ (found : Option (List ℕ)). IsSomeAnd found (λ digits. verify.now ≡ digits_value 10 digits)) none is.now_is)
 verify_with words options are (Some conf) (Some now) conf_is now_is = inl (
-  record { conf = conf; now = digits_value 10 now; label = value_of options (codes "--label") },
+  record { conf = conf; now = digits_value 10 now; label = value_of options (codes "--label"); request = value_of options (codes "--request") },
   record {
     words = words;
     options = options;
@@ -120,6 +120,7 @@ verify_with words options are (Some conf) (Some now) conf_is now_is = inl (
     conf_is = conf_is;
     now_is = subst (λ (found : Option (List ℕ)). IsSomeAnd found (λ digits. digits_value 10 now ≡ digits_value 10 digits)) (sym now_is) refl;
     label_is = refl;
+    request_is = refl;
   },
 )
 

@@ -1,6 +1,6 @@
 -- Words as options.
 use Rattle.std.proofs.Common.{◌≡◌, ◌<◌, ◌+◌, ℕ, Bool, true, false, ◌||◌, List, [], ◌∷◌, ◌++◌, length, map, Option, Some, None, refl, sym, ap, subst, ◌∙◌, inl, inr, arith, append_assoc}
-use Rattle.std.specs.Prelude.{◌⊎◌, ◌==◌, codes, cond, IfNone, IfSome, option_map, unwrap_or, if◌then◌else◌}
+use Rattle.std.specs.Prelude.{◌==◌, IfNone, IfSome, option_map, unwrap_or, if◌then◌else◌}
 use Rattle.std.specs.List.{list_all, list_any, find}
 use Rattle.std.specs.Str.{bytes_eq}
 use Rattle.std.proofs.lemmas.Bool.{cases_Bool, and_parts, false≢true}
@@ -14,7 +14,7 @@ use Rattle.sfv_text.proofs.PutLaws.{distinct_parts, put_distinct, put_new}
 use Rattle.command_line.specs.Options.{is_taken_by, may_have, option_of, row_of, takes, words_of, AreOptions}
 use Rattle.command_line.specs.declared.options.CommandName.{CommandName}
 use Rattle.command_line.specs.declared.options.CommandOption.{CommandOption}
-use Rattle.command_line.specs.declared.options.CommandOption.TheVariants.{Conf, Now, Label}
+use Rattle.command_line.specs.declared.options.CommandOption.TheVariants.{Conf, Now, Label, Request}
 use Rattle.command_line.specs.declared.options.OptionWords.{OptionWords}
 use Rattle.command_line.specs.tools.Found.{word_in, AddsOption, AreWordsOf, IsNextOption, HasOptions, AreFoundBefore}
 
@@ -95,21 +95,19 @@ none_found_yet command found words none = record {
 }
 
 -- an option has the name of its row
-cond_some : (b : Bool) (x y : CommandOption) (rest : Option CommandOption) → cond b (Some x) rest ≡ Some y → ((b ≡ true) × (x ≡ y)) ⊎ (rest ≡ Some y)
-cond_some true x y rest e = inl (refl, cc)
-cond_some false x y rest e = inr e
+first_holds : (test : CommandOption → Bool) (options : List CommandOption) (option : CommandOption) → find test options ≡ Some option → test option ≡ true
+first_holds test [] option e = absurd cc
+first_holds test (first ∷ others) option e = elim (cases_Bool (test first)) [
+  | inl holds ↦
+      let same : Some first ≡ Some option = rw holds at e in
+      let first_is : first ≡ option = cc in
+      subst (λ (o : CommandOption). test o ≡ true) first_is holds
+  | inr other ↦ first_holds test others option (rw other at e)
+]
 
 name_is : (name : List ℕ) (option : CommandOption) → option_of name ≡ Some option → name ≡ (row_of option).word
-name_is name option e = elim (cond_some (bytes_eq name (codes "--conf")) Conf option _ e) [
-  | inl first ↦ (bytes_eq-Decides name (codes "--conf")).0 first.0 ∙ ap (λ (o : CommandOption). (row_of o).word) first.1
-  | inr others ↦ elim (cond_some (bytes_eq name (codes "--now")) Now option _ others) [
-    | inl second ↦ (bytes_eq-Decides name (codes "--now")).0 second.0 ∙ ap (λ (o : CommandOption). (row_of o).word) second.1
-    | inr more ↦ elim (cond_some (bytes_eq name (codes "--label")) Label option None more) [
-      | inl third ↦ (bytes_eq-Decides name (codes "--label")).0 third.0 ∙ ap (λ (o : CommandOption). (row_of o).word) third.1
-      | inr none ↦ absurd cc
-    ]
-  ]
-]
+name_is name option e =
+    (bytes_eq-Decides name (row_of option).word).0 (first_holds (λ o. bytes_eq name (row_of o).word) (Conf ∷ Now ∷ Label ∷ Request ∷ []) option e)
 
 option_named : (test : CommandOption → Bool) (name : List ℕ) (option : CommandOption) → option_of name ≡ Some option
     → unwrap_or (option_map test (option_of name)) false ≡ test option
@@ -196,6 +194,7 @@ all_found command found words so_far =
       conf_is = word_is Conf;
       now_is = word_is Now;
       label_is = word_is Label;
+      request_is = word_is Request;
     }
 
 -- an option that comes after those that were found, in options of the command, can come next

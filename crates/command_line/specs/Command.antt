@@ -11,16 +11,20 @@ use Rattle.command_line.specs.declared.command.VerifyWords as verify
 use Rattle.command_line.specs.declared.command.Command.{Command}
 use Rattle.command_line.specs.declared.command.Command.TheVariants as command
 
--- the words of `base`: PARAMS, and the file of the configuration
+-- the words of `base`: PARAMS, the file of the configuration, and that of the request that the
+-- input answers
 pub record BaseWords : Type 0 where
   pub params : List ℕ
   pub conf : Option (List ℕ)
+  pub request : Option (List ℕ)
 
--- the words of `verify`: the file of the configuration, the moment, and the label that is asked for
+-- the words of `verify`: the file of the configuration, the moment, the label that is asked for,
+-- and the file of the request that the input answers
 pub record VerifyWords : Type 0 where
   pub conf : List ℕ
   pub now : ℕ
   pub label : Option (List ℕ)
+  pub request : Option (List ℕ)
 
 -- what arguments ask for
 pub data CommandLine : Type 0 where
@@ -28,7 +32,8 @@ pub data CommandLine : Type 0 where
   Help : CommandLine
   -- its version
   Version : CommandLine
-  -- the signature base over the components that PARAMS cover, by a configuration or without one
+  -- the signature base over the components that PARAMS cover, by a configuration or without one,
+  -- with a request or without one
   Base : BaseWords → CommandLine
   -- the verdicts by a configuration, at a moment, of one label or of all
   Verify : VerifyWords → CommandLine
@@ -40,6 +45,7 @@ pub record SpellsBase (arguments : List (List ℕ)) (base : BaseWords) : Type 0 
   pub joined : arguments ≡ codes "base" ∷ base.params ∷ words
   pub are : AreOptions name.Base words options
   pub conf_is : base.conf ≡ value_of options (codes "--conf")
+  pub request_is : base.request ≡ value_of options (codes "--request")
 
 -- the arguments are `verify` and its options, with those that it needs
 pub record SpellsVerify (arguments : List (List ℕ)) (verify : VerifyWords) : Type 0 where
@@ -51,6 +57,7 @@ pub record SpellsVerify (arguments : List (List ℕ)) (verify : VerifyWords) : T
   pub now_is : IsSomeAnd (value_of options (codes "--now"))
       (λ digits. verify.now ≡ digits_value 10 digits)
   pub label_is : verify.label ≡ value_of options (codes "--label")
+  pub request_is : verify.request ≡ value_of options (codes "--request")
 
 -- the arguments spell the command
 abbrev pub IsCommand : List (List ℕ) → CommandLine → Type 0
@@ -70,10 +77,20 @@ conf_of Version = None
 conf_of (Base words) = words.conf
 conf_of (Verify words) = Some words.conf
 
+-- the file of the request that the input answers
+abbrev pub request_of : CommandLine → Option (List ℕ)
+request_of Help = None
+request_of Version = None
+request_of (Base words) = words.request
+request_of (Verify words) = words.request
+
 -- what the borrowed words of `base` stand for
 abbrev pub base_words : base.BaseWords → BaseWords
-base_words words =
-    record { params = words.params.now; conf = option_map (λ word. word.now) words.conf }
+base_words words = record {
+  params = words.params.now;
+  conf = option_map (λ word. word.now) words.conf;
+  request = option_map (λ word. word.now) words.request;
+}
 
 -- what the borrowed words of `verify` stand for
 abbrev pub verify_words : verify.VerifyWords → VerifyWords
@@ -81,6 +98,7 @@ verify_words words = record {
   conf = words.conf.now;
   now = words.now;
   label = option_map (λ word. word.now) words.label;
+  request = option_map (λ word. word.now) words.request;
 }
 
 -- what a command with borrowed words stands for

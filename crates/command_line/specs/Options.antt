@@ -9,7 +9,7 @@ use Rattle.sfv_text.specs.declared.pair.Pair.{Pair}
 use Rattle.command_line.specs.declared.options.CommandName.{CommandName}
 use Rattle.command_line.specs.declared.options.CommandName.TheVariants.{Base, Verify}
 use Rattle.command_line.specs.declared.options.CommandOption.{CommandOption}
-use Rattle.command_line.specs.declared.options.CommandOption.TheVariants.{Conf, Now, Label}
+use Rattle.command_line.specs.declared.options.CommandOption.TheVariants.{Conf, Now, Label, Request}
 use Rattle.command_line.specs.declared.options.TheConstants.{MAX_MOMENT_DIGITS}
 
 -- a file has a name
@@ -33,11 +33,13 @@ row_of Conf =
     record { word = codes "--conf"; commands = Base ∷ Verify ∷ []; may_have = is_file_name }
 row_of Now = record { word = codes "--now"; commands = Verify ∷ []; may_have = is_moment }
 row_of Label = record { word = codes "--label"; commands = Verify ∷ []; may_have = is_key }
+row_of Request =
+    record { word = codes "--request"; commands = Base ∷ Verify ∷ []; may_have = is_file_name }
 
 -- the option of that name
 abbrev pub option_of : List ℕ → Option CommandOption
 option_of name =
-    find (λ option. bytes_eq name (row_of option).word) (Conf ∷ Now ∷ Label ∷ [])
+    find (λ option. bytes_eq name (row_of option).word) (Conf ∷ Now ∷ Label ∷ Request ∷ [])
 
 -- the two names are those of one command
 abbrev pub is_same_command : CommandName → CommandName → Bool

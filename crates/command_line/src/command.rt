@@ -13,6 +13,8 @@ pub struct BaseWords<'a> {
     pub params: &'a str,
     /// The file of the configuration.
     pub conf: Option<&'a str>,
+    /// The file of the request that the input answers.
+    pub request: Option<&'a str>,
 }
 
 /// The words of `verify`. They are borrowed.
@@ -24,6 +26,8 @@ pub struct VerifyWords<'a> {
     pub now: u64,
     /// The label that is asked for, or all that the message has.
     pub label: Option<&'a str>,
+    /// The file of the request that the input answers.
+    pub request: Option<&'a str>,
 }
 
 /// What the arguments ask for.
@@ -90,6 +94,7 @@ fn read_base<'a>(words: &'a [String]) -> Option<Command<'a>>
     Some(Command::Base(BaseWords {
         params: params.as_str(),
         conf: found.conf,
+        request: found.request,
     }))
 }
 
@@ -107,6 +112,7 @@ fn read_verify<'a>(words: &'a [String]) -> Option<Command<'a>>
         conf,
         now: moment_of(now),
         label: found.label,
+        request: found.request,
     }))
 }
 

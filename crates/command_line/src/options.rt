@@ -32,6 +32,8 @@ pub enum CommandOption {
     Now,
     /// `--label`: the label that is asked for.
     Label,
+    /// `--request`: the file of the request that the input answers.
+    Request,
 }
 
 /// The words that options have.
@@ -40,6 +42,7 @@ pub struct OptionWords<'a> {
     pub conf: Option<&'a str>,
     pub now: Option<&'a str>,
     pub label: Option<&'a str>,
+    pub request: Option<&'a str>,
 }
 
 fn are_digits(bytes: &[u8]) -> bool
@@ -76,6 +79,7 @@ impl CommandOption {
             "--conf" => Some(CommandOption::Conf),
             "--now" => Some(CommandOption::Now),
             "--label" => Some(CommandOption::Label),
+            "--request" => Some(CommandOption::Request),
             _ => None,
         }
     }
@@ -88,6 +92,7 @@ impl CommandOption {
             CommandOption::Conf => true,
             CommandOption::Now => command == CommandName::Verify,
             CommandOption::Label => command == CommandName::Verify,
+            CommandOption::Request => true,
         }
     }
 
@@ -99,6 +104,7 @@ impl CommandOption {
             CommandOption::Conf => !word.is_empty(),
             CommandOption::Now => is_moment(word.as_bytes()),
             CommandOption::Label => is_key(word.as_bytes()),
+            CommandOption::Request => !word.is_empty(),
         }
     }
 }
@@ -112,6 +118,7 @@ impl<'a> OptionWords<'a> {
             conf: None,
             now: None,
             label: None,
+            request: None,
         }
     }
 
@@ -123,6 +130,7 @@ impl<'a> OptionWords<'a> {
             CommandOption::Conf => self.conf.is_some(),
             CommandOption::Now => self.now.is_some(),
             CommandOption::Label => self.label.is_some(),
+            CommandOption::Request => self.request.is_some(),
         }
     }
 
@@ -143,6 +151,10 @@ impl<'a> OptionWords<'a> {
             },
             CommandOption::Label => OptionWords {
                 label: Some(word),
+                ..self
+            },
+            CommandOption::Request => OptionWords {
+                request: Some(word),
                 ..self
             },
         }

@@ -12,15 +12,15 @@ use Rattle.commands.proofs.LowerConf.{one_meaning, one_conf_fault, not_both_conf
 -- ---- what was found, by its text
 
 module _ {V : Type 0} (Reads : List ℕ → V → Type 0) (Causes : List ℕ → FileRefusal → Type 0) (decided : (text : List ℕ) → IsDecisive (Reads text) (Causes text)) where
-  found_value : (found : Option (List ℕ)) (v w : V) → ReadsFound Reads found v → ReadsFound Reads found w → v ≡ w
+  pub found_value : (found : Option (List ℕ)) (v w : V) → ReadsFound Reads found v → ReadsFound Reads found w → v ≡ w
   found_value None v w a b = absurd a
   found_value (Some text) v w a b = (decided text).value v w a b
 
-  found_cause : (found : Option (List ℕ)) (c d : FileRefusal) → IsFileRefused Causes found c → IsFileRefused Causes found d → c ≡ d
+  pub found_cause : (found : Option (List ℕ)) (c d : FileRefusal) → IsFileRefused Causes found c → IsFileRefused Causes found d → c ≡ d
   found_cause None c d a b = a ∙ sym b
   found_cause (Some text) c d a b = (decided text).cause c d a b
 
-  found_either : (found : Option (List ℕ)) (v : V) (c : FileRefusal) → ReadsFound Reads found v → IsFileRefused Causes found c → ⊥
+  pub found_either : (found : Option (List ℕ)) (v : V) (c : FileRefusal) → ReadsFound Reads found v → IsFileRefused Causes found c → ⊥
   found_either None v c a b = a
   found_either (Some text) v c a b = (decided text).either v c a b
 

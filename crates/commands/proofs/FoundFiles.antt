@@ -23,7 +23,7 @@ use Rattle.refusals.specs.declared.file.FileRefusal.TheVariants.{Missing, TooLon
 use Rattle.refusals.specs.declared.refusal.Refusal.TheVariants.{Of}
 use Rattle.commands.specs.Stops.{IfStopped, IsRefusalFor, stop_of_file, stop_of_conf}
 
-found_text : (known : Option FileMap) (name text : List ℕ) → HasFile known name text → IsFound known (Some name) (Some text)
+pub found_text : (known : Option FileMap) (name text : List ℕ) → HasFile known name text → IsFound known (Some name) (Some text)
 found_text None name text has = tt
 found_text (Some files) name text has = sym has
 

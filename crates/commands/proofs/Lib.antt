@@ -9,5 +9,6 @@ pub mod LowerConf
 pub mod LowerLaws
 pub mod OneOutcome
 pub mod Stopping
+pub mod TakenRequests
 pub mod Texts
 pub mod VerdictLines

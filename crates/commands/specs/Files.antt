@@ -21,10 +21,11 @@ pub data FileRole : Type 0 where
 abbrev pub FileNames : Type 0
 FileNames = FileRole → Option (List ℕ)
 
--- a configuration alone, or no file
-abbrev pub conf_alone : Option (List ℕ) → FileNames
-conf_alone name Conf = name
-conf_alone name role = None
+-- a configuration, or none, a request, or none, and no other file
+abbrev pub conf_and_request : Option (List ℕ) → Option (List ℕ) → FileNames
+conf_and_request conf request Conf = conf
+conf_and_request conf request Request = request
+conf_and_request conf request role = None
 
 -- how many files have a name
 abbrev pub file_count : FileNames → ℕ

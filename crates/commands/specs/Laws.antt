@@ -12,6 +12,7 @@ use Rattle.commands.specs.Configured.{IsConfigured, IsConfRefused}
 use Rattle.commands.specs.Covered.{ReadsParams}
 use Rattle.commands.specs.Layers.{IsDecisive, HasAnswer}
 use Rattle.commands.specs.Messages.{IsInputMessage, IsInputRefused}
+use Rattle.commands.specs.Requests.{IsRequested, IsRequestRefused, IsOfBytes}
 use Rattle.commands.specs.Verify.{ReportsVerdicts}
 use Rattle.commands.specs.declared.outcome.Outcome.{Outcome}
 
@@ -19,6 +20,11 @@ use Rattle.commands.specs.declared.outcome.Outcome.{Outcome}
 abbrev pub IsConfigurationDecided : Type 0
 IsConfigurationDecided =
     (name found : Option (List ℕ)) → IsDecisive (IsConfigured name found) (IsConfRefused name found)
+
+-- what was found under a name is at most one request, or is refused for at most one cause
+abbrev pub IsRequestDecided : Type 0
+IsRequestDecided =
+    (name found : Option (List ℕ)) → IsDecisive (IsRequested name found) (IsRequestRefused name found)
 
 -- an input is at most one message, read in this way, or is refused for at most one cause
 abbrev pub IsInputDecided : Type 0
@@ -49,6 +55,12 @@ HaveOneOutcome =
 abbrev pub HasConfiguration : Type 0
 HasConfiguration =
     (name found : Option (List ℕ)) → HasAnswer (IsConfigured name found) (IsConfRefused name found)
+
+-- what was found under a name, and is of bytes, is a request, or there is a cause to refuse it
+abbrev pub HasRequest : Type 0
+HasRequest =
+    (name found : Option (List ℕ)) → IsOfBytes found
+    → HasAnswer (IsRequested name found) (IsRequestRefused name found)
 
 -- an input of bytes is a message, read in this way, or there is a cause to refuse it
 abbrev pub HasMessage : Type 0

@@ -8,6 +8,7 @@ pub mod Laws
 pub mod Layers
 pub mod Messages
 pub mod Outcome
+pub mod Requests
 pub mod Stops
 pub mod Verify
 pub mod tools

@@ -1,13 +1,15 @@
 //! The commands of `hms` over a configuration and a message: the signature base that `base` writes
 //! (RFC 9421 section 2.5), and the verdicts that `verify` writes (section 3.2). Before them come
-//! the configuration, in a file or none, the input, which is to be one whole message, and the
-//! context that both give.
+//! the configuration, in a file or none, the request that the input answers, in a file or none, the
+//! input, which is to be one whole message, and the context that all give.
 //!
 //! ```text
 //! let conf = read_configuration(alloc, Some("hms.toml"), &mut shelf)?;
-//! let reading = Reading { expect: Expect::Any, to_head: false };
+//! let text = take_request(alloc, Some("request.http"), &mut shelf)?;
+//! let request = read_request(alloc, text.as_ref())?;
+//! let reading = Reading::of_input(request.as_ref());
 //! let message = read_input(alloc, reading, Role::Input, input)?;
-//! let context = context_for(&conf, &message, None);
+//! let context = context_for(&conf, &message, request.as_ref());
 //! let outcome = write_base(alloc, b"(\"@authority\")", &context)?;
 //! outcome.status()             // Status::Done
 //! outcome.into_output(alloc)?  // the line of `@authority`, and that of the signature parameters
@@ -22,6 +24,7 @@ mod help;
 mod laws;
 mod message;
 mod outcome;
+mod request;
 mod stop;
 mod verify;
 
@@ -32,5 +35,6 @@ pub use help::{HELP_TEXT, VERSION_TEXT, write_help, write_version};
 pub use laws::{each_layer_has_an_answer, each_layer_is_decided, verdicts_have_one_outcome};
 pub use message::{Reading, read_input};
 pub use outcome::Outcome;
+pub use request::{read_request, take_request};
 pub use stop::Stop;
 pub use verify::write_verdicts;

@@ -1,14 +1,16 @@
 //! Texts that are to be one whole message: the input, or a file.
 
-ghost use Rattle.std.specs.Prelude.{◌≡◌, ◌≤◌, length, IfOk, IfErr};
+ghost use Rattle.std.specs.Prelude.{◌≡◌, ◌≤◌, length, option_map, IfOk, IfErr};
+ghost use Rattle.msg_head.specs.Views.{start_line_of};
 ghost use Rattle.msg_body.specs.Views.{message_of};
 ghost use Rattle.refusals.specs.declared.refusal.TheConstants.{MAX_INPUT_BYTES};
-ghost use Rattle.commands.specs.Messages.{IsInputMessage, IsInputRefused};
+ghost use Rattle.commands.specs.Messages.{IsInputMessage, IsInputRefused, is_head, reading_for};
 ghost use Rattle.refusals.specs.declared.refusal.Refusal.TheVariants.{Of};
 ghost use Rattle.commands.specs.Stops.{IfRefused, IsRefusalFor, stop_for};
 
 use crate::stop::Stop;
 use msg_body::{Expect, MessageFault, MessageRead, MessageView, read_message};
+use msg_head::Start;
 use refusals::{FileRefusal, Refusal, Role};
 use std::alloc::Global;
 
@@ -19,6 +21,35 @@ pub struct Reading {
     pub expect: Expect,
     /// Whether a response answers a request whose method is HEAD (RFC 9112 section 6.3).
     pub to_head: bool,
+}
+
+/// Whether it is a request line whose method is HEAD (RFC 9110 section 9.3.2).
+fn is_head(start: Start<'_>) -> bool
+    ensures { result ≡ is_head (start_line_of start.entry) }
+{
+    match start {
+        Start::Request { method, .. } => method == b"HEAD".as_slice(),
+        Start::Status { .. } => false,
+    }
+}
+
+impl Reading {
+    /// How an input is read that has to be a response to this request, or, where none is known, a
+    /// message of either kind.
+    pub fn of_input(related: Option<&MessageView<'_>>) -> Reading
+        ensures { result ≡ reading_for (option_map (λ view. message_of view.now) related.entry) }
+    {
+        match related {
+            None => Reading {
+                expect: Expect::Any,
+                to_head: false,
+            },
+            Some(request) => Reading {
+                expect: Expect::Response,
+                to_head: is_head(request.start()),
+            },
+        }
+    }
 }
 
 /// A refusal of the text of this role for this fault.

@@ -1,30 +1,38 @@
 -- The outcome of arguments, files and an input.
-use Rattle.std.proofs.Common.{◌≡◌, ◌+◌, ◌≤◌, inl, inr, ℕ, Bool, true, false, List, [], Option, Some, None, Result, Err, refl, sym, ap, subst, arith}
-use Rattle.std.specs.Prelude.{IfSome, IfNone, option_map}
+use Rattle.std.proofs.Common.{◌≡◌, ◌+◌, ◌≤◌, inl, inr, ℕ, Bool, true, false, List, [], Option, Some, None, Result, Err, refl, sym, ap, subst, ◌∙◌, arith}
+use Rattle.std.specs.Prelude.{IfSome, IfNone, option_map, length}
+use Rattle.std.specs.FinMap as map
 use Rattle.std.specs.Io.KnownBytes.{Appends}
-use Rattle.hms_io.specs.Files.{FileMap}
+use Rattle.hms_io.specs.Files.{FileMap, KeepsFiles}
 use Rattle.hms_io.specs.declared.status.Status.{Status}
 use Rattle.hms_io.specs.declared.status.Status.TheVariants.{Done as Success, NotOk as Failure, BadArguments, BadInput, ReadFault, WriteFault, OutOfMemory, BadConf, LimitPassed, FileMissing}
-use Rattle.command_line.specs.Command.{CommandLine, IsCommand, NoCommand, conf_of}
+use Rattle.command_line.specs.Command.{CommandLine, IsCommand, NoCommand}
 use Rattle.conf.specs.Configuration.{Configuration}
 use Rattle.component_values.specs.Context.{MessageContext}
+use Rattle.msg_body.specs.Messages.{Message}
+use Rattle.msg_body.specs.Views.{MessageParts, message_of}
 use Rattle.commands.specs.Configured.{IsConfigured, IsConfRefused}
-use Rattle.commands.specs.Files.{FileRole, Conf, Request, Wanted, Script, Other, Found, IsFound, AreFound, HasFound, conf_alone, file_count}
+use Rattle.commands.specs.Files.{FileRole, Conf, Request, Wanted, Script, Other, Found, IsFound, AreFound, HasFound, conf_and_request, file_count}
+use Rattle.commands.specs.Layers.{ReadsFound, IsFileRefused}
+use Rattle.commands.specs.Messages.{IsInputMessage, IsInputRefused, one_request}
+use Rattle.commands.specs.Requests.{IsRequested, IsRequestRefused, IsTaken, IsRequestIn, IsTextRefused}
 use Rattle.refusals.specs.Laws.{IsOfRefusal}
 use Rattle.refusals.specs.Refusal.{refusal_status}
 use Rattle.refusals.proofs.Statuses.{status_of_refusal}
 use Rattle.commands.specs.Outcome.{status_of, output_of}
 use Rattle.hms.specs.Commands.{InputUse, Unread, Whole, input_use, name_of, AreFoundFor}
 use Rattle.hms.specs.Ends.{HasInput, HasOutcome, Leaves, HasReport, AppendsPrefix, Ends}
-use Rattle.hms.specs.Report.{ReportsMessage, ReportsFiles, ReportsCommand}
+use Rattle.hms.specs.Report.{ReportsMessage, ReportsRequest, ReportsFiles, ReportsCommand}
 use Rattle.refusals.specs.declared.refusal.Refusal.{Refusal}
-use Rattle.refusals.specs.declared.role.Role.TheVariants.{Conf as OfConf}
+use Rattle.refusals.specs.declared.file.FileRefusal.{FileRefusal}
+use Rattle.refusals.specs.declared.refusal.TheConstants.{MAX_INPUT_BYTES}
+use Rattle.refusals.specs.declared.role.Role.TheVariants.{Conf as OfConf, Request as OfRequest}
 use Rattle.refusals.specs.declared.refusal.Refusal.TheVariants.{Arguments, Of}
 use Rattle.commands.specs.declared.outcome.Outcome.{Outcome}
 use Rattle.commands.specs.declared.outcome.Outcome.TheVariants.{Done, NotOk, Refused}
 use Rattle.commands.specs.declared.stop.Stop.{Stop}
 use Rattle.commands.specs.declared.stop.Stop.TheVariants.{Memory, ReadFault as ReadFailed, Refused as IsRefused}
-use Rattle.commands.specs.Stops.{IfStopped, IfOutcome, IsRefusalFor}
+use Rattle.commands.specs.Stops.{IfStopped, IfOutcome, IfRefused, IsRefusalFor}
 use Rattle.command_line.proofs.CommandLaws.{one_command}
 use Rattle.hms.proofs.Layers.{went_on}
 use Rattle.hms.proofs.Sources.{LeavesInput}
@@ -41,20 +49,34 @@ none_found : (arguments : List (List ℕ)) (shelf : Option FileMap) → NoComman
 none_found arguments shelf none command is = absurd (none command is)
 
 -- nor for a command that names no file
-nothing_named : (shelf : Option FileMap) → AreFound shelf (conf_alone None) (λ role. None)
+pub nothing_named : (shelf : Option FileMap) → AreFound shelf (conf_and_request None None) (λ role. None)
 nothing_named shelf Conf = tt
 nothing_named shelf Request = tt
 nothing_named shelf Wanted = tt
 nothing_named shelf Script = tt
 nothing_named shelf Other = tt
 
--- of a configuration alone
-conf_found : (shelf : Option FileMap) (name text : Option (List ℕ)) → IsFound shelf name text → AreFound shelf (conf_alone name) (λ role. text)
-conf_found shelf name text is Conf = is
-conf_found shelf name text is Request = tt
-conf_found shelf name text is Wanted = tt
-conf_found shelf name text is Script = tt
-conf_found shelf name text is Other = tt
+-- of a configuration and a request
+both_found : (shelf : Option FileMap) (conf request conf_text request_text : Option (List ℕ)) → IsFound shelf conf conf_text → IsFound shelf request request_text
+    → AreFound shelf (conf_and_request conf request) (conf_and_request conf_text request_text)
+both_found shelf conf request conf_text request_text is also Conf = is
+both_found shelf conf request conf_text request_text is also Request = also
+both_found shelf conf request conf_text request_text is also Wanted = tt
+both_found shelf conf request conf_text request_text is also Script = tt
+both_found shelf conf request conf_text request_text is also Other = tt
+
+-- what is there under a name that isn't asked for
+some_found : (shelf : Option FileMap) (name : Option (List ℕ)) → (text : Option (List ℕ)) × IsFound shelf name text
+some_found shelf None = (None, tt)
+some_found None (Some name) = (None, tt)
+some_found (Some files) (Some name) = (map.get files name, refl)
+
+-- what is found later was there before
+found_before : (before now : Option FileMap) (name text : Option (List ℕ)) → KeepsFiles before now → IsFound now name text → IsFound before name text
+found_before before now None text keeps found = tt
+found_before None now (Some name) text keeps found = tt
+found_before (Some files) now (Some name) text keeps found =
+    subst (λ (shelf : Option FileMap). IfSome shelf (λ all. text ≡ map.get all name)) keeps found
 
 pub no_command : (arguments : List (List ℕ)) (shelf : Option FileMap) (Same : Type 0) (before now : Option (List ℕ)) → NoCommand arguments → Same
     → HasReport arguments shelf Same before now (Refused Arguments)
@@ -97,14 +119,14 @@ spelled arguments command is shelf Same before now =
     })
 
 -- what comes of a command that reads nothing
-pub alone : (command : CommandLine) (shelf : Option FileMap) (Same : Type 0) (before now : Option (List ℕ)) (outcome : Outcome) → input_use command ≡ Unread → conf_of command ≡ None → Same
-    → ((found : Found) (input : List ℕ) → ReportsCommand command found input outcome)
+pub alone : (command : CommandLine) (shelf : Option FileMap) (Same : Type 0) (before now : Option (List ℕ)) (outcome : Outcome) → input_use command ≡ Unread
+    → AreFound shelf (name_of command) (λ role. None) → Same → ((found : Found) (input : List ℕ) → ReportsCommand command found input outcome)
     → HasOutcome (ReportsCommand command) (Leaves (input_use command) Same before now) (AreFound shelf (name_of command)) before outcome
 alone command shelf Same before now outcome none unnamed same reports =
     let input = some_input before in
     record {
       found = λ role. None;
-      files = subst (λ (name : Option (List ℕ)). AreFound shelf (conf_alone name) (λ role. None)) (sym unnamed) (nothing_named shelf);
+      files = unnamed;
       holds = record {
         input = input.0;
         known = input.1;
@@ -113,15 +135,96 @@ alone command shelf Same before now outcome none unnamed same reports =
       };
     }
 
-module _ (Then : Configuration → MessageContext → Outcome → Type 0) (name : Option (List ℕ)) (shelf : Option FileMap) (Same : Type 0) (before now : Option (List ℕ)) where
-  conf_refused : (refusal : Refusal) → Same → HasFound shelf name (λ found. IsRefusalFor (IsConfRefused name found) (λ cause. Of OfConf cause) refusal)
-      → HasOutcome (ReportsFiles Then name) (LeavesInput Same before now) (AreFound shelf (conf_alone name)) before (Refused refusal)
-  conf_refused refusal same has =
+-- ---- the request, by the text that is taken
+
+requested : (name found text : Option (List ℕ)) (related : Option Message) → IsTaken name found text → IsRequestIn text related → IsRequested name found related
+requested None found text related taken is = subst (λ (t : Option (List ℕ)). IsRequestIn t related) taken is
+requested (Some name) found None related taken is = absurd taken.1
+requested (Some name) found (Some text) None taken is = absurd is
+requested (Some name) found (Some text) (Some message) taken is =
+    subst (λ (t : Option (List ℕ)). ReadsFound (IsInputMessage one_request) t message) (sym taken.0) is
+
+text_refused : (name found text : Option (List ℕ)) (cause : FileRefusal) → IsTaken name found text → IsTextRefused text cause → IsRequestRefused name found cause
+text_refused None found text cause taken is = subst (λ (t : Option (List ℕ)). IsTextRefused t cause) taken is
+text_refused (Some name) found None cause taken is = absurd is
+text_refused (Some name) found (Some text) cause taken is =
+    subst (λ (t : Option (List ℕ)). IsFileRefused (IsInputRefused one_request) t cause) (sym taken.0) is
+
+-- a message that is borrowed
+pub same_related : {X : Type 0} (f : X → MessageParts) (view : Option X) (parts : Option MessageParts) → option_map f view ≡ parts
+    → option_map (λ v. message_of (f v)) view ≡ option_map (λ p. message_of p) parts
+same_related f None parts same = ap (λ (o : Option MessageParts). option_map (λ p. message_of p) o) same
+same_related f (Some v) parts same = ap (λ (o : Option MessageParts). option_map (λ p. message_of p) o) same
+
+module _ (Then : Configuration → MessageContext → Outcome → Type 0) (conf : Configuration) (name : Option (List ℕ)) (shelf : Option FileMap) (Same : Type 0) (before now : Option (List ℕ)) where
+  -- a run that comes to an outcome with this request
+  abbrev pub HasRequestOutcome : Outcome → Type 0
+  HasRequestOutcome =
+      HasOutcome (ReportsRequest Then conf name) (LeavesInput Same before now) (AreFound shelf (conf_and_request None name)) before
+
+  request_refused : (refusal : Refusal) → Same → HasFound shelf name (λ found. IsRefusalFor (IsRequestRefused name found) (λ cause. Of OfRequest cause) refusal)
+      → HasRequestOutcome (Refused refusal)
+  request_refused refusal same has =
       let input = some_input before in
       let cause = has.holds in
       record {
-        found = λ role. has.found;
-        files = conf_found shelf name has.found has.known;
+        found = conf_and_request None has.found;
+        files = both_found shelf None name None has.found tt has.known;
+        holds = record {
+          input = input.0;
+          known = input.1;
+          reports = inr (cause.0, cause.1, ap (λ (r : Refusal). Refused r) cause.2);
+          leaves = subst (λ (r : Refusal). LeavesInput Same before now (Refused r)) (sym cause.2) same;
+        };
+      }
+
+  -- a stop while its file is taken
+  pub request_stopped : (stop : Stop) → Same → IfStopped stop (λ refusal. HasFound shelf name (λ found. IsRefusalFor (IsRequestRefused name found) (λ cause. Of OfRequest cause) refusal))
+      → IfOutcome (Err stop) HasRequestOutcome
+  request_stopped Memory same has = tt
+  request_stopped ReadFailed same has = tt
+  request_stopped (IsRefused refusal) same has = request_refused refusal same has
+
+  -- a stop while its text is read
+  pub text_stopped : (text : Option (List ℕ)) (stop : Stop) → Same → HasFound shelf name (λ found. IsTaken name found text)
+      → IfRefused stop (IsRefusalFor (IsTextRefused text) (λ cause. Of OfRequest cause)) → IfOutcome (Err stop) HasRequestOutcome
+  text_stopped text Memory same has is = tt
+  text_stopped text ReadFailed same has is = tt
+  text_stopped text (IsRefused refusal) same has is =
+      request_refused refusal same (record { found = has.found; known = has.known; holds = (is.0, text_refused name has.found text is.0 has.holds is.1, is.2) })
+
+  -- what comes after it
+  pub request_read : (text : Option (List ℕ)) (related : Option Message) (result : Result Outcome Stop) → HasFound shelf name (λ found. IsTaken name found text) → IsRequestIn text related
+      → IfOutcome result (HasInput (ReportsMessage Then conf related) (LeavesInput Same before now) before) → IfOutcome result HasRequestOutcome
+  request_read text related result has is =
+      went_on (λ outcome reported. record {
+        found = conf_and_request None has.found;
+        files = both_found shelf None name None has.found tt has.known;
+        holds = record {
+          input = reported.input;
+          known = reported.known;
+          reports = inl (related, requested name has.found text related has.holds is, reported.reports);
+          leaves = reported.leaves;
+        };
+      }) result
+
+-- ---- the configuration
+
+module _ (Then : Configuration → MessageContext → Outcome → Type 0) (conf_name request_name : Option (List ℕ)) (shelf : Option FileMap) (Same : Type 0) (before now : Option (List ℕ)) where
+  -- a run that comes to an outcome with these files
+  abbrev pub HasFilesOutcome : Outcome → Type 0
+  HasFilesOutcome =
+      HasOutcome (ReportsFiles Then conf_name request_name) (LeavesInput Same before now) (AreFound shelf (conf_and_request conf_name request_name)) before
+
+  conf_refused : (refusal : Refusal) → Same → HasFound shelf conf_name (λ found. IsRefusalFor (IsConfRefused conf_name found) (λ cause. Of OfConf cause) refusal)
+      → HasFilesOutcome (Refused refusal)
+  conf_refused refusal same has =
+      let input = some_input before in
+      let request = some_found shelf request_name in
+      let cause = has.holds in
+      record {
+        found = conf_and_request has.found request.0;
+        files = both_found shelf conf_name request_name has.found request.0 has.known request.1;
         holds = record {
           input = input.0;
           known = input.1;
@@ -131,35 +234,62 @@ module _ (Then : Configuration → MessageContext → Outcome → Type 0) (name 
       }
 
   -- a stop while the configuration is read
-  pub conf_stopped : (stop : Stop) → Same → IfStopped stop (λ refusal. HasFound shelf name (λ found. IsRefusalFor (IsConfRefused name found) (λ cause. Of OfConf cause) refusal))
-      → IfOutcome (Err stop) (HasOutcome (ReportsFiles Then name) (LeavesInput Same before now) (AreFound shelf (conf_alone name)) before)
+  pub conf_stopped : (stop : Stop) → Same → IfStopped stop (λ refusal. HasFound shelf conf_name (λ found. IsRefusalFor (IsConfRefused conf_name found) (λ cause. Of OfConf cause) refusal))
+      → IfOutcome (Err stop) HasFilesOutcome
   conf_stopped Memory same has = tt
   conf_stopped ReadFailed same has = tt
   conf_stopped (IsRefused refusal) same has = conf_refused refusal same has
 
-  -- what comes after it
-  pub conf_read : (conf : Configuration) (result : Result Outcome Stop) → HasFound shelf name (λ found. IsConfigured name found conf)
-      → IfOutcome result (HasInput (ReportsMessage Then conf) (LeavesInput Same before now) before)
-      → IfOutcome result (HasOutcome (ReportsFiles Then name) (LeavesInput Same before now) (AreFound shelf (conf_alone name)) before)
-  conf_read conf result has =
+  -- what comes after it, of a shelf that keeps its files
+  pub conf_read : (conf : Configuration) (later : Option FileMap) (result : Result Outcome Stop) → HasFound shelf conf_name (λ found. IsConfigured conf_name found conf) → KeepsFiles shelf later
+      → IfOutcome result (HasRequestOutcome Then conf request_name later Same before now) → IfOutcome result HasFilesOutcome
+  conf_read conf later result has keeps =
       went_on (λ outcome reported. record {
-        found = λ role. has.found;
-        files = conf_found shelf name has.found has.known;
+        found = conf_and_request has.found (reported.found Request);
+        files = both_found shelf conf_name request_name has.found (reported.found Request) has.known
+            (found_before shelf later request_name (reported.found Request) keeps (reported.files Request));
         holds = record {
-          input = reported.input;
-          known = reported.known;
-          reports = inl (conf, has.holds, reported.reports);
-          leaves = reported.leaves;
+          input = reported.holds.input;
+          known = reported.holds.known;
+          reports = inl (conf, has.holds, reported.holds.reports);
+          leaves = reported.holds.leaves;
         };
       }) result
 
--- how many files are asked for, where one that isn't named isn't
-pub asks_for_named : {X S : Type 0} (asked : S → ℕ) (f : X → List ℕ) (name : Option X) (before now : S) → IfNone name (now ≡ before) → asked now ≤ asked before + 1
-    → asked now ≤ asked before + file_count (conf_alone (option_map f name))
-asks_for_named asked f None before now same one = omega (arith, ap asked same)
-asks_for_named asked f (Some x) before now same one = one
+-- files that are kept twice are kept
+pub keeps_both : (before middle now : Option FileMap) → KeepsFiles before middle → KeepsFiles middle now → KeepsFiles before now
+keeps_both None middle now keeps also = tt
+keeps_both (Some files) middle now keeps also = subst (λ (shelf : Option FileMap). KeepsFiles shelf now) keeps also
 
--- where no file is named, nothing is asked of the shelf
+-- how many files are asked for, where none is that isn't named
+pub one_asked : {X S : Type 0} (asked : S → ℕ) (f : X → List ℕ) (conf request : Option X) (before now : S) → IfNone conf (now ≡ before) → asked now ≤ asked before + 1
+    → asked now ≤ asked before + file_count (conf_and_request (option_map f conf) (option_map f request))
+one_asked asked f None None before now same one = omega (arith, ap asked same)
+one_asked asked f None (Some y) before now same one = omega (arith, ap asked same)
+one_asked asked f (Some x) None before now same one = one
+one_asked asked f (Some x) (Some y) before now same one = omega (arith, one)
+
+pub both_asked : {X S : Type 0} (asked : S → ℕ) (f : X → List ℕ) (conf request : Option X) (before middle now : S)
+    → IfNone conf (middle ≡ before) → asked middle ≤ asked before + 1 → IfNone request (now ≡ middle) → asked now ≤ asked middle + 1
+    → asked now ≤ asked before + file_count (conf_and_request (option_map f conf) (option_map f request))
+both_asked asked f None None before middle now same one also other = omega (arith, ap asked same, ap asked also)
+both_asked asked f None (Some y) before middle now same one also other = omega (arith, ap asked same, other)
+both_asked asked f (Some x) None before middle now same one also other = omega (arith, one, ap asked also)
+both_asked asked f (Some x) (Some y) before middle now same one also other = omega (arith, one, other)
+
+-- nothing is asked for where neither file is named
+pub none_asked : {X S : Type 0} (conf request : Option X) (before middle now : S) → IfNone conf (middle ≡ before) → IfNone request (now ≡ middle)
+    → IfNone conf (IfNone request (now ≡ before))
+none_asked None None before middle now same also = also ∙ same
+none_asked None (Some y) before middle now same also = tt
+none_asked (Some x) request before middle now same also = tt
+
+pub none_asked_before : {X S : Type 0} (conf request : Option X) (before now : S) → IfNone conf (now ≡ before) → IfNone conf (IfNone request (now ≡ before))
+none_asked_before None None before now same = same
+none_asked_before None (Some y) before now same = tt
+none_asked_before (Some x) request before now same = tt
+
+-- where a file isn't named, nothing is asked of the shelf for it
 pub none_named : {X : Type 0} (f : X → List ℕ) (name : Option X) (P : Type 0) → option_map f name ≡ None → IfNone name P → P
 none_named f None P same is = is
 none_named f (Some x) P same is = absurd cc

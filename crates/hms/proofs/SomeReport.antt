@@ -13,17 +13,18 @@ use Rattle.sig_base.specs.SignatureBase.{signature_base}
 use Rattle.verdicts.specs.declared.outcome.Verdict.{Verdict}
 use Rattle.commands.specs.Base.{ReportsValues, ReportsBase}
 use Rattle.commands.specs.Contexts.{context_for}
-use Rattle.commands.specs.Files.{Found, Conf as ConfFile}
+use Rattle.commands.specs.Files.{Found, FileRole, Conf as ConfFile, Request as RequestFile}
 use Rattle.commands.specs.Layers.{ReadsThen, HasAnswer}
-use Rattle.commands.specs.Messages.{any_message}
+use Rattle.commands.specs.Messages.{reading_for}
+use Rattle.commands.specs.Requests.{IsOfBytes}
 use Rattle.commands.specs.Verify.{ReportsVerdicts, is_accepted, verdicts_outcome}
 use Rattle.commands.specs.declared.help.TheConstants.{HELP_TEXT, VERSION_TEXT}
 use Rattle.commands.specs.declared.outcome.Outcome.{Outcome}
 use Rattle.commands.specs.declared.outcome.Outcome.TheVariants.{Done, Refused}
 use Rattle.refusals.specs.declared.refusal.Refusal.{Refusal}
 use Rattle.hms.specs.Laws.{HasSomeReport, IsBaseDone, IsServed, HasAll, IsAnswered, IsComplete}
-use Rattle.hms.specs.Report.{ReportsCommand, ReportsMessage, ReportsFiles}
-use Rattle.hms.proofs.CommandLaws.{conf_answer, input_answer, params_answer, values_answer, verdicts_answer}
+use Rattle.hms.specs.Report.{ReportsCommand, ReportsFiles}
+use Rattle.hms.proofs.CommandLaws.{conf_answer, request_answer, input_answer, params_answer, values_answer, verdicts_answer}
 
 -- some outcome
 abbrev HasSome : (Outcome → Type 0) → Type 0
@@ -40,17 +41,25 @@ some_of_values context sig = some_of_layers _ _ _ _ (values_answer context sig.i
 some_of_base : (params : List ℕ) (conf : Configuration) (context : MessageContext) → HasSome (ReportsBase params context)
 some_of_base params conf context = some_of_layers _ _ _ _ (params_answer params) (λ sig. some_of_values context sig)
 
-some_of_files : (Then : Configuration → MessageContext → Outcome → Type 0) → ((conf : Configuration) (context : MessageContext) → HasSome (Then conf context))
-    → (name : Option (List ℕ)) (found : Found) (input : List ℕ) → IsTrue (list_all is_byte input) → HasSome (ReportsFiles Then name found input)
-some_of_files Then some name found input bytes =
-    some_of_layers _ _ _ _ (conf_answer name (found ConfFile)) (λ conf. some_of_layers _ _ _ _ (input_answer any_message input bytes) (λ message. some conf (context_for conf message None)))
+-- the files are of bytes
+abbrev AreOfBytes : Found → Type 0
+AreOfBytes found = (role : FileRole) → IsOfBytes (found role)
 
-some_of_command : (command : CommandLine) (found : Found) (input : List ℕ) → IsTrue (list_all is_byte input) → HasSome (ReportsCommand command found input)
-some_of_command Help found input bytes = (Done HELP_TEXT.now, refl)
-some_of_command Version found input bytes = (Done VERSION_TEXT.now, refl)
-some_of_command (Base words) found input bytes = some_of_files (λ conf. ReportsBase words.params) (some_of_base words.params) words.conf found input bytes
-some_of_command (Verify words) found input bytes =
-    some_of_files (ReportsVerdicts words.label words.now) (verdicts_answer words.label words.now) (Some words.conf) found input bytes
+some_of_files : (Then : Configuration → MessageContext → Outcome → Type 0) → ((conf : Configuration) (context : MessageContext) → HasSome (Then conf context))
+    → (conf_name request_name : Option (List ℕ)) (found : Found) (input : List ℕ) → AreOfBytes found → IsTrue (list_all is_byte input)
+    → HasSome (ReportsFiles Then conf_name request_name found input)
+some_of_files Then some conf_name request_name found input files bytes =
+    some_of_layers _ _ _ _ (conf_answer conf_name (found ConfFile)) (λ conf.
+    some_of_layers _ _ _ _ (request_answer request_name (found RequestFile) (files RequestFile)) (λ related.
+    some_of_layers _ _ _ _ (input_answer (reading_for related) input bytes) (λ message. some conf (context_for conf message related))))
+
+some_of_command : (command : CommandLine) (found : Found) (input : List ℕ) → AreOfBytes found → IsTrue (list_all is_byte input) → HasSome (ReportsCommand command found input)
+some_of_command Help found input files bytes = (Done HELP_TEXT.now, refl)
+some_of_command Version found input files bytes = (Done VERSION_TEXT.now, refl)
+some_of_command (Base words) found input files bytes =
+    some_of_files (λ conf. ReportsBase words.params) (some_of_base words.params) words.conf words.request found input files bytes
+some_of_command (Verify words) found input files bytes =
+    some_of_files (ReportsVerdicts words.label words.now) (verdicts_answer words.label words.now) (Some words.conf) words.request found input files bytes
 
 arguments_answer : (arguments : List (List ℕ)) → HasAnswer (IsCommand arguments) (λ (_ : ⊤). NoCommand arguments)
 arguments_answer arguments = elim (command_or_none arguments) [
@@ -59,7 +68,7 @@ arguments_answer arguments = elim (command_or_none arguments) [
 ]
 
 pub some_report_law : HasSomeReport
-some_report_law arguments found input bytes = some_of_layers _ _ _ _ (arguments_answer arguments) (λ command. some_of_command command found input bytes)
+some_report_law arguments found input files bytes = some_of_layers _ _ _ _ (arguments_answer arguments) (λ command. some_of_command command found input files bytes)
 
 -- ---- where nothing is refused
 
@@ -69,10 +78,11 @@ HasAnswered P = (outcome : Outcome) × P outcome × IsAnswered outcome
 
 files_answered : (Then : Configuration → MessageContext → Outcome → Type 0) (IsDone : MessageContext → Type 0)
     → ((conf : Configuration) (context : MessageContext) → IsDone context → HasAnswered (Then conf context))
-    → (name : Option (List ℕ)) (found : Found) (input : List ℕ) → IsServed name found input IsDone → HasAnswered (ReportsFiles Then name found input)
-files_answered Then IsDone answered name found input served =
-    let next = answered served.conf (context_for served.conf served.message None) served.done in
-    (next.0, inl (served.conf, served.configured, inl (served.message, served.is, next.1)), next.2)
+    → (conf_name request_name : Option (List ℕ)) (found : Found) (input : List ℕ) → IsServed conf_name request_name found input IsDone
+    → HasAnswered (ReportsFiles Then conf_name request_name found input)
+files_answered Then IsDone answered conf_name request_name found input served =
+    let next = answered served.conf (context_for served.conf served.message served.related) served.done in
+    (next.0, inl (served.conf, served.configured, inl (served.related, served.requested, inl (served.message, served.is, next.1))), next.2)
 
 base_answered : (params : List ℕ) (conf : Configuration) (context : MessageContext) → IsBaseDone params context → HasAnswered (ReportsBase params context)
 base_answered params conf context done =
@@ -92,9 +102,9 @@ command_answered : (command : CommandLine) (found : Found) (input : List ℕ) �
 command_answered Help found input has = (Done HELP_TEXT.now, refl, inl refl)
 command_answered Version found input has = (Done VERSION_TEXT.now, refl, inl refl)
 command_answered (Base words) found input has =
-    files_answered (λ conf. ReportsBase words.params) (IsBaseDone words.params) (base_answered words.params) words.conf found input has
+    files_answered (λ conf. ReportsBase words.params) (IsBaseDone words.params) (base_answered words.params) words.conf words.request found input has
 command_answered (Verify words) found input has =
-    files_answered (ReportsVerdicts words.label words.now) (λ context. ⊤) (λ conf context _. verdicts_answered words.label words.now conf context) (Some words.conf) found input has
+    files_answered (ReportsVerdicts words.label words.now) (λ context. ⊤) (λ conf context _. verdicts_answered words.label words.now conf context) (Some words.conf) words.request found input has
 
 pub complete_law : IsComplete
 complete_law arguments command found input is has =

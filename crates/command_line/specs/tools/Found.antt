@@ -6,7 +6,7 @@ use Rattle.sfv_text.specs.declared.pair.Pair.{Pair}
 use Rattle.command_line.specs.Options.{is_taken_by, option_of, row_of, words_of, AreOptions}
 use Rattle.command_line.specs.declared.options.CommandName.{CommandName}
 use Rattle.command_line.specs.declared.options.CommandOption.{CommandOption}
-use Rattle.command_line.specs.declared.options.CommandOption.TheVariants.{Conf, Now, Label}
+use Rattle.command_line.specs.declared.options.CommandOption.TheVariants.{Conf, Now, Label, Request}
 use Rattle.command_line.specs.declared.options.OptionWords.{OptionWords}
 
 -- the word of the option
@@ -14,6 +14,7 @@ abbrev pub word_in : OptionWords → CommandOption → Option (List ℕ)
 word_in found Conf = option_map (λ word. word.now) found.conf
 word_in found Now = option_map (λ word. word.now) found.now
 word_in found Label = option_map (λ word. word.now) found.label
+word_in found Request = option_map (λ word. word.now) found.request
 
 -- the option has this name, the command takes it, it has no word yet, and it may have this one
 pub record IsNextOption (command : CommandName) (found : OptionWords) (name word : List ℕ)
@@ -50,6 +51,7 @@ pub record HasOptions (command : CommandName) (words : List (List ℕ)) (found :
   pub conf_is : IsWordOf words (codes "--conf") (option_map (λ word. word.now) found.conf)
   pub now_is : IsWordOf words (codes "--now") (option_map (λ word. word.now) found.now)
   pub label_is : IsWordOf words (codes "--label") (option_map (λ word. word.now) found.label)
+  pub request_is : IsWordOf words (codes "--request") (option_map (λ word. word.now) found.request)
 
 -- the options up to the words that are left, whose words were found
 pub record AreFoundBefore (command : CommandName) (found : OptionWords)

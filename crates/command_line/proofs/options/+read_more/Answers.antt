@@ -1,4 +1,4 @@
-use Rattle.std.proofs.Common.{◌≡◌, ◌<◌, List, ℕ, length, map, string_bytes, refl, sym, ap, ◌∙◌, subst}
+use Rattle.std.proofs.Common.{◌<◌, List, ℕ, length, map, string_bytes, sym, subst}
 use Rattle.std.proofs.lemmas.List.{length-map}
 use Rattle.command_line.specs.tools.Found.{AreFoundBefore}
 use Rattle.command_line.proofs.OptionLists.{all_found, one_more_found, none_left, none_left_over, none_next, some_left, if_none, if_some}

@@ -1,7 +1,4 @@
-use Rattle.std.proofs.Common.{Option, Some, None, List, ℕ, map, string_bytes}
-use Rattle.std.specs.Prelude.{IfNone}
-use Rattle.sfv_text.specs.declared.pair.Pair.{Pair}
-use Rattle.command_line.specs.Options.{AreOptions}
+use Rattle.std.proofs.Common.{map, string_bytes}
 use Rattle.command_line.proofs.OptionLists.{none_found_yet, if_none}
 use Rattle.command_line.proofs.options.read_options.Goals as goal
 

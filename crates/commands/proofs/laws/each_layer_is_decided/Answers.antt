@@ -1,6 +1,7 @@
 use Rattle.commands.proofs.Decided.{input_decided, params_decided, values_decided}
 use Rattle.commands.proofs.DecidedConf.{conf_decided}
+use Rattle.commands.proofs.TakenRequests.{request_decided}
 use Rattle.commands.proofs.laws.each_layer_is_decided.Goals as goal
 
 pub returns : goal.returns
-returns c = record { configuration = conf_decided; input = input_decided; params = params_decided; values = values_decided }
+returns c = record { configuration = conf_decided; request = request_decided; input = input_decided; params = params_decided; values = values_decided }

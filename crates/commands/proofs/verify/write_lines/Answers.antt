@@ -1,4 +1,4 @@
-use Rattle.std.proofs.Common.{◌≡◌, None, sym, subst, refl, ◌∙◌}
+use Rattle.std.proofs.Common.{◌≡◌, sym, subst, refl, ◌∙◌}
 use Rattle.signatures.specs.Fields.{AreFieldsOf}
 use Rattle.verdicts.specs.Verification.{Verification, model_of}
 use Rattle.commands.specs.Verify.{verification_for}

@@ -1,8 +1,10 @@
-use Rattle.std.proofs.Common.{◌≡◌, ℕ, List, None, Result, Err, ap}
+use Rattle.std.proofs.Common.{◌≡◌, ℕ, List, Result, Err, ap}
+use Rattle.std.specs.Prelude.{option_map}
+use Rattle.msg_body.specs.Views.{message_of}
 use Rattle.conf.specs.ConfMeaning.{meaning}
 use Rattle.hms_io.specs.declared.read_write.FillError.{FillError}
 use Rattle.commands.specs.Contexts.{context_for}
-use Rattle.commands.specs.Messages.{any_message}
+use Rattle.commands.specs.Messages.{reading_for}
 use Rattle.hms.proofs.Sources.{all_gone, fill_counts, fill_stop, input_outcome}
 use Rattle.hms.proofs.over_message.over_source.Goals as goal
 
@@ -12,14 +14,16 @@ as_err e = Err e
 pub returns-in-Err-clause-report : goal.returns-in-Err-clause-report
 returns-in-Err-clause-report g c =
     let conf = meaning c.args.conf.now in
-    rw c.of_fill.ensures (fill_stop (λ message. g.C.OverMessage.reports c.args.command.now conf (context_for conf message None)) any_message
+    let related = option_map (λ view. message_of view.now) c.args.related in
+    rw c.of_fill.ensures (fill_stop (λ message. g.C.OverMessage.reports c.args.command.now conf (context_for conf message related)) (reading_for related)
     (c.fill.new.source ≡ c.args.source.now) (g.S.Source.left c.args.source.now)
     (g.S.Source.left c.fill.new.source) c.in-Err.error (λ e. c.in-Err.ensures.too_long (ap as_err e)))
 
 pub returns-clause-report : goal.returns-clause-report
 returns-clause-report g c =
     let conf = meaning c.args.conf.now in
-    input_outcome (λ message. g.C.OverMessage.reports c.args.command.now conf (context_for conf message None)) any_message
+    let related = option_map (λ view. message_of view.now) c.args.related in
+    input_outcome (λ message. g.C.OverMessage.reports c.args.command.now conf (context_for conf message related)) (reading_for related)
     (c.fill.new.source ≡ c.args.source.now) c.in-Ok.input c.bytes.result.now
     (g.S.Source.left c.args.source.now) (g.S.Source.left c.fill.new.source) c.bytes.ensures c.in-Ok.ensures.whole c.over_input.result c.over_input.ensures.report c.over_input.ensures.after
 

@@ -1,8 +1,8 @@
 use Rattle.std.proofs.Common.{◌≡◌, ◌+◌, ◌≤◌, map, string_bytes, refl, Ok}
 use Rattle.command_line.specs.Command.{CommandLine, Help, Version, Base, Verify, base_words, verify_words, line_of}
-use Rattle.commands.specs.Files.{Conf, file_count}
+use Rattle.commands.specs.Files.{Conf, Request, file_count}
 use Rattle.hms.specs.Commands.{input_use, name_of, LosesFew}
-use Rattle.hms.proofs.Reports.{alone, never_read, never, no_command, none_named, of_command, spelled}
+use Rattle.hms.proofs.Reports.{alone, never_read, never, no_command, none_named, nothing_named, of_command, spelled}
 use Rattle.hms.proofs.run.run_command.Goals as goal
 
 pub returns-in_default-clause-report : goal.returns-in_default-clause-report
@@ -21,7 +21,7 @@ returns-in_ok-write_help-in-Help-clause-report g c =
     let outcome = c.in_ok-write_help-in-Help.field-0 in
     spelled (map string_bytes c.args.arguments.now) Help (rw c.in-Help.is at c.in-Some.ensures.some) (g.F.Shelf.files c.args.shelf.now) (c.args.source.now ≡ c.args.source.now)
     (g.S.Source.left c.args.source.now) (g.S.Source.left c.args.source.now) (Ok outcome)
-    (alone Help (g.F.Shelf.files c.args.shelf.now) (c.args.source.now ≡ c.args.source.now) (g.S.Source.left c.args.source.now) (g.S.Source.left c.args.source.now) outcome refl refl refl
+    (alone Help (g.F.Shelf.files c.args.shelf.now) (c.args.source.now ≡ c.args.source.now) (g.S.Source.left c.args.source.now) (g.S.Source.left c.args.source.now) outcome refl (nothing_named (g.F.Shelf.files c.args.shelf.now)) refl
     (λ found input. c.in_ok-write_help-in-Help.ensures))
 
 pub returns-in_ok-write_version-in-Version-clause-report : goal.returns-in_ok-write_version-in-Version-clause-report
@@ -29,7 +29,7 @@ returns-in_ok-write_version-in-Version-clause-report g c =
     let outcome = c.in_ok-write_version-in-Version.field-0 in
     spelled (map string_bytes c.args.arguments.now) Version (rw c.in-Version.is at c.in-Some.ensures.some) (g.F.Shelf.files c.args.shelf.now) (c.args.source.now ≡ c.args.source.now)
     (g.S.Source.left c.args.source.now) (g.S.Source.left c.args.source.now) (Ok outcome)
-    (alone Version (g.F.Shelf.files c.args.shelf.now) (c.args.source.now ≡ c.args.source.now) (g.S.Source.left c.args.source.now) (g.S.Source.left c.args.source.now) outcome refl refl refl
+    (alone Version (g.F.Shelf.files c.args.shelf.now) (c.args.source.now ≡ c.args.source.now) (g.S.Source.left c.args.source.now) (g.S.Source.left c.args.source.now) outcome refl (nothing_named (g.F.Shelf.files c.args.shelf.now)) refl
     (λ found input. c.in_ok-write_version-in-Version.ensures))
 
 pub returns-in-Base-clause-report : goal.returns-in-Base-clause-report
@@ -52,7 +52,8 @@ returns-in-Base-clause-unread g c = λ none. never_read _ (none (Base (base_word
 
 pub returns-in-Base-clause-unasked : goal.returns-in-Base-clause-unasked
 returns-in-Base-clause-unasked g c = λ named.
-    none_named (λ word. word.now) c.in-Base.words.conf _ (named (Base (base_words c.in-Base.words)) (rw c.in-Base.is at c.in-Some.ensures.some) Conf) c.over_files.ensures.unasked
+    let none = named (Base (base_words c.in-Base.words)) (rw c.in-Base.is at c.in-Some.ensures.some) in
+    none_named (λ word. word.now) c.in-Base.words.request _ (none Request) (none_named (λ word. word.now) c.in-Base.words.conf _ (none Conf) c.over_files.ensures.unasked)
 
 pub returns-in-Verify-clause-report : goal.returns-in-Verify-clause-report
 returns-in-Verify-clause-report g c =
