@@ -8,7 +8,7 @@ ghost use Rattle.derived_values.specs.Answers.{AnswersRow};
 
 use component_ids::FieldKind;
 use derived_values::{Lack, NoValue};
-use sfv_read::{read_dict, read_item, read_list};
+use sfv_read::{read_dict, read_dict_member, read_item, read_list};
 use sfv_text::{Text, print_dict, print_item, print_list, print_member};
 use std::alloc::Global;
 
@@ -53,13 +53,12 @@ pub(crate) fn strict_value(
 }
 
 /// The strict text of the member of the key.
-#[tactic(auto, using(crate::proofs::Unread::no_member, crate::proofs::Unread::member_in_range))]
+#[tactic(auto, using(crate::proofs::Unread::no_member, crate::proofs::Unread::has_member))]
 fn strict_member(alloc: Global, key: &[u8], text: &[u8]) -> Result<Text, NoValue>
     ensures { AnswersRow (MemberRow key.now text.now) result }
 {
-    let dict = read_dict(alloc, text)?;
-    match dict.find(key) {
-        Some(member) => Ok(print_member(alloc, member)?),
+    match read_dict_member(alloc, text, key)? {
+        Some(member) => Ok(print_member(alloc, &member)?),
         None => Err(NoValue::Lacks(Lack::Absent)),
     }
 }

@@ -1,9 +1,9 @@
 -- What is read is in range.
-use Rattle.std.proofs.Common.{◌≡◌, ℕ, zero, suc, ◌+◌, ◌-◌, ◌*◌, ◌^◌, ◌<◌, ◌≤◌, ℤ, Bool, true, ◌&&◌, List, [], ◌∷◌, ◌++◌, length, refl, sym, ap, subst, ◌∙◌, arith, inl, inr}
-use Rattle.std.specs.Prelude.{unsigned_abs}
+use Rattle.std.proofs.Common.{◌≡◌, ℕ, zero, suc, ◌+◌, ◌-◌, ◌*◌, ◌^◌, ◌<◌, ◌≤◌, ℤ, Bool, true, ◌&&◌, List, [], ◌∷◌, ◌++◌, length, Option, Some, None, Result, Ok, Err, refl, sym, ap, subst, ◌∙◌, arith, inl, inr}
+use Rattle.std.specs.Prelude.{unsigned_abs, IfOk, IfSome, IsTrue}
 use Rattle.std.specs.List.{list_all}
 use Rattle.std.specs.Char.{digit_value}
-use Rattle.std.proofs.lemmas.Bool.{lt-ltb}
+use Rattle.std.proofs.lemmas.Bool.{cases_Bool, lt-ltb}
 use Rattle.std.proofs.lemmas.Bool.Decides.{nat_tests}
 use Rattle.byte_grammar.specs.Language.{IsWord, Each, IsFurther, SeparatedBy, after_all}
 use Rattle.byte_grammar.proofs.Laws.{and_is}
@@ -14,8 +14,8 @@ use Rattle.sfv_text.specs.declared.value.InnerList.{InnerList}
 use Rattle.sfv_text.specs.declared.value.Member.{Member}
 use Rattle.sfv_text.specs.declared.value.Member.TheVariants.{Item as ItemMember, InnerList as InnerMember}
 use Rattle.sfv_text.specs.declared.pair.Pair.{Pair}
-use Rattle.sfv_text.specs.Keys.{have_distinct_keys, put}
-use Rattle.sfv_text.specs.Range.{is_word, is_token_first, is_token_rest, is_key_first, is_key_rest, is_number_in_range, is_bare_in_range, is_param_in_range, are_params_in_range, is_item_in_range, is_inner_in_range, is_member_in_range, is_list_in_range, is_dict_member_in_range, is_dict_in_range}
+use Rattle.sfv_text.specs.Keys.{has_key, have_distinct_keys, put, value_of}
+use Rattle.sfv_text.specs.Range.{is_word, is_key, is_token_first, is_token_rest, is_key_first, is_key_rest, is_number_in_range, is_bare_in_range, is_param_in_range, are_params_in_range, is_item_in_range, is_inner_in_range, is_member_in_range, is_list_in_range, is_dict_member_in_range, is_dict_in_range}
 use Rattle.sfv_text.proofs.PutLaws.{put_distinct, put_kept}
 use Rattle.byte_grammar.specs.Classes.{is_digit}
 use Rattle.std.specs.Str.Parse.{digits_value, digits_value_after}
@@ -23,7 +23,8 @@ use Rattle.sfv_read.specs.BareItem.{with_sign, IsInteger, IsDecimal, IsBareItem}
 use Rattle.sfv_read.specs.Item.{IsValue, IsParameter, AreParameters, put_pair, distinct_pairs, IsItem}
 use Rattle.sfv_read.specs.Inner.{AreSpaces, IsInner}
 use Rattle.sfv_read.specs.Member.{IsMember, IsDictValue, IsDictMember, IsComma, AreMembers}
-use Rattle.sfv_read.specs.Reads.{ReadsItem, ReadsInner, ReadsList, ReadsDict}
+use Rattle.sfv_read.specs.declared.error.SfError.{SfError}
+use Rattle.sfv_read.specs.Reads.{ReadsItem, ReadsInner, ReadsList, ReadsDict, ReadsDictMember}
 use Rattle.sfv_read.proofs.Digits.{digit_is, room_more, pow_room, scaled_room, value_append}
 
 -- ---- numbers
@@ -147,3 +148,22 @@ list_read_in_range text list h = members_in_range IsMember is_member_in_range me
 
 pub dict_read_in_range : (text : List ℕ) (dict : List (Pair Member)) → ReadsDict text dict → is_dict_in_range dict ≡ true
 dict_read_in_range text dict h = ap is_dict_in_range h.2 ∙ kept_in_range is_dict_member_in_range h.0 (members_in_range IsDictMember is_dict_member_in_range dict_member_in_range text h.0 h.1)
+
+-- ---- the member of one key
+
+key_value_in_range : (dict : List (Pair Member)) (key : List ℕ) (member : Member) → list_all is_dict_member_in_range dict ≡ true → value_of dict key ≡ Some member
+    → is_member_in_range member ≡ true
+key_value_in_range [] key member all there = absurd cc
+key_value_in_range (pair ∷ dict) key member all there =
+    let h = and_is (is_dict_member_in_range pair) (list_all is_dict_member_in_range dict) all in
+    elim (cases_Bool (has_key key pair)) [
+      | inl found ↦ let same : pair.value ≡ member = let e = rw found at there in cc in rw (sym same) (and_is (is_key pair.key) (is_member_in_range pair.value) h.0).1
+      | inr other ↦ key_value_in_range dict key member h.1 (rw other at there)
+    ]
+
+pub key_member_in_range : (key text : List ℕ) (result : Result (Option Member) SfError) → IfOk result (λ member. ReadsDictMember key text member)
+    → IfOk result (λ member. IfSome member (λ value. IsTrue (is_member_in_range value)))
+key_member_in_range key text (Err e) h = tt
+key_member_in_range key text (Ok None) h = tt
+key_member_in_range key text (Ok (Some member)) h =
+    key_value_in_range h.0 key member (and_is (have_distinct_keys h.0) (list_all is_dict_member_in_range h.0) (dict_read_in_range text h.0 h.1)).1 h.2

@@ -1,11 +1,12 @@
 -- The texts of the four kinds of structured field, with spaces at both ends (RFC 9651 sections 3
 -- and 4.2).
-use Rattle.std.specs.Prelude.{◌≡◌, ℕ, List}
+use Rattle.std.specs.Prelude.{◌≡◌, ℕ, List, Option}
 use Rattle.byte_grammar.specs.Language.{Padded}
 use Rattle.sfv_text.specs.declared.value.Item.{Item}
 use Rattle.sfv_text.specs.declared.value.InnerList.{InnerList}
 use Rattle.sfv_text.specs.declared.value.Member.{Member}
 use Rattle.sfv_text.specs.declared.pair.Pair.{Pair}
+use Rattle.sfv_text.specs.Keys.{value_of}
 use Rattle.byte_grammar.specs.Classes.{is_space}
 use Rattle.sfv_read.specs.Item.{IsItem, distinct_pairs}
 use Rattle.sfv_read.specs.Inner.{IsInner}
@@ -27,3 +28,8 @@ ReadsList text list = AreMembers IsMember text list
 abbrev pub ReadsDict : List ℕ → List (Pair Member) → Type 0
 ReadsDict text dict = (written : List (Pair Member))
     × AreMembers IsDictMember text written × (dict ≡ distinct_pairs written)
+
+-- the text reads as a Dictionary in which the key has that member, or none
+abbrev pub ReadsDictMember : List ℕ → List ℕ → Option Member → Type 0
+ReadsDictMember key text member =
+    (dict : List (Pair Member)) × ReadsDict text dict × (value_of dict key ≡ member)

@@ -8,52 +8,55 @@ ghost use Rattle.sfv_read.specs.tools.Answers.{IsFaultAt, Answers};
 ghost use Rattle.sfv_read.specs.tools.Gives.{GivesUnlessMemory, IfMemory};
 ghost use Rattle.sfv_read.specs.tools.ItemWalk.{item_read};
 ghost use Rattle.sfv_read.specs.tools.InnerWalk.{inner_list_read};
-ghost use Rattle.sfv_read.specs.tools.MemberWalk.{list_read, dict_read};
+ghost use Rattle.sfv_read.specs.tools.MemberWalk.{list_read, dict_read, key_member_read};
 
 use crate::class::SfClass;
 use crate::error::{PartError, SfError};
 use crate::inner::read_inner_list_text;
 use crate::params::read_item_text;
-use crate::separated::read_separated;
+use crate::separated::{AsDict, AsList, AsMember, read_separated};
 use byte_grammar::{Byte, read_all, starts_with};
-use sfv_text::{Dict, InnerList, Item, List, Text};
+use sfv_text::{Dict, InnerList, Item, List, Member, Text};
 use std::alloc::Global;
 
-/// A kind of structured field.
-pub trait Field: Drop {
-    // How a text of the kind is read, with spaces at both ends.
-    ghost reading: { Listed ℕ → Result (Self × Listed ℕ) ℕ };
+/// What a text is read as.
+pub trait Field {
+    /// What is read.
+    type Value: Drop;
 
-    /// Reads a text of the kind, with spaces at both ends.
-    fn read(alloc: Global, text: &[u8]) -> Result<(Self, &[u8]), PartError>
-        ensures gives { GivesUnlessMemory (λ x. (x.0, x.1.now)) result (reading text.now) }
-        ensures within { left (reading text.now) ≤ length text.now }
+    // How a text is read, with spaces at both ends.
+    ghost reading: { Self → Listed ℕ → Result (Self.Value × Listed ℕ) ℕ };
+
+    /// Reads a text, with spaces at both ends.
+    fn read<'t>(&self, alloc: Global, text: &'t [u8]) -> Result<(Self::Value, &'t [u8]), PartError>
+        ensures gives { GivesUnlessMemory (λ x. (x.0, x.1.now)) result (reading self.now text.now) }
+        ensures within { left (reading self.now text.now) ≤ length text.now }
         ensures needed { IfErr result (λ e. IfMemory e (1 ≤ length text.now)) };
 }
 
-/// Reads a text of a kind to its end, or names the offset of its fault.
+/// Reads a text to its end, or names the offset of its fault.
 #[tactic(auto, unfolding(byte_grammar::specs::tools::Walks::whole_read))]
-pub fn read_field<F: Field>(alloc: Global, text: &[u8]) -> Result<F, SfError>
-    ensures { Answers (whole_read F.reading) text.now result }
+pub fn read_field<F: Field>(alloc: Global, field: &F, text: &[u8]) -> Result<F::Value, SfError>
+    ensures { Answers (whole_read (F.reading field.now)) text.now result }
 {
-    match F::read(alloc, text) {
+    match field.read(alloc, text) {
         Ok((value, [])) => Ok(value),
-        Ok((_, rest)) => Err(fault_at::<F>(alloc, text, text.len() - rest.len())),
+        Ok((_, rest)) => Err(fault_at(alloc, field, text, text.len() - rest.len())),
         Err(PartError::Memory) => Err(SfError::Memory),
-        Err(PartError::At(left)) => Err(fault_at::<F>(alloc, text, text.len() - left)),
+        Err(PartError::At(left)) => Err(fault_at(alloc, field, text, text.len() - left)),
     }
 }
 
 /// The fault at the offset where a text can't go on.
-fn fault_at<F: Field>(alloc: Global, text: &[u8], offset: usize) -> SfError
+fn fault_at<F: Field>(alloc: Global, field: &F, text: &[u8], offset: usize) -> SfError
     requires { offset ≤ length text.now }
-    ensures { IsFaultAt (whole_read F.reading) text.now offset result }
+    ensures { IsFaultAt (whole_read (F.reading field.now)) text.now offset result }
 {
     let (prefix, rest) = text.split_at(offset);
     if !starts_with(SfClass::Marker, rest) {
         return SfError::Syntax(offset);
     }
-    match takes_item::<F>(alloc, prefix) {
+    match takes_item(alloc, field, prefix) {
         Ok(true) => SfError::ItemKind(offset),
         Ok(false) => SfError::Syntax(offset),
         Err(_) => SfError::Memory,
@@ -62,25 +65,31 @@ fn fault_at<F: Field>(alloc: Global, text: &[u8], offset: usize) -> SfError
 
 /// Whether `?1` could come after the prefix.
 #[tactic(auto, unfolding(byte_grammar::specs::tools::Walks::whole_read))]
-fn takes_item<F: Field>(alloc: Global, prefix: &[u8]) -> Result<bool, PartError>
-    ensures ok { IfOk result (λ b.
-        IsTrue b ↔ (unread (whole_read F.reading (prefix.now ++ codes "?1")) ≡ 0)) }
+fn takes_item<F: Field>(alloc: Global, field: &F, prefix: &[u8]) -> Result<bool, PartError>
+    ensures ok { IfOk result (λ b. IsTrue b
+        ↔ (unread (whole_read (F.reading field.now) (prefix.now ++ codes "?1")) ≡ 0)) }
     ensures err { IfErr result (λ e. e ≡ Memory) }
 {
     let mut probe = Text::from_bytes(alloc, prefix)?;
     probe.append(b"?1")?;
-    match F::read(alloc, probe.bytes()) {
+    match field.read(alloc, probe.bytes()) {
         Ok((_, rest)) => Ok(rest.is_empty()),
         Err(PartError::Memory) => Err(PartError::Memory),
         Err(PartError::At(left)) => Ok(left == 0),
     }
 }
 
-impl Field for Item {
-    ghost reading = { λ text. padded_read is_space item_read text };
+/// An Item.
+#[derive(Clone, Copy)]
+pub struct AsItem;
+
+impl Field for AsItem {
+    type Value = Item;
+
+    ghost reading = { λ field text. padded_read is_space item_read text };
 
     #[tactic(auto, unfolding(byte_grammar::specs::tools::Walks::padded_read))]
-    fn read(alloc: Global, text: &[u8]) -> Result<(Item, &[u8]), PartError> {
+    fn read<'t>(&self, alloc: Global, text: &'t [u8]) -> Result<(Item, &'t [u8]), PartError> {
         let (_, rest) = read_all(Byte(b' '), text);
         let (item, rest) = read_item_text(alloc, rest)?;
         let (_, rest) = read_all(Byte(b' '), rest);
@@ -88,11 +97,17 @@ impl Field for Item {
     }
 }
 
-impl Field for InnerList {
-    ghost reading = { λ text. padded_read is_space inner_list_read text };
+/// An Inner List.
+#[derive(Clone, Copy)]
+pub struct AsInnerList;
+
+impl Field for AsInnerList {
+    type Value = InnerList;
+
+    ghost reading = { λ field text. padded_read is_space inner_list_read text };
 
     #[tactic(auto, unfolding(byte_grammar::specs::tools::Walks::padded_read))]
-    fn read(alloc: Global, text: &[u8]) -> Result<(InnerList, &[u8]), PartError> {
+    fn read<'t>(&self, alloc: Global, text: &'t [u8]) -> Result<(InnerList, &'t [u8]), PartError> {
         let (_, rest) = read_all(Byte(b' '), text);
         let (list, rest) = read_inner_list_text(alloc, rest)?;
         let (_, rest) = read_all(Byte(b' '), rest);
@@ -100,18 +115,36 @@ impl Field for InnerList {
     }
 }
 
-impl Field for List {
-    ghost reading = { λ text. list_read text };
+impl Field for AsList {
+    type Value = List;
 
-    fn read(alloc: Global, text: &[u8]) -> Result<(List, &[u8]), PartError> {
-        read_separated(alloc, text)
+    ghost reading = { λ field text. list_read text };
+
+    fn read<'t>(&self, alloc: Global, text: &'t [u8]) -> Result<(List, &'t [u8]), PartError> {
+        read_separated(alloc, self, text)
     }
 }
 
-impl Field for Dict {
-    ghost reading = { λ text. dict_read text };
+impl Field for AsDict {
+    type Value = Dict;
 
-    fn read(alloc: Global, text: &[u8]) -> Result<(Dict, &[u8]), PartError> {
-        read_separated(alloc, text)
+    ghost reading = { λ field text. dict_read text };
+
+    fn read<'t>(&self, alloc: Global, text: &'t [u8]) -> Result<(Dict, &'t [u8]), PartError> {
+        read_separated(alloc, self, text)
+    }
+}
+
+impl<'k> Field for AsMember<'k> {
+    type Value = Option<Member>;
+
+    ghost reading = { λ field text. key_member_read field.key.now text };
+
+    fn read<'t>(
+        &self,
+        alloc: Global,
+        text: &'t [u8],
+    ) -> Result<(Option<Member>, &'t [u8]), PartError> {
+        read_separated(alloc, self, text)
     }
 }

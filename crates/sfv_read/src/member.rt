@@ -42,7 +42,7 @@ fn read_item_member(alloc: Global, bytes: &[u8]) -> Result<(Member, &[u8]), Part
 
 /// Reads a key and its value.
 #[tactic(auto, unfolding(crate::specs::tools::MemberWalk::dict_member_read))]
-pub fn read_dict_member(alloc: Global, bytes: &[u8]) -> Result<(Pair<Member>, &[u8]), PartError>
+pub fn read_pair(alloc: Global, bytes: &[u8]) -> Result<(Pair<Member>, &[u8]), PartError>
     ensures { GivesUnlessMemory (λ x. (x.0, x.1.now)) result (dict_member_read bytes.now) }
 {
     let (key, rest) = read_key(alloc, bytes)?;

@@ -1,17 +1,19 @@
-//! Readers of the four kinds of structured field.
+//! Readers of the four kinds of structured field, and of one member of a Dictionary.
 
-ghost use Rattle.std.specs.Prelude.{List as Listed, IfOk, IfErr, IsTrue};
+ghost use Rattle.std.specs.Prelude.{List as Listed, IfOk, IfErr, IfSome, IsTrue};
 ghost use Rattle.sfv_text.specs.declared.value.Item.{Item};
 ghost use Rattle.sfv_text.specs.declared.value.InnerList.{InnerList};
 ghost use Rattle.sfv_text.specs.declared.value.Member.{Member};
-ghost use Rattle.sfv_text.specs.Range.{is_item_in_range, is_inner_in_range, is_list_in_range, is_dict_in_range};
+ghost use Rattle.sfv_text.specs.Range.{is_item_in_range, is_inner_in_range, is_list_in_range, is_dict_in_range, is_member_in_range};
+ghost use Rattle.sfv_text.specs.Keys.{value_of};
 ghost use Rattle.sfv_text.specs.declared.pair.Pair.{Pair};
 ghost use Rattle.sfv_read.specs.Fault.{IsRead, IsSfError};
-ghost use Rattle.sfv_read.specs.Reads.{ReadsItem, ReadsInner, ReadsList, ReadsDict};
+ghost use Rattle.sfv_read.specs.Reads.{ReadsItem, ReadsInner, ReadsList, ReadsDict, ReadsDictMember};
 
 use crate::error::SfError;
-use crate::field::read_field;
-use sfv_text::{Dict, InnerList, Item, List};
+use crate::field::{AsInnerList, AsItem, read_field};
+use crate::separated::{AsDict, AsList, AsMember};
+use sfv_text::{Dict, InnerList, Item, List, Member};
 use std::alloc::Global;
 
 /// Reads an Item (RFC 9651 section 4.2.3), with spaces at both ends.
@@ -21,7 +23,7 @@ pub fn read_item(alloc: Global, text: &[u8]) -> Result<Item, SfError>
     ensures only { (value : Item) → ReadsItem text.now value → IsRead result value }
     ensures fault { IfErr result (λ e. IsSfError ReadsItem text.now e) }
 {
-    read_field(alloc, text)
+    read_field(alloc, &AsItem, text)
 }
 
 /// Reads an Inner List (RFC 9651 section 4.2.1.2) alone, with spaces at both ends.
@@ -31,7 +33,7 @@ pub fn read_inner(alloc: Global, text: &[u8]) -> Result<InnerList, SfError>
     ensures only { (value : InnerList) → ReadsInner text.now value → IsRead result value }
     ensures fault { IfErr result (λ e. IsSfError ReadsInner text.now e) }
 {
-    read_field(alloc, text)
+    read_field(alloc, &AsInnerList, text)
 }
 
 /// Reads a List (RFC 9651 section 4.2.1), with spaces at both ends. A text of spaces alone is the
@@ -42,7 +44,7 @@ pub fn read_list(alloc: Global, text: &[u8]) -> Result<List, SfError>
     ensures only { (value : Listed Member) → ReadsList text.now value → IsRead result value }
     ensures fault { IfErr result (λ e. IsSfError ReadsList text.now e) }
 {
-    read_field(alloc, text)
+    read_field(alloc, &AsList, text)
 }
 
 /// Reads a Dictionary (RFC 9651 section 4.2.2), with spaces at both ends. A text of spaces alone is
@@ -53,5 +55,18 @@ pub fn read_dict(alloc: Global, text: &[u8]) -> Result<Dict, SfError>
     ensures only { (value : Listed (Pair Member)) → ReadsDict text.now value → IsRead result value }
     ensures fault { IfErr result (λ e. IsSfError ReadsDict text.now e) }
 {
-    read_field(alloc, text)
+    read_field(alloc, &AsDict, text)
+}
+
+/// Reads a Dictionary for the member of one key, where it has one, and keeps no other. Of several
+/// members of the key it is the last (RFC 9651 section 4.2.2).
+pub fn read_dict_member(alloc: Global, text: &[u8], key: &[u8]) -> Result<Option<Member>, SfError>
+    ensures ok { IfOk result (λ member. ReadsDictMember key.now text.now member) }
+    ensures in_range { IfOk result (λ member.
+        IfSome member (λ value. IsTrue (is_member_in_range value))) }
+    ensures only { (dict : Listed (Pair Member)) → ReadsDict text.now dict
+        → IsRead result (value_of dict key.now) }
+    ensures fault { IfErr result (λ e. IsSfError ReadsDict text.now e) }
+{
+    read_field(alloc, &AsMember { key }, text)
 }

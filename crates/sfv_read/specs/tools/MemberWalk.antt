@@ -1,10 +1,11 @@
 -- Lists and Dictionaries, read over lists from left to right. No public clause cites this module.
-use Rattle.std.specs.Prelude.{true, List, [], ◌∷◌, ◌++◌, Option, Some, None, Ok}
+use Rattle.std.specs.Prelude.{ℕ, true, List, [], ◌∷◌, ◌++◌, Option, Some, None, Ok, if◌then◌else◌}
 use Rattle.byte_grammar.specs.Walk.{Reader, ◌>>=◌, byte_read, all_read}
 use Rattle.byte_grammar.specs.tools.Walks.{optional_read, choose_read, turns_read, with_state}
 use Rattle.sfv_text.specs.declared.value.Member.{Member}
 use Rattle.sfv_text.specs.declared.value.Member.TheVariants.{Item as ItemMember, InnerList as InnerMember}
 use Rattle.sfv_text.specs.declared.pair.Pair.{Pair}
+use Rattle.sfv_text.specs.Keys.{has_key}
 use Rattle.byte_grammar.specs.Classes.{is_space, is_blank}
 use Rattle.sfv_read.specs.Class.{is_open, is_comma, is_equals}
 use Rattle.sfv_read.specs.Item.{put_pair}
@@ -78,3 +79,12 @@ list_read bytes = with_state with_last [] (separated_read member_read bytes)
 
 abbrev pub dict_read : Reader (List (Pair Member))
 dict_read bytes = with_state put_pair [] (separated_read dict_member_read bytes)
+
+-- the member of the key: the one that came before, or the one that comes now
+abbrev pub with_key_member : List ℕ → Option Member → Pair Member → Option Member
+with_key_member key kept p = if has_key key p then Some p.value else kept
+
+-- a Dictionary of which the member of one key is kept
+abbrev pub key_member_read : List ℕ → Reader (Option Member)
+key_member_read key bytes =
+    with_state (with_key_member key) None (separated_read dict_member_read bytes)
