@@ -184,8 +184,10 @@ part_is bytes spans name index rest n is within first stops =
 
 -- where a test that fails once fails from there on begins to fail
 pub splits_where : {X : Type 0} (p : X → Bool) (xs : List X) (n : ℕ) → AllWithin (λ x. p x ≡ true) xs 0 n → ((d : X) → n < length xs → p (slice_index_or xs n d) ≡ false) → IsPartitionedBy p xs → IsPartitionPoint (λ x. p x ≡ true) (λ x. p x ≡ false) xs n
-splits_where p xs n passes fails parted =
-    (passes, λ k d low high. elim (cases_Bool (p (slice_index_or xs k d))) [
-      | inl is ↦ absurd (false≢true (sym (fails d (omega (arith, low, high))) ∙ parted n k d low high is))
-      | inr not ↦ not
-    ])
+splits_where p xs n passes fails parted = (
+  passes,
+  λ k d low high. elim (cases_Bool (p (slice_index_or xs k d))) [
+    | inl is ↦ absurd (false≢true (sym (fails d (omega (arith, low, high))) ∙ parted n k d low high is))
+    | inr not ↦ not
+  ],
+)
