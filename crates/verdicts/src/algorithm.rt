@@ -5,7 +5,7 @@ ghost use Rattle.component_ids.specs.SignatureParams.{are_sig_params_in_range};
 ghost use Rattle.verdicts.specs.tools.Judged.{ExplainsAlgorithm};
 
 use component_ids::SigParams;
-use sfv_text::{Params, Text, append_string_item};
+use sfv_text::{BareItem, print_bare};
 use signatures::{LabelFault, Place, Rule, SUPPORTED_ALGORITHM, is_refused_algorithm};
 use std::alloc::Global;
 
@@ -24,7 +24,6 @@ pub(crate) fn judge_algorithm(alloc: Global, params: &SigParams) -> Result<(), L
         let name = alg.copy(alloc)?;
         return Err(LabelFault::Rule(Rule::AlgRefused, Place::Name(name)));
     }
-    let mut name = Text::new(alloc);
-    append_string_item(alg.bytes(), &Params::new(alloc), &mut name)?;
+    let name = print_bare(alloc, &BareItem::Str(alg.copy(alloc)?))?;
     Err(LabelFault::Rule(Rule::AlgUnknown, Place::Name(name)))
 }
