@@ -24,7 +24,8 @@ IsConfigurationDecided =
 -- what was found under a name is at most one request, or is refused for at most one cause
 abbrev pub IsRequestDecided : Type 0
 IsRequestDecided =
-    (name found : Option (List ℕ)) → IsDecisive (IsRequested name found) (IsRequestRefused name found)
+    (name found : Option (List ℕ))
+    → IsDecisive (IsRequested name found) (IsRequestRefused name found)
 
 -- an input is at most one message, read in this way, or is refused for at most one cause
 abbrev pub IsInputDecided : Type 0

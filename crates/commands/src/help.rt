@@ -14,7 +14,7 @@ pub const VERSION_TEXT: &str = "hms 0.1.0\n";
 pub const HELP_TEXT: &str = "\
 hms: HTTP Message Signatures (RFC 9421) of recorded HTTP/1.1 messages
 
-  hms verify --conf FILE --now SECONDS [--label LABEL] < MESSAGE
+  hms verify --conf FILE --now SECONDS [--label LABEL] [--request REQ] < MESSAGE
       What the signatures of a message are worth: for each label, or for LABEL
       alone, the line `LABEL ok`, or the first rule that fails.
       FILE is the configuration: the keys, the policy, the structured fields.
@@ -22,10 +22,13 @@ hms: HTTP Message Signatures (RFC 9421) of recorded HTTP/1.1 messages
 
       hms verify --conf conf.toml --now \"$(date +%s)\" < signed.http
 
-  hms base PARAMS [--conf FILE] < MESSAGE
+  hms base PARAMS [--conf FILE] [--request REQ] < MESSAGE
       The signature base over the components that PARAMS cover.
 
       hms base '(\"@method\" \"date\");created=1618884473' < signed.http
+
+  With --request the message is a response, and REQ is the file of the request
+  that it answers, from which components with `req` are drawn.
 
   hms --help
   hms --version

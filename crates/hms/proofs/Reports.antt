@@ -1,6 +1,6 @@
 -- The outcome of arguments, files and an input.
 use Rattle.std.proofs.Common.{◌≡◌, ◌+◌, ◌≤◌, inl, inr, ℕ, Bool, true, false, List, [], Option, Some, None, Result, Err, refl, sym, ap, subst, ◌∙◌, arith}
-use Rattle.std.specs.Prelude.{IfSome, IfNone, option_map, length}
+use Rattle.std.specs.Prelude.{IfSome, IfNone, option_map}
 use Rattle.std.specs.FinMap as map
 use Rattle.std.specs.Io.KnownBytes.{Appends}
 use Rattle.hms_io.specs.Files.{FileMap, KeepsFiles}
@@ -12,7 +12,7 @@ use Rattle.component_values.specs.Context.{MessageContext}
 use Rattle.msg_body.specs.Messages.{Message}
 use Rattle.msg_body.specs.Views.{MessageParts, message_of}
 use Rattle.commands.specs.Configured.{IsConfigured, IsConfRefused}
-use Rattle.commands.specs.Files.{FileRole, Conf, Request, Wanted, Script, Other, Found, IsFound, AreFound, HasFound, conf_and_request, file_count}
+use Rattle.commands.specs.Files.{Conf, Request, Wanted, Script, Other, Found, IsFound, AreFound, HasFound, conf_and_request, file_count}
 use Rattle.commands.specs.Layers.{ReadsFound, IsFileRefused}
 use Rattle.commands.specs.Messages.{IsInputMessage, IsInputRefused, one_request}
 use Rattle.commands.specs.Requests.{IsRequested, IsRequestRefused, IsTaken, IsRequestIn, IsTextRefused}
@@ -25,7 +25,6 @@ use Rattle.hms.specs.Ends.{HasInput, HasOutcome, Leaves, HasReport, AppendsPrefi
 use Rattle.hms.specs.Report.{ReportsMessage, ReportsRequest, ReportsFiles, ReportsCommand}
 use Rattle.refusals.specs.declared.refusal.Refusal.{Refusal}
 use Rattle.refusals.specs.declared.file.FileRefusal.{FileRefusal}
-use Rattle.refusals.specs.declared.refusal.TheConstants.{MAX_INPUT_BYTES}
 use Rattle.refusals.specs.declared.role.Role.TheVariants.{Conf as OfConf, Request as OfRequest}
 use Rattle.refusals.specs.declared.refusal.Refusal.TheVariants.{Arguments, Of}
 use Rattle.commands.specs.declared.outcome.Outcome.{Outcome}

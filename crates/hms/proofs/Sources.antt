@@ -15,14 +15,13 @@ use Rattle.commands.specs.Messages.{IsInputRefused}
 use Rattle.commands.specs.Base.{ReportsBase}
 use Rattle.commands.specs.Verify.{is_accepted, verdicts_outcome, ReportsVerdicts}
 use Rattle.commands.specs.declared.message.Reading.{Reading}
-use Rattle.hms.specs.Commands.{Whole, LosesAtMost, LosesFew, InputUse}
+use Rattle.hms.specs.Commands.{Whole, LosesAtMost}
 use Rattle.hms.specs.Ends.{HasInput, Leaves}
 use Rattle.hms.specs.Report.{ReportsInput}
 use Rattle.hms.specs.tools.Parts.{IsAfterInput, IsOwn}
 use Rattle.refusals.specs.declared.refusal.Refusal.{Refusal}
 use Rattle.refusals.specs.declared.refusal.TheConstants.{MAX_INPUT_BYTES}
 use Rattle.refusals.specs.declared.refusal.Refusal.TheVariants.{Arguments, Of, Command}
-use Rattle.refusals.specs.declared.role.Role.{Role}
 use Rattle.refusals.specs.declared.role.Role.TheVariants.{Conf, Request, Wanted, Script, Input, Item}
 use Rattle.refusals.specs.declared.file.FileRefusal.{FileRefusal}
 use Rattle.refusals.specs.declared.file.FileRefusal.TheVariants.{Missing, TooLong, Message as NoMessage, Conf as NoConf}

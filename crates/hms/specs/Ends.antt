@@ -15,7 +15,7 @@ use Rattle.hms.specs.Commands.{InputUse, Unread, Whole, input_use, AreFoundFor}
 use Rattle.hms.specs.Report.{Reports}
 use Rattle.refusals.specs.declared.role.Role.TheVariants.{Input, Item}
 use Rattle.refusals.specs.declared.file.FileRefusal.TheVariants.{TooLong}
-use Rattle.refusals.specs.declared.refusal.Refusal.TheVariants.{Arguments, Of, Command}
+use Rattle.refusals.specs.declared.refusal.Refusal.TheVariants.{Arguments, Of}
 
 -- ---- what is left of the input
 

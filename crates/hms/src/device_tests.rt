@@ -148,7 +148,7 @@ const VERIFY: &[&str] = &["verify", "--conf", "c", "--now", "1618884473"];
 
 const BASE: &[&str] = &["base", r#"("date")"#];
 
-const FAILING: [Failing; 19] = [
+const FAILING: [Failing; 21] = [
     Failing {
         words: VERIFY,
         shelf: &[0],
@@ -304,6 +304,23 @@ const FAILING: [Failing; 19] = [
         sink: &[],
         status: Status::FileMissing,
         taken: b"refused conf missing\n",
+    },
+    // the second file is asked for, and no input is read
+    Failing {
+        words: &["base", "(", "--conf", "c", "--request", "d"],
+        shelf: &[1],
+        source: &[0],
+        sink: &[],
+        status: Status::ReadFault,
+        taken: b"",
+    },
+    Failing {
+        words: &["base", "(", "--conf", "c", "--request", "d"],
+        shelf: &[2],
+        source: &[0],
+        sink: &[],
+        status: Status::FileMissing,
+        taken: b"refused request missing\n",
     },
 ];
 

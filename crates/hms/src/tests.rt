@@ -24,7 +24,8 @@ pub fn joined(alloc: Global, texts: &[&[u8]]) -> Result<Text, Memory> {
 }
 
 // Whether the words come to the status and the output, over a shelf whose file `c` is the
-// configuration. Input and output are the parts one after another, and go in pieces of other sizes.
+// configuration, `u` the request of RFC 9421 appendix B.2, and `h` one whose method is HEAD. Input
+// and output are the parts one after another, and go in pieces of other sizes.
 pub fn comes_to(
     alloc: Global,
     words: &[&str],
@@ -38,6 +39,8 @@ pub fn comes_to(
     let arguments = arguments_of(alloc, words)?;
     let mut shelf = MemShelf::new(alloc, &[])?;
     shelf.put("c", conf)?;
+    shelf.put("u", joined(alloc, &[REQUEST, LENGTH, CONTENT])?.bytes())?;
+    shelf.put("h", b"HEAD / HTTP/1.1\r\n\r\n")?;
     let mut source = MemSource::new(alloc, input.bytes(), 50 + input.bytes().len() / 1_000, &[])?;
     let mut sink = MemSink::new(alloc, 100_000, 7, &[])?;
     let ended = run(
@@ -719,6 +722,59 @@ fn words_that_come_to_one_line(rt: HostRuntime) -> Result<(), Fail> {
     for row in &LINES {
         let alloc = rt.alloc();
         let is_so = comes_to(alloc, row.words, row.conf, &[ODD], row.status, &[row.line])?;
+        assert!(rt; is_so, "at {:?}", row.words);
+    }
+    Ok(())
+}
+
+// A response, and what comes of it with the request that it answers.
+struct Related {
+    words: &'static [&'static str],
+    message: &'static [u8],
+    status: Status,
+    output: &'static [u8],
+}
+
+const RELATED: [Related; 5] = [
+    Related {
+        words: &["base", r#"("@status" "@method";req)"#, "--request", "u"],
+        message: b"HTTP/1.1 200\r\n\r\n",
+        status: Status::Done,
+        output: br#""@status": 200
+"@method";req: POST
+"@signature-params": ("@status" "@method";req)"#,
+    },
+    Related {
+        words: &["base", r#"("content-length")"#, "--request", "h", "--conf", "c"],
+        message: b"HTTP/1.1 200\r\nContent-Length: 5\r\n\r\n",
+        status: Status::Done,
+        output: b"\"content-length\": 5\n\"@signature-params\": (\"content-length\")",
+    },
+    Related {
+        words: &["verify", "--request", "u", "--conf", "c", "--now", "1"],
+        message: b"HTTP/1.1 200\r\n\r\n",
+        status: Status::NotOk,
+        output: b"- rule 1 input-absent\n",
+    },
+    Related {
+        words: &["base", "(", "--conf", "c", "--request", "n"],
+        message: DATED,
+        status: Status::FileMissing,
+        output: b"refused request missing\n",
+    },
+    Related {
+        words: &["base", "(", "--request", "u"],
+        message: DATED,
+        status: Status::BadInput,
+        output: b"refused input start-line\n",
+    },
+];
+
+#[test]
+fn related_requests(rt: HostRuntime) -> Result<(), Fail> {
+    for row in &RELATED {
+        let alloc = rt.alloc();
+        let is_so = comes_to(alloc, row.words, b"", &[row.message], row.status, &[row.output])?;
         assert!(rt; is_so, "at {:?}", row.words);
     }
     Ok(())

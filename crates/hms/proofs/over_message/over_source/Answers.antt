@@ -5,7 +5,7 @@ use Rattle.conf.specs.ConfMeaning.{meaning}
 use Rattle.hms_io.specs.declared.read_write.FillError.{FillError}
 use Rattle.commands.specs.Contexts.{context_for}
 use Rattle.commands.specs.Messages.{reading_for}
-use Rattle.hms.proofs.Sources.{all_gone, fill_counts, fill_stop, input_outcome}
+use Rattle.hms.proofs.Sources.{all_gone, fill_stop, input_outcome}
 use Rattle.hms.proofs.over_message.over_source.Goals as goal
 
 abbrev as_err : FillError → Result (List ℕ) FillError

@@ -1,5 +1,5 @@
 use Rattle.std.proofs.Common.{◌≡◌, ◌+◌, ◌≤◌, map, string_bytes, refl, Ok}
-use Rattle.command_line.specs.Command.{CommandLine, Help, Version, Base, Verify, base_words, verify_words, line_of}
+use Rattle.command_line.specs.Command.{CommandLine, Help, Version, Base, Verify, base_words, verify_words}
 use Rattle.commands.specs.Files.{Conf, Request, file_count}
 use Rattle.hms.specs.Commands.{input_use, name_of, LosesFew}
 use Rattle.hms.proofs.Reports.{alone, never_read, never, no_command, none_named, nothing_named, of_command, spelled}
