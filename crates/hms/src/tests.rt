@@ -745,7 +745,14 @@ const RELATED: [Related; 5] = [
 "@signature-params": ("@status" "@method";req)"#,
     },
     Related {
-        words: &["base", r#"("content-length")"#, "--request", "h", "--conf", "c"],
+        words: &[
+            "base",
+            r#"("content-length")"#,
+            "--request",
+            "h",
+            "--conf",
+            "c",
+        ],
         message: b"HTTP/1.1 200\r\nContent-Length: 5\r\n\r\n",
         status: Status::Done,
         output: b"\"content-length\": 5\n\"@signature-params\": (\"content-length\")",
@@ -774,7 +781,14 @@ const RELATED: [Related; 5] = [
 fn related_requests(rt: HostRuntime) -> Result<(), Fail> {
     for row in &RELATED {
         let alloc = rt.alloc();
-        let is_so = comes_to(alloc, row.words, b"", &[row.message], row.status, &[row.output])?;
+        let is_so = comes_to(
+            alloc,
+            row.words,
+            b"",
+            &[row.message],
+            row.status,
+            &[row.output],
+        )?;
         assert!(rt; is_so, "at {:?}", row.words);
     }
     Ok(())

@@ -1,9 +1,7 @@
 //! The order of field lines by name.
 
-ghost use Rattle.std.specs.Prelude.{◌≡◌, ◌≤◌, ◌<◌, true, false, length, map, filter, slice_index_or, IfOk};
-ghost use Rattle.std.specs.List.{AllWithin, range_with_len};
-ghost use Rattle.std.specs.List.Sorted.{IsPartitionPoint, IsPartitionedBy};
-ghost use Rattle.msg_head.specs.declared.index.IndexEntry.{IndexEntry};
+ghost use Rattle.std.specs.Prelude.{◌≡◌, length, map, filter, IfOk};
+ghost use Rattle.std.specs.List.{range_with_len};
 ghost use Rattle.std.specs.Str.{str_to_ascii_lowercase};
 ghost use Rattle.msg_head.specs.tools.Index.{first_bytes, after_first, line_by, text_cmp, name_cmp, entry_cmp, entry_of, is_key_below, is_named, IsEntry, IsIndexOf, IsRestFrom};
 
@@ -151,55 +149,6 @@ fn is_named(bytes: &[u8], spans: &[LineSpan], name: &[u8], first: u128, entry: I
     entry.first_bytes == first && is_lowered(name_at(bytes, spans, entry.line), name)
 }
 
-// How many entries come before the first whose line's name doesn't come before the name.
-fn count_below(
-    bytes: &[u8],
-    spans: &[LineSpan],
-    index: &[IndexEntry],
-    name: &[u8],
-    first: u128,
-) -> usize
-    ensures within { result ≤ length index.now }
-    ensures below { AllWithin (λ entry. is_key_below bytes.now spans.now
-        (first, str_to_ascii_lowercase name.now) entry ≡ true) index.now 0 result }
-    ensures next { (entry : IndexEntry) → result < length index.now
-        → is_key_below bytes.now spans.now (first, str_to_ascii_lowercase name.now)
-        (slice_index_or index.now result entry) ≡ false }
-{
-    for (count, entry) in index.iter().enumerate() {
-        if !is_below(bytes, spans, name, first, *entry) {
-            return count;
-        }
-    }
-    index.len()
-}
-
-// Up to so many entries are gone through one by one; more are halved.
-const FEW: usize = 16;
-
-// How many entries come before the first whose line's name doesn't come before the name, where they
-// are in order.
-fn begin_of(
-    bytes: &[u8],
-    spans: &[LineSpan],
-    index: &[IndexEntry],
-    name: &[u8],
-    first: u128,
-) -> usize
-    ensures within { result ≤ length index.now }
-    ensures splits { IsPartitionedBy (is_key_below bytes.now spans.now
-        (first, str_to_ascii_lowercase name.now)) index.now → IsPartitionPoint
-        (λ entry. is_key_below bytes.now spans.now
-        (first, str_to_ascii_lowercase name.now) entry ≡ true)
-        (λ entry. is_key_below bytes.now spans.now
-        (first, str_to_ascii_lowercase name.now) entry ≡ false) index.now result }
-{
-    if index.len() <= FEW {
-        return count_below(bytes, spans, index, name, first);
-    }
-    index.partition_point(|entry| is_below(bytes, spans, name, first, *entry))
-}
-
 // The entries from the first on whose line's name doesn't come before the name.
 fn rest_from_name<'h>(
     bytes: &[u8],
@@ -212,7 +161,7 @@ fn rest_from_name<'h>(
     requires first { first ≡ first_bytes (str_to_ascii_lowercase name.now) }
     ensures { IsRestFrom bytes.now spans.now name.now index.now result.now }
 {
-    let begin = begin_of(bytes, spans, index, name, first);
+    let begin = index.partition_point(|entry| is_below(bytes, spans, name, first, *entry));
     index.split_at(begin).1
 }
 

@@ -166,9 +166,9 @@ fn covered_ids(sign: &SignConf, of_request: bool) -> &[ComponentId]
     }
 }
 
-/// What the configuration asks to be signed, of a request or of a response (RFC 9421 section 2.3):
-/// `created` and, where they are asked for, `expires`, `nonce` and `alg`, then `keyid` and, where it
-/// is asked for, `tag`.
+/// What the configuration asks to be signed, of a request or a response (RFC 9421 section 2.3):
+/// `created` and, where they are asked for, `expires`, `nonce` and `alg`, then `keyid` and, where
+/// it is asked for, `tag`.
 pub fn spec_of(
     alloc: Global,
     conf: &Conf,
