@@ -141,9 +141,6 @@ fn fault_from(side: Side, index: usize, left: &[u8]) -> HeadError
     }
 }
 
-// For so many lines there is room from the start on: most heads have no more.
-const MOSTLY: usize = 16;
-
 /// Where the field lines are that the rest of the bytes is, an empty line after them.
 // Compiled by itself its loop is a fifth faster, since its variables keep to registers.
 #[inline(never)]
@@ -160,7 +157,7 @@ pub(crate) fn read_lines(
     ensures err { (lines : List RawPieces) → AreLinesOf rest.now lines
         → IfErr result (λ fault. IsLinesFault side lines fault) }
 {
-    let mut spans = Vec::with_capacity(alloc, MOSTLY)?;
+    let mut spans = Vec::with_capacity(alloc, 16)?; // most heads have no more lines
     let mut left = rest;
     'lines: loop {
         if begins_with_crlf(left) {
