@@ -25,7 +25,7 @@ pub enum ChunksRead<'m> {
 }
 
 // Where the chunks are that the bytes begin with.
-#[derive(Debug, Drop)]
+#[derive(Drop)]
 struct Found {
     spans: Vec<ChunkSpan>,
     // Where the last line begins, and where its CRLF ends.
@@ -36,7 +36,7 @@ struct Found {
 }
 
 // Why the chunks aren't found.
-#[derive(Clone, Copy, Debug)]
+#[derive(Clone, Copy)]
 enum Stop {
     Memory,
     TooLong,

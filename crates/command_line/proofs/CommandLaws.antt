@@ -1,112 +1,108 @@
--- Arguments spell one command.
-use Rattle.std.proofs.Common.{◌≡◌, ℕ, List, [], ◌∷◌, Option, Some, None, true, false, get_or, refl, sym, ap, ◌∙◌}
-use Rattle.std.specs.Prelude.{IsSomeAnd, codes, nat_eq}
-use Rattle.std.specs.Str.{byte}
+-- Arguments spell one command: the one that they are read as.
+use Rattle.std.proofs.Common.{◌≡◌, ℕ, List, [], ◌∷◌, Option, Some, None, refl, sym, ap, ◌∙◌}
+use Rattle.std.specs.Prelude.{IsSomeAnd, codes, if◌then◌else◌, unwrap_or}
+use Rattle.std.specs.Str.{bytes_eq}
 use Rattle.std.specs.Str.Parse.{digits_value}
-use Rattle.std.proofs.lemmas.Bool.{false≢true}
 use Rattle.sfv_text.specs.Keys.{value_of}
 use Rattle.sfv_text.specs.declared.pair.Pair.{Pair}
-use Rattle.command_line.specs.Command.{CommandLine, Help, Version, Base, Verify, BaseWords, VerifyWords, IsCommand, SpellsBase, SpellsVerify}
+use Rattle.command_line.specs.Command.{CommandLine, Help, Version, Base, Verify, Sign, BaseWords, VerifyWords, SignWords, IsCommand, SpellsBase, SpellsVerify, SpellsSign}
 use Rattle.command_line.specs.Laws.{HasOneCommand}
-use Rattle.command_line.proofs.OptionLists.{one_list}
+use Rattle.command_line.specs.Options.{words_of}
 
-after_one : (a b : List ℕ) (x y : List (List ℕ)) → a ∷ x ≡ b ∷ y → x ≡ y
-after_one a b x y e = cc
+-- ---- what words are read as
 
-after_two : (a b c d : List ℕ) (x y : List (List ℕ)) → a ∷ c ∷ x ≡ b ∷ d ∷ y → (c ≡ d) × (x ≡ y)
-after_two a b c d x y e = (cc, cc)
+-- the options that words spell
+options_in : List (List ℕ) → List (Pair (List ℕ))
+options_in [] = []
+options_in (key ∷ []) = []
+options_in (key ∷ value ∷ words) = record { key = key; value = value } ∷ options_in words
 
-some_is : (x y : List ℕ) → Some x ≡ Some y → x ≡ y
-some_is x y e = cc
+-- the word of an option that a command needs
+word_of : List (Pair (List ℕ)) → List ℕ → List ℕ
+word_of options name = unwrap_or (value_of options name) []
 
-one_base : (arguments : List (List ℕ)) (one other : BaseWords) → SpellsBase arguments one → SpellsBase arguments other → Base one ≡ Base other
-one_base arguments one other a b =
-    let same = after_two (codes "base") (codes "base") one.params other.params a.words b.words (sym a.joined ∙ b.joined) in
-    let options = one_list a.options b.options (sym a.are.joined ∙ (same.1 ∙ b.are.joined)) in
-    let confs : one.conf ≡ other.conf = a.conf_is ∙ (ap (λ (all : List (Pair (List ℕ))). value_of all (codes "--conf")) options ∙ sym b.conf_is) in
-    let requests : one.request ≡ other.request = a.request_is ∙ (ap (λ (all : List (Pair (List ℕ))). value_of all (codes "--request")) options ∙ sym b.request_is) in
-    λ i. Base (record { params = same.0 i; conf = confs i; request = requests i })
+base_in : List ℕ → List (Pair (List ℕ)) → BaseWords
+base_in params options = record { params = params; conf = value_of options (codes "--conf"); request = value_of options (codes "--request") }
 
-moment_is : (digits other : Option (List ℕ)) (n m : ℕ) → digits ≡ other → IsSomeAnd digits (λ word. n ≡ digits_value 10 word)
-    → IsSomeAnd other (λ word. m ≡ digits_value 10 word) → n ≡ m
-moment_is None other n m same a b = absurd a
-moment_is (Some word) None n m same a b = absurd b
-moment_is (Some word) (Some another) n m same a b = a ∙ (ap (λ (w : List ℕ). digits_value 10 w) (some_is word another same) ∙ sym b)
+verify_in : List (Pair (List ℕ)) → VerifyWords
+verify_in options = record {
+  conf = word_of options (codes "--conf");
+  now = digits_value 10 (word_of options (codes "--now"));
+  label = value_of options (codes "--label");
+  request = value_of options (codes "--request");
+}
 
-one_verify : (arguments : List (List ℕ)) (one other : VerifyWords) → SpellsVerify arguments one → SpellsVerify arguments other → Verify one ≡ Verify other
-one_verify arguments one other a b =
-    let same = after_one (codes "verify") (codes "verify") a.words b.words (sym a.joined ∙ b.joined) in
-    let options = one_list a.options b.options (sym a.are.joined ∙ (same ∙ b.are.joined)) in
-    let word = λ (name : List ℕ). ap (λ (all : List (Pair (List ℕ))). value_of all name) options in
-    let confs : one.conf ≡ other.conf = some_is one.conf other.conf (sym a.conf_is ∙ (word (codes "--conf") ∙ b.conf_is)) in
-    let moments : one.now ≡ other.now =
-    moment_is (value_of a.options (codes "--now")) (value_of b.options (codes "--now")) one.now other.now (word (codes "--now")) a.now_is b.now_is in
-    let labels : one.label ≡ other.label = a.label_is ∙ (word (codes "--label") ∙ sym b.label_is) in
-    let requests : one.request ≡ other.request = a.request_is ∙ (word (codes "--request") ∙ sym b.request_is) in
-    λ i. Verify (record { conf = confs i; now = moments i; label = labels i; request = requests i })
+sign_in : List (Pair (List ℕ)) → SignWords
+sign_in options = record {
+  conf = word_of options (codes "--conf");
+  now = digits_value 10 (word_of options (codes "--now"));
+  request = value_of options (codes "--request");
+  nonce = value_of options (codes "--nonce");
+  wanted = value_of options (codes "--wanted");
+}
 
-first_is : (a b : List ℕ) (x y : List (List ℕ)) → a ∷ x ≡ b ∷ y → a ≡ b
-first_is a b x y e = cc
+after_base : List (List ℕ) → CommandLine
+after_base [] = Help
+after_base (params ∷ words) = Base (base_in params (options_in words))
 
--- the first argument of a command
-name_of : CommandLine → List ℕ
-name_of Help = codes "--help"
-name_of Version = codes "--version"
-name_of (Base words) = codes "base"
-name_of (Verify words) = codes "verify"
+-- a command by its name
+after : List ℕ → List (List ℕ) → CommandLine
+after name words =
+    if bytes_eq name (codes "base") then after_base words
+    else (if bytes_eq name (codes "verify") then Verify (verify_in (options_in words))
+    else (if bytes_eq name (codes "sign") then Sign (sign_in (options_in words))
+    else (if bytes_eq name (codes "--version") then Version else Help)))
 
-has_name : (arguments : List (List ℕ)) (command : CommandLine) → IsCommand arguments command
-    → (more : List (List ℕ)) × (arguments ≡ name_of command ∷ more)
-unfolding name_of
-has_name arguments Help a = ([], a)
-has_name arguments Version a = ([], a)
-has_name arguments (Base words) a = (words.params ∷ a.words, a.joined)
-has_name arguments (Verify words) a = (a.words, a.joined)
+read : List (List ℕ) → CommandLine
+read [] = Help
+read (name ∷ words) = after name words
 
-one_name : (arguments : List (List ℕ)) (one other : CommandLine) → IsCommand arguments one → IsCommand arguments other → name_of one ≡ name_of other
-one_name arguments one other a b =
-    let first = has_name arguments one a in
-    let second = has_name arguments other b in
-    first_is (name_of one) (name_of other) first.0 second.0 (sym first.1 ∙ second.1)
+-- ---- the command that arguments spell is the one that they are read as
 
--- the names are apart
-help_or_version : codes "--help" ≡ codes "--version" → ⊥
-help_or_version e = absurd cc
+options_are : (options : List (Pair (List ℕ))) → options_in (words_of options) ≡ options
+unfolding options_in
+options_are [] = refl
+options_are (p ∷ options) = ap (λ (more : List (Pair (List ℕ))). p ∷ more) (options_are options)
 
-help_or_base : codes "--help" ≡ codes "base" → ⊥
-help_or_base e = absurd cc
+are_in : (words : List (List ℕ)) (options : List (Pair (List ℕ))) → words ≡ words_of options → options_in words ≡ options
+are_in words options joined = ap options_in joined ∙ options_are options
 
-help_or_verify : codes "--help" ≡ codes "verify" → ⊥
-help_or_verify e = let first : false ≡ true = ap (λ (s : List ℕ). nat_eq (get_or s 0 0) (byte "v")) e in false≢true first
+word_is : (options : List (Pair (List ℕ))) (name word : List ℕ) → value_of options name ≡ Some word → word ≡ word_of options name
+unfolding word_of
+word_is options name word is = ap (λ (found : Option (List ℕ)). unwrap_or found []) (sym is)
 
-version_or_base : codes "--version" ≡ codes "base" → ⊥
-version_or_base e = absurd cc
+moment_is : (found : Option (List ℕ)) (n : ℕ) → IsSomeAnd found (λ digits. n ≡ digits_value 10 digits) → n ≡ digits_value 10 (unwrap_or found [])
+moment_is None n is = absurd is
+moment_is (Some digits) n is = is
 
-version_or_verify : codes "--version" ≡ codes "verify" → ⊥
-version_or_verify e = absurd cc
+base_is : (arguments : List (List ℕ)) (base : BaseWords) (a : SpellsBase arguments base) → base ≡ base_in base.params a.options
+unfolding base_in
+base_is arguments base a = λ i. record { params = base.params; conf = a.conf_is i; request = a.request_is i }
 
-base_or_verify : codes "base" ≡ codes "verify" → ⊥
-base_or_verify e = absurd cc
+verify_is : (arguments : List (List ℕ)) (verify : VerifyWords) (a : SpellsVerify arguments verify) → verify ≡ verify_in a.options
+unfolding verify_in word_of
+verify_is arguments verify a =
+    let conf : verify.conf ≡ word_of a.options (codes "--conf") = word_is a.options (codes "--conf") verify.conf a.conf_is in
+    let now = moment_is (value_of a.options (codes "--now")) verify.now a.now_is in
+    λ i. record { conf = conf i; now = now i; label = a.label_is i; request = a.request_is i }
 
--- commands of one name
-one_of_name : (arguments : List (List ℕ)) (one other : CommandLine) → IsCommand arguments one → IsCommand arguments other → name_of one ≡ name_of other → one ≡ other
-unfolding name_of
-one_of_name arguments Help Help a b e = refl
-one_of_name arguments Help Version a b e = absurd (help_or_version e)
-one_of_name arguments Help (Base q) a b e = absurd (help_or_base e)
-one_of_name arguments Help (Verify q) a b e = absurd (help_or_verify e)
-one_of_name arguments Version Help a b e = absurd (help_or_version (sym e))
-one_of_name arguments Version Version a b e = refl
-one_of_name arguments Version (Base q) a b e = absurd (version_or_base e)
-one_of_name arguments Version (Verify q) a b e = absurd (version_or_verify e)
-one_of_name arguments (Base p) Help a b e = absurd (help_or_base (sym e))
-one_of_name arguments (Base p) Version a b e = absurd (version_or_base (sym e))
-one_of_name arguments (Base p) (Base q) a b e = one_base arguments p q a b
-one_of_name arguments (Base p) (Verify q) a b e = absurd (base_or_verify e)
-one_of_name arguments (Verify p) Help a b e = absurd (help_or_verify (sym e))
-one_of_name arguments (Verify p) Version a b e = absurd (version_or_verify (sym e))
-one_of_name arguments (Verify p) (Base q) a b e = absurd (base_or_verify (sym e))
-one_of_name arguments (Verify p) (Verify q) a b e = one_verify arguments p q a b
+sign_is : (arguments : List (List ℕ)) (sign : SignWords) (a : SpellsSign arguments sign) → sign ≡ sign_in a.options
+unfolding sign_in word_of
+sign_is arguments sign a =
+    let conf : sign.conf ≡ word_of a.options (codes "--conf") = word_is a.options (codes "--conf") sign.conf a.conf_is in
+    let now = moment_is (value_of a.options (codes "--now")) sign.now a.now_is in
+    λ i. record { conf = conf i; now = now i; request = a.request_is i; nonce = a.nonce_is i; wanted = a.wanted_is i }
+
+is_read : (arguments : List (List ℕ)) (command : CommandLine) → IsCommand arguments command → read arguments ≡ command
+unfolding read after after_base
+is_read arguments Help a = ap read a
+is_read arguments Version a = ap read a
+is_read arguments (Base words) a = ap read a.joined
+    ∙ (ap (λ (options : List (Pair (List ℕ))). Base (base_in words.params options)) (are_in a.words a.options a.are.joined) ∙ ap Base (sym (base_is arguments words a)))
+is_read arguments (Verify words) a = ap read a.joined
+    ∙ (ap (λ (options : List (Pair (List ℕ))). Verify (verify_in options)) (are_in a.words a.options a.are.joined) ∙ ap Verify (sym (verify_is arguments words a)))
+is_read arguments (Sign words) a = ap read a.joined
+    ∙ (ap (λ (options : List (Pair (List ℕ))). Sign (sign_in options)) (are_in a.words a.options a.are.joined) ∙ ap Sign (sym (sign_is arguments words a)))
 
 pub one_command : HasOneCommand
-one_command arguments one other a b = one_of_name arguments one other a b (one_name arguments one other a b)
+one_command arguments one other a b = sym (is_read arguments one a) ∙ is_read arguments other b

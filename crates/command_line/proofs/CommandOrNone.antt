@@ -8,7 +8,7 @@ use Rattle.std.proofs.lemmas.Bool.{cases_Bool, and_parts, false≢true}
 use Rattle.std.proofs.lemmas.Slice.Eq.{bytes_eq-Decides}
 use Rattle.sfv_text.specs.Keys.{have_distinct_keys, value_of}
 use Rattle.sfv_text.specs.declared.pair.Pair.{Pair}
-use Rattle.command_line.specs.Command.{Help, Version, Base, Verify, BaseWords, VerifyWords, NoCommand, SpellsBase, SpellsVerify}
+use Rattle.command_line.specs.Command.{Help, Version, Base, Verify, Sign, BaseWords, VerifyWords, SignWords, NoCommand, SpellsBase, SpellsVerify, SpellsSign}
 use Rattle.command_line.specs.Laws.{HasCommandOrNone}
 use Rattle.command_line.specs.Options.{may_have, takes, words_of, AreOptions}
 use Rattle.command_line.specs.declared.options.CommandName.{CommandName}
@@ -20,6 +20,10 @@ first_is a b x y e = (cc, cc)
 
 not_named : (a b : List ℕ) (x y : List (List ℕ)) → bytes_eq a b ≡ false → a ∷ x ≡ b ∷ y → ⊥
 not_named a b x y other e = false≢true (sym other ∙ (bytes_eq-Decides a b).1 (first_is a b x y e).0)
+
+-- a value is spelled, or none
+abbrev SomeOrNone : {V : Type 0} → (V → Type 0) → Type 0
+SomeOrNone {V} Spells = ((v : V) × Spells v) ⊎ ((v : V) → Spells v → ⊥)
 
 -- one word alone
 word_or_not : (word : List ℕ) (arguments : List (List ℕ)) → (arguments ≡ word ∷ []) ⊎ (arguments ≡ word ∷ [] → ⊥)
@@ -45,7 +49,7 @@ are_right command options =
 
 -- options of the command
 abbrev OptionsOrNone : CommandName → List (List ℕ) → Type 0
-OptionsOrNone command words = ((options : List (Pair (List ℕ))) × AreOptions command words options) ⊎ ((options : List (Pair (List ℕ))) → AreOptions command words options → ⊥)
+OptionsOrNone command words = SomeOrNone (λ (options : List (Pair (List ℕ))). AreOptions command words options)
 
 right_or_not : (command : CommandName) (words : List (List ℕ)) (options : List (Pair (List ℕ))) → words ≡ words_of options → OptionsOrNone command words
 unfolding are_right
@@ -66,87 +70,184 @@ options_or_none command words = elim (pairs_or_none words) [
   | inr none ↦ inr (λ options are. none options are.joined)
 ]
 
--- `base`
-abbrev BaseOrNone : List (List ℕ) → Type 0
-BaseOrNone arguments = ((base : BaseWords) × SpellsBase arguments base) ⊎ ((base : BaseWords) → SpellsBase arguments base → ⊥)
-
-base_of : (params : List ℕ) (words : List (List ℕ)) → BaseOrNone (codes "base" ∷ params ∷ words)
-base_of params words = elim (options_or_none name.Base words) [
-  | inl some ↦ inl (
-    record { params = params; conf = value_of some.0 (codes "--conf"); request = value_of some.0 (codes "--request") },
-    record { words = words; options = some.0; joined = refl; are = some.1; conf_is = refl; request_is = refl },
-  )
-  | inr none ↦ inr (λ base is.
-      let others = (first_is (codes "base") (codes "base") (params ∷ words) (base.params ∷ is.words) is.joined).1 in
-      let same = (first_is params base.params words is.words others).1 in
-      none is.options (subst (λ (all : List (List ℕ)). AreOptions name.Base all is.options) (sym same) is.are))
+-- what comes after the name of a command is right, or the arguments aren't that command
+named_or_none : {V : Type 0} (Spells : List (List ℕ) → V → Type 0) (name : List ℕ)
+    → ((arguments : List (List ℕ)) (v : V) → Spells arguments v → (words : List (List ℕ)) × (arguments ≡ name ∷ words))
+    → ((words : List (List ℕ)) → SomeOrNone (Spells (name ∷ words))) → (arguments : List (List ℕ)) → SomeOrNone (Spells arguments)
+named_or_none Spells name named after [] = inr (λ v is. let e : [] ≡ name ∷ (named [] v is).0 = (named [] v is).1 in absurd cc)
+named_or_none Spells name named after (first ∷ words) = elim (cases_Bool (bytes_eq first name)) [
+  | inl same ↦ subst (λ (w : List ℕ). SomeOrNone (Spells (w ∷ words))) (sym ((bytes_eq-Decides first name).0 same)) (after words)
+  | inr other ↦ inr (λ v is. let is_named = named (first ∷ words) v is in not_named first name words is_named.0 other is_named.1)
 ]
 
-base_or_none : (arguments : List (List ℕ)) → BaseOrNone arguments
-base_or_none [] = inr (λ base is. let e : [] ≡ codes "base" ∷ base.params ∷ is.words = is.joined in absurd cc)
-base_or_none (first ∷ []) = inr (λ base is.
-    let e : [] ≡ base.params ∷ is.words = (first_is first (codes "base") [] (base.params ∷ is.words) is.joined).1 in absurd cc)
-base_or_none (first ∷ params ∷ words) = elim (cases_Bool (bytes_eq first (codes "base"))) [
-  | inl named ↦ subst (λ (w : List ℕ). BaseOrNone (w ∷ params ∷ words)) (sym ((bytes_eq-Decides first (codes "base")).0 named)) (base_of params words)
-  | inr other ↦ inr (λ base is. not_named first (codes "base") (params ∷ words) (base.params ∷ is.words) other is.joined)
+-- what the words after a name are options of
+are_of : (command : CommandName) (named : List ℕ) (words others : List (List ℕ)) (options : List (Pair (List ℕ)))
+    → named ∷ words ≡ named ∷ others → AreOptions command others options → AreOptions command words options
+are_of command named words others options joined are =
+    subst (λ (all : List (List ℕ)). AreOptions command all options) (sym (first_is named named words others joined).1) are
+
+same_options : (command : CommandName) (words : List (List ℕ)) (options others : List (Pair (List ℕ)))
+    → AreOptions command words options → AreOptions command words others → others ≡ options
+same_options command words options others are also = one_list others options (sym also.joined ∙ are.joined)
+
+-- what follows from the options, or the words aren't options
+with_or_none : {V : Type 0} (Spells : V → Type 0) (command : CommandName) (words : List (List ℕ))
+    → ((v : V) → Spells v → (options : List (Pair (List ℕ))) × AreOptions command words options)
+    → ((options : List (Pair (List ℕ))) → AreOptions command words options → SomeOrNone Spells) → SomeOrNone Spells
+with_or_none Spells command words options_of with_options = elim (options_or_none command words) [
+  | inl some ↦ with_options some.0 some.1
+  | inr none ↦ inr (λ v is. let options = options_of v is in none options.0 options.1)
 ]
 
--- `verify`
-abbrev VerifyOrNone : List (List ℕ) → Type 0
-VerifyOrNone arguments = ((verify : VerifyWords) × SpellsVerify arguments verify) ⊎ ((verify : VerifyWords) → SpellsVerify arguments verify → ⊥)
+-- ---- the options that commands need
 
-same_options : (words : List (List ℕ)) (options : List (Pair (List ℕ))) → AreOptions name.Verify words options
-    → (verify : VerifyWords) (is : SpellsVerify (codes "verify" ∷ words) verify) → is.options ≡ options
-same_options words options are verify is =
-    let same = (first_is (codes "verify") (codes "verify") words is.words is.joined).1 in
-    one_list is.options options (sym is.are.joined ∙ (sym same ∙ are.joined))
+has_word : (found : Option (List ℕ)) → ((word : List ℕ) × (found ≡ Some word)) ⊎ (found ≡ None)
+has_word None = inr refl
+has_word (Some word) = inl (word, refl)
 
-verify_with : (words : List (List ℕ)) (options : List (Pair (List ℕ))) → AreOptions name.Verify words options
-    → (conf now : Option (List ℕ)) → value_of options (codes "--conf") ≡ conf → value_of options (codes "--now") ≡ now → VerifyOrNone (codes "verify" ∷ words)
-verify_with words options are None now conf_is now_is = inr (λ verify is.
-    let same = same_options words options are verify is in
-    let e : None ≡ Some verify.conf = sym conf_is ∙ (ap (λ (all : List (Pair (List ℕ))). value_of all (codes "--conf")) (sym same) ∙ is.conf_is) in absurd cc)
-verify_with words options are (Some conf) None conf_is now_is = inr (λ verify is.
-    let same = same_options words options are verify is in
-    let none : value_of is.options (codes "--now") ≡ None = ap (λ (all : List (Pair (List ℕ))). value_of all (codes "--now")) same ∙ now_is in
-    subst (λ (found : Option (List ℕ)). IsSomeAnd found (λ digits. verify.now ≡ digits_value 10 digits)) none is.now_is)
-verify_with words options are (Some conf) (Some now) conf_is now_is = inl (
-  record { conf = conf; now = digits_value 10 now; label = value_of options (codes "--label"); request = value_of options (codes "--request") },
-  record {
-    words = words;
-    options = options;
-    joined = refl;
-    are = are;
-    conf_is = conf_is;
-    now_is = subst (λ (found : Option (List ℕ)). IsSomeAnd found (λ digits. digits_value 10 now ≡ digits_value 10 digits)) (sym now_is) refl;
-    label_is = refl;
-    request_is = refl;
-  },
-)
+no_word : (found : Option (List ℕ)) (word : List ℕ) → found ≡ None → found ≡ Some word → ⊥
+no_word found word none some = let e : None ≡ Some word = sym none ∙ some in absurd cc
 
-verify_of : (words : List (List ℕ)) → VerifyOrNone (codes "verify" ∷ words)
-verify_of words = elim (options_or_none name.Verify words) [
-  | inl some ↦ verify_with words some.0 some.1 (value_of some.0 (codes "--conf")) (value_of some.0 (codes "--now")) refl refl
+has_moment : (found : Option (List ℕ)) (digits : List ℕ) → found ≡ Some digits → IsSomeAnd found (λ word. digits_value 10 digits ≡ digits_value 10 word)
+has_moment found digits some = subst (λ (found : Option (List ℕ)). IsSomeAnd found (λ word. digits_value 10 digits ≡ digits_value 10 word)) (sym some) refl
+
+no_moment : (found : Option (List ℕ)) (n : ℕ) → found ≡ None → IsSomeAnd found (λ word. n ≡ digits_value 10 word) → ⊥
+no_moment found n none some = subst (λ (found : Option (List ℕ)). IsSomeAnd found (λ word. n ≡ digits_value 10 word)) none some
+
+-- a configuration and a moment
+abbrev HasNeeded : List (Pair (List ℕ)) → List ℕ → ℕ → Type 0
+HasNeeded options conf now =
+    (value_of options (codes "--conf") ≡ Some conf) × IsSomeAnd (value_of options (codes "--now")) (λ digits. now ≡ digits_value 10 digits)
+
+needed_or_none : (options : List (Pair (List ℕ))) → ((conf : List ℕ) × (now : ℕ) × HasNeeded options conf now) ⊎ ((conf : List ℕ) (now : ℕ) → HasNeeded options conf now → ⊥)
+needed_or_none options = elim (has_word (value_of options (codes "--conf"))) [
+  | inr none ↦ inr (λ conf now has. no_word _ conf none has.0)
+  | inl conf ↦ elim (has_word (value_of options (codes "--now"))) [
+    | inr none ↦ inr (λ conf now has. no_moment _ now none has.1)
+    | inl now ↦ inl (conf.0, digits_value 10 now.0, (conf.1, has_moment _ now.0 now.1))
+  ]
+]
+
+-- ---- `base`
+
+base_of : (words : List (List ℕ)) → SomeOrNone (SpellsBase (codes "base" ∷ words))
+base_of [] = inr (λ base is. let e : [] ≡ base.params ∷ is.words = (first_is (codes "base") (codes "base") [] (base.params ∷ is.words) is.joined).1 in absurd cc)
+base_of (params ∷ words) = with_or_none (SpellsBase (codes "base" ∷ params ∷ words)) name.Base words
+    (λ base is.
+    let others = (first_is (codes "base") (codes "base") (params ∷ words) (base.params ∷ is.words) is.joined).1 in
+    let same = (first_is params base.params words is.words others).1 in
+    (is.options, subst (λ (all : List (List ℕ)). AreOptions name.Base all is.options) (sym same) is.are))
+    (λ options are. inl (
+      record { params = params; conf = value_of options (codes "--conf"); request = value_of options (codes "--request") },
+      record { words = words; options = options; joined = refl; are = are; conf_is = refl; request_is = refl },
+    ))
+
+-- ---- `verify`
+
+verify_are : (words : List (List ℕ)) (verify : VerifyWords) (is : SpellsVerify (codes "verify" ∷ words) verify) → AreOptions name.Verify words is.options
+verify_are words verify is = are_of name.Verify (codes "verify") words is.words is.options is.joined is.are
+
+verify_with : (words : List (List ℕ)) (options : List (Pair (List ℕ))) → AreOptions name.Verify words options → SomeOrNone (SpellsVerify (codes "verify" ∷ words))
+verify_with words options are = elim (needed_or_none options) [
   | inr none ↦ inr (λ verify is.
-      let same = (first_is (codes "verify") (codes "verify") words is.words is.joined).1 in
-      none is.options (subst (λ (all : List (List ℕ)). AreOptions name.Verify all is.options) (sym same) is.are))
+      let same = same_options name.Verify words options is.options are (verify_are words verify is) in
+      none verify.conf verify.now (subst (λ (all : List (Pair (List ℕ))). HasNeeded all verify.conf verify.now) same (is.conf_is, is.now_is)))
+  | inl some ↦ inl (
+    record { conf = some.0; now = some.1; label = value_of options (codes "--label"); request = value_of options (codes "--request") },
+    record {
+      words = words;
+      options = options;
+      joined = refl;
+      are = are;
+      conf_is = some.2.0;
+      now_is = some.2.1;
+      label_is = refl;
+      request_is = refl;
+    },
+  )
 ]
 
-verify_or_none : (arguments : List (List ℕ)) → VerifyOrNone arguments
-verify_or_none [] = inr (λ verify is. let e : [] ≡ codes "verify" ∷ is.words = is.joined in absurd cc)
-verify_or_none (first ∷ words) = elim (cases_Bool (bytes_eq first (codes "verify"))) [
-  | inl named ↦ subst (λ (w : List ℕ). VerifyOrNone (w ∷ words)) (sym ((bytes_eq-Decides first (codes "verify")).0 named)) (verify_of words)
-  | inr other ↦ inr (λ verify is. not_named first (codes "verify") words is.words other is.joined)
+verify_of : (words : List (List ℕ)) → SomeOrNone (SpellsVerify (codes "verify" ∷ words))
+verify_of words =
+    with_or_none (SpellsVerify (codes "verify" ∷ words)) name.Verify words (λ verify is. (is.options, verify_are words verify is)) (verify_with words)
+
+-- ---- `sign`
+
+abbrev IsAlone : List (Pair (List ℕ)) → Type 0
+IsAlone options = (value_of options (codes "--nonce") ≡ None) ⊎ (value_of options (codes "--wanted") ≡ None)
+
+alone_or_not : (nonce wanted : Option (List ℕ)) → ((nonce ≡ None) ⊎ (wanted ≡ None)) ⊎ ((nonce ≡ None) ⊎ (wanted ≡ None) → ⊥)
+alone_or_not None wanted = inl (inl refl)
+alone_or_not (Some nonce) None = inl (inr refl)
+alone_or_not (Some nonce) (Some wanted) = inr (λ alone. elim alone [
+  | inl none ↦ no_word (Some nonce) nonce none refl
+  | inr none ↦ no_word (Some wanted) wanted none refl
+])
+
+sign_is_alone : (arguments : List (List ℕ)) (sign : SignWords) (is : SpellsSign arguments sign) → IsAlone is.options
+sign_is_alone arguments sign is = elim is.alone [
+  | inl none ↦ inl (sym is.nonce_is ∙ none)
+  | inr none ↦ inr (sym is.wanted_is ∙ none)
 ]
+
+sign_are : (words : List (List ℕ)) (sign : SignWords) (is : SpellsSign (codes "sign" ∷ words) sign) → AreOptions name.Sign words is.options
+sign_are words sign is = are_of name.Sign (codes "sign") words is.words is.options is.joined is.are
+
+sign_with : (words : List (List ℕ)) (options : List (Pair (List ℕ))) → AreOptions name.Sign words options → SomeOrNone (SpellsSign (codes "sign" ∷ words))
+sign_with words options are = elim (needed_or_none options) [
+  | inr none ↦ inr (λ sign is.
+      none sign.conf sign.now (subst (λ (all : List (Pair (List ℕ))). HasNeeded all sign.conf sign.now) (same sign is) (is.conf_is, is.now_is)))
+  | inl some ↦ elim (alone_or_not (value_of options (codes "--nonce")) (value_of options (codes "--wanted"))) [
+    | inr both ↦ inr (λ sign is. both (subst (λ (all : List (Pair (List ℕ))). IsAlone all) (same sign is) (sign_is_alone (codes "sign" ∷ words) sign is)))
+    | inl alone ↦ inl (
+      record {
+        conf = some.0;
+        now = some.1;
+        request = value_of options (codes "--request");
+        nonce = value_of options (codes "--nonce");
+        wanted = value_of options (codes "--wanted");
+      },
+      record {
+        words = words;
+        options = options;
+        joined = refl;
+        are = are;
+        conf_is = some.2.0;
+        now_is = some.2.1;
+        request_is = refl;
+        nonce_is = refl;
+        wanted_is = refl;
+        alone = alone;
+      },
+    )
+  ]
+]
+  where
+    same : (sign : SignWords) (is : SpellsSign (codes "sign" ∷ words) sign) → is.options ≡ options
+    same sign is = same_options name.Sign words options is.options are (sign_are words sign is)
+
+sign_of : (words : List (List ℕ)) → SomeOrNone (SpellsSign (codes "sign" ∷ words))
+sign_of words = with_or_none (SpellsSign (codes "sign" ∷ words)) name.Sign words (λ sign is. (is.options, sign_are words sign is)) (sign_with words)
 
 -- ---- any command
 
 none_of : (arguments : List (List ℕ)) → (arguments ≡ codes "--help" ∷ [] → ⊥) → (arguments ≡ codes "--version" ∷ [] → ⊥)
-    → ((base : BaseWords) → SpellsBase arguments base → ⊥) → ((verify : VerifyWords) → SpellsVerify arguments verify → ⊥) → NoCommand arguments
-none_of arguments no_help no_version no_base no_verify Help is = no_help is
-none_of arguments no_help no_version no_base no_verify Version is = no_version is
-none_of arguments no_help no_version no_base no_verify (Base words) is = no_base words is
-none_of arguments no_help no_version no_base no_verify (Verify words) is = no_verify words is
+    → ((base : BaseWords) → SpellsBase arguments base → ⊥) → ((verify : VerifyWords) → SpellsVerify arguments verify → ⊥)
+    → ((sign : SignWords) → SpellsSign arguments sign → ⊥) → NoCommand arguments
+none_of arguments no_help no_version no_base no_verify no_sign Help is = no_help is
+none_of arguments no_help no_version no_base no_verify no_sign Version is = no_version is
+none_of arguments no_help no_version no_base no_verify no_sign (Base words) is = no_base words is
+none_of arguments no_help no_version no_base no_verify no_sign (Verify words) is = no_verify words is
+none_of arguments no_help no_version no_base no_verify no_sign (Sign words) is = no_sign words is
+
+base_or_none : (arguments : List (List ℕ)) → SomeOrNone (SpellsBase arguments)
+base_or_none arguments = named_or_none SpellsBase (codes "base") (λ all base is. (base.params ∷ is.words, is.joined)) base_of arguments
+
+verify_or_none : (arguments : List (List ℕ)) → SomeOrNone (SpellsVerify arguments)
+verify_or_none arguments = named_or_none SpellsVerify (codes "verify") (λ all verify is. (is.words, is.joined)) verify_of arguments
+
+sign_or_none : (arguments : List (List ℕ)) → SomeOrNone (SpellsSign arguments)
+sign_or_none arguments = named_or_none SpellsSign (codes "sign") (λ all sign is. (is.words, is.joined)) sign_of arguments
 
 pub command_or_none : HasCommandOrNone
 command_or_none arguments = elim (word_or_not (codes "--help") arguments) [
@@ -157,7 +258,10 @@ command_or_none arguments = elim (word_or_not (codes "--help") arguments) [
       | inl base ↦ inl (Base base.0, base.1)
       | inr no_base ↦ elim (verify_or_none arguments) [
         | inl verify ↦ inl (Verify verify.0, verify.1)
-        | inr no_verify ↦ inr (none_of arguments no_help no_version no_base no_verify)
+        | inr no_verify ↦ elim (sign_or_none arguments) [
+          | inl sign ↦ inl (Sign sign.0, sign.1)
+          | inr no_sign ↦ inr (none_of arguments no_help no_version no_base no_verify no_sign)
+        ]
       ]
     ]
   ]

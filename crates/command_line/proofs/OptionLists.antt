@@ -14,7 +14,7 @@ use Rattle.sfv_text.proofs.PutLaws.{distinct_parts, put_distinct, put_new}
 use Rattle.command_line.specs.Options.{is_taken_by, may_have, option_of, row_of, takes, words_of, AreOptions}
 use Rattle.command_line.specs.declared.options.CommandName.{CommandName}
 use Rattle.command_line.specs.declared.options.CommandOption.{CommandOption}
-use Rattle.command_line.specs.declared.options.CommandOption.TheVariants.{Conf, Now, Label, Request}
+use Rattle.command_line.specs.declared.options.CommandOption.TheVariants.{Conf, Now, Label, Request, Nonce, Wanted}
 use Rattle.command_line.specs.declared.options.OptionWords.{OptionWords}
 use Rattle.command_line.specs.tools.Found.{word_in, AddsOption, AreWordsOf, IsNextOption, HasOptions, AreFoundBefore}
 
@@ -107,7 +107,7 @@ first_holds test (first ∷ others) option e = elim (cases_Bool (test first)) [
 
 name_is : (name : List ℕ) (option : CommandOption) → option_of name ≡ Some option → name ≡ (row_of option).word
 name_is name option e =
-    (bytes_eq-Decides name (row_of option).word).0 (first_holds (λ o. bytes_eq name (row_of o).word) (Conf ∷ Now ∷ Label ∷ Request ∷ []) option e)
+    (bytes_eq-Decides name (row_of option).word).0 (first_holds (λ o. bytes_eq name (row_of o).word) (Conf ∷ Now ∷ Label ∷ Request ∷ Nonce ∷ Wanted ∷ []) option e)
 
 option_named : (test : CommandOption → Bool) (name : List ℕ) (option : CommandOption) → option_of name ≡ Some option
     → unwrap_or (option_map test (option_of name)) false ≡ test option
@@ -195,6 +195,8 @@ all_found command found words so_far =
       now_is = word_is Now;
       label_is = word_is Label;
       request_is = word_is Request;
+      nonce_is = word_is Nonce;
+      wanted_is = word_is Wanted;
     }
 
 -- an option that comes after those that were found, in options of the command, can come next
@@ -251,6 +253,11 @@ value_had option word (p ∷ options) had is =
           subst (λ (k : List ℕ). may_have k word ≡ true) ((bytes_eq-Decides p.key option).0 same) (subst (λ (w : List ℕ). may_have p.key w ≡ true) word_is parts.0)
       | inr other ↦ value_had option word options parts.1 (rw other at is)
     ]
+
+pub word_had : (option : List ℕ) (options : List (Pair (List ℕ))) (word : Option (List ℕ)) → list_all (λ p. may_have p.key p.value) options ≡ true
+    → word ≡ value_of options option → IfSome word (λ word. may_have option word ≡ true)
+word_had option options None had is = tt
+word_had option options (Some word) had is = value_had option word options had (sym is)
 
 pub if_none : {X : Type 0} {P Q : Type 0} (found : Option X) → (P → Q) → IfNone found P → IfNone found Q
 if_none None f p = f p

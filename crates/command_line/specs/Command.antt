@@ -1,13 +1,14 @@
 -- The arguments of the program, and the commands that they spell.
-use Rattle.std.specs.Prelude.{◌≡◌, ◌<◌, ◌^◌, ⊤, ℕ, Option, Some, None, option_map, List, [], ◌∷◌, codes, IsSomeAnd}
+use Rattle.std.specs.Prelude.{◌≡◌, ◌⊎◌, ◌<◌, ◌^◌, ⊤, ℕ, Option, Some, None, option_map, List, [], ◌∷◌, codes, IfSome, IsSomeAnd, IsTrue}
 use Rattle.std.specs.Str.Parse.{digits_value}
 use Rattle.sfv_text.specs.Keys.{value_of}
 use Rattle.sfv_text.specs.declared.pair.Pair.{Pair}
-use Rattle.command_line.specs.Options.{AreOptions}
+use Rattle.command_line.specs.Options.{is_nonce, AreOptions}
 use Rattle.command_line.specs.declared.options.TheConstants.{MAX_MOMENT_DIGITS}
 use Rattle.command_line.specs.declared.options.CommandName.TheVariants as name
 use Rattle.command_line.specs.declared.command.BaseWords as base
 use Rattle.command_line.specs.declared.command.VerifyWords as verify
+use Rattle.command_line.specs.declared.command.SignWords as sign
 use Rattle.command_line.specs.declared.command.Command.{Command}
 use Rattle.command_line.specs.declared.command.Command.TheVariants as command
 
@@ -26,6 +27,15 @@ pub record VerifyWords : Type 0 where
   pub label : Option (List ℕ)
   pub request : Option (List ℕ)
 
+-- the words of `sign`: the file of the configuration, the moment, the file of the request that the
+-- input answers, the nonce of the signature, and the file of the message that asks for signatures
+pub record SignWords : Type 0 where
+  pub conf : List ℕ
+  pub now : ℕ
+  pub request : Option (List ℕ)
+  pub nonce : Option (List ℕ)
+  pub wanted : Option (List ℕ)
+
 -- what arguments ask for
 pub data CommandLine : Type 0 where
   -- what the program does
@@ -37,6 +47,9 @@ pub data CommandLine : Type 0 where
   Base : BaseWords → CommandLine
   -- the verdicts by a configuration, at a moment, of one label or of all
   Verify : VerifyWords → CommandLine
+  -- the message with signatures of a moment, by a configuration: one, which may have a nonce, or
+  -- those that a message asks for
+  Sign : SignWords → CommandLine
 
 -- the arguments are `base`, PARAMS and the options of `base`
 pub record SpellsBase (arguments : List (List ℕ)) (base : BaseWords) : Type 0 where
@@ -59,12 +72,28 @@ pub record SpellsVerify (arguments : List (List ℕ)) (verify : VerifyWords) : T
   pub label_is : verify.label ≡ value_of options (codes "--label")
   pub request_is : verify.request ≡ value_of options (codes "--request")
 
+-- the arguments are `sign` and its options, with those that it needs, and not both a nonce and a
+-- message that asks for signatures
+pub record SpellsSign (arguments : List (List ℕ)) (sign : SignWords) : Type 0 where
+  pub words : List (List ℕ)
+  pub options : List (Pair (List ℕ))
+  pub joined : arguments ≡ codes "sign" ∷ words
+  pub are : AreOptions name.Sign words options
+  pub conf_is : value_of options (codes "--conf") ≡ Some sign.conf
+  pub now_is : IsSomeAnd (value_of options (codes "--now"))
+      (λ digits. sign.now ≡ digits_value 10 digits)
+  pub request_is : sign.request ≡ value_of options (codes "--request")
+  pub nonce_is : sign.nonce ≡ value_of options (codes "--nonce")
+  pub wanted_is : sign.wanted ≡ value_of options (codes "--wanted")
+  pub alone : (sign.nonce ≡ None) ⊎ (sign.wanted ≡ None)
+
 -- the arguments spell the command
 abbrev pub IsCommand : List (List ℕ) → CommandLine → Type 0
 IsCommand arguments Help = arguments ≡ codes "--help" ∷ []
 IsCommand arguments Version = arguments ≡ codes "--version" ∷ []
 IsCommand arguments (Base words) = SpellsBase arguments words
 IsCommand arguments (Verify words) = SpellsVerify arguments words
+IsCommand arguments (Sign words) = SpellsSign arguments words
 
 -- the arguments spell no command
 abbrev pub NoCommand : List (List ℕ) → Type 0
@@ -76,6 +105,7 @@ conf_of Help = None
 conf_of Version = None
 conf_of (Base words) = words.conf
 conf_of (Verify words) = Some words.conf
+conf_of (Sign words) = Some words.conf
 
 -- the file of the request that the input answers
 abbrev pub request_of : CommandLine → Option (List ℕ)
@@ -83,6 +113,12 @@ request_of Help = None
 request_of Version = None
 request_of (Base words) = words.request
 request_of (Verify words) = words.request
+request_of (Sign words) = words.request
+
+-- the file of the message that asks for signatures
+abbrev pub wanted_of : CommandLine → Option (List ℕ)
+wanted_of (Sign words) = words.wanted
+wanted_of command = None
 
 -- what the borrowed words of `base` stand for
 abbrev pub base_words : base.BaseWords → BaseWords
@@ -101,14 +137,31 @@ verify_words words = record {
   request = option_map (λ word. word.now) words.request;
 }
 
+-- what the borrowed words of `sign` stand for
+abbrev pub sign_words : sign.SignWords → SignWords
+sign_words words = record {
+  conf = words.conf.now;
+  now = words.now;
+  request = option_map (λ word. word.now) words.request;
+  nonce = option_map (λ word. word.now) words.nonce;
+  wanted = option_map (λ word. word.now) words.wanted;
+}
+
 -- what a command with borrowed words stands for
 abbrev pub line_of : Command → CommandLine
 line_of command.Help = Help
 line_of command.Version = Version
 line_of (command.Base words) = Base (base_words words)
 line_of (command.Verify words) = Verify (verify_words words)
+line_of (command.Sign words) = Sign (sign_words words)
 
 -- the moment is one of at most 15 digits
 abbrev pub IsTimely : CommandLine → Type 0
 IsTimely (Verify words) = words.now < 10 ^ MAX_MOMENT_DIGITS
+IsTimely (Sign words) = words.now < 10 ^ MAX_MOMENT_DIGITS
 IsTimely command = ⊤
+
+-- a nonce is one of 1 to 256 bytes of a String
+abbrev pub HasRightNonce : CommandLine → Type 0
+HasRightNonce (Sign words) = IfSome words.nonce (λ nonce. IsTrue (is_nonce nonce))
+HasRightNonce command = ⊤

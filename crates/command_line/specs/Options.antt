@@ -3,13 +3,14 @@ use Rattle.std.specs.Prelude.{◌≡◌, ℕ, Bool, true, false, ◌&&◌, nat_l
 use Rattle.std.specs.List.{find, flat_map, list_all, list_any}
 use Rattle.std.specs.Str.{bytes_eq}
 use Rattle.byte_grammar.specs.Classes.{is_digit}
-use Rattle.sfv_text.specs.Classes.{is_key}
+use Rattle.sfv_text.specs.Classes.{is_key, is_string_byte}
 use Rattle.sfv_text.specs.Keys.{have_distinct_keys}
 use Rattle.sfv_text.specs.declared.pair.Pair.{Pair}
+use Rattle.nonces.specs.declared.limits.TheConstants.{MAX_NONCE_BYTES}
 use Rattle.command_line.specs.declared.options.CommandName.{CommandName}
-use Rattle.command_line.specs.declared.options.CommandName.TheVariants.{Base, Verify}
+use Rattle.command_line.specs.declared.options.CommandName.TheVariants.{Base, Verify, Sign}
 use Rattle.command_line.specs.declared.options.CommandOption.{CommandOption}
-use Rattle.command_line.specs.declared.options.CommandOption.TheVariants.{Conf, Now, Label, Request}
+use Rattle.command_line.specs.declared.options.CommandOption.TheVariants.{Conf, Now, Label, Request, Nonce, Wanted}
 use Rattle.command_line.specs.declared.options.TheConstants.{MAX_MOMENT_DIGITS}
 
 -- a file has a name
@@ -21,6 +22,11 @@ abbrev pub is_moment : List ℕ → Bool
 is_moment word =
     nat_lt 0 (length word) && (nat_le (length word) MAX_MOMENT_DIGITS && list_all is_digit word)
 
+-- 1 to 256 bytes of a String (RFC 9651 section 3.3.3)
+abbrev pub is_nonce : List ℕ → Bool
+is_nonce word =
+    nat_lt 0 (length word) && (nat_le (length word) MAX_NONCE_BYTES && list_all is_string_byte word)
+
 -- an option: its name, the commands that take it, and the words that it may have
 pub record OptionRow : Type 0 where
   pub word : List ℕ
@@ -30,21 +36,28 @@ pub record OptionRow : Type 0 where
 -- A moment is a number of seconds, and a label is the key of a Dictionary (RFC 9421 section 4.1).
 abbrev pub row_of : CommandOption → OptionRow
 row_of Conf =
-    record { word = codes "--conf"; commands = Base ∷ Verify ∷ []; may_have = is_file_name }
-row_of Now = record { word = codes "--now"; commands = Verify ∷ []; may_have = is_moment }
+    record { word = codes "--conf"; commands = Base ∷ Verify ∷ Sign ∷ []; may_have = is_file_name }
+row_of Now = record { word = codes "--now"; commands = Verify ∷ Sign ∷ []; may_have = is_moment }
 row_of Label = record { word = codes "--label"; commands = Verify ∷ []; may_have = is_key }
-row_of Request =
-    record { word = codes "--request"; commands = Base ∷ Verify ∷ []; may_have = is_file_name }
+row_of Request = record {
+  word = codes "--request";
+  commands = Base ∷ Verify ∷ Sign ∷ [];
+  may_have = is_file_name;
+}
+row_of Nonce = record { word = codes "--nonce"; commands = Sign ∷ []; may_have = is_nonce }
+row_of Wanted = record { word = codes "--wanted"; commands = Sign ∷ []; may_have = is_file_name }
 
 -- the option of that name
 abbrev pub option_of : List ℕ → Option CommandOption
 option_of name =
-    find (λ option. bytes_eq name (row_of option).word) (Conf ∷ Now ∷ Label ∷ Request ∷ [])
+    find (λ option. bytes_eq name (row_of option).word)
+    (Conf ∷ Now ∷ Label ∷ Request ∷ Nonce ∷ Wanted ∷ [])
 
 -- the two names are those of one command
 abbrev pub is_same_command : CommandName → CommandName → Bool
 is_same_command Base Base = true
 is_same_command Verify Verify = true
+is_same_command Sign Sign = true
 is_same_command command other = false
 
 -- the command takes the option

@@ -1,7 +1,7 @@
 //! The arguments of the program.
 
 ghost use Rattle.std.specs.Prelude.{◌≡◌, drop, map, codes, IfSome, IfNone, string_bytes};
-ghost use Rattle.command_line.specs.Command.{IsCommand, NoCommand, line_of, IsTimely};
+ghost use Rattle.command_line.specs.Command.{HasRightNonce, IsCommand, NoCommand, line_of, IsTimely};
 ghost use Rattle.command_line.specs.tools.After.{IsAfter, NoneAfter};
 
 use crate::options::{CommandName, moment_of, read_options};
@@ -30,6 +30,21 @@ pub struct VerifyWords<'a> {
     pub request: Option<&'a str>,
 }
 
+/// The words of `sign`. They are borrowed.
+#[derive(Clone, Copy, Debug, PartialEq, Eq)]
+pub struct SignWords<'a> {
+    /// The file of the configuration.
+    pub conf: &'a str,
+    /// The moment, in seconds since the epoch, at most 999,999,999,999,999.
+    pub now: u64,
+    /// The file of the request that the input answers.
+    pub request: Option<&'a str>,
+    /// The nonce of the signature (RFC 9421 section 2.3). There is none beside `wanted`.
+    pub nonce: Option<&'a str>,
+    /// The file of the message that asks for signatures (RFC 9421 section 5.1).
+    pub wanted: Option<&'a str>,
+}
+
 /// What the arguments ask for.
 #[derive(Clone, Copy, Debug, PartialEq, Eq)]
 pub enum Command<'a> {
@@ -42,6 +57,8 @@ pub enum Command<'a> {
     Base(BaseWords<'a>),
     /// `verify`: what the signatures of a message are worth (RFC 9421 section 3.2).
     Verify(VerifyWords<'a>),
+    /// `sign`: the message with signatures (RFC 9421 section 3.1).
+    Sign(SignWords<'a>),
 }
 
 /// The arguments after the program's name.
@@ -60,6 +77,7 @@ fn read_help<'a>(words: &'a [String]) -> Option<Command<'a>>
         (λ command. IsAfter (codes "--help") (map string_bytes words.now) (line_of command)) }
     ensures none { IfNone result (NoneAfter (codes "--help") (map string_bytes words.now)) }
     ensures timely { IfSome result (λ command. IsTimely (line_of command)) }
+    ensures nonce { IfSome result (λ command. HasRightNonce (line_of command)) }
 {
     if words.is_empty() {
         Some(Command::Help)
@@ -74,6 +92,7 @@ fn read_version<'a>(words: &'a [String]) -> Option<Command<'a>>
         (λ command. IsAfter (codes "--version") (map string_bytes words.now) (line_of command)) }
     ensures none { IfNone result (NoneAfter (codes "--version") (map string_bytes words.now)) }
     ensures timely { IfSome result (λ command. IsTimely (line_of command)) }
+    ensures nonce { IfSome result (λ command. HasRightNonce (line_of command)) }
 {
     if words.is_empty() {
         Some(Command::Version)
@@ -88,6 +107,7 @@ fn read_base<'a>(words: &'a [String]) -> Option<Command<'a>>
         (λ command. IsAfter (codes "base") (map string_bytes words.now) (line_of command)) }
     ensures none { IfNone result (NoneAfter (codes "base") (map string_bytes words.now)) }
     ensures timely { IfSome result (λ command. IsTimely (line_of command)) }
+    ensures nonce { IfSome result (λ command. HasRightNonce (line_of command)) }
 {
     let (params, words) = words.split_first()?;
     let found = read_options(CommandName::Base, words)?;
@@ -104,6 +124,7 @@ fn read_verify<'a>(words: &'a [String]) -> Option<Command<'a>>
         (λ command. IsAfter (codes "verify") (map string_bytes words.now) (line_of command)) }
     ensures none { IfNone result (NoneAfter (codes "verify") (map string_bytes words.now)) }
     ensures timely { IfSome result (λ command. IsTimely (line_of command)) }
+    ensures nonce { IfSome result (λ command. HasRightNonce (line_of command)) }
 {
     let found = read_options(CommandName::Verify, words)?;
     let conf = found.conf?;
@@ -116,12 +137,36 @@ fn read_verify<'a>(words: &'a [String]) -> Option<Command<'a>>
     }))
 }
 
+/// The words after `sign`.
+fn read_sign<'a>(words: &'a [String]) -> Option<Command<'a>>
+    ensures some { IfSome result
+        (λ command. IsAfter (codes "sign") (map string_bytes words.now) (line_of command)) }
+    ensures none { IfNone result (NoneAfter (codes "sign") (map string_bytes words.now)) }
+    ensures timely { IfSome result (λ command. IsTimely (line_of command)) }
+    ensures nonce { IfSome result (λ command. HasRightNonce (line_of command)) }
+{
+    let found = read_options(CommandName::Sign, words)?;
+    let conf = found.conf?;
+    let now = found.now?;
+    if found.nonce.is_some() && found.wanted.is_some() {
+        return None;
+    }
+    Some(Command::Sign(SignWords {
+        conf,
+        now: moment_of(now),
+        request: found.request,
+        nonce: found.nonce,
+        wanted: found.wanted,
+    }))
+}
+
 /// Reads the arguments after the program's name. It takes no memory.
 pub fn read_words(words: &[String]) -> Option<Command<'_>>
     ensures some { IfSome result
         (λ command. IsCommand (map string_bytes words.now) (line_of command)) }
     ensures none { IfNone result (NoCommand (map string_bytes words.now)) }
     ensures timely { IfSome result (λ command. IsTimely (line_of command)) }
+    ensures nonce { IfSome result (λ command. HasRightNonce (line_of command)) }
 {
     let (name, others) = words.split_first()?;
     match name.as_str() {
@@ -129,6 +174,7 @@ pub fn read_words(words: &[String]) -> Option<Command<'_>>
         "--version" => read_version(others),
         "base" => read_base(others),
         "verify" => read_verify(others),
+        "sign" => read_sign(others),
         _ => None,
     }
 }

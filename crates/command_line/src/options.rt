@@ -6,9 +6,11 @@ ghost use Rattle.std.specs.Str.Parse.{digits_value};
 ghost use Rattle.std.specs.List.{list_all};
 ghost use Rattle.byte_grammar.specs.Classes.{is_digit};
 ghost use Rattle.sfv_text.specs.declared.pair.Pair.{Pair};
-ghost use Rattle.command_line.specs.Options.{is_moment, is_taken_by, option_of, row_of, AreOptions};
+ghost use Rattle.sfv_text.specs.Classes.{is_string_byte};
+ghost use Rattle.command_line.specs.Options.{is_moment, is_nonce, is_taken_by, option_of, row_of, AreOptions};
 ghost use Rattle.command_line.specs.tools.Found.{word_in, AddsOption, AreFoundBefore, IsNextOption, HasOptions};
 
+use nonces::MAX_NONCE_BYTES;
 use sfv_text::is_key;
 
 /// The most digits of a moment.
@@ -21,6 +23,8 @@ pub enum CommandName {
     Base,
     /// `verify`.
     Verify,
+    /// `sign`.
+    Sign,
 }
 
 /// The options.
@@ -34,6 +38,10 @@ pub enum CommandOption {
     Label,
     /// `--request`: the file of the request that the input answers.
     Request,
+    /// `--nonce`: the nonce of the signature.
+    Nonce,
+    /// `--wanted`: the file of the message that asks for signatures.
+    Wanted,
 }
 
 /// The words that options have.
@@ -43,6 +51,8 @@ pub struct OptionWords<'a> {
     pub now: Option<&'a str>,
     pub label: Option<&'a str>,
     pub request: Option<&'a str>,
+    pub nonce: Option<&'a str>,
+    pub wanted: Option<&'a str>,
 }
 
 fn are_digits(bytes: &[u8]) -> bool
@@ -56,6 +66,26 @@ fn is_moment(word: &[u8]) -> bool
     ensures { result ≡ is_moment word.now }
 {
     !word.is_empty() && word.len() <= MAX_MOMENT_DIGITS && are_digits(word)
+}
+
+/// Whether a String can have the byte: it is printable ASCII (RFC 9651 section 3.3.3).
+fn is_string_byte(byte: u8) -> bool
+    ensures { result ≡ is_string_byte byte }
+{
+    matches!(byte, b' '..=b'~')
+}
+
+fn are_string_bytes(bytes: &[u8]) -> bool
+    ensures { result ≡ list_all is_string_byte bytes.now }
+{
+    bytes.iter().all(|byte| is_string_byte(*byte))
+}
+
+/// Whether the word is a nonce: 1 to 256 bytes of a String.
+fn is_nonce(word: &[u8]) -> bool
+    ensures { result ≡ is_nonce word.now }
+{
+    !word.is_empty() && word.len() <= MAX_NONCE_BYTES && are_string_bytes(word)
 }
 
 /// The number that the digits of a moment write.
@@ -80,6 +110,8 @@ impl CommandOption {
             "--now" => Some(CommandOption::Now),
             "--label" => Some(CommandOption::Label),
             "--request" => Some(CommandOption::Request),
+            "--nonce" => Some(CommandOption::Nonce),
+            "--wanted" => Some(CommandOption::Wanted),
             _ => None,
         }
     }
@@ -90,9 +122,11 @@ impl CommandOption {
     {
         match self {
             CommandOption::Conf => true,
-            CommandOption::Now => command == CommandName::Verify,
+            CommandOption::Now => matches!(command, CommandName::Verify | CommandName::Sign),
             CommandOption::Label => command == CommandName::Verify,
             CommandOption::Request => true,
+            CommandOption::Nonce => command == CommandName::Sign,
+            CommandOption::Wanted => command == CommandName::Sign,
         }
     }
 
@@ -105,6 +139,8 @@ impl CommandOption {
             CommandOption::Now => is_moment(word.as_bytes()),
             CommandOption::Label => is_key(word.as_bytes()),
             CommandOption::Request => !word.is_empty(),
+            CommandOption::Nonce => is_nonce(word.as_bytes()),
+            CommandOption::Wanted => !word.is_empty(),
         }
     }
 }
@@ -119,6 +155,8 @@ impl<'a> OptionWords<'a> {
             now: None,
             label: None,
             request: None,
+            nonce: None,
+            wanted: None,
         }
     }
 
@@ -131,6 +169,8 @@ impl<'a> OptionWords<'a> {
             CommandOption::Now => self.now.is_some(),
             CommandOption::Label => self.label.is_some(),
             CommandOption::Request => self.request.is_some(),
+            CommandOption::Nonce => self.nonce.is_some(),
+            CommandOption::Wanted => self.wanted.is_some(),
         }
     }
 
@@ -157,12 +197,38 @@ impl<'a> OptionWords<'a> {
                 request: Some(word),
                 ..self
             },
+            CommandOption::Nonce => OptionWords {
+                nonce: Some(word),
+                ..self
+            },
+            CommandOption::Wanted => OptionWords {
+                wanted: Some(word),
+                ..self
+            },
         }
     }
 }
 
-/// Adds the word of the option of that name, where it can come next: the command takes the option,
-/// which has no word yet, and may have this one.
+/// The option of that name, where it can come next: the command takes it, it has no word yet, and
+/// it may have this one.
+fn next_option(
+    command: CommandName,
+    found: OptionWords<'_>,
+    name: &str,
+    word: &str,
+) -> Option<CommandOption>
+    ensures some { IfSome result (IsNextOption command found.entry name.now word.now) }
+    ensures none { IfNone result ((option : CommandOption)
+        → ¬ IsNextOption command found.entry name.now word.now option) }
+{
+    let option = CommandOption::of_word(name)?;
+    if found.has(option) || !option.is_taken_by(command) || !option.may_have(word) {
+        return None;
+    }
+    Some(option)
+}
+
+/// Adds the word of the option of that name, where it can come next.
 fn add_option<'a>(
     command: CommandName,
     found: OptionWords<'a>,
@@ -173,10 +239,7 @@ fn add_option<'a>(
     ensures none { IfNone result ((option : CommandOption)
         → ¬ IsNextOption command found.entry name.now word.now option) }
 {
-    let option = CommandOption::of_word(name)?;
-    if found.has(option) || !option.is_taken_by(command) || !option.may_have(word) {
-        return None;
-    }
+    let option = next_option(command, found, name, word)?;
     Some(found.with(option, word))
 }
 

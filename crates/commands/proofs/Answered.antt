@@ -1,18 +1,16 @@
 -- What is read at each layer is a value, or has a cause to be refused.
 use Rattle.std.proofs.Common.{◌≡◌, ◌≤◌, inl, inr, ℕ, List, [], ◌∷◌, length, Option, Some, None, refl, sym, subst, arith}
 use Rattle.std.specs.Prelude.{IsTrue}
-use Rattle.std.specs.List.{list_all, slice_get}
+use Rattle.std.specs.List.{list_all}
 use Rattle.std.proofs.lemmas.Bool.{cases_lt}
 use Rattle.std.proofs.Math.Nat.{eq-or-lt_of_le}
 use Rattle.std.proofs.lemmas.List.{take_all}
-use Rattle.byte_grammar.proofs.Indices.{some_and, some_and_parts}
 use Rattle.sfv_text.specs.Classes.{is_byte}
 use Rattle.sfv_text.specs.declared.value.InnerList.{InnerList}
 use Rattle.sfv_read.specs.Fault.{IsSfError}
 use Rattle.sfv_read.specs.Reads.{ReadsInner}
 use Rattle.sfv_read.specs.declared.error.SfError.{SfError}
 use Rattle.sfv_read.specs.declared.error.SfError.TheVariants as error
-use Rattle.component_ids.specs.Identifiers.{id_text}
 use Rattle.component_ids.specs.declared.id.ComponentId.{ComponentId}
 use Rattle.component_values.specs.Context.{MessageContext}
 use Rattle.component_values.specs.Values.{Lacks as LacksSo}
@@ -33,6 +31,7 @@ use Rattle.refusals.specs.declared.refusal.TheConstants.{MAX_CONF_BYTES, MAX_INP
 use Rattle.refusals.specs.declared.file.FileRefusal.{FileRefusal}
 use Rattle.refusals.specs.declared.file.FileRefusal.TheVariants.{Missing, TooLong, Message as NoMessage, Conf}
 use Rattle.refusals.specs.declared.refusal.CommandRefusal.TheVariants.{Syntax, ItemKind, Ids, Lacks}
+use Rattle.commands.proofs.Lacking.{id_there}
 use Rattle.commands.proofs.LowerAnswers.{conf_answer_of, empty_says, inner_or_not, inner_fault, ids_answer, message_answer, values_or_lack, some_labels, some_verdict}
 
 -- ---- the configuration
@@ -110,9 +109,8 @@ have_values_or_lack context ids = elim (values_or_lack context ids) [
   | inl values ↦ inl values
   | inr lack ↦
       let first = lack.2 in
-      let id = some_and_parts (λ (i : ComponentId). LacksSo context i lack.1) (slice_get ids lack.0) first.there in
-      let there = some_and (λ (lacking : ComponentId). id_text id.0 ≡ id_text lacking) (slice_get ids lack.0) id.0 id.1 refl in
-      inr (Lacks lack.1 (id_text id.0), (lack.0, first, there))
+      let id = id_there (λ (i : ComponentId). LacksSo context i lack.1) ids lack.0 first.there in
+      inr (Lacks lack.1 id.0, (lack.0, first, id.1))
 ]
 
 -- ---- verdicts

@@ -1,15 +1,12 @@
 -- What is read at each layer is one value, or has one cause to be refused.
-use Rattle.std.proofs.Common.{◌≡◌, ℕ, Some, List, sym, ap, subst, ◌∙◌, arith}
-use Rattle.std.specs.List.{slice_get}
+use Rattle.std.proofs.Common.{◌≡◌, ℕ, List, sym, ap, subst, ◌∙◌, arith}
 use Rattle.byte_grammar.specs.FaultOffset.{IsFaultOffset}
-use Rattle.byte_grammar.proofs.Indices.{some_and_parts}
 use Rattle.byte_grammar.proofs.OffsetLaws.{one_offset}
 use Rattle.sfv_text.specs.declared.value.InnerList.{InnerList}
 use Rattle.sfv_read.specs.Reads.{ReadsInner}
 use Rattle.sfv_read.specs.Fault.{BeginsItemKind}
 use Rattle.component_ids.proofs.FaultLaws.{one_fault}
 use Rattle.component_ids.specs.Causes.{IsIdFault}
-use Rattle.component_ids.specs.Identifiers.{id_text}
 use Rattle.component_ids.specs.SignatureParams.{list_of}
 use Rattle.component_ids.specs.declared.fault.IdFault.{IdFault}
 use Rattle.component_ids.specs.declared.id.ComponentId.{ComponentId}
@@ -27,7 +24,8 @@ use Rattle.commands.specs.declared.message.Reading.{Reading}
 use Rattle.refusals.specs.declared.file.FileRefusal.{FileRefusal}
 use Rattle.refusals.specs.declared.file.FileRefusal.TheVariants.{Missing, TooLong, Message as NoMessage, Conf}
 use Rattle.refusals.specs.declared.refusal.CommandRefusal.{CommandRefusal}
-use Rattle.refusals.specs.declared.refusal.CommandRefusal.TheVariants.{Syntax, ItemKind, Ids, Lacks}
+use Rattle.refusals.specs.declared.refusal.CommandRefusal.TheVariants.{Syntax, ItemKind, Ids, Lacks, Sign, Wishes}
+use Rattle.commands.proofs.Lacking.{one_id}
 use Rattle.commands.proofs.LowerLaws.{one_list, no_fault, one_params, one_text, one_message_fault, text_no_fault}
 
 -- ---- the input
@@ -78,21 +76,31 @@ params_cause params (Syntax i) (Syntax j) a b = ap Syntax (one_offset ReadsInner
 params_cause params (Syntax i) (ItemKind j) a b = absurd (one_kind params i j a b)
 params_cause params (Syntax i) (Ids g) a b = absurd (a.0.none b.list b.reads)
 params_cause params (Syntax i) (Lacks m k) a b = absurd b
+params_cause params (Syntax i) (Sign g) a b = absurd b
+params_cause params (Syntax i) (Wishes g) a b = absurd b
 params_cause params (ItemKind i) (Syntax j) a b = absurd (one_kind params j i b a)
 params_cause params (ItemKind i) (ItemKind j) a b = ap ItemKind (one_offset ReadsInner params i j a.0 b.0)
 params_cause params (ItemKind i) (Ids g) a b = absurd (a.0.none b.list b.reads)
 params_cause params (ItemKind i) (Lacks m k) a b = absurd b
+params_cause params (ItemKind i) (Sign g) a b = absurd b
+params_cause params (ItemKind i) (Wishes g) a b = absurd b
 params_cause params (Ids f) (Syntax j) a b = absurd (b.0.none a.list a.reads)
 params_cause params (Ids f) (ItemKind j) a b = absurd (b.0.none a.list a.reads)
 params_cause params (Ids f) (Ids g) a b = ap (λ (h : IdFault). Ids h) (one_id_fault params f g a b)
 params_cause params (Ids f) (Lacks m k) a b = absurd b
+params_cause params (Ids f) (Sign g) a b = absurd b
+params_cause params (Ids f) (Wishes g) a b = absurd b
 params_cause params (Lacks l i) d a b = absurd a
+params_cause params (Sign f) d a b = absurd a
+params_cause params (Wishes f) d a b = absurd a
 
 params_either : (params : List ℕ) (sig : SigParams) (c : CommandRefusal) → ReadsParams params sig → AreParamsRefused params c → ⊥
 params_either params sig (Syntax i) reads c = c.0.none (list_of sig) reads.reads
 params_either params sig (ItemKind i) reads c = c.0.none (list_of sig) reads.reads
 params_either params sig (Ids f) reads c = no_fault sig c.list f reads.is (one_list params (list_of sig) c.list reads.reads c.reads) c.is
 params_either params sig (Lacks l i) reads c = c
+params_either params sig (Sign f) reads c = c
+params_either params sig (Wishes f) reads c = c
 
 pub params_decided : AreParamsDecided
 params_decided params = record {
@@ -103,23 +111,20 @@ params_decided params = record {
 
 -- ---- the values of components
 
-some_is : {X : Type 0} (x y : X) → Some x ≡ Some y → x ≡ y
-some_is x y e = cc
-
 values_cause : (context : MessageContext) (ids : List ComponentId) (c d : CommandRefusal) → IsValueLacking context ids c → IsValueLacking context ids d → c ≡ d
 values_cause context ids (Syntax i) d a b = absurd a
 values_cause context ids (ItemKind i) d a b = absurd a
 values_cause context ids (Ids f) d a b = absurd a
+values_cause context ids (Sign f) d a b = absurd a
+values_cause context ids (Wishes f) d a b = absurd a
 values_cause context ids (Lacks l i) (Syntax j) a b = absurd b
 values_cause context ids (Lacks l i) (ItemKind j) a b = absurd b
 values_cause context ids (Lacks l i) (Ids g) a b = absurd b
+values_cause context ids (Lacks l i) (Sign g) a b = absurd b
+values_cause context ids (Lacks l i) (Wishes g) a b = absurd b
 values_cause context ids (Lacks l i) (Lacks m k) a b =
     let same = first_lack_is_one context ids a.0 b.0 l m a.1 b.1 in
-    let one = some_and_parts (λ (lacking : ComponentId). i ≡ id_text lacking) (slice_get ids a.0) a.2 in
-    let two = some_and_parts (λ (lacking : ComponentId). k ≡ id_text lacking) (slice_get ids b.0) b.2 in
-    let at : slice_get ids a.0 ≡ slice_get ids b.0 = ap (λ (n : ℕ). slice_get ids n) same.0 in
-    let lacking : one.0 ≡ two.0 = some_is one.0 two.0 (sym one.1 ∙ (at ∙ two.1)) in
-    let texts : i ≡ k = one.2 ∙ (ap id_text lacking ∙ sym two.2) in
+    let texts = one_id ids a.0 b.0 i k same.0 a.2 b.2 in
     λ t. Lacks (same.1 t) (texts t)
 
 values_either : (context : MessageContext) (ids : List ComponentId) (values : List (List ℕ)) (c : CommandRefusal)
@@ -127,6 +132,8 @@ values_either : (context : MessageContext) (ids : List ComponentId) (values : Li
 values_either context ids values (Syntax i) have c = c
 values_either context ids values (ItemKind i) have c = c
 values_either context ids values (Ids f) have c = c
+values_either context ids values (Sign f) have c = c
+values_either context ids values (Wishes f) have c = c
 values_either context ids values (Lacks l i) have c = none_lacks context ids values c.0 l have c.1
 
 pub values_decided : AreValuesDecided

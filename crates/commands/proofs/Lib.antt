@@ -7,8 +7,14 @@ pub mod Lacking
 pub mod LowerAnswers
 pub mod LowerConf
 pub mod LowerLaws
+pub mod LowerSigning
+pub mod NeededTables
 pub mod OneOutcome
+pub mod OneSigning
+pub mod SignedKeys
+pub mod SignedMessages
+pub mod Signing
 pub mod Stopping
-pub mod TakenRequests
+pub mod TakenFiles
 pub mod Texts
 pub mod VerdictLines

@@ -33,7 +33,7 @@ AreParamsRefused params (Syntax offset) =
 AreParamsRefused params (ItemKind offset) =
     IsFaultOffset ReadsInner params offset × BeginsItemKind ReadsInner params offset
 AreParamsRefused params (Ids fault) = HasIdFault params fault
-AreParamsRefused params (Lacks lack id) = ⊥
+AreParamsRefused params refusal = ⊥
 
 -- the first component that lacks a value lacks it in this way, and has this identifier
 abbrev pub IsValueLacking : MessageContext → List ComponentId → CommandRefusal → Type 0

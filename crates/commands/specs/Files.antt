@@ -21,11 +21,13 @@ pub data FileRole : Type 0 where
 abbrev pub FileNames : Type 0
 FileNames = FileRole → Option (List ℕ)
 
--- a configuration, or none, a request, or none, and no other file
-abbrev pub conf_and_request : Option (List ℕ) → Option (List ℕ) → FileNames
-conf_and_request conf request Conf = conf
-conf_and_request conf request Request = request
-conf_and_request conf request role = None
+-- a configuration, a request and a message that wishes signatures, or none of each, and no other
+-- file
+abbrev pub file_names : Option (List ℕ) → Option (List ℕ) → Option (List ℕ) → FileNames
+file_names conf request wanted Conf = conf
+file_names conf request wanted Request = request
+file_names conf request wanted Wanted = wanted
+file_names conf request wanted role = None
 
 -- how many files have a name
 abbrev pub file_count : FileNames → ℕ

@@ -1,18 +1,25 @@
 -- Laws of what is read, and of what comes of it.
-use Rattle.std.specs.Prelude.{◌≡◌, ℕ, IsTrue, List, Option}
+use Rattle.std.specs.Prelude.{◌≡◌, ⊤, ℕ, IsTrue, List, Option, Some, IsSome}
+use Rattle.std.specs.FinMap as map
 use Rattle.std.specs.List.{list_all}
 use Rattle.sfv_text.specs.Classes.{is_byte}
 use Rattle.component_ids.specs.declared.id.ComponentId.{ComponentId}
 use Rattle.component_values.specs.Context.{MessageContext}
 use Rattle.component_values.specs.Values.{HaveValues}
+use Rattle.msg_body.specs.Messages.{Message}
 use Rattle.conf.specs.Configuration.{Configuration}
+use Rattle.settings.specs.Valid.{IsValid}
+use Rattle.settings.specs.declared.sign_conf.SignConf.{SignConf}
 use Rattle.commands.specs.declared.message.Reading.{Reading}
+use Rattle.commands.specs.declared.tables.Needs.{Needs}
 use Rattle.commands.specs.Base.{AreParamsRefused, IsValueLacking}
 use Rattle.commands.specs.Configured.{IsConfigured, IsConfRefused}
 use Rattle.commands.specs.Covered.{ReadsParams}
 use Rattle.commands.specs.Layers.{IsDecisive, HasAnswer}
 use Rattle.commands.specs.Messages.{IsInputMessage, IsInputRefused}
-use Rattle.commands.specs.Requests.{IsRequested, IsRequestRefused, IsOfBytes}
+use Rattle.commands.specs.MessageFiles.{IsRequested, IsRequestRefused, IsWanted, IsWantedRefused, IsOfBytes}
+use Rattle.commands.specs.Sign.{ReportsSigning}
+use Rattle.commands.specs.Tables.{HasTables, IsTableMissing}
 use Rattle.commands.specs.Verify.{ReportsVerdicts}
 use Rattle.commands.specs.declared.outcome.Outcome.{Outcome}
 
@@ -21,11 +28,23 @@ abbrev pub IsConfigurationDecided : Type 0
 IsConfigurationDecided =
     (name found : Option (List ℕ)) → IsDecisive (IsConfigured name found) (IsConfRefused name found)
 
+-- a configuration has what is needed, or is refused for at most one cause
+abbrev pub AreTablesDecided : Type 0
+AreTablesDecided =
+    (needs : Needs) (conf : Configuration)
+    → IsDecisive (λ (_ : ⊤). HasTables needs conf) (IsTableMissing needs conf)
+
 -- what was found under a name is at most one request, or is refused for at most one cause
 abbrev pub IsRequestDecided : Type 0
 IsRequestDecided =
     (name found : Option (List ℕ))
     → IsDecisive (IsRequested name found) (IsRequestRefused name found)
+
+-- what was found under a name is at most one message that wishes signatures, or is refused for at
+-- most one cause
+abbrev pub IsWantedDecided : Type 0
+IsWantedDecided =
+    (name found : Option (List ℕ)) → IsDecisive (IsWanted name found) (IsWantedRefused name found)
 
 -- an input is at most one message, read in this way, or is refused for at most one cause
 abbrev pub IsInputDecided : Type 0
@@ -50,6 +69,15 @@ HaveOneOutcome =
     (one other : Outcome) → ReportsVerdicts label moment conf context one
     → ReportsVerdicts label moment conf context other → one ≡ other
 
+-- a nonce or none, a moment, a configuration that says what is signed, wishes or none, and a
+-- context have at most one outcome
+abbrev pub HasOneSigning : Type 0
+HasOneSigning =
+    (nonce : Option (List ℕ)) (moment : ℕ) (conf : Configuration) (wishes : Option Message)
+    (context : MessageContext) (one other : Outcome) → IsSome conf.sign
+    → ReportsSigning nonce moment conf wishes context one
+    → ReportsSigning nonce moment conf wishes context other → one ≡ other
+
 -- ---- each has an answer
 
 -- what was found under a name is a configuration, or there is a cause to refuse it
@@ -57,11 +85,24 @@ abbrev pub HasConfiguration : Type 0
 HasConfiguration =
     (name found : Option (List ℕ)) → HasAnswer (IsConfigured name found) (IsConfRefused name found)
 
+-- a configuration has what is needed, or there is a cause to refuse it
+abbrev pub HaveTables : Type 0
+HaveTables =
+    (needs : Needs) (conf : Configuration)
+    → HasAnswer (λ (_ : ⊤). HasTables needs conf) (IsTableMissing needs conf)
+
 -- what was found under a name, and is of bytes, is a request, or there is a cause to refuse it
 abbrev pub HasRequest : Type 0
 HasRequest =
     (name found : Option (List ℕ)) → IsOfBytes found
     → HasAnswer (IsRequested name found) (IsRequestRefused name found)
+
+-- what was found under a name, and is of bytes, is a message that wishes signatures, or there is a
+-- cause to refuse it
+abbrev pub HasWanted : Type 0
+HasWanted =
+    (name found : Option (List ℕ)) → IsOfBytes found
+    → HasAnswer (IsWanted name found) (IsWantedRefused name found)
 
 -- an input of bytes is a message, read in this way, or there is a cause to refuse it
 abbrev pub HasMessage : Type 0
@@ -84,3 +125,18 @@ abbrev pub HaveSomeOutcome : Type 0
 HaveSomeOutcome =
     (label : Option (List ℕ)) (moment : ℕ) (conf : Configuration) (context : MessageContext)
     → (outcome : Outcome) × ReportsVerdicts label moment conf context outcome
+
+-- a nonce or none, a moment, a configuration that says what is signed and by which key, wishes or
+-- none, and a context have an outcome
+abbrev pub HasSomeSigning : Type 0
+HasSomeSigning =
+    (nonce : Option (List ℕ)) (moment : ℕ) (conf : Configuration) (wishes : Option Message)
+    (context : MessageContext) (sign : SignConf) → conf.sign ≡ Some sign
+    → IsSome (map.get conf.keys sign.keyid)
+    → (outcome : Outcome) × ReportsSigning nonce moment conf wishes context outcome
+
+-- a configuration that was found is a valid one
+abbrev pub IsValidWhereConfigured : Type 0
+IsValidWhereConfigured =
+    (name found : Option (List ℕ)) (conf : Configuration)
+    → IsConfigured name found conf → IsValid conf

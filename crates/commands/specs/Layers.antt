@@ -14,6 +14,19 @@ ReadsThen {V} {C} Reads Causes refusal_of Then outcome =
     ((value : V) × Reads value × Then value outcome)
     ⊎ ((cause : C) × Causes cause × (outcome ≡ Refused (refusal_of cause)))
 
+-- the value is made, and there is no cause to refuse it
+pub record IsUnrefused {V C : Type 0} (Makes : V → Type 0) (Causes : C → Type 0) (value : V)
+    : Type 0 where
+  pub made : Makes value
+  pub none : (cause : C) → ¬ Causes cause
+
+-- a value is made where there is no cause to refuse it, and the outcome is one that comes after it;
+-- or there is a cause, and the outcome is its refusal
+abbrev pub MakesThen : {V C : Type 0} → (V → Type 0) → (C → Type 0) → (C → Refusal)
+    → (V → Outcome → Type 0) → Outcome → Type 0
+MakesThen Makes Causes refusal_of Then =
+    ReadsThen (IsUnrefused Makes Causes) Causes refusal_of Then
+
 -- what is read is at most one value, it is refused for at most one cause, and there aren't both
 pub record IsDecisive {V C : Type 0} (Reads : V → Type 0) (Causes : C → Type 0) : Type 0 where
   pub value : (v w : V) → Reads v → Reads w → v ≡ w

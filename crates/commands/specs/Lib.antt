@@ -6,9 +6,12 @@ pub mod Files
 pub mod Help
 pub mod Laws
 pub mod Layers
+pub mod MessageFiles
 pub mod Messages
 pub mod Outcome
-pub mod Requests
+pub mod Sign
+pub mod SignedMessages
 pub mod Stops
+pub mod Tables
 pub mod Verify
 pub mod tools

@@ -1,9 +1,8 @@
 -- Texts that are one whole message, and why others aren't (RFC 9112 sections 2.1 and 6.3).
-use Rattle.std.specs.Prelude.{◌≡◌, ◌<◌, ◌≤◌, ℕ, Bool, false, IsTrue, List, length, codes, Option, Some, None}
+use Rattle.std.specs.Prelude.{◌≡◌, ◌<◌, ◌≤◌, ℕ, false, IsTrue, List, length, Option, Some, None}
 use Rattle.std.specs.List.{list_all}
-use Rattle.std.specs.Str.{bytes_eq}
 use Rattle.sfv_text.specs.Classes.{is_byte}
-use Rattle.msg_head.specs.Starts.{StartLine, request, status}
+use Rattle.framing.specs.Framings.{is_head_request}
 use Rattle.msg_body.specs.Causes.{IsMessageError, IsMessageUnfinished}
 use Rattle.msg_body.specs.Messages.{Message, Spells, SpellsMessage, is_expected}
 use Rattle.msg_body.specs.declared.error.MessageFault.{MessageFault}
@@ -22,17 +21,12 @@ any_message = record { expect = Any; to_head = false }
 abbrev pub one_request : Reading
 one_request = record { expect = Request; to_head = false }
 
--- it is a request line whose method is HEAD (RFC 9110 section 9.3.2)
-abbrev pub is_head : StartLine → Bool
-is_head (request line) = bytes_eq line.method (codes "HEAD")
-is_head (status line) = false
-
 -- A response to the request, which has no content where the request's method is HEAD (RFC 9112
 -- section 6.3); and a message of either kind where no request is known.
 abbrev pub reading_for : Option Message → Reading
 reading_for None = any_message
 reading_for (Some answered) =
-    record { expect = Response; to_head = is_head answered.head.start }
+    record { expect = Response; to_head = is_head_request answered.head.start }
 
 -- a message of so many bytes, and further bytes
 pub record GoesOn (reading : Reading) (input : List ℕ) (offset : ℕ) : Type 0 where

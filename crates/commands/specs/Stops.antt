@@ -15,12 +15,14 @@ use Rattle.msg_body.specs.declared.error.MessageFault.{MessageFault}
 use Rattle.msg_body.specs.declared.error.MessageFault.TheVariants as fault
 use Rattle.conf.specs.declared.fault.ConfFault.{ConfFault}
 use Rattle.conf.specs.declared.fault.ConfFault.TheVariants as conf
+use Rattle.signing.specs.declared.fault.WantFault.{WantFault}
+use Rattle.signing.specs.declared.fault.WantFault.TheVariants as want
 use Rattle.refusals.specs.declared.file.FileRefusal.TheVariants.{Missing, TooLong, Message as NoMessage, Conf as NoConf}
 use Rattle.refusals.specs.declared.role.Role.{Role}
 use Rattle.refusals.specs.declared.role.Role.TheVariants as role
 use Rattle.refusals.specs.declared.refusal.Refusal.{Refusal}
 use Rattle.refusals.specs.declared.refusal.Refusal.TheVariants.{Of, Command}
-use Rattle.refusals.specs.declared.refusal.CommandRefusal.TheVariants.{Syntax, ItemKind, Ids}
+use Rattle.refusals.specs.declared.refusal.CommandRefusal.TheVariants.{Syntax, ItemKind, Ids, Wishes}
 use Rattle.commands.specs.declared.outcome.Outcome.{Outcome}
 use Rattle.commands.specs.declared.outcome.Outcome.TheVariants.{Refused as IsRefused}
 use Rattle.commands.specs.declared.stop.Stop.{Stop}
@@ -65,6 +67,11 @@ stop_of_file role limit NoFile = Refused (Of role Missing)
 abbrev pub stop_of_conf : ConfFault → Stop
 stop_of_conf conf.Memory = Memory
 stop_of_conf fault = Refused (Of role.Conf (NoConf fault))
+
+-- how a fault of the wishes for signatures ends a run: the command is refused, or memory ran out
+abbrev pub stop_of_want : WantFault → Stop
+stop_of_want want.Memory = Memory
+stop_of_want fault = Refused (Command (Wishes fault))
 
 -- what ends the run is a refusal of which this holds, or another reason
 abbrev pub IfStopped : Stop → (Refusal → Type 0) → Type 0

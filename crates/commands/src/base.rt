@@ -20,7 +20,7 @@ use sig_base::base_bytes;
 use std::alloc::Global;
 
 /// What stops a run over components that aren't prepared.
-fn stop_for_fault(alloc: Global, ids: &[ComponentId], fault: ValueFault) -> Stop
+pub(crate) fn stop_for_fault(alloc: Global, ids: &[ComponentId], fault: ValueFault) -> Stop
     requires in_range { IsTrue (list_all is_id_in_range ids.now) }
     requires there { HasIndexBelow (length ids.now) fault }
     ensures { SaysFault ids.now fault result }

@@ -27,6 +27,12 @@ hms: HTTP Message Signatures (RFC 9421) of recorded HTTP/1.1 messages
 
       hms base '(\"@method\" \"date\");created=1618884473' < signed.http
 
+  hms sign --conf FILE --now SECONDS [--nonce NONCE | --wanted WISHES] [--request REQ] < MESSAGE
+      The message with the signature that FILE asks for, or with those that
+      `Accept-Signature` in WISHES, the file of a message, asks for.
+
+      hms sign --conf conf.toml --now \"$(date +%s)\" < request.http
+
   With --request the message is a response, and REQ is the file of the request
   that it answers, from which components with `req` are drawn.
 
@@ -39,7 +45,7 @@ goes to standard output.
   0  done, and each line is `ok`      5  a write failed
   1  not every line is `ok`           6  out of memory
   2  the arguments are no command     7  the configuration isn't accepted
-  3  the input or PARAMS are refused  8  a limit is passed
+  3  the input or the command refused 8  a limit is passed
   4  a read failed                    9  a named file is missing
 
 The manual is docs/MANUAL.md.

@@ -1,12 +1,13 @@
 //! The commands of `hms` over a configuration and a message: the signature base that `base` writes
-//! (RFC 9421 section 2.5), and the verdicts that `verify` writes (section 3.2). Before them come
-//! the configuration, in a file or none, the request that the input answers, in a file or none, the
-//! input, which is to be one whole message, and the context that all give.
+//! (RFC 9421 section 2.5), the verdicts that `verify` writes (section 3.2), and the signed message
+//! that `sign` writes (sections 3.1 and 5.1). Before them come the configuration, the request that
+//! the input answers, and the message that wishes signatures, each in a file or none; the input,
+//! which is to be one whole message; and the context that all give.
 //!
 //! ```text
 //! let conf = read_configuration(alloc, Some("hms.toml"), &mut shelf)?;
-//! let text = take_request(alloc, Some("request.http"), &mut shelf)?;
-//! let request = read_request(alloc, text.as_ref())?;
+//! let text = take_message(alloc, Role::Request, Some("request.http"), &mut shelf)?;
+//! let request = read_taken(alloc, Role::Request, Reading::of_request(), text.as_ref())?;
 //! let reading = Reading::of_input(request.as_ref());
 //! let message = read_input(alloc, reading, Role::Input, input)?;
 //! let context = context_for(&conf, &message, request.as_ref());
@@ -23,18 +24,25 @@ mod covered;
 mod help;
 mod laws;
 mod message;
+mod message_file;
 mod outcome;
-mod request;
+mod sign;
 mod stop;
+mod tables;
 mod verify;
 
 pub use base::write_base;
 pub use configured::read_configuration;
 pub use context::context_for;
 pub use help::{HELP_TEXT, VERSION_TEXT, write_help, write_version};
-pub use laws::{each_layer_has_an_answer, each_layer_is_decided, verdicts_have_one_outcome};
+pub use laws::{
+    each_layer_has_an_answer, each_layer_is_decided, signing_has_one_outcome,
+    verdicts_have_one_outcome, what_is_signed_is_rightly_signed,
+};
 pub use message::{Reading, read_input};
+pub use message_file::{read_taken, take_message};
 pub use outcome::Outcome;
-pub use request::{read_request, take_request};
+pub use sign::{write_signed, write_wished};
 pub use stop::Stop;
+pub use tables::{Needs, check_tables};
 pub use verify::write_verdicts;

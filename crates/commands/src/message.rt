@@ -1,17 +1,16 @@
 //! Texts that are to be one whole message: the input, or a file.
 
 ghost use Rattle.std.specs.Prelude.{◌≡◌, ◌≤◌, length, option_map, IfOk, IfErr};
-ghost use Rattle.msg_head.specs.Views.{start_line_of};
 ghost use Rattle.msg_body.specs.Views.{message_of};
 ghost use Rattle.refusals.specs.declared.refusal.TheConstants.{MAX_INPUT_BYTES};
-ghost use Rattle.commands.specs.Messages.{IsInputMessage, IsInputRefused, is_head, reading_for};
+ghost use Rattle.commands.specs.Messages.{IsInputMessage, IsInputRefused, any_message, one_request, reading_for};
 ghost use Rattle.refusals.specs.declared.refusal.Refusal.TheVariants.{Of};
 ghost use Rattle.commands.specs.Stops.{IfRefused, IsRefusalFor, stop_for};
 
 use crate::stop::Stop;
+use framing::is_head_request;
 use msg_body::{Expect, MessageFault, MessageRead, MessageView, read_message};
-use msg_head::Start;
-use refusals::{FileRefusal, Refusal, Role};
+use refusals::{FileRefusal, Role};
 use std::alloc::Global;
 
 /// How a text is read as a message.
@@ -23,40 +22,47 @@ pub struct Reading {
     pub to_head: bool,
 }
 
-/// Whether it is a request line whose method is HEAD (RFC 9110 section 9.3.2).
-fn is_head(start: Start<'_>) -> bool
-    ensures { result ≡ is_head (start_line_of start.entry) }
-{
-    match start {
-        Start::Request { method, .. } => method == b"HEAD".as_slice(),
-        Start::Status { .. } => false,
-    }
-}
-
 impl Reading {
+    /// How a request is read.
+    pub fn of_request() -> Reading
+        ensures { result ≡ one_request }
+    {
+        Reading {
+            expect: Expect::Request,
+            to_head: false,
+        }
+    }
+
+    /// How a message of either kind is read, where no request is known that it answers.
+    pub fn of_any() -> Reading
+        ensures { result ≡ any_message }
+    {
+        Reading {
+            expect: Expect::Any,
+            to_head: false,
+        }
+    }
+
     /// How an input is read that has to be a response to this request, or, where none is known, a
     /// message of either kind.
     pub fn of_input(related: Option<&MessageView<'_>>) -> Reading
         ensures { result ≡ reading_for (option_map (λ view. message_of view.now) related.entry) }
     {
         match related {
-            None => Reading {
-                expect: Expect::Any,
-                to_head: false,
-            },
+            None => Reading::of_any(),
             Some(request) => Reading {
                 expect: Expect::Response,
-                to_head: is_head(request.start()),
+                to_head: is_head_request(request.start()),
             },
         }
     }
 }
 
-/// A refusal of the text of this role for this fault.
+/// The refusal of the text of this role for this fault.
 fn stop_for(role: Role, fault: MessageFault) -> Stop
     ensures { result ≡ stop_for role fault }
 {
-    Stop::Refused(Refusal::Of(role, FileRefusal::Message(fault)))
+    Stop::of_text(role, FileRefusal::Message(fault))
 }
 
 /// Reads the text of this role as one whole message.

@@ -1,6 +1,8 @@
 //! What ends a run before it is done.
 
 ghost use Rattle.std.specs.Prelude.{◌≡◌};
+ghost use Rattle.refusals.specs.declared.refusal.Refusal.TheVariants.{Of};
+ghost use Rattle.commands.specs.declared.stop.Stop.TheVariants.{Refused};
 ghost use Rattle.commands.specs.Stops.{stop_of_fill, stop_of_file, stop_of_message};
 
 use component_ids::IdFault;
@@ -10,6 +12,7 @@ use msg_body::{MessageError, MessageFault};
 use refusals::{CommandRefusal, FileRefusal, Refusal, Role};
 use sfv_read::SfError;
 use sfv_text::Memory;
+use signing::WantFault;
 
 /// What ends a run before it is done.
 #[derive(Debug, Drop)]
@@ -23,6 +26,13 @@ pub enum Stop {
 }
 
 impl Stop {
+    /// The refusal of the text of this role.
+    pub(crate) fn of_text(role: Role, refusal: FileRefusal) -> Stop
+        ensures { result ≡ Refused (Of role refusal) }
+    {
+        Stop::Refused(Refusal::Of(role, refusal))
+    }
+
     /// What keeps the input from being read whole, of which this is the limit.
     pub fn of_fill(limit: usize, error: FillError) -> Stop
         ensures { result ≡ stop_of_fill limit error }
@@ -30,9 +40,7 @@ impl Stop {
         match error {
             FillError::Memory => Stop::Memory,
             FillError::Failed => Stop::ReadFault,
-            FillError::TooLong => {
-                Stop::Refused(Refusal::Of(Role::Input, FileRefusal::TooLong(limit)))
-            }
+            FillError::TooLong => Stop::of_text(Role::Input, FileRefusal::TooLong(limit)),
         }
     }
 
@@ -43,8 +51,8 @@ impl Stop {
         match error {
             FileError::Memory => Stop::Memory,
             FileError::Failed => Stop::ReadFault,
-            FileError::TooLong => Stop::Refused(Refusal::Of(role, FileRefusal::TooLong(limit))),
-            FileError::Missing => Stop::Refused(Refusal::Of(role, FileRefusal::Missing)),
+            FileError::TooLong => Stop::of_text(role, FileRefusal::TooLong(limit)),
+            FileError::Missing => Stop::of_text(role, FileRefusal::Missing),
         }
     }
 
@@ -54,10 +62,7 @@ impl Stop {
     {
         match error {
             MessageError::Memory => Stop::Memory,
-            _ => {
-                let fault = MessageFault::Refused(error);
-                Stop::Refused(Refusal::Of(role, FileRefusal::Message(fault)))
-            }
+            _ => Stop::of_text(role, FileRefusal::Message(MessageFault::Refused(error))),
         }
     }
 }
@@ -117,7 +122,22 @@ impl From<ConfFault> for Stop {
     fn from(fault: ConfFault) -> Stop {
         match fault {
             ConfFault::Memory => Stop::Memory,
-            _ => Stop::Refused(Refusal::Of(Role::Conf, FileRefusal::Conf(fault))),
+            _ => Stop::of_text(Role::Conf, FileRefusal::Conf(fault)),
+        }
+    }
+}
+
+/// A fault of the wishes for signatures.
+impl From<WantFault> for Stop {
+    ghost use Rattle.std.specs.Prelude.{◌≡◌};
+    ghost use Rattle.commands.specs.Stops.{stop_of_want};
+
+    ghost from_gives = { λ fault stop. stop ≡ stop_of_want fault };
+
+    fn from(fault: WantFault) -> Stop {
+        match fault {
+            WantFault::Memory => Stop::Memory,
+            _ => Stop::Refused(Refusal::Command(CommandRefusal::Wishes(fault))),
         }
     }
 }

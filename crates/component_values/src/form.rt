@@ -8,7 +8,7 @@ use component_ids::has_param;
 use sfv_text::Params;
 
 /// The form of a field's value that parameters ask for (RFC 9421 section 2.1).
-#[derive(Clone, Copy, Debug)]
+#[derive(Clone, Copy)]
 pub(crate) enum Form<'a> {
     /// `bs`: each line by itself as a Byte Sequence (section 2.1.3).
     ByteSequences,

@@ -1,19 +1,24 @@
 -- A document that was judged and read is a valid configuration.
-use Rattle.std.proofs.Common.{◌≡◌, ℕ, pos, Option, Some, None, IsTrue, codes, refl, sym, ◌∙◌, arith}
+use Rattle.std.proofs.Common.{◌≡◌, ℕ, pos, Option, Some, None, IsTrue, List, codes, refl, sym, subst, ◌∙◌, arith}
 use Rattle.std.specs.Prelude.{option_and_then}
 use Rattle.std.specs.FinMap as map
 use Rattle.std.specs.Option.{ForSome}
 use Rattle.std.proofs.lemmas.Bool.Decides.{nat_tests}
 use Rattle.component_ids.specs.Types.{KindMap}
+use Rattle.component_ids.specs.declared.id.ComponentId.{ComponentId}
 use Rattle.component_ids.specs.declared.scheme.Scheme.{Scheme}
+use Rattle.component_ids.specs.SignatureParams.{list_of}
+use Rattle.sfv_read.proofs.InRange.{inner_read_in_range}
 use Rattle.toml.specs.Data.{Data, Members, string, integer, table, as_str, get_member}
 use Rattle.settings.specs.declared.sign_conf.SignConf.{SignConf}
 use Rattle.conf.specs.declared.table.TableName.TheVariants.{Sign}
 use Rattle.conf.specs.declared.table.ValueRule.TheVariants as rule
 use Rattle.settings.specs.Keys.{KeyMap}
-use Rattle.conf.specs.Sections.{HasSign, IsSignConf, seconds_of}
+use Rattle.conf.specs.Sections.{AreComponents, HasSign, IsSignConf, seconds_of}
 use Rattle.settings.specs.Configuration.{Configuration}
+use Rattle.settings.specs.Covered.{params_of}
 use Rattle.conf.specs.Meaning.{AreKeys, IsConfiguration}
+use Rattle.conf.specs.Laws.{IsValidWhereRead}
 use Rattle.conf.specs.Rows.{fails}
 use Rattle.settings.specs.ValidSections.{AreValidComponents, AreValidSeconds}
 use Rattle.settings.specs.Valid.{IsValid, IsValidSign}
@@ -21,6 +26,8 @@ use Rattle.conf.specs.Values.{is_allowed}
 use Rattle.conf.specs.tools.Judged.{IsJudged}
 use Rattle.conf.specs.declared.sections.Sections.{Sections}
 use Rattle.conf.specs.tools.SectionReads.{AreSections, value_of}
+use Rattle.settings.proofs.Covers.{in_range_of}
+use Rattle.settings.proofs.StandardLaws.{none_valid}
 use Rattle.conf.proofs.KeyTextLaws.{keys_of_document, key_is_there, valid_keyids, valid_keys}
 use Rattle.conf.proofs.PolicyLaws.{valid_policy, valid_tag}
 use Rattle.conf.proofs.RowFacts.{passes, seconds_allowed, keyid_allowed, label_allowed, tag_allowed}
@@ -76,3 +83,36 @@ is_valid document judged scheme keys types sections are say = record {
 -- what a document says of a configuration it says of an equal one
 pub same_says : (document : Members) (conf other : Configuration) → conf ≡ other → IsConfiguration document other → IsConfiguration document conf
 same_says document conf other same says = rw same says
+
+-- ---- a text that is a configuration
+
+valid_components : (value : Option Data) (ids : List ComponentId) → AreComponents value ids → AreValidComponents ids
+valid_components None ids are = rw are none_valid
+valid_components (Some (string text)) ids are =
+    record { components = are.components; in_range = in_range_of ids (inner_read_in_range text (list_of (params_of ids)) are.reads) }
+valid_components (Some value) ids are = absurd are
+
+-- the components of the table `sign`, where there is one
+valid_signed : (value : Option Data) (o : Option SignConf) → HasSign value o
+    → ForSome o (λ s. AreValidComponents s.components_request) × ForSome o (λ s. AreValidComponents s.components_response)
+valid_signed value None has = (λ s there. absurd (cc there), λ s there. absurd (cc there))
+valid_signed value (Some sign) has =
+    let says = (table_of value sign has).2 in
+    let one : (s : SignConf) → Some sign ≡ Some s → sign ≡ s = λ s there. cc in (
+      λ s there. subst (λ (t : SignConf). AreValidComponents t.components_request) (one s there) (valid_components _ sign.components_request says.components_request),
+      λ s there. subst (λ (t : SignConf). AreValidComponents t.components_response) (one s there) (valid_components _ sign.components_response says.components_response),
+    )
+
+pub valid_where_read : IsValidWhereRead
+valid_where_read text conf configures =
+    let document = configures.0 in
+    let says = configures.2 in
+    let judged : IsJudged document = record { known = says.known; typed = says.typed; allowed = says.allowed } in
+    let signed = valid_signed (get_member (codes "sign") document) conf.sign says.sign in
+    record {
+      keyids = valid_keyids document judged conf.keys says.keys;
+      keys = valid_keys document conf.keys says.keys;
+      policy = valid_policy document conf.policy judged says.policy (valid_components _ conf.policy.require_request says.policy.require_request)
+          (valid_components _ conf.policy.require_response says.policy.require_response);
+      sign = valid_signs document judged conf.keys says.keys conf.sign says.sign signed.0 signed.1;
+    }

@@ -1,5 +1,5 @@
 -- The configuration of the empty text.
-use Rattle.std.proofs.Common.{◌≡◌, ℕ, Bool, List, [], Some, None, option_map, IsTrue, refl, sym, ap, ◌∙◌}
+use Rattle.std.proofs.Common.{◌≡◌, Bool, [], None, option_map, IsTrue, refl, sym, ap}
 use Rattle.std.specs.FinMap as map
 use Rattle.std.specs.List.{find}
 use Rattle.std.specs.Ordering.{nat_cmp}

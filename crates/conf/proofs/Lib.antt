@@ -10,7 +10,7 @@ mod PolicyLaws
 mod KeyTextLaws
 mod StandardNames
 mod TypeLaws
-mod ConfLaws
+pub mod ConfLaws
 pub mod CauseLaws
 pub mod MeaningLaws
 mod ReadLaws

@@ -1,5 +1,5 @@
 -- Lists of covered components that a document tells.
-use Rattle.std.proofs.Common.{◌≡◌, Option, Some, None, List, [], IsTrue, ℕ, refl, sym, ap, ◌∙◌, arith}
+use Rattle.std.proofs.Common.{◌≡◌, Option, Some, None, List, IsTrue, ℕ, refl, sym, ap, ◌∙◌}
 use Rattle.sfv_read.proofs.Readings.{inner_has_one_value}
 use Rattle.component_ids.specs.declared.id.ComponentId.{ComponentId}
 use Rattle.component_ids.specs.declared.params.SigParams.{SigParams}

@@ -3,6 +3,7 @@ use Rattle.std.specs.Prelude.{◌≡◌, ◌⊎◌, ℕ, List, []}
 use Rattle.conf.specs.declared.fault.ConfFault.{ConfFault}
 use Rattle.settings.specs.Configuration.{Configuration}
 use Rattle.settings.specs.Standard.{standard_configuration}
+use Rattle.settings.specs.Valid.{IsValid}
 use Rattle.conf.specs.Meaning.{Configures}
 use Rattle.conf.specs.Refusals.{IsConfFault}
 
@@ -34,3 +35,7 @@ HasNoFaultWhereRead =
 -- the empty text says the configuration where nothing is said
 abbrev pub IsStandardOfEmpty : Type 0
 IsStandardOfEmpty = Configures [] standard_configuration
+
+-- a text that is a configuration is one that holds in every part
+abbrev pub IsValidWhereRead : Type 0
+IsValidWhereRead = (text : List ℕ) (conf : Configuration) → Configures text conf → IsValid conf

@@ -1,5 +1,5 @@
 -- The values that the keys of a configuration take.
-use Rattle.std.specs.Prelude.{◌≡◌, ◌+◌, ◌*◌, ℕ, ℤ, pos, negsuc, Bool, true, false, ◌&&◌, nat_le, nat_lt, Option, Some, None, is_some, List, [], ◌∷◌, codes, if◌then◌else◌}
+use Rattle.std.specs.Prelude.{◌≡◌, ◌+◌, ◌*◌, ℕ, ℤ, pos, negsuc, Bool, true, false, ◌&&◌, nat_le, nat_lt, Option, Some, is_some, List, codes, if◌then◌else◌}
 use Rattle.std.specs.List.{list_all}
 use Rattle.std.specs.Str.{bytes_eq}
 use Rattle.base64.specs.Engines.{standard}

@@ -29,7 +29,9 @@ mod table;
 mod values;
 
 pub use fault::ConfFault;
-pub use laws::{a_text_is_one_configuration, the_empty_text_is_a_configuration};
+pub use laws::{
+    a_configuration_is_valid, a_text_is_one_configuration, the_empty_text_is_a_configuration,
+};
 pub use read::{empty_conf, read_conf};
 pub use settings::{
     Conf, DigestUse, MAX_AGE, MAX_ENTRIES, MAX_EXPIRES_AFTER, MAX_KEY_BYTES, MAX_KEYID_BYTES,

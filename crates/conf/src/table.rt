@@ -7,7 +7,7 @@ ghost use Rattle.conf.specs.Table.{is_table_key, is_same_place, place_path};
 ghost use Rattle.conf.specs.tools.TableRows.{is_key_at, row_of};
 
 /// A table whose keys are fixed.
-#[derive(Clone, Copy, Debug)]
+#[derive(Clone, Copy)]
 pub(crate) enum TableName {
     /// The document itself.
     Top,
@@ -18,7 +18,7 @@ pub(crate) enum TableName {
 }
 
 /// What is asked of a key's value.
-#[derive(Clone, Copy, Debug)]
+#[derive(Clone, Copy)]
 pub(crate) enum ValueRule {
     /// The integer 1.
     Version,
@@ -59,7 +59,7 @@ pub(crate) enum ValueRule {
 }
 
 /// A key.
-#[derive(Clone, Copy, Debug)]
+#[derive(Clone, Copy)]
 pub(crate) struct Row {
     /// Its path in faults.
     pub(crate) path: &'static str,

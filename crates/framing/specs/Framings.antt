@@ -19,6 +19,11 @@ abbrev pub is_request : StartLine → Bool
 is_request (request line) = true
 is_request (status line) = false
 
+-- it is a request line whose method is HEAD (RFC 9110 section 9.3.2)
+abbrev pub is_head_request : StartLine → Bool
+is_head_request (request line) = bytes_eq line.method (codes "HEAD")
+is_head_request (status line) = false
+
 -- the version that the start line has (RFC 9112 section 2.3)
 abbrev pub version_of : StartLine → List ℕ
 version_of (request line) = line.version

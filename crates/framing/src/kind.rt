@@ -2,7 +2,7 @@
 
 ghost use Rattle.std.specs.Prelude.{◌≡◌};
 ghost use Rattle.msg_head.specs.Views.{start_line_of};
-ghost use Rattle.framing.specs.Framings.{is_request, version_of, has_no_content, is_code_without_content};
+ghost use Rattle.framing.specs.Framings.{is_request, is_head_request, version_of, has_no_content, is_code_without_content};
 
 use byte_grammar::{Byte, starts_with};
 use msg_head::Start;
@@ -26,6 +26,16 @@ pub fn is_request(start: Start<'_>) -> bool
 {
     match start {
         Start::Request { .. } => true,
+        Start::Status { .. } => false,
+    }
+}
+
+/// Whether the start line is a request line whose method is HEAD (RFC 9110 section 9.3.2).
+pub fn is_head_request(start: Start<'_>) -> bool
+    ensures { result ≡ is_head_request (start_line_of start.entry) }
+{
+    match start {
+        Start::Request { method, .. } => method == b"HEAD".as_slice(),
         Start::Status { .. } => false,
     }
 }

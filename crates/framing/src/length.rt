@@ -12,7 +12,7 @@ use crate::named::NamedLines;
 use msg_head::LineView;
 
 // Digits that were read.
-#[derive(Clone, Copy, Debug)]
+#[derive(Clone, Copy)]
 struct Digits {
     count: usize,
     // The number that they spell.

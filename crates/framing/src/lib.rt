@@ -24,7 +24,7 @@ mod named;
 mod read;
 
 pub use error::FramingError;
-pub use kind::{Framing, is_request};
+pub use kind::{Framing, is_head_request, is_request};
 pub use laws::framing_laws;
 pub use limits::MAX_LENGTH_DIGITS;
 pub use read::{Framed, read_framing};

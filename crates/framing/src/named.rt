@@ -8,7 +8,7 @@ ghost use Rattle.framing.specs.tools.NamedLines.{HaveValues, are_named};
 use msg_head::{HeadView, LineView, NamedFieldLines};
 
 /// The field lines of a head that have a name.
-#[derive(Clone, Copy, Debug)]
+#[derive(Clone, Copy)]
 pub(crate) enum NamedLines<'m> {
     /// There is none.
     None,

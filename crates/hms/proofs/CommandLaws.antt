@@ -3,14 +3,18 @@ use Rattle.commands.proofs.Answered as answered
 use Rattle.commands.proofs.Decided as decided
 use Rattle.commands.proofs.DecidedConf as configured
 use Rattle.commands.proofs.OneOutcome as verdicts
-use Rattle.commands.proofs.TakenRequests as requests
-use Rattle.commands.specs.Laws.{IsConfigurationDecided, IsRequestDecided, IsInputDecided, AreParamsDecided, AreValuesDecided, HaveOneOutcome, HasConfiguration, HasRequest, HasMessage, HaveParams, HaveValuesOrLack, HaveSomeOutcome}
+use Rattle.commands.proofs.NeededTables as tables
+use Rattle.commands.proofs.OneSigning as signing
+use Rattle.commands.proofs.SignedMessages as signed
+use Rattle.commands.proofs.TakenFiles as files
+use Rattle.commands.specs.Laws.{IsConfigurationDecided, AreTablesDecided, IsRequestDecided, IsWantedDecided, IsInputDecided, AreParamsDecided, AreValuesDecided, HaveOneOutcome, HasConfiguration, HaveTables, HasRequest, HasWanted, HasMessage, HaveParams, HaveValuesOrLack, HaveSomeOutcome, HasOneSigning, HasSomeSigning, IsValidWhereConfigured}
+use Rattle.commands.specs.SignedMessages.{IsMessageWhereSigned, IsRightWhereSigned}
 
 pub conf_decided : IsConfigurationDecided
 conf_decided = configured.conf_decided
 
 pub request_decided : IsRequestDecided
-request_decided = requests.request_decided
+request_decided = files.request_decided
 
 pub input_decided : IsInputDecided
 input_decided = decided.input_decided
@@ -28,7 +32,7 @@ pub conf_answer : HasConfiguration
 conf_answer = answered.has_configuration
 
 pub request_answer : HasRequest
-request_answer = requests.has_request
+request_answer = files.has_request
 
 pub input_answer : HasMessage
 input_answer = answered.has_message
@@ -41,3 +45,30 @@ values_answer = answered.have_values_or_lack
 
 pub verdicts_answer : HaveSomeOutcome
 verdicts_answer = answered.have_some_outcome
+
+pub tables_decided : AreTablesDecided
+tables_decided = tables.tables_decided
+
+pub wanted_decided : IsWantedDecided
+wanted_decided = files.wanted_decided
+
+pub signing_law : HasOneSigning
+signing_law = signing.one_signing
+
+pub tables_answer : HaveTables
+tables_answer = tables.have_tables
+
+pub wanted_answer : HasWanted
+wanted_answer = files.has_wanted
+
+pub signing_answer : HasSomeSigning
+signing_answer = signing.has_some_signing
+
+pub valid_where_configured : IsValidWhereConfigured
+valid_where_configured = signing.is_valid_where_configured
+
+pub message_where_signed : IsMessageWhereSigned
+message_where_signed = signed.message_where_signed
+
+pub right_where_signed : IsRightWhereSigned
+right_where_signed = signed.right_where_signed

@@ -4,3 +4,4 @@ pub mod OneReport
 pub mod Reports
 pub mod SomeReport
 pub mod Sources
+mod SignedInputs

@@ -1,6 +1,7 @@
 -- The outcome of arguments, files and an input.
 use Rattle.std.proofs.Common.{◌≡◌, ◌+◌, ◌≤◌, inl, inr, ℕ, Bool, true, false, List, [], Option, Some, None, Result, Err, refl, sym, ap, subst, ◌∙◌, arith}
-use Rattle.std.specs.Prelude.{IfSome, IfNone, option_map}
+use Rattle.std.specs.Prelude.{IfSome, IfNone, option_map, length}
+use Rattle.std.proofs.lemmas.Bool.{false≢true}
 use Rattle.std.specs.FinMap as map
 use Rattle.std.specs.Io.KnownBytes.{Appends}
 use Rattle.hms_io.specs.Files.{FileMap, KeepsFiles}
@@ -12,20 +13,25 @@ use Rattle.component_values.specs.Context.{MessageContext}
 use Rattle.msg_body.specs.Messages.{Message}
 use Rattle.msg_body.specs.Views.{MessageParts, message_of}
 use Rattle.commands.specs.Configured.{IsConfigured, IsConfRefused}
-use Rattle.commands.specs.Files.{Conf, Request, Wanted, Script, Other, Found, IsFound, AreFound, HasFound, conf_and_request, file_count}
+use Rattle.commands.specs.Files.{FileRole, Conf, Request, Wanted, Script, Other, Found, IsFound, AreFound, HasFound, FileNames, file_names, file_count}
 use Rattle.commands.specs.Layers.{ReadsFound, IsFileRefused}
-use Rattle.commands.specs.Messages.{IsInputMessage, IsInputRefused, one_request}
-use Rattle.commands.specs.Requests.{IsRequested, IsRequestRefused, IsTaken, IsRequestIn, IsTextRefused}
+use Rattle.commands.specs.Messages.{IsInputMessage, IsInputRefused, any_message, one_request}
+use Rattle.commands.specs.MessageFiles.{IsMessageFile, IsMessageFileRefused, IsTaken, IsMessageIn, IsTextRefused}
+use Rattle.commands.specs.Tables.{HasTables, IsTableMissing}
+use Rattle.commands.specs.declared.message.Reading.{Reading}
+use Rattle.commands.specs.declared.tables.Needs.{Needs}
 use Rattle.refusals.specs.Laws.{IsOfRefusal}
 use Rattle.refusals.specs.Refusal.{refusal_status}
 use Rattle.refusals.proofs.Statuses.{status_of_refusal}
 use Rattle.commands.specs.Outcome.{status_of, output_of}
 use Rattle.hms.specs.Commands.{InputUse, Unread, Whole, input_use, name_of, AreFoundFor}
-use Rattle.hms.specs.Ends.{HasInput, HasOutcome, Leaves, HasReport, AppendsPrefix, Ends}
-use Rattle.hms.specs.Report.{ReportsMessage, ReportsRequest, ReportsFiles, ReportsCommand}
+use Rattle.hms.specs.Ends.{HasInput, HasOutcome, Leaves, HasReport, AppendsPrefix, Ends, CountsFaults, CountsReads}
+use Rattle.hms.specs.Report.{Answers, ReportsMessage, ReportsWishes, ReportsRequest, ReportsFiles, ReportsCommand}
 use Rattle.refusals.specs.declared.refusal.Refusal.{Refusal}
 use Rattle.refusals.specs.declared.file.FileRefusal.{FileRefusal}
-use Rattle.refusals.specs.declared.role.Role.TheVariants.{Conf as OfConf, Request as OfRequest}
+use Rattle.refusals.specs.declared.refusal.TheConstants.{MAX_INPUT_BYTES}
+use Rattle.refusals.specs.declared.role.Role.{Role}
+use Rattle.refusals.specs.declared.role.Role.TheVariants.{Conf as OfConf, Request as OfRequest, Wanted as OfWanted}
 use Rattle.refusals.specs.declared.refusal.Refusal.TheVariants.{Arguments, Of}
 use Rattle.commands.specs.declared.outcome.Outcome.{Outcome}
 use Rattle.commands.specs.declared.outcome.Outcome.TheVariants.{Done, NotOk, Refused}
@@ -48,21 +54,21 @@ none_found : (arguments : List (List ℕ)) (shelf : Option FileMap) → NoComman
 none_found arguments shelf none command is = absurd (none command is)
 
 -- nor for a command that names no file
-pub nothing_named : (shelf : Option FileMap) → AreFound shelf (conf_and_request None None) (λ role. None)
+pub nothing_named : (shelf : Option FileMap) → AreFound shelf (file_names None None None) (λ role. None)
 nothing_named shelf Conf = tt
 nothing_named shelf Request = tt
 nothing_named shelf Wanted = tt
 nothing_named shelf Script = tt
 nothing_named shelf Other = tt
 
--- of a configuration and a request
-both_found : (shelf : Option FileMap) (conf request conf_text request_text : Option (List ℕ)) → IsFound shelf conf conf_text → IsFound shelf request request_text
-    → AreFound shelf (conf_and_request conf request) (conf_and_request conf_text request_text)
-both_found shelf conf request conf_text request_text is also Conf = is
-both_found shelf conf request conf_text request_text is also Request = also
-both_found shelf conf request conf_text request_text is also Wanted = tt
-both_found shelf conf request conf_text request_text is also Script = tt
-both_found shelf conf request conf_text request_text is also Other = tt
+-- of a configuration, a request and a message that wishes signatures
+all_found : (shelf : Option FileMap) (conf request wanted conf_text request_text wanted_text : Option (List ℕ)) → IsFound shelf conf conf_text → IsFound shelf request request_text
+    → IsFound shelf wanted wanted_text → AreFound shelf (file_names conf request wanted) (file_names conf_text request_text wanted_text)
+all_found shelf conf request wanted conf_text request_text wanted_text is also other Conf = is
+all_found shelf conf request wanted conf_text request_text wanted_text is also other Request = also
+all_found shelf conf request wanted conf_text request_text wanted_text is also other Wanted = other
+all_found shelf conf request wanted conf_text request_text wanted_text is also other Script = tt
+all_found shelf conf request wanted conf_text request_text wanted_text is also other Other = tt
 
 -- what is there under a name that isn't asked for
 some_found : (shelf : Option FileMap) (name : Option (List ℕ)) → (text : Option (List ℕ)) × IsFound shelf name text
@@ -134,20 +140,40 @@ alone command shelf Same before now outcome none unnamed same reports =
       };
     }
 
--- ---- the request, by the text that is taken
+-- ---- a message in a file, by the text that is taken
 
-requested : (name found text : Option (List ℕ)) (related : Option Message) → IsTaken name found text → IsRequestIn text related → IsRequested name found related
-requested None found text related taken is = subst (λ (t : Option (List ℕ)). IsRequestIn t related) taken is
-requested (Some name) found None related taken is = absurd taken.1
-requested (Some name) found (Some text) None taken is = absurd is
-requested (Some name) found (Some text) (Some message) taken is =
-    subst (λ (t : Option (List ℕ)). ReadsFound (IsInputMessage one_request) t message) (sym taken.0) is
+module _ (r : Reading) where
+  file_read : (name found text : Option (List ℕ)) (message : Option Message) → IsTaken name found text → IsMessageIn r text message → IsMessageFile r name found message
+  file_read None found text message taken is = subst (λ (t : Option (List ℕ)). IsMessageIn r t message) taken is
+  file_read (Some name) found None message taken is = absurd taken.1
+  file_read (Some name) found (Some text) None taken is = absurd is
+  file_read (Some name) found (Some text) (Some message) taken is =
+      subst (λ (t : Option (List ℕ)). ReadsFound (IsInputMessage r) t message) (sym taken.0) is
 
-text_refused : (name found text : Option (List ℕ)) (cause : FileRefusal) → IsTaken name found text → IsTextRefused text cause → IsRequestRefused name found cause
-text_refused None found text cause taken is = subst (λ (t : Option (List ℕ)). IsTextRefused t cause) taken is
-text_refused (Some name) found None cause taken is = absurd is
-text_refused (Some name) found (Some text) cause taken is =
-    subst (λ (t : Option (List ℕ)). IsFileRefused (IsInputRefused one_request) t cause) (sym taken.0) is
+  text_refused : (name found text : Option (List ℕ)) (cause : FileRefusal) → IsTaken name found text → IsTextRefused r text cause → IsMessageFileRefused r name found cause
+  text_refused None found text cause taken is = subst (λ (t : Option (List ℕ)). IsTextRefused r t cause) taken is
+  text_refused (Some name) found None cause taken is = absurd is
+  text_refused (Some name) found (Some text) cause taken is =
+      subst (λ (t : Option (List ℕ)). IsFileRefused (IsInputRefused r) t cause) (sym taken.0) is
+
+  -- what is known of a file whose text is refused
+  pub text_stop : (role : Role) (shelf : Option FileMap) (name text : Option (List ℕ)) (stop : Stop) → HasFound shelf name (λ found. IsTaken name found text)
+      → IfRefused stop (IsRefusalFor (IsTextRefused r text) (λ cause. Of role cause))
+      → IfStopped stop (λ refusal. HasFound shelf name (λ found. IsRefusalFor (IsMessageFileRefused r name found) (λ cause. Of role cause) refusal))
+  text_stop role shelf name text Memory has is = tt
+  text_stop role shelf name text ReadFailed has is = tt
+  text_stop role shelf name text (IsRefused refusal) has is =
+      record { found = has.found; known = has.known; holds = (is.0, text_refused name has.found text is.0 has.holds is.1, is.2) }
+
+taken_within : (name found text : Option (List ℕ)) → IsTaken name found text → IfSome text (λ t. length t ≤ MAX_INPUT_BYTES)
+taken_within None found text taken = subst (λ (t : Option (List ℕ)). IfSome t (λ u. length u ≤ MAX_INPUT_BYTES)) (sym taken) tt
+taken_within (Some name) found None taken = tt
+taken_within (Some name) found (Some text) taken = taken.1
+
+-- a text that is taken is within the limit
+pub short_text : (shelf : Option FileMap) (name text : Option (List ℕ)) → HasFound shelf name (λ found. IsTaken name found text)
+    → IfSome text (λ t. length t ≤ MAX_INPUT_BYTES)
+short_text shelf name text has = taken_within name has.found text has.holds
 
 -- a message that is borrowed
 pub same_related : {X : Type 0} (f : X → MessageParts) (view : Option X) (parts : Option MessageParts) → option_map f view ≡ parts
@@ -155,102 +181,152 @@ pub same_related : {X : Type 0} (f : X → MessageParts) (view : Option X) (part
 same_related f None parts same = ap (λ (o : Option MessageParts). option_map (λ p. message_of p) o) same
 same_related f (Some v) parts same = ap (λ (o : Option MessageParts). option_map (λ p. message_of p) o) same
 
-module _ (Then : Configuration → MessageContext → Outcome → Type 0) (conf : Configuration) (name : Option (List ℕ)) (shelf : Option FileMap) (Same : Type 0) (before now : Option (List ℕ)) where
-  -- a run that comes to an outcome with this request
-  abbrev pub HasRequestOutcome : Outcome → Type 0
-  HasRequestOutcome =
-      HasOutcome (ReportsRequest Then conf name) (LeavesInput Same before now) (AreFound shelf (conf_and_request None name)) before
+-- ---- the files, one layer after another
 
-  request_refused : (refusal : Refusal) → Same → HasFound shelf name (λ found. IsRefusalFor (IsRequestRefused name found) (λ cause. Of OfRequest cause) refusal)
-      → HasRequestOutcome (Refused refusal)
-  request_refused refusal same has =
+-- what is refused by a text of this role comes before the input is read
+abbrev IsEarly : Role → Type 1
+IsEarly role = (limit : ℕ) (Same : Type 0) (before now : Option (List ℕ)) (cause : FileRefusal) → Same → Leaves (Whole limit) Same before now (Refused (Of role cause))
+
+conf_early : IsEarly OfConf
+conf_early limit Same before now cause same = same
+
+request_early : IsEarly OfRequest
+request_early limit Same before now cause same = same
+
+wanted_early : IsEarly OfWanted
+wanted_early limit Same before now cause same = same
+
+module _ (shelf : Option FileMap) (Same : Type 0) (before now : Option (List ℕ)) where
+  -- a run that comes to an outcome with the files of these names
+  abbrev pub HasFilesOutcome : (Found → List ℕ → Outcome → Type 0) → FileNames → Outcome → Type 0
+  HasFilesOutcome R names = HasOutcome R (LeavesInput Same before now) (AreFound shelf names) before
+
+  -- one that is refused by a file of this role
+  refused_early : (R : Found → List ℕ → Outcome → Type 0) (names : FileNames) (role : Role) (found : Found) (cause : FileRefusal) (refusal : Refusal) → IsEarly role → AreFound shelf names found
+      → Same → refusal ≡ Of role cause → ((input : List ℕ) → R found input (Refused (Of role cause))) → HasFilesOutcome R names (Refused refusal)
+  refused_early R names role found cause refusal early files same is reports =
       let input = some_input before in
-      let cause = has.holds in
       record {
-        found = conf_and_request None has.found;
-        files = both_found shelf None name None has.found tt has.known;
+        found = found;
+        files = files;
         holds = record {
           input = input.0;
           known = input.1;
-          reports = inr (cause.0, cause.1, ap (λ (r : Refusal). Refused r) cause.2);
-          leaves = subst (λ (r : Refusal). LeavesInput Same before now (Refused r)) (sym cause.2) same;
+          reports = subst (λ (r : Refusal). R found input.0 (Refused r)) (sym is) (reports input.0);
+          leaves = subst (λ (r : Refusal). LeavesInput Same before now (Refused r)) (sym is) (early MAX_INPUT_BYTES Same before now cause same);
         };
       }
 
-  -- a stop while its file is taken
-  pub request_stopped : (stop : Stop) → Same → IfStopped stop (λ refusal. HasFound shelf name (λ found. IsRefusalFor (IsRequestRefused name found) (λ cause. Of OfRequest cause) refusal))
-      → IfOutcome (Err stop) HasRequestOutcome
-  request_stopped Memory same has = tt
-  request_stopped ReadFailed same has = tt
-  request_stopped (IsRefused refusal) same has = request_refused refusal same has
+-- ---- the message that wishes signatures
 
-  -- a stop while its text is read
-  pub text_stopped : (text : Option (List ℕ)) (stop : Stop) → Same → HasFound shelf name (λ found. IsTaken name found text)
-      → IfRefused stop (IsRefusalFor (IsTextRefused text) (λ cause. Of OfRequest cause)) → IfOutcome (Err stop) HasRequestOutcome
-  text_stopped text Memory same has is = tt
-  text_stopped text ReadFailed same has is = tt
-  text_stopped text (IsRefused refusal) same has is =
-      request_refused refusal same (record { found = has.found; known = has.known; holds = (is.0, text_refused name has.found text is.0 has.holds is.1, is.2) })
+module _ (Then : Answers) (conf : Configuration) (related : Option Message) (name : Option (List ℕ)) (shelf : Option FileMap) (Same : Type 0) (before now : Option (List ℕ)) where
+  abbrev pub HasWishesOutcome : Outcome → Type 0
+  HasWishesOutcome = HasFilesOutcome shelf Same before now (ReportsWishes Then conf related (file_names None None name)) (file_names None None name)
+
+  -- a stop while its file is taken and read
+  pub wishes_stopped : (stop : Stop) → Same → IfStopped stop (λ refusal. HasFound shelf name (λ found. IsRefusalFor (IsMessageFileRefused any_message name found) (λ cause. Of OfWanted cause) refusal))
+      → IfOutcome (Err stop) HasWishesOutcome
+  wishes_stopped Memory same has = tt
+  wishes_stopped ReadFailed same has = tt
+  wishes_stopped (IsRefused refusal) same has =
+      let names = file_names None None name in
+      let cause = has.holds in
+      refused_early shelf Same before now (ReportsWishes Then conf related names) names OfWanted (file_names None None has.found) cause.0 refusal wanted_early
+      (all_found shelf None None name None None has.found tt tt has.known) same cause.2 (λ input. inr (cause.0, cause.1, refl))
 
   -- what comes after it
-  pub request_read : (text : Option (List ℕ)) (related : Option Message) (result : Result Outcome Stop) → HasFound shelf name (λ found. IsTaken name found text) → IsRequestIn text related
-      → IfOutcome result (HasInput (ReportsMessage Then conf related) (LeavesInput Same before now) before) → IfOutcome result HasRequestOutcome
-  request_read text related result has is =
+  pub wishes_read : (text : Option (List ℕ)) (wishes : Option Message) (result : Result Outcome Stop) → HasFound shelf name (λ found. IsTaken name found text) → IsMessageIn any_message text wishes
+      → IfOutcome result (HasInput (ReportsMessage (Then conf wishes) conf related) (LeavesInput Same before now) before) → IfOutcome result HasWishesOutcome
+  wishes_read text wishes result has is =
       went_on (λ outcome reported. record {
-        found = conf_and_request None has.found;
-        files = both_found shelf None name None has.found tt has.known;
+        found = file_names None None has.found;
+        files = all_found shelf None None name None None has.found tt tt has.known;
         holds = record {
           input = reported.input;
           known = reported.known;
-          reports = inl (related, requested name has.found text related has.holds is, reported.reports);
+          reports = inl (wishes, file_read any_message name has.found text wishes has.holds is, reported.reports);
           leaves = reported.leaves;
+        };
+      }) result
+
+-- ---- the request
+
+module _ (Then : Answers) (conf : Configuration) (name wanted : Option (List ℕ)) (shelf : Option FileMap) (Same : Type 0) (before now : Option (List ℕ)) where
+  abbrev pub HasRequestOutcome : Outcome → Type 0
+  HasRequestOutcome = HasFilesOutcome shelf Same before now (ReportsRequest Then conf (file_names None name wanted)) (file_names None name wanted)
+
+  -- a stop while its file is taken and read
+  pub request_stopped : (stop : Stop) → Same → IfStopped stop (λ refusal. HasFound shelf name (λ found. IsRefusalFor (IsMessageFileRefused one_request name found) (λ cause. Of OfRequest cause) refusal))
+      → IfOutcome (Err stop) HasRequestOutcome
+  request_stopped Memory same has = tt
+  request_stopped ReadFailed same has = tt
+  request_stopped (IsRefused refusal) same has =
+      let names = file_names None name wanted in
+      let other = some_found shelf wanted in
+      let cause = has.holds in
+      refused_early shelf Same before now (ReportsRequest Then conf names) names OfRequest (file_names None has.found other.0) cause.0 refusal request_early
+      (all_found shelf None name wanted None has.found other.0 tt has.known other.1) same cause.2 (λ input. inr (cause.0, cause.1, refl))
+
+  -- what comes after it, of a shelf that keeps its files
+  pub request_read : (text : Option (List ℕ)) (related : Option Message) (later : Option FileMap) (result : Result Outcome Stop) → HasFound shelf name (λ found. IsTaken name found text)
+      → IsMessageIn one_request text related → KeepsFiles shelf later → IfOutcome result (HasWishesOutcome Then conf related wanted later Same before now) → IfOutcome result HasRequestOutcome
+  request_read text related later result has is keeps =
+      went_on (λ outcome reported. record {
+        found = file_names None has.found (reported.found Wanted);
+        files = all_found shelf None name wanted None has.found (reported.found Wanted) tt has.known
+            (found_before shelf later wanted (reported.found Wanted) keeps (reported.files Wanted));
+        holds = record {
+          input = reported.holds.input;
+          known = reported.holds.known;
+          reports = inl (related, file_read one_request name has.found text related has.holds is, reported.holds.reports);
+          leaves = reported.holds.leaves;
         };
       }) result
 
 -- ---- the configuration
 
-module _ (Then : Configuration → MessageContext → Outcome → Type 0) (conf_name request_name : Option (List ℕ)) (shelf : Option FileMap) (Same : Type 0) (before now : Option (List ℕ)) where
-  -- a run that comes to an outcome with these files
-  abbrev pub HasFilesOutcome : Outcome → Type 0
-  HasFilesOutcome =
-      HasOutcome (ReportsFiles Then conf_name request_name) (LeavesInput Same before now) (AreFound shelf (conf_and_request conf_name request_name)) before
-
-  conf_refused : (refusal : Refusal) → Same → HasFound shelf conf_name (λ found. IsRefusalFor (IsConfRefused conf_name found) (λ cause. Of OfConf cause) refusal)
-      → HasFilesOutcome (Refused refusal)
-  conf_refused refusal same has =
-      let input = some_input before in
-      let request = some_found shelf request_name in
-      let cause = has.holds in
-      record {
-        found = conf_and_request has.found request.0;
-        files = both_found shelf conf_name request_name has.found request.0 has.known request.1;
-        holds = record {
-          input = input.0;
-          known = input.1;
-          reports = inr (cause.0, cause.1, ap (λ (r : Refusal). Refused r) cause.2);
-          leaves = subst (λ (r : Refusal). LeavesInput Same before now (Refused r)) (sym cause.2) same;
-        };
-      }
+module _ (needs : Needs) (Then : Answers) (name request wanted : Option (List ℕ)) (shelf : Option FileMap) (Same : Type 0) (before now : Option (List ℕ)) where
+  abbrev pub HasConfOutcome : Outcome → Type 0
+  HasConfOutcome = HasFilesOutcome shelf Same before now (ReportsFiles needs Then (file_names name request wanted)) (file_names name request wanted)
 
   -- a stop while the configuration is read
-  pub conf_stopped : (stop : Stop) → Same → IfStopped stop (λ refusal. HasFound shelf conf_name (λ found. IsRefusalFor (IsConfRefused conf_name found) (λ cause. Of OfConf cause) refusal))
-      → IfOutcome (Err stop) HasFilesOutcome
+  pub conf_stopped : (stop : Stop) → Same → IfStopped stop (λ refusal. HasFound shelf name (λ found. IsRefusalFor (IsConfRefused name found) (λ cause. Of OfConf cause) refusal))
+      → IfOutcome (Err stop) HasConfOutcome
   conf_stopped Memory same has = tt
   conf_stopped ReadFailed same has = tt
-  conf_stopped (IsRefused refusal) same has = conf_refused refusal same has
+  conf_stopped (IsRefused refusal) same has =
+      let names = file_names name request wanted in
+      let one = some_found shelf request in
+      let other = some_found shelf wanted in
+      let cause = has.holds in
+      refused_early shelf Same before now (ReportsFiles needs Then names) names OfConf (file_names has.found one.0 other.0) cause.0 refusal conf_early
+      (all_found shelf name request wanted has.found one.0 other.0 has.known one.1 other.1) same cause.2 (λ input. inr (cause.0, cause.1, refl))
+
+  -- one because it lacks a table
+  pub table_stopped : (conf : Configuration) (stop : Stop) → Same → HasFound shelf name (λ found. IsConfigured name found conf)
+      → IfRefused stop (IsRefusalFor (IsTableMissing needs conf) (λ cause. Of OfConf cause)) → IfOutcome (Err stop) HasConfOutcome
+  table_stopped conf Memory same has is = tt
+  table_stopped conf ReadFailed same has is = tt
+  table_stopped conf (IsRefused refusal) same has is =
+      let names = file_names name request wanted in
+      let one = some_found shelf request in
+      let other = some_found shelf wanted in
+      refused_early shelf Same before now (ReportsFiles needs Then names) names OfConf (file_names has.found one.0 other.0) is.0 refusal conf_early
+      (all_found shelf name request wanted has.found one.0 other.0 has.known one.1 other.1) same is.2 (λ input. inl (conf, has.holds, inr (is.0, is.1, refl)))
 
   -- what comes after it, of a shelf that keeps its files
-  pub conf_read : (conf : Configuration) (later : Option FileMap) (result : Result Outcome Stop) → HasFound shelf conf_name (λ found. IsConfigured conf_name found conf) → KeepsFiles shelf later
-      → IfOutcome result (HasRequestOutcome Then conf request_name later Same before now) → IfOutcome result HasFilesOutcome
-  conf_read conf later result has keeps =
+  pub conf_read : (conf : Configuration) (later : Option FileMap) (result : Result Outcome Stop) → HasFound shelf name (λ found. IsConfigured name found conf) → HasTables needs conf → KeepsFiles shelf later
+      → IfOutcome result (HasRequestOutcome Then conf request wanted later Same before now) → IfOutcome result HasConfOutcome
+  conf_read conf later result has tables keeps =
       went_on (λ outcome reported. record {
-        found = conf_and_request has.found (reported.found Request);
-        files = both_found shelf conf_name request_name has.found (reported.found Request) has.known
-            (found_before shelf later request_name (reported.found Request) keeps (reported.files Request));
+        found = file_names has.found (reported.found Request) (reported.found Wanted);
+        files = all_found shelf name request wanted has.found (reported.found Request) (reported.found Wanted) has.known
+            (found_before shelf later request (reported.found Request) keeps (reported.files Request))
+            (found_before shelf later wanted (reported.found Wanted) keeps (reported.files Wanted));
         holds = record {
           input = reported.holds.input;
           known = reported.holds.known;
-          reports = inl (conf, has.holds, reported.holds.reports);
+          reports = inl (conf, has.holds, inl (tt, tables, reported.holds.reports));
           leaves = reported.holds.leaves;
         };
       }) result
@@ -260,33 +336,85 @@ pub keeps_both : (before middle now : Option FileMap) → KeepsFiles before midd
 keeps_both None middle now keeps also = tt
 keeps_both (Some files) middle now keeps also = subst (λ (shelf : Option FileMap). KeepsFiles shelf now) keeps also
 
--- how many files are asked for, where none is that isn't named
-pub one_asked : {X S : Type 0} (asked : S → ℕ) (f : X → List ℕ) (conf request : Option X) (before now : S) → IfNone conf (now ≡ before) → asked now ≤ asked before + 1
-    → asked now ≤ asked before + file_count (conf_and_request (option_map f conf) (option_map f request))
-one_asked asked f None None before now same one = omega (arith, ap asked same)
-one_asked asked f None (Some y) before now same one = omega (arith, ap asked same)
-one_asked asked f (Some x) None before now same one = one
-one_asked asked f (Some x) (Some y) before now same one = omega (arith, one)
+-- ---- how many files are asked for, where none is that isn't named
 
-pub both_asked : {X S : Type 0} (asked : S → ℕ) (f : X → List ℕ) (conf request : Option X) (before middle now : S)
-    → IfNone conf (middle ≡ before) → asked middle ≤ asked before + 1 → IfNone request (now ≡ middle) → asked now ≤ asked middle + 1
-    → asked now ≤ asked before + file_count (conf_and_request (option_map f conf) (option_map f request))
-both_asked asked f None None before middle now same one also other = omega (arith, ap asked same, ap asked also)
-both_asked asked f None (Some y) before middle now same one also other = omega (arith, ap asked same, other)
-both_asked asked f (Some x) None before middle now same one also other = omega (arith, one, ap asked also)
-both_asked asked f (Some x) (Some y) before middle now same one also other = omega (arith, one, other)
+abbrev count_of : {X : Type 0} → Option X → ℕ
+count_of None = 0
+count_of (Some x) = 1
 
--- nothing is asked for where neither file is named
-pub none_asked : {X S : Type 0} (conf request : Option X) (before middle now : S) → IfNone conf (middle ≡ before) → IfNone request (now ≡ middle)
-    → IfNone conf (IfNone request (now ≡ before))
-none_asked None None before middle now same also = also ∙ same
-none_asked None (Some y) before middle now same also = tt
-none_asked (Some x) request before middle now same also = tt
+files_counted : {X : Type 0} (f : X → List ℕ) (conf request wanted : Option X)
+    → file_count (file_names (option_map f conf) (option_map f request) (option_map f wanted)) ≡ count_of conf + (count_of request + count_of wanted)
+files_counted f None None None = refl
+files_counted f None None (Some z) = refl
+files_counted f None (Some y) None = refl
+files_counted f None (Some y) (Some z) = refl
+files_counted f (Some x) None None = refl
+files_counted f (Some x) None (Some z) = refl
+files_counted f (Some x) (Some y) None = refl
+files_counted f (Some x) (Some y) (Some z) = refl
 
-pub none_asked_before : {X S : Type 0} (conf request : Option X) (before now : S) → IfNone conf (now ≡ before) → IfNone conf (IfNone request (now ≡ before))
-none_asked_before None None before now same = same
-none_asked_before None (Some y) before now same = tt
-none_asked_before (Some x) request before now same = tt
+one_counted : {X S : Type 0} (asked : S → ℕ) (name : Option X) (before now : S) → IfNone name (now ≡ before) → asked now ≤ asked before + 1 → asked now ≤ asked before + count_of name
+one_counted asked None before now same one = omega (arith, ap asked same)
+one_counted asked (Some x) before now same one = one
+
+-- of a request, and of what is asked for after it
+pub request_asked : {X S : Type 0} (asked : S → ℕ) (f : X → List ℕ) (request wanted : Option X) (before middle now : S)
+    → IfNone request (middle ≡ before) → asked middle ≤ asked before + 1 → IfNone wanted (now ≡ middle) → asked now ≤ asked middle + 1
+    → asked now ≤ asked before + file_count (file_names None (option_map f request) (option_map f wanted))
+request_asked {X} asked f request wanted before middle now same one also other =
+    let first = one_counted asked request before middle same one in
+    let second = one_counted asked wanted middle now also other in
+    let none : Option X = None in
+    omega (arith, first, second, files_counted f none request wanted)
+
+-- where nothing comes after it
+pub request_asked_alone : {X S : Type 0} (asked : S → ℕ) (f : X → List ℕ) (request wanted : Option X) (before now : S) → IfNone request (now ≡ before) → asked now ≤ asked before + 1
+    → asked now ≤ asked before + file_count (file_names None (option_map f request) (option_map f wanted))
+request_asked_alone {X} asked f request wanted before now same one =
+    let first = one_counted asked request before now same one in
+    let none : Option X = None in
+    omega (arith, first, files_counted f none request wanted)
+
+-- of a configuration, and of what is asked for after it
+pub conf_asked : {X S : Type 0} (asked : S → ℕ) (f : X → List ℕ) (conf request wanted : Option X) (before middle now : S)
+    → IfNone conf (middle ≡ before) → asked middle ≤ asked before + 1 → asked now ≤ asked middle + file_count (file_names None (option_map f request) (option_map f wanted))
+    → asked now ≤ asked before + file_count (file_names (option_map f conf) (option_map f request) (option_map f wanted))
+conf_asked {X} asked f conf request wanted before middle now same one others =
+    let first = one_counted asked conf before middle same one in
+    let none : Option X = None in
+    omega (arith, first, others, files_counted f none request wanted, files_counted f conf request wanted)
+
+-- where nothing comes after it
+pub conf_asked_alone : {X S : Type 0} (asked : S → ℕ) (f : X → List ℕ) (conf request wanted : Option X) (before now : S) → IfNone conf (now ≡ before) → asked now ≤ asked before + 1
+    → asked now ≤ asked before + file_count (file_names (option_map f conf) (option_map f request) (option_map f wanted))
+conf_asked_alone asked f conf request wanted before now same one =
+    let first = one_counted asked conf before now same one in
+    omega (arith, first, files_counted f conf request wanted)
+
+-- nothing is asked for where no file is named
+pub both_unasked : {X S : Type 0} (request wanted : Option X) (before middle now : S) → IfNone request (middle ≡ before) → IfNone wanted (now ≡ middle)
+    → IfNone request (IfNone wanted (now ≡ before))
+both_unasked None None before middle now same also = also ∙ same
+both_unasked None (Some y) before middle now same also = tt
+both_unasked (Some x) wanted before middle now same also = tt
+
+pub one_unasked : {X S : Type 0} (request wanted : Option X) (before now : S) → IfNone request (now ≡ before) → IfNone request (IfNone wanted (now ≡ before))
+one_unasked None None before now same = same
+one_unasked None (Some y) before now same = tt
+one_unasked (Some x) wanted before now same = tt
+
+pub all_unasked : {X S : Type 0} (conf request wanted : Option X) (before middle now : S) → IfNone conf (middle ≡ before) → IfNone request (IfNone wanted (now ≡ middle))
+    → IfNone conf (IfNone request (IfNone wanted (now ≡ before)))
+all_unasked None None None before middle now same also = also ∙ same
+all_unasked None None (Some z) before middle now same also = tt
+all_unasked None (Some y) wanted before middle now same also = tt
+all_unasked (Some x) request wanted before middle now same also = tt
+
+pub conf_unasked : {X S : Type 0} (conf request wanted : Option X) (before now : S) → IfNone conf (now ≡ before) → IfNone conf (IfNone request (IfNone wanted (now ≡ before)))
+conf_unasked None None None before now same = same
+conf_unasked None None (Some z) before now same = tt
+conf_unasked None (Some y) wanted before now same = tt
+conf_unasked (Some x) request wanted before now same = tt
 
 -- where a file isn't named, nothing is asked of the shelf for it
 pub none_named : {X : Type 0} (f : X → List ℕ) (name : Option X) (P : Type 0) → option_map f name ≡ None → IfNone name P → P
@@ -357,3 +485,29 @@ pub failed_outcome : (arguments : List (List ℕ)) (shelf : Option FileMap) (Sam
     → Ends arguments shelf Same before left taken now WriteFault
 failed_outcome arguments shelf Same before left taken now outcome output has o prefix =
     (outcome, has, subst (λ (text : List ℕ). AppendsPrefix taken now text) o prefix)
+
+-- ---- the counts of faults, where an outcome was written whole
+
+not_read_fault : (outcome : Outcome) → status_of outcome ≡ ReadFault → ⊥
+unfolding is_whole
+not_read_fault outcome same = false≢true (sym (ap is_whole same) ∙ whole_status outcome)
+
+not_write_fault : (outcome : Outcome) → status_of outcome ≡ WriteFault → ⊥
+unfolding is_whole
+not_write_fault outcome same = false≢true (sym (ap is_whole same) ∙ whole_status outcome)
+
+pub counts_no_read : (Same : Type 0) (outcome : Outcome) (status : Status) (shelf shelf_now source source_now : ℕ) → status ≡ status_of outcome
+    → (shelf_now ≡ shelf) × (source_now ≡ source) → CountsReads Same status shelf shelf_now source source_now
+counts_no_read Same outcome status shelf shelf_now source source_now is same = record {
+  shelf_later = omega (arith, same.0);
+  source_later = omega (arith, same.1);
+  rose = λ fault. absurd (not_read_fault outcome (sym is ∙ fault));
+  kept = inr same;
+}
+
+pub counts_no_write : (outcome : Outcome) (status : Status) (before now : ℕ) → status ≡ status_of outcome → now ≡ before → CountsFaults WriteFault status before now
+counts_no_write outcome status before now is same = record {
+  later = omega (arith, same);
+  rose = λ fault. absurd (not_write_fault outcome (sym is ∙ fault));
+  kept = inr same;
+}

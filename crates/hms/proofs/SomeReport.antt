@@ -1,10 +1,10 @@
 -- Arguments, what was found and an input have some outcome, and one of status 0 or 1 where the
 -- command has all that it needs.
-use Rattle.std.proofs.Common.{◌≡◌, inl, inr, ℕ, Bool, true, false, List, Option, Some, refl}
-use Rattle.std.specs.Prelude.{⊤, IsTrue}
+use Rattle.std.proofs.Common.{◌≡◌, ◌⊎◌, inl, inr, ℕ, Bool, true, false, List, [], ◌∷◌, Option, Some, None, refl}
+use Rattle.std.specs.Prelude.{⊤, IsTrue, IsSome}
 use Rattle.std.specs.List.{list_all}
 use Rattle.sfv_text.specs.Classes.{is_byte}
-use Rattle.command_line.specs.Command.{CommandLine, Help, Version, Base, Verify, IsCommand, NoCommand}
+use Rattle.command_line.specs.Command.{CommandLine, Help, Version, Base, Verify, Sign, IsCommand, NoCommand}
 use Rattle.command_line.proofs.CommandOrNone.{command_or_none}
 use Rattle.component_ids.specs.declared.params.SigParams.{SigParams}
 use Rattle.component_values.specs.Context.{MessageContext}
@@ -13,53 +13,82 @@ use Rattle.sig_base.specs.SignatureBase.{signature_base}
 use Rattle.verdicts.specs.declared.outcome.Verdict.{Verdict}
 use Rattle.commands.specs.Base.{ReportsValues, ReportsBase}
 use Rattle.commands.specs.Contexts.{context_for}
-use Rattle.commands.specs.Files.{Found, FileRole, Conf as ConfFile, Request as RequestFile}
+use Rattle.commands.specs.Configured.{IsConfigured}
+use Rattle.commands.specs.Files.{FileNames, Found, FileRole, Conf as ConfFile, Request as RequestFile, Wanted as WantedFile}
 use Rattle.commands.specs.Layers.{ReadsThen, HasAnswer}
 use Rattle.commands.specs.Messages.{reading_for}
-use Rattle.commands.specs.Requests.{IsOfBytes}
+use Rattle.commands.specs.MessageFiles.{IsOfBytes}
+use Rattle.commands.specs.Sign.{ReportsEach, ReportsSigning}
+use Rattle.commands.specs.Tables.{HasTables}
+use Rattle.commands.specs.declared.tables.Needs.{Needs}
+use Rattle.commands.specs.declared.tables.Needs.TheVariants.{Nothing, SignTable}
+use Rattle.msg_body.specs.Messages.{Message, message_text}
+use Rattle.settings.specs.declared.sign_conf.SignConf.{SignConf}
+use Rattle.signing.specs.Written.{context_with}
+use Rattle.signing.specs.declared.spec.SignSpec.{SignSpec}
 use Rattle.commands.specs.Verify.{ReportsVerdicts, is_accepted, verdicts_outcome}
 use Rattle.commands.specs.declared.help.TheConstants.{HELP_TEXT, VERSION_TEXT}
 use Rattle.commands.specs.declared.outcome.Outcome.{Outcome}
 use Rattle.commands.specs.declared.outcome.Outcome.TheVariants.{Done, Refused}
 use Rattle.refusals.specs.declared.refusal.Refusal.{Refusal}
-use Rattle.hms.specs.Laws.{HasSomeReport, IsBaseDone, IsServed, HasAll, IsAnswered, IsComplete}
-use Rattle.hms.specs.Report.{ReportsCommand, ReportsFiles}
-use Rattle.hms.proofs.CommandLaws.{conf_answer, request_answer, input_answer, params_answer, values_answer, verdicts_answer}
+use Rattle.hms.specs.Laws.{HasSomeReport, IsBaseDone, CanSignEach, IsSignDone, IsServed, HasAll, IsAnswered, IsComplete}
+use Rattle.hms.specs.Commands.{name_of}
+use Rattle.hms.specs.Report.{Answers, ReportsCommand, ReportsFiles}
+use Rattle.hms.proofs.CommandLaws.{conf_answer, tables_answer, request_answer, wanted_answer, input_answer, params_answer, values_answer, verdicts_answer, signing_answer, valid_where_configured}
 
 -- some outcome
 abbrev HasSome : (Outcome → Type 0) → Type 0
 HasSome P = (outcome : Outcome) × P outcome
 
 some_of_layers : {V C : Type 0} (Reads : V → Type 0) (Causes : C → Type 0) (refusal_of : C → Refusal) (Then : V → Outcome → Type 0)
-    → HasAnswer Reads Causes → ((v : V) → HasSome (Then v)) → HasSome (ReadsThen Reads Causes refusal_of Then)
-some_of_layers Reads Causes refusal_of Then (inl read) then = let next = then read.0 in (next.0, inl (read.0, read.1, next.1))
+    → HasAnswer Reads Causes → ((v : V) → Reads v → HasSome (Then v)) → HasSome (ReadsThen Reads Causes refusal_of Then)
+some_of_layers Reads Causes refusal_of Then (inl read) then = let next = then read.0 read.1 in (next.0, inl (read.0, read.1, next.1))
 some_of_layers Reads Causes refusal_of Then (inr cause) then = (Refused (refusal_of cause.0), inr (cause.0, cause.1, refl))
 
 some_of_values : (context : MessageContext) (sig : SigParams) → HasSome (ReportsValues context sig)
-some_of_values context sig = some_of_layers _ _ _ _ (values_answer context sig.ids) (λ values. (Done (signature_base sig values), refl))
+some_of_values context sig = some_of_layers _ _ _ _ (values_answer context sig.ids) (λ values _. (Done (signature_base sig values), refl))
 
 some_of_base : (params : List ℕ) (conf : Configuration) (context : MessageContext) → HasSome (ReportsBase params context)
-some_of_base params conf context = some_of_layers _ _ _ _ (params_answer params) (λ sig. some_of_values context sig)
+some_of_base params conf context = some_of_layers _ _ _ _ (params_answer params) (λ sig _. some_of_values context sig)
 
 -- the files are of bytes
 abbrev AreOfBytes : Found → Type 0
 AreOfBytes found = (role : FileRole) → IsOfBytes (found role)
 
-some_of_files : (Then : Configuration → MessageContext → Outcome → Type 0) → ((conf : Configuration) (context : MessageContext) → HasSome (Then conf context))
-    → (conf_name request_name : Option (List ℕ)) (found : Found) (input : List ℕ) → AreOfBytes found → IsTrue (list_all is_byte input)
-    → HasSome (ReportsFiles Then conf_name request_name found input)
-some_of_files Then some conf_name request_name found input files bytes =
-    some_of_layers _ _ _ _ (conf_answer conf_name (found ConfFile)) (λ conf.
-    some_of_layers _ _ _ _ (request_answer request_name (found RequestFile) (files RequestFile)) (λ related.
-    some_of_layers _ _ _ _ (input_answer (reading_for related) input bytes) (λ message. some conf (context_for conf message related))))
+-- a command over a configuration has some outcome, where it was found under this name and has what is needed
+abbrev HasSomeAnswer : Needs → Answers → Option (List ℕ) → Option (List ℕ) → Type 0
+HasSomeAnswer needs Then name text =
+    (conf : Configuration) → IsConfigured name text conf → HasTables needs conf → (wishes : Option Message) (context : MessageContext) → HasSome (Then conf wishes context)
+
+some_of_files : (needs : Needs) (Then : Answers) (names : FileNames) (found : Found) (input : List ℕ) → HasSomeAnswer needs Then (names ConfFile) (found ConfFile) → AreOfBytes found
+    → IsTrue (list_all is_byte input) → HasSome (ReportsFiles needs Then names found input)
+some_of_files needs Then names found input some files bytes =
+    some_of_layers _ _ _ _ (conf_answer (names ConfFile) (found ConfFile)) (λ conf configured.
+    some_of_layers _ _ _ _ (tables_answer needs conf) (λ _ has.
+    some_of_layers _ _ _ _ (request_answer (names RequestFile) (found RequestFile) (files RequestFile)) (λ related _.
+    some_of_layers _ _ _ _ (wanted_answer (names WantedFile) (found WantedFile) (files WantedFile)) (λ wishes _.
+    some_of_layers _ _ _ _ (input_answer (reading_for related) input bytes) (λ message _. some conf configured has wishes (context_for conf message related))))))
+
+some_sign : (conf : Configuration) → IsSome conf.sign → (sign : SignConf) × (conf.sign ≡ Some sign)
+some_sign conf has = of_option conf.sign has where
+  of_option : (o : Option SignConf) → IsSome o → (sign : SignConf) × (o ≡ Some sign)
+  of_option (Some sign) is = (sign, refl)
+  of_option None is = absurd cc
+
+some_of_signing : (nonce : Option (List ℕ)) (now : ℕ) (name text : Option (List ℕ)) → HasSomeAnswer SignTable (ReportsSigning nonce now) name text
+some_of_signing nonce now name text conf configured has wishes context =
+    let sign = some_sign conf has in
+    signing_answer nonce now conf wishes context sign.0 sign.1 ((valid_where_configured name text conf configured).sign sign.0 sign.1).keyid
 
 some_of_command : (command : CommandLine) (found : Found) (input : List ℕ) → AreOfBytes found → IsTrue (list_all is_byte input) → HasSome (ReportsCommand command found input)
 some_of_command Help found input files bytes = (Done HELP_TEXT.now, refl)
 some_of_command Version found input files bytes = (Done VERSION_TEXT.now, refl)
 some_of_command (Base words) found input files bytes =
-    some_of_files (λ conf. ReportsBase words.params) (some_of_base words.params) words.conf words.request found input files bytes
+    some_of_files Nothing (λ conf wishes. ReportsBase words.params) (name_of (Base words)) found input (λ conf _ _ wishes. some_of_base words.params conf) files bytes
 some_of_command (Verify words) found input files bytes =
-    some_of_files (ReportsVerdicts words.label words.now) (verdicts_answer words.label words.now) (Some words.conf) words.request found input files bytes
+    some_of_files Nothing (λ conf wishes. ReportsVerdicts words.label words.now conf) (name_of (Verify words)) found input (λ conf _ _ wishes. verdicts_answer words.label words.now conf) files bytes
+some_of_command (Sign words) found input files bytes =
+    some_of_files SignTable (ReportsSigning words.nonce words.now) (name_of (Sign words)) found input (some_of_signing words.nonce words.now (Some words.conf) (found ConfFile)) files bytes
 
 arguments_answer : (arguments : List (List ℕ)) → HasAnswer (IsCommand arguments) (λ (_ : ⊤). NoCommand arguments)
 arguments_answer arguments = elim (command_or_none arguments) [
@@ -68,7 +97,7 @@ arguments_answer arguments = elim (command_or_none arguments) [
 ]
 
 pub some_report_law : HasSomeReport
-some_report_law arguments found input files bytes = some_of_layers _ _ _ _ (arguments_answer arguments) (λ command. some_of_command command found input files bytes)
+some_report_law arguments found input files bytes = some_of_layers _ _ _ _ (arguments_answer arguments) (λ command _. some_of_command command found input files bytes)
 
 -- ---- where nothing is refused
 
@@ -76,13 +105,34 @@ some_report_law arguments found input files bytes = some_of_layers _ _ _ _ (argu
 abbrev HasAnswered : (Outcome → Type 0) → Type 0
 HasAnswered P = (outcome : Outcome) × P outcome × IsAnswered outcome
 
-files_answered : (Then : Configuration → MessageContext → Outcome → Type 0) (IsDone : MessageContext → Type 0)
-    → ((conf : Configuration) (context : MessageContext) → IsDone context → HasAnswered (Then conf context))
-    → (conf_name request_name : Option (List ℕ)) (found : Found) (input : List ℕ) → IsServed conf_name request_name found input IsDone
-    → HasAnswered (ReportsFiles Then conf_name request_name found input)
-files_answered Then IsDone answered conf_name request_name found input served =
-    let next = answered served.conf (context_for served.conf served.message served.related) served.done in
-    (next.0, inl (served.conf, served.configured, inl (served.related, served.requested, inl (served.message, served.is, next.1))), next.2)
+files_answered : (needs : Needs) (Then : Answers) (IsDone : Configuration → Option Message → MessageContext → Type 0)
+    → ((conf : Configuration) (wishes : Option Message) (context : MessageContext) → IsDone conf wishes context → HasAnswered (Then conf wishes context))
+    → (names : FileNames) (found : Found) (input : List ℕ) → IsServed needs names found input IsDone → HasAnswered (ReportsFiles needs Then names found input)
+files_answered needs Then IsDone answered names found input served =
+    let next = answered served.conf served.wishes (context_for served.conf served.message served.related) served.done in (
+      next.0,
+      inl (
+        served.conf,
+        served.configured,
+        inl (tt, served.tables, inl (served.related, served.requested, inl (served.wishes, served.wanted, inl (served.message, served.is, next.1)))),
+      ),
+      next.2,
+    )
+
+each_answered : (specs : List SignSpec) (context : MessageContext) → CanSignEach context specs → HasAnswered (ReportsEach context specs)
+each_answered [] context can = (Done (message_text context.message), refl, inl refl)
+each_answered (spec ∷ specs) context can =
+    let next = each_answered specs (context_with context can.0) can.2 in
+    (next.0, inl (can.0, can.1, next.1), next.2)
+
+signing_answered : (nonce : Option (List ℕ)) (now : ℕ) (conf : Configuration) (wishes : Option Message) (context : MessageContext) → IsSignDone nonce now conf wishes context
+    → HasAnswered (ReportsSigning nonce now conf wishes context)
+signing_answered own now conf None context done =
+    let next = each_answered (done.0 ∷ []) context done.2 in
+    (next.0, record { spec = done.0; is = done.1; reports = next.1 }, next.2)
+signing_answered own now conf (Some wishes) context done =
+    let next = each_answered done.0 context done.2 in
+    (next.0, inl (done.0, done.1, next.1), next.2)
 
 base_answered : (params : List ℕ) (conf : Configuration) (context : MessageContext) → IsBaseDone params context → HasAnswered (ReportsBase params context)
 base_answered params conf context done =
@@ -102,9 +152,12 @@ command_answered : (command : CommandLine) (found : Found) (input : List ℕ) �
 command_answered Help found input has = (Done HELP_TEXT.now, refl, inl refl)
 command_answered Version found input has = (Done VERSION_TEXT.now, refl, inl refl)
 command_answered (Base words) found input has =
-    files_answered (λ conf. ReportsBase words.params) (IsBaseDone words.params) (base_answered words.params) words.conf words.request found input has
+    files_answered Nothing (λ conf wishes. ReportsBase words.params) (λ conf wishes. IsBaseDone words.params) (λ conf wishes. base_answered words.params conf) (name_of (Base words)) found input has
 command_answered (Verify words) found input has =
-    files_answered (ReportsVerdicts words.label words.now) (λ context. ⊤) (λ conf context _. verdicts_answered words.label words.now conf context) (Some words.conf) words.request found input has
+    files_answered Nothing (λ conf wishes. ReportsVerdicts words.label words.now conf) (λ conf wishes context. ⊤) (λ conf wishes context _. verdicts_answered words.label words.now conf context)
+    (name_of (Verify words)) found input has
+command_answered (Sign words) found input has =
+    files_answered SignTable (ReportsSigning words.nonce words.now) (IsSignDone words.nonce words.now) (signing_answered words.nonce words.now) (name_of (Sign words)) found input has
 
 pub complete_law : IsComplete
 complete_law arguments command found input is has =

@@ -1,5 +1,5 @@
 -- The input that a source gives.
-use Rattle.std.proofs.Common.{◌≡◌, ◌+◌, ◌<◌, ◌≤◌, inl, inr, ℕ, Bool, true, false, List, [], length, replicate, Option, Some, None, Result, Ok, Err, refl, sym, ap, ◌∙◌, subst, arith}
+use Rattle.std.proofs.Common.{◌≡◌, ◌+◌, ◌<◌, ◌≤◌, inl, inr, ℕ, Bool, true, false, List, [], ◌∷◌, length, replicate, Option, Some, None, Result, Ok, Err, refl, sym, ap, ◌∙◌, subst, arith}
 use Rattle.std.specs.Prelude.{IfSome}
 use Rattle.std.specs.List.{list_all}
 use Rattle.std.proofs.lemmas.List.{drop_all, length-replicate}
@@ -7,11 +7,14 @@ use Rattle.hms_io.specs.Cause.{HasFillCause}
 use Rattle.hms_io.specs.Reading.{LosesPrefix, GivesAll}
 use Rattle.hms_io.specs.declared.read_write.FillError.{FillError}
 use Rattle.hms_io.specs.declared.read_write.FillError.TheVariants.{Memory as NoFillMemory, Failed, TooLong as Longer}
-use Rattle.msg_body.specs.Messages.{Message}
+use Rattle.msg_body.specs.Messages.{Message, Spells}
 use Rattle.component_values.specs.Context.{MessageContext}
 use Rattle.conf.specs.Configuration.{Configuration}
 use Rattle.verdicts.specs.declared.outcome.Verdict.{Verdict}
-use Rattle.commands.specs.Messages.{IsInputRefused}
+use Rattle.commands.specs.Messages.{IsInputMessage, IsInputRefused, reading_for}
+use Rattle.commands.specs.Sign.{ReportsEach, ReportsSigning}
+use Rattle.signing.specs.Written.{answers_head, context_with}
+use Rattle.signing.specs.declared.spec.SignSpec.{SignSpec}
 use Rattle.commands.specs.Base.{ReportsBase}
 use Rattle.commands.specs.Verify.{is_accepted, verdicts_outcome, ReportsVerdicts}
 use Rattle.commands.specs.declared.message.Reading.{Reading}
@@ -155,6 +158,22 @@ own_lines labels verdicts false is = rw is tt
 pub own_of_verdicts : (label : Option (List ℕ)) (now : ℕ) (conf : Configuration) (context : MessageContext) (outcome : Outcome) → ReportsVerdicts label now conf context outcome → IsOwn outcome
 own_of_verdicts label now conf context outcome reports =
     subst IsOwn (sym reports.outcome_is) (own_lines reports.labels reports.verdicts (list_all is_accepted reports.verdicts) refl)
+
+own_of_each : (specs : List SignSpec) (context : MessageContext) (outcome : Outcome) → ReportsEach context specs outcome → IsOwn outcome
+own_of_each [] context outcome is = subst IsOwn (sym is) tt
+own_of_each (spec ∷ specs) context outcome (inl made) = own_of_each specs (context_with context made.0) outcome made.2
+own_of_each (spec ∷ specs) context outcome (inr cause) = subst IsOwn (sym cause.2) tt
+
+pub own_of_signing : (nonce : Option (List ℕ)) (moment : ℕ) (conf : Configuration) (wishes : Option Message) (context : MessageContext) (outcome : Outcome)
+    → ReportsSigning nonce moment conf wishes context outcome → IsOwn outcome
+own_of_signing text moment conf None context outcome is = own_of_each (is.spec ∷ []) context outcome is.reports
+own_of_signing text moment conf (Some wishes) context outcome (inl specs) = own_of_each specs.0 context outcome specs.2
+own_of_signing text moment conf (Some wishes) context outcome (inr cause) = subst IsOwn (sym cause.2) tt
+
+-- an input is the text of the context's message
+pub spelled_input : (related : Option Message) (input : List ℕ) (message : Message) → IsInputMessage (reading_for related) input message → Spells (answers_head related) message input
+spelled_input None input message is = is.spells
+spelled_input (Some request) input message is = is.spells
 
 pub reads_nothing_counts : (before now : ℕ) (result : Result Outcome Stop) → ReadsNothing result → now ≡ before → CountsStop before now result
 reads_nothing_counts before now (Ok outcome) none same = same

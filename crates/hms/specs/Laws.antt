@@ -1,9 +1,9 @@
 -- Laws of what the program answers.
-use Rattle.std.specs.Prelude.{◌≡◌, ◌⊎◌, ⊤, ℕ, IsTrue, List, Option, Some}
+use Rattle.std.specs.Prelude.{◌≡◌, ◌⊎◌, ⊤, ℕ, IsTrue, IsFalse, List, [], ◌∷◌, Option, Some, None}
 use Rattle.std.specs.List.{list_all}
 use Rattle.hms_io.specs.declared.status.Status.TheVariants.{Done, NotOk}
 use Rattle.sfv_text.specs.Classes.{is_byte}
-use Rattle.command_line.specs.Command.{CommandLine, Help, Version, Base, Verify, IsCommand}
+use Rattle.command_line.specs.Command.{CommandLine, Help, Version, Base, Verify, Sign, SignWords, VerifyWords, IsCommand}
 use Rattle.component_ids.specs.declared.params.SigParams.{SigParams}
 use Rattle.component_values.specs.Context.{MessageContext}
 use Rattle.component_values.specs.Values.{HaveValues}
@@ -12,11 +12,29 @@ use Rattle.conf.specs.Configuration.{Configuration}
 use Rattle.commands.specs.Configured.{IsConfigured}
 use Rattle.commands.specs.Contexts.{context_for}
 use Rattle.commands.specs.Covered.{ReadsParams}
-use Rattle.commands.specs.Files.{Found, FileRole, Conf as ConfFile, Request as RequestFile}
+use Rattle.commands.specs.Files.{FileNames, Found, FileRole, Conf as ConfFile, Request as RequestFile, Wanted as WantedFile}
+use Rattle.commands.specs.Layers.{IsUnrefused}
 use Rattle.commands.specs.Messages.{IsInputMessage, reading_for}
 use Rattle.commands.specs.Outcome.{status_of}
-use Rattle.commands.specs.Requests.{IsRequested, IsOfBytes}
+use Rattle.commands.specs.MessageFiles.{IsRequested, IsWanted, IsOfBytes}
+use Rattle.commands.specs.Sign.{AreWishesRefused, IsSignRefused}
+use Rattle.commands.specs.SignedMessages.{IsLastLabel}
+use Rattle.commands.specs.Tables.{HasTables}
+use Rattle.commands.specs.Verify.{verdicts_outcome}
 use Rattle.commands.specs.declared.outcome.Outcome.{Outcome}
+use Rattle.commands.specs.declared.outcome.Outcome.TheVariants.{Done as Written}
+use Rattle.commands.specs.declared.tables.Needs.{Needs}
+use Rattle.commands.specs.declared.tables.Needs.TheVariants.{Nothing, SignTable}
+use Rattle.framing.specs.Framings.{is_request}
+use Rattle.signing.specs.Asked.{IsSpecOf}
+use Rattle.signing.specs.Signed.{IsSignedMessage}
+use Rattle.signing.specs.Wishes.{AreWished}
+use Rattle.signing.specs.Written.{context_with}
+use Rattle.signing.specs.declared.spec.SignSpec.{SignSpec}
+use Rattle.verdicts.specs.Laws.{is_rule_of_signing}
+use Rattle.verdicts.specs.declared.outcome.Verdict.{Verdict}
+use Rattle.verdicts.specs.declared.outcome.Verdict.TheVariants.{Ok as Accepted, Rule as Failing}
+use Rattle.hms.specs.Commands.{name_of}
 use Rattle.hms.specs.Report.{Reports}
 
 -- the arguments, what was found and the input have at most one outcome
@@ -41,26 +59,51 @@ pub record IsBaseDone (params : List ℕ) (context : MessageContext) : Type 0 wh
   pub values : List (List ℕ)
   pub have : HaveValues context sig.ids values
 
--- the files of these names say a configuration and a request, or no request is named, the input is
--- a message, which answers the request, and over the context of them the command can be done
-pub record IsServed (conf_name request_name : Option (List ℕ)) (found : Found) (input : List ℕ)
-    (IsDone : MessageContext → Type 0) : Type 0 where
+-- each of these signatures can be made, each over the message that the one before it gave
+abbrev pub CanSignEach : MessageContext → List SignSpec → Type 0
+CanSignEach context [] = ⊤
+CanSignEach context (spec ∷ specs) =
+    (written : Message)
+    × IsUnrefused (IsSignedMessage context spec) (IsSignRefused context spec) written
+    × CanSignEach (context_with context written) specs
+
+-- the signature that the configuration asks for can be made, or each that is wished
+abbrev pub IsSignDone : Option (List ℕ) → ℕ → Configuration → Option Message → MessageContext
+    → Type 0
+IsSignDone own moment conf None context =
+    (spec : SignSpec) × IsSpecOf conf (is_request context.message.head.start) moment own spec
+    × CanSignEach context (spec ∷ [])
+IsSignDone own moment conf (Some wishes) context =
+    (specs : List SignSpec)
+    × IsUnrefused (AreWished conf moment wishes) (AreWishesRefused conf wishes) specs
+    × CanSignEach context specs
+
+-- the files of these names say a configuration, which has what is needed, a request, and a message
+-- that wishes signatures, or the last two aren't named; the input is a message, which answers the
+-- request; and over all of them the command can be done
+pub record IsServed (needs : Needs) (names : FileNames) (found : Found) (input : List ℕ)
+    (IsDone : Configuration → Option Message → MessageContext → Type 0) : Type 0 where
   pub conf : Configuration
-  pub configured : IsConfigured conf_name (found ConfFile) conf
+  pub configured : IsConfigured (names ConfFile) (found ConfFile) conf
+  pub tables : HasTables needs conf
   pub related : Option Message
-  pub requested : IsRequested request_name (found RequestFile) related
+  pub requested : IsRequested (names RequestFile) (found RequestFile) related
+  pub wishes : Option Message
+  pub wanted : IsWanted (names WantedFile) (found WantedFile) wishes
   pub message : Message
   pub is : IsInputMessage (reading_for related) input message
-  pub done : IsDone (context_for conf message related)
+  pub done : IsDone conf wishes (context_for conf message related)
 
 -- the command has all that it needs
 abbrev pub HasAll : CommandLine → Found → List ℕ → Type 0
 HasAll Help found input = ⊤
 HasAll Version found input = ⊤
 HasAll (Base words) found input =
-    IsServed words.conf words.request found input (IsBaseDone words.params)
+    IsServed Nothing (name_of (Base words)) found input (λ conf wishes. IsBaseDone words.params)
 HasAll (Verify words) found input =
-    IsServed (Some words.conf) words.request found input (λ context. ⊤)
+    IsServed Nothing (name_of (Verify words)) found input (λ conf wishes context. ⊤)
+HasAll (Sign words) found input =
+    IsServed SignTable (name_of (Sign words)) found input (IsSignDone words.nonce words.now)
 
 -- the outcome is what was asked for, and no refusal
 abbrev pub IsAnswered : Outcome → Type 0
@@ -72,3 +115,39 @@ IsComplete =
     (arguments : List (List ℕ)) (command : CommandLine) (found : Found) (input : List ℕ)
     → IsCommand arguments command → HasAll command found input
     → (outcome : Outcome) × Reports arguments found input outcome × IsAnswered outcome
+
+-- ---- what is signed
+
+-- the verdict is `ok`, or names a rule that isn't one of signing: one by which a key, a moment, a
+-- nonce, a digest or what is covered is judged
+abbrev pub IsOkOrPolicy : Verdict → Type 0
+IsOkOrPolicy (Accepted keyid) = ⊤
+IsOkOrPolicy (Failing rule place) = IsFalse (is_rule_of_signing rule)
+
+-- `verify` is asked for the label, with the configuration, moment and request of `sign`
+pub record VerifiesSigned (signed : SignWords) (verified : VerifyWords) (label : List ℕ)
+    : Type 0 where
+  pub conf : verified.conf ≡ signed.conf
+  pub now : verified.now ≡ signed.now
+  pub request : verified.request ≡ signed.request
+  pub label_is : verified.label ≡ Some label
+
+-- the label is that of the last signature that `sign` makes
+abbrev pub SignsLast : SignWords → Found → List ℕ → Type 0
+SignsLast signed found label =
+    (conf : Configuration) × (wishes : Option Message)
+    × IsConfigured (Some signed.conf) (found ConfFile) conf
+    × IsWanted signed.wanted (found WantedFile) wishes × IsLastLabel conf wishes label
+
+-- What `sign` writes, given to `verify` with the same files at the same moment, is `ok` for the
+-- label of the last signature, or fails a rule of the policy, and no rule of signing.
+abbrev pub IsAcceptedWhereSigned : Type 0
+IsAcceptedWhereSigned =
+    (signing verifying : List (List ℕ)) (signed : SignWords) (verified : VerifyWords)
+    (label : List ℕ) (found : Found) (input written : List ℕ) (outcome : Outcome)
+    → IsCommand signing (Sign signed) → IsCommand verifying (Verify verified)
+    → VerifiesSigned signed verified label → SignsLast signed found label
+    → Reports signing found input (Written written) → IsTrue (list_all is_byte written)
+    → Reports verifying found written outcome
+    → (verdict : Verdict) × IsOkOrPolicy verdict
+    × (outcome ≡ verdicts_outcome (label ∷ []) (verdict ∷ []))

@@ -1,22 +1,27 @@
 -- What the program answers for its arguments, what was found in its files, and its input, and for
 -- nothing else.
-use Rattle.std.specs.Prelude.{⊤, ℕ, List, Option, Some}
-use Rattle.command_line.specs.Command.{CommandLine, Help, Version, Base, Verify, IsCommand, NoCommand}
+use Rattle.std.specs.Prelude.{⊤, ℕ, List, Option}
+use Rattle.command_line.specs.Command.{CommandLine, Help, Version, Base, Verify, Sign, IsCommand, NoCommand}
 use Rattle.msg_body.specs.Messages.{Message}
 use Rattle.component_values.specs.Context.{MessageContext}
 use Rattle.conf.specs.Configuration.{Configuration}
 use Rattle.commands.specs.Base.{ReportsBase}
 use Rattle.commands.specs.Configured.{IsConfigured, IsConfRefused}
 use Rattle.commands.specs.Contexts.{context_for}
-use Rattle.commands.specs.Files.{Found, Conf as ConfFile, Request as RequestFile}
+use Rattle.commands.specs.Files.{FileNames, Found, Conf as ConfFile, Request as RequestFile, Wanted as WantedFile}
 use Rattle.commands.specs.Help.{ReportsHelp, ReportsVersion}
 use Rattle.commands.specs.Layers.{ReadsThen}
 use Rattle.commands.specs.Messages.{IsInputMessage, IsInputRefused, reading_for}
-use Rattle.commands.specs.Requests.{IsRequested, IsRequestRefused}
+use Rattle.commands.specs.MessageFiles.{IsRequested, IsRequestRefused, IsWanted, IsWantedRefused}
+use Rattle.commands.specs.Sign.{ReportsSigning}
+use Rattle.commands.specs.Tables.{HasTables, IsTableMissing}
 use Rattle.commands.specs.Verify.{ReportsVerdicts}
 use Rattle.commands.specs.declared.message.Reading.{Reading}
 use Rattle.commands.specs.declared.outcome.Outcome.{Outcome}
-use Rattle.refusals.specs.declared.role.Role.TheVariants.{Conf, Request, Input}
+use Rattle.commands.specs.declared.tables.Needs.{Needs}
+use Rattle.commands.specs.declared.tables.Needs.TheVariants.{Nothing, SignTable}
+use Rattle.hms.specs.Commands.{name_of}
+use Rattle.refusals.specs.declared.role.Role.TheVariants.{Conf, Request, Wanted, Input}
 use Rattle.refusals.specs.declared.refusal.Refusal.TheVariants.{Arguments, Of}
 
 -- what comes of an input, which is read in this way as a message
@@ -27,36 +32,62 @@ ReportsInput Then reading input =
 
 -- what comes of a configuration and of an input, which is a response to the request, or, where
 -- none is known, a message of either kind
-abbrev pub ReportsMessage : (Configuration → MessageContext → Outcome → Type 0) → Configuration
-    → Option Message → List ℕ → Outcome → Type 0
+abbrev pub ReportsMessage : (MessageContext → Outcome → Type 0) → Configuration → Option Message
+    → List ℕ → Outcome → Type 0
 ReportsMessage Then conf related =
-    ReportsInput (λ message. Then conf (context_for conf message related)) (reading_for related)
+    ReportsInput (λ message. Then (context_for conf message related)) (reading_for related)
 
--- what comes of a configuration, of the request, if any, in the file of this name, and of an input
-abbrev pub ReportsRequest : (Configuration → MessageContext → Outcome → Type 0) → Configuration
-    → Option (List ℕ) → Found → List ℕ → Outcome → Type 0
-ReportsRequest Then conf name found input =
-    ReadsThen (IsRequested name (found RequestFile)) (IsRequestRefused name (found RequestFile))
-    (λ refusal. Of Request refusal) (λ related. ReportsMessage Then conf related input)
+-- what a command comes to over a configuration, the message that wishes signatures, if any, and a
+-- context
+abbrev pub Answers : Type 1
+Answers = Configuration → Option Message → MessageContext → Outcome → Type 0
 
--- what comes of a configuration and of a request in the files of these names, and of an input
-abbrev pub ReportsFiles : (Configuration → MessageContext → Outcome → Type 0) → Option (List ℕ)
-    → Option (List ℕ) → Found → List ℕ → Outcome → Type 0
-ReportsFiles Then conf_name request_name found input =
-    ReadsThen (IsConfigured conf_name (found ConfFile)) (IsConfRefused conf_name (found ConfFile))
-    (λ refusal. Of Conf refusal) (λ conf. ReportsRequest Then conf request_name found input)
+-- what comes of the message, if any, in the file of this name that wishes signatures, and of an
+-- input
+abbrev pub ReportsWishes : Answers → Configuration → Option Message → FileNames → Found → List ℕ
+    → Outcome → Type 0
+ReportsWishes Then conf related names found input =
+    ReadsThen (IsWanted (names WantedFile) (found WantedFile))
+    (IsWantedRefused (names WantedFile) (found WantedFile))
+    (λ refusal. Of Wanted refusal) (λ wishes. ReportsMessage (Then conf wishes) conf related input)
+
+-- what comes of the request, if any, in the file of this name, and of what is read after it
+abbrev pub ReportsRequest : Answers → Configuration → FileNames → Found → List ℕ → Outcome → Type 0
+ReportsRequest Then conf names found input =
+    ReadsThen (IsRequested (names RequestFile) (found RequestFile))
+    (IsRequestRefused (names RequestFile) (found RequestFile))
+    (λ refusal. Of Request refusal) (λ related. ReportsWishes Then conf related names found input)
+
+-- what comes of a configuration, which has to have what is needed, and of what is read after it
+abbrev pub ReportsTables : Needs → Answers → Configuration → FileNames → Found → List ℕ → Outcome
+    → Type 0
+ReportsTables needs Then conf names found input =
+    ReadsThen (λ (_ : ⊤). HasTables needs conf) (IsTableMissing needs conf)
+    (λ refusal. Of Conf refusal) (λ _. ReportsRequest Then conf names found input)
+
+-- what comes of the configuration in the file of this name, and of what is read after it
+abbrev pub ReportsFiles : Needs → Answers → FileNames → Found → List ℕ → Outcome → Type 0
+ReportsFiles needs Then names found input =
+    ReadsThen (IsConfigured (names ConfFile) (found ConfFile))
+    (IsConfRefused (names ConfFile) (found ConfFile))
+    (λ refusal. Of Conf refusal) (λ conf. ReportsTables needs Then conf names found input)
 
 -- what a command comes to over what was found and an input
 abbrev pub ReportsCommand : CommandLine → Found → List ℕ → Outcome → Type 0
 ReportsCommand Help found input = ReportsHelp
 ReportsCommand Version found input = ReportsVersion
 ReportsCommand (Base words) found input =
-    ReportsFiles (λ conf. ReportsBase words.params) words.conf words.request found input
+    ReportsFiles Nothing (λ conf wishes. ReportsBase words.params) (name_of (Base words)) found
+    input
 ReportsCommand (Verify words) found input =
-    ReportsFiles (ReportsVerdicts words.label words.now) (Some words.conf) words.request found input
+    ReportsFiles Nothing (λ conf wishes. ReportsVerdicts words.label words.now conf)
+    (name_of (Verify words)) found input
+ReportsCommand (Sign words) found input =
+    ReportsFiles SignTable (ReportsSigning words.nonce words.now) (name_of (Sign words)) found input
 
 -- The outcome for these arguments, what was found and this input. The arguments are judged first,
--- then the configuration, the request, the input, and the command over them.
+-- then the configuration, the request, the message that wishes signatures, the input, and the
+-- command over them.
 abbrev pub Reports : List (List ℕ) → Found → List ℕ → Outcome → Type 0
 Reports arguments found input =
     ReadsThen (IsCommand arguments) (λ (_ : ⊤). NoCommand arguments) (λ _. Arguments) (λ command.

@@ -1,6 +1,6 @@
 //! Laws of what the program answers. Each function does nothing; its contract is the law.
 
-ghost use Rattle.hms.specs.Laws.{HasOneReport, HasSomeReport, IsComplete};
+ghost use Rattle.hms.specs.Laws.{HasOneReport, HasSomeReport, IsComplete, IsAcceptedWhereSigned};
 
 /// For given arguments, files and input there is one outcome, and so one status and one output. So
 /// each row of the report is exact: its status and its output come there and nowhere else, out of
@@ -14,4 +14,10 @@ pub fn one_report()
 /// or 1.
 pub fn a_command_that_has_all_is_answered()
     ensures { IsComplete }
+{}
+
+/// What `sign` writes, given to `verify` with the same files at the same moment, is `ok` for the
+/// label of the last signature, or fails a rule of the policy, and no rule of signing.
+pub fn what_is_signed_is_accepted()
+    ensures { IsAcceptedWhereSigned }
 {}

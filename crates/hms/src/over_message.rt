@@ -1,23 +1,26 @@
 //! Commands over a configuration and one whole message, and their steps: the configuration is read,
-//! then the request that the message answers, the source, and its message; the context is made, and
-//! the command is done over it.
+//! then the request that the message answers, the message that wishes signatures, the source, and
+//! its message; the context is made, and the command is done over it.
 
-ghost use Rattle.std.specs.Prelude.{◌≡◌, ◌+◌, ◌≤◌, None, IfNone, length, option_map, string_bytes};
+ghost use Rattle.std.specs.Prelude.{◌≡◌, ◌+◌, ◌≤◌, None, IfNone, Option, length, option_map};
 ghost use Rattle.hms_io.specs.Files.{KeepsFiles};
+ghost use Rattle.msg_body.specs.Messages.{Spells};
 ghost use Rattle.msg_body.specs.Views.{message_of};
 ghost use Rattle.component_values.specs.Context.{context_of};
 ghost use Rattle.conf.specs.ConfMeaning.{meaning};
-ghost use Rattle.commands.specs.Files.{AreFound, conf_and_request, file_count};
+ghost use Rattle.commands.specs.Files.{AreFound, file_names, file_count};
 ghost use Rattle.commands.specs.Stops.{IfOutcome, ReadsNothing, CountsStop};
+ghost use Rattle.commands.specs.Tables.{HasTables};
+ghost use Rattle.signing.specs.Written.{answers_head};
 ghost use Rattle.hms.specs.Commands.{LosesAtMost, Whole};
 ghost use Rattle.hms.specs.Ends.{HasInput, HasOutcome, Leaves};
-ghost use Rattle.hms.specs.Report.{ReportsFiles, ReportsMessage, ReportsRequest};
+ghost use Rattle.hms.specs.Report.{ReportsFiles, ReportsMessage, ReportsRequest, ReportsWishes};
 ghost use Rattle.hms.specs.tools.Parts.{CountsOne, IsAfterInput, IsOwn};
 
-use command_line::{BaseWords, VerifyWords};
+use command_line::{BaseWords, SignWords, VerifyWords};
 use commands::{
-    Outcome, Reading, Stop, context_for, read_configuration, read_input, read_request,
-    take_request, write_base, write_verdicts,
+    Needs, Outcome, Reading, Stop, check_tables, context_for, read_configuration, read_input,
+    read_taken, take_message, write_base, write_signed, write_verdicts, write_wished,
 };
 use component_values::Context;
 use conf::Conf;
@@ -28,21 +31,40 @@ use std::alloc::Global;
 
 /// A command over a configuration and one whole message.
 pub trait OverMessage {
+    ghost use Rattle.msg_body.specs.Messages.{Message};
     ghost use Rattle.component_values.specs.Context.{MessageContext};
     ghost use Rattle.conf.specs.Configuration.{Configuration};
     ghost use Rattle.commands.specs.declared.outcome.Outcome.{Outcome};
+    ghost use Rattle.commands.specs.declared.tables.Needs.{Needs};
 
-    // The numbers of its words are in their ranges.
-    ghost is_timely: { Self → Type 0 };
+    // Its words are in their ranges.
+    ghost is_in_range: { Self → Type 0 };
 
-    // What it comes to.
-    ghost reports: { Self → Configuration → MessageContext → Outcome → Type 0 };
+    // What it needs of the configuration.
+    ghost tables: { Self → Needs };
 
-    /// Does the command over the message of the context. It reads nothing.
-    fn answer(&self, alloc: Global, conf: &Conf, context: &Context<'_, '_>) -> Result<Outcome, Stop>
-        requires { is_timely self.now }
-        ensures report { IfOutcome result
-            (reports self.now (meaning conf.now) (context_of context.now)) }
+    // What it comes to, over the message that wishes signatures, where there is one.
+    ghost reports: { Self → Configuration → Option Message → MessageContext → Outcome → Type 0 };
+
+    /// What it needs of the configuration.
+    fn needs(&self) -> Needs
+        ensures { result ≡ tables self.now };
+
+    /// Does the command over the message of the context, whose bytes these are. It reads nothing.
+    fn answer(
+        &self,
+        alloc: Global,
+        conf: &Conf,
+        wishes: Option<&MessageView<'_>>,
+        bytes: &[u8],
+        context: &Context<'_, '_>,
+    ) -> Result<Outcome, Stop>
+        requires in_range { is_in_range self.now }
+        requires tables { HasTables (tables self.now) (meaning conf.now) }
+        requires spells { Spells (answers_head (context_of context.now).related)
+            (context_of context.now).message bytes.now }
+        ensures report { IfOutcome result (reports self.now (meaning conf.now)
+            (option_map (λ view. message_of view.now) wishes.entry) (context_of context.now)) }
         ensures own { IfOutcome result IsOwn }
         ensures reads_nothing { ReadsNothing result };
 }
@@ -50,15 +72,24 @@ pub trait OverMessage {
 impl<'a> OverMessage for BaseWords<'a> {
     ghost use Rattle.std.specs.Prelude.{⊤};
     ghost use Rattle.commands.specs.Base.{ReportsBase};
+    ghost use Rattle.commands.specs.declared.tables.Needs.TheVariants.{Nothing};
 
-    ghost is_timely = { λ words. ⊤ };
+    ghost is_in_range = { λ words. ⊤ };
 
-    ghost reports = { λ words conf. ReportsBase words.params.now };
+    ghost tables = { λ words. Nothing };
+
+    ghost reports = { λ words conf wishes. ReportsBase words.params.now };
+
+    fn needs(&self) -> Needs {
+        Needs::Nothing
+    }
 
     fn answer(
         &self,
         alloc: Global,
         _conf: &Conf,
+        _wishes: Option<&MessageView<'_>>,
+        _bytes: &[u8],
         context: &Context<'_, '_>,
     ) -> Result<Outcome, Stop> {
         write_base(alloc, self.params.as_bytes(), context)
@@ -69,19 +100,62 @@ impl<'a> OverMessage for VerifyWords<'a> {
     ghost use Rattle.std.specs.Prelude.{◌<◌, ◌^◌, option_map};
     ghost use Rattle.command_line.specs.declared.options.TheConstants.{MAX_MOMENT_DIGITS};
     ghost use Rattle.commands.specs.Verify.{ReportsVerdicts};
+    ghost use Rattle.commands.specs.declared.tables.Needs.TheVariants.{Nothing};
 
-    ghost is_timely = { λ words. words.now < 10 ^ MAX_MOMENT_DIGITS };
+    ghost is_in_range = { λ words. words.now < 10 ^ MAX_MOMENT_DIGITS };
 
-    ghost reports = { λ words.
-        ReportsVerdicts (option_map (λ word. word.now) words.label) words.now };
+    ghost tables = { λ words. Nothing };
+
+    ghost reports = { λ words conf wishes.
+        ReportsVerdicts (option_map (λ word. word.now) words.label) words.now conf };
+
+    fn needs(&self) -> Needs {
+        Needs::Nothing
+    }
 
     fn answer(
         &self,
         alloc: Global,
         conf: &Conf,
+        _wishes: Option<&MessageView<'_>>,
+        _bytes: &[u8],
         context: &Context<'_, '_>,
     ) -> Result<Outcome, Stop> {
         Ok(write_verdicts(alloc, conf, self.now, self.label, context)?)
+    }
+}
+
+impl<'a> OverMessage for SignWords<'a> {
+    ghost use Rattle.std.specs.Prelude.{◌<◌, ◌^◌, option_map, IfSome, IsTrue};
+    ghost use Rattle.command_line.specs.Options.{is_nonce};
+    ghost use Rattle.command_line.specs.declared.options.TheConstants.{MAX_MOMENT_DIGITS};
+    ghost use Rattle.commands.specs.Sign.{ReportsSigning};
+    ghost use Rattle.commands.specs.declared.tables.Needs.TheVariants.{SignTable};
+
+    ghost is_in_range = { λ words. (words.now < 10 ^ MAX_MOMENT_DIGITS)
+        × IfSome (option_map (λ word. word.now) words.nonce) (λ nonce. IsTrue (is_nonce nonce)) };
+
+    ghost tables = { λ words. SignTable };
+
+    ghost reports = { λ words.
+        ReportsSigning (option_map (λ word. word.now) words.nonce) words.now };
+
+    fn needs(&self) -> Needs {
+        Needs::SignTable
+    }
+
+    fn answer(
+        &self,
+        alloc: Global,
+        conf: &Conf,
+        wishes: Option<&MessageView<'_>>,
+        bytes: &[u8],
+        context: &Context<'_, '_>,
+    ) -> Result<Outcome, Stop> {
+        match wishes {
+            None => write_signed(alloc, conf, self.now, self.nonce, bytes, context),
+            Some(wishes) => write_wished(alloc, conf, self.now, wishes, bytes, context),
+        }
     }
 }
 
@@ -92,11 +166,14 @@ fn over_input<'x, C: OverMessage>(
     command: &C,
     conf: &'x Conf,
     related: Option<&'x MessageView<'x>>,
+    wishes: Option<&MessageView<'_>>,
     input: &'x [u8],
 ) -> Result<Outcome, Stop>
-    requires timely { C.is_timely command.now }
+    requires in_range { C.is_in_range command.now }
+    requires tables { HasTables (C.tables command.now) (meaning conf.now) }
     requires short { length input.now ≤ MAX_INPUT_BYTES }
-    ensures report { IfOutcome result (ReportsMessage (C.reports command.now) (meaning conf.now)
+    ensures report { IfOutcome result (ReportsMessage (C.reports command.now (meaning conf.now)
+        (option_map (λ view. message_of view.now) wishes.entry)) (meaning conf.now)
         (option_map (λ view. message_of view.now) related.entry) input.now) }
     ensures after { IfOutcome result IsAfterInput }
     ensures reads_nothing { ReadsNothing result }
@@ -104,7 +181,7 @@ fn over_input<'x, C: OverMessage>(
     let reading = Reading::of_input(related);
     let message = read_input(alloc, reading, Role::Input, input)?;
     let context = context_for(conf, &message, related);
-    command.answer(alloc, conf, &context)
+    command.answer(alloc, conf, wishes, input, &context)
 }
 
 /// Does the command over what the source gives: reads it to its end, or one byte past the limit.
@@ -113,11 +190,14 @@ fn over_source<C: OverMessage, S: Source>(
     command: &C,
     conf: &Conf,
     related: Option<&MessageView<'_>>,
+    wishes: Option<&MessageView<'_>>,
     source: &mut S,
 ) -> Result<Outcome, Stop>
-    requires { C.is_timely command.now }
+    requires in_range { C.is_in_range command.now }
+    requires tables { HasTables (C.tables command.now) (meaning conf.now) }
     ensures report { IfOutcome result (HasInput
-        (ReportsMessage (C.reports command.now) (meaning conf.now)
+        (ReportsMessage (C.reports command.now (meaning conf.now)
+        (option_map (λ view. message_of view.now) wishes.entry)) (meaning conf.now)
         (option_map (λ view. message_of view.now) related.entry))
         (Leaves (Whole MAX_INPUT_BYTES) (source.new ≡ source.old)
         (S.left source.old) (S.left source.new)) (S.left source.old)) }
@@ -130,26 +210,29 @@ fn over_source<C: OverMessage, S: Source>(
         Ok(input) => input,
         Err(error) => return Err(Stop::of_fill(MAX_INPUT_BYTES, error)),
     };
-    over_input(alloc, command, conf, related, input.bytes())
+    over_input(alloc, command, conf, related, wishes, input.bytes())
 }
 
-/// Does the command over the named request and what the source gives.
-fn over_request<C: OverMessage, F: Shelf, S: Source>(
+/// Does the command over the named message that wishes signatures and what the source gives.
+fn over_wishes<C: OverMessage, F: Shelf, S: Source>(
     alloc: Global,
     command: &C,
     conf: &Conf,
+    related: Option<&MessageView<'_>>,
     name: Option<&str>,
     shelf: &mut F,
     source: &mut S,
 ) -> Result<Outcome, Stop>
-    requires { C.is_timely command.now }
+    requires in_range { C.is_in_range command.now }
+    requires tables { HasTables (C.tables command.now) (meaning conf.now) }
     ensures report { IfOutcome result (HasOutcome
-        (ReportsRequest (C.reports command.now) (meaning conf.now)
-        (option_map (λ word. word.now) name.entry))
+        (ReportsWishes (C.reports command.now) (meaning conf.now)
+        (option_map (λ view. message_of view.now) related.entry)
+        (file_names None None (option_map (λ word. word.now) name.entry)))
         (Leaves (Whole MAX_INPUT_BYTES) (source.new ≡ source.old)
         (S.left source.old) (S.left source.new))
         (AreFound (F.files shelf.old)
-        (conf_and_request None (option_map (λ word. word.now) name.entry)))
+        (file_names None None (option_map (λ word. word.now) name.entry)))
         (S.left source.old)) }
     ensures cause { CountsOne (source.new ≡ source.old) (F.faults shelf.old) (F.faults shelf.new)
         (S.faults source.old) (S.faults source.new) result }
@@ -161,28 +244,31 @@ fn over_request<C: OverMessage, F: Shelf, S: Source>(
     ensures files { KeepsFiles (F.files shelf.old) (F.files shelf.new) }
     ensures unasked { IfNone name.entry (shelf.new ≡ shelf.old) }
 {
-    let text = take_request(alloc, name, shelf)?;
-    let related = read_request(alloc, text.as_ref())?;
-    over_source(alloc, command, conf, related.as_ref(), source)
+    let text = take_message(alloc, Role::Wanted, name, shelf)?;
+    let wishes = read_taken(alloc, Role::Wanted, Reading::of_any(), text.as_ref())?;
+    over_source(alloc, command, conf, related, wishes.as_ref(), source)
 }
 
-/// Does the command over the named configuration, the named request and what the source gives.
-pub fn over_files<C: OverMessage, F: Shelf, S: Source>(
+/// Does the command over the named request, and what is read after it.
+fn over_request<C: OverMessage, F: Shelf, S: Source>(
     alloc: Global,
     command: &C,
-    conf: Option<&str>,
-    request: Option<&str>,
+    conf: &Conf,
+    name: Option<&str>,
+    wanted: Option<&str>,
     shelf: &mut F,
     source: &mut S,
 ) -> Result<Outcome, Stop>
-    requires { C.is_timely command.now }
+    requires in_range { C.is_in_range command.now }
+    requires tables { HasTables (C.tables command.now) (meaning conf.now) }
     ensures report { IfOutcome result (HasOutcome
-        (ReportsFiles (C.reports command.now) (option_map (λ word. word.now) conf.entry)
-        (option_map (λ word. word.now) request.entry))
+        (ReportsRequest (C.reports command.now) (meaning conf.now)
+        (file_names None (option_map (λ word. word.now) name.entry)
+        (option_map (λ word. word.now) wanted.entry)))
         (Leaves (Whole MAX_INPUT_BYTES) (source.new ≡ source.old)
         (S.left source.old) (S.left source.new))
-        (AreFound (F.files shelf.old) (conf_and_request (option_map (λ word. word.now) conf.entry)
-        (option_map (λ word. word.now) request.entry)))
+        (AreFound (F.files shelf.old) (file_names None (option_map (λ word. word.now) name.entry)
+        (option_map (λ word. word.now) wanted.entry)))
         (S.left source.old)) }
     ensures cause { CountsOne (source.new ≡ source.old) (F.faults shelf.old) (F.faults shelf.new)
         (S.faults source.old) (S.faults source.new) result }
@@ -191,11 +277,62 @@ pub fn over_files<C: OverMessage, F: Shelf, S: Source>(
     ensures few { LosesAtMost (MAX_INPUT_BYTES + 1) (S.left source.old) (S.left source.new) }
     ensures ended { S.ended source.old ≡ 0 → S.ended source.new ≤ 1 }
     ensures asked { F.asked shelf.new ≤ F.asked shelf.old
-        + file_count (conf_and_request (option_map (λ word. word.now) conf.entry)
-        (option_map (λ word. word.now) request.entry)) }
+        + file_count (file_names None (option_map (λ word. word.now) name.entry)
+        (option_map (λ word. word.now) wanted.entry)) }
     ensures files { KeepsFiles (F.files shelf.old) (F.files shelf.new) }
-    ensures unasked { IfNone conf.entry (IfNone request.entry (shelf.new ≡ shelf.old)) }
+    ensures unasked { IfNone name.entry (IfNone wanted.entry (shelf.new ≡ shelf.old)) }
+{
+    let text = take_message(alloc, Role::Request, name, shelf)?;
+    let related = read_taken(alloc, Role::Request, Reading::of_request(), text.as_ref())?;
+    over_wishes(
+        alloc,
+        command,
+        conf,
+        related.as_ref(),
+        wanted,
+        shelf,
+        source,
+    )
+}
+
+/// Does the command over the files of these names and what the source gives: the configuration, the
+/// request that the input answers, and the message that wishes signatures.
+pub fn over_files<C: OverMessage, F: Shelf, S: Source>(
+    alloc: Global,
+    command: &C,
+    conf: Option<&str>,
+    request: Option<&str>,
+    wanted: Option<&str>,
+    shelf: &mut F,
+    source: &mut S,
+) -> Result<Outcome, Stop>
+    requires { C.is_in_range command.now }
+    ensures report { IfOutcome result (HasOutcome
+        (ReportsFiles (C.tables command.now) (C.reports command.now)
+        (file_names (option_map (λ word. word.now) conf.entry)
+        (option_map (λ word. word.now) request.entry)
+        (option_map (λ word. word.now) wanted.entry)))
+        (Leaves (Whole MAX_INPUT_BYTES) (source.new ≡ source.old)
+        (S.left source.old) (S.left source.new))
+        (AreFound (F.files shelf.old) (file_names (option_map (λ word. word.now) conf.entry)
+        (option_map (λ word. word.now) request.entry)
+        (option_map (λ word. word.now) wanted.entry)))
+        (S.left source.old)) }
+    ensures cause { CountsOne (source.new ≡ source.old) (F.faults shelf.old) (F.faults shelf.new)
+        (S.faults source.old) (S.faults source.new) result }
+    ensures shelf_later { F.faults shelf.old ≤ F.faults shelf.new }
+    ensures source_later { S.faults source.old ≤ S.faults source.new }
+    ensures few { LosesAtMost (MAX_INPUT_BYTES + 1) (S.left source.old) (S.left source.new) }
+    ensures ended { S.ended source.old ≡ 0 → S.ended source.new ≤ 1 }
+    ensures asked { F.asked shelf.new ≤ F.asked shelf.old
+        + file_count (file_names (option_map (λ word. word.now) conf.entry)
+        (option_map (λ word. word.now) request.entry)
+        (option_map (λ word. word.now) wanted.entry)) }
+    ensures files { KeepsFiles (F.files shelf.old) (F.files shelf.new) }
+    ensures unasked { IfNone conf.entry (IfNone request.entry (IfNone wanted.entry
+        (shelf.new ≡ shelf.old))) }
 {
     let conf = read_configuration(alloc, conf, shelf)?;
-    over_request(alloc, command, &conf, request, shelf, source)
+    check_tables(alloc, command.needs(), &conf)?;
+    over_request(alloc, command, &conf, request, wanted, shelf, source)
 }

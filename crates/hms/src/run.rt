@@ -47,19 +47,33 @@ fn run_command<F: Shelf, S: Source>(
     match command {
         Command::Help => Ok(write_help(alloc)?),
         Command::Version => Ok(write_version(alloc)?),
-        Command::Base(words) => {
-            over_files(alloc, &words, words.conf, words.request, shelf, source)
-        }
-        Command::Verify(words) => {
-            over_files(
-                alloc,
-                &words,
-                Some(words.conf),
-                words.request,
-                shelf,
-                source,
-            )
-        }
+        Command::Base(words) => over_files(
+            alloc,
+            &words,
+            words.conf,
+            words.request,
+            None,
+            shelf,
+            source,
+        ),
+        Command::Verify(words) => over_files(
+            alloc,
+            &words,
+            Some(words.conf),
+            words.request,
+            None,
+            shelf,
+            source,
+        ),
+        Command::Sign(words) => over_files(
+            alloc,
+            &words,
+            Some(words.conf),
+            words.request,
+            words.wanted,
+            shelf,
+            source,
+        ),
     }
 }
 

@@ -20,7 +20,7 @@ pub(crate) enum BodyView<'m> {
 }
 
 /// What the bytes after a head begin with.
-#[derive(Debug, Drop)]
+#[derive(Drop)]
 pub(crate) enum BodyRead<'m> {
     /// A body, and how many bytes it has.
     Whole(BodyView<'m>, usize),

@@ -1,8 +1,8 @@
 -- The end of a head or a trailer section: the first empty line.
-use Rattle.std.proofs.Common.{◌≡◌, ◌≢◌, ◌⊎◌, ℕ, ◌+◌, List, [], ◌∷◌, ◌++◌, length, take, drop, get_or, Some, None, sym, ap, inl, inr, ◌∙◌, arith, append_assoc, length-append, length-take, refl, subst, codes}
+use Rattle.std.proofs.Common.{◌≡◌, ◌≢◌, ◌⊎◌, ℕ, ◌+◌, ◌==◌, List, [], ◌∷◌, ◌++◌, length, take, drop, get_or, Some, None, sym, ap, inl, inr, ◌∙◌, arith, append_assoc, length-append, length-take, refl, subst, codes}
 use Rattle.std.proofs.Math.ListN.{get_or-append}
 use Rattle.std.proofs.Math.Seq.{take-add}
-use Rattle.std.proofs.lemmas.Bool.{cases_lt}
+use Rattle.std.proofs.lemmas.Bool.{cases_lt, false≢true}
 use Rattle.std.proofs.lemmas.List.{nil_from_length, append_cancel_left, get_or-append-add, take-append-drop}
 use Rattle.memchr.specs.Find.{OccursAt, FindsNeedle}
 use Rattle.memchr.proofs.lemmas.MatchLemmas.{OccursAt-split}
@@ -58,9 +58,9 @@ empty_section bytes b = subst (λ (x : List ℕ). IsTrailerSection x (take 2 x))
 
 -- where bytes don't begin with CRLF, each CRLF CRLF after the line's end is in them
 end_after : (bytes one other : List ℕ) → ((rest : List ℕ) → bytes ≢ 13 ∷ 10 ∷ rest) → 13 ∷ 10 ∷ bytes ≡ one ++ (codes "\r\n\r\n" ++ other) → (less : List ℕ) × (bytes ≡ less ++ (codes "\r\n\r\n" ++ other))
-end_after bytes [] other none e = absurd (none other cc)
-end_after bytes (c ∷ []) other none e = absurd cc
-end_after bytes (c ∷ d ∷ one) other none e = (one, cc)
+end_after bytes [] other none e = absurd (none other (ap (drop {A = ℕ} 2) e))
+end_after bytes (c ∷ []) other none e = absurd (false≢true (ap (λ (s : List ℕ). get_or s 1 0 == 13) e))
+end_after bytes (c ∷ d ∷ one) other none e = (one, ap (drop {A = ℕ} 2) e)
 
 pub no_end_after : (bytes : List ℕ) → ¬ BeginsWithCrlf bytes → HasNoEnd bytes → HasNoEnd (after_chunks bytes)
 no_end_after bytes plain none before after e =
@@ -81,8 +81,8 @@ longer : (bytes section rest before : List ℕ) → IsTrailerSection bytes secti
 longer bytes [] rest before s ends more e = omega (arith, ap (length {A = ℕ}) ends, length-append before (codes "\r\n\r\n"))
 longer bytes (x ∷ []) rest before s ends more e = omega (arith, ap (length {A = ℕ}) ends, length-append before (codes "\r\n\r\n"))
 longer bytes (x ∷ y ∷ text) rest before s ends more e =
-    let one : x ≡ 13 = cc in
-    let two : y ≡ 10 = cc in
+    let one : x ≡ 13 = ap (λ (s : List ℕ). get_or s 0 0) e in
+    let two : y ≡ 10 = ap (λ (s : List ℕ). get_or s 1 0) e in
     let alone : text ≡ [] = s.first [] text (λ i. 13 ∷ 10 ∷ one i ∷ two i ∷ text) in
     omega (arith, ap (length {A = ℕ}) alone, ap (length {A = ℕ}) ends, length-append before (codes "\r\n\r\n"))
 
@@ -92,10 +92,10 @@ section_by bytes section s [] e =
     let first = append_cancel_left (13 ∷ 10 ∷ []) bytes (section ++ s.more) s.joined in
     let alone : section ≡ codes "\r\n" = append_cancel_left (13 ∷ 10 ∷ []) section (13 ∷ 10 ∷ []) e in
     inl (s.more, first ∙ ap (λ (x : List ℕ). x ++ s.more) alone, alone)
-section_by bytes section s (c ∷ []) e = absurd cc
+section_by bytes section s (c ∷ []) e = absurd (false≢true (ap (λ (s : List ℕ). get_or s 1 0 == 13) e))
 section_by bytes section s (c ∷ d ∷ before) e =
     let first = append_cancel_left (13 ∷ 10 ∷ []) bytes (section ++ s.more) s.joined in
-    let ends : section ≡ before ++ codes "\r\n\r\n" = cc in
+    let ends : section ≡ before ++ codes "\r\n\r\n" = ap (drop {A = ℕ} 2) e in
     inr (
       (λ rest is. longer bytes section rest before s ends s.more (sym first ∙ is)),
       record { more = s.more; joined = first; before = before; ends = ends; first = λ one other there. s.first (13 ∷ 10 ∷ one) other (ap (λ (x : List ℕ). 13 ∷ 10 ∷ x) there) },

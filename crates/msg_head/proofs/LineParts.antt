@@ -1,7 +1,7 @@
 -- The parts of a field line are determined by the line as it is cut.
-use Rattle.std.proofs.Common.{◌≡◌, ℕ, ◌<◌, true, nat_lt, List, [], ◌∷◌, ◌++◌, length, refl, sym, ap, ◌∙◌, append_assoc}
+use Rattle.std.proofs.Common.{◌≡◌, ℕ, ◌<◌, ◌==◌, true, nat_lt, List, [], ◌∷◌, ◌++◌, length, drop, get_or, refl, sym, ap, ◌∙◌, append_assoc}
 use Rattle.std.specs.List.{list_all, flat_map}
-use Rattle.std.proofs.lemmas.Bool.{and_parts, and_from, lt-ltb}
+use Rattle.std.proofs.lemmas.Bool.{and_parts, and_from, lt-ltb, false≢true}
 use Rattle.std.proofs.lemmas.List.Folds.{list_all-append}
 use Rattle.byte_grammar.specs.Classes.{is_tchar, is_line_byte}
 use Rattle.msg_head.specs.RawValues.{RawPieces, are_pieces, is_continuation, pieces_text, continuation_text}
@@ -50,14 +50,13 @@ no_raw cut more bytes name rest b n none line m = none m.is.raw.0 more (raw_begi
 -- ---- where one is
 
 colon_in_first : (name rest first tail : List ℕ) → list_all is_tchar name ≡ true → name ++ 58 ∷ rest ≡ first ++ 13 ∷ tail → (raw : List ℕ) × (first ≡ name ++ 58 ∷ raw) × (rest ≡ raw ++ 13 ∷ tail)
-colon_in_first [] rest [] tail each e = absurd cc
-colon_in_first [] rest (f ∷ fs) tail each e =
-    let same : f ≡ 58 = cc in (fs, ap (λ c. c ∷ fs) same, cc)
+colon_in_first [] rest [] tail each e = absurd (false≢true (ap (λ (s : List ℕ). get_or s 0 0 == 13) e))
+colon_in_first [] rest (f ∷ fs) tail each e = (fs, ap (λ (s : List ℕ). get_or s 0 0 ∷ fs) (sym e), ap (drop {A = ℕ} 1) e)
 colon_in_first (x ∷ xs) rest [] tail each e =
-    let same : x ≡ 13 = cc in absurd (outside is_tchar x 13 (and_parts _ _ each).0 refl same)
+    let same : x ≡ 13 = ap (λ (s : List ℕ). get_or s 0 0) e in absurd (outside is_tchar x 13 (and_parts _ _ each).0 refl same)
 colon_in_first (x ∷ xs) rest (f ∷ fs) tail each e =
-    let same : f ≡ x = cc in
-    let left : xs ++ 58 ∷ rest ≡ fs ++ 13 ∷ tail = cc in
+    let same : f ≡ x = ap (λ (s : List ℕ). get_or s 0 0) (sym e) in
+    let left : xs ++ 58 ∷ rest ≡ fs ++ 13 ∷ tail = ap (drop {A = ℕ} 1) e in
     let others = colon_in_first xs rest fs tail (and_parts _ _ each).1 left in
     (others.0, λ i. same i ∷ others.1 i, others.2)
 

@@ -1,5 +1,5 @@
 -- Sections and cuts: a clean section is cut in lines, and what is cut is a clean section.
-use Rattle.std.proofs.Common.{◌≡◌, ℕ, ◌≤◌, Bool, true, ◌&&◌, nat_lt, inl, inr, List, [], ◌∷◌, ◌++◌, length, refl, sym, ap, ◌∙◌, arith, append_assoc, length-append, codes}
+use Rattle.std.proofs.Common.{◌≡◌, ℕ, ◌≤◌, ◌==◌, Bool, true, ◌&&◌, nat_lt, inl, inr, List, [], ◌∷◌, ◌++◌, length, drop, get_or, refl, sym, ap, ◌∙◌, arith, append_assoc, length-append, codes}
 use Rattle.std.specs.List.{list_all, flat_map}
 use Rattle.std.proofs.lemmas.Bool.{and_parts, and_from, cases_lt, lt-ltb, false≢true}
 use Rattle.std.proofs.lemmas.List.{append-nil, append_cancel_left}
@@ -74,13 +74,13 @@ pub data Lies (p tail one other : List ℕ) : Type 0 where
 
 lies : (p tail one other : List ℕ) → list_all is_line_byte p ≡ true → p ++ 13 ∷ 10 ∷ tail ≡ one ++ 13 ∷ 10 ∷ 13 ∷ 10 ∷ other → Lies p tail one other
 lies [] tail [] other is e = here (append_cancel_left (13 ∷ 10 ∷ []) tail (13 ∷ 10 ∷ other) e)
-lies [] tail (c ∷ []) other is e = absurd cc
-lies [] tail (c ∷ d ∷ one) other is e = later one cc
+lies [] tail (c ∷ []) other is e = absurd (false≢true (ap (λ (s : List ℕ). get_or s 1 0 == 13) e))
+lies [] tail (c ∷ d ∷ one) other is e = later one (ap (drop {A = ℕ} 2) e)
 lies (x ∷ xs) tail [] other is e =
-    let same : x ≡ 13 = cc in
+    let same : x ≡ 13 = ap (λ (s : List ℕ). get_or s 0 0) e in
     absurd (outside is_line_byte x 13 (and_parts (is_line_byte x) (list_all is_line_byte xs) is).0 refl same)
 lies (x ∷ xs) tail (c ∷ one) other is e =
-    let rest : xs ++ 13 ∷ 10 ∷ tail ≡ one ++ 13 ∷ 10 ∷ 13 ∷ 10 ∷ other = cc in
+    let rest : xs ++ 13 ∷ 10 ∷ tail ≡ one ++ 13 ∷ 10 ∷ 13 ∷ 10 ∷ other = ap (drop {A = ℕ} 1) e in
     elim (lies xs tail one other (and_parts (is_line_byte x) (list_all is_line_byte xs) is).1 rest) [
       | here h ↦ here h
       | later left h ↦ later left h
@@ -89,7 +89,7 @@ lies (x ∷ xs) tail (c ∷ one) other is e =
 full_no_cr : (p rest other : List ℕ) → is_full p ≡ true → p ++ rest ≡ 13 ∷ other → ⊥
 full_no_cr [] rest other full e = false≢true full
 full_no_cr (c ∷ cs) rest other full e =
-    let same : c ≡ 13 = cc in
+    let same : c ≡ 13 = ap (λ (s : List ℕ). get_or s 0 0) e in
     let clean = (and_parts (nat_lt 0 (length (c ∷ cs))) (list_all is_line_byte (c ∷ cs)) full).1 in
     outside is_line_byte c 13 (and_parts (is_line_byte c) (list_all is_line_byte cs) clean).0 refl same
 
@@ -169,8 +169,8 @@ prefix_of_other : (s t more rest : List ℕ) → s ++ more ≡ t ++ rest → len
 prefix_of_other [] t more rest e low = (t, refl)
 prefix_of_other (c ∷ s) [] more rest e low = absurd (omega (arith, low))
 prefix_of_other (c ∷ s) (d ∷ t) more rest e low =
-    let first : d ≡ c = cc in
-    let left : s ++ more ≡ t ++ rest = cc in
+    let first : d ≡ c = ap (λ (s : List ℕ). get_or s 0 0) (sym e) in
+    let left : s ++ more ≡ t ++ rest = ap (drop {A = ℕ} 1) e in
     let others = prefix_of_other s t more rest left (omega (arith, low)) in
     (others.0, λ i. first i ∷ others.1 i)
 

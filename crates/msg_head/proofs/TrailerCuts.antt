@@ -1,7 +1,7 @@
 -- Trailer sections as they are cut: as a head is whose first line is empty.
-use Rattle.std.proofs.Common.{◌≡◌, ℕ, true, List, [], ◌∷◌, ◌++◌, length, take, drop, refl, sym, subst, ap, ◌∙◌, append_assoc}
+use Rattle.std.proofs.Common.{◌≡◌, ℕ, ◌==◌, true, List, [], ◌∷◌, ◌++◌, length, take, drop, get_or, refl, sym, subst, ap, ◌∙◌, append_assoc}
 use Rattle.std.specs.List.{All, list_all, flat_map}
-use Rattle.std.proofs.lemmas.Bool.{and_parts}
+use Rattle.std.proofs.lemmas.Bool.{and_parts, false≢true}
 use Rattle.std.proofs.lemmas.List.{append_cancel_left, append_cancel_right, take-append-drop}
 use Rattle.byte_grammar.specs.Classes.{is_line_byte}
 use Rattle.msg_head.specs.RawValues.{RawPieces}
@@ -33,9 +33,9 @@ trailer_ends_with_lf bytes section s = by_before s.before s.ends
   where
     by_before : (before : List ℕ) → 13 ∷ 10 ∷ section ≡ before ++ 13 ∷ 10 ∷ 13 ∷ 10 ∷ [] → EndsWithLf section
     by_before [] e = (13 ∷ [], append_cancel_left (13 ∷ 10 ∷ []) section (13 ∷ 10 ∷ []) e)
-    by_before (c ∷ []) e = absurd cc
+    by_before (c ∷ []) e = absurd (false≢true (ap (λ (s : List ℕ). get_or s 1 0 == 13) e))
     by_before (c ∷ d ∷ before) e =
-        let rest : section ≡ before ++ 13 ∷ 10 ∷ 13 ∷ 10 ∷ [] = cc in
+        let rest : section ≡ before ++ 13 ∷ 10 ∷ 13 ∷ 10 ∷ [] = ap (drop {A = ℕ} 2) e in
         (before ++ 13 ∷ 10 ∷ 13 ∷ [], rest ∙ sym (append_assoc before (13 ∷ 10 ∷ 13 ∷ []) (10 ∷ [])))
 
 -- ---- clean sections
@@ -47,10 +47,10 @@ clean_without : (text : List ℕ) → IsClean (13 ∷ 10 ∷ text) → IsClean t
 clean_without text c = by_pieces c.pieces c.each c.joined
   where
     by_pieces : (pieces : List (List ℕ)) → list_all (list_all is_line_byte) pieces ≡ true → 13 ∷ 10 ∷ text ≡ flat_map ended pieces → IsClean text
-    by_pieces [] each e = absurd cc
+    by_pieces [] each e = absurd (false≢true (sym (ap (λ (s : List ℕ). get_or s 0 0 == 13) e)))
     by_pieces ([] ∷ ps) each e = record { pieces = ps; each = each; joined = append_cancel_left (13 ∷ 10 ∷ []) text (flat_map ended ps) e }
     by_pieces ((b ∷ bs) ∷ ps) each e =
-        let same : b ≡ 13 = cc in
+        let same : b ≡ 13 = ap (λ (s : List ℕ). get_or s 0 0) (sym e) in
         absurd (outside is_line_byte b 13 (and_parts (is_line_byte b) (list_all is_line_byte bs) (and_parts (list_all is_line_byte (b ∷ bs)) (list_all (list_all is_line_byte) ps) each).0).0 refl same)
 
 -- a section that is clean up to a CRLF is clean

@@ -4,13 +4,15 @@ use Rattle.msg_body.specs.declared.error.MessageError.TheVariants as error
 use Rattle.msg_body.specs.declared.error.MessageFault.{MessageFault}
 use Rattle.msg_body.specs.declared.error.MessageFault.TheVariants as fault
 use Rattle.refusals.specs.Laws.{IsOfRefusal, HasStatusOfRefusal}
-use Rattle.refusals.specs.Refusal.{command_status}
+use Rattle.refusals.specs.Refusal.{command_status, sign_status}
 use Rattle.refusals.specs.Texts.{message_status, fault_status, file_status}
 use Rattle.refusals.specs.declared.file.FileRefusal.{FileRefusal}
 use Rattle.refusals.specs.declared.file.FileRefusal.TheVariants.{Missing, TooLong, Message, Conf}
 use Rattle.refusals.specs.declared.refusal.Refusal.TheVariants.{Arguments, Of, Command}
 use Rattle.refusals.specs.declared.refusal.CommandRefusal.{CommandRefusal}
-use Rattle.refusals.specs.declared.refusal.CommandRefusal.TheVariants.{Syntax, ItemKind, Ids, Lacks}
+use Rattle.refusals.specs.declared.refusal.CommandRefusal.TheVariants.{Syntax, ItemKind, Ids, Lacks, Sign, Wishes}
+use Rattle.signing.specs.declared.fault.SignFault.{SignFault}
+use Rattle.signing.specs.declared.fault.SignFault.TheVariants as sign
 
 of_message : (e : MessageError) → IsOfRefusal (message_status e)
 of_message error.Memory = tt
@@ -36,11 +38,22 @@ of_file (TooLong limit) = tt
 of_file (Message f) = of_fault f
 of_file (Conf f) = tt
 
+of_sign : (f : SignFault) → IsOfRefusal (sign_status f)
+of_sign sign.Memory = tt
+of_sign sign.InputMalformed = tt
+of_sign sign.SignatureMalformed = tt
+of_sign sign.LabelThere = tt
+of_sign (sign.SelfCover index) = tt
+of_sign (sign.TooLong limit) = tt
+of_sign (sign.Lacks index lack) = tt
+
 of_command : (refusal : CommandRefusal) → IsOfRefusal (command_status refusal)
 of_command (Syntax offset) = tt
 of_command (ItemKind offset) = tt
 of_command (Ids f) = tt
 of_command (Lacks lack id) = tt
+of_command (Sign f) = of_sign f
+of_command (Wishes f) = tt
 
 pub status_of_refusal : HasStatusOfRefusal
 status_of_refusal Arguments = tt

@@ -5,19 +5,25 @@ use Rattle.std.specs.Str.{byte}
 use Rattle.component_ids.specs.Causes.{id_fault_text}
 use Rattle.derived_values.specs.Words.{lack_word}
 use Rattle.hms_io.specs.declared.status.Status.{Status}
-use Rattle.hms_io.specs.declared.status.Status.TheVariants.{BadArguments, BadInput}
+use Rattle.hms_io.specs.declared.status.Status.TheVariants.{BadArguments, BadInput, LimitPassed}
+use Rattle.signing.specs.Words.{sign_fault_text, want_fault_text}
+use Rattle.signing.specs.declared.fault.SignFault.{SignFault}
+use Rattle.signing.specs.declared.fault.SignFault.TheVariants.{TooLong}
 use Rattle.refusals.specs.Texts.{role_text, file_text, file_status}
 use Rattle.refusals.specs.declared.refusal.Refusal.{Refusal}
 use Rattle.refusals.specs.declared.refusal.Refusal.TheVariants.{Arguments, Of, Command}
 use Rattle.refusals.specs.declared.refusal.CommandRefusal.{CommandRefusal}
-use Rattle.refusals.specs.declared.refusal.CommandRefusal.TheVariants.{Syntax, ItemKind, Ids, Lacks}
+use Rattle.refusals.specs.declared.refusal.CommandRefusal.TheVariants.{Syntax, ItemKind, Ids, Lacks, Sign, Wishes}
 
--- why PARAMS are refused, or which component lacks a value, and how
+-- why PARAMS are refused, which component lacks a value and how, why the message isn't signed, or
+-- why the wishes aren't met
 abbrev pub command_text : CommandRefusal → List ℕ
 command_text (Syntax offset) = codes "params-syntax " ++ decimal offset
 command_text (ItemKind offset) = codes "params-kind " ++ decimal offset
 command_text (Ids fault) = id_fault_text fault
 command_text (Lacks lack id) = lack_word lack ++ byte " " ∷ id
+command_text (Sign fault) = sign_fault_text fault
+command_text (Wishes fault) = want_fault_text fault
 
 -- what is refused, and why
 abbrev pub refusal_text : Refusal → List ℕ
@@ -29,12 +35,19 @@ refusal_text (Command refusal) = codes "command " ++ command_text refusal
 abbrev pub refusal_line : Refusal → List ℕ
 refusal_line refusal = codes "refused " ++ (refusal_text refusal ++ codes "\n")
 
+-- a limit that the signed message would pass, or else a bad input
+abbrev pub sign_status : SignFault → Status
+sign_status (TooLong limit) = LimitPassed
+sign_status fault = BadInput
+
 -- the status that a command's own refusal gives
 abbrev pub command_status : CommandRefusal → Status
 command_status (Syntax offset) = BadInput
 command_status (ItemKind offset) = BadInput
 command_status (Ids fault) = BadInput
 command_status (Lacks lack id) = BadInput
+command_status (Sign fault) = sign_status fault
+command_status (Wishes fault) = BadInput
 
 -- the status of a refusal, by what is refused and why
 abbrev pub refusal_status : Refusal → Status

@@ -1,7 +1,7 @@
 //! Refusals: why a run is refused, the status that this gives, and the one line that says so.
 
 ghost use Rattle.std.specs.Prelude.{◌≡◌, IfOk};
-ghost use Rattle.refusals.specs.Refusal.{command_status, refusal_line, refusal_status};
+ghost use Rattle.refusals.specs.Refusal.{command_status, refusal_line, refusal_status, sign_status};
 
 use crate::file::FileRefusal;
 use crate::refusal_text::append_refusal;
@@ -10,6 +10,7 @@ use component_ids::IdFault;
 use component_values::Lack;
 use hms_io::Status;
 use sfv_text::{Memory, Text};
+use signing::{SignFault, WantFault};
 use std::alloc::Global;
 
 /// The most bytes of an input that is one message, and of a file that is one.
@@ -42,6 +43,11 @@ pub enum CommandRefusal {
     /// The first covered component without a value, and how it lacks it. The text is that of its
     /// identifier, quotes and parameters included.
     Lacks(Lack, Text),
+    /// The message isn't signed (RFC 9421 section 3.1). The fault is neither out of memory nor that
+    /// a component lacks a value, which `Lacks` says with its identifier.
+    Sign(SignFault),
+    /// The wishes for signatures aren't met (RFC 9421 section 5). The fault is never out of memory.
+    Wishes(WantFault),
 }
 
 impl Refusal {
@@ -67,6 +73,15 @@ impl Refusal {
     }
 }
 
+fn sign_status(fault: SignFault) -> Status
+    ensures { result ≡ sign_status fault }
+{
+    match fault {
+        SignFault::TooLong(_) => Status::LimitPassed,
+        _ => Status::BadInput,
+    }
+}
+
 impl CommandRefusal {
     /// The status that the refusal gives.
     pub fn status(&self) -> Status
@@ -77,6 +92,8 @@ impl CommandRefusal {
             CommandRefusal::ItemKind(_) => Status::BadInput,
             CommandRefusal::Ids(_) => Status::BadInput,
             CommandRefusal::Lacks(_, _) => Status::BadInput,
+            CommandRefusal::Sign(fault) => sign_status(*fault),
+            CommandRefusal::Wishes(_) => Status::BadInput,
         }
     }
 }

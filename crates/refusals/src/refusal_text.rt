@@ -4,6 +4,7 @@ ghost use Rattle.std.specs.Prelude.{◌≡◌, ◌++◌, ◌∷◌, codes, OnOk}
 ghost use Rattle.std.specs.Str.{byte};
 ghost use Rattle.component_ids.specs.Causes.{id_fault_text};
 ghost use Rattle.derived_values.specs.Words.{lack_word};
+ghost use Rattle.signing.specs.Words.{sign_fault_text, want_fault_text};
 ghost use Rattle.refusals.specs.Texts.{role_text};
 ghost use Rattle.refusals.specs.Refusal.{command_text, refusal_text};
 
@@ -13,6 +14,7 @@ use crate::role::Role;
 use component_ids::IdFault;
 use component_values::Lack;
 use sfv_text::{Memory, Text, append_number, append_words};
+use signing::{SignFault, WantFault};
 use std::alloc::Global;
 
 fn append_role(alloc: Global, role: Role, line: &mut Text) -> Result<(), Memory>
@@ -36,6 +38,20 @@ fn append_lack(lack: Lack, id: &Text, line: &mut Text) -> Result<(), Memory>
     append_words(b" ", id.bytes(), line)
 }
 
+fn append_sign_fault(alloc: Global, fault: SignFault, line: &mut Text) -> Result<(), Memory>
+    ensures { OnOk result (line.new ≡ line.old ++ sign_fault_text fault) }
+{
+    let text = format!(in alloc; "{fault}")?;
+    line.append(text.as_bytes())
+}
+
+fn append_want_fault(alloc: Global, fault: &WantFault, line: &mut Text) -> Result<(), Memory>
+    ensures { OnOk result (line.new ≡ line.old ++ want_fault_text fault.now) }
+{
+    let text = format!(in alloc; "{fault}")?;
+    line.append(text.as_bytes())
+}
+
 fn append_command(alloc: Global, refusal: &CommandRefusal, line: &mut Text) -> Result<(), Memory>
     ensures { OnOk result (line.new ≡ line.old ++ command_text refusal.now) }
 {
@@ -44,6 +60,8 @@ fn append_command(alloc: Global, refusal: &CommandRefusal, line: &mut Text) -> R
         CommandRefusal::ItemKind(offset) => append_number(alloc, b"params-kind ", *offset, line),
         CommandRefusal::Ids(fault) => append_ids(alloc, fault, line),
         CommandRefusal::Lacks(lack, id) => append_lack(*lack, id, line),
+        CommandRefusal::Sign(fault) => append_sign_fault(alloc, *fault, line),
+        CommandRefusal::Wishes(fault) => append_want_fault(alloc, fault, line),
     }
 }
 

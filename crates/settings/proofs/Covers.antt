@@ -28,7 +28,7 @@ not_read sf_error.Memory list isnt is = false≢true (sym isnt)
 not_read (sf_error.Syntax offset) list isnt is = is
 not_read (sf_error.ItemKind offset) list isnt is = is
 
-in_range_of : (ids : List ComponentId) → is_inner_in_range (list_of (params_of ids)) ≡ true → list_all is_id_in_range ids ≡ true
+pub in_range_of : (ids : List ComponentId) → is_inner_in_range (list_of (params_of ids)) ≡ true → list_all is_id_in_range ids ≡ true
 in_range_of ids ranged =
     sym (list_all-map is_item_in_range item_of ids) ∙ (and_parts (list_all is_item_in_range (map item_of ids)) (are_params_in_range []) ranged).0
 

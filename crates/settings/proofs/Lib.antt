@@ -1,4 +1,4 @@
-mod Covers
+pub mod Covers
 mod KeyEntryLaws
 pub mod Names
 mod ValidLaws

@@ -363,7 +363,7 @@ says_rule message label label_fault.Memory known says = absurd (known refl)
 says_rule message label (label_fault.Rule rule place) known says = inr (rule, place, says)
 
 -- each field is a Dictionary, or none for one reason
-has_field : (message : Message) (name : List ℕ) → (field : DictField) × IsFieldOf message name field
+pub has_field : (message : Message) (name : List ℕ) → (field : DictField) × IsFieldOf message name field
 has_field message name = elim (cases_Bool (is_there (lines_on Header message) name)) [
   | inr none ↦ (field.Absent, λ there. false≢true (sym none ∙ there))
   | inl there ↦ elim (dict_is_decided (combined_value (lines_on Header message) name)) [

@@ -6,7 +6,7 @@ pub mod Inserting
 mod DigestBytes
 mod AddedLines
 mod Lengthened
-mod Making
+pub mod Making
 mod Made
 mod TakenMembers
 mod SignatureLines
@@ -17,3 +17,5 @@ mod Filling
 mod Wishing
 mod WishSpecs
 mod Wanting
+pub mod OneSigned
+pub mod SomeSigned

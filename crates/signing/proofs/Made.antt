@@ -91,7 +91,7 @@ module _ (context : MessageContext) (spec : SignSpec) where
   named (Err Memory) x = λ own. absurd (own refl)
 
   -- causes of one number are one
-  determined : AreDetermined sign_order (IsSignCause context spec)
+  pub determined : AreDetermined sign_order (IsSignCause context spec)
   determined InputMalformed InputMalformed same a b = refl
   determined SignatureMalformed SignatureMalformed same a b = refl
   determined LabelThere LabelThere same a b = refl

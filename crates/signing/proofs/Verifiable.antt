@@ -38,7 +38,7 @@ use Rattle.hmac_sha256.specs.Hmac.{hmac}
 use Rattle.sig_base.specs.SignatureBase.{signature_base}
 use Rattle.signatures.specs.Signatures.{AreLabels, HasSignature, input_name, signature_name}
 use Rattle.signing.specs.SignCauses.{HasLabel, IsFirstSelfCover, any_tag, covers_itself, is_label_or_none, passed_limit}
-use Rattle.signing.specs.Signed.{IsVerifiable}
+use Rattle.signing.specs.Signed.{IsVerifiable, SpellsSigned}
 use Rattle.signing.specs.Specs.{IsValidSpec}
 use Rattle.signing.specs.Written.{answers_head, context_with, context_with_digest, digest_lines, signature_lines, signed_message, with_digest}
 use Rattle.signing.specs.declared.fault.SignFault.TheVariants.{InputMalformed, SignatureMalformed, LabelThere, SelfCover, TooLong}
@@ -104,7 +104,7 @@ listed_is_field name listed = elim (or_cases (bytes_eq name signature_name) (byt
 
 -- ---- no component covers the signature
 
-first_cover : (label : List ℕ) (ids : List ComponentId) → list_any (covers_itself label) ids ≡ true → (index : ℕ) × IsFirstSelfCover label ids index
+pub first_cover : (label : List ℕ) (ids : List ComponentId) → list_any (covers_itself label) ids ≡ true → (index : ℕ) × IsFirstSelfCover label ids index
 first_cover label [] some = absurd (false≢true some)
 first_cover label (id ∷ ids) some = elim (cases_Bool (covers_itself label id)) [
   | inl covers ↦ (0, record { before = refl; there = covers })
@@ -340,3 +340,17 @@ pub verifiable_is : (context : MessageContext) (spec : SignSpec) (bytes : List �
     → ExplainsSign context spec (IsMade context spec) result → IfOk result (IsVerifiable context spec)
 verifiable_is context spec bytes (Ok text) valid spells x = verifiable context spec bytes text valid spells x
 verifiable_is context spec bytes (Err fault) valid spells x = tt
+
+pub spells_signed : (context : MessageContext) (spec : SignSpec) (bytes text : List ℕ) → IsValidSpec spec → Spells (answers_head context.related) context.message bytes → IsMade context spec text → SpellsSigned context spec text
+unfolding verifiable
+spells_signed context spec bytes text valid spells made =
+    let signed = made.signed in (
+      signed_message context.message spec (hmac spec.key (signature_base spec.params signed.values)),
+      record { values = signed.values; have = signed.have; written_is = refl },
+      (verifiable context spec bytes text valid spells made).spells,
+    )
+
+pub spells_is : (context : MessageContext) (spec : SignSpec) (bytes : List ℕ) (result : Result (List ℕ) SignFault) → IsValidSpec spec → Spells (answers_head context.related) context.message bytes
+    → ExplainsSign context spec (IsMade context spec) result → IfOk result (SpellsSigned context spec)
+spells_is context spec bytes (Ok text) valid spells x = spells_signed context spec bytes text valid spells x
+spells_is context spec bytes (Err fault) valid spells x = tt

@@ -268,7 +268,7 @@ module _ (conf : Configuration) (sign : SignConf) (message : Message) (configure
       let cause : c ≡ d = one_cause two.0.value c d number (subst (λ (w : Pair Member). IsWishCause conf sign w.value c) wish one.2) two.2 in
       λ k. fault_at (index k) (cause k)
 
-  determined : AreDetermined want_order (IsWantCause conf message)
+  pub determined : AreDetermined want_order (IsWantCause conf message)
   determined f g same a b = elim (parts_of f) [
     | inl m ↦ absurd (rw m at a)
     | inr rest ↦ elim rest [
@@ -341,7 +341,7 @@ module _ (conf : Configuration) (now : ℕ) (message : Message) where
   named (Err (want.AlgUnknown i)) x = λ _. x
   named (Err (want.KeyUnknown i)) x = λ _. x
 
-  some_sign : (o : Option SignConf) → IsSome o → (sign : SignConf) × (o ≡ Some sign)
+  pub some_sign : (o : Option SignConf) → IsSome o → (sign : SignConf) × (o ≡ Some sign)
   some_sign (Some sign) is = (sign, refl)
   some_sign None is = absurd cc
 

@@ -6,4 +6,5 @@ pub mod SignCauses
 pub mod Wishes
 pub mod WishCauses
 pub mod Words
+pub mod Laws
 pub mod tools

@@ -19,6 +19,21 @@ pub record IsSigned (context : MessageContext) (spec : SignSpec) (text : List �
   pub text_is : text ≡ message_text (signed_message context.message spec
       (hmac spec.key (signature_base spec.params values)))
 
+-- The message is the signed one: after its header lines the line of its digest and those of the
+-- signature, with the same tag.
+pub record IsSignedMessage (context : MessageContext) (spec : SignSpec) (written : Message)
+    : Type 0 where
+  pub values : List (List ℕ)
+  pub have : HaveValues (context_with_digest context spec.digest) spec.params.ids values
+  pub written_is : written ≡ signed_message context.message spec
+      (hmac spec.key (signature_base spec.params values))
+
+-- the text spells the signed message
+abbrev pub SpellsSigned : MessageContext → SignSpec → List ℕ → Type 0
+SpellsSigned context spec text =
+    (written : Message) × IsSignedMessage context spec written
+    × Spells (answers_head context.related) written text
+
 -- The text is that of a message that has the signature: it has the parameters that are asked for,
 -- each component has its value in that message, and the tag is the HMAC of the signature base. The
 -- signatures that were there are kept, and the new label comes after theirs.

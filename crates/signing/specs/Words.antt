@@ -1,12 +1,20 @@
 -- What faults say.
-use Rattle.std.specs.Prelude.{ℕ, List, ◌++◌, ◌∷◌, codes}
+use Rattle.std.specs.Prelude.{ℕ, nat_eq, List, ◌++◌, ◌∷◌, codes, if◌then◌else◌}
 use Rattle.std.specs.Fmt.{decimal}
 use Rattle.std.specs.Str.{byte}
 use Rattle.derived_values.specs.Words.{lack_word}
+use Rattle.msg_head.specs.declared.limits.TheConstants.{MAX_HEAD_BYTES, MAX_HEAD_LINES}
 use Rattle.signing.specs.declared.fault.SignFault.{SignFault}
 use Rattle.signing.specs.declared.fault.SignFault.TheVariants as sign
 use Rattle.signing.specs.declared.fault.WantFault.{WantFault}
 use Rattle.signing.specs.declared.fault.WantFault.TheVariants as want
+
+-- the limit of a head's bytes, of its lines, or of a message's bytes
+abbrev pub limit_word : ℕ → List ℕ
+limit_word limit =
+    if nat_eq limit MAX_HEAD_BYTES then codes "signed-head"
+    else if nat_eq limit MAX_HEAD_LINES then codes "signed-lines"
+    else codes "signed-bytes"
 
 -- why a message isn't signed
 abbrev pub sign_fault_text : SignFault → List ℕ
@@ -15,7 +23,7 @@ sign_fault_text sign.InputMalformed = codes "input-malformed"
 sign_fault_text sign.SignatureMalformed = codes "signature-malformed"
 sign_fault_text sign.LabelThere = codes "label-there"
 sign_fault_text (sign.SelfCover index) = codes "self-cover " ++ decimal index
-sign_fault_text (sign.TooLong limit) = codes "too-long " ++ decimal limit
+sign_fault_text (sign.TooLong limit) = limit_word limit ++ byte " " ∷ decimal limit
 sign_fault_text (sign.Lacks index lack) = lack_word lack ++ byte " " ∷ decimal index
 
 -- why wishes aren't met

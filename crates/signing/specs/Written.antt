@@ -1,10 +1,10 @@
 -- Messages with further header lines, and the lines that signing adds.
 use Rattle.std.specs.Prelude.{ℕ, Bool, false, Option, Some, None, List, [], ◌∷◌, ◌++◌, codes, if◌then◌else◌}
-use Rattle.std.specs.Str.{byte, bytes_eq}
+use Rattle.std.specs.Str.{byte}
 use Rattle.sfv_text.specs.Strict.{bytes_text, dict_text}
 use Rattle.msg_head.specs.declared.error.Side.TheVariants.{Header}
 use Rattle.msg_head.specs.Lines.{FieldLine}
-use Rattle.msg_head.specs.Starts.{StartLine, request, status}
+use Rattle.framing.specs.Framings.{is_head_request}
 use Rattle.msg_head.specs.Values.{is_there}
 use Rattle.msg_body.specs.Messages.{Message}
 use Rattle.msg_body.specs.Views.{lines_on, message_content}
@@ -23,11 +23,6 @@ with_lines message lines = record {
   framing = message.framing;
   body = message.body;
 }
-
--- the request's method is HEAD (RFC 9110 section 9.3.2)
-abbrev pub is_head_request : StartLine → Bool
-is_head_request (request line) = bytes_eq line.method (codes "HEAD")
-is_head_request (status line) = false
 
 -- the message answers a HEAD request
 abbrev pub answers_head : Option Message → Bool

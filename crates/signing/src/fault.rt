@@ -1,7 +1,11 @@
 //! Why messages aren't signed, and wishes aren't met.
 
+ghost use Rattle.std.specs.Prelude.{◌≡◌};
+ghost use Rattle.signing.specs.Words.{limit_word};
+
 use component_ids::IdFault;
 use component_values::Lack;
+use msg_head::{MAX_HEAD_BYTES, MAX_HEAD_LINES};
 use sfv_text::Memory;
 use std::error::Error;
 use std::fmt;
@@ -28,6 +32,17 @@ pub enum SignFault {
     Lacks(usize, Lack),
 }
 
+/// How output calls the limit.
+fn limit_word(limit: usize) -> &'static str
+    ensures { result.now ≡ limit_word limit }
+{
+    match limit {
+        MAX_HEAD_BYTES => "signed-head",
+        MAX_HEAD_LINES => "signed-lines",
+        _ => "signed-bytes",
+    }
+}
+
 impl fmt::Display for SignFault {
     ghost use Rattle.std.specs.Prelude.{Some};
     ghost use Rattle.signing.specs.Words.{sign_fault_text};
@@ -41,7 +56,10 @@ impl fmt::Display for SignFault {
             SignFault::SignatureMalformed => f.write_str("signature-malformed"),
             SignFault::LabelThere => f.write_str("label-there"),
             SignFault::SelfCover(index) => write!(f, "self-cover {index}"),
-            SignFault::TooLong(limit) => write!(f, "too-long {limit}"),
+            SignFault::TooLong(limit) => {
+                let word = limit_word(*limit);
+                write!(f, "{word} {limit}")
+            }
             SignFault::Lacks(index, lack) => write!(f, "{lack} {index}"),
         }
     }

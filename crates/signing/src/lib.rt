@@ -10,6 +10,7 @@
 
 mod asked;
 mod fault;
+mod laws;
 mod lines;
 mod mac;
 mod message;
@@ -23,7 +24,11 @@ mod wishes;
 
 pub use asked::spec_of;
 pub use fault::{SignFault, WantFault};
+pub use laws::{
+    a_configuration_asks_for_one_signature, a_message_is_signed_or_has_a_fault,
+    wishes_are_met_or_have_a_fault,
+};
 pub use mac::TAG_BYTES;
-pub use message::sign;
+pub use message::{answers_head, sign};
 pub use spec::{SignSpec, Specs};
 pub use wishes::wanted;

@@ -2,14 +2,13 @@
 
 ghost use Rattle.std.specs.Prelude.{◌≡◌, ◌≢◌, ◌+◌, ◌++◌, length, IfOk};
 ghost use Rattle.byte_grammar.specs.Causes.{AnswersWhere};
-ghost use Rattle.msg_head.specs.Views.{start_line_of};
 ghost use Rattle.msg_body.specs.Messages.{Spells};
 ghost use Rattle.component_values.specs.Context.{context_of};
 ghost use Rattle.signing.specs.declared.fault.SignFault.{SignFault};
 ghost use Rattle.signing.specs.SignCauses.{IsSignFault, limit_passed_by};
-ghost use Rattle.signing.specs.Signed.{IsSigned, IsVerifiable};
+ghost use Rattle.signing.specs.Signed.{IsSigned, IsVerifiable, SpellsSigned};
 ghost use Rattle.signing.specs.Specs.{IsValidSpec};
-ghost use Rattle.signing.specs.Written.{answers_head, context_with_digest, digest_lines, is_head_request, with_digest};
+ghost use Rattle.signing.specs.Written.{answers_head, context_with_digest, digest_lines, with_digest};
 ghost use Rattle.signing.specs.tools.Judged.{ExplainsSign, ExplainsTag, IsMade, NoneBelow};
 ghost use Rattle.signing.specs.tools.Lines.{AreLines};
 ghost use Rattle.signing.specs.tools.Parts.{ArePartsOf};
@@ -21,8 +20,9 @@ use crate::parts::{Parts, parts_of};
 use crate::refuse::judge_label;
 use crate::spec::SignSpec;
 use component_values::Context;
+use framing::is_head_request;
 use msg_body::{Expect, MAX_MESSAGE_BYTES, MessageRead, read_message};
-use msg_head::{MAX_HEAD_BYTES, MAX_HEAD_LINES, Start};
+use msg_head::{MAX_HEAD_BYTES, MAX_HEAD_LINES};
 use sfv_text::{Memory, Text};
 use std::alloc::Global;
 
@@ -69,17 +69,9 @@ fn text_of(alloc: Global, parts: Parts<'_>, digest: &[u8], signature: &[u8]) -> 
     Ok(text)
 }
 
-fn is_head_request(start: Start<'_>) -> bool
-    ensures { result ≡ is_head_request (start_line_of start.entry) }
-{
-    match start {
-        Start::Request { method, .. } => method == b"HEAD".as_slice(),
-        Start::Status { .. } => false,
-    }
-}
-
-/// Whether the message of the context answers a HEAD request.
-fn answers_head(context: &Context<'_, '_>) -> bool
+/// Whether the message of the context answers a HEAD request, so that it has no content (RFC 9112
+/// section 6.3).
+pub fn answers_head(context: &Context<'_, '_>) -> bool
     ensures { result ≡ answers_head (context_of context.now).related }
 {
     match context.related {
@@ -199,6 +191,7 @@ pub fn sign(
     requires spells { Spells (answers_head (context_of context.now).related)
         (context_of context.now).message bytes.now }
     ensures ok { IfOk result (IsSigned (context_of context.now) spec.now) }
+    ensures spells { IfOk result (SpellsSigned (context_of context.now) spec.now) }
     ensures verifiable { IfOk result (IsVerifiable (context_of context.now) spec.now) }
 
     // The first fault whose cause holds is answered, and no other.

@@ -5,4 +5,4 @@ mod Uncovered
 pub mod PolicyFailures
 pub mod Judging
 mod Places
-mod RightlySigned
+pub mod RightlySigned

@@ -4,7 +4,9 @@ ghost use Rattle.std.specs.Prelude.{◌≡◌, ◌≤◌, Some, IsTrue, IfOk, le
 ghost use Rattle.component_values.specs.Context.{context_of};
 ghost use Rattle.settings.specs.ConfMeaning.{meaning};
 ghost use Rattle.nonces.specs.declared.limits.TheConstants.{MAX_KEYID_BYTES};
+ghost use Rattle.component_ids.specs.SignatureParams.{are_sig_params_in_range};
 ghost use Rattle.signatures.specs.Fields.{AreFieldsOf};
+ghost use Rattle.signatures.specs.Signatures.{HasSignature};
 ghost use Rattle.signatures.specs.tools.Answered.{Explains};
 ghost use Rattle.verdicts.specs.Parameters.{keyid_of};
 ghost use Rattle.verdicts.specs.Rules.{key_in};
@@ -24,7 +26,7 @@ use component_values::Context;
 use nonces::{NonceBook, Steps};
 use settings::Conf;
 use sfv_text::{Memory, Text};
-use signatures::{LabelFault, Place, Rule, SignatureFields};
+use signatures::{LabelFault, LabelRead, Place, Rule, SignatureFields};
 use std::alloc::Global;
 use std::sync::ledger::Ledger;
 
@@ -51,6 +53,36 @@ fn key_of<'a>(conf: &'a Conf, keyid: &[u8]) -> Result<&'a [u8], LabelFault>
     }
 }
 
+/// The `keyid` of the accepted signature, or the first of rules 13 to 34 that fails.
+fn judge_signature<L: Ledger>(
+    alloc: Global,
+    verification: &Verification<'_, '_, '_>,
+    read: &LabelRead,
+    steps: &mut Steps<L>,
+) -> Result<Text, LabelFault>
+    requires has { HasSignature (model_of verification.now).context.message
+        (model_of verification.now).label read.now.params read.now.tag }
+    requires in_range { IsTrue (are_sig_params_in_range read.now.params) }
+    requires now { IsAt (model_of verification.now).now (model_of verification.now).seen }
+    ensures explains { ExplainsJudged (model_of verification.entry.now) result }
+    ensures steps { steps.old ≤ steps.new }
+{
+    let policy = policy_of(verification.conf, &read.params);
+    judge_algorithm(alloc, &read.params)?;
+    let keyid = keyid_of(&read.params)?;
+    let key = key_of(verification.conf, keyid)?;
+    judge_policy(alloc, verification, &read.params, keyid, steps)?;
+    judge_mac(alloc, verification.context, read, key)?;
+    judge_digest(
+        alloc,
+        verification.context.message,
+        &read.params,
+        policy.digest,
+    )?;
+    judge_room(&read.params, policy, verification.seen)?;
+    Ok(Text::from_bytes(alloc, keyid)?)
+}
+
 /// The `keyid` of the accepted label, or the first rule that fails.
 fn judge<L: Ledger>(
     alloc: Global,
@@ -64,20 +96,7 @@ fn judge<L: Ledger>(
     ensures steps { steps.old ≤ steps.new }
 {
     let read = fields.label(alloc, verification.label)?;
-    let policy = policy_of(verification.conf, &read.params);
-    judge_algorithm(alloc, &read.params)?;
-    let keyid = keyid_of(&read.params)?;
-    let key = key_of(verification.conf, keyid)?;
-    judge_policy(alloc, verification, &read.params, keyid, steps)?;
-    judge_mac(alloc, verification.context, &read, key)?;
-    judge_digest(
-        alloc,
-        verification.context.message,
-        &read.params,
-        policy.digest,
-    )?;
-    judge_room(&read.params, policy, verification.seen)?;
-    Ok(Text::from_bytes(alloc, keyid)?)
+    judge_signature(alloc, verification, &read, steps)
 }
 
 /// The verdict on a label (RFC 9421 section 3.2), over what was read of the signature fields of the

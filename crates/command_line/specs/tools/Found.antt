@@ -6,7 +6,7 @@ use Rattle.sfv_text.specs.declared.pair.Pair.{Pair}
 use Rattle.command_line.specs.Options.{is_taken_by, option_of, row_of, words_of, AreOptions}
 use Rattle.command_line.specs.declared.options.CommandName.{CommandName}
 use Rattle.command_line.specs.declared.options.CommandOption.{CommandOption}
-use Rattle.command_line.specs.declared.options.CommandOption.TheVariants.{Conf, Now, Label, Request}
+use Rattle.command_line.specs.declared.options.CommandOption.TheVariants.{Conf, Now, Label, Request, Nonce, Wanted}
 use Rattle.command_line.specs.declared.options.OptionWords.{OptionWords}
 
 -- the word of the option
@@ -15,6 +15,8 @@ word_in found Conf = option_map (λ word. word.now) found.conf
 word_in found Now = option_map (λ word. word.now) found.now
 word_in found Label = option_map (λ word. word.now) found.label
 word_in found Request = option_map (λ word. word.now) found.request
+word_in found Nonce = option_map (λ word. word.now) found.nonce
+word_in found Wanted = option_map (λ word. word.now) found.wanted
 
 -- the option has this name, the command takes it, it has no word yet, and it may have this one
 pub record IsNextOption (command : CommandName) (found : OptionWords) (name word : List ℕ)
@@ -52,6 +54,8 @@ pub record HasOptions (command : CommandName) (words : List (List ℕ)) (found :
   pub now_is : IsWordOf words (codes "--now") (option_map (λ word. word.now) found.now)
   pub label_is : IsWordOf words (codes "--label") (option_map (λ word. word.now) found.label)
   pub request_is : IsWordOf words (codes "--request") (option_map (λ word. word.now) found.request)
+  pub nonce_is : IsWordOf words (codes "--nonce") (option_map (λ word. word.now) found.nonce)
+  pub wanted_is : IsWordOf words (codes "--wanted") (option_map (λ word. word.now) found.wanted)
 
 -- the options up to the words that are left, whose words were found
 pub record AreFoundBefore (command : CommandName) (found : OptionWords)

@@ -1,5 +1,5 @@
 use Rattle.std.proofs.Common.{◌≡◌, map, string_bytes, ◌∙◌, refl, inl, inr}
-use Rattle.hms.proofs.Reports.{written_outcome, failed_outcome}
+use Rattle.hms.proofs.Reports.{counts_no_read, counts_no_write, failed_outcome, written_outcome}
 use Rattle.hms.proofs.run.run.Goals.{in-Ok, in-Err-Refused}
 use Rattle.hms.proofs.run.run.Goals as goal
 
@@ -22,6 +22,20 @@ returns-in-Ok-put_all-clause-ends g c = λ whole. elim c.match-run_command.branc
       (g.K.Sink.taken c.args.out.now) (g.K.Sink.taken c.put_all.new.sink) c.match-run_command.outcome c.status-status.result c.bytes.result.now
       (let told = rw w.in-Err-Refused.field-0-is at w.in-Err-Refused.ensures.report in rw w.outcome-is told) c.status-status.ensures (c.bytes.ensures ∙ c.in-Ok-into_output.ensures) c.in-Ok-put_all.ensures.ok
 ]
+
+pub returns-in-Ok-put_all-clause-reads : goal.returns-in-Ok-put_all-clause-reads
+returns-in-Ok-put_all-clause-reads g c =
+    let counted : (g.F.Shelf.faults c.run_command.new.shelf ≡ g.F.Shelf.faults c.args.shelf.now) × (g.S.Source.faults c.run_command.new.source ≡ g.S.Source.faults c.args.source.now) =
+    elim c.match-run_command.branch [
+      | in-Ok w ↦ w.in-Ok.ensures.cause
+      | in-Err-Refused w ↦ rw w.in-Err-Refused.field-0-is at w.in-Err-Refused.ensures.cause
+    ] in
+    counts_no_read (c.run_command.new.source ≡ c.args.source.now) c.match-run_command.outcome c.status-status.result (g.F.Shelf.faults c.args.shelf.now) (g.F.Shelf.faults c.run_command.new.shelf)
+    (g.S.Source.faults c.args.source.now) (g.S.Source.faults c.run_command.new.source) c.status-status.ensures counted
+
+pub returns-in-Ok-put_all-clause-writes : goal.returns-in-Ok-put_all-clause-writes
+returns-in-Ok-put_all-clause-writes g c =
+    counts_no_write c.match-run_command.outcome c.status-status.result (g.K.Sink.faults c.args.out.now) (g.K.Sink.faults c.put_all.new.sink) c.status-status.ensures c.in-Ok-put_all.ensures.cause.kept
 
 pub returns-clause-ends : goal.returns-clause-ends
 returns-clause-ends g c = λ whole. elim c.match-run_command.branch [

@@ -1,5 +1,5 @@
 use Rattle.std.proofs.Common.{◌≡◌, ◌+◌, ◌≤◌, map, string_bytes, refl, Ok}
-use Rattle.command_line.specs.Command.{CommandLine, Help, Version, Base, Verify, base_words, verify_words}
+use Rattle.command_line.specs.Command.{CommandLine, Help, Version, Base, Verify, Sign, base_words, verify_words, sign_words, line_of}
 use Rattle.commands.specs.Files.{Conf, Request, file_count}
 use Rattle.hms.specs.Commands.{input_use, name_of, LosesFew}
 use Rattle.hms.proofs.Reports.{alone, never_read, never, no_command, none_named, nothing_named, of_command, spelled}
@@ -75,3 +75,24 @@ returns-in-Verify-clause-unread g c = λ none. never_read _ (none (Verify (verif
 
 pub returns-in-Verify-clause-unasked : goal.returns-in-Verify-clause-unasked
 returns-in-Verify-clause-unasked g c = λ named. never c.in-Verify.words.conf.now (named (Verify (verify_words c.in-Verify.words)) (rw c.in-Verify.is at c.in-Some.ensures.some) Conf)
+
+pub returns-in-Sign-clause-report : goal.returns-in-Sign-clause-report
+returns-in-Sign-clause-report g c =
+    spelled (map string_bytes c.args.arguments.now) (Sign (sign_words c.in-Sign.words)) (rw c.in-Sign.is at c.in-Some.ensures.some) (g.F.Shelf.files c.args.shelf.now)
+    (c.over_files-in-Sign.new.source ≡ c.args.source.now) (g.S.Source.left c.args.source.now) (g.S.Source.left c.over_files-in-Sign.new.source) c.over_files-in-Sign.result c.over_files-in-Sign.ensures.report
+
+pub returns-in-Sign-clause-few : goal.returns-in-Sign-clause-few
+returns-in-Sign-clause-few g c =
+    of_command (λ (line : CommandLine). LosesFew (input_use line) (g.S.Source.left c.args.source.now) (g.S.Source.left c.over_files-in-Sign.new.source))
+    (map string_bytes c.args.arguments.now) (Sign (sign_words c.in-Sign.words)) (rw c.in-Sign.is at c.in-Some.ensures.some) c.over_files-in-Sign.ensures.few
+
+pub returns-in-Sign-clause-asked : goal.returns-in-Sign-clause-asked
+returns-in-Sign-clause-asked g c =
+    of_command (λ (line : CommandLine). g.F.Shelf.asked c.over_files-in-Sign.new.shelf ≤ g.F.Shelf.asked c.args.shelf.now + file_count (name_of line))
+    (map string_bytes c.args.arguments.now) (Sign (sign_words c.in-Sign.words)) (rw c.in-Sign.is at c.in-Some.ensures.some) c.over_files-in-Sign.ensures.asked
+
+pub returns-in-Sign-clause-unread : goal.returns-in-Sign-clause-unread
+returns-in-Sign-clause-unread g c = λ none. never_read _ (none (Sign (sign_words c.in-Sign.words)) (rw c.in-Sign.is at c.in-Some.ensures.some))
+
+pub returns-in-Sign-clause-unasked : goal.returns-in-Sign-clause-unasked
+returns-in-Sign-clause-unasked g c = λ named. never c.in-Sign.words.conf.now (named (Sign (sign_words c.in-Sign.words)) (rw c.in-Sign.is at c.in-Some.ensures.some) Conf)

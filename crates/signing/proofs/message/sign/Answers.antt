@@ -1,6 +1,6 @@
 use Rattle.component_values.specs.Context.{context_of}
 use Rattle.signing.proofs.Made.{signed_is, fault_is}
-use Rattle.signing.proofs.Verifiable.{verifiable_is}
+use Rattle.signing.proofs.Verifiable.{spells_is, verifiable_is}
 use Rattle.signing.proofs.message.sign.Goals as goal
 
 pub returns-clause-ok : goal.returns-clause-ok
@@ -12,3 +12,7 @@ returns-clause-fault c = fault_is (context_of c.args.context.now) c.args.spec.no
 pub returns-clause-verifiable : goal.returns-clause-verifiable
 returns-clause-verifiable c =
     verifiable_is (context_of c.args.context.now) c.args.spec.now c.args.bytes.now c.judge.result c.requires.valid c.requires.spells c.judge.ensures
+
+pub returns-clause-spells : goal.returns-clause-spells
+returns-clause-spells c =
+    spells_is (context_of c.args.context.now) c.args.spec.now c.args.bytes.now c.judge.result c.requires.valid c.requires.spells c.judge.ensures

@@ -1,0 +1,183 @@
+//! The command `sign`: the message with a signature (RFC 9421 section 3.1), or with those that
+//! another message wishes (section 5.1).
+
+ghost use Rattle.std.specs.Prelude.{◌≡◌, ◌≤◌, option_map, length, IfOk, IfSome, IsSome, IsTrue};
+ghost use Rattle.std.specs.List.{All, list_all};
+ghost use Rattle.sfv_text.specs.Range.{is_string_byte};
+ghost use Rattle.msg_body.specs.Messages.{Message, Spells};
+ghost use Rattle.msg_body.specs.Views.{message_of};
+ghost use Rattle.component_ids.specs.Identifiers.{is_id_in_range};
+ghost use Rattle.component_values.specs.Context.{context_of};
+ghost use Rattle.conf.specs.ConfMeaning.{meaning};
+ghost use Rattle.nonces.specs.declared.limits.TheConstants.{MAX_MOMENT};
+ghost use Rattle.framing.specs.Framings.{is_request};
+ghost use Rattle.signing.specs.Asked.{IsSpecOf};
+ghost use Rattle.signing.specs.Specs.{IsValidSpec};
+ghost use Rattle.signing.specs.Written.{answers_head, context_with};
+ghost use Rattle.commands.specs.Sign.{ReportsEach, ReportsSign, ReportsWished};
+ghost use Rattle.commands.specs.Stops.{IfOutcome, ReadsNothing};
+ghost use Rattle.commands.specs.tools.Signed.{HasIndexIn, SaysSignFault, IsOneText, SaysSigned};
+
+use crate::base::stop_for_fault;
+use crate::outcome::Outcome;
+use crate::stop::Stop;
+use component_values::{Context, ValueFault};
+use conf::Conf;
+use framing::is_request;
+use msg_body::{Expect, MessageRead, MessageView, read_message};
+use refusals::{CommandRefusal, Refusal};
+use sfv_text::{Memory, Text};
+use signing::{SignFault, SignSpec, answers_head, sign, spec_of, wanted};
+use std::alloc::Global;
+
+/// What stops a run over a message that isn't signed.
+fn stop_for_sign_fault(alloc: Global, spec: &SignSpec, fault: SignFault) -> Stop
+    requires in_range { IsTrue (list_all is_id_in_range spec.now.params.ids) }
+    requires there { HasIndexIn (length spec.now.params.ids) fault }
+    ensures { SaysSignFault spec.now.params.ids fault result }
+{
+    match fault {
+        SignFault::Memory => Stop::Memory,
+        SignFault::Lacks(index, lack) => {
+            let fault = ValueFault::Lacks(index, lack);
+            stop_for_fault(alloc, spec.params.ids.as_slice(), fault)
+        }
+        _ => Stop::Refused(Refusal::Command(CommandRefusal::Sign(fault))),
+    }
+}
+
+/// The message of the context, whose bytes these are, with the signature that is asked for.
+fn signed_text(
+    alloc: Global,
+    bytes: &[u8],
+    context: &Context<'_, '_>,
+    spec: &SignSpec,
+) -> Result<Text, Stop>
+    requires valid { IsValidSpec spec.now }
+    requires spells { Spells (answers_head (context_of context.now).related)
+        (context_of context.now).message bytes.now }
+    ensures { SaysSigned (context_of context.now) spec.now result }
+{
+    match sign(alloc, bytes, context, spec) {
+        Ok(text) => Ok(text),
+        Err(fault) => Err(stop_for_sign_fault(alloc, spec, fault)),
+    }
+}
+
+/// The message of these bytes, in place of the context's, with the signature that is asked for.
+fn signed_again(
+    alloc: Global,
+    bytes: &[u8],
+    context: &Context<'_, '_>,
+    spec: &SignSpec,
+) -> Result<Text, Stop>
+    requires valid { IsValidSpec spec.now }
+    requires spells { IsOneText (context_of context.now) bytes.now }
+    ensures { (message : Message)
+        → Spells (answers_head (context_of context.now).related) message bytes.now
+        → SaysSigned (context_with (context_of context.now) message) spec.now result }
+{
+    match read_message(alloc, bytes, Expect::Any, answers_head(context)) {
+        Ok(MessageRead::Whole(message, _)) => {
+            let context = Context {
+                message: &message,
+                related: context.related,
+                scheme: context.scheme,
+                types: context.types,
+            };
+            signed_text(alloc, bytes, &context, spec)
+        }
+        Ok(MessageRead::Partial) => unreachable!(),
+        Err(_) => Err(Stop::Memory),
+    }
+}
+
+/// The message of the context, whose bytes these are, with each of these signatures in order, each
+/// over the message that the one before it gave.
+fn sign_each(
+    alloc: Global,
+    bytes: &[u8],
+    context: &Context<'_, '_>,
+    specs: &[SignSpec],
+) -> Result<Outcome, Stop>
+    requires valid { All IsValidSpec specs.now }
+    requires spells { Spells (answers_head (context_of context.now).related)
+        (context_of context.now).message bytes.now }
+    ensures report { IfOutcome result (ReportsEach (context_of context.now) specs.now) }
+    ensures reads_nothing { ReadsNothing result }
+{
+    let mut text = Text::from_bytes(alloc, bytes)?;
+    for spec in specs {
+        text = signed_again(alloc, text.bytes(), context, spec)?;
+    }
+    Ok(Outcome::Done(text))
+}
+
+/// The signature that the configuration asks for.
+fn asked_spec(
+    alloc: Global,
+    conf: &Conf,
+    now: u64,
+    nonce: Option<&str>,
+    context: &Context<'_, '_>,
+) -> Result<SignSpec, Memory>
+    requires table { IsSome (meaning conf.now).sign }
+    requires now { now ≤ MAX_MOMENT }
+    requires nonce { IfSome nonce (λ text. IsTrue (list_all is_string_byte text.now)) }
+    ensures is { IfOk result (IsSpecOf (meaning conf.now)
+        (is_request (context_of context.now).message.head.start) now
+        (option_map (λ word. word.now) nonce.entry)) }
+    ensures valid { IfOk result IsValidSpec }
+{
+    let of_request = is_request(context.message.start());
+    match nonce {
+        None => spec_of(alloc, conf, of_request, now, None),
+        Some(nonce) => spec_of(alloc, conf, of_request, now, Some(nonce.as_bytes())),
+    }
+}
+
+/// The message of the context, whose bytes these are, with the signature that the configuration
+/// asks for. The moment is in seconds since the epoch.
+pub fn write_signed(
+    alloc: Global,
+    conf: &Conf,
+    now: u64,
+    nonce: Option<&str>,
+    bytes: &[u8],
+    context: &Context<'_, '_>,
+) -> Result<Outcome, Stop>
+    requires table { IsSome (meaning conf.now).sign }
+    requires now { now ≤ MAX_MOMENT }
+    requires nonce { IfSome nonce (λ text. IsTrue (list_all is_string_byte text.now)) }
+    requires spells { Spells (answers_head (context_of context.now).related)
+        (context_of context.now).message bytes.now }
+    ensures report { IfOutcome result (ReportsSign (option_map (λ word. word.now) nonce.entry)
+        now (meaning conf.now) (context_of context.now)) }
+    ensures reads_nothing { ReadsNothing result }
+{
+    let spec = asked_spec(alloc, conf, now, nonce, context)?;
+    Ok(Outcome::Done(signed_text(alloc, bytes, context, &spec)?))
+}
+
+/// The message of the context, whose bytes these are, with each signature that another message
+/// wishes, in order, each over the message that the one before it gave. The moment is in seconds
+/// since the epoch.
+pub fn write_wished(
+    alloc: Global,
+    conf: &Conf,
+    now: u64,
+    wishes: &MessageView<'_>,
+    bytes: &[u8],
+    context: &Context<'_, '_>,
+) -> Result<Outcome, Stop>
+    requires table { IsSome (meaning conf.now).sign }
+    requires now { now ≤ MAX_MOMENT }
+    requires spells { Spells (answers_head (context_of context.now).related)
+        (context_of context.now).message bytes.now }
+    ensures report { IfOutcome result (ReportsWished now (meaning conf.now)
+        (message_of wishes.now) (context_of context.now)) }
+    ensures reads_nothing { ReadsNothing result }
+{
+    let specs = wanted(alloc, wishes, conf, now)?;
+    sign_each(alloc, bytes, context, specs.as_slice())
+}
