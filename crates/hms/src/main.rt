@@ -22,6 +22,8 @@ use std::process::ExitCode;
 #[cfg(test)]
 mod device_tests;
 #[cfg(test)]
+mod sign_tests;
+#[cfg(test)]
 mod tests;
 
 /// The arguments of the process, the program's name among them.
