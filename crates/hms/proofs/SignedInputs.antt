@@ -45,6 +45,7 @@ use Rattle.refusals.specs.declared.refusal.TheConstants.{MAX_INPUT_BYTES}
 use Rattle.hms.specs.Commands.{name_of}
 use Rattle.hms.specs.Laws.{IsAcceptedWhereSigned, IsOkOrPolicy, SignsLast, VerifiesSigned}
 use Rattle.hms.specs.Report.{Answers, Reports, ReportsCommand, ReportsMessage, ReportsRequest, ReportsTables, ReportsWishes}
+use Rattle.hms.proofs.Sources.{spelled_input}
 use Rattle.hms.proofs.CommandLaws.{conf_decided, tables_decided, request_decided, wanted_decided, input_decided, valid_where_configured, message_where_signed, right_where_signed}
 
 -- ---- the words of `sign`
@@ -182,7 +183,7 @@ module _ (signed : SignWords) (found : Found) (input written : List ℕ) (timely
   valid = valid_where_configured (Some signed.conf) (found ConfFile) parts.conf parts.configured
 
   spelled : Spells (answers_head parts.related) parts.message input
-  spelled = subst (λ (to_head : Bool). Spells to_head parts.message input) (to_head_is parts.related) parts.is.spells
+  spelled = spelled_input parts.related input parts.message parts.is
 
   written_message : (message : Message) × Spells (answers_head parts.related) message written × (message.head.start ≡ parts.message.head.start)
   written_message = message_where_signed signed.nonce signed.now parts.conf parts.wishes (context_for parts.conf parts.message parts.related) input written valid timely characters spelled parts.reports

@@ -140,7 +140,8 @@ SignsLast signed found label =
     × IsWanted signed.wanted (found WantedFile) wishes × IsLastLabel conf wishes label
 
 -- What `sign` writes, given to `verify` with the same files at the same moment, is `ok` for the
--- label of the last signature, or fails a rule of the policy, and no rule of signing.
+-- label of the last signature, or names one of the rules 13 to 26, 33 and 34, which aren't of
+-- signing.
 abbrev pub IsAcceptedWhereSigned : Type 0
 IsAcceptedWhereSigned =
     (signing verifying : List (List ℕ)) (signed : SignWords) (verified : VerifyWords)

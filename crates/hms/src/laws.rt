@@ -17,7 +17,8 @@ pub fn a_command_that_has_all_is_answered()
 {}
 
 /// What `sign` writes, given to `verify` with the same files at the same moment, is `ok` for the
-/// label of the last signature, or fails a rule of the policy, and no rule of signing.
+/// label of the last signature, or names one of the rules 13 to 26, 33 and 34, by which key,
+/// moment, nonce, digest and what is covered are judged.
 pub fn what_is_signed_is_accepted()
     ensures { IsAcceptedWhereSigned }
 {}
