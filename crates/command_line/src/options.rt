@@ -6,12 +6,11 @@ ghost use Rattle.std.specs.Str.Parse.{digits_value};
 ghost use Rattle.std.specs.List.{list_all};
 ghost use Rattle.byte_grammar.specs.Classes.{is_digit};
 ghost use Rattle.sfv_text.specs.declared.pair.Pair.{Pair};
-ghost use Rattle.sfv_text.specs.Classes.{is_string_byte};
 ghost use Rattle.command_line.specs.Options.{is_moment, is_nonce, is_taken_by, option_of, row_of, AreOptions};
 ghost use Rattle.command_line.specs.tools.Found.{word_in, AddsOption, AreFoundBefore, IsNextOption, HasOptions};
 
 use nonces::MAX_NONCE_BYTES;
-use sfv_text::is_key;
+use sfv_text::{are_string_bytes, is_key};
 
 /// The most digits of a moment.
 pub const MAX_MOMENT_DIGITS: usize = 15;
@@ -66,19 +65,6 @@ fn is_moment(word: &[u8]) -> bool
     ensures { result ≡ is_moment word.now }
 {
     !word.is_empty() && word.len() <= MAX_MOMENT_DIGITS && are_digits(word)
-}
-
-/// Whether a String can have the byte: it is printable ASCII (RFC 9651 section 3.3.3).
-fn is_string_byte(byte: u8) -> bool
-    ensures { result ≡ is_string_byte byte }
-{
-    matches!(byte, b' '..=b'~')
-}
-
-fn are_string_bytes(bytes: &[u8]) -> bool
-    ensures { result ≡ list_all is_string_byte bytes.now }
-{
-    bytes.iter().all(|byte| is_string_byte(*byte))
 }
 
 /// Whether the word is a nonce: 1 to 256 bytes of a String.

@@ -18,10 +18,9 @@ use byte_grammar::is_listed;
 use component_ids::is_field_name;
 use settings::{
     DEFAULT_MAX_AGE, DEFAULT_SKEW, DigestUse, MAX_AGE, MAX_ENTRIES, MAX_EXPIRES_AFTER, MAX_SKEW,
-    MAX_WINDOW, NonceUse, SignDigest, are_string_bytes, expires_of_word, is_keyid, kind_of_word,
-    scheme_of_word,
+    MAX_WINDOW, NonceUse, SignDigest, expires_of_word, is_keyid, kind_of_word, scheme_of_word,
 };
-use sfv_text::is_key;
+use sfv_text::{are_string_bytes, is_key};
 use toml::{Table, Value};
 
 // ---- types

@@ -16,7 +16,7 @@ use Rattle.std.proofs.lemmas.Slice.Eq.{bytes_eq-Decides}
 use Rattle.std.proofs.lemmas.Str.Ascii.{lowercase-lowercase}
 use Rattle.msg_head.specs.declared.line.LineSpan.{LineSpan}
 use Rattle.msg_head.specs.declared.index.IndexEntry.{IndexEntry}
-use Rattle.msg_head.specs.tools.Index.{first_bytes, lowered_name, text_cmp, entry_of, comes_before, is_below, is_named, line_by, IsEntry, IsIndexOf, IsRestFrom}
+use Rattle.msg_head.specs.tools.Index.{lowered_name, text_cmp, entry_of, comes_before, is_below, is_named, line_by, IsEntry, IsIndexOf, IsRestFrom}
 
 -- ---- two names
 
@@ -68,10 +68,6 @@ named_text bytes spans name entry is =
     let same : str_to_ascii_lowercase text ≡ name = (bytes_eq-Decides (str_to_ascii_lowercase text) name).0 is in
     sym (ap str_to_ascii_lowercase (sym same) ∙ lower_again text)
 
--- its entry has the name's first bytes
-pub named_first_bytes : (bytes : List ℕ) (spans : List LineSpan) (name : List ℕ) (entry : IndexEntry) → IsEntry bytes spans entry → is_named bytes spans name entry ≡ true → entry.first_bytes ≡ first_bytes (str_to_ascii_lowercase name)
-named_first_bytes bytes spans name entry right is = right ∙ ap first_bytes (named_text bytes spans name entry is)
-
 -- ---- lists that a test parts
 
 pub all_first : {X : Type 0} (P : X → Type 0) (xs : List X) (n : ℕ) → n ≤ length xs → AllWithin P xs 0 n → All P (take n xs)
@@ -103,7 +99,7 @@ pub up_far : (bytes : List ℕ) (spans : List LineSpan) (index : List IndexEntry
 up_far bytes spans index up i j d low high = sorted_far (comes_before bytes spans) (index_order bytes spans) index up i j d low high
 
 -- of two entries in order the name of the first isn't above the other's
-names_up : (bytes : List ℕ) (spans : List LineSpan) (one other : IndexEntry) → comes_before bytes spans other one ≡ false → is_gt (text_cmp (lowered_name bytes spans one.line) (lowered_name bytes spans other.line)) ≡ false
+pub names_up : (bytes : List ℕ) (spans : List LineSpan) (one other : IndexEntry) → comes_before bytes spans other one ≡ false → is_gt (text_cmp (lowered_name bytes spans one.line) (lowered_name bytes spans other.line)) ≡ false
 names_up bytes spans one other up =
     let x = lowered_name bytes spans one.line in
     let y = lowered_name bytes spans other.line in

@@ -38,10 +38,15 @@ lowered_part bytes begin end are =
     lowered_bytes (slice_range bytes begin end) (at_each (slice_range bytes begin end) part)
 
 -- texts with the same first sixteen bytes have the same number
+pub same_number : (one other : List ℕ) → ((k : ℕ) → k < 16 → slice_index one k ≡ slice_index other k) → first_bytes one ≡ first_bytes other
+same_number one other at =
+    rw (at 0 (omega arith), at 1 (omega arith), at 2 (omega arith), at 3 (omega arith), at 4 (omega arith), at 5 (omega arith), at 6 (omega arith), at 7 (omega arith), at 8 (omega arith), at 9 (omega arith), at 10 (omega arith), at 11 (omega arith), at 12 (omega arith), at 13 (omega arith), at 14 (omega arith), at 15 (omega arith)) refl
+
+-- and so have they in lower case
 pub same_first : (one other : List ℕ) → ((k : ℕ) → k < 16 → slice_index one k ≡ slice_index other k) → first_bytes (str_to_ascii_lowercase one) ≡ first_bytes (str_to_ascii_lowercase other)
 same_first one other same =
-    let at : (k : ℕ) → k < 16 → slice_index (str_to_ascii_lowercase one) k ≡ slice_index (str_to_ascii_lowercase other) k = λ k less. lowered_at one k ∙ ap to_ascii_lowercase (same k less) ∙ sym (lowered_at other k) in
-    rw (at 0 (omega arith), at 1 (omega arith), at 2 (omega arith), at 3 (omega arith), at 4 (omega arith), at 5 (omega arith), at 6 (omega arith), at 7 (omega arith), at 8 (omega arith), at 9 (omega arith), at 10 (omega arith), at 11 (omega arith), at 12 (omega arith), at 13 (omega arith), at 14 (omega arith), at 15 (omega arith)) refl
+    same_number (str_to_ascii_lowercase one) (str_to_ascii_lowercase other)
+    (λ k less. lowered_at one k ∙ ap to_ascii_lowercase (same k less) ∙ sym (lowered_at other k))
 
 -- zeros after a text are as good as its end
 pub zeros_after : (text zeros : List ℕ) → ((k : ℕ) → slice_index zeros k ≡ 0) → (k : ℕ) → slice_index (text ++ zeros) k ≡ slice_index text k

@@ -1,18 +1,20 @@
 -- The order of names by their first bytes as a number, what comes after these, and the length is that of the names.
-use Rattle.std.proofs.Common.{◌≡◌, ℕ, zero, suc, ◌+◌, ◌*◌, ◌^◌, ◌<◌, ◌≤◌, List, [], ◌∷◌, length, drop, true, false, sym, ◌∙◌, ap, arith, refl, inl, inr, Ordering, Less, Equal, Greater}
-use Rattle.std.specs.Prelude.{slice_index}
+use Rattle.std.proofs.Common.{◌≡◌, ◌≢◌, ℕ, zero, suc, ◌+◌, ◌*◌, ◌^◌, ◌<◌, ◌≤◌, List, [], ◌∷◌, length, drop, Bool, true, false, ◌==◌, ◌&&◌, sym, ◌∙◌, ap, arith, refl, inl, inr, Ordering, Less, Equal, Greater}
+use Rattle.std.specs.Prelude.{slice_index, nat_lt}
 use Rattle.std.specs.List.{All, slice_index_or}
 use Rattle.std.specs.List.Sorted.{IsSortedBy, IsPartitionedBy, IsPartitionPoint}
-use Rattle.std.specs.Ordering.{is_lt, ordering_then, nat_cmp}
+use Rattle.std.specs.Ordering.{is_lt, is_gt, ordering_then, nat_cmp}
 use Rattle.std.specs.Cmp.{IsTotalOrder, IsStrictWeakOrder, nat_cmp_is}
-use Rattle.std.specs.Str.{str_to_ascii_lowercase}
-use Rattle.std.proofs.lemmas.Bool.{cases_order}
-use Rattle.std.proofs.lemmas.Cmp.{nat_list_cmp_total, nat_cmp_total, on_total, then_total}
+use Rattle.std.specs.Str.{bytes_eq, str_to_ascii_lowercase}
+use Rattle.std.proofs.lemmas.Bool.{cases_Bool, cases_order, false≢true, eq-eqb, eqb-true, lt-ltb, ltb-true}
+use Rattle.std.proofs.lemmas.Cmp.{nat_list_cmp_total, nat_cmp_total, on_total, then_total, tied_itself}
 use Rattle.std.proofs.lemmas.List.Sorted.{ranks_by}
+use Rattle.std.proofs.lemmas.Map.Lookups.{exact_bytes}
+use Rattle.std.proofs.lemmas.Slice.Eq.{bytes_eq-Decides}
 use Rattle.msg_head.specs.declared.line.LineSpan.{LineSpan}
 use Rattle.msg_head.specs.declared.index.IndexEntry.{IndexEntry}
-use Rattle.msg_head.specs.tools.Index.{no_span, first_bytes, after_first, lowered_name, text_cmp, comes_before, is_below, name_cmp, key_cmp, entry_key, entry_cmp, is_key_below, IsEntry, IsIndexOf}
-use Rattle.msg_head.proofs.ByName.{all_right, below_first}
+use Rattle.msg_head.specs.tools.Index.{no_span, first_bytes, after_first, lowered_name, text_cmp, comes_before, is_below, name_cmp, key_cmp, entry_key, entry_cmp, is_key_below, is_named, is_rest_named, IsEntry, IsIndexOf}
+use Rattle.msg_head.proofs.ByName.{all_right, below_first, names_up, up_far}
 use Rattle.msg_head.proofs.FirstBytes.{AreBytes, lowered_bytes, lowered_part}
 
 -- ---- two numbers by a first digit and what is below it
@@ -200,3 +202,85 @@ split_is bytes spans name first index n are too e is within split =
     let same : (k : ℕ) (d : IndexEntry) → k < length index → is_key_below bytes spans (first, str_to_ascii_lowercase name) (slice_index_or index k d) ≡ is_below bytes spans name (slice_index_or index k d) = λ k d less. below_is bytes spans name first (slice_index_or index k d) are too e (right k d less) in
     let parted = split (λ i j d low high passes. same i d (omega (arith, low, high)) ∙ below_first bytes spans name index is.sorted i j d low high (sym (same j d high) ∙ passes)) in
     (λ k d low high. sym (same k d (omega (arith, high, within))) ∙ parted.0 k d low high, λ k d low high. sym (same k d high) ∙ parted.1 k d low high)
+
+-- a name that isn't above another has no greater first bytes
+first_up : (one other : List ℕ) → AreBytes one → AreBytes other → is_gt (text_cmp one other) ≡ false → first_bytes one ≤ first_bytes other
+first_up one other are too up = elim (cases_order (first_bytes one) (first_bytes other)) [
+  | inl e ↦ omega (arith, e)
+  | inr (inl less) ↦ omega (arith, less)
+  | inr (inr more) ↦
+      let key : key_cmp (first_bytes one, one) (first_bytes other, other) ≡ Greater = rw (higher (first_bytes one) (first_bytes other) more) refl in
+      absurd (false≢true (sym up ∙ ap is_gt (sym (keys_are one other are too) ∙ key)))
+]
+
+-- so the first bytes don't fall in the index
+first_parted : (bytes : List ℕ) (spans : List LineSpan) (first : ℕ) (index : List IndexEntry) → AreBytes bytes → IsIndexOf bytes spans index → IsPartitionedBy (λ (entry : IndexEntry). nat_lt entry.first_bytes first) index
+first_parted bytes spans first index are is i j d low high passes =
+    let a = slice_index_or index i d in
+    let b = slice_index_or index j d in
+    let right = all_right bytes spans index is.each in
+    let up = first_up (lowered_name bytes spans a.line) (lowered_name bytes spans b.line) (lowered_line bytes spans a.line are) (lowered_line bytes spans b.line are) (names_up bytes spans a b (up_far bytes spans index is.sorted i j d low high)) in
+    let less : b.first_bytes < first = ltb-true b.first_bytes first passes in
+    lt-ltb a.first_bytes first (omega (arith, up, less, right i d (omega (arith, low, high)), right j d high))
+
+key_below : (bytes : List ℕ) (spans : List LineSpan) (first : ℕ) (text : List ℕ) (entry : IndexEntry) → entry.first_bytes < first → is_key_below bytes spans (first, text) entry ≡ true
+key_below bytes spans first text entry less = rw (lower entry.first_bytes first less) refl
+
+-- where they part the index, the names do, if the name there doesn't come before the name
+pub first_split : (bytes : List ℕ) (spans : List LineSpan) (name : List ℕ) (first : ℕ) (index : List IndexEntry) (n : ℕ) → AreBytes bytes → AreBytes name → first ≡ first_bytes (str_to_ascii_lowercase name) → IsIndexOf bytes spans index → n ≤ length index → (IsPartitionedBy (λ (entry : IndexEntry). nat_lt entry.first_bytes first) index → IsPartitionPoint (λ (entry : IndexEntry). nat_lt entry.first_bytes first ≡ true) (λ (entry : IndexEntry). nat_lt entry.first_bytes first ≡ false) index n) → ((d : IndexEntry) → n < length index → is_key_below bytes spans (first, str_to_ascii_lowercase name) (slice_index_or index n d) ≡ false) → IsPartitionPoint (λ entry. is_below bytes spans name entry ≡ true) (λ entry. is_below bytes spans name entry ≡ false) index n
+first_split bytes spans name first index n are too e is within split stops =
+    let text = str_to_ascii_lowercase name in
+    let right = all_right bytes spans index is.each in
+    let same : (k : ℕ) (d : IndexEntry) → k < length index → is_key_below bytes spans (first, text) (slice_index_or index k d) ≡ is_below bytes spans name (slice_index_or index k d) = λ k d less. below_is bytes spans name first (slice_index_or index k d) are too e (right k d less) in
+    let parted = split (first_parted bytes spans first index are is) in (
+      λ k d low high. sym (same k d (omega (arith, high, within))) ∙ key_below bytes spans first text (slice_index_or index k d) (ltb-true _ first (parted.0 k d low high)),
+      λ k d low high. elim (cases_Bool (is_below bytes spans name (slice_index_or index k d))) [
+        | inl passes ↦
+            let under = below_first bytes spans name index is.sorted n k d low high passes in
+            absurd (false≢true (sym (stops d (omega (arith, low, high))) ∙ same n d (omega (arith, low, high)) ∙ under))
+        | inr not ↦ not
+      ],
+    )
+
+-- ---- names of equal first bytes
+
+-- names of which the first bytes, what comes after them and the lengths are the same are the same
+tied : (one other : List ℕ) → AreBytes one → AreBytes other → first_bytes one ≡ first_bytes other → after_first one ≡ after_first other → length one ≡ length other → one ≡ other
+tied one other are too first after count =
+    let numbers : nat_cmp (first_bytes one) (first_bytes other) ≡ Equal = same (first_bytes one) (first_bytes other) first in
+    let rest : text_cmp (after_first one) (after_first other) ≡ Equal = ap (text_cmp (after_first one)) (sym after) ∙ tied_itself nat_list_cmp_total (after_first one) in
+    let lengths : nat_cmp (length one) (length other) ≡ Equal = same (length one) (length other) count in
+    let key : key_cmp (first_bytes one, one) (first_bytes other, other) ≡ Equal = rw (numbers, rest, lengths) refl in
+    exact_bytes one other (sym (keys_are one other are too) ∙ key)
+
+both_of : (a b : Bool) → (a && b) ≡ true → (a ≡ true) × (b ≡ true)
+both_of true b h = (refl, h)
+both_of false b h = absurd (false≢true h)
+
+same_rest : (one other : List ℕ) → AreBytes one → AreBytes other → first_bytes one ≡ first_bytes other → is_rest_named one other ≡ bytes_eq one other
+same_rest one other are too first = elim (cases_Bool (bytes_eq one other)) [
+  | inl is ↦
+      let e : one ≡ other = (bytes_eq-Decides one other).0 is in
+      let lengths : (length one == length other) ≡ true = eq-eqb (length one) (length other) (ap length e) in
+      let rest : bytes_eq (after_first one) (after_first other) ≡ true = (bytes_eq-Decides (after_first one) (after_first other)).1 (ap after_first e) in
+      rw (lengths, rest, is) refl
+  | inr not ↦ elim (cases_Bool (is_rest_named one other)) [
+    | inl both ↦
+        let parts = both_of (length one == length other) (bytes_eq (after_first one) (after_first other)) both in
+        let e = tied one other are too first ((bytes_eq-Decides (after_first one) (after_first other)).0 parts.1) (eqb-true (length one) (length other) parts.0) in
+        absurd (false≢true (sym not ∙ (bytes_eq-Decides one other).1 e))
+    | inr other ↦ other ∙ sym not
+  ]
+]
+
+-- so the code has the name of an entry for the name where it is
+pub named_is : (bytes : List ℕ) (spans : List LineSpan) (name : List ℕ) (entry : IndexEntry) → AreBytes bytes → AreBytes name → IsEntry bytes spans entry → entry.first_bytes ≡ first_bytes name → is_rest_named (lowered_name bytes spans entry.line) name ≡ is_named bytes spans name entry
+named_is bytes spans name entry are too right first =
+    same_rest (lowered_name bytes spans entry.line) name (lowered_line bytes spans entry.line are) too (sym right ∙ first)
+
+-- and an entry with the name has its first bytes
+pub not_named : (bytes : List ℕ) (spans : List LineSpan) (name : List ℕ) (entry : IndexEntry) → IsEntry bytes spans entry → entry.first_bytes ≢ first_bytes name → is_named bytes spans name entry ≡ false
+not_named bytes spans name entry right other = elim (cases_Bool (is_named bytes spans name entry)) [
+  | inl is ↦ absurd (other (right ∙ ap first_bytes ((bytes_eq-Decides (lowered_name bytes spans entry.line) name).0 is)))
+  | inr not ↦ not
+]

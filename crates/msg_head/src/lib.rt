@@ -4,9 +4,8 @@
 //!
 //! A head is read from the start of the bytes that hold it, and the view of it borrows them. It
 //! keeps the lines in order of their names too, by which the lines of a name are found. Raw values
-//! keep their obsolete line folding. The value of a line comes as borrowed pieces: its raw
-//! value without the blanks at its ends, each run of blanks and obsolete folds in it replaced by
-//! one space.
+//! keep their obsolete line folding. The value of a line comes as borrowed pieces: its raw value
+//! without the blanks at its ends, each run of blanks and obsolete folds in it one space.
 //!
 //! ```text
 //! let bytes = b"GET / HTTP/1.1\r\nHost: example.com\r\n\r\n";

@@ -52,10 +52,7 @@ pub(crate) fn line_at<'m>(bytes: &'m [u8], span: LineSpan) -> LineView<'m>
 fn starts_with_blank(bytes: &[u8]) -> bool
     ensures { result ≡ starts_in is_blank bytes.now }
 {
-    match bytes.first() {
-        Some(byte) => is_blank(*byte),
-        None => false,
-    }
+    bytes.first().is_some_and(|byte| is_blank(*byte))
 }
 
 // What comes before the first CRLF that no blank follows, and what comes after it, where no NUL and

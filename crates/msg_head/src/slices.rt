@@ -50,10 +50,7 @@ pub(crate) fn begins_with_crlf(bytes: &[u8]) -> bool
     ensures yes { IsTrue result → BeginsWithCrlf bytes.now }
     ensures not { IsFalse result → ¬ BeginsWithCrlf bytes.now }
 {
-    match rest_after(b"\r\n", bytes) {
-        Some(_) => true,
-        None => false,
-    }
+    rest_after(b"\r\n", bytes).is_some()
 }
 
 /// Whether each of the bytes is of the class.

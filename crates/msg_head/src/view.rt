@@ -76,8 +76,7 @@ impl<'m> HeadView<'m> {
         self.section.line(index)
     }
 
-    /// The field lines that have the name, which is in lower case, in order. They are found in
-    /// steps in proportion to the logarithm of the number of field lines.
+    /// The field lines that have the name, which is in lower case, in order, found by halving.
     pub fn lines_named(&self, name: &[u8]) -> NamedFieldLines<'_, 'm>
         ensures { result ≡ filter (has_name name.now) (lines_of self.now) }
     {

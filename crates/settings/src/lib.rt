@@ -23,7 +23,7 @@ mod words;
 
 pub use conf::Conf;
 pub use covered::read_covered;
-pub use keyid::{are_string_bytes, is_keyid};
+pub use keyid::is_keyid;
 pub use keys::Keys;
 pub use limits::{
     DEFAULT_MAX_AGE, DEFAULT_SKEW, MAX_AGE, MAX_EXPIRES_AFTER, MAX_KEY_BYTES, MAX_SKEW,

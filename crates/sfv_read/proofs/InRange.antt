@@ -24,7 +24,7 @@ use Rattle.sfv_read.specs.Item.{IsValue, IsParameter, AreParameters, put_pair, d
 use Rattle.sfv_read.specs.Inner.{AreSpaces, IsInner}
 use Rattle.sfv_read.specs.Member.{IsMember, IsDictValue, IsDictMember, IsComma, AreMembers}
 use Rattle.sfv_read.specs.declared.error.SfError.{SfError}
-use Rattle.sfv_read.specs.Reads.{ReadsItem, ReadsInner, ReadsList, ReadsDict, ReadsDictMember}
+use Rattle.sfv_read.specs.Reads.{ReadsItem, ReadsInner, ReadsList, ReadsDict}
 use Rattle.sfv_read.proofs.Digits.{digit_is, room_more, pow_room, scaled_room, value_append}
 
 -- ---- numbers
@@ -148,22 +148,3 @@ list_read_in_range text list h = members_in_range IsMember is_member_in_range me
 
 pub dict_read_in_range : (text : List ℕ) (dict : List (Pair Member)) → ReadsDict text dict → is_dict_in_range dict ≡ true
 dict_read_in_range text dict h = ap is_dict_in_range h.2 ∙ kept_in_range is_dict_member_in_range h.0 (members_in_range IsDictMember is_dict_member_in_range dict_member_in_range text h.0 h.1)
-
--- ---- the member of one key
-
-key_value_in_range : (dict : List (Pair Member)) (key : List ℕ) (member : Member) → list_all is_dict_member_in_range dict ≡ true → value_of dict key ≡ Some member
-    → is_member_in_range member ≡ true
-key_value_in_range [] key member all there = absurd cc
-key_value_in_range (pair ∷ dict) key member all there =
-    let h = and_is (is_dict_member_in_range pair) (list_all is_dict_member_in_range dict) all in
-    elim (cases_Bool (has_key key pair)) [
-      | inl found ↦ let same : pair.value ≡ member = let e = rw found at there in cc in rw (sym same) (and_is (is_key pair.key) (is_member_in_range pair.value) h.0).1
-      | inr other ↦ key_value_in_range dict key member h.1 (rw other at there)
-    ]
-
-pub key_member_in_range : (key text : List ℕ) (result : Result (Option Member) SfError) → IfOk result (λ member. ReadsDictMember key text member)
-    → IfOk result (λ member. IfSome member (λ value. IsTrue (is_member_in_range value)))
-key_member_in_range key text (Err e) h = tt
-key_member_in_range key text (Ok None) h = tt
-key_member_in_range key text (Ok (Some member)) h =
-    key_value_in_range h.0 key member (and_is (have_distinct_keys h.0) (list_all is_dict_member_in_range h.0) (dict_read_in_range text h.0 h.1)).1 h.2

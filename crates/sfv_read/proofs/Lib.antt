@@ -9,7 +9,6 @@ pub mod BareItems
 pub mod Items
 pub mod InnerLists
 pub mod SeparatedTexts
-pub mod KeyMembers
 pub mod Members
 pub mod Readings
 pub mod InRange

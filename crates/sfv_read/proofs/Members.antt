@@ -13,7 +13,7 @@ use Rattle.sfv_read.specs.Class.{is_equals, is_open}
 use Rattle.sfv_read.specs.Inner.{IsInner}
 use Rattle.sfv_read.specs.Item.{IsItem, IsKey, AreParameters, distinct_pairs}
 use Rattle.sfv_read.specs.Member.{IsMember, IsDictValue, IsDictMember, AreMembers, true_item}
-use Rattle.sfv_read.specs.tools.MemberWalk.{inner_member_read, item_member_read, member_read, equals_member_read, given_or_true, dict_value_read, dict_member_read, with_last, with_key_member, list_read, dict_read, key_member_read, separated_read, next_member_read}
+use Rattle.sfv_read.specs.tools.MemberWalk.{inner_member_read, item_member_read, member_read, equals_member_read, given_or_true, dict_value_read, dict_member_read, with_last, list_read, dict_read, separated_read, next_member_read}
 use Rattle.sfv_text.specs.declared.value.BareItem.{BareItem}
 use Rattle.sfv_read.specs.declared.bare.BareKind.{BareKind}
 use Rattle.byte_grammar.proofs.Laws.{Meets, meets_then, meets_done, meets_same, meets_map, any_next}
@@ -27,12 +27,11 @@ use Rattle.sfv_text.specs.declared.pair.Pair.{Pair}
 use Rattle.sfv_read.specs.tools.ItemWalk.{pair_with}
 use Rattle.sfv_read.specs.tools.InnerWalk.{inner_of}
 use Rattle.sfv_text.specs.Keys.{value_of}
-use Rattle.sfv_read.specs.Reads.{ReadsList, ReadsDict, ReadsDictMember}
+use Rattle.sfv_read.specs.Reads.{ReadsList, ReadsDict}
 use Rattle.sfv_read.proofs.BareItems.{word_starts, none_some}
 use Rattle.sfv_read.proofs.Items.{after_params, AreDistinct, meets_key, meets_kept, meets_item, params_next, item_starts, starts_append}
 use Rattle.sfv_read.proofs.InnerLists.{meets_inner}
 use Rattle.byte_grammar.proofs.Whole.{Nothing}
-use Rattle.sfv_read.proofs.KeyMembers.{last_value}
 use Rattle.sfv_read.proofs.SeparatedTexts.{meets_separated, separated_step, separated_shorter}
 
 After : {V : Type 0} → V → ℕ → Bool
@@ -215,15 +214,6 @@ meets_dict =
     meets_same
     (meets_map {G = Nothing} dict_members (λ (ps : List (Pair Member)). distinct_pairs ps) (λ v c h. h))
     (λ x v h. (h.0, h.1, sym h.2)) (λ x v h. (h.0, h.1, sym h.2)) (λ v c h. h)
-
--- a Dictionary's members, of which that of one key is kept
-pub meets_key_member : (key : List ℕ) → Meets (λ text member. ReadsDictMember key text member) Nothing (λ bytes. key_member_read key bytes)
-meets_key_member key =
-    meets_same
-    (meets_map {G = Nothing} dict_members (λ (ps : List (Pair Member)). after_all (with_key_member key) None ps) (λ v c h. h))
-    (λ x m h. (distinct_pairs h.0, (h.0, h.1, refl), sym (last_value key h.0) ∙ h.2))
-    (λ x m h. (h.1.0, h.1.1, last_value key h.1.0 ∙ ap (λ (dict : List (Pair Member)). value_of dict key) (sym h.1.2) ∙ h.2))
-    (λ v c h. h)
 
 -- how the loops over members go on
 pub members_step : (bytes : List ℕ) → turns_read (next_member_read member_read) bytes ≡ (next_member_read member_read bytes >>= λ a. with_turns a.0 a.1 (turns_read (next_member_read member_read) a.1))

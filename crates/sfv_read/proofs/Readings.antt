@@ -13,13 +13,13 @@ use Rattle.sfv_read.specs.Fault.{IsRead, IsSfError, BeginsItemKind}
 use Rattle.sfv_read.specs.tools.Answers.{StopsAt, MarksItemKind, Answers}
 use Rattle.sfv_text.specs.declared.value.Member.{Member}
 use Rattle.sfv_text.specs.Keys.{value_of}
-use Rattle.sfv_read.specs.Reads.{ReadsItem, ReadsInner, ReadsList, ReadsDict, ReadsDictMember}
+use Rattle.sfv_read.specs.Reads.{ReadsItem, ReadsInner, ReadsList, ReadsDict}
 use Rattle.sfv_read.specs.tools.ItemWalk.{item_read}
 use Rattle.sfv_read.specs.tools.InnerWalk.{inner_list_read}
-use Rattle.sfv_read.specs.tools.MemberWalk.{list_read, dict_read, key_member_read}
+use Rattle.sfv_read.specs.tools.MemberWalk.{list_read, dict_read}
 use Rattle.sfv_read.proofs.Items.{meets_whole_item}
 use Rattle.sfv_read.proofs.InnerLists.{meets_whole_inner}
-use Rattle.sfv_read.proofs.Members.{meets_list, meets_dict, meets_key_member}
+use Rattle.sfv_read.proofs.Members.{meets_list, meets_dict}
 use Rattle.sfv_read.proofs.TextLaws.{decided, same_fault}
 
 -- what the readings of a text promise of its answer
@@ -65,14 +65,6 @@ list_judges = judges meets_list
 
 pub dict_judges : Judges ReadsDict (whole_read (λ text. dict_read text))
 dict_judges = judges meets_dict
-
-pub key_member_judges : (key : List ℕ) → Judges (λ text member. ReadsDictMember key text member) (whole_read (λ text. key_member_read key text))
-key_member_judges key = judges (meets_key_member key)
-
--- the faults of a Dictionary's member are those of the Dictionary
-pub key_member_fault : (key text : List ℕ) (result : Result (Option Member) SfError) → IfErr result (λ e. IsSfError (λ text member. ReadsDictMember key text member) text e) → IfErr result (λ e. IsSfError ReadsDict text e)
-key_member_fault key text (Ok member) h = tt
-key_member_fault key text (Err e) h = same_fault (λ x m r. (r.0, r.1)) (λ x dict r. (value_of dict key, (dict, r, refl))) text e h
 
 -- a text has at most one value of a kind
 pub item_has_one_value : HasOneValue ReadsItem

@@ -28,8 +28,3 @@ ReadsList text list = AreMembers IsMember text list
 abbrev pub ReadsDict : List ℕ → List (Pair Member) → Type 0
 ReadsDict text dict = (written : List (Pair Member))
     × AreMembers IsDictMember text written × (dict ≡ distinct_pairs written)
-
--- the text reads as a Dictionary in which the key has that member, or none
-abbrev pub ReadsDictMember : List ℕ → List ℕ → Option Member → Type 0
-ReadsDictMember key text member =
-    (dict : List (Pair Member)) × ReadsDict text dict × (value_of dict key ≡ member)

@@ -4,7 +4,8 @@ ghost use Rattle.std.specs.Prelude.{◌≡◌, ◌≤◌, length, IfSome};
 ghost use Rattle.byte_grammar.specs.Gives.{Gives};
 ghost use Rattle.byte_grammar.specs.tools.Walks.{first_kind};
 ghost use Rattle.sfv_read.specs.tools.Gives.{GivesUnlessMemory, UnlessStopped};
-ghost use Rattle.sfv_read.specs.tools.BareWalk.{kind_of_bare_item, bare_item_read, boolean_read};
+ghost use Rattle.sfv_read.specs.tools.BareWalk.{kind_of_bare_item, bare_item_by, bare_item_read, boolean_read};
+ghost use Rattle.sfv_read.specs.declared.bare.BareKind.{BareKind};
 
 use crate::byte_sequence::read_byte_sequence;
 use crate::class::SfClass;
@@ -35,20 +36,38 @@ pub fn read_bare_item(alloc: Global, bytes: &[u8]) -> Result<(BareItem, &[u8]), 
     match first_kind(bytes) {
         None => Err(PartError::At(bytes.len())),
         Some(BareKind::Number) => Ok(read_number(bytes)?),
-        Some(BareKind::String) => {
-            let (text, rest) = read_string(alloc, bytes)?;
-            Ok((BareItem::Str(text), rest))
-        }
-        Some(BareKind::Token) => {
-            let (token, rest) = read_word(SfClass::TokenFirst, SfClass::TokenRest, bytes)?;
-            Ok((BareItem::Token(Text::from_bytes(alloc, token)?), rest))
-        }
-        Some(BareKind::ByteSequence) => {
-            let (text, rest) = read_byte_sequence(alloc, bytes)?;
-            Ok((BareItem::Bytes(text), rest))
-        }
+        Some(BareKind::String) => read_string_item(alloc, bytes),
+        Some(BareKind::Token) => read_token(alloc, bytes),
+        Some(BareKind::ByteSequence) => read_bytes_item(alloc, bytes),
         Some(BareKind::Boolean) => Ok(read_boolean(bytes)?),
     }
+}
+
+/// Reads a String.
+fn read_string_item(alloc: Global, bytes: &[u8]) -> Result<(BareItem, &[u8]), PartError>
+    ensures { GivesUnlessMemory (λ x. (x.0, x.1.now)) result
+        (bare_item_by BareKind.String bytes.now) }
+{
+    let (text, rest) = read_string(alloc, bytes)?;
+    Ok((BareItem::Str(text), rest))
+}
+
+/// Reads a Token.
+fn read_token(alloc: Global, bytes: &[u8]) -> Result<(BareItem, &[u8]), PartError>
+    ensures { GivesUnlessMemory (λ x. (x.0, x.1.now)) result
+        (bare_item_by BareKind.Token bytes.now) }
+{
+    let (token, rest) = read_word(SfClass::TokenFirst, SfClass::TokenRest, bytes)?;
+    Ok((BareItem::Token(Text::from_bytes(alloc, token)?), rest))
+}
+
+/// Reads a Byte Sequence.
+fn read_bytes_item(alloc: Global, bytes: &[u8]) -> Result<(BareItem, &[u8]), PartError>
+    ensures { GivesUnlessMemory (λ x. (x.0, x.1.now)) result
+        (bare_item_by BareKind.ByteSequence bytes.now) }
+{
+    let (text, rest) = read_byte_sequence(alloc, bytes)?;
+    Ok((BareItem::Bytes(text), rest))
 }
 
 /// Reads `?1` or `?0`.

@@ -1,9 +1,11 @@
 //! Byte Sequences (RFC 9651 section 3.3.5).
 
-ghost use Rattle.std.specs.Prelude.{◌≡◌, false, IsTrue, IfOk, IfErr, MatchOption};
+ghost use Rattle.std.specs.Prelude.{◌≡◌, ◌≤◌, false, length, IsTrue, IfOk, IfErr, MatchOption};
 ghost use Rattle.std.specs.List.{list_all};
+ghost use Rattle.base64.specs.GeneralPurpose.{IsBytes};
 ghost use Rattle.byte_grammar.specs.Gives.{Gives};
-ghost use Rattle.sfv_read.specs.declared.error.PartError.TheVariants.{Memory};
+ghost use Rattle.sfv_read.specs.declared.byte_sequence.TheConstants.{FEW_LETTERS};
+ghost use Rattle.sfv_read.specs.declared.error.PartError.TheVariants.{Memory as NoMore};
 ghost use Rattle.sfv_read.specs.tools.Gives.{GivesUnlessMemory};
 ghost use Rattle.sfv_read.specs.Class.{is_base64};
 ghost use Rattle.sfv_read.specs.tools.BareWalk.{bytes_of, are_whole, pads, padding_read, padding_end_read, letters_end_read, byte_sequence_read};
@@ -13,7 +15,7 @@ use crate::error::PartError;
 use base64::DecodeAllocError;
 use base64::engine::general_purpose::STANDARD_NO_PAD;
 use byte_grammar::{Byte, Left, read_all, read_byte, read_run, starts_with};
-use sfv_text::Text;
+use sfv_text::{Memory, Text};
 use std::alloc::Global;
 
 /// Reads letters between colons, with all of the `=` that fill their last group or none.
@@ -46,14 +48,43 @@ fn read_letters_end<'a>(
     }
 }
 
+/// Up to so many letters are decoded in place, to bytes that a text holds in place.
+const FEW_LETTERS: usize = 48;
+
+/// A text of these bytes.
+fn text_of(alloc: Global, bytes: &[u8]) -> Result<Text, Memory>
+    ensures same { IfOk result (λ text. text ≡ bytes.now) }
+    ensures bytes { IfOk result IsBytes }
+{
+    Ok(Text::from_bytes(alloc, bytes)?)
+}
+
+/// The bytes that a few letters spell, where they spell some.
+fn decode_few(alloc: Global, letters: &[u8]) -> Result<Option<Text>, PartError>
+    requires letters { IsTrue (list_all is_base64 letters.now) }
+    requires few { length letters.now ≤ FEW_LETTERS }
+    ensures ok { IfOk result (λ o. MatchOption o (are_whole letters.now ≡ false)
+        (λ text. IsTrue (are_whole letters.now) × (text ≡ bytes_of letters.now))) }
+    ensures err { IfErr result (λ e. e ≡ NoMore) }
+{
+    let mut bytes = [0; FEW_LETTERS / 4 * 3];
+    match STANDARD_NO_PAD.decode_slice_unchecked(letters, &mut bytes) {
+        Ok(count) => Ok(Some(text_of(alloc, &bytes[..count])?)),
+        Err(_) => Ok(None),
+    }
+}
+
 /// The bytes that letters spell, where they spell some: the last group is no single letter, and
 /// its bits that no byte needs are zero.
 fn decode(alloc: Global, letters: &[u8]) -> Result<Option<Text>, PartError>
     requires { IsTrue (list_all is_base64 letters.now) }
     ensures ok { IfOk result (λ o. MatchOption o (are_whole letters.now ≡ false)
         (λ text. IsTrue (are_whole letters.now) × (text ≡ bytes_of letters.now))) }
-    ensures err { IfErr result (λ e. e ≡ Memory) }
+    ensures err { IfErr result (λ e. e ≡ NoMore) }
 {
+    if letters.len() <= FEW_LETTERS {
+        return decode_few(alloc, letters);
+    }
     match STANDARD_NO_PAD.decode(alloc, letters) {
         Ok(bytes) => Ok(Some(Text::from_vec(bytes))),
         Err(DecodeAllocError::OutOfMemory) => Err(PartError::Memory),

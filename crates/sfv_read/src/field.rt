@@ -8,13 +8,13 @@ ghost use Rattle.sfv_read.specs.tools.Answers.{IsFaultAt, Answers};
 ghost use Rattle.sfv_read.specs.tools.Gives.{GivesUnlessMemory, IfMemory};
 ghost use Rattle.sfv_read.specs.tools.ItemWalk.{item_read};
 ghost use Rattle.sfv_read.specs.tools.InnerWalk.{inner_list_read};
-ghost use Rattle.sfv_read.specs.tools.MemberWalk.{list_read, dict_read, key_member_read};
+ghost use Rattle.sfv_read.specs.tools.MemberWalk.{list_read, dict_read};
 
 use crate::class::SfClass;
 use crate::error::{PartError, SfError};
 use crate::inner::read_inner_list_text;
 use crate::params::read_item_text;
-use crate::separated::{AsDict, AsList, AsMember, read_separated};
+use crate::separated::{AsDict, AsList, read_separated};
 use byte_grammar::{Byte, read_all, starts_with};
 use sfv_text::{Dict, InnerList, Item, List, Member, Text};
 use std::alloc::Global;
@@ -131,20 +131,6 @@ impl Field for AsDict {
     ghost reading = { λ field text. dict_read text };
 
     fn read<'t>(&self, alloc: Global, text: &'t [u8]) -> Result<(Dict, &'t [u8]), PartError> {
-        read_separated(alloc, self, text)
-    }
-}
-
-impl<'k> Field for AsMember<'k> {
-    type Value = Option<Member>;
-
-    ghost reading = { λ field text. key_member_read field.key.now text };
-
-    fn read<'t>(
-        &self,
-        alloc: Global,
-        text: &'t [u8],
-    ) -> Result<(Option<Member>, &'t [u8]), PartError> {
         read_separated(alloc, self, text)
     }
 }

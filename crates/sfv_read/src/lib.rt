@@ -7,7 +7,6 @@
 //! ```text
 //! read_item(alloc, b" 1 ")         // the Integer 1
 //! read_dict(alloc, b"a=1, b, a=2") // the members a=2 and b
-//! read_dict_member(alloc, b"a=1, b, a=2", b"a") // the Integer 2
 //! read_inner(alloc, b"(a b")       // Err(SfError::Syntax(4))
 //! read_list(alloc, b"a, %")        // Err(SfError::ItemKind(3))
 //! ```
@@ -33,4 +32,4 @@ pub use laws::{
     a_text_is_read_or_not, a_text_not_read_has_a_fault, strict_texts_are_distinct,
     strict_texts_read_back, values_read_are_in_range,
 };
-pub use read::{read_dict, read_dict_member, read_inner, read_item, read_list};
+pub use read::{read_dict, read_inner, read_item, read_list};

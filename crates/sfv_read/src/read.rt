@@ -1,18 +1,17 @@
-//! Readers of the four kinds of structured field, and of one member of a Dictionary.
+//! Readers of the four kinds of structured field.
 
-ghost use Rattle.std.specs.Prelude.{List as Listed, IfOk, IfErr, IfSome, IsTrue};
+ghost use Rattle.std.specs.Prelude.{List as Listed, IfOk, IfErr, IsTrue};
 ghost use Rattle.sfv_text.specs.declared.value.Item.{Item};
 ghost use Rattle.sfv_text.specs.declared.value.InnerList.{InnerList};
 ghost use Rattle.sfv_text.specs.declared.value.Member.{Member};
-ghost use Rattle.sfv_text.specs.Range.{is_item_in_range, is_inner_in_range, is_list_in_range, is_dict_in_range, is_member_in_range};
-ghost use Rattle.sfv_text.specs.Keys.{value_of};
+ghost use Rattle.sfv_text.specs.Range.{is_item_in_range, is_inner_in_range, is_list_in_range, is_dict_in_range};
 ghost use Rattle.sfv_text.specs.declared.pair.Pair.{Pair};
 ghost use Rattle.sfv_read.specs.Fault.{IsRead, IsSfError};
-ghost use Rattle.sfv_read.specs.Reads.{ReadsItem, ReadsInner, ReadsList, ReadsDict, ReadsDictMember};
+ghost use Rattle.sfv_read.specs.Reads.{ReadsItem, ReadsInner, ReadsList, ReadsDict};
 
 use crate::error::SfError;
 use crate::field::{AsInnerList, AsItem, read_field};
-use crate::separated::{AsDict, AsList, AsMember};
+use crate::separated::{AsDict, AsList};
 use sfv_text::{Dict, InnerList, Item, List, Member};
 use std::alloc::Global;
 
@@ -56,17 +55,4 @@ pub fn read_dict(alloc: Global, text: &[u8]) -> Result<Dict, SfError>
     ensures fault { IfErr result (λ e. IsSfError ReadsDict text.now e) }
 {
     read_field(alloc, &AsDict, text)
-}
-
-/// Reads a Dictionary for the member of one key, where it has one, and keeps no other. Of several
-/// members of the key it is the last (RFC 9651 section 4.2.2).
-pub fn read_dict_member(alloc: Global, text: &[u8], key: &[u8]) -> Result<Option<Member>, SfError>
-    ensures ok { IfOk result (λ member. ReadsDictMember key.now text.now member) }
-    ensures in_range { IfOk result (λ member.
-        IfSome member (λ value. IsTrue (is_member_in_range value))) }
-    ensures only { (dict : Listed (Pair Member)) → ReadsDict text.now dict
-        → IsRead result (value_of dict key.now) }
-    ensures fault { IfErr result (λ e. IsSfError ReadsDict text.now e) }
-{
-    read_field(alloc, &AsMember { key }, text)
 }

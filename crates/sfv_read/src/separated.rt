@@ -4,7 +4,7 @@ ghost use Rattle.std.specs.Prelude.{◌≡◌, ◌≤◌, ◌<◌, ℕ, List as 
 ghost use Rattle.byte_grammar.specs.tools.Walks.{with_state, IsLoop};
 ghost use Rattle.sfv_read.specs.Item.{put_pair};
 ghost use Rattle.sfv_read.specs.tools.Gives.{GivesUnlessMemory, IfMemory};
-ghost use Rattle.sfv_read.specs.tools.MemberWalk.{member_read, dict_member_read, with_last, with_key_member, further_read, next_member_read, members_read, some_members_read, separated_read};
+ghost use Rattle.sfv_read.specs.tools.MemberWalk.{member_read, dict_member_read, with_last, further_read, next_member_read, members_read, some_members_read, separated_read};
 
 use crate::error::PartError;
 use crate::member::{read_member, read_pair};
@@ -101,43 +101,6 @@ impl Separated for AsDict {
 
     fn add(&self, dict: &mut Dict, part: Pair<Member>) -> Result<(), Memory> {
         dict.put(part.key, part.value)
-    }
-
-    fn read_part<'t>(
-        &self,
-        alloc: Global,
-        bytes: &'t [u8],
-    ) -> Result<(Pair<Member>, &'t [u8]), PartError> {
-        read_pair(alloc, bytes)
-    }
-}
-
-/// The member of one key of a Dictionary. Of members of the key the last is kept, and no other.
-#[derive(Clone, Copy)]
-pub struct AsMember<'k> {
-    pub key: &'k [u8],
-}
-
-impl<'k> Separated for AsMember<'k> {
-    type Part = Pair<Member>;
-
-    type Kept = Option<Member>;
-
-    ghost reading = { λ bytes. dict_member_read bytes };
-
-    ghost nothing = { None };
-
-    ghost with_part = { λ kind kept p. with_key_member kind.key.now kept p };
-
-    fn empty(&self, _alloc: Global) -> Option<Member> {
-        None
-    }
-
-    fn add(&self, kept: &mut Option<Member>, part: Pair<Member>) -> Result<(), Memory> {
-        if part.key.bytes() == self.key {
-            *kept = Some(part.value);
-        }
-        Ok(())
     }
 
     fn read_part<'t>(

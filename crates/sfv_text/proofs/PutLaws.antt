@@ -1,5 +1,5 @@
 -- What holds of pairs when a key is put.
-use Rattle.std.proofs.Common.{◌≡◌, get_or, set, ℕ, zero, suc, ◌<◌, Bool, true, false, not, ◌||◌, map, List, [], ◌∷◌, ◌++◌, length, refl, sym, ap, ◌∙◌, arith, inl, inr, Some, None}
+use Rattle.std.proofs.Common.{◌≡◌, get_or, set, ℕ, zero, suc, ◌<◌, Bool, true, false, not, ◌||◌, map, List, [], ◌∷◌, ◌++◌, length, refl, sym, ap, ◌∙◌, arith, inl, inr, Some, None, if◌then◌else◌}
 use Rattle.std.specs.List.{list_all, list_any, position, position_or_len}
 use Rattle.std.specs.Prelude.{nat_lt}
 use Rattle.std.proofs.lemmas.List.Quantifiers.{position-Some}
@@ -9,7 +9,7 @@ use Rattle.std.proofs.lemmas.Bool.Decides.{same_from_decides}
 use Rattle.std.proofs.lemmas.List.Folds.{list_all-append, list_any-append}
 use Rattle.std.proofs.lemmas.Slice.Eq.{bytes_eq-Decides}
 use Rattle.sfv_text.specs.declared.pair.Pair.{Pair}
-use Rattle.sfv_text.specs.Keys.{has_key, have_distinct_keys, with_value, put}
+use Rattle.sfv_text.specs.Keys.{has_key, have_distinct_keys, value_of, with_value, put}
 
 pub bytes_eq-sym : (a b : List ℕ) → bytes_eq a b ≡ bytes_eq b a
 bytes_eq-sym a b =
@@ -144,3 +144,61 @@ put_kept test ps key v old new = elim (cases_Bool (list_any (has_key key) ps)) [
   | inl h ↦ rw h (with_values_kept test key v ps old new)
   | inr n ↦ rw (n, list_all-append test ps (record { key = key; value = v } ∷ []), old, new) refl
 ]
+
+-- ---- the value of a key after a put
+
+module _ {V : Type 0} (k : List ℕ) (v : V) (key : List ℕ) where
+  -- another key keeps its value
+  other_value : (ps : List (Pair V)) → bytes_eq k key ≡ false → value_of (map (with_value k v) ps) key ≡ value_of ps key
+  other_value [] other = refl
+  other_value (p ∷ ps) other = elim (cases_Bool (has_key k p)) [
+    | inl h ↦
+        let apart : has_key key p ≡ false = rw (← (bytes_eq-Decides p.key k).0 h) at other in
+        rw (h, apart) (other_value ps other)
+    | inr n ↦ elim (cases_Bool (has_key key p)) [
+      | inl h ↦ rw (n, h) refl
+      | inr m ↦ rw (n, m) (other_value ps other)
+    ]
+  ]
+
+  -- the key has the value
+  this_value : (ps : List (Pair V)) → bytes_eq k key ≡ true → list_any (has_key k) ps ≡ true → value_of (map (with_value k v) ps) key ≡ Some v
+  this_value [] same some = absurd (false≢true some)
+  this_value (p ∷ ps) same some = elim (cases_Bool (has_key k p)) [
+    | inl h ↦
+        let has : has_key key p ≡ true = rw (← (bytes_eq-Decides p.key k).0 h) at same in
+        rw (h, has) refl
+    | inr n ↦
+        let has : has_key key p ≡ false = rw ((bytes_eq-Decides k key).0 same) at n in
+        let more : list_any (has_key k) ps ≡ true = rw n at some in
+        rw (n, has) (this_value ps same more)
+  ]
+
+  -- a pair at the end
+  new_value : (ps : List (Pair V)) → list_any (has_key k) ps ≡ false
+      → value_of (ps ++ record { key = k; value = v } ∷ []) key ≡ (if bytes_eq k key then Some v else value_of ps key)
+  new_value [] none = elim (cases_Bool (bytes_eq k key)) [
+    | inl h ↦ rw h refl
+    | inr n ↦ rw n refl
+  ]
+  new_value (p ∷ ps) none =
+      let apart = or_false (has_key k p) (list_any (has_key k) ps) none in
+      elim (cases_Bool (has_key key p)) [
+        | inl h ↦
+            let other : bytes_eq k key ≡ false = elim (cases_Bool (bytes_eq k key)) [
+              | inl same ↦ absurd (false≢true (sym (rw ((bytes_eq-Decides k key).0 same) at apart.0) ∙ h))
+              | inr n ↦ n
+            ] in
+            rw (h, other) refl
+        | inr n ↦ rw n (new_value ps apart.1)
+      ]
+
+  -- a put gives its key the value, and another key keeps its own
+  pub put_value : (ps : List (Pair V)) → value_of (put ps k v) key ≡ (if bytes_eq k key then Some v else value_of ps key)
+  put_value ps = elim (cases_Bool (list_any (has_key k) ps)) [
+    | inl some ↦ elim (cases_Bool (bytes_eq k key)) [
+      | inl same ↦ rw (some, same) (this_value ps same some)
+      | inr other ↦ rw (some, other) (other_value ps other)
+    ]
+    | inr none ↦ rw none (new_value ps none)
+  ]

@@ -1,8 +1,9 @@
 -- Laws of strict texts, of equality, and of pairs with distinct keys.
-use Rattle.std.specs.Prelude.{◌≡◌, ◌↔◌, ℕ, Bool, false, List, [], ◌∷◌, ◌++◌, IsTrue}
+use Rattle.std.specs.Prelude.{◌≡◌, ◌↔◌, ℕ, Bool, false, Some, List, [], ◌∷◌, ◌++◌, IsTrue, if◌then◌else◌}
 use Rattle.std.specs.List.{list_all, list_any}
+use Rattle.std.specs.Str.{bytes_eq}
 use Rattle.sfv_text.specs.declared.pair.Pair.{Pair}
-use Rattle.sfv_text.specs.Keys.{has_key, have_distinct_keys, put}
+use Rattle.sfv_text.specs.Keys.{has_key, have_distinct_keys, put, value_of}
 use Rattle.sfv_text.specs.Range.{is_string_byte}
 
 -- the text of a value in range has printable bytes of ASCII alone
@@ -43,3 +44,10 @@ abbrev pub PutsNewLast : Type 0 → Type 0
 PutsNewLast V =
     (pairs : List (Pair V)) (key : List ℕ) (value : V) → list_any (has_key key) pairs ≡ false
     → pairs ++ record { key = key; value = value } ∷ [] ≡ put pairs key value
+
+-- the key that is put has the value, and each other key has its own as before
+abbrev pub PutsValue : Type 0 → Type 0
+PutsValue V =
+    (key : List ℕ) (value : V) (other : List ℕ) (pairs : List (Pair V))
+    → value_of (put pairs key value) other
+    ≡ (if bytes_eq key other then Some value else value_of pairs other)

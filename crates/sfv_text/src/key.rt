@@ -1,8 +1,8 @@
-//! Keys of Dictionaries and of parameters (RFC 9651 section 3.1.2).
+//! Keys of Dictionaries and of parameters (RFC 9651 section 3.1.2), and what a String can have.
 
 ghost use Rattle.std.specs.Prelude.{◌≡◌};
 ghost use Rattle.std.specs.List.{list_all};
-ghost use Rattle.sfv_text.specs.Classes.{is_key_first, is_key_rest, is_key};
+ghost use Rattle.sfv_text.specs.Classes.{is_key_first, is_key_rest, is_key, is_string_byte};
 
 fn is_key_first(byte: u8) -> bool
     ensures { result ≡ is_key_first byte }
@@ -31,4 +31,17 @@ pub fn is_key(text: &[u8]) -> bool
         None => false,
         Some((first, others)) => { is_key_first(*first) && are_key_rest(others) }
     }
+}
+
+fn is_string_byte(byte: u8) -> bool
+    ensures { result ≡ is_string_byte byte }
+{
+    matches!(byte, b' '..=b'~')
+}
+
+/// Whether a String can have these bytes: they are printable ASCII (RFC 9651 section 3.3.3).
+pub fn are_string_bytes(bytes: &[u8]) -> bool
+    ensures { result ≡ list_all is_string_byte bytes.now }
+{
+    bytes.iter().all(|byte| is_string_byte(*byte))
 }

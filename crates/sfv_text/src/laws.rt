@@ -2,7 +2,7 @@
 //! law.
 
 ghost use Rattle.std.specs.Str.{bytes_eq};
-ghost use Rattle.sfv_text.specs.Laws.{HasPrintableTexts, IsEquality, IsSymmetric, HasOwnKeyFirst, PutsDistinctly, PutsWithTest, PutsNewLast};
+ghost use Rattle.sfv_text.specs.Laws.{HasPrintableTexts, IsEquality, IsSymmetric, HasOwnKeyFirst, PutsDistinctly, PutsWithTest, PutsNewLast, PutsValue};
 ghost use Rattle.sfv_text.specs.Equality.{is_equal_bare, is_equal_param};
 ghost use Rattle.sfv_text.specs.Range.{is_bare_in_range, is_item_in_range, is_inner_in_range, is_list_in_range, is_dict_in_range};
 ghost use Rattle.sfv_text.specs.Strict.{bare_text, item_text, inner_text, list_text, dict_text};
@@ -31,4 +31,5 @@ pub fn keys_stay_distinct<V>()
     ensures distinct { PutsDistinctly V }
     ensures each { PutsWithTest V }
     ensures new { PutsNewLast V }
+    ensures value { PutsValue V }
 {}

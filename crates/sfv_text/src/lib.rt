@@ -25,7 +25,7 @@ mod text;
 mod value;
 
 pub use absorb::Absorb;
-pub use key::is_key;
+pub use key::{are_string_bytes, is_key};
 pub use laws::{equality_is_tested, keys_stay_distinct, strict_texts_are_printable};
 pub use memory::Memory;
 pub use pair::Pair;

@@ -3,7 +3,7 @@
 use std::marker::Model;
 
 /// So many bytes are held in place, with no allocation: names, keys and labels mostly are.
-pub const IN_PLACE: usize = 23;
+pub const IN_PLACE: usize = 38;
 
 /// At most that many bytes. A contract sees their list.
 #[derive(Debug, Drop)]
@@ -19,7 +19,7 @@ impl Model for Short {
 
     ghost view = { λ s. take s.count s.buffer };
 
-    ghost invariant = { λ s. s.count ≤ 23 };
+    ghost invariant = { λ s. s.count ≤ 38 };
 }
 
 impl Short {

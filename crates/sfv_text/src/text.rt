@@ -10,24 +10,28 @@ use std::alloc::Global;
 use std::fmt;
 use std::marker::Model;
 
+/// Where the bytes of a text are.
+#[derive(Debug, Drop)]
+enum Held {
+    /// In place. Memory for more comes from there.
+    InPlace(Short, Global),
+    /// In a vector.
+    Allocated(Vec<u8>),
+}
+
 /// Owned bytes. A contract sees a text as the list of its bytes.
 #[derive(Debug, Drop)]
 pub struct Text {
-    /// All bytes, where the other has no room.
-    short: Short,
-    /// All bytes, where it has room.
-    long: Vec<u8>,
+    held: Held,
 }
 
 impl Model for Text {
-    ghost use Rattle.std.specs.Prelude.{ℕ, ◌≡◌, ◌<◌, ◌++◌, [], List};
-    ghost use Rattle.std.specs.Vec.{vec_capacity};
+    ghost use Rattle.std.specs.Prelude.{ℕ, List};
+    ghost use Rattle.sfv_text.specs.tools.Held.{held_bytes};
 
     ghost Value = { List ℕ };
 
-    ghost view = { λ t. t.short ++ t.long.items };
-
-    ghost invariant = { λ t. 0 < vec_capacity t.long → t.short ≡ [] };
+    ghost view = { λ t. held_bytes t.held };
 }
 
 impl Text {
@@ -35,10 +39,8 @@ impl Text {
     pub fn new(alloc: Global) -> Text
         ensures { result ≡ [] }
     {
-        Text {
-            short: Short::new(),
-            long: Vec::new(alloc),
-        }
+        let held = Held::InPlace(Short::new(), alloc);
+        Text { held }
     }
 
     /// The empty text, with room for so many bytes.
@@ -46,11 +48,10 @@ impl Text {
         ensures ok { IfOk result (λ text. text ≡ []) }
         ensures needed { IfErr result (λ _. IN_PLACE < capacity) }
     {
-        let mut text = Text::new(alloc);
-        if capacity > IN_PLACE {
-            text.long.reserve(capacity)?;
+        if capacity <= IN_PLACE {
+            return Ok(Text::new(alloc));
         }
-        Ok(text)
+        Ok(Text::from_vec(Vec::with_capacity(alloc, capacity)?))
     }
 
     /// A text of these bytes. Where they are few it takes no memory.
@@ -59,33 +60,31 @@ impl Text {
         ensures needed { IfErr result (λ _. IN_PLACE < length bytes.now) }
     {
         let mut short = Short::new();
-        let mut long = Vec::new(alloc);
         if short.fits(bytes) {
             short.append(bytes);
-        } else {
-            long.extend_from_slice(bytes)?;
+            let held = Held::InPlace(short, alloc);
+            return Ok(Text { held });
         }
-        Ok(Text { short, long })
+        let mut long = Vec::with_capacity(alloc, bytes.len())?;
+        long.extend_from_slice(bytes)?;
+        Ok(Text::from_vec(long))
     }
 
     /// The text that the vector holds. It takes no memory.
     pub fn from_vec(bytes: Vec<u8>) -> Text
         ensures { result ≡ bytes.items }
     {
-        Text {
-            short: Short::new(),
-            long: bytes,
-        }
+        let held = Held::Allocated(bytes);
+        Text { held }
     }
 
     /// The bytes, in order.
     pub fn bytes(&self) -> &[u8]
         ensures { result.now ≡ self.now }
     {
-        if self.long.capacity() == 0 {
-            self.short.bytes()
-        } else {
-            self.long.as_slice()
+        match &self.held {
+            Held::InPlace(short, _) => short.bytes(),
+            Held::Allocated(long) => long.as_slice(),
         }
     }
 
@@ -95,21 +94,24 @@ impl Text {
         ensures err { OnErr result (self.new ≡ self.old) }
         ensures needed { OnErr result (1 ≤ length piece.now) }
     {
-        if self.long.capacity() > 0 {
-            self.long.extend_from_slice(piece)?;
-            return Ok(());
+        match &mut self.held {
+            Held::Allocated(long) => {
+                long.extend_from_slice(piece)?;
+                Ok(())
+            }
+            Held::InPlace(short, alloc) => {
+                if short.fits(piece) {
+                    short.append(piece);
+                    return Ok(());
+                }
+                let few = short.bytes();
+                let mut long = Vec::with_capacity(*alloc, few.len() + piece.len())?;
+                long.extend_from_slice(few)?;
+                long.extend_from_slice(piece)?;
+                self.held = Held::Allocated(long);
+                Ok(())
+            }
         }
-        if self.short.fits(piece) {
-            self.short.append(piece);
-            return Ok(());
-        }
-        let few = self.short.bytes();
-        let mut long = Vec::with_capacity(*self.long.allocator(), few.len() + piece.len())?;
-        long.extend_from_slice(few)?;
-        long.extend_from_slice(piece)?;
-        self.short = Short::new();
-        self.long = long;
-        Ok(())
     }
 
     /// Adds the byte at the end.
@@ -117,11 +119,13 @@ impl Text {
         ensures ok { OnOk result (self.new ≡ self.old ++ byte ∷ []) }
         ensures err { OnErr result (self.new ≡ self.old) }
     {
-        if self.long.capacity() == 0 {
-            return self.append(&[byte]);
+        match &mut self.held {
+            Held::Allocated(long) => {
+                long.push(byte)?;
+                Ok(())
+            }
+            Held::InPlace(_, _) => self.append(&[byte]),
         }
-        self.long.push(byte)?;
-        Ok(())
     }
 
     /// An equal text of its own. Where its bytes are few it takes no memory.
@@ -129,13 +133,13 @@ impl Text {
         ensures ok { IfOk result (λ text. text ≡ self.now) }
         ensures needed { IfErr result (λ _. IN_PLACE < length self.now) }
     {
-        if self.long.capacity() == 0 {
-            return Ok(Text {
-                short: self.short.copy(),
-                long: Vec::new(alloc),
-            });
+        match &self.held {
+            Held::InPlace(short, _) => {
+                let held = Held::InPlace(short.copy(), alloc);
+                Ok(Text { held })
+            }
+            Held::Allocated(long) => Text::from_bytes(alloc, long.as_slice()),
         }
-        Text::from_bytes(alloc, self.long.as_slice())
     }
 }
 

@@ -1,11 +1,11 @@
 -- Field lines in order of their names. No public clause cites this module.
-use Rattle.std.specs.Prelude.{◌≡◌, ℕ, Bool, IsTrue, IsFalse, List, length, drop, filter, map, nat_lt}
+use Rattle.std.specs.Prelude.{◌≡◌, ◌==◌, ◌&&◌, ℕ, Bool, IsTrue, IsFalse, List, length, drop, filter, map, nat_lt}
 use Rattle.std.specs.Int.{from_be_bytes, w128}
 use Rattle.std.specs.List.{All, list_all, range_with_len, slice_index_or}
 use Rattle.std.specs.List.Sorted.{IsPermutation, IsSortedBy}
 use Rattle.std.specs.Cmp.Lexicographic.{slice_cmp}
 use Rattle.std.specs.Ordering.{ordering_then, nat_cmp, is_lt}
-use Rattle.std.specs.Str.{str_to_ascii_lowercase}
+use Rattle.std.specs.Str.{bytes_eq, str_to_ascii_lowercase}
 use Rattle.std.specs.declared.cmp.Ordering.{Ordering}
 use Rattle.msg_head.specs.declared.line.LineSpan.{LineSpan}
 use Rattle.msg_head.specs.declared.index.IndexEntry.{IndexEntry}
@@ -127,3 +127,8 @@ entry_cmp bytes spans one other =
 -- whether it has the entry's name before the name in lower case with those first bytes
 abbrev pub is_key_below : List ℕ → List LineSpan → ℕ × List ℕ → IndexEntry → Bool
 is_key_below bytes spans key entry = is_lt (key_cmp (entry_key bytes spans entry) key)
+
+-- whether two names of which the first sixteen bytes are the same are the same
+abbrev pub is_rest_named : List ℕ → List ℕ → Bool
+is_rest_named one other =
+    (length one == length other) && bytes_eq (after_first one) (after_first other)

@@ -79,12 +79,3 @@ list_read bytes = with_state with_last [] (separated_read member_read bytes)
 
 abbrev pub dict_read : Reader (List (Pair Member))
 dict_read bytes = with_state put_pair [] (separated_read dict_member_read bytes)
-
--- the member of the key: the one that came before, or the one that comes now
-abbrev pub with_key_member : List ℕ → Option Member → Pair Member → Option Member
-with_key_member key kept p = if has_key key p then Some p.value else kept
-
--- a Dictionary of which the member of one key is kept
-abbrev pub key_member_read : List ℕ → Reader (Option Member)
-key_member_read key bytes =
-    with_state (with_key_member key) None (separated_read dict_member_read bytes)

@@ -1,16 +1,17 @@
-use Rattle.std.proofs.Common.{sym, ◌∙◌, inl, inr}
-use Rattle.std.proofs.lemmas.Bool.{cases_Bool, eq-eqb, ne_eqb}
-use Rattle.msg_head.specs.tools.Index.{is_named}
-use Rattle.msg_head.proofs.ByName.{named_first_bytes}
+use Rattle.std.proofs.Common.{ℕ, List, arith, sym, ap, ◌∙◌}
+use Rattle.std.specs.Str.{str_to_ascii_lowercase}
+use Rattle.std.proofs.lemmas.Bool.{ne_eqb}
+use Rattle.msg_head.specs.tools.Index.{is_rest_named}
+use Rattle.msg_head.proofs.NameOrder.{named_is, not_named}
 use Rattle.msg_head.proofs.index.is_named.Goals as goal
+
+pub returns-then-entry-first : goal.returns-then-entry-first
+returns-then-entry-first c =
+    c.is_rest_named.ensures
+    ∙ ap (λ (text : List ℕ). is_rest_named (str_to_ascii_lowercase text) c.args.name.now) c.name_at.ensures
+    ∙ named_is c.args.bytes.now c.args.spans.now c.args.name.now c.args.entry (λ k. omega (arith, c.type_inv.bytes k)) (λ k. omega (arith, c.type_inv.name k)) c.requires.right (c.if-entry-first.true ∙ c.requires.first)
 
 pub returns-else-entry-first : goal.returns-else-entry-first
 returns-else-entry-first c =
-    let bytes = c.args.bytes.now in
-    let spans = c.args.spans.now in
-    let name = c.args.name.now in
-    let entry = c.args.entry in
-    elim (cases_Bool (is_named bytes spans name entry)) [
-      | inl is ↦ eq-eqb _ _ (named_first_bytes bytes spans name entry c.requires.right is ∙ sym c.requires.first) ∙ sym is
-      | inr not ↦ ne_eqb _ _ c.if-entry-first.false ∙ sym not
-    ]
+    ne_eqb _ _ c.if-entry-first.false
+    ∙ sym (not_named c.args.bytes.now c.args.spans.now c.args.name.now c.args.entry c.requires.right (λ e. c.if-entry-first.false (e ∙ sym c.requires.first)))
