@@ -20,7 +20,8 @@ use msg_head::{LineView, Side, Start};
 use sfv_text::{Params, Text};
 use std::alloc::Global;
 use targets::{
-    Authority, ParamFound, Target, authority_of, cut_target, path_of, query_of, query_param,
+    Authority, ParamFound, QueryParams, Target, authority_of, cut_target, path_of, query_of,
+    query_param_in,
 };
 
 /// A component that is drawn from the parts of a request's target.
@@ -223,14 +224,19 @@ fn param_name(params: &Params) -> &[u8]
 }
 
 /// `@query-param`.
-fn param_value(alloc: Global, params: &Params, target: &Target<'_>) -> Result<Text, NoValue>
+fn param_value(
+    alloc: Global,
+    params: &Params,
+    target: &Target<'_>,
+    kept: &mut Option<QueryParams>,
+) -> Result<Text, NoValue>
     ensures { AnswersRow (λ answer. answer
         ≡ param_value (query_of (parts_of target.now)) params.now) result }
 {
     let Some(query) = query_of(target) else {
         return Err(NoValue::Lacks(Lack::Underivable));
     };
-    match query_param(alloc, query.unwrap_or(b""), param_name(params))? {
+    match query_param_in(alloc, query.unwrap_or(b""), param_name(params), kept)? {
         ParamFound::None => Err(NoValue::Lacks(Lack::Absent)),
         ParamFound::One(text) => Ok(text),
         ParamFound::Many => Err(NoValue::Lacks(Lack::Ambiguous)),
@@ -244,6 +250,7 @@ fn target_value<'m>(
     params: &Params,
     request: Request<'_, 'm>,
     target: &Target<'m>,
+    kept: &mut Option<QueryParams>,
 ) -> Result<Parts<'m>, NoValue>
     ensures { AnswersParts (TargetRow name params.now (request_parts request.entry)
         (parts_of target.now)) result }
@@ -254,7 +261,7 @@ fn target_value<'m>(
         TargetName::Scheme => Ok(Parts::Scheme(scheme_of(request, target))),
         TargetName::Path => Ok(path_value(target)?),
         TargetName::Query => Ok(query_value(target)?),
-        TargetName::QueryParam => Ok(Parts::Text(param_value(alloc, params, target)?)),
+        TargetName::QueryParam => Ok(Parts::Text(param_value(alloc, params, target, kept)?)),
     }
 }
 
@@ -264,13 +271,14 @@ fn formed_value<'m>(
     name: TargetName,
     params: &Params,
     request: Request<'_, 'm>,
+    kept: &mut Option<QueryParams>,
 ) -> Result<Parts<'m>, NoValue>
     ensures { AnswersParts (FormedRow name params.now (request_parts request.entry)) result }
 {
     let Some(target) = cut_target(request.method, request.target) else {
         return Err(NoValue::Lacks(Lack::Underivable));
     };
-    target_value(alloc, name, params, request, &target)
+    target_value(alloc, name, params, request, &target, kept)
 }
 
 /// A derived component of a request.
@@ -279,6 +287,7 @@ fn request_value<'m>(
     derived: DerivedName,
     params: &Params,
     request: Request<'_, 'm>,
+    kept: &mut Option<QueryParams>,
 ) -> Result<Parts<'m>, NoValue>
     ensures { AnswersParts (RequestRow derived params.now (request_parts request.entry)) result }
 {
@@ -286,7 +295,7 @@ fn request_value<'m>(
         DerivedName::Method => Ok(Parts::Bytes(request.method)),
         DerivedName::RequestTarget => Ok(Parts::Bytes(request.target)),
         DerivedName::Status => Err(NoValue::Lacks(Lack::Underivable)),
-        DerivedName::OfTarget(name) => formed_value(alloc, name, params, request),
+        DerivedName::OfTarget(name) => formed_value(alloc, name, params, request, kept),
     }
 }
 
@@ -306,6 +315,7 @@ fn derived_parts<'m>(
     message: &MessageView<'m>,
     scheme: Scheme,
     id: &ComponentId,
+    kept: &mut Option<QueryParams>,
 ) -> Result<Parts<'m>, NoValue>
     ensures { AnswersParts (DerivedRow (derived_of id.now.name) id.now.params scheme
         (lines_on Side.Header (message_of message.now)) message.now.head.start) result }
@@ -321,14 +331,30 @@ fn derived_parts<'m>(
                 target,
                 scheme,
             };
-            request_value(alloc, derived, &id.params, request)
+            request_value(alloc, derived, &id.params, request, kept)
         }
         Start::Status { code, .. } => response_value(derived, code),
     }
 }
 
 /// The value of a derived component of the message, or how the message lacks it (RFC 9421 section
-/// 2.2). A name that no derived component has is underivable.
+/// 2.2). A name that no derived component has is underivable. The parameters of the query are kept
+/// for the next component that is one of them.
+pub fn derived_value_in<'m>(
+    alloc: Global,
+    message: &MessageView<'m>,
+    scheme: Scheme,
+    id: &ComponentId,
+    kept: &mut Option<QueryParams>,
+) -> Result<Derived<'m>, NoValue>
+    ensures { AnswersRow (DerivedRow (derived_of id.now.name) id.now.params scheme
+        (lines_on Side.Header (message_of message.now)) message.now.head.start) result }
+{
+    let parts = derived_parts(alloc, message, scheme, id, kept)?;
+    Ok(Derived { parts })
+}
+
+/// What `derived_value_in` answers, with nothing kept.
 pub fn derived_value<'m>(
     alloc: Global,
     message: &MessageView<'m>,
@@ -338,6 +364,5 @@ pub fn derived_value<'m>(
     ensures { AnswersRow (DerivedRow (derived_of id.now.name) id.now.params scheme
         (lines_on Side.Header (message_of message.now)) message.now.head.start) result }
 {
-    let parts = derived_parts(alloc, message, scheme, id)?;
-    Ok(Derived { parts })
+    derived_value_in(alloc, message, scheme, id, &mut None)
 }

@@ -14,6 +14,6 @@ mod derived;
 mod lack;
 mod value;
 
-pub use derived::{DerivedName, TargetName, derived_value};
+pub use derived::{DerivedName, TargetName, derived_value, derived_value_in};
 pub use lack::{Lack, NoValue};
 pub use value::Derived;

@@ -7,3 +7,4 @@ pub mod Visible
 mod EncodingLaws
 pub mod ValueLaws
 pub mod Schemes
+mod ParamLaws

@@ -2,7 +2,7 @@
 //! queries: what derived components are drawn from (RFC 9421 section 2.2).
 //!
 //! A target is cut into the parts of its form, which borrow its bytes. Of the calls here only
-//! `query_param` takes memory.
+//! those of query parameters take memory.
 //!
 //! ```text
 //! let target = cut_target(b"GET", b"http://EXAMPLE.com:80?a=1+2")?; // form is Form::Absolute
@@ -20,6 +20,7 @@ mod feed;
 mod laws;
 mod parts;
 mod query;
+mod query_params;
 mod target;
 mod uri_byte;
 
@@ -27,4 +28,5 @@ pub use authority::{Authority, authority_of};
 pub use feed::{feed_lowered, feed_marked};
 pub use laws::{target_laws, targets_are_decided, values_are_visible};
 pub use query::{ParamFound, encoded_texts_are_printable, query_param};
+pub use query_params::{QueryParams, query_param_in};
 pub use target::{Form, Target, cut_target, path_of, query_of};

@@ -34,7 +34,7 @@ pub enum ParamFound {
 
 /// The text that a name or a value of the query stands for, percent-encoded.
 #[tactic(auto, using(crate::proofs::EncodingLaws::encoded_is))]
-fn encode_again(alloc: Global, raw: &[u8]) -> Result<Text, Memory>
+pub(crate) fn encode_again(alloc: Global, raw: &[u8]) -> Result<Text, Memory>
     ensures { IfOk result (λ text. text ≡ encoded (decoded raw.now)) }
 {
     let text = decode(alloc, raw)?;
