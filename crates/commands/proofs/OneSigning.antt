@@ -4,12 +4,12 @@ use Rattle.std.specs.Prelude.{IsSome}
 use Rattle.msg_body.specs.Messages.{Message, message_text}
 use Rattle.framing.specs.Framings.{is_request}
 use Rattle.component_ids.specs.declared.id.ComponentId.{ComponentId}
-use Rattle.component_values.specs.Context.{MessageContext}
+use Rattle.component_values.specs.Context.{MessageContext, context_with}
 use Rattle.component_values.specs.Values.{Lacks as LacksSo}
 use Rattle.conf.specs.Configuration.{Configuration}
 use Rattle.signing.specs.SignCauses.{IsSignFault}
 use Rattle.signing.specs.Signed.{IsSignedMessage}
-use Rattle.signing.specs.Written.{context_with, context_with_digest}
+use Rattle.signing.specs.Written.{context_with_digest}
 use Rattle.derived_values.specs.declared.lack.Lack.{Lack}
 use Rattle.signing.specs.declared.fault.SignFault.{SignFault}
 use Rattle.signing.specs.declared.fault.SignFault.TheVariants as fault

@@ -12,7 +12,7 @@ use Rattle.framing.specs.Framings.{is_request}
 use Rattle.sfv_text.specs.declared.pair.Pair.{Pair}
 use Rattle.sfv_text.specs.declared.value.Member.{Member}
 use Rattle.sfv_read.proofs.Readings.{dict_has_one_value}
-use Rattle.component_values.specs.Context.{MessageContext}
+use Rattle.component_values.specs.Context.{MessageContext, answers_head, context_with}
 use Rattle.component_values.specs.Values.{HaveValues}
 use Rattle.conf.specs.Configuration.{Configuration}
 use Rattle.settings.specs.declared.sign_conf.SignConf.{SignConf}
@@ -20,7 +20,6 @@ use Rattle.signatures.specs.Signatures.{HasSignature}
 use Rattle.signing.specs.Signed.{IsSignedMessage, IsVerifiable}
 use Rattle.signing.specs.Specs.{IsValidSpec}
 use Rattle.signing.specs.Wishes.{MeetWishes, MeetsWish, wish_name}
-use Rattle.signing.specs.Written.{answers_head, context_with}
 use Rattle.signing.specs.declared.spec.SignSpec.{SignSpec}
 use Rattle.signing.proofs.SomeSigned.{verifiable_where_signed, valid_where_asked, valid_where_wished}
 use Rattle.verdicts.specs.Laws.{IsRightlySigned}

@@ -14,7 +14,7 @@ use Rattle.msg_body.specs.declared.expect.Expect.TheVariants.{Any}
 use Rattle.msg_body.specs.declared.read.MessageRead.{MessageRead}
 use Rattle.msg_body.specs.declared.read.MessageRead.TheVariants.{Whole, Partial}
 use Rattle.component_ids.specs.declared.id.ComponentId.{ComponentId}
-use Rattle.component_values.specs.Context.{MessageContext}
+use Rattle.component_values.specs.Context.{MessageContext, answers_head, context_with}
 use Rattle.component_values.specs.Values.{IsFirstLack, Lacks as LacksSo}
 use Rattle.derived_values.specs.declared.lack.Lack.{Lack}
 use Rattle.framing.specs.Framings.{is_request}
@@ -23,7 +23,6 @@ use Rattle.signing.specs.SignCauses.{IsSignCause, IsSignFault}
 use Rattle.signing.specs.Signed.{SpellsSigned}
 use Rattle.signing.specs.WishCauses.{IsWantCause, IsWantFault}
 use Rattle.signing.specs.Wishes.{AreWished}
-use Rattle.signing.specs.Written.{answers_head, context_with}
 use Rattle.conf.specs.Configuration.{Configuration}
 use Rattle.signing.specs.declared.fault.WantFault.{WantFault}
 use Rattle.signing.specs.declared.fault.WantFault.TheVariants as want

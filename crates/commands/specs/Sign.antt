@@ -3,14 +3,13 @@ use Rattle.std.specs.Prelude.{◌≡◌, ℕ, Option, Some, None, List, [], ◌�
 use Rattle.msg_body.specs.Messages.{Message, message_text}
 use Rattle.framing.specs.Framings.{is_request}
 use Rattle.component_ids.specs.Identifiers.{id_text}
-use Rattle.component_values.specs.Context.{MessageContext}
+use Rattle.component_values.specs.Context.{MessageContext, context_with}
 use Rattle.conf.specs.Configuration.{Configuration}
 use Rattle.signing.specs.Asked.{IsSpecOf}
 use Rattle.signing.specs.SignCauses.{IsSignFault}
 use Rattle.signing.specs.Signed.{IsSignedMessage}
 use Rattle.signing.specs.WishCauses.{IsWantFault}
 use Rattle.signing.specs.Wishes.{AreWished}
-use Rattle.signing.specs.Written.{context_with}
 use Rattle.signing.specs.declared.fault.SignFault.TheVariants.{Lacks as LacksAt}
 use Rattle.signing.specs.declared.spec.SignSpec.{SignSpec}
 use Rattle.commands.specs.Layers.{MakesThen}

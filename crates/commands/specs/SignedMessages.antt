@@ -5,13 +5,12 @@ use Rattle.sfv_text.specs.Range.{is_string_byte}
 use Rattle.sfv_text.specs.declared.pair.Pair.{Pair}
 use Rattle.sfv_text.specs.declared.value.Member.{Member}
 use Rattle.msg_body.specs.Messages.{Message, Spells}
-use Rattle.component_values.specs.Context.{MessageContext}
+use Rattle.component_values.specs.Context.{MessageContext, answers_head, context_with}
 use Rattle.nonces.specs.declared.limits.TheConstants.{MAX_MOMENT}
 use Rattle.conf.specs.Configuration.{Configuration}
 use Rattle.settings.specs.Valid.{IsValid}
 use Rattle.signatures.specs.Signatures.{HasDict}
 use Rattle.signing.specs.Wishes.{wish_name}
-use Rattle.signing.specs.Written.{answers_head, context_with}
 use Rattle.verdicts.specs.Laws.{IsRightlySigned}
 use Rattle.commands.specs.Sign.{ReportsSigning}
 use Rattle.commands.specs.Verify.{verification_for}

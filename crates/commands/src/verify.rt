@@ -5,6 +5,7 @@ ghost use Rattle.msg_body.specs.Messages.{Message};
 ghost use Rattle.component_values.specs.Context.{context_of};
 ghost use Rattle.conf.specs.ConfMeaning.{meaning};
 ghost use Rattle.signatures.specs.Fields.{AreFieldsOf};
+ghost use Rattle.verdicts.specs.Readings.{AreReadFor};
 ghost use Rattle.verdicts.specs.Verification.{IsAt, model_of};
 ghost use Rattle.commands.specs.Verify.{AreAsked, ReportsVerdicts};
 ghost use Rattle.commands.specs.tools.Verdicts.{WritesVerdict, ReportsLabels};
@@ -18,23 +19,27 @@ use std::alloc::Global;
 use std::marker::Brand;
 use std::sync::ledger::{Blank, Ledger};
 use verdicts::{
-    Labels, MAX_MOMENT, SignatureFields, Verdict, Verification, append_verdict_line, verdict_in,
+    LabelReadings, Labels, MAX_MOMENT, SignatureFields, Verdict, Verification, append_verdict_line,
+    verdict_in,
 };
 
 /// Judges the label and adds its line. It answers whether the label is accepted.
 fn write_line<L: Ledger>(
     alloc: Global,
     fields: &SignatureFields,
+    readings: &mut LabelReadings,
     verification: &Verification<'_, '_, '_>,
     lines: &mut Text,
     steps: &mut Steps<L>,
 ) -> Result<bool, Memory>
     requires fields { AreFieldsOf (model_of verification.now).context.message fields.now }
+    requires readings { AreReadFor (model_of verification.now).context readings.old }
     requires now { IsAt (model_of verification.now).now (model_of verification.now).seen }
-    ensures { IfOk result
+    ensures writes { IfOk result
         (WritesVerdict (model_of verification.entry.now) lines.old lines.new) }
+    ensures readings { AreReadFor (model_of verification.entry.now).context readings.new }
 {
-    let verdict = verdict_in(alloc, fields, verification, steps)?;
+    let verdict = verdict_in(alloc, fields, readings, verification, steps)?;
     append_verdict_line(alloc, verification.label, &verdict, lines)?;
     Ok(match verdict {
         Verdict::Ok { .. } => true,
@@ -61,11 +66,19 @@ fn write_lines<'x, L: Ledger>(
         (model_of first.entry.now).now (model_of first.entry.now).context labels.now) }
 {
     let mut steps: Steps<L> = Steps::new(blank);
+    let mut readings = LabelReadings::new(alloc);
     let mut lines = Text::new(alloc);
     let mut all_accepted = true;
     for label in labels {
         let verification = first.of_label(label.bytes());
-        let is_accepted = write_line(alloc, fields, &verification, &mut lines, &mut steps)?;
+        let is_accepted = write_line(
+            alloc,
+            fields,
+            &mut readings,
+            &verification,
+            &mut lines,
+            &mut steps,
+        )?;
         all_accepted &= is_accepted;
     }
     Ok(if all_accepted {

@@ -7,4 +7,6 @@ mod DerivedValues
 mod Encoded
 mod Sequences
 mod Unread
+mod FieldAnswers
 pub mod LineLaws
+pub mod SameLists

@@ -1,12 +1,11 @@
--- What a component comes to depends on the lines of its name, and on those of `Host`.
+-- What a component comes to depends on its field, as far as its form asks, and on the values of `Host`.
 use Rattle.std.proofs.Common.{◌≡◌, ℕ, Bool, true, false, Option, Some, None, Result, Ok, Err, List, codes, refl, sym, ap, subst, inl, inr}
 use Rattle.std.proofs.lemmas.Bool.{cases_Bool}
-use Rattle.std.specs.List.{join_by}
 use Rattle.sfv_text.specs.declared.pair.Pair.{Pair}
 use Rattle.sfv_text.specs.declared.value.BareItem.{BareItem}
 use Rattle.msg_head.specs.Lines.{FieldLine}
 use Rattle.msg_head.specs.Starts.{StartLine, request, status}
-use Rattle.msg_head.specs.Values.{combined_value, is_there, values}
+use Rattle.msg_head.specs.Values.{is_there, values}
 use Rattle.msg_body.specs.Messages.{Message}
 use Rattle.msg_body.specs.Views.{lines_on}
 use Rattle.msg_head.specs.declared.error.Side.TheVariants.{Header}
@@ -22,11 +21,12 @@ use Rattle.derived_values.specs.declared.derived.DerivedName.TheVariants.{Method
 use Rattle.derived_values.specs.declared.derived.TargetName.{TargetName}
 use Rattle.derived_values.specs.declared.derived.TargetName.TheVariants as target
 use Rattle.derived_values.specs.declared.lack.Lack.{Lack}
-use Rattle.component_values.specs.Context.{MessageContext}
+use Rattle.component_values.specs.Alike.{AreAlikeFor, AreSameIn}
+use Rattle.component_values.specs.Context.{MessageContext, context_with}
 use Rattle.component_values.specs.Forms.{Form, form_of}
 use Rattle.component_values.specs.Forms as form
-use Rattle.component_values.specs.Laws.{DependsOnItsLines, HasSameValues}
-use Rattle.component_values.specs.Values.{side_of, FieldRow, FormRow, KeyRow, KindRow, LineRow, MessageRow, NameRow, related_message}
+use Rattle.component_values.specs.Laws.{DependsOnItsLines}
+use Rattle.component_values.specs.Values.{side_of, ComesTo, FieldRow, FormRow, KeyRow, KindRow, LineRow, MessageRow, NameRow, related_message}
 
 -- ---- derived components
 
@@ -78,29 +78,40 @@ module _ (xs ys : List FieldLine) (hosts : values ys (codes "host") ≡ values x
 
 -- ---- fields
 
--- a field of whose name there are the same values
-module _ (xs ys : List FieldLine) (name : List ℕ) (there : is_there ys name ≡ is_there xs name) (same : values ys name ≡ values xs name) where
-  combined_same : combined_value xs name ≡ combined_value ys name
-  combined_same = ap (λ (ts : List (List ℕ)). join_by (λ t. t) (codes ", ") ts) (sym same)
+-- a field of whose name there is the same, as far as the form asks
+module _ (xs ys : List FieldLine) (name : List ℕ) where
+  there_same : (form : Form) → AreSameIn form xs ys name → is_there ys name ≡ is_there xs name
+  there_same form.wrapped same = same.there
+  there_same (form.member key) same = same.there
+  there_same form.strict same = same.there
+  there_same form.plain same = same.there
 
-  form_same : (form : Form) (field : Option FieldKind) (result : Result (List ℕ) Lack) → FormRow form field xs name result → FormRow form field ys name result
-  form_same form.wrapped field result row = rw same row
-  form_same (form.member key) field result row = subst (λ (t : List ℕ). KeyRow field key t result) combined_same row
-  form_same form.strict field result row = subst (λ (t : List ℕ). KindRow field t result) combined_same row
-  form_same form.plain field result row = rw same row
+  form_same : (form : Form) (field : Option FieldKind) (result : Result (List ℕ) Lack) → AreSameIn form xs ys name → FormRow form field xs name result → FormRow form field ys name result
+  form_same form.wrapped field result same row = rw same.same row
+  form_same (form.member key) field result same row = subst (λ (t : List ℕ). KeyRow field key t result) (sym same.combined) row
+  form_same form.strict field result same row = subst (λ (t : List ℕ). KindRow field t result) (sym same.combined) row
+  form_same form.plain field result same row = rw same.combined row
 
-  line_same : (is : Bool) (params : List (Pair BareItem)) (field : Option FieldKind) (result : Result (List ℕ) Lack) → LineRow is params field xs name result → LineRow is params field ys name result
-  line_same false params field result row = row
-  line_same true params field result row = form_same (form_of params) field result row
+  line_same : (is : Bool) (params : List (Pair BareItem)) (field : Option FieldKind) (result : Result (List ℕ) Lack) → AreSameIn (form_of params) xs ys name → LineRow is params field xs name result
+      → LineRow is params field ys name result
+  line_same false params field result same row = row
+  line_same true params field result same row = form_same (form_of params) field result same row
 
-  pub field_same : (params : List (Pair BareItem)) (field : Option FieldKind) (result : Result (List ℕ) Lack) → FieldRow params field xs name result → FieldRow params field ys name result
-  field_same params field result row = rw there (line_same (is_there xs name) params field result row)
+  field_same : (params : List (Pair BareItem)) (field : Option FieldKind) (result : Result (List ℕ) Lack) → AreSameIn (form_of params) xs ys name → FieldRow params field xs name result
+      → FieldRow params field ys name result
+  field_same params field result same row = rw (there_same (form_of params) same) (line_same (is_there xs name) params field result same row)
+
+  same_back : (form : Form) → AreSameIn form xs ys name → AreSameIn form ys xs name
+  same_back form.wrapped same = record { there = sym same.there; same = sym same.same }
+  same_back (form.member key) same = record { there = sym same.there; combined = sym same.combined }
+  same_back form.strict same = record { there = sym same.there; combined = sym same.combined }
+  same_back form.plain same = record { there = sym same.there; combined = sym same.combined }
 
 -- ---- components
 
 module _ (context : MessageContext) (other : Message) where
   abbrev moved : MessageContext
-  moved = record context { message = other }
+  moved = context_with context other
 
   drawn_same : (is : Bool) (id : ComponentId) (message : Message) (result : Result (List ℕ) Lack) → NameRow is context id message result → NameRow is moved id message result
   drawn_same true id message result row = row
@@ -115,18 +126,31 @@ module _ (context : MessageContext) (other : Message) where
     related_same = rw start refl
 
     module _ (hosts : values (lines_on Header other) (codes "host") ≡ values (lines_on Header context.message) (codes "host")) (id : ComponentId) where
-      own_row : (is : Bool) (result : Result (List ℕ) Lack) → HasSameValues (lines_on (side_of id.params) context.message) (lines_on (side_of id.params) other) id.name → NameRow is context id context.message result
+      own_row : (is : Bool) (result : Result (List ℕ) Lack)
+          → (is ≡ true → AreSameIn (form_of id.params) (lines_on (side_of id.params) context.message) (lines_on (side_of id.params) other) id.name) → NameRow is context id context.message result
           → NameRow is moved id other result
       own_row true result same row =
-          field_same (lines_on (side_of id.params) context.message) (lines_on (side_of id.params) other) id.name same.there same.same id.params (kind_in context.types id.name) result row
+          field_same (lines_on (side_of id.params) context.message) (lines_on (side_of id.params) other) id.name id.params (kind_in context.types id.name) result (same refl) row
       own_row false result same row =
           subst (λ (s : StartLine). DerivedRow (derived_of id.name) id.params context.scheme (lines_on Header other) s result) (sym start)
           (derived_same (lines_on Header context.message) (lines_on Header other) hosts id.params context.scheme (derived_of id.name) context.message.head.start result row)
 
+  comes_to_it : (id : ComponentId) (result : Result (List ℕ) Lack) → AreAlikeFor id context.message other → ComesTo context id result → ComesTo moved id result
+  comes_to_it id result alike comes = elim (cases_Bool (has_param id.params (codes "req"))) [
+    | inl req ↦
+        rw req (subst (λ (drawn : Result Message Lack). MessageRow drawn moved id result) (sym (related_same alike.start)) (related_row (related_message context) id result (rw req at comes)))
+    | inr own ↦ rw own (own_row alike.start alike.hosts id (is_field_name id.name) result (λ is. alike.own (rw (is, own) refl)) (rw own at comes))
+  ]
+
+pub alike_back : (id : ComponentId) (message other : Message) → AreAlikeFor id message other → AreAlikeFor id other message
+alike_back id message other alike = record {
+  start = sym alike.start;
+  hosts = sym alike.hosts;
+  own = λ own. same_back (lines_on (side_of id.params) message) (lines_on (side_of id.params) other) id.name (form_of id.params) (alike.own own);
+}
+
 pub depends_on_its_lines : DependsOnItsLines
-depends_on_its_lines context other id result alike comes = elim (cases_Bool (has_param id.params (codes "req"))) [
-  | inl req ↦
-      rw req (subst (λ (drawn : Result Message Lack). MessageRow drawn (record context { message = other }) id result) (sym (related_same context other alike.start))
-      (related_row context other (related_message context) id result (rw req at comes)))
-  | inr own ↦ rw own (own_row context other alike.start alike.hosts id (is_field_name id.name) result (alike.own own) (rw own at comes))
-]
+depends_on_its_lines context other id alike result = (
+  comes_to_it context other id result alike,
+  comes_to_it (context_with context other) context.message id result (alike_back id context.message other alike),
+)

@@ -1,14 +1,23 @@
 -- Texts that aren't read, and members of Dictionaries.
-use Rattle.std.proofs.Common.{◌≡◌, ℕ, List, Option, Some, Result, Ok, Err, refl}
-use Rattle.sfv_text.specs.Keys.{value_of}
+use Rattle.std.proofs.Common.{◌≡◌, ℕ, List, Some, Result, Ok, Err, refl, sym, ap, subst, ◌∙◌}
+use Rattle.std.specs.Prelude.{IsTrue}
+use Rattle.std.specs.List.{list_all}
+use Rattle.std.proofs.lemmas.Bool.{and_parts}
+use Rattle.sfv_text.proofs.ValueLaws.{value_passes}
+use Rattle.sfv_text.specs.Keys.{have_distinct_keys, value_of}
 use Rattle.sfv_text.specs.Strict.{member_text}
 use Rattle.sfv_text.specs.declared.pair.Pair.{Pair}
 use Rattle.sfv_text.specs.declared.value.Member.{Member}
 use Rattle.sfv_read.specs.Fault.{IsRead}
 use Rattle.sfv_read.specs.declared.error.SfError.{SfError}
 use Rattle.sfv_read.specs.declared.error.SfError.TheVariants.{Memory, Syntax, ItemKind}
-use Rattle.sfv_read.specs.Reads.{ReadsDict, ReadsDictMember}
+use Rattle.sfv_text.specs.Range.{is_dict_member_in_range, is_key, is_member_in_range}
+use Rattle.sfv_read.specs.Reads.{ReadsDict}
+use Rattle.sfv_read.proofs.InRange.{dict_read_in_range}
+use Rattle.derived_values.specs.declared.lack.Lack.{Lack}
+use Rattle.derived_values.specs.declared.lack.Lack.TheVariants.{Unreadable}
 use Rattle.component_values.specs.Values.{StrictRow, MemberRow}
+use Rattle.component_values.specs.Readings.{DictRow}
 use Rattle.derived_values.specs.Answers.{AnswersRow, no_value_of}
 
 abbrev pub failed : {V : Type 0} → SfError → Result V SfError
@@ -21,12 +30,22 @@ unread Reads strict text Memory none = tt
 unread Reads strict text (Syntax offset) none = (refl, none)
 unread Reads strict text (ItemKind offset) none = (refl, none)
 
-pub no_member : (key text : List ℕ) (error : SfError)
-    → ((dict : List (Pair Member)) → ReadsDict text dict → IsRead (failed {V = Option Member} error) (value_of dict key)) → AnswersRow (MemberRow key text) (Err (no_value_of error))
-no_member key text Memory none = tt
-no_member key text (Syntax offset) none = (refl, none)
-no_member key text (ItemKind offset) none = (refl, none)
+-- what is joined reads as no Dictionary where the text doesn't
+pub unread_dict : (text joined : List ℕ) → text ≡ joined → ((dict : List (Pair Member)) → ¬ ReadsDict text dict) → DictRow joined (Err Unreadable)
+unread_dict text joined is none = (refl, λ dict reads. none dict (subst (λ (t : List ℕ). ReadsDict t dict) (sym is) reads))
+
+-- a text that reads as no Dictionary has no member
+pub no_dict : (key text : List ℕ) (lack : Lack) → DictRow text (Err lack) → MemberRow key text (Err lack)
+no_dict key text lack row = rw row.0 (refl, row.1)
 
 -- the strict text of the member that is there
-pub has_member : (key text : List ℕ) (member : Member) (value : List ℕ) → ReadsDictMember key text (Some member) → value ≡ member_text member → AnswersRow (MemberRow key text) (Ok value)
-has_member key text member value r is = (r.0, r.1, rw r.2 is)
+pub has_member : (key text : List ℕ) (dict : List (Pair Member)) (member : Member) (value : List ℕ) → ReadsDict text dict → value_of dict key ≡ Some member → value ≡ member_text member
+    → MemberRow key text (Ok value)
+has_member key text dict member value reads is value_is = (dict, reads, rw is value_is)
+
+-- a member that is there can be printed
+pub member_in_range : (key text : List ℕ) (dict : List (Pair Member)) (member : Member) → ReadsDict text dict → value_of dict key ≡ Some member → IsTrue (is_member_in_range member)
+member_in_range key text dict member reads is =
+    let fits = and_parts (have_distinct_keys dict) (list_all is_dict_member_in_range dict) (dict_read_in_range text dict reads) in
+    let at = value_passes is_dict_member_in_range dict key member fits.1 is in
+    ap is_member_in_range (sym at.2) ∙ (and_parts (is_key at.0.key) (is_member_in_range at.0.value) at.1).1

@@ -1,5 +1,6 @@
 -- What the values of components are drawn from (RFC 9421 sections 1.1 and 2.4).
-use Rattle.std.specs.Prelude.{Option, option_map}
+use Rattle.std.specs.Prelude.{Bool, false, Option, Some, None, option_map}
+use Rattle.framing.specs.Framings.{is_head_request}
 use Rattle.msg_body.specs.Messages.{Message}
 use Rattle.msg_body.specs.Views.{message_of}
 use Rattle.component_ids.specs.Types.{KindMap}
@@ -21,4 +22,18 @@ context_of context = record {
   related = option_map (λ request. message_of request.now) context.related;
   scheme = context.scheme;
   types = context.types.now;
+}
+
+-- the message answers a HEAD request
+abbrev pub answers_head : Option Message → Bool
+answers_head None = false
+answers_head (Some related) = is_head_request related.head.start
+
+-- the context, this message in place of its own
+abbrev pub context_with : MessageContext → Message → MessageContext
+context_with context message = record {
+  message = message;
+  related = context.related;
+  scheme = context.scheme;
+  types = context.types;
 }

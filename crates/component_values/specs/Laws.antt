@@ -1,19 +1,15 @@
 -- Laws of components and their values.
-use Rattle.std.specs.Prelude.{◌≡◌, ◌⊎◌, ℕ, Bool, ◌&&◌, IsTrue, IsFalse, IfSome, Result, List, codes}
+use Rattle.std.specs.Prelude.{◌≡◌, ◌↔◌, ◌⊎◌, ℕ, Bool, ◌&&◌, IsTrue, IfSome, List}
 use Rattle.std.specs.Char.{is_ascii}
-use Rattle.std.specs.List.{list_all}
+use Rattle.std.specs.List.{All, list_all}
 use Rattle.byte_grammar.specs.Classes.{is_line_byte}
 use Rattle.sfv_text.specs.Classes.{is_byte}
-use Rattle.msg_head.specs.declared.error.Side.TheVariants.{Header}
-use Rattle.msg_head.specs.Lines.{FieldLine}
-use Rattle.msg_head.specs.Values.{is_there, values}
 use Rattle.msg_body.specs.Messages.{Message, Spells}
-use Rattle.msg_body.specs.Views.{lines_on}
-use Rattle.component_ids.specs.Table.{has_param}
 use Rattle.component_ids.specs.declared.id.ComponentId.{ComponentId}
 use Rattle.derived_values.specs.declared.lack.Lack.{Lack}
-use Rattle.component_values.specs.Context.{MessageContext}
-use Rattle.component_values.specs.Values.{ComesTo, Has, Lacks, HaveValues, IsFirstLack, side_of}
+use Rattle.component_values.specs.Alike.{AreAlikeFor, ComesToSame}
+use Rattle.component_values.specs.Context.{MessageContext, context_with}
+use Rattle.component_values.specs.Values.{Has, Lacks, HaveValues, IsFirstLack}
 
 -- a component has a value, or lacks one
 abbrev pub HasOrLacks : Type 0
@@ -63,26 +59,11 @@ HasCleanValues =
 
 -- ---- the lines that a component is drawn from
 
--- both have lines of the name or neither has, with the same values
-pub record HasSameValues (lines others : List FieldLine) (name : List ℕ) : Type 0 where
-  pub there : is_there others name ≡ is_there lines name
-  pub same : values others name ≡ values lines name
-
--- The messages have one start line, and the same values of the component's name on its side and of
--- `Host`.
-pub record AreAlikeFor (id : ComponentId) (message other : Message) : Type 0 where
-  pub start : other.head.start ≡ message.head.start
-  pub hosts : values (lines_on Header other) (codes "host")
-      ≡ values (lines_on Header message) (codes "host")
-  pub own : IsFalse (has_param id.params (codes "req")) → HasSameValues
-      (lines_on (side_of id.params) message) (lines_on (side_of id.params) other) id.name
-
--- a component comes to the same in messages that are alike for it
+-- a component comes to the same over messages that are alike for it
 abbrev pub DependsOnItsLines : Type 0
 DependsOnItsLines =
     (context : MessageContext) (other : Message) (id : ComponentId)
-    (result : Result (List ℕ) Lack) → AreAlikeFor id context.message other
-    → ComesTo context id result → ComesTo (record context { message = other }) id result
+    → AreAlikeFor id context.message other → ComesToSame context other id
 
 -- ---- the components of a signature
 
@@ -111,3 +92,17 @@ abbrev pub HaveNoLack : Type 0
 HaveNoLack =
     (context : MessageContext) (ids : List ComponentId) (values : List (List ℕ)) (index : ℕ)
     (lack : Lack) → HaveValues context ids values → ¬ IsFirstLack context ids index lack
+
+-- components that come to the same over both messages have the same values
+abbrev pub HaveSameList : Type 0
+HaveSameList =
+    (context : MessageContext) (other : Message) (ids : List ComponentId)
+    (values : List (List ℕ)) → All (ComesToSame context other) ids
+    → HaveValues context ids values ↔ HaveValues (context_with context other) ids values
+
+-- the same one of them is the first that lacks a value, in the same way
+abbrev pub HaveSameFirstLack : Type 0
+HaveSameFirstLack =
+    (context : MessageContext) (other : Message) (ids : List ComponentId) (index : ℕ)
+    (lack : Lack) → All (ComesToSame context other) ids
+    → IsFirstLack context ids index lack ↔ IsFirstLack (context_with context other) ids index lack

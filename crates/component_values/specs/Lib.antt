@@ -2,7 +2,9 @@ pub mod Context
 pub mod Faults
 pub mod Forms
 pub mod Values
+pub mod Readings
 pub mod Words
+pub mod Alike
 pub mod Laws
 pub mod Views
 pub mod tools

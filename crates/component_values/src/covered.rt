@@ -6,6 +6,7 @@ ghost use Rattle.component_ids.specs.SignatureParams.{are_sig_params_in_range};
 ghost use Rattle.derived_values.specs.declared.lack.Lack.{Lack};
 ghost use Rattle.component_values.specs.Context.{context_of};
 ghost use Rattle.component_values.specs.Faults.{HasIndexBelow};
+ghost use Rattle.component_values.specs.Readings.{AreReadOf};
 ghost use Rattle.component_values.specs.Values.{HaveValues, IsFirstLack};
 ghost use Rattle.component_values.specs.tools.Rows.{planned_text};
 ghost use Rattle.component_values.specs.tools.Answered.{ExplainsPrepared, IsFaultOf};
@@ -15,6 +16,7 @@ use crate::fault::{ValueFault, lack_fault};
 use crate::field::component_plan;
 use crate::plan::Plan;
 use crate::prepared::Prepared;
+use crate::readings::Readings;
 use component_ids::{ComponentId, ParamsText, SigParams};
 use sfv_text::Sequence;
 use std::alloc::Global;
@@ -24,15 +26,18 @@ fn plans_of<'a, 'm>(
     alloc: Global,
     context: &Context<'a, 'm>,
     ids: &'a [ComponentId],
+    readings: &mut Readings,
 ) -> Result<Sequence<Plan<'a, 'm>>, ValueFault>
+    requires { AreReadOf (context_of context.now) readings.old }
     ensures ok { IfOk result (λ plans.
         HaveValues (context_of context.now) ids.now (map planned_text plans)) }
     ensures fault { IfErr result (λ fault.
         IsFaultOf (context_of context.now) ids.now fault) }
+    ensures readings { AreReadOf (context_of context.now) readings.new }
 {
     let mut plans = Sequence::with_capacity(alloc, ids.len())?;
     for id in ids {
-        match component_plan(alloc, context, id) {
+        match component_plan(alloc, context, id, readings) {
             Ok(plan) => plans.push(plan)?,
             Err(why) => return Err(lack_fault(plans.len(), why)),
         }
@@ -46,11 +51,14 @@ fn prepare_components<'a, 'm>(
     alloc: Global,
     context: &Context<'a, 'm>,
     params: &'a SigParams,
+    readings: &mut Readings,
 ) -> Result<Prepared<'a, 'm>, ValueFault>
     requires in_range { IsTrue (are_sig_params_in_range params.now) }
-    ensures { ExplainsPrepared (context_of context.now) params.now result }
+    requires readings { AreReadOf (context_of context.now) readings.old }
+    ensures explains { ExplainsPrepared (context_of context.now) params.now result }
+    ensures readings { AreReadOf (context_of context.now) readings.new }
 {
-    let plans = plans_of(alloc, context, params.ids.as_slice())?;
+    let plans = plans_of(alloc, context, params.ids.as_slice(), readings)?;
     let text = ParamsText::of(alloc, params)?;
     Ok(Prepared {
         params,
@@ -59,8 +67,33 @@ fn prepare_components<'a, 'm>(
     })
 }
 
-/// Prepares the components that the signature parameters cover (RFC 9421 section 2.5).
+/// Prepares the components that the signature parameters cover (RFC 9421 section 2.5), over what
+/// was read of the context before. What is read now is added to it: so a structured field and a
+/// query are read once for all labels of a message.
 #[tactic(auto, using(crate::proofs::FirstLacks::lacks_are, crate::proofs::FirstLacks::index_below))]
+pub fn prepare_in<'a, 'm>(
+    alloc: Global,
+    context: &Context<'a, 'm>,
+    params: &'a SigParams,
+    readings: &mut Readings,
+) -> Result<Prepared<'a, 'm>, ValueFault>
+    requires in_range { IsTrue (are_sig_params_in_range params.now) }
+    requires readings { AreReadOf (context_of context.now) readings.old }
+    ensures params { IfOk result (λ prepared. prepared.params ≡ params.now) }
+    ensures values { IfOk result (λ prepared.
+        HaveValues (context_of context.now) params.now.ids prepared.values) }
+
+    // The first lack is answered, and no other.
+    ensures lacks { (index : ℕ) (lack : Lack) → AnswersWhere ValueFault.Memory result
+        (ValueFault.Lacks index lack)
+        (IsFirstLack (context_of context.now) params.now.ids index lack) }
+    ensures index { IfErr result (HasIndexBelow (length params.now.ids)) }
+    ensures readings { AreReadOf (context_of context.now) readings.new }
+{
+    prepare_components(alloc, context, params, readings)
+}
+
+/// Prepares the components that the signature parameters cover (RFC 9421 section 2.5).
 pub fn prepare<'a, 'm>(
     alloc: Global,
     context: &Context<'a, 'm>,
@@ -77,5 +110,6 @@ pub fn prepare<'a, 'm>(
         (IsFirstLack (context_of context.now) params.now.ids index lack) }
     ensures index { IfErr result (HasIndexBelow (length params.now.ids)) }
 {
-    prepare_components(alloc, context, params)
+    let mut readings = Readings::new(alloc);
+    prepare_in(alloc, context, params, &mut readings)
 }

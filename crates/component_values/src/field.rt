@@ -1,27 +1,29 @@
 //! How the value of a component is fed, or how it lacks one.
 
-ghost use Rattle.std.specs.Prelude.{◌≡◌, List, filter, Ok, Err, IfSome, MatchResult};
+ghost use Rattle.std.specs.Prelude.{◌≡◌, List, filter, Some, Ok, Err, IfSome, MatchResult};
 ghost use Rattle.framing.specs.Framings.{is_request};
-ghost use Rattle.msg_body.specs.Views.{message_of};
+ghost use Rattle.msg_body.specs.Views.{message_of, lines_on};
 ghost use Rattle.msg_head.specs.Lines.{FieldLine};
 ghost use Rattle.msg_head.specs.Names.{has_name};
 ghost use Rattle.msg_head.specs.Values.{joined_value};
 ghost use Rattle.component_ids.specs.Types.{kind_in};
 ghost use Rattle.component_values.specs.Context.{context_of};
+ghost use Rattle.component_values.specs.Readings.{AreReadOf, field_of, text_at};
 ghost use Rattle.component_values.specs.Values.{plain_value, FormRow, FieldRow, ComesTo, side_of, message_for, related_message};
 ghost use Rattle.component_values.specs.tools.Rows.{PlansRow, form_meant};
 
 use crate::context::Context;
+use crate::context_field::side_of;
 use crate::form::{Form, form_of};
 use crate::lines::{is_ascii, is_ascii_text};
 use crate::plan::Plan;
-use crate::strict::{member_value, strict_value};
-use component_ids::{ComponentId, Types, has_param, is_field_name};
-use derived_values::{Lack, NoValue, derived_value};
-use field_values::{joined_pieces, joined_value};
+use crate::readings::Readings;
+use component_ids::{ComponentId, has_param, is_field_name};
+use derived_values::{Lack, NoValue, derived_value_in};
+use field_values::joined_pieces;
 use framing::is_request;
 use msg_body::MessageView;
-use msg_head::{NamedFieldLines, Side};
+use msg_head::NamedFieldLines;
 use sfv_text::Params;
 use std::alloc::Global;
 
@@ -54,61 +56,58 @@ fn plain_plan<'a, 'm>(lines: NamedFieldLines<'a, 'm>) -> Result<Plan<'a, 'm>, No
     Ok(Plan::Combined(lines))
 }
 
-/// How the value of a field that has lines is fed, in the form that is asked for. The field's kind
-/// is looked for where the form needs it.
+/// How the value of a field that has lines is fed, in the form that is asked for.
 fn plan_in_form<'a, 'm>(
     alloc: Global,
-    types: &Types,
-    name: &[u8],
+    context: &Context<'a, 'm>,
+    id: &ComponentId,
     found: NamedFieldLines<'a, 'm>,
     form: Form<'_>,
+    readings: &mut Readings,
 ) -> Result<Plan<'a, 'm>, NoValue>
-    ensures { (lines : List FieldLine) → found.entry ≡ filter (has_name name.now) lines
-        → PlansRow (FormRow (form_meant form.entry) (kind_in types.now name.now) lines name.now)
-        result }
+    requires readings { AreReadOf (context_of context.now) readings.old }
+    requires found { text_at (context_of context.now) (field_of id.now)
+        ≡ Some (joined_value found) }
+    ensures row { (lines : List FieldLine) → found.entry ≡ filter (has_name id.now.name) lines
+        → PlansRow (FormRow (form_meant form.entry)
+        (kind_in (context_of context.now).types id.now.name) lines id.now.name) result }
+    ensures readings { AreReadOf (context_of context.now) readings.new }
 {
     match form {
         Form::ByteSequences => Ok(Plan::ByteSequences(found)),
         Form::Member(key) => {
-            let value = joined_value(alloc, found)?;
-            let member = member_value(alloc, types.kind_of(name), key, value.bytes())?;
+            let member = readings.member_text(alloc, context, id, key, found)?;
             Ok(Plan::Text(member))
         }
         Form::Strict => {
-            let value = joined_value(alloc, found)?;
-            let strict = strict_value(alloc, types.kind_of(name), value.bytes())?;
+            let strict = readings.strict_text(alloc, context, id, found)?;
             Ok(Plan::Text(strict))
         }
         Form::Plain => plain_plan(found),
     }
 }
 
-/// How the value of a field is fed, of which these lines were found.
+/// How the value of a field of this message is fed.
 fn field_plan<'a, 'm>(
     alloc: Global,
-    types: &Types,
+    context: &Context<'a, 'm>,
+    message: &'a MessageView<'m>,
     id: &ComponentId,
-    found: NamedFieldLines<'a, 'm>,
+    readings: &mut Readings,
 ) -> Result<Plan<'a, 'm>, NoValue>
-    ensures { (lines : List FieldLine) → found.entry ≡ filter (has_name id.now.name) lines
-        → PlansRow (FieldRow id.now.params (kind_in types.now id.now.name) lines id.now.name)
-        result }
+    requires readings { AreReadOf (context_of context.now) readings.old }
+    requires message { message_for (context_of context.now) id.now.params
+        ≡ Ok (message_of message.now) }
+    ensures row { PlansRow (FieldRow id.now.params
+        (kind_in (context_of context.now).types id.now.name)
+        (lines_on (side_of id.now.params) (message_of message.now)) id.now.name) result }
+    ensures readings { AreReadOf (context_of context.now) readings.new }
 {
+    let found = message.lines_named(side_of(&id.params), id.name.bytes());
     if found.is_empty() {
         return Err(NoValue::Lacks(Lack::Absent));
     }
-    plan_in_form(alloc, types, id.name.bytes(), found, form_of(&id.params))
-}
-
-/// The side whose lines a component is drawn from.
-fn side_of(params: &Params) -> Side
-    ensures { result ≡ side_of params.now }
-{
-    if has_param(params, b"tr") {
-        Side::Trailer
-    } else {
-        Side::Header
-    }
+    plan_in_form(alloc, context, id, found, form_of(&id.params), readings)
 }
 
 /// The request that a response answers.
@@ -142,19 +141,22 @@ fn message_for<'a, 'm>(
     }
 }
 
-/// How the value of a component is fed.
+/// How the value of a component is fed. What is read for it is kept among the readings.
 pub(crate) fn component_plan<'a, 'm>(
     alloc: Global,
     context: &Context<'a, 'm>,
     id: &'a ComponentId,
+    readings: &mut Readings,
 ) -> Result<Plan<'a, 'm>, NoValue>
-    ensures { PlansRow (ComesTo (context_of context.now) id.now) result }
+    requires { AreReadOf (context_of context.now) readings.old }
+    ensures row { PlansRow (ComesTo (context_of context.now) id.now) result }
+    ensures readings { AreReadOf (context_of context.now) readings.new }
 {
     let message = message_for(context, &id.params)?;
     if !is_field_name(id.name.bytes()) {
-        let value = derived_value(alloc, message, context.scheme, id)?;
+        let kept = &mut readings.query_params;
+        let value = derived_value_in(alloc, message, context.scheme, id, kept)?;
         return Ok(Plan::Derived(value));
     }
-    let found = message.lines_named(side_of(&id.params), id.name.bytes());
-    field_plan(alloc, context.types, id, found)
+    field_plan(alloc, context, message, id, readings)
 }

@@ -1,6 +1,6 @@
 //! Laws of components and their values. Each function does nothing; its contract is the law.
 
-ghost use Rattle.component_values.specs.Laws.{HasOrLacks, HasOneValueOnly, LacksInOneWay, LacksNoValue, HasCleanValues, DependsOnItsLines, HaveOrLack, HaveOneList, HaveOneFirstLack, HaveNoLack};
+ghost use Rattle.component_values.specs.Laws.{HasOrLacks, HasOneValueOnly, LacksInOneWay, LacksNoValue, HasCleanValues, DependsOnItsLines, HaveOrLack, HaveOneList, HaveOneFirstLack, HaveNoLack, HaveSameList, HaveSameFirstLack};
 
 /// A component has one value, or lacks one in one way, and not both. A value that is drawn from
 /// messages that bytes spell is ASCII, and has no NUL, CR or LF.
@@ -12,8 +12,8 @@ pub fn components_have_one_answer()
     ensures clean { HasCleanValues }
 {}
 
-/// What a component comes to depends on the start line, on the lines of its name, and on those of
-/// `Host`.
+/// What a component comes to depends on the start line, on the values of `Host`, and on its field:
+/// on the value of each line where it has the parameter `bs`, and else on the combined value alone.
 pub fn components_depend_on_their_lines()
     ensures { DependsOnItsLines }
 {}
@@ -25,4 +25,11 @@ pub fn signatures_have_one_answer()
     ensures values { HaveOneList }
     ensures lack { HaveOneFirstLack }
     ensures either { HaveNoLack }
+{}
+
+/// Components that come to the same have the same list of values, or the same first one of them
+/// lacks one.
+pub fn signatures_depend_on_their_components()
+    ensures values { HaveSameList }
+    ensures lack { HaveSameFirstLack }
 {}

@@ -9,10 +9,14 @@
 //! prepared.feed(0, &mut hasher);                     // 503
 //! prepared.feed(1, &mut hasher);                     // /foo
 //! ```
+//!
+//! `prepare_in` does it for several signatures of one message, and reads each structured field and
+//! the query once.
 #![tactic(auto)]
 
 mod byte_sequence;
 mod context;
+mod context_field;
 mod covered;
 mod fault;
 mod field;
@@ -21,13 +25,16 @@ mod laws;
 mod lines;
 mod plan;
 mod prepared;
+mod readings;
 mod strict;
 
 pub use context::Context;
-pub use covered::prepare;
+pub use covered::{prepare, prepare_in};
 pub use derived_values::Lack;
 pub use fault::ValueFault;
 pub use laws::{
-    components_depend_on_their_lines, components_have_one_answer, signatures_have_one_answer,
+    components_depend_on_their_lines, components_have_one_answer,
+    signatures_depend_on_their_components, signatures_have_one_answer,
 };
 pub use prepared::Prepared;
+pub use readings::Readings;

@@ -1,15 +1,19 @@
 //! The strict texts of structured values.
 
-ghost use Rattle.std.specs.Prelude.{◌≡◌, Option, Some, None};
+ghost use Rattle.std.specs.Prelude.{◌≡◌, ℕ, Option, Some, None, List, IfOk};
 ghost use Rattle.sfv_text.specs.Strict.{item_text, list_text, dict_text};
 ghost use Rattle.sfv_read.specs.Reads.{ReadsItem, ReadsList, ReadsDict};
-ghost use Rattle.component_values.specs.Values.{StrictRow, KindRow, MemberRow, KeyRow};
+ghost use Rattle.msg_head.specs.Values.{joined_value};
+ghost use Rattle.component_values.specs.Readings.{DictRow};
+ghost use Rattle.component_values.specs.Values.{StrictRow, KindRow, MemberRow};
 ghost use Rattle.derived_values.specs.Answers.{AnswersRow};
 
 use component_ids::FieldKind;
 use derived_values::{Lack, NoValue};
-use sfv_read::{read_dict, read_dict_member, read_item, read_list};
-use sfv_text::{Text, print_dict, print_item, print_list, print_member};
+use field_values::joined_value;
+use msg_head::NamedFieldLines;
+use sfv_read::{SfError, read_dict, read_item, read_list};
+use sfv_text::{Dict, Memory, Text, print_dict, print_item, print_list, print_member};
 use std::alloc::Global;
 
 #[tactic(auto, using(crate::proofs::Unread::unread))]
@@ -37,11 +41,7 @@ fn strict_dict(alloc: Global, text: &[u8]) -> Result<Text, NoValue>
 }
 
 /// The strict text of what the text reads as, by the kind of its field.
-pub(crate) fn strict_value(
-    alloc: Global,
-    kind: Option<FieldKind>,
-    text: &[u8],
-) -> Result<Text, NoValue>
+fn strict_value(alloc: Global, kind: Option<FieldKind>, text: &[u8]) -> Result<Text, NoValue>
     ensures { AnswersRow (KindRow kind text.now) result }
 {
     match kind {
@@ -52,30 +52,65 @@ pub(crate) fn strict_value(
     }
 }
 
-/// The strict text of the member of the key.
-#[tactic(auto, using(crate::proofs::Unread::no_member, crate::proofs::Unread::has_member))]
-fn strict_member(alloc: Global, key: &[u8], text: &[u8]) -> Result<Text, NoValue>
-    ensures { AnswersRow (MemberRow key.now text.now) result }
+/// What the combined value of the lines comes to as a strict text, by the kind of their field.
+pub(crate) fn strict_answer(
+    alloc: Global,
+    kind: Option<FieldKind>,
+    lines: NamedFieldLines<'_, '_>,
+) -> Result<Result<Text, Lack>, Memory>
+    ensures { IfOk result (KindRow kind (joined_value lines.entry)) }
 {
-    match read_dict_member(alloc, text, key)? {
-        Some(member) => Ok(print_member(alloc, &member)?),
-        None => Err(NoValue::Lacks(Lack::Absent)),
+    let value = joined_value(alloc, lines)?;
+    match strict_value(alloc, kind, value.bytes()) {
+        Ok(text) => Ok(Ok(text)),
+        Err(NoValue::Lacks(lack)) => Ok(Err(lack)),
+        Err(NoValue::Memory) => Err(Memory),
     }
 }
 
-/// The strict text of the member of the key, by the kind of the text's field.
-pub(crate) fn member_value(
-    alloc: Global,
-    kind: Option<FieldKind>,
-    key: &[u8],
-    text: &[u8],
-) -> Result<Text, NoValue>
-    ensures { AnswersRow (KeyRow kind key.now text.now) result }
+/// The strict text of its own.
+pub(crate) fn copied_text(alloc: Global, answer: &Result<Text, Lack>) -> Result<Text, NoValue>
+    ensures { AnswersRow (λ copied. copied ≡ answer.now) result }
 {
-    match kind {
-        Some(FieldKind::Item) => Err(NoValue::Lacks(Lack::Unreadable)),
-        Some(FieldKind::List) => Err(NoValue::Lacks(Lack::Unreadable)),
-        Some(FieldKind::Dictionary) => strict_member(alloc, key, text),
-        None => strict_member(alloc, key, text),
+    match answer {
+        Ok(text) => Ok(text.copy(alloc)?),
+        Err(lack) => Err(NoValue::Lacks(*lack)),
+    }
+}
+
+/// What the combined value of the lines comes to as a Dictionary.
+pub(crate) fn dict_answer(
+    alloc: Global,
+    lines: NamedFieldLines<'_, '_>,
+) -> Result<Result<Dict, Lack>, Memory>
+    ensures { IfOk result (DictRow (joined_value lines.entry)) }
+{
+    let value = joined_value(alloc, lines)?;
+    match read_dict(alloc, value.bytes()) {
+        Ok(dict) => Ok(Ok(dict)),
+        Err(SfError::Memory) => Err(Memory),
+        Err(SfError::Syntax(_)) => Ok(Err(Lack::Unreadable)),
+        Err(SfError::ItemKind(_)) => Ok(Err(Lack::Unreadable)),
+    }
+}
+
+/// The strict text of the member of the key, in what a text comes to as a Dictionary.
+#[tactic(auto, using(crate::proofs::Unread::no_dict, crate::proofs::Unread::has_member, crate::proofs::Unread::member_in_range))]
+pub(crate) fn member_in(
+    alloc: Global,
+    answer: &Result<Dict, Lack>,
+    key: &[u8],
+) -> Result<Text, NoValue>
+    requires { (text : List ℕ) × DictRow text answer.now }
+    ensures { (text : List ℕ) → DictRow text answer.now
+        → AnswersRow (MemberRow key.now text) result }
+{
+    let dict = match answer {
+        Ok(dict) => dict,
+        Err(lack) => return Err(NoValue::Lacks(*lack)),
+    };
+    match dict.find(key) {
+        Some(member) => Ok(print_member(alloc, member)?),
+        None => Err(NoValue::Lacks(Lack::Absent)),
     }
 }

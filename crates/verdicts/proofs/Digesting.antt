@@ -19,7 +19,8 @@ use Rattle.signatures.specs.declared.rule.Rule.{Rule}
 use Rattle.signatures.specs.declared.rule.Rule.TheVariants.{Digest}
 use Rattle.verdicts.specs.ContentDigest.{covers_digest, digest_text, digest_reason, HasDigest, LacksDigest}
 use Rattle.signatures.specs.tools.Answered.{SaysRule}
-use Rattle.verdicts.specs.tools.Judged.{digest_label_fault, FailsByField, FailsByDigest}
+use Rattle.verdicts.specs.Readings.{IsDigestAnswer}
+use Rattle.verdicts.specs.tools.Judged.{FailsByField, FailsByDigest}
 
 module _ (message : Message) (ids : List ComponentId) where
   pub has_not_both : HasDigest message ids → (reason : DigestReason) → ¬ LacksDigest message ids reason
@@ -51,32 +52,16 @@ module _ (message : Message) (ids : List ComponentId) where
   ]
 
   -- a fault of the field's digests is a reason of the rule
-  by_field : covers_digest ids ≡ true → (rule : Rule) (place : Place) (f : DigestFault) → digest_label_fault f ≡ IsRule rule place
-      → IsDigestFault (digest_text message) (message_content message) f → FailsByDigest true message ids rule place
-  by_field covered rule place fault.Memory e is = absurd is.holds
-  by_field covered rule place fault.Malformed e is =
-      let rules : rule ≡ Digest = cc in
-      let places : place ≡ DigestPlace Malformed = cc in
-      (rules, refl, Malformed, places, inr (covered, fault.Malformed, refl, is))
-  by_field covered rule place fault.NoneKnown e is =
-      let rules : rule ≡ Digest = cc in
-      let places : place ≡ DigestPlace NoneKnown = cc in
-      (rules, refl, NoneKnown, places, inr (covered, fault.NoneKnown, refl, is))
-  by_field covered rule place (fault.Mismatch algorithm kept computed) e is =
-      let rules : rule ≡ Digest = cc in
-      let places : place ≡ DigestPlace (Mismatch algorithm) = cc in
-      (rules, refl, Mismatch algorithm, places, inr (covered, fault.Mismatch algorithm kept computed, refl, is))
-
   pub field_says : covers_digest ids ≡ true → (answer : LabelFault) → SaysRule (FailsByField message) answer → SaysRule (FailsByDigest true message ids) answer
   field_says covered Memory says = tt
-  field_says covered (IsRule rule place) says = by_field covered rule place says.0 says.1 says.2
+  field_says covered (IsRule rule place) says = (says.0, refl, says.1, says.2, inr (covered, says.3.0, says.3.1, says.3.2))
 
--- what a fault of the digests says
-pub digest_says : (message : Message) (f : DigestFault)
+-- the reason of a fault of the digests
+pub reason_says : (message : Message) (f : DigestFault) (reason : DigestReason) → digest_reason f ≡ Some reason
     → ((one : DigestFault) → ¬ (one ≡ fault.Memory) → AnswersWhere {T = Unit} fault.Memory (Err f) one (IsDigestFault (digest_text message) (message_content message) one))
-    → SaysRule (FailsByField message) (digest_label_fault f)
-digest_says message fault.Memory answers = tt
-digest_says message fault.Malformed answers = (fault.Malformed, refl, (answers fault.Malformed (λ e. absurd cc)).only refl)
-digest_says message fault.NoneKnown answers = (fault.NoneKnown, refl, (answers fault.NoneKnown (λ e. absurd cc)).only refl)
-digest_says message (fault.Mismatch algorithm kept computed) answers =
-    (fault.Mismatch algorithm kept computed, refl, (answers (fault.Mismatch algorithm kept computed) (λ e. absurd cc)).only refl)
+    → IsDigestAnswer message (Some reason)
+reason_says message fault.Memory reason e answers = absurd cc
+reason_says message fault.Malformed reason e answers = (fault.Malformed, e, (answers fault.Malformed (λ e. absurd cc)).only refl)
+reason_says message fault.NoneKnown reason e answers = (fault.NoneKnown, e, (answers fault.NoneKnown (λ e. absurd cc)).only refl)
+reason_says message (fault.Mismatch algorithm kept computed) reason e answers =
+    (fault.Mismatch algorithm kept computed, e, (answers (fault.Mismatch algorithm kept computed) (λ e. absurd cc)).only refl)

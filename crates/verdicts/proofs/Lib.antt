@@ -6,3 +6,4 @@ pub mod PolicyFailures
 pub mod Judging
 mod Places
 pub mod RightlySigned
+pub mod AlikeMessages

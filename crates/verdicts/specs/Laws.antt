@@ -1,15 +1,22 @@
 -- Laws of verdicts.
 use Rattle.std.specs.Prelude.{◌≡◌, ◌↔◌, ℕ, Bool, ◌&&◌, ◌||◌, nat_le, IsTrue, IsFalse, Some, List}
+use Rattle.std.specs.List.{All}
+use Rattle.msg_body.specs.Messages.{Message}
+use Rattle.msg_body.specs.Views.{message_content}
 use Rattle.component_ids.specs.declared.params.SigParams.{SigParams}
+use Rattle.component_values.specs.Alike.{ComesToSame}
+use Rattle.component_values.specs.Context.{context_with}
 use Rattle.component_values.specs.Values.{HaveValues}
 use Rattle.sig_base.specs.SignatureBase.{signature_base}
 use Rattle.hmac_sha256.specs.Hmac.{hmac}
 use Rattle.signatures.specs.declared.place.Place.{Place}
 use Rattle.signatures.specs.declared.rule.Rule.{Rule}
+use Rattle.signatures.specs.Laws.{HaveSameFields}
 use Rattle.signatures.specs.Signatures.{HasSignature}
 use Rattle.signatures.specs.Words.{rule_number}
 use Rattle.verdicts.specs.declared.outcome.Verdict.{Verdict}
 use Rattle.verdicts.specs.Verification.{Verification}
+use Rattle.verdicts.specs.ContentDigest.{covers_digest, digest_text}
 use Rattle.verdicts.specs.Parameters.{keyid_of}
 use Rattle.verdicts.specs.Rules.{Fails, key_in}
 use Rattle.verdicts.specs.Verdicts.{Accepts, IsVerdict}
@@ -63,3 +70,29 @@ IsAcceptedByOtherRules =
     (v : Verification) (keyid : List ℕ) → IsRightlySigned v keyid
     → ((rule : Rule) (place : Place) → IsFalse (is_rule_of_signing rule) → ¬ Fails v rule place)
     → Accepts v keyid
+
+-- ---- what a verdict rests on
+
+-- What the verdict on the label rests on is the same over the other message: the start line, the
+-- content, the fields of signatures, and where the label has a signature, what its components come
+-- to, and the field of the digests where it is covered.
+pub record AreAlikeForVerdict (v : Verification) (other : Message) : Type 0 where
+  pub start : other.head.start ≡ v.context.message.head.start
+  pub content : message_content other ≡ message_content v.context.message
+  pub fields : HaveSameFields v.context.message other
+  pub components : (params : SigParams) (tag : List ℕ)
+      → HasSignature v.context.message v.label params tag
+      → All (ComesToSame v.context other) params.ids
+  pub digest : (params : SigParams) (tag : List ℕ)
+      → HasSignature v.context.message v.label params tag → IsTrue (covers_digest params.ids)
+      → digest_text other ≡ digest_text v.context.message
+
+-- the verification, this message in place of its own
+abbrev pub verification_with : Verification → Message → Verification
+verification_with v message = record v { context = context_with v.context message }
+
+-- over messages that are alike for it the label has the same verdict
+abbrev pub DependsOnItsSignature : Type 0
+DependsOnItsSignature =
+    (v : Verification) (other : Message) (verdict : Verdict) → AreAlikeForVerdict v other
+    → IsVerdict v verdict ↔ IsVerdict (verification_with v other) verdict

@@ -7,3 +7,4 @@ pub mod Verdicts
 pub mod VerdictLine
 pub mod Laws
 pub mod tools
+pub mod Readings

@@ -1,12 +1,13 @@
 //! Whether the signature covers the digest of the content: rule 33.
 
-ghost use Rattle.std.specs.Prelude.{◌≡◌, IsTrue};
+ghost use Rattle.std.specs.Prelude.{◌≡◌, IsTrue, IfOk, IfSome};
 ghost use Rattle.std.specs.List.{list_all};
 ghost use Rattle.content_digest.specs.Digests.{DigestHolds};
 ghost use Rattle.msg_body.specs.Views.{message_of, message_content};
-ghost use Rattle.verdicts.specs.ContentDigest.{asks_digest, keeps_whole, is_whole_digest, covers_digest, digest_text, HasDigest};
+ghost use Rattle.verdicts.specs.ContentDigest.{asks_digest, keeps_whole, is_whole_digest, covers_digest, digest_reason, digest_text, HasDigest};
+ghost use Rattle.verdicts.specs.Readings.{IsDigestAnswer};
 ghost use Rattle.signatures.specs.tools.Answered.{Explains};
-ghost use Rattle.verdicts.specs.tools.Judged.{digest_label_fault, FailsByField, FailsByDigest};
+ghost use Rattle.verdicts.specs.tools.Judged.{FailsByField, FailsByDigest};
 
 use component_ids::{ComponentId, SigParams};
 use content_digest::{DigestFault, check_digest};
@@ -14,7 +15,7 @@ use field_values::joined_value;
 use msg_body::MessageView;
 use msg_head::Side;
 use settings::DigestUse;
-use sfv_text::{BareItem, Pair, Params};
+use sfv_text::{BareItem, Memory, Pair, Params};
 use signatures::{DigestReason, LabelFault, Place, Rule};
 use std::alloc::Global;
 
@@ -54,29 +55,53 @@ fn covers_digest(ids: &[ComponentId]) -> bool
     ids.iter().any(|id| is_whole_digest(id))
 }
 
-/// The fault of a label whose digests have a fault.
-fn fault_of_digest(fault: DigestFault) -> LabelFault
-    ensures { result ≡ digest_label_fault fault }
+/// The reason, where the digests have a fault.
+fn reason_of(fault: &DigestFault) -> Option<DigestReason>
+    ensures { result ≡ digest_reason fault.now }
 {
-    let reason = match fault {
-        DigestFault::Memory => return LabelFault::Memory,
-        DigestFault::Malformed => DigestReason::Malformed,
-        DigestFault::NoneKnown => DigestReason::NoneKnown,
-        DigestFault::Mismatch { algorithm, .. } => DigestReason::Mismatch(algorithm),
-    };
-    LabelFault::Rule(Rule::Digest, Place::Digest(reason))
+    match fault {
+        DigestFault::Memory => None,
+        DigestFault::Malformed => Some(DigestReason::Malformed),
+        DigestFault::NoneKnown => Some(DigestReason::NoneKnown),
+        DigestFault::Mismatch { algorithm, .. } => Some(DigestReason::Mismatch(*algorithm)),
+    }
 }
 
-/// Whether the digests of the field are those of the content.
-fn judge_field(alloc: Global, message: &MessageView<'_>) -> Result<(), LabelFault>
-    ensures { Explains (λ _. DigestHolds (digest_text (message_of message.now))
-        (message_content (message_of message.now))) (FailsByField (message_of message.now)) result }
+/// Why the digests of the field aren't those of the content; nothing where they are.
+fn read_digest(alloc: Global, message: &MessageView<'_>) -> Result<Option<DigestReason>, Memory>
+    ensures { IfOk result (IsDigestAnswer (message_of message.now)) }
 {
     let lines = message.lines_named(Side::Header, b"content-digest");
     let value = joined_value(alloc, lines)?;
     match check_digest(alloc, value.bytes(), message) {
-        Ok(()) => Ok(()),
-        Err(fault) => Err(fault_of_digest(fault)),
+        Ok(()) => Ok(None),
+        Err(fault) => match reason_of(&fault) {
+            Some(reason) => Ok(Some(reason)),
+            None => Err(Memory),
+        },
+    }
+}
+
+/// Whether the digests of the field are those of the content. They are looked at where they weren't
+/// yet.
+fn judge_field(
+    alloc: Global,
+    message: &MessageView<'_>,
+    read: &mut Option<Option<DigestReason>>,
+) -> Result<(), LabelFault>
+    requires { IfSome read.old (IsDigestAnswer (message_of message.now)) }
+    ensures explains { Explains (λ _. DigestHolds (digest_text (message_of message.now))
+        (message_content (message_of message.now))) (FailsByField (message_of message.now)) result }
+    ensures read { IfSome read.new (IsDigestAnswer (message_of message.now)) }
+{
+    let answer = match *read {
+        Some(answer) => answer,
+        None => read_digest(alloc, message)?,
+    };
+    *read = Some(answer);
+    match answer {
+        None => Ok(()),
+        Some(reason) => Err(LabelFault::Rule(Rule::Digest, Place::Digest(reason))),
     }
 }
 
@@ -86,11 +111,15 @@ pub(crate) fn judge_digest(
     message: &MessageView<'_>,
     params: &SigParams,
     digest: DigestUse,
+    read: &mut Option<Option<DigestReason>>,
 ) -> Result<(), LabelFault>
-    ensures { Explains (λ _. IsTrue (asks_digest digest (message_content (message_of message.now)))
+    requires { IfSome read.old (IsDigestAnswer (message_of message.now)) }
+    ensures explains { Explains (λ _.
+        IsTrue (asks_digest digest (message_content (message_of message.now)))
         → HasDigest (message_of message.now) params.now.ids)
         (FailsByDigest (asks_digest digest (message_content (message_of message.now)))
         (message_of message.now) params.now.ids) result }
+    ensures read { IfSome read.new (IsDigestAnswer (message_of message.now)) }
 {
     if !asks_digest(digest, message) {
         return Ok(());
@@ -99,5 +128,5 @@ pub(crate) fn judge_digest(
         let place = Place::Digest(DigestReason::Uncovered);
         return Err(LabelFault::Rule(Rule::Digest, place));
     }
-    judge_field(alloc, message)
+    judge_field(alloc, message, read)
 }

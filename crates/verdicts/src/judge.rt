@@ -2,6 +2,7 @@
 
 ghost use Rattle.std.specs.Prelude.{◌≡◌, ◌≤◌, Some, IsTrue, IfOk, length, option_copied};
 ghost use Rattle.component_values.specs.Context.{context_of};
+ghost use Rattle.verdicts.specs.Readings.{AreReadFor};
 ghost use Rattle.settings.specs.ConfMeaning.{meaning};
 ghost use Rattle.nonces.specs.declared.limits.TheConstants.{MAX_KEYID_BYTES};
 ghost use Rattle.component_ids.specs.SignatureParams.{are_sig_params_in_range};
@@ -20,6 +21,7 @@ use crate::mac::judge_mac;
 use crate::nonce::judge_room;
 use crate::outcome::Verdict;
 use crate::policy::{judge_policy, policy_of};
+use crate::readings::LabelReadings;
 use crate::verification::Verification;
 use component_ids::SigParams;
 use component_values::Context;
@@ -58,13 +60,16 @@ fn judge_signature<L: Ledger>(
     alloc: Global,
     verification: &Verification<'_, '_, '_>,
     read: &LabelRead,
+    readings: &mut LabelReadings,
     steps: &mut Steps<L>,
 ) -> Result<Text, LabelFault>
     requires has { HasSignature (model_of verification.now).context.message
         (model_of verification.now).label read.now.params read.now.tag }
     requires in_range { IsTrue (are_sig_params_in_range read.now.params) }
+    requires readings { AreReadFor (model_of verification.now).context readings.old }
     requires now { IsAt (model_of verification.now).now (model_of verification.now).seen }
     ensures explains { ExplainsJudged (model_of verification.entry.now) result }
+    ensures readings { AreReadFor (model_of verification.entry.now).context readings.new }
     ensures steps { steps.old ≤ steps.new }
 {
     let policy = policy_of(verification.conf, &read.params);
@@ -72,12 +77,13 @@ fn judge_signature<L: Ledger>(
     let keyid = keyid_of(&read.params)?;
     let key = key_of(verification.conf, keyid)?;
     judge_policy(alloc, verification, &read.params, keyid, steps)?;
-    judge_mac(alloc, verification.context, read, key)?;
+    judge_mac(alloc, verification.context, read, key, &mut readings.values)?;
     judge_digest(
         alloc,
         verification.context.message,
         &read.params,
         policy.digest,
+        &mut readings.digest,
     )?;
     judge_room(&read.params, policy, verification.seen)?;
     Ok(Text::from_bytes(alloc, keyid)?)
@@ -87,33 +93,40 @@ fn judge_signature<L: Ledger>(
 fn judge<L: Ledger>(
     alloc: Global,
     fields: &SignatureFields,
+    readings: &mut LabelReadings,
     verification: &Verification<'_, '_, '_>,
     steps: &mut Steps<L>,
 ) -> Result<Text, LabelFault>
     requires fields { AreFieldsOf (model_of verification.now).context.message fields.now }
+    requires readings { AreReadFor (model_of verification.now).context readings.old }
     requires now { IsAt (model_of verification.now).now (model_of verification.now).seen }
     ensures explains { ExplainsJudged (model_of verification.entry.now) result }
+    ensures readings { AreReadFor (model_of verification.entry.now).context readings.new }
     ensures steps { steps.old ≤ steps.new }
 {
     let read = fields.label(alloc, verification.label)?;
-    judge_signature(alloc, verification, &read, steps)
+    judge_signature(alloc, verification, &read, readings, steps)
 }
 
 /// The verdict on a label (RFC 9421 section 3.2), over what was read of the signature fields of the
-/// context's message: so the fields are read once for all labels of a message.
+/// context's message, and of the context before; what is read of it now is added. So each field is
+/// read once for all labels of a message.
 pub fn verdict_in<L: Ledger>(
     alloc: Global,
     fields: &SignatureFields,
+    readings: &mut LabelReadings,
     verification: &Verification<'_, '_, '_>,
     steps: &mut Steps<L>,
 ) -> Result<Verdict, Memory>
     requires fields { AreFieldsOf (model_of verification.now).context.message fields.now }
+    requires readings { AreReadFor (model_of verification.now).context readings.old }
     requires now { IsAt (model_of verification.now).now (model_of verification.now).seen }
     ensures is { IfOk result (IsVerdict (model_of verification.entry.now)) }
     ensures in_range { IfOk result (λ verdict. IsTrue (is_verdict_in_range verdict)) }
+    ensures readings { AreReadFor (model_of verification.entry.now).context readings.new }
     ensures steps { steps.old ≤ steps.new }
 {
-    match judge(alloc, fields, verification, steps) {
+    match judge(alloc, fields, readings, verification, steps) {
         Ok(keyid) => Ok(Verdict::Ok { keyid }),
         Err(LabelFault::Memory) => Err(Memory),
         Err(LabelFault::Rule(number, place)) => Ok(Verdict::Rule { number, place }),
@@ -148,5 +161,6 @@ pub fn verdict<L: Ledger>(
         now,
         seen,
     };
-    verdict_in(alloc, &fields, &verification, steps)
+    let mut readings = LabelReadings::new(alloc);
+    verdict_in(alloc, &fields, &mut readings, &verification, steps)
 }

@@ -1,6 +1,6 @@
 //! Laws of verdicts. Each function does nothing; its contract is the law.
 
-ghost use Rattle.verdicts.specs.Laws.{HasVerdict, HasOneVerdict, IsAcceptedWhereNoRuleFails, HoldsRulesOfSigning, IsAcceptedByOtherRules};
+ghost use Rattle.verdicts.specs.Laws.{HasVerdict, HasOneVerdict, IsAcceptedWhereNoRuleFails, HoldsRulesOfSigning, IsAcceptedByOtherRules, DependsOnItsSignature};
 
 /// A label has one verdict, and it is accepted exactly where no rule fails.
 pub fn a_label_has_one_verdict()
@@ -14,4 +14,10 @@ pub fn a_label_has_one_verdict()
 pub fn a_signed_label_is_accepted_by_the_other_rules()
     ensures holds { HoldsRulesOfSigning }
     ensures accepted { IsAcceptedByOtherRules }
+{}
+
+/// The verdict on a label depends on the start line, on the content, on the fields of signatures,
+/// on what the covered components come to, and on the field of the digests where it is covered.
+pub fn a_verdict_depends_on_its_signature()
+    ensures { DependsOnItsSignature }
 {}

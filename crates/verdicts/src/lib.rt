@@ -20,16 +20,21 @@ mod mac;
 mod nonce;
 mod outcome;
 mod policy;
+mod readings;
 mod tag_param;
 mod times;
 mod verification;
 
 pub use judge::{verdict, verdict_in};
-pub use laws::{a_label_has_one_verdict, a_signed_label_is_accepted_by_the_other_rules};
+pub use laws::{
+    a_label_has_one_verdict, a_signed_label_is_accepted_by_the_other_rules,
+    a_verdict_depends_on_its_signature,
+};
 pub use line::append_verdict_line;
 pub use mac::tag_matches;
 pub use nonces::MAX_MOMENT;
 pub use outcome::Verdict;
+pub use readings::LabelReadings;
 pub use signatures::{
     DigestReason, LabelFault, LabelRead, Labels, Place, Rule, SignatureFields,
     a_label_has_one_reading, a_message_has_one_list_of_labels, labels_of, read_label,

@@ -3,13 +3,14 @@
 ghost use Rattle.std.specs.Prelude.{◌≡◌, ◌<◌, ◌↔◌, IsTrue, length};
 ghost use Rattle.component_ids.specs.SignatureParams.{are_sig_params_in_range};
 ghost use Rattle.component_values.specs.Context.{context_of};
+ghost use Rattle.component_values.specs.Readings.{AreReadOf};
 ghost use Rattle.sig_base.specs.SignatureBase.{signature_base};
 ghost use Rattle.hmac_sha256.specs.Hmac.{hmac};
 ghost use Rattle.component_values.specs.Faults.{HasIndexBelow};
 ghost use Rattle.verdicts.specs.tools.Judged.{ExplainsMac, SaysFault, rule_of_lack};
 
 use component_ids::ComponentId;
-use component_values::{Context, Lack, Prepared, ValueFault, prepare};
+use component_values::{Context, Lack, Prepared, Readings, ValueFault, prepare_in};
 use hmac_sha256::{Hmac, same_tag};
 use sig_base::feed_base;
 use signatures::{LabelFault, LabelRead, Place, Rule};
@@ -59,11 +60,15 @@ pub(crate) fn judge_mac(
     context: &Context<'_, '_>,
     read: &LabelRead,
     key: &[u8],
+    readings: &mut Readings,
 ) -> Result<(), LabelFault>
-    requires { IsTrue (are_sig_params_in_range read.now.params) }
-    ensures { ExplainsMac (context_of context.now) read.now.params read.now.tag key.now result }
+    requires in_range { IsTrue (are_sig_params_in_range read.now.params) }
+    requires readings { AreReadOf (context_of context.now) readings.old }
+    ensures explains { ExplainsMac (context_of context.now) read.now.params read.now.tag key.now
+        result }
+    ensures readings { AreReadOf (context_of context.now) readings.new }
 {
-    let prepared = match prepare(alloc, context, &read.params) {
+    let prepared = match prepare_in(alloc, context, &read.params, readings) {
         Ok(prepared) => prepared,
         Err(fault) => return Err(fault_of_lack(alloc, read.params.ids.as_slice(), fault)),
     };

@@ -2,14 +2,13 @@
 use Rattle.std.specs.Prelude.{◌≡◌, ◌<◌, ⊤, ℕ, List, drop, Result, Ok, Err}
 use Rattle.msg_body.specs.Messages.{Message, Spells}
 use Rattle.component_ids.specs.declared.id.ComponentId.{ComponentId}
-use Rattle.component_values.specs.Context.{MessageContext}
+use Rattle.component_values.specs.Context.{MessageContext, answers_head, context_with}
 use Rattle.component_values.specs.declared.fault.ValueFault.TheVariants as value
 use Rattle.refusals.specs.declared.refusal.Refusal.TheVariants.{Command}
 use Rattle.refusals.specs.declared.refusal.CommandRefusal.TheVariants.{Sign}
 use Rattle.signing.specs.declared.fault.SignFault.{SignFault}
 use Rattle.signing.specs.declared.fault.SignFault.TheVariants.{Memory, Lacks}
 use Rattle.signing.specs.Signed.{IsSignedMessage}
-use Rattle.signing.specs.Written.{answers_head, context_with}
 use Rattle.signing.specs.declared.spec.SignSpec.{SignSpec}
 use Rattle.commands.specs.Layers.{IsUnrefused}
 use Rattle.commands.specs.Sign.{IsSignRefused, ReportsEach}

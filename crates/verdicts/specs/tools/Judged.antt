@@ -23,13 +23,9 @@ use Rattle.verdicts.specs.Parameters.{alg_of, keyid_of}
 use Rattle.verdicts.specs.Policies.{IsFirstUncovered, IsAhead, IsTooOld, asks_new, AcceptsByPolicy, LacksRoom}
 use Rattle.verdicts.specs.Verification.{Verification, policy_of}
 use Rattle.msg_body.specs.Messages.{Message}
-use Rattle.content_digest.specs.Faults.{IsDigestFault}
-use Rattle.content_digest.specs.declared.fault.DigestFault.{DigestFault}
-use Rattle.content_digest.specs.declared.fault.DigestFault.TheVariants as digest
-use Rattle.msg_body.specs.Views.{message_content}
-use Rattle.verdicts.specs.ContentDigest.{digest_text, LacksDigest}
+use Rattle.verdicts.specs.ContentDigest.{LacksDigest}
+use Rattle.verdicts.specs.Readings.{IsDigestAnswer}
 use Rattle.signatures.specs.declared.place.DigestReason.{DigestReason}
-use Rattle.signatures.specs.declared.place.DigestReason.TheVariants.{Malformed, NoneKnown, Mismatch}
 use Rattle.signatures.specs.declared.label.LabelFault.{LabelFault}
 use Rattle.signatures.specs.declared.label.LabelFault.TheVariants.{Memory, Rule as Refused}
 use Rattle.signatures.specs.declared.place.Place.{Place}
@@ -186,19 +182,11 @@ ExplainsPolicy v params result =
 
 -- ---- rules 33 and 34
 
--- the fault of the label, by that of the digests
-abbrev pub digest_label_fault : DigestFault → LabelFault
-digest_label_fault digest.Memory = Memory
-digest_label_fault digest.Malformed = Refused Digest (DigestPlace Malformed)
-digest_label_fault digest.NoneKnown = Refused Digest (DigestPlace NoneKnown)
-digest_label_fault (digest.Mismatch algorithm kept computed) =
-    Refused Digest (DigestPlace (Mismatch algorithm))
-
 -- the field's digests have a fault
 abbrev pub FailsByField : Message → Rule → Place → Type 0
 FailsByField message rule place =
-    (f : DigestFault) × (digest_label_fault f ≡ Refused rule place)
-    × IsDigestFault (digest_text message) (message_content message) f
+    (rule ≡ Digest) × (reason : DigestReason) × (place ≡ DigestPlace reason)
+    × IsDigestAnswer message (Some reason)
 
 -- rule 33 fails
 abbrev pub FailsByDigest : Bool → Message → List ComponentId → Rule → Place → Type 0

@@ -1,28 +1,30 @@
-use Rattle.std.proofs.Common.{◌≡◌, ℕ, List, Bool, Err, filter, sym, ◌∙◌, refl, subst}
+use Rattle.std.proofs.Common.{◌≡◌, Bool, Err, filter, sym, ◌∙◌, refl, subst}
 use Rattle.derived_values.specs.declared.lack.Lack.TheVariants.{Absent}
 use Rattle.msg_head.specs.Names.{has_name}
-use Rattle.component_values.specs.Forms.{Form, form_of}
-use Rattle.component_values.specs.Values.{FormRow, LineRow}
-use Rattle.component_values.specs.tools.Rows.{PlansRow}
+use Rattle.msg_body.specs.Views.{message_of, lines_on}
 use Rattle.component_ids.specs.Types.{kind_in}
 use Rattle.field_values.proofs.FoundLines.{none_there, some_there}
+use Rattle.component_values.specs.Forms.{Form}
+use Rattle.component_values.specs.Values.{FormRow, LineRow, side_of}
+use Rattle.component_values.specs.tools.Rows.{PlansRow}
 use Rattle.component_values.proofs.field.field_plan.Goals as goal
 
-pub returns-then-is_empty : goal.returns-then-is_empty
-returns-then-is_empty c = λ lines same.
+pub returns-then-is_empty-clause-row : goal.returns-then-is_empty-clause-row
+returns-then-is_empty-clause-row c =
     let id = c.args.id.now in
-    let kind = kind_in c.args.types.now id.name in
-    let none = none_there lines c.args.found id.name same (sym c.is_empty.ensures ∙ c.if-is_empty.true) in
+    let lines = lines_on (side_of id.params) (message_of c.args.message.now) in
+    let kind = kind_in c.args.context.now.types.now id.name in
+    let found : c.lines_named-found.result ≡ filter (has_name id.name) lines = rw c.bytes.ensures at (rw c.side_of.ensures at c.lines_named-found.ensures) in
+    let none = none_there lines c.lines_named-found.result id.name found (sym c.is_empty.ensures ∙ c.if-is_empty.true) in
     subst (λ (b : Bool). LineRow b id.params kind lines id.name (Err Absent)) (sym none) refl
 
-pub returns : goal.returns
-returns c = λ lines same.
+pub returns-clause-row : goal.returns-clause-row
+returns-clause-row c =
     let id = c.args.id.now in
-    let types = c.args.types.now in
+    let lines = lines_on (side_of id.params) (message_of c.args.message.now) in
+    let kind = kind_in c.args.context.now.types.now id.name in
     let result = c.plan_in_form.result in
-    let one = some_there lines c.args.found id.name same (sym c.is_empty.ensures ∙ c.if-is_empty.false) in
-    let found = subst (λ (name : List ℕ). c.args.found ≡ filter (has_name name) lines) (sym c.bytes.ensures) same in
-    let name = c.bytes.result.now in
-    let formed = subst (λ (f : Form). PlansRow (FormRow f (kind_in types name) lines name) result) c.form_of.ensures (c.plan_in_form.ensures lines found) in
-    let row = subst (λ (n : List ℕ). PlansRow (FormRow (form_of id.params) (kind_in types n) lines n) result) c.bytes.ensures formed in
-    subst (λ (b : Bool). PlansRow (LineRow b id.params (kind_in types id.name) lines id.name) result) (sym one) row
+    let found : c.lines_named-found.result ≡ filter (has_name id.name) lines = rw c.bytes.ensures at (rw c.side_of.ensures at c.lines_named-found.ensures) in
+    let one = some_there lines c.lines_named-found.result id.name found (sym c.is_empty.ensures ∙ c.if-is_empty.false) in
+    let formed = subst (λ (f : Form). PlansRow (FormRow f kind lines id.name) result) c.form_of.ensures (c.plan_in_form.ensures.row lines found) in
+    subst (λ (b : Bool). PlansRow (LineRow b id.params kind lines id.name) result) (sym one) formed

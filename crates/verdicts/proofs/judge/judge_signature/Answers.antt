@@ -8,8 +8,8 @@ use Rattle.verdicts.proofs.judge.judge_signature.Goals as goal
 pub judge_algorithm-requires : goal.judge_algorithm-requires
 judge_algorithm-requires g c = c.requires.in_range
 
-pub judge_mac-requires : goal.judge_mac-requires
-judge_mac-requires g c = c.requires.in_range
+pub judge_mac-requires-clause-in_range : goal.judge_mac-requires-clause-in_range
+judge_mac-requires-clause-in_range g c = c.requires.in_range
 
 pub returns-in_err-judge_algorithm-clause-explains : goal.returns-in_err-judge_algorithm-clause-explains
 returns-in_err-judge_algorithm-clause-explains g c =
@@ -54,7 +54,7 @@ returns-in_err-judge_mac-clause-explains g c =
     let accepts = c.in_ok-judge_policy.ensures.explains read.tag has (none_below_17 v read.params read.tag has c.in_ok-judge_algorithm.ensures c.in_ok-keyid.keyid.now c.in_ok-keyid.ensures c.in_ok-key.key.now c.in_ok-key.ensures.explains) in
     let p = err_from_is_err_and c.from_residual-in_err-judge_mac.result c.from_residual-in_err-judge_mac.ensures.1 in
     rw (p.1, p.2)
-    (says_first v c.policy_of-policy.ensures.valid (FailsByMac v.context read.params read.tag c.in_ok-key.key.now) c.in_err-judge_mac.field-0.0 (mac_or_lack_fails v read.params read.tag has c.in_ok-judge_algorithm.ensures c.in_ok-keyid.keyid.now c.in_ok-keyid.ensures c.in_ok-key.key.now c.in_ok-key.ensures.explains accepts) c.in_err-judge_mac.ensures)
+    (says_first v c.policy_of-policy.ensures.valid (FailsByMac v.context read.params read.tag c.in_ok-key.key.now) c.in_err-judge_mac.field-0.0 (mac_or_lack_fails v read.params read.tag has c.in_ok-judge_algorithm.ensures c.in_ok-keyid.keyid.now c.in_ok-keyid.ensures c.in_ok-key.key.now c.in_ok-key.ensures.explains accepts) c.in_err-judge_mac.ensures.explains)
 
 pub returns-in_err-judge_digest-clause-explains : goal.returns-in_err-judge_digest-clause-explains
 returns-in_err-judge_digest-clause-explains g c =
@@ -62,10 +62,10 @@ returns-in_err-judge_digest-clause-explains g c =
     let read = c.args.read.now in
     let has = c.requires.has in
     let accepts = c.in_ok-judge_policy.ensures.explains read.tag has (none_below_17 v read.params read.tag has c.in_ok-judge_algorithm.ensures c.in_ok-keyid.keyid.now c.in_ok-keyid.ensures c.in_ok-key.key.now c.in_ok-key.ensures.explains) in
-    let mac = c.in_ok-judge_mac.ensures in
+    let mac = c.in_ok-judge_mac.ensures.explains in
     let p = err_from_is_err_and c.from_residual-in_err-judge_digest.result c.from_residual-in_err-judge_digest.ensures.1 in
     rw (p.1, p.2)
-    (says_first v c.policy_of-policy.ensures.valid (FailsByDigest (asks_digest_of v (policy_of v.conf read.params)) v.context.message read.params.ids) c.in_err-judge_digest.field-0.0 (digest_fails v read.params read.tag has c.in_ok-judge_algorithm.ensures c.in_ok-keyid.keyid.now c.in_ok-keyid.ensures c.in_ok-key.key.now c.in_ok-key.ensures.explains accepts mac.0 mac.1 mac.2) (rw c.policy_of-policy.ensures.is at c.in_err-judge_digest.ensures))
+    (says_first v c.policy_of-policy.ensures.valid (FailsByDigest (asks_digest_of v (policy_of v.conf read.params)) v.context.message read.params.ids) c.in_err-judge_digest.field-0.0 (digest_fails v read.params read.tag has c.in_ok-judge_algorithm.ensures c.in_ok-keyid.keyid.now c.in_ok-keyid.ensures c.in_ok-key.key.now c.in_ok-key.ensures.explains accepts mac.0 mac.1 mac.2) (rw c.policy_of-policy.ensures.is at c.in_err-judge_digest.ensures.explains))
 
 pub returns-in_err-judge_room-clause-explains : goal.returns-in_err-judge_room-clause-explains
 returns-in_err-judge_room-clause-explains g c =
@@ -73,8 +73,8 @@ returns-in_err-judge_room-clause-explains g c =
     let read = c.args.read.now in
     let has = c.requires.has in
     let accepts = c.in_ok-judge_policy.ensures.explains read.tag has (none_below_17 v read.params read.tag has c.in_ok-judge_algorithm.ensures c.in_ok-keyid.keyid.now c.in_ok-keyid.ensures c.in_ok-key.key.now c.in_ok-key.ensures.explains) in
-    let mac = c.in_ok-judge_mac.ensures in
-    let digest = rw c.policy_of-policy.ensures.is at c.in_ok-judge_digest.ensures in
+    let mac = c.in_ok-judge_mac.ensures.explains in
+    let digest = rw c.policy_of-policy.ensures.is at c.in_ok-judge_digest.ensures.explains in
     let p = err_from_is_err_and c.from_residual-in_err-judge_room.result c.from_residual-in_err-judge_room.ensures.1 in
     rw (p.1, p.2)
     (says_first v c.policy_of-policy.ensures.valid (FailsByRoom v.now v.seen (policy_of v.conf read.params) read.params) c.in_err-judge_room.field-0.0 (room_fails v read.params read.tag has c.in_ok-judge_algorithm.ensures c.in_ok-keyid.keyid.now c.in_ok-keyid.ensures c.in_ok-key.key.now c.in_ok-key.ensures.explains accepts mac.0 mac.1 mac.2 digest) (rw c.policy_of-policy.ensures.is at (c.in_err-judge_room.ensures v.now c.requires.now)))
@@ -85,7 +85,7 @@ returns-clause-explains g c =
     let read = c.args.read.now in
     let has = c.requires.has in
     let accepts = c.in_ok-judge_policy.ensures.explains read.tag has (none_below_17 v read.params read.tag has c.in_ok-judge_algorithm.ensures c.in_ok-keyid.keyid.now c.in_ok-keyid.ensures c.in_ok-key.key.now c.in_ok-key.ensures.explains) in
-    let mac = c.in_ok-judge_mac.ensures in
+    let mac = c.in_ok-judge_mac.ensures.explains in
     rw c.in_ok-from_bytes.ensures.ok
     (record {
       params = read.params;
@@ -99,6 +99,6 @@ returns-clause-explains g c =
       values = mac.0;
       have = mac.1;
       mac = mac.2;
-      digest = rw c.policy_of-policy.ensures.is at c.in_ok-judge_digest.ensures;
+      digest = rw c.policy_of-policy.ensures.is at c.in_ok-judge_digest.ensures.explains;
       room = rw c.policy_of-policy.ensures.is at (c.in_ok-judge_room.ensures v.now c.requires.now);
     })

@@ -10,13 +10,13 @@ use Rattle.verdicts.proofs.mac.judge_mac.Goals as goal
 pub fault_of_lack-requires : goal.fault_of_lack-requires
 fault_of_lack-requires c = rw c.as_slice.ensures c.in-Err.ensures.index
 
-pub returns-in-Err : goal.returns-in-Err
-returns-in-Err c =
+pub returns-in-Err-clause-explains : goal.returns-in-Err-clause-explains
+returns-in-Err-clause-explains c =
     lack_says (context_of c.args.context.now) c.args.read.now.params c.args.read.now.tag c.args.key.now c.in-Err.fault c.fault_of_lack.result c.in-Err.ensures.lacks
     (rw c.as_slice.ensures at c.fault_of_lack.ensures)
 
-pub returns : goal.returns
-returns c =
+pub returns-clause-explains : goal.returns-clause-explains
+returns-clause-explains c =
     let params_are = c.in-Ok.ensures.params in
     inr (
       refl,
