@@ -1,2 +1,5 @@
 pub mod FoundLines
 mod LineCounts
+mod ValueWalk
+pub mod ValueLaws
+pub mod LineLists

@@ -12,12 +12,14 @@
 
 mod combined;
 mod field;
+mod laws;
 mod lines;
 mod text;
 mod value;
 
 pub use combined::Combined;
 pub use field::{combined_pieces, joined_pieces, line_pieces};
+pub use laws::{field_line_laws, raw_value_laws};
 pub use lines::count_lines;
 pub use text::combined_text;
 pub use value::{FieldValue, joined_value};

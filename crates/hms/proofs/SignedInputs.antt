@@ -14,11 +14,10 @@ use Rattle.command_line.proofs.Moments.{is_below}
 use Rattle.command_line.proofs.OptionLists.{value_had, word_had}
 use Rattle.nonces.specs.declared.limits.TheConstants.{MAX_MOMENT, MAX_NONCE_BYTES}
 use Rattle.msg_body.specs.Messages.{Message, Spells, is_expected}
-use Rattle.component_values.specs.Context.{MessageContext}
+use Rattle.component_values.specs.Context.{MessageContext, answers_head}
 use Rattle.conf.specs.Configuration.{Configuration}
 use Rattle.signatures.specs.declared.place.Place.{Place}
 use Rattle.signatures.specs.declared.rule.Rule.{Rule}
-use Rattle.signing.specs.Written.{answers_head}
 use Rattle.verdicts.specs.Laws.{IsRightlySigned, is_rule_of_signing}
 use Rattle.verdicts.specs.Verdicts.{IsVerdict}
 use Rattle.verdicts.specs.Verification.{Verification}

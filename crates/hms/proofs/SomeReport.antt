@@ -7,7 +7,7 @@ use Rattle.sfv_text.specs.Classes.{is_byte}
 use Rattle.command_line.specs.Command.{CommandLine, Help, Version, Base, Verify, Sign, IsCommand, NoCommand}
 use Rattle.command_line.proofs.CommandOrNone.{command_or_none}
 use Rattle.component_ids.specs.declared.params.SigParams.{SigParams}
-use Rattle.component_values.specs.Context.{MessageContext}
+use Rattle.component_values.specs.Context.{MessageContext, context_with}
 use Rattle.conf.specs.Configuration.{Configuration}
 use Rattle.sig_base.specs.SignatureBase.{signature_base}
 use Rattle.verdicts.specs.declared.outcome.Verdict.{Verdict}
@@ -24,7 +24,6 @@ use Rattle.commands.specs.declared.tables.Needs.{Needs}
 use Rattle.commands.specs.declared.tables.Needs.TheVariants.{Nothing, SignTable}
 use Rattle.msg_body.specs.Messages.{Message, message_text}
 use Rattle.settings.specs.declared.sign_conf.SignConf.{SignConf}
-use Rattle.signing.specs.Written.{context_with}
 use Rattle.signing.specs.declared.spec.SignSpec.{SignSpec}
 use Rattle.commands.specs.Verify.{ReportsVerdicts, is_accepted, verdicts_outcome}
 use Rattle.commands.specs.declared.help.TheConstants.{HELP_TEXT, VERSION_TEXT}

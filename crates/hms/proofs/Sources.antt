@@ -8,12 +8,11 @@ use Rattle.hms_io.specs.Reading.{LosesPrefix, GivesAll}
 use Rattle.hms_io.specs.declared.read_write.FillError.{FillError}
 use Rattle.hms_io.specs.declared.read_write.FillError.TheVariants.{Memory as NoFillMemory, Failed, TooLong as Longer}
 use Rattle.msg_body.specs.Messages.{Message, Spells}
-use Rattle.component_values.specs.Context.{MessageContext}
+use Rattle.component_values.specs.Context.{MessageContext, answers_head, context_with}
 use Rattle.conf.specs.Configuration.{Configuration}
 use Rattle.verdicts.specs.declared.outcome.Verdict.{Verdict}
 use Rattle.commands.specs.Messages.{IsInputMessage, IsInputRefused, reading_for}
 use Rattle.commands.specs.Sign.{ReportsEach, ReportsSigning}
-use Rattle.signing.specs.Written.{answers_head, context_with}
 use Rattle.signing.specs.declared.spec.SignSpec.{SignSpec}
 use Rattle.commands.specs.Base.{ReportsBase}
 use Rattle.commands.specs.Verify.{is_accepted, verdicts_outcome, ReportsVerdicts}

@@ -5,7 +5,7 @@ use Rattle.hms_io.specs.declared.status.Status.TheVariants.{Done, NotOk}
 use Rattle.sfv_text.specs.Classes.{is_byte}
 use Rattle.command_line.specs.Command.{CommandLine, Help, Version, Base, Verify, Sign, SignWords, VerifyWords, IsCommand}
 use Rattle.component_ids.specs.declared.params.SigParams.{SigParams}
-use Rattle.component_values.specs.Context.{MessageContext}
+use Rattle.component_values.specs.Context.{MessageContext, context_with}
 use Rattle.component_values.specs.Values.{HaveValues}
 use Rattle.msg_body.specs.Messages.{Message}
 use Rattle.conf.specs.Configuration.{Configuration}
@@ -29,7 +29,6 @@ use Rattle.framing.specs.Framings.{is_request}
 use Rattle.signing.specs.Asked.{IsSpecOf}
 use Rattle.signing.specs.Signed.{IsSignedMessage}
 use Rattle.signing.specs.Wishes.{AreWished}
-use Rattle.signing.specs.Written.{context_with}
 use Rattle.signing.specs.declared.spec.SignSpec.{SignSpec}
 use Rattle.verdicts.specs.Laws.{is_rule_of_signing}
 use Rattle.verdicts.specs.declared.outcome.Verdict.{Verdict}

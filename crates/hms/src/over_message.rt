@@ -6,12 +6,11 @@ ghost use Rattle.std.specs.Prelude.{◌≡◌, ◌+◌, ◌≤◌, None, IfNone,
 ghost use Rattle.hms_io.specs.Files.{KeepsFiles};
 ghost use Rattle.msg_body.specs.Messages.{Spells};
 ghost use Rattle.msg_body.specs.Views.{message_of};
-ghost use Rattle.component_values.specs.Context.{context_of};
+ghost use Rattle.component_values.specs.Context.{context_of, answers_head};
 ghost use Rattle.conf.specs.ConfMeaning.{meaning};
 ghost use Rattle.commands.specs.Files.{AreFound, file_names, file_count};
 ghost use Rattle.commands.specs.Stops.{IfOutcome, ReadsNothing, CountsStop};
 ghost use Rattle.commands.specs.Tables.{HasTables};
-ghost use Rattle.signing.specs.Written.{answers_head};
 ghost use Rattle.hms.specs.Commands.{LosesAtMost, Whole};
 ghost use Rattle.hms.specs.Ends.{HasInput, HasOutcome, Leaves};
 ghost use Rattle.hms.specs.Report.{ReportsFiles, ReportsMessage, ReportsRequest, ReportsWishes};

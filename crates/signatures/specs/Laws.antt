@@ -1,11 +1,14 @@
 -- Laws of signatures and their labels.
-use Rattle.std.specs.Prelude.{◌≡◌, ◌⊎◌, ◌≤◌, ℕ, IsTrue, List}
+use Rattle.std.specs.Prelude.{◌≡◌, ◌↔◌, ◌⊎◌, ◌≤◌, ℕ, IsTrue, List}
+use Rattle.msg_head.specs.declared.error.Side.TheVariants.{Header}
 use Rattle.msg_body.specs.Messages.{Message}
+use Rattle.msg_body.specs.Views.{lines_on}
+use Rattle.field_values.specs.SameFields.{HasSameField}
 use Rattle.component_ids.specs.SignatureParams.{are_sig_params_in_range}
 use Rattle.component_ids.specs.declared.params.SigParams.{SigParams}
 use Rattle.signatures.specs.declared.place.Place.{Place}
 use Rattle.signatures.specs.declared.rule.Rule.{Rule}
-use Rattle.signatures.specs.Signatures.{HasSignature, AreLabels}
+use Rattle.signatures.specs.Signatures.{input_name, signature_name, HasSignature, AreLabels}
 use Rattle.signatures.specs.Rules.{FailsToRead, IsLabelUnread}
 use Rattle.signatures.specs.Words.{rule_number}
 
@@ -58,6 +61,29 @@ abbrev pub IsSignatureInRange : Type 0
 IsSignatureInRange =
     (message : Message) (label : List ℕ) (params : SigParams) (tag : List ℕ)
     → HasSignature message label params tag → IsTrue (are_sig_params_in_range params)
+
+-- ---- the fields that a label is read of
+
+-- the messages have the same fields of signatures
+pub record HaveSameFields (message other : Message) : Type 0 where
+  pub input : HasSameField (lines_on Header message) (lines_on Header other) input_name
+  pub signature : HasSameField (lines_on Header message) (lines_on Header other) signature_name
+
+-- of a label both then have the same signature
+abbrev pub HaveSameSignature : Type 0
+HaveSameSignature =
+    (message other : Message) (label : List ℕ) (params : SigParams) (tag : List ℕ)
+    → HaveSameFields message other
+    → HasSignature message label params tag ↔ HasSignature other label params tag
+
+-- of a label the same rules of reading fail in both, at the same places
+abbrev pub FailToReadTheSame : Type 0
+FailToReadTheSame =
+    (message other : Message) (label : List ℕ) (rule : Rule) (place : Place)
+    → HaveSameFields message other
+    → FailsToRead message label rule place ↔ FailsToRead other label rule place
+
+-- ---- the numbers of rules
 
 -- no two rules have one number
 abbrev pub HasItsOwnNumber : Type 0

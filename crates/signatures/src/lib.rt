@@ -26,6 +26,7 @@ pub use fields::{SignatureFields, labels_of, read_label};
 pub use label::{LabelFault, LabelRead, Labels};
 pub use laws::{
     a_label_has_one_reading, a_message_has_one_list_of_labels, a_rule_has_its_own_number,
+    labels_depend_on_their_fields,
 };
 pub use place::{DigestReason, Place};
 pub use rule::Rule;

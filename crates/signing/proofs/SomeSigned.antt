@@ -24,7 +24,7 @@ use Rattle.component_ids.specs.SignatureParams.{IsParamsOf, list_of}
 use Rattle.component_ids.specs.Table.{is_listed}
 use Rattle.component_ids.specs.declared.id.ComponentId.{ComponentId}
 use Rattle.component_ids.specs.declared.params.SigParams.{SigParams}
-use Rattle.component_values.specs.Context.{MessageContext}
+use Rattle.component_values.specs.Context.{MessageContext, answers_head}
 use Rattle.component_values.specs.Values.{HaveValues}
 use Rattle.component_values.proofs.FirstLacks.{have_or_lack, none_lacks}
 use Rattle.hmac_sha256.specs.Hmac.{hmac}
@@ -48,7 +48,7 @@ use Rattle.signing.specs.Signed.{IsSignedMessage}
 use Rattle.signing.specs.Specs.{IsValidSpec}
 use Rattle.signing.specs.WishCauses.{IsWantCause, IsWantFault}
 use Rattle.signing.specs.Wishes.{AreWished, MeetsWish, MeetWishes, can_be_met, components_in, wish_name, wished_alg, wished_key, wished_keyid, wished_params}
-use Rattle.signing.specs.Written.{answers_head, context_with_digest, signed_message}
+use Rattle.signing.specs.Written.{context_with_digest, signed_message}
 use Rattle.signing.specs.declared.fault.SignFault.{SignFault}
 use Rattle.signing.specs.declared.fault.SignFault.TheVariants.{Memory, InputMalformed, SignatureMalformed, LabelThere, SelfCover, TooLong, Lacks}
 use Rattle.signing.specs.declared.fault.WantFault.{WantFault}

@@ -1,7 +1,7 @@
 -- The signed message can be verified, and the signatures that were there are kept.
-use Rattle.std.proofs.Common.{◌≡◌, ℕ, lit<, Bool, true, false, ◌||◌, not, Option, Some, None, is_some, Result, Ok, Err, List, [], ◌∷◌, ◌++◌, codes, length, suc, refl, sym, ap, subst, ◌∙◌, append_assoc, inl, inr}
+use Rattle.std.proofs.Common.{◌≡◌, ℕ, lit<, Bool, true, false, ◌&&◌, ◌||◌, not, Option, Some, None, is_some, Result, Ok, Err, List, [], ◌∷◌, ◌++◌, codes, length, suc, refl, sym, ap, subst, ◌∙◌, append_assoc, inl, inr}
 use Rattle.std.specs.Prelude.{IfOk, option_and_then}
-use Rattle.std.specs.List.{list_all, list_any}
+use Rattle.std.specs.List.{join_by, list_all, list_any}
 use Rattle.std.specs.Str.{bytes_eq}
 use Rattle.std.proofs.lemmas.Bool.{and_parts, cases_Bool, false≢true, or_cases}
 use Rattle.std.proofs.lemmas.List.{map-append}
@@ -21,16 +21,17 @@ use Rattle.msg_head.specs.Values.{is_there, values}
 use Rattle.msg_head.proofs.MoreLines.{there_same, values_same}
 use Rattle.msg_head.specs.Heads.{head_text}
 use Rattle.msg_body.specs.Messages.{IsMessage, Message, Spells, message_text}
+use Rattle.field_values.specs.SameFields.{HasSameField, HasSameValues}
 use Rattle.component_ids.specs.Identifiers.{is_identifier, item_of}
 use Rattle.component_ids.specs.Table.{has_param, has_value_type, goes_with, have_clash, is_field_name, is_listed, is_name}
 use Rattle.component_ids.specs.Types.{kind_in}
 use Rattle.component_ids.specs.declared.id.ComponentId.{ComponentId}
 use Rattle.component_ids.specs.declared.params.SigParams.{SigParams}
 use Rattle.component_ids.specs.declared.types.FieldKind.{FieldKind}
-use Rattle.component_values.specs.Context.{MessageContext}
-use Rattle.component_values.specs.Forms.{form_of, member_key}
+use Rattle.component_values.specs.Alike.{AreAlikeFor, AreSameIn}
+use Rattle.component_values.specs.Context.{MessageContext, answers_head, context_with}
+use Rattle.component_values.specs.Forms.{Form, form_of, member_key}
 use Rattle.component_values.specs.Forms as form
-use Rattle.component_values.specs.Laws.{AreAlikeFor, HasSameValues}
 use Rattle.component_values.specs.Values.{FieldRow, Has, HaveValues, NameRow, side_of}
 use Rattle.component_values.proofs.LineLaws.{depends_on_its_lines}
 use Rattle.msg_body.specs.Views.{lines_on}
@@ -40,7 +41,7 @@ use Rattle.signatures.specs.Signatures.{AreLabels, HasSignature, input_name, sig
 use Rattle.signing.specs.SignCauses.{HasLabel, IsFirstSelfCover, any_tag, covers_itself, is_label_or_none, passed_limit}
 use Rattle.signing.specs.Signed.{IsVerifiable, SpellsSigned}
 use Rattle.signing.specs.Specs.{IsValidSpec}
-use Rattle.signing.specs.Written.{answers_head, context_with, context_with_digest, digest_lines, signature_lines, signed_message, with_digest}
+use Rattle.signing.specs.Written.{context_with_digest, digest_lines, signature_lines, signed_message, with_digest}
 use Rattle.signing.specs.declared.fault.SignFault.TheVariants.{InputMalformed, SignatureMalformed, LabelThere, SelfCover, TooLong}
 use Rattle.signing.specs.declared.fault.SignFault.{SignFault}
 use Rattle.signing.specs.declared.spec.SignSpec.{SignSpec}
@@ -86,6 +87,25 @@ form_is id key is named = elim (cases_Bool (has_param id.params (codes "bs"))) [
     or_true : (a : Bool) → (a || true) ≡ true
     or_true true = refl
     or_true false = refl
+
+-- the same values are the same in each form
+same_in : (xs ys : List FieldLine) (name : List ℕ) (form : Form) → HasSameValues xs ys name → AreSameIn form xs ys name
+same_in xs ys name shape same = by_form shape
+  where
+    field : HasSameField xs ys name
+    field = record { there = same.there; combined = ap (λ (ts : List (List ℕ)). join_by (λ t. t) (codes ", ") ts) same.same }
+
+    by_form : (form : Form) → AreSameIn form xs ys name
+    by_form form.wrapped = same
+    by_form (form.member key) = field
+    by_form form.strict = field
+    by_form form.plain = field
+
+-- a field of the message isn't one of the request that it answers
+not_related : (field related : Bool) → (field && not related) ≡ true → related ≡ false
+not_related true false own = refl
+not_related true true own = absurd cc
+not_related false related own = absurd cc
 
 -- a component of these fields that doesn't cover the signature names a key
 key_named : (label : List ℕ) (o : Option (List ℕ)) → is_label_or_none label o ≡ false → (key : List ℕ) × (o ≡ Some key)
@@ -248,12 +268,19 @@ module _ (context : MessageContext) (spec : SignSpec) (valid : IsValidSpec spec)
 
   alike : (id : ComponentId) → (has_param id.params (codes "req") ≡ false → HasSameValues (lines_on (side_of id.params) (with_digest context.message spec.digest)) (lines_on (side_of id.params) (signed_message context.message spec tag)) id.name)
       → AreAlikeFor id (with_digest context.message spec.digest) (signed_message context.message spec tag)
-  alike id own = record { start = refl; hosts = (none_of (codes "host") (signature_other spec valid tag bytes (codes "host") refl)).1; own = own }
+  alike id own =
+      let before = lines_on (side_of id.params) (with_digest context.message spec.digest) in
+      let after = lines_on (side_of id.params) (signed_message context.message spec tag) in
+      record {
+        start = refl;
+        hosts = (none_of (codes "host") (signature_other spec valid tag bytes (codes "host") refl)).1;
+        own = λ is. same_in before after id.name (form_of id.params) (own (not_related (is_field_name id.name) (has_param id.params (codes "req")) is));
+      }
 
   kept_alike : (id : ComponentId) (value : List ℕ)
       → (has_param id.params (codes "req") ≡ false → HasSameValues (lines_on (side_of id.params) (with_digest context.message spec.digest)) (lines_on (side_of id.params) (signed_message context.message spec tag)) id.name)
       → Has (context_with_digest context spec.digest) id value → Has (context_with context (signed_message context.message spec tag)) id value
-  kept_alike id value own has = depends_on_its_lines (context_with_digest context spec.digest) (signed_message context.message spec tag) id (Ok value) (alike id own) has
+  kept_alike id value own has = (depends_on_its_lines (context_with_digest context spec.digest) (signed_message context.message spec tag) id (alike id own) (Ok value)).0 has
 
   name_kept : (field : Bool) (id : ComponentId) (value : List ℕ) → is_field_name id.name ≡ field → is_listed (signature_name ∷ input_name ∷ []) id.name ≡ true → has_param id.params (codes "tr") ≡ false → (key : List ℕ)
       → form_of id.params ≡ form.member key → NameRow field (context_with_digest context spec.digest) id (with_digest context.message spec.digest) (Ok value)

@@ -4,7 +4,7 @@ use Rattle.std.specs.FinMap as map
 use Rattle.std.specs.List.{All, list_all}
 use Rattle.sfv_text.specs.Range.{is_string_byte}
 use Rattle.msg_body.specs.Messages.{Message, Spells, message_text}
-use Rattle.component_values.specs.Context.{MessageContext}
+use Rattle.component_values.specs.Context.{MessageContext, answers_head}
 use Rattle.nonces.specs.declared.limits.TheConstants.{MAX_MOMENT}
 use Rattle.settings.specs.Configuration.{Configuration}
 use Rattle.settings.specs.Valid.{IsValid}
@@ -15,7 +15,6 @@ use Rattle.signing.specs.Signed.{IsSignedMessage, IsVerifiable}
 use Rattle.signing.specs.Specs.{IsValidSpec}
 use Rattle.signing.specs.WishCauses.{IsWantFault}
 use Rattle.signing.specs.Wishes.{AreWished}
-use Rattle.signing.specs.Written.{answers_head}
 use Rattle.signing.specs.declared.fault.SignFault.{SignFault}
 use Rattle.signing.specs.declared.fault.WantFault.{WantFault}
 use Rattle.signing.specs.declared.spec.SignSpec.{SignSpec}

@@ -2,12 +2,12 @@
 use Rattle.std.specs.Prelude.{◌≡◌, ℕ, List, [], ◌∷◌, ◌++◌}
 use Rattle.msg_body.specs.Messages.{Message, Spells, message_text}
 use Rattle.component_ids.specs.declared.params.SigParams.{SigParams}
-use Rattle.component_values.specs.Context.{MessageContext}
+use Rattle.component_values.specs.Context.{MessageContext, answers_head, context_with}
 use Rattle.component_values.specs.Values.{HaveValues}
 use Rattle.sig_base.specs.SignatureBase.{signature_base}
 use Rattle.hmac_sha256.specs.Hmac.{hmac}
 use Rattle.signatures.specs.Signatures.{HasSignature, AreLabels}
-use Rattle.signing.specs.Written.{answers_head, context_with, context_with_digest, signed_message}
+use Rattle.signing.specs.Written.{context_with_digest, signed_message}
 use Rattle.signing.specs.declared.spec.SignSpec.{SignSpec}
 
 -- The text is the message, after its header lines the line of its digest and those of the

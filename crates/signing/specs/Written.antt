@@ -1,15 +1,14 @@
 -- Messages with further header lines, and the lines that signing adds.
-use Rattle.std.specs.Prelude.{ℕ, Bool, false, Option, Some, None, List, [], ◌∷◌, ◌++◌, codes, if◌then◌else◌}
+use Rattle.std.specs.Prelude.{ℕ, Option, Some, None, List, [], ◌∷◌, ◌++◌, codes, if◌then◌else◌}
 use Rattle.std.specs.Str.{byte}
 use Rattle.sfv_text.specs.Strict.{bytes_text, dict_text}
 use Rattle.msg_head.specs.declared.error.Side.TheVariants.{Header}
 use Rattle.msg_head.specs.Lines.{FieldLine}
-use Rattle.framing.specs.Framings.{is_head_request}
 use Rattle.msg_head.specs.Values.{is_there}
 use Rattle.msg_body.specs.Messages.{Message}
 use Rattle.msg_body.specs.Views.{lines_on, message_content}
 use Rattle.component_ids.specs.SignatureParams.{sig_params_text}
-use Rattle.component_values.specs.Context.{MessageContext}
+use Rattle.component_values.specs.Context.{MessageContext, context_with}
 use Rattle.content_digest.specs.Digests.{digest_dict}
 use Rattle.content_digest.specs.declared.algorithm.Algorithm.{Algorithm}
 use Rattle.signing.specs.declared.spec.SignSpec.{SignSpec}
@@ -23,11 +22,6 @@ with_lines message lines = record {
   framing = message.framing;
   body = message.body;
 }
-
--- the message answers a HEAD request
-abbrev pub answers_head : Option Message → Bool
-answers_head None = false
-answers_head (Some related) = is_head_request related.head.start
 
 -- ---- lines
 
@@ -63,15 +57,6 @@ signature_lines spec tag =
 -- the message with the line of its digest
 abbrev pub with_digest : Message → Option Algorithm → Message
 with_digest message digest = with_lines message (digest_lines message digest)
-
--- the context, this message in place of its own
-abbrev pub context_with : MessageContext → Message → MessageContext
-context_with context message = record {
-  message = message;
-  related = context.related;
-  scheme = context.scheme;
-  types = context.types;
-}
 
 -- the context, its message with the line of its digest
 abbrev pub context_with_digest : MessageContext → Option Algorithm → MessageContext

@@ -3,12 +3,12 @@
 ghost use Rattle.std.specs.Prelude.{◌≡◌, ◌≢◌, ◌+◌, ◌++◌, length, IfOk};
 ghost use Rattle.byte_grammar.specs.Causes.{AnswersWhere};
 ghost use Rattle.msg_body.specs.Messages.{Spells};
-ghost use Rattle.component_values.specs.Context.{context_of};
+ghost use Rattle.component_values.specs.Context.{context_of, answers_head};
 ghost use Rattle.signing.specs.declared.fault.SignFault.{SignFault};
 ghost use Rattle.signing.specs.SignCauses.{IsSignFault, limit_passed_by};
 ghost use Rattle.signing.specs.Signed.{IsSigned, IsVerifiable, SpellsSigned};
 ghost use Rattle.signing.specs.Specs.{IsValidSpec};
-ghost use Rattle.signing.specs.Written.{answers_head, context_with_digest, digest_lines, with_digest};
+ghost use Rattle.signing.specs.Written.{context_with_digest, digest_lines, with_digest};
 ghost use Rattle.signing.specs.tools.Judged.{ExplainsSign, ExplainsTag, IsMade, NoneBelow};
 ghost use Rattle.signing.specs.tools.Lines.{AreLines};
 ghost use Rattle.signing.specs.tools.Parts.{ArePartsOf};

@@ -1,10 +1,9 @@
 use Rattle.std.specs.Prelude.{option_map}
 use Rattle.std.proofs.Common.{subst, sym}
-use Rattle.component_values.specs.Context.{MessageContext, context_of}
+use Rattle.component_values.specs.Context.{MessageContext, context_of, answers_head}
 use Rattle.conf.specs.ConfMeaning.{meaning}
 use Rattle.msg_body.specs.Messages.{Spells}
 use Rattle.msg_body.specs.Views.{message_of}
-use Rattle.signing.specs.Written.{answers_head}
 use Rattle.commands.specs.Messages.{IsInputMessage}
 use Rattle.commands.specs.declared.message.Reading.{Reading}
 use Rattle.hms.proofs.Sources.{after_answer, after_refusal, spelled_input}

@@ -1,7 +1,7 @@
 use Rattle.std.proofs.Common.{◌∙◌}
-use Rattle.component_values.specs.Context.{context_of}
+use Rattle.component_values.specs.Context.{context_of, answers_head}
 use Rattle.signing.specs.SignCauses.{any_tag}
-use Rattle.signing.specs.Written.{answers_head, digest_lines, signature_lines}
+use Rattle.signing.specs.Written.{digest_lines, signature_lines}
 use Rattle.signing.proofs.Making.{digest_spelled, text_is}
 use Rattle.signing.proofs.Made.{too_long, fits, lack_answered, made, limit_of, tag_bytes}
 use Rattle.signing.proofs.message.make.Goals as goal

@@ -1,7 +1,7 @@
 use Rattle.std.proofs.Common.{Ok, length, refl, ap, subst, ◌∙◌}
 use Rattle.msg_body.specs.Messages.{Message}
-use Rattle.component_values.specs.Context.{context_of}
-use Rattle.signing.specs.Written.{answers_head, with_digest}
+use Rattle.component_values.specs.Context.{context_of, answers_head}
+use Rattle.signing.specs.Written.{with_digest}
 use Rattle.signing.specs.tools.Judged.{ExplainsTag}
 use Rattle.signing.proofs.Making.{found_again, not_partial, read_again}
 use Rattle.signing.proofs.message.tag_of_bytes.Goals as goal
