@@ -1,0 +1,3 @@
+pub mod LineWalk
+pub mod Gives
+pub mod Judged

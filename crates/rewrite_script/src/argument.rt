@@ -1,0 +1,211 @@
+//! The words of a line.
+
+ghost use Rattle.std.specs.Prelude.{◌≡◌, ◌<◌, map, option_map, IfOk, IsTrue};
+ghost use Rattle.std.specs.Char.{digit_value};
+ghost use Rattle.std.specs.List.{list_all};
+ghost use Rattle.std.specs.Str.{byte};
+ghost use Rattle.std.specs.Str.Parse.{digits_value};
+ghost use Rattle.byte_grammar.specs.Classes.{is_digit, is_line_byte, is_tchar, is_token};
+ghost use Rattle.rewrite_script.specs.tools.LineWalk.{cut_read, side_read, is_number_word, has_leading_zero, number_read, is_blank_letter, are_blank_letters, blank_of, blanks_read, name_read, text_read};
+ghost use Rattle.rewrite_script.specs.tools.Gives.{Gives};
+
+use crate::fault::LineFault;
+use crate::limits::{MAX_BLANKS, MAX_NUMBER_DIGITS};
+use byte_grammar::{Byte, ByteClass, Class, is_tchar, read_all, starts_with};
+use msg_head::Side;
+use sfv_text::{Memory, Text};
+use std::alloc::Global;
+
+/// The class of every byte but this one.
+#[derive(Clone, Copy)]
+struct AllBut(u8);
+
+impl ByteClass for AllBut {
+    ghost use Rattle.std.specs.Prelude.{◌==◌, not};
+
+    ghost members = { λ b c. not (c == b.0) };
+
+    fn allows(self, byte: u8) -> bool {
+        byte != self.0
+    }
+}
+
+/// The bytes before the first such byte, and those after it.
+pub(crate) fn cut(end: u8, bytes: &[u8]) -> Option<(&[u8], &[u8])>
+    ensures { option_map (λ x. (x.0.now, x.1.now)) result ≡ cut_read end bytes.now }
+{
+    let (prefix, rest) = read_all(AllBut(end), bytes);
+    match rest.split_first() {
+        None => None,
+        Some((_, after)) => Some((prefix, after)),
+    }
+}
+
+/// The word before the first SP, and what comes after that SP.
+pub(crate) fn read_word(bytes: &[u8]) -> Result<(&[u8], &[u8]), LineFault>
+    ensures { Gives (λ x. (x.0.now, x.1.now)) result (cut_read (byte " ") bytes.now) }
+{
+    match cut(b' ', bytes) {
+        None => Err(LineFault::NotSpelled),
+        Some(parts) => Ok(parts),
+    }
+}
+
+/// The side that the word names.
+pub(crate) fn side_of(word: &[u8]) -> Result<Side, LineFault>
+    ensures { Gives (λ side. side) result (side_read word.now) }
+{
+    match word {
+        b"h" => Ok(Side::Header),
+        b"t" => Ok(Side::Trailer),
+        _ => Err(LineFault::NotSpelled),
+    }
+}
+
+fn are_digits(bytes: &[u8]) -> bool
+    ensures { result ≡ list_all is_digit bytes.now }
+{
+    bytes.iter().all(|byte| byte.is_ascii_digit())
+}
+
+/// Whether the first of several digits is zero.
+fn has_leading_zero(word: &[u8]) -> bool
+    ensures { result ≡ has_leading_zero word.now }
+{
+    word.len() > 1 && starts_with(Byte(b'0'), word)
+}
+
+/// Whether the word is a number.
+fn is_number(word: &[u8]) -> bool
+    ensures { result ≡ is_number_word word.now }
+{
+    !word.is_empty()
+        && word.len() <= MAX_NUMBER_DIGITS
+        && are_digits(word)
+        && !has_leading_zero(word)
+}
+
+/// The value of a digit.
+fn digit_value(digit: u8) -> usize
+    requires { IsTrue (is_digit digit) }
+    ensures value { result ≡ digit_value digit }
+    ensures below { result < 10 }
+{
+    usize::from(digit - b'0')
+}
+
+/// The number that the digits write. So many digits always fit.
+fn number_of_digits(digits: &[u8]) -> usize
+    requires { IsTrue (is_number_word digits.now) }
+    ensures { result ≡ digits_value 10 digits.now }
+{
+    let mut number = 0;
+    for digit in digits {
+        number = number * 10 + digit_value(*digit);
+    }
+    number
+}
+
+/// The number that the word writes.
+#[tactic(auto, unfolding(crate::specs::tools::LineWalk::number_read))]
+pub(crate) fn number_of(word: &[u8]) -> Result<usize, LineFault>
+    ensures { Gives (λ number. number) result (number_read word.now) }
+{
+    if !is_number(word) {
+        return Err(LineFault::NotSpelled);
+    }
+    Ok(number_of_digits(word))
+}
+
+/// Whether the byte is the letter of a blank.
+fn is_blank_letter(byte: u8) -> bool
+    ensures { result ≡ is_blank_letter byte }
+{
+    byte == b's' || byte == b't'
+}
+
+fn are_letters(bytes: &[u8]) -> bool
+    ensures { result ≡ list_all is_blank_letter bytes.now }
+{
+    bytes.iter().all(|byte| is_blank_letter(*byte))
+}
+
+/// Whether the word is made of letters of blanks.
+fn are_blank_letters(word: &[u8]) -> bool
+    ensures { result ≡ are_blank_letters word.now }
+{
+    !word.is_empty() && word.len() <= MAX_BLANKS && are_letters(word)
+}
+
+/// The blank of the letter.
+fn blank_of(letter: u8) -> u8
+    ensures { result ≡ blank_of letter }
+{
+    if letter == b's' { b' ' } else { b'\t' }
+}
+
+/// The blanks of the letters.
+fn blanks_of_letters(alloc: Global, letters: &[u8]) -> Result<Text, Memory>
+    ensures { IfOk result (λ blanks. blanks ≡ map blank_of letters.now) }
+{
+    let mut blanks = Text::new(alloc);
+    for letter in letters {
+        blanks.push(blank_of(*letter))?;
+    }
+    Ok(blanks)
+}
+
+/// The blanks that the word writes.
+#[tactic(auto, unfolding(crate::specs::tools::LineWalk::blanks_read))]
+pub(crate) fn blanks_of(alloc: Global, word: &[u8]) -> Result<Text, LineFault>
+    ensures { Gives (λ blanks. blanks) result (blanks_read word.now) }
+{
+    if word == b"-".as_slice() {
+        return Ok(Text::new(alloc));
+    }
+    if !are_blank_letters(word) {
+        return Err(LineFault::NotSpelled);
+    }
+    Ok(blanks_of_letters(alloc, word)?)
+}
+
+fn are_tchars(bytes: &[u8]) -> bool
+    ensures { result ≡ list_all is_tchar bytes.now }
+{
+    bytes.iter().all(|byte| is_tchar(*byte))
+}
+
+/// Whether the word is a token (RFC 9110 section 5.6.2).
+fn is_token(word: &[u8]) -> bool
+    ensures { result ≡ is_token word.now }
+{
+    !word.is_empty() && are_tchars(word)
+}
+
+/// The field name that the word is (RFC 9110 section 5.1).
+#[tactic(auto, unfolding(crate::specs::tools::LineWalk::name_read))]
+pub(crate) fn name_of(alloc: Global, word: &[u8]) -> Result<Text, LineFault>
+    ensures { Gives (λ name. name) result (name_read word.now) }
+{
+    if !is_token(word) {
+        return Err(LineFault::NotSpelled);
+    }
+    Ok(Text::from_bytes(alloc, word)?)
+}
+
+fn are_line_bytes(bytes: &[u8]) -> bool
+    ensures { result ≡ list_all is_line_byte bytes.now }
+{
+    bytes.iter().all(|byte| Class::LineByte.allows(*byte))
+}
+
+/// The text that the rest of a line is: any bytes but NUL, CR and LF.
+#[tactic(auto, unfolding(crate::specs::tools::LineWalk::text_read))]
+pub(crate) fn text_of(alloc: Global, rest: &[u8]) -> Result<Text, LineFault>
+    ensures { Gives (λ text. text) result (text_read rest.now) }
+{
+    if !are_line_bytes(rest) {
+        return Err(LineFault::NotSpelled);
+    }
+    Ok(Text::from_bytes(alloc, rest)?)
+}
