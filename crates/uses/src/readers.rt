@@ -4,8 +4,8 @@ use SfError::{ItemKind, Syntax};
 use byte_grammar::{
     Byte, ByteClass, Class, Left, is_tchar, read_all, read_byte, read_run, read_word, starts_with,
 };
-use sfv_read::{SfError, read_dict, read_dict_member, read_inner, read_item, read_list};
-use sfv_text::{Text, print_dict, print_inner, print_item, print_list, print_member};
+use sfv_read::{SfError, read_dict, read_inner, read_item, read_list};
+use sfv_text::{Text, print_dict, print_inner, print_item, print_list};
 use std::alloc::Global;
 
 // The example of byte_grammar.
@@ -41,8 +41,6 @@ enum Kind {
     Inner,
     List,
     Dict,
-    // The member of a key, or nothing where there is none.
-    Member(&'static [u8]),
 }
 
 // The strict text of what is read.
@@ -52,10 +50,6 @@ fn strict_text(kind: Kind, alloc: Global, text: &[u8]) -> Result<Text, SfError> 
         Kind::Inner => print_inner(alloc, &read_inner(alloc, text)?),
         Kind::List => print_list(alloc, &read_list(alloc, text)?),
         Kind::Dict => print_dict(alloc, &read_dict(alloc, text)?),
-        Kind::Member(key) => match read_dict_member(alloc, text, key)? {
-            Some(member) => print_member(alloc, &member),
-            None => Ok(Text::new(alloc)),
-        },
     };
     match printed {
         Ok(text) => Ok(text),
@@ -73,7 +67,7 @@ struct Reads {
 
 // Texts with blanks at their ends, which a field's value never has, and a repeated key. With the
 // faults of `(a b` and `a, %` below, the example of sfv_read.
-const READS: [Reads; 9] = [
+const READS: [Reads; 7] = [
     Reads {
         kind: Kind::Item,
         text: b" 1 ",
@@ -108,16 +102,6 @@ const READS: [Reads; 9] = [
         kind: Kind::Dict,
         text: b"a=?1;x,b;x=1\t",
         strict: b"a;x, b;x=1",
-    },
-    Reads {
-        kind: Kind::Member(b"a"),
-        text: b"a=1, b, a=2",
-        strict: b"2",
-    },
-    Reads {
-        kind: Kind::Member(b"c"),
-        text: b"a=1, b",
-        strict: b"",
     },
 ];
 
@@ -236,7 +220,7 @@ const REFUSES: [Refuses; 19] = [
         texts: &[b"a;b=%"],
     },
     Refuses {
-        kind: Kind::Member(b"a"),
+        kind: Kind::Dict,
         fault: ItemKind(7),
         texts: &[b"a=1, b=@"],
     },

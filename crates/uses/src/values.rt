@@ -40,17 +40,17 @@ fn is_text(alloc: Global) -> Result<bool, Memory> {
     text.append(b"b")?;
     text.push(b'c')?;
     let copy = text.copy(alloc)?;
-    text.append(b"defghijklmnopqrstuvw")?;
-    text.append(b"xyz")?;
+    text.append(b"defghijklmnopqrstuvwxyz0123456789")?;
+    text.append(b"ABCDEF")?;
     Ok(
         copy.bytes() == b"abc".as_slice()
-            && text.bytes() == b"abcdefghijklmnopqrstuvwxyz".as_slice(),
+            && text.bytes() == b"abcdefghijklmnopqrstuvwxyz0123456789ABCDEF".as_slice(),
     )
 }
 
 // Whether a text that begins with room for its bytes has them.
 fn has_room(alloc: Global) -> Result<bool, Memory> {
-    let mut text = Text::with_capacity(alloc, 24)?;
+    let mut text = Text::with_capacity(alloc, 39)?;
     text.push(b'a')?;
     text.append(b"bc")?;
     Ok(text.copy(alloc)?.bytes() == b"abc".as_slice())
