@@ -1,0 +1,5 @@
+use Rattle.rewrites.proofs.Permitting.{permits_or_not}
+use Rattle.rewrites.proofs.laws.a_step_is_permitted_or_not.Goals as goal
+
+pub returns : goal.returns
+returns c = permits_or_not

@@ -1,0 +1,4 @@
+pub mod Sides
+pub mod Computed
+pub mod Judged
+pub mod Permitted
