@@ -5,7 +5,7 @@ use Rattle.std.specs.Str.{bytes_eq}
 use Rattle.std.specs.Str.Parse.{digits_value}
 use Rattle.sfv_text.specs.Keys.{value_of}
 use Rattle.sfv_text.specs.declared.pair.Pair.{Pair}
-use Rattle.command_line.specs.Command.{CommandLine, Help, Version, Base, Verify, Sign, BaseWords, VerifyWords, SignWords, IsCommand, SpellsBase, SpellsVerify, SpellsSign}
+use Rattle.command_line.specs.Command.{CommandLine, Help, Version, Base, Verify, Sign, Rewrite, BaseWords, VerifyWords, SignWords, RewriteWords, IsCommand, SpellsBase, SpellsVerify, SpellsSign, SpellsRewrite}
 use Rattle.command_line.specs.Laws.{HasOneCommand}
 use Rattle.command_line.specs.Options.{words_of}
 
@@ -41,6 +41,14 @@ sign_in options = record {
   wanted = value_of options (codes "--wanted");
 }
 
+rewrite_in : List (Pair (List ℕ)) → RewriteWords
+rewrite_in options = record {
+  script = word_of options (codes "--script");
+  conf = value_of options (codes "--conf");
+  label = value_of options (codes "--label");
+  request = value_of options (codes "--request");
+}
+
 after_base : List (List ℕ) → CommandLine
 after_base [] = Help
 after_base (params ∷ words) = Base (base_in params (options_in words))
@@ -51,7 +59,8 @@ after name words =
     if bytes_eq name (codes "base") then after_base words
     else (if bytes_eq name (codes "verify") then Verify (verify_in (options_in words))
     else (if bytes_eq name (codes "sign") then Sign (sign_in (options_in words))
-    else (if bytes_eq name (codes "--version") then Version else Help)))
+    else (if bytes_eq name (codes "rewrite") then Rewrite (rewrite_in (options_in words))
+    else (if bytes_eq name (codes "--version") then Version else Help))))
 
 read : List (List ℕ) → CommandLine
 read [] = Help
@@ -93,6 +102,12 @@ sign_is arguments sign a =
     let now = moment_is (value_of a.options (codes "--now")) sign.now a.now_is in
     λ i. record { conf = conf i; now = now i; request = a.request_is i; nonce = a.nonce_is i; wanted = a.wanted_is i }
 
+rewrite_is : (arguments : List (List ℕ)) (rewrite : RewriteWords) (a : SpellsRewrite arguments rewrite) → rewrite ≡ rewrite_in a.options
+unfolding rewrite_in word_of
+rewrite_is arguments rewrite a =
+    let script : rewrite.script ≡ word_of a.options (codes "--script") = word_is a.options (codes "--script") rewrite.script a.script_is in
+    λ i. record { script = script i; conf = a.conf_is i; label = a.label_is i; request = a.request_is i }
+
 is_read : (arguments : List (List ℕ)) (command : CommandLine) → IsCommand arguments command → read arguments ≡ command
 unfolding read after after_base
 is_read arguments Help a = ap read a
@@ -103,6 +118,8 @@ is_read arguments (Verify words) a = ap read a.joined
     ∙ (ap (λ (options : List (Pair (List ℕ))). Verify (verify_in options)) (are_in a.words a.options a.are.joined) ∙ ap Verify (sym (verify_is arguments words a)))
 is_read arguments (Sign words) a = ap read a.joined
     ∙ (ap (λ (options : List (Pair (List ℕ))). Sign (sign_in options)) (are_in a.words a.options a.are.joined) ∙ ap Sign (sym (sign_is arguments words a)))
+is_read arguments (Rewrite words) a = ap read a.joined
+    ∙ (ap (λ (options : List (Pair (List ℕ))). Rewrite (rewrite_in options)) (are_in a.words a.options a.are.joined) ∙ ap Rewrite (sym (rewrite_is arguments words a)))
 
 pub one_command : HasOneCommand
 one_command arguments one other a b = sym (is_read arguments one a) ∙ is_read arguments other b

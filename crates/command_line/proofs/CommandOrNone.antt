@@ -8,7 +8,7 @@ use Rattle.std.proofs.lemmas.Bool.{cases_Bool, and_parts, false≢true}
 use Rattle.std.proofs.lemmas.Slice.Eq.{bytes_eq-Decides}
 use Rattle.sfv_text.specs.Keys.{have_distinct_keys, value_of}
 use Rattle.sfv_text.specs.declared.pair.Pair.{Pair}
-use Rattle.command_line.specs.Command.{Help, Version, Base, Verify, Sign, BaseWords, VerifyWords, SignWords, NoCommand, SpellsBase, SpellsVerify, SpellsSign}
+use Rattle.command_line.specs.Command.{Help, Version, Base, Verify, Sign, Rewrite, BaseWords, VerifyWords, SignWords, RewriteWords, NoCommand, SpellsBase, SpellsVerify, SpellsSign, SpellsRewrite}
 use Rattle.command_line.specs.Laws.{HasCommandOrNone}
 use Rattle.command_line.specs.Options.{may_have, takes, words_of, AreOptions}
 use Rattle.command_line.specs.declared.options.CommandName.{CommandName}
@@ -229,16 +229,52 @@ sign_with words options are = elim (needed_or_none options) [
 sign_of : (words : List (List ℕ)) → SomeOrNone (SpellsSign (codes "sign" ∷ words))
 sign_of words = with_or_none (SpellsSign (codes "sign" ∷ words)) name.Sign words (λ sign is. (is.options, sign_are words sign is)) (sign_with words)
 
+-- ---- `rewrite`
+
+rewrite_are : (words : List (List ℕ)) (rewrite : RewriteWords) (is : SpellsRewrite (codes "rewrite" ∷ words) rewrite) → AreOptions name.Rewrite words is.options
+rewrite_are words rewrite is = are_of name.Rewrite (codes "rewrite") words is.words is.options is.joined is.are
+
+rewrite_with : (words : List (List ℕ)) (options : List (Pair (List ℕ))) → AreOptions name.Rewrite words options → SomeOrNone (SpellsRewrite (codes "rewrite" ∷ words))
+rewrite_with words options are = elim (has_word (value_of options (codes "--script"))) [
+  | inr none ↦ inr (λ rewrite is.
+      let same = same_options name.Rewrite words options is.options are (rewrite_are words rewrite is) in
+      no_word (value_of options (codes "--script")) rewrite.script none
+      (subst (λ (all : List (Pair (List ℕ))). value_of all (codes "--script") ≡ Some rewrite.script) same is.script_is))
+  | inl script ↦ inl (
+    record {
+      script = script.0;
+      conf = value_of options (codes "--conf");
+      label = value_of options (codes "--label");
+      request = value_of options (codes "--request");
+    },
+    record {
+      words = words;
+      options = options;
+      joined = refl;
+      are = are;
+      script_is = script.1;
+      conf_is = refl;
+      label_is = refl;
+      request_is = refl;
+    },
+  )
+]
+
+rewrite_of : (words : List (List ℕ)) → SomeOrNone (SpellsRewrite (codes "rewrite" ∷ words))
+rewrite_of words =
+    with_or_none (SpellsRewrite (codes "rewrite" ∷ words)) name.Rewrite words (λ rewrite is. (is.options, rewrite_are words rewrite is)) (rewrite_with words)
+
 -- ---- any command
 
 none_of : (arguments : List (List ℕ)) → (arguments ≡ codes "--help" ∷ [] → ⊥) → (arguments ≡ codes "--version" ∷ [] → ⊥)
     → ((base : BaseWords) → SpellsBase arguments base → ⊥) → ((verify : VerifyWords) → SpellsVerify arguments verify → ⊥)
-    → ((sign : SignWords) → SpellsSign arguments sign → ⊥) → NoCommand arguments
-none_of arguments no_help no_version no_base no_verify no_sign Help is = no_help is
-none_of arguments no_help no_version no_base no_verify no_sign Version is = no_version is
-none_of arguments no_help no_version no_base no_verify no_sign (Base words) is = no_base words is
-none_of arguments no_help no_version no_base no_verify no_sign (Verify words) is = no_verify words is
-none_of arguments no_help no_version no_base no_verify no_sign (Sign words) is = no_sign words is
+    → ((sign : SignWords) → SpellsSign arguments sign → ⊥) → ((rewrite : RewriteWords) → SpellsRewrite arguments rewrite → ⊥) → NoCommand arguments
+none_of arguments no_help no_version no_base no_verify no_sign no_rewrite Help is = no_help is
+none_of arguments no_help no_version no_base no_verify no_sign no_rewrite Version is = no_version is
+none_of arguments no_help no_version no_base no_verify no_sign no_rewrite (Base words) is = no_base words is
+none_of arguments no_help no_version no_base no_verify no_sign no_rewrite (Verify words) is = no_verify words is
+none_of arguments no_help no_version no_base no_verify no_sign no_rewrite (Sign words) is = no_sign words is
+none_of arguments no_help no_version no_base no_verify no_sign no_rewrite (Rewrite words) is = no_rewrite words is
 
 base_or_none : (arguments : List (List ℕ)) → SomeOrNone (SpellsBase arguments)
 base_or_none arguments = named_or_none SpellsBase (codes "base") (λ all base is. (base.params ∷ is.words, is.joined)) base_of arguments
@@ -248,6 +284,9 @@ verify_or_none arguments = named_or_none SpellsVerify (codes "verify") (λ all v
 
 sign_or_none : (arguments : List (List ℕ)) → SomeOrNone (SpellsSign arguments)
 sign_or_none arguments = named_or_none SpellsSign (codes "sign") (λ all sign is. (is.words, is.joined)) sign_of arguments
+
+rewrite_or_none : (arguments : List (List ℕ)) → SomeOrNone (SpellsRewrite arguments)
+rewrite_or_none arguments = named_or_none SpellsRewrite (codes "rewrite") (λ all rewrite is. (is.words, is.joined)) rewrite_of arguments
 
 pub command_or_none : HasCommandOrNone
 command_or_none arguments = elim (word_or_not (codes "--help") arguments) [
@@ -260,7 +299,10 @@ command_or_none arguments = elim (word_or_not (codes "--help") arguments) [
         | inl verify ↦ inl (Verify verify.0, verify.1)
         | inr no_verify ↦ elim (sign_or_none arguments) [
           | inl sign ↦ inl (Sign sign.0, sign.1)
-          | inr no_sign ↦ inr (none_of arguments no_help no_version no_base no_verify no_sign)
+          | inr no_sign ↦ elim (rewrite_or_none arguments) [
+            | inl rewrite ↦ inl (Rewrite rewrite.0, rewrite.1)
+            | inr no_rewrite ↦ inr (none_of arguments no_help no_version no_base no_verify no_sign no_rewrite)
+          ]
         ]
       ]
     ]

@@ -9,6 +9,7 @@ use Rattle.command_line.specs.declared.options.CommandName.TheVariants as name
 use Rattle.command_line.specs.declared.command.BaseWords as base
 use Rattle.command_line.specs.declared.command.VerifyWords as verify
 use Rattle.command_line.specs.declared.command.SignWords as sign
+use Rattle.command_line.specs.declared.command.RewriteWords as rewrite
 use Rattle.command_line.specs.declared.command.Command.{Command}
 use Rattle.command_line.specs.declared.command.Command.TheVariants as command
 
@@ -36,6 +37,14 @@ pub record SignWords : Type 0 where
   pub nonce : Option (List ℕ)
   pub wanted : Option (List ℕ)
 
+-- the words of `rewrite`: the file of the script, that of the configuration, the label whose
+-- signature has to permit each step, and the file of the request that the input answers
+pub record RewriteWords : Type 0 where
+  pub script : List ℕ
+  pub conf : Option (List ℕ)
+  pub label : Option (List ℕ)
+  pub request : Option (List ℕ)
+
 -- what arguments ask for
 pub data CommandLine : Type 0 where
   -- what the program does
@@ -50,6 +59,9 @@ pub data CommandLine : Type 0 where
   -- the message with signatures of a moment, by a configuration: one, which may have a nonce, or
   -- those that a message asks for
   Sign : SignWords → CommandLine
+  -- the message after the steps of a script, by a configuration or without one: any, or those alone
+  -- that the signature of a label permits
+  Rewrite : RewriteWords → CommandLine
 
 -- the arguments are `base`, PARAMS and the options of `base`
 pub record SpellsBase (arguments : List (List ℕ)) (base : BaseWords) : Type 0 where
@@ -87,6 +99,17 @@ pub record SpellsSign (arguments : List (List ℕ)) (sign : SignWords) : Type 0 
   pub wanted_is : sign.wanted ≡ value_of options (codes "--wanted")
   pub alone : (sign.nonce ≡ None) ⊎ (sign.wanted ≡ None)
 
+-- the arguments are `rewrite` and its options, with the script
+pub record SpellsRewrite (arguments : List (List ℕ)) (rewrite : RewriteWords) : Type 0 where
+  pub words : List (List ℕ)
+  pub options : List (Pair (List ℕ))
+  pub joined : arguments ≡ codes "rewrite" ∷ words
+  pub are : AreOptions name.Rewrite words options
+  pub script_is : value_of options (codes "--script") ≡ Some rewrite.script
+  pub conf_is : rewrite.conf ≡ value_of options (codes "--conf")
+  pub label_is : rewrite.label ≡ value_of options (codes "--label")
+  pub request_is : rewrite.request ≡ value_of options (codes "--request")
+
 -- the arguments spell the command
 abbrev pub IsCommand : List (List ℕ) → CommandLine → Type 0
 IsCommand arguments Help = arguments ≡ codes "--help" ∷ []
@@ -94,6 +117,7 @@ IsCommand arguments Version = arguments ≡ codes "--version" ∷ []
 IsCommand arguments (Base words) = SpellsBase arguments words
 IsCommand arguments (Verify words) = SpellsVerify arguments words
 IsCommand arguments (Sign words) = SpellsSign arguments words
+IsCommand arguments (Rewrite words) = SpellsRewrite arguments words
 
 -- the arguments spell no command
 abbrev pub NoCommand : List (List ℕ) → Type 0
@@ -106,6 +130,7 @@ conf_of Version = None
 conf_of (Base words) = words.conf
 conf_of (Verify words) = Some words.conf
 conf_of (Sign words) = Some words.conf
+conf_of (Rewrite words) = words.conf
 
 -- the file of the request that the input answers
 abbrev pub request_of : CommandLine → Option (List ℕ)
@@ -114,11 +139,17 @@ request_of Version = None
 request_of (Base words) = words.request
 request_of (Verify words) = words.request
 request_of (Sign words) = words.request
+request_of (Rewrite words) = words.request
 
 -- the file of the message that asks for signatures
 abbrev pub wanted_of : CommandLine → Option (List ℕ)
 wanted_of (Sign words) = words.wanted
 wanted_of command = None
+
+-- the file of the script
+abbrev pub script_of : CommandLine → Option (List ℕ)
+script_of (Rewrite words) = Some words.script
+script_of command = None
 
 -- what the borrowed words of `base` stand for
 abbrev pub base_words : base.BaseWords → BaseWords
@@ -147,6 +178,15 @@ sign_words words = record {
   wanted = option_map (λ word. word.now) words.wanted;
 }
 
+-- what the borrowed words of `rewrite` stand for
+abbrev pub rewrite_words : rewrite.RewriteWords → RewriteWords
+rewrite_words words = record {
+  script = words.script.now;
+  conf = option_map (λ word. word.now) words.conf;
+  label = option_map (λ word. word.now) words.label;
+  request = option_map (λ word. word.now) words.request;
+}
+
 -- what a command with borrowed words stands for
 abbrev pub line_of : Command → CommandLine
 line_of command.Help = Help
@@ -154,6 +194,7 @@ line_of command.Version = Version
 line_of (command.Base words) = Base (base_words words)
 line_of (command.Verify words) = Verify (verify_words words)
 line_of (command.Sign words) = Sign (sign_words words)
+line_of (command.Rewrite words) = Rewrite (rewrite_words words)
 
 -- the moment is one of at most 15 digits
 abbrev pub IsTimely : CommandLine → Type 0

@@ -8,9 +8,9 @@ use Rattle.sfv_text.specs.Keys.{have_distinct_keys}
 use Rattle.sfv_text.specs.declared.pair.Pair.{Pair}
 use Rattle.nonces.specs.declared.limits.TheConstants.{MAX_NONCE_BYTES}
 use Rattle.command_line.specs.declared.options.CommandName.{CommandName}
-use Rattle.command_line.specs.declared.options.CommandName.TheVariants.{Base, Verify, Sign}
+use Rattle.command_line.specs.declared.options.CommandName.TheVariants.{Base, Verify, Sign, Rewrite}
 use Rattle.command_line.specs.declared.options.CommandOption.{CommandOption}
-use Rattle.command_line.specs.declared.options.CommandOption.TheVariants.{Conf, Now, Label, Request, Nonce, Wanted}
+use Rattle.command_line.specs.declared.options.CommandOption.TheVariants.{Conf, Now, Label, Request, Nonce, Wanted, Script}
 use Rattle.command_line.specs.declared.options.TheConstants.{MAX_MOMENT_DIGITS}
 
 -- a file has a name
@@ -35,29 +35,36 @@ pub record OptionRow : Type 0 where
 
 -- A moment is a number of seconds, and a label is the key of a Dictionary (RFC 9421 section 4.1).
 abbrev pub row_of : CommandOption → OptionRow
-row_of Conf =
-    record { word = codes "--conf"; commands = Base ∷ Verify ∷ Sign ∷ []; may_have = is_file_name }
+row_of Conf = record {
+  word = codes "--conf";
+  commands = Base ∷ Verify ∷ Sign ∷ Rewrite ∷ [];
+  may_have = is_file_name;
+}
 row_of Now = record { word = codes "--now"; commands = Verify ∷ Sign ∷ []; may_have = is_moment }
-row_of Label = record { word = codes "--label"; commands = Verify ∷ []; may_have = is_key }
+row_of Label =
+    record { word = codes "--label"; commands = Verify ∷ Rewrite ∷ []; may_have = is_key }
 row_of Request = record {
   word = codes "--request";
-  commands = Base ∷ Verify ∷ Sign ∷ [];
+  commands = Base ∷ Verify ∷ Sign ∷ Rewrite ∷ [];
   may_have = is_file_name;
 }
 row_of Nonce = record { word = codes "--nonce"; commands = Sign ∷ []; may_have = is_nonce }
 row_of Wanted = record { word = codes "--wanted"; commands = Sign ∷ []; may_have = is_file_name }
+row_of Script =
+    record { word = codes "--script"; commands = Rewrite ∷ []; may_have = is_file_name }
 
 -- the option of that name
 abbrev pub option_of : List ℕ → Option CommandOption
 option_of name =
     find (λ option. bytes_eq name (row_of option).word)
-    (Conf ∷ Now ∷ Label ∷ Request ∷ Nonce ∷ Wanted ∷ [])
+    (Conf ∷ Now ∷ Label ∷ Request ∷ Nonce ∷ Wanted ∷ Script ∷ [])
 
 -- the two names are those of one command
 abbrev pub is_same_command : CommandName → CommandName → Bool
 is_same_command Base Base = true
 is_same_command Verify Verify = true
 is_same_command Sign Sign = true
+is_same_command Rewrite Rewrite = true
 is_same_command command other = false
 
 -- the command takes the option

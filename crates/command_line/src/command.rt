@@ -45,6 +45,19 @@ pub struct SignWords<'a> {
     pub wanted: Option<&'a str>,
 }
 
+/// The words of `rewrite`. They are borrowed.
+#[derive(Clone, Copy, Debug, PartialEq, Eq)]
+pub struct RewriteWords<'a> {
+    /// The file of the script.
+    pub script: &'a str,
+    /// The file of the configuration.
+    pub conf: Option<&'a str>,
+    /// The label whose signature has to permit each step, or any step may be taken.
+    pub label: Option<&'a str>,
+    /// The file of the request that the input answers.
+    pub request: Option<&'a str>,
+}
+
 /// What the arguments ask for.
 #[derive(Clone, Copy, Debug, PartialEq, Eq)]
 pub enum Command<'a> {
@@ -59,6 +72,8 @@ pub enum Command<'a> {
     Verify(VerifyWords<'a>),
     /// `sign`: the message with signatures (RFC 9421 section 3.1).
     Sign(SignWords<'a>),
+    /// `rewrite`: the message after the steps of a script (RFC 9421 section 1.1).
+    Rewrite(RewriteWords<'a>),
 }
 
 /// The arguments after the program's name.
@@ -160,6 +175,24 @@ fn read_sign<'a>(words: &'a [String]) -> Option<Command<'a>>
     }))
 }
 
+/// The words after `rewrite`.
+fn read_rewrite<'a>(words: &'a [String]) -> Option<Command<'a>>
+    ensures some { IfSome result
+        (λ command. IsAfter (codes "rewrite") (map string_bytes words.now) (line_of command)) }
+    ensures none { IfNone result (NoneAfter (codes "rewrite") (map string_bytes words.now)) }
+    ensures timely { IfSome result (λ command. IsTimely (line_of command)) }
+    ensures nonce { IfSome result (λ command. HasRightNonce (line_of command)) }
+{
+    let found = read_options(CommandName::Rewrite, words)?;
+    let script = found.script?;
+    Some(Command::Rewrite(RewriteWords {
+        script,
+        conf: found.conf,
+        label: found.label,
+        request: found.request,
+    }))
+}
+
 /// Reads the arguments after the program's name. It takes no memory.
 pub fn read_words(words: &[String]) -> Option<Command<'_>>
     ensures some { IfSome result
@@ -175,6 +208,7 @@ pub fn read_words(words: &[String]) -> Option<Command<'_>>
         "base" => read_base(others),
         "verify" => read_verify(others),
         "sign" => read_sign(others),
+        "rewrite" => read_rewrite(others),
         _ => None,
     }
 }

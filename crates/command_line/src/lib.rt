@@ -9,7 +9,9 @@ mod command;
 mod laws;
 mod options;
 
-pub use command::{BaseWords, Command, SignWords, VerifyWords, after_name, read_words};
+pub use command::{
+    BaseWords, Command, RewriteWords, SignWords, VerifyWords, after_name, read_words,
+};
 pub use laws::{arguments_are_a_command_or_none, arguments_have_one_command};
 pub use nonces::MAX_NONCE_BYTES;
 pub use options::MAX_MOMENT_DIGITS;

@@ -24,6 +24,8 @@ pub enum CommandName {
     Verify,
     /// `sign`.
     Sign,
+    /// `rewrite`.
+    Rewrite,
 }
 
 /// The options.
@@ -41,6 +43,8 @@ pub enum CommandOption {
     Nonce,
     /// `--wanted`: the file of the message that asks for signatures.
     Wanted,
+    /// `--script`: the file of the script.
+    Script,
 }
 
 /// The words that options have.
@@ -52,6 +56,7 @@ pub struct OptionWords<'a> {
     pub request: Option<&'a str>,
     pub nonce: Option<&'a str>,
     pub wanted: Option<&'a str>,
+    pub script: Option<&'a str>,
 }
 
 fn are_digits(bytes: &[u8]) -> bool
@@ -98,6 +103,7 @@ impl CommandOption {
             "--request" => Some(CommandOption::Request),
             "--nonce" => Some(CommandOption::Nonce),
             "--wanted" => Some(CommandOption::Wanted),
+            "--script" => Some(CommandOption::Script),
             _ => None,
         }
     }
@@ -109,10 +115,11 @@ impl CommandOption {
         match self {
             CommandOption::Conf => true,
             CommandOption::Now => matches!(command, CommandName::Verify | CommandName::Sign),
-            CommandOption::Label => command == CommandName::Verify,
+            CommandOption::Label => matches!(command, CommandName::Verify | CommandName::Rewrite),
             CommandOption::Request => true,
             CommandOption::Nonce => command == CommandName::Sign,
             CommandOption::Wanted => command == CommandName::Sign,
+            CommandOption::Script => command == CommandName::Rewrite,
         }
     }
 
@@ -127,6 +134,7 @@ impl CommandOption {
             CommandOption::Request => !word.is_empty(),
             CommandOption::Nonce => is_nonce(word.as_bytes()),
             CommandOption::Wanted => !word.is_empty(),
+            CommandOption::Script => !word.is_empty(),
         }
     }
 }
@@ -143,6 +151,7 @@ impl<'a> OptionWords<'a> {
             request: None,
             nonce: None,
             wanted: None,
+            script: None,
         }
     }
 
@@ -157,6 +166,7 @@ impl<'a> OptionWords<'a> {
             CommandOption::Request => self.request.is_some(),
             CommandOption::Nonce => self.nonce.is_some(),
             CommandOption::Wanted => self.wanted.is_some(),
+            CommandOption::Script => self.script.is_some(),
         }
     }
 
@@ -189,6 +199,10 @@ impl<'a> OptionWords<'a> {
             },
             CommandOption::Wanted => OptionWords {
                 wanted: Some(word),
+                ..self
+            },
+            CommandOption::Script => OptionWords {
+                script: Some(word),
                 ..self
             },
         }

@@ -46,7 +46,7 @@ text_answer text = elim (cases_lt MAX_CONF_BYTES (length text)) [
 ]
 
 module _ {V : Type 0} (Reads : List ℕ → V → Type 0) (Causes : List ℕ → FileRefusal → Type 0) (answer : (text : List ℕ) → HasAnswer (Reads text) (Causes text)) where
-  found_answer : (found : Option (List ℕ)) → HasAnswer (ReadsFound Reads found) (IsFileRefused Causes found)
+  pub found_answer : (found : Option (List ℕ)) → HasAnswer (ReadsFound Reads found) (IsFileRefused Causes found)
   found_answer None = inr (Missing, refl)
   found_answer (Some text) = answer text
 

@@ -22,9 +22,9 @@ use Rattle.commands.specs.Laws.{IsInputDecided, AreParamsDecided, AreValuesDecid
 use Rattle.commands.specs.Messages.{IsInputMessage, IsInputRefused}
 use Rattle.commands.specs.declared.message.Reading.{Reading}
 use Rattle.refusals.specs.declared.file.FileRefusal.{FileRefusal}
-use Rattle.refusals.specs.declared.file.FileRefusal.TheVariants.{Missing, TooLong, Message as NoMessage, Conf}
+use Rattle.refusals.specs.declared.file.FileRefusal.TheVariants.{Missing, TooLong, Message as NoMessage, Conf, Script}
 use Rattle.refusals.specs.declared.refusal.CommandRefusal.{CommandRefusal}
-use Rattle.refusals.specs.declared.refusal.CommandRefusal.TheVariants.{Syntax, ItemKind, Ids, Lacks, Sign, Wishes}
+use Rattle.refusals.specs.declared.refusal.CommandRefusal.TheVariants.{Syntax, ItemKind, Ids, Lacks, Sign, Wishes, NotTaken}
 use Rattle.commands.proofs.Lacking.{one_id}
 use Rattle.commands.proofs.LowerLaws.{one_list, no_fault, one_params, one_text, one_message_fault, text_no_fault}
 
@@ -33,18 +33,22 @@ use Rattle.commands.proofs.LowerLaws.{one_list, no_fault, one_params, one_text, 
 input_cause : (r : Reading) (input : List ℕ) (c d : FileRefusal) → IsInputRefused r input c → IsInputRefused r input d → c ≡ d
 input_cause r input Missing d a b = absurd a
 input_cause r input (Conf f) d a b = absurd a
+input_cause r input (Script f) d a b = absurd a
 input_cause r input (TooLong n) Missing a b = absurd b
 input_cause r input (TooLong n) (Conf g) a b = absurd b
+input_cause r input (TooLong n) (Script g) a b = absurd b
 input_cause r input (TooLong n) (TooLong m) a b = ap (λ (limit : ℕ). TooLong limit) (a.0 ∙ sym b.0)
 input_cause r input (TooLong n) (NoMessage g) a b = absurd (omega (arith, a.1, b.0))
 input_cause r input (NoMessage f) Missing a b = absurd b
 input_cause r input (NoMessage f) (Conf g) a b = absurd b
+input_cause r input (NoMessage f) (Script g) a b = absurd b
 input_cause r input (NoMessage f) (TooLong m) a b = absurd (omega (arith, a.0, b.1))
 input_cause r input (NoMessage f) (NoMessage g) a b = ap (λ (h : MessageFault). NoMessage h) (one_message_fault r input f g a.1 b.1)
 
 input_either : (r : Reading) (input : List ℕ) (message : Message) (c : FileRefusal) → IsInputMessage r input message → IsInputRefused r input c → ⊥
 input_either r input message Missing is c = c
 input_either r input message (Conf f) is c = c
+input_either r input message (Script f) is c = c
 input_either r input message (TooLong n) is c = let within = is.within in omega (arith, within, c.1)
 input_either r input message (NoMessage f) is c = text_no_fault r input message f is c.1
 
@@ -78,21 +82,25 @@ params_cause params (Syntax i) (Ids g) a b = absurd (a.0.none b.list b.reads)
 params_cause params (Syntax i) (Lacks m k) a b = absurd b
 params_cause params (Syntax i) (Sign g) a b = absurd b
 params_cause params (Syntax i) (Wishes g) a b = absurd b
+params_cause params (Syntax i) (NotTaken g) a b = absurd b
 params_cause params (ItemKind i) (Syntax j) a b = absurd (one_kind params j i b a)
 params_cause params (ItemKind i) (ItemKind j) a b = ap ItemKind (one_offset ReadsInner params i j a.0 b.0)
 params_cause params (ItemKind i) (Ids g) a b = absurd (a.0.none b.list b.reads)
 params_cause params (ItemKind i) (Lacks m k) a b = absurd b
 params_cause params (ItemKind i) (Sign g) a b = absurd b
 params_cause params (ItemKind i) (Wishes g) a b = absurd b
+params_cause params (ItemKind i) (NotTaken g) a b = absurd b
 params_cause params (Ids f) (Syntax j) a b = absurd (b.0.none a.list a.reads)
 params_cause params (Ids f) (ItemKind j) a b = absurd (b.0.none a.list a.reads)
 params_cause params (Ids f) (Ids g) a b = ap (λ (h : IdFault). Ids h) (one_id_fault params f g a b)
 params_cause params (Ids f) (Lacks m k) a b = absurd b
 params_cause params (Ids f) (Sign g) a b = absurd b
 params_cause params (Ids f) (Wishes g) a b = absurd b
+params_cause params (Ids f) (NotTaken g) a b = absurd b
 params_cause params (Lacks l i) d a b = absurd a
 params_cause params (Sign f) d a b = absurd a
 params_cause params (Wishes f) d a b = absurd a
+params_cause params (NotTaken f) d a b = absurd a
 
 params_either : (params : List ℕ) (sig : SigParams) (c : CommandRefusal) → ReadsParams params sig → AreParamsRefused params c → ⊥
 params_either params sig (Syntax i) reads c = c.0.none (list_of sig) reads.reads
@@ -101,6 +109,7 @@ params_either params sig (Ids f) reads c = no_fault sig c.list f reads.is (one_l
 params_either params sig (Lacks l i) reads c = c
 params_either params sig (Sign f) reads c = c
 params_either params sig (Wishes f) reads c = c
+params_either params sig (NotTaken f) reads c = c
 
 pub params_decided : AreParamsDecided
 params_decided params = record {
@@ -117,11 +126,13 @@ values_cause context ids (ItemKind i) d a b = absurd a
 values_cause context ids (Ids f) d a b = absurd a
 values_cause context ids (Sign f) d a b = absurd a
 values_cause context ids (Wishes f) d a b = absurd a
+values_cause context ids (NotTaken f) d a b = absurd a
 values_cause context ids (Lacks l i) (Syntax j) a b = absurd b
 values_cause context ids (Lacks l i) (ItemKind j) a b = absurd b
 values_cause context ids (Lacks l i) (Ids g) a b = absurd b
 values_cause context ids (Lacks l i) (Sign g) a b = absurd b
 values_cause context ids (Lacks l i) (Wishes g) a b = absurd b
+values_cause context ids (Lacks l i) (NotTaken g) a b = absurd b
 values_cause context ids (Lacks l i) (Lacks m k) a b =
     let same = first_lack_is_one context ids a.0 b.0 l m a.1 b.1 in
     let texts = one_id ids a.0 b.0 i k same.0 a.2 b.2 in
@@ -134,6 +145,7 @@ values_either context ids values (ItemKind i) have c = c
 values_either context ids values (Ids f) have c = c
 values_either context ids values (Sign f) have c = c
 values_either context ids values (Wishes f) have c = c
+values_either context ids values (NotTaken f) have c = c
 values_either context ids values (Lacks l i) have c = none_lacks context ids values c.0 l have c.1
 
 pub values_decided : AreValuesDecided

@@ -6,7 +6,7 @@ use Rattle.commands.specs.Configured.{IsConfText, IsConfTextRefused, IsConfigure
 use Rattle.commands.specs.Laws.{IsConfigurationDecided}
 use Rattle.commands.specs.Layers.{IsDecisive, ReadsFound, IsFileRefused}
 use Rattle.refusals.specs.declared.file.FileRefusal.{FileRefusal}
-use Rattle.refusals.specs.declared.file.FileRefusal.TheVariants.{Missing, TooLong, Message, Conf}
+use Rattle.refusals.specs.declared.file.FileRefusal.TheVariants.{Missing, TooLong, Message, Conf, Script}
 use Rattle.commands.proofs.LowerConf.{one_meaning, one_conf_fault, not_both_conf}
 
 -- ---- what was found, by its text
@@ -29,18 +29,22 @@ module _ {V : Type 0} (Reads : List ℕ → V → Type 0) (Causes : List ℕ →
 text_cause : (text : List ℕ) (c d : FileRefusal) → IsConfTextRefused text c → IsConfTextRefused text d → c ≡ d
 text_cause text Missing d a b = absurd a
 text_cause text (Message f) d a b = absurd a
+text_cause text (Script f) d a b = absurd a
 text_cause text (TooLong n) Missing a b = absurd b
 text_cause text (TooLong n) (Message g) a b = absurd b
+text_cause text (TooLong n) (Script g) a b = absurd b
 text_cause text (TooLong n) (TooLong m) a b = ap (λ (limit : ℕ). TooLong limit) (a.0 ∙ sym b.0)
 text_cause text (TooLong n) (Conf g) a b = absurd (omega (arith, a.1, b.0))
 text_cause text (Conf f) Missing a b = absurd b
 text_cause text (Conf f) (Message g) a b = absurd b
+text_cause text (Conf f) (Script g) a b = absurd b
 text_cause text (Conf f) (TooLong m) a b = absurd (omega (arith, a.0, b.1))
 text_cause text (Conf f) (Conf g) a b = ap (λ (h : ConfFault). Conf h) (one_conf_fault text f g a.1 b.1)
 
 text_either : (text : List ℕ) (conf : Configuration) (c : FileRefusal) → IsConfText text conf → IsConfTextRefused text c → ⊥
 text_either text conf Missing is c = c
 text_either text conf (Message f) is c = c
+text_either text conf (Script f) is c = c
 text_either text conf (TooLong n) is c = omega (arith, is.0, c.1)
 text_either text conf (Conf f) is c = not_both_conf text conf f is.1 c.1
 

@@ -7,10 +7,15 @@ pub mod Lacking
 pub mod LowerAnswers
 pub mod LowerConf
 pub mod LowerLaws
+pub mod LowerRewriting
 pub mod LowerSigning
 pub mod NeededTables
 pub mod OneOutcome
+pub mod OneRewriting
 pub mod OneSigning
+pub mod Rewriting
+pub mod RewrittenMessages
+pub mod ScriptFiles
 pub mod SignedKeys
 pub mod SignedMessages
 pub mod Signing

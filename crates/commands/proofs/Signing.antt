@@ -39,7 +39,7 @@ use Rattle.commands.specs.declared.stop.Stop.{Stop}
 use Rattle.commands.specs.declared.stop.Stop.TheVariants as ends
 use Rattle.commands.specs.tools.Signed.{HasIndexIn, SaysSignFault, IsSignedText, AreSignedSoFar}
 use Rattle.refusals.specs.declared.refusal.CommandRefusal.{CommandRefusal}
-use Rattle.refusals.specs.declared.refusal.CommandRefusal.TheVariants.{Syntax, ItemKind, Ids, Lacks, Sign, Wishes}
+use Rattle.refusals.specs.declared.refusal.CommandRefusal.TheVariants.{Syntax, ItemKind, Ids, Lacks, Sign, Wishes, NotTaken}
 use Rattle.refusals.specs.declared.refusal.Refusal.{Refusal}
 use Rattle.refusals.specs.declared.refusal.Refusal.TheVariants.{Command}
 
@@ -108,6 +108,7 @@ module _ (context : MessageContext) (spec : SignSpec) where
   fault_of (ItemKind offset) is = absurd is
   fault_of (Ids f) is = absurd is
   fault_of (Wishes f) is = absurd is
+  fault_of (NotTaken f) is = absurd is
   fault_of (Lacks lack id) is = (fault.Lacks is.0 lack, is.1)
   fault_of (Sign f) is = (f, said f is)
 
@@ -142,7 +143,7 @@ module _ (context : MessageContext) (spec : SignSpec) where
   stopped_quietly (ends.Refused refusal) is = tt
 
 -- what an outcome says says more
-says_more : (P Q : Outcome → Type 0) (result : Result Outcome Stop) → ((outcome : Outcome) → P outcome → Q outcome) → IfOutcome result P → IfOutcome result Q
+pub says_more : (P Q : Outcome → Type 0) (result : Result Outcome Stop) → ((outcome : Outcome) → P outcome → Q outcome) → IfOutcome result P → IfOutcome result Q
 says_more P Q (Ok outcome) more is = more outcome is
 says_more P Q (Err ends.Memory) more is = tt
 says_more P Q (Err ends.ReadFault) more is = tt
@@ -248,6 +249,7 @@ module _ (conf : Configuration) (moment : ℕ) (message : Message) (context : Me
   want_fault_of (Ids f) is = absurd is
   want_fault_of (Lacks lack id) is = absurd is
   want_fault_of (Sign f) is = absurd is
+  want_fault_of (NotTaken f) is = absurd is
   want_fault_of (Wishes f) is = (f, is)
 
   no_want_fault : (specs : List SignSpec) → WantsAnswered conf message (Ok specs) → (f : WantFault) → ¬ IsWantFault conf message f

@@ -21,13 +21,15 @@ pub data FileRole : Type 0 where
 abbrev pub FileNames : Type 0
 FileNames = FileRole → Option (List ℕ)
 
--- a configuration, a request and a message that wishes signatures, or none of each, and no other
--- file
-abbrev pub file_names : Option (List ℕ) → Option (List ℕ) → Option (List ℕ) → FileNames
-file_names conf request wanted Conf = conf
-file_names conf request wanted Request = request
-file_names conf request wanted Wanted = wanted
-file_names conf request wanted role = None
+-- a configuration, a request, a message that wishes signatures and a script, or none of each, and
+-- no other file
+abbrev pub file_names : Option (List ℕ) → Option (List ℕ) → Option (List ℕ) → Option (List ℕ)
+    → FileNames
+file_names conf request wanted script Conf = conf
+file_names conf request wanted script Request = request
+file_names conf request wanted script Wanted = wanted
+file_names conf request wanted script Script = script
+file_names conf request wanted script role = None
 
 -- how many files have a name
 abbrev pub file_count : FileNames → ℕ

@@ -4,9 +4,9 @@ use Rattle.std.specs.FinMap as map
 use Rattle.std.specs.List.{list_all}
 use Rattle.sfv_text.specs.Classes.{is_byte}
 use Rattle.component_ids.specs.declared.id.ComponentId.{ComponentId}
-use Rattle.component_values.specs.Context.{MessageContext}
+use Rattle.component_values.specs.Context.{MessageContext, answers_head}
 use Rattle.component_values.specs.Values.{HaveValues}
-use Rattle.msg_body.specs.Messages.{Message}
+use Rattle.msg_body.specs.Messages.{Message, IsMessage}
 use Rattle.conf.specs.Configuration.{Configuration}
 use Rattle.settings.specs.Valid.{IsValid}
 use Rattle.settings.specs.declared.sign_conf.SignConf.{SignConf}
@@ -18,6 +18,10 @@ use Rattle.commands.specs.Covered.{ReadsParams}
 use Rattle.commands.specs.Layers.{IsDecisive, HasAnswer}
 use Rattle.commands.specs.Messages.{IsInputMessage, IsInputRefused}
 use Rattle.commands.specs.MessageFiles.{IsRequested, IsRequestRefused, IsWanted, IsWantedRefused, IsOfBytes}
+use Rattle.rewrite_script.specs.Lines.{is_writable}
+use Rattle.rewrite_script.specs.declared.rewrite.Rewrite.{Rewrite}
+use Rattle.commands.specs.Rewrite.{ReportsRewriting}
+use Rattle.commands.specs.Scripts.{IsScripted, IsScriptRefused}
 use Rattle.commands.specs.Sign.{ReportsSigning}
 use Rattle.commands.specs.Tables.{HasTables, IsTableMissing}
 use Rattle.commands.specs.Verify.{ReportsVerdicts}
@@ -45,6 +49,11 @@ IsRequestDecided =
 abbrev pub IsWantedDecided : Type 0
 IsWantedDecided =
     (name found : Option (List ℕ)) → IsDecisive (IsWanted name found) (IsWantedRefused name found)
+
+-- what was found under a name is at most one script, or is refused for at most one cause
+abbrev pub IsScriptDecided : Type 0
+IsScriptDecided =
+    (name found : Option (List ℕ)) → IsDecisive (IsScripted name found) (IsScriptRefused name found)
 
 -- an input is at most one message, read in this way, or is refused for at most one cause
 abbrev pub IsInputDecided : Type 0
@@ -78,6 +87,13 @@ HasOneSigning =
     → ReportsSigning nonce moment conf wishes context one
     → ReportsSigning nonce moment conf wishes context other → one ≡ other
 
+-- a label or none, a script and a context have at most one outcome
+abbrev pub HasOneRewritten : Type 0
+HasOneRewritten =
+    (label : Option (List ℕ)) (script : List Rewrite) (context : MessageContext)
+    (one other : Outcome) → ReportsRewriting label script context one
+    → ReportsRewriting label script context other → one ≡ other
+
 -- ---- each has an answer
 
 -- what was found under a name is a configuration, or there is a cause to refuse it
@@ -103,6 +119,11 @@ abbrev pub HasWanted : Type 0
 HasWanted =
     (name found : Option (List ℕ)) → IsOfBytes found
     → HasAnswer (IsWanted name found) (IsWantedRefused name found)
+
+-- what was found under a name is a script, or there is a cause to refuse it
+abbrev pub HasScript : Type 0
+HasScript =
+    (name found : Option (List ℕ)) → HasAnswer (IsScripted name found) (IsScriptRefused name found)
 
 -- an input of bytes is a message, read in this way, or there is a cause to refuse it
 abbrev pub HasMessage : Type 0
@@ -134,6 +155,20 @@ HasSomeSigning =
     (context : MessageContext) (sign : SignConf) → conf.sign ≡ Some sign
     → IsSome (map.get conf.keys sign.keyid)
     → (outcome : Outcome) × ReportsSigning nonce moment conf wishes context outcome
+
+-- a label or none, a script that lines can write, and a context of a message have an outcome
+abbrev pub HasSomeRewritten : Type 0
+HasSomeRewritten =
+    (label : Option (List ℕ)) (script : List Rewrite) (context : MessageContext)
+    → IsTrue (list_all is_writable script)
+    → IsMessage (answers_head context.related) context.message
+    → (outcome : Outcome) × ReportsRewriting label script context outcome
+
+-- lines can write a script that was found
+abbrev pub IsWritableWhereScripted : Type 0
+IsWritableWhereScripted =
+    (name found : Option (List ℕ)) (script : List Rewrite) → IsScripted name found script
+    → IsTrue (list_all is_writable script)
 
 -- a configuration that was found is a valid one
 abbrev pub IsValidWhereConfigured : Type 0

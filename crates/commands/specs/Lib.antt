@@ -9,6 +9,9 @@ pub mod Layers
 pub mod MessageFiles
 pub mod Messages
 pub mod Outcome
+pub mod Rewrite
+pub mod RewrittenMessages
+pub mod Scripts
 pub mod Sign
 pub mod SignedMessages
 pub mod Stops

@@ -15,14 +15,19 @@ use Rattle.msg_body.specs.declared.error.MessageFault.{MessageFault}
 use Rattle.msg_body.specs.declared.error.MessageFault.TheVariants as fault
 use Rattle.conf.specs.declared.fault.ConfFault.{ConfFault}
 use Rattle.conf.specs.declared.fault.ConfFault.TheVariants as conf
+use Rattle.rewrite_script.specs.declared.fault.ScriptFault.{ScriptFault}
+use Rattle.rewrite_script.specs.declared.fault.ScriptFault.TheVariants as script
 use Rattle.signing.specs.declared.fault.WantFault.{WantFault}
 use Rattle.signing.specs.declared.fault.WantFault.TheVariants as want
-use Rattle.refusals.specs.declared.file.FileRefusal.TheVariants.{Missing, TooLong, Message as NoMessage, Conf as NoConf}
+use Rattle.signatures.specs.declared.label.LabelFault.{LabelFault}
+use Rattle.signatures.specs.declared.label.LabelFault.TheVariants as label
+use Rattle.refusals.specs.declared.file.FileRefusal.TheVariants.{Missing, TooLong, Message as NoMessage, Conf as NoConf, Script as NoScript}
 use Rattle.refusals.specs.declared.role.Role.{Role}
 use Rattle.refusals.specs.declared.role.Role.TheVariants as role
 use Rattle.refusals.specs.declared.refusal.Refusal.{Refusal}
 use Rattle.refusals.specs.declared.refusal.Refusal.TheVariants.{Of, Command}
-use Rattle.refusals.specs.declared.refusal.CommandRefusal.TheVariants.{Syntax, ItemKind, Ids, Wishes}
+use Rattle.refusals.specs.declared.refusal.CommandRefusal.TheVariants.{Syntax, ItemKind, Ids, Wishes, NotTaken}
+use Rattle.refusals.specs.declared.refusal.StepRefusal.TheVariants.{LabelUnread}
 use Rattle.commands.specs.declared.outcome.Outcome.{Outcome}
 use Rattle.commands.specs.declared.outcome.Outcome.TheVariants.{Refused as IsRefused}
 use Rattle.commands.specs.declared.stop.Stop.{Stop}
@@ -68,10 +73,21 @@ abbrev pub stop_of_conf : ConfFault → Stop
 stop_of_conf conf.Memory = Memory
 stop_of_conf fault = Refused (Of role.Conf (NoConf fault))
 
+-- how a fault of a script ends a run: it is refused, or memory ran out
+abbrev pub stop_of_script : ScriptFault → Stop
+stop_of_script script.Memory = Memory
+stop_of_script fault = Refused (Of role.Script (NoScript fault))
+
 -- how a fault of the wishes for signatures ends a run: the command is refused, or memory ran out
 abbrev pub stop_of_want : WantFault → Stop
 stop_of_want want.Memory = Memory
 stop_of_want fault = Refused (Command (Wishes fault))
+
+-- how a fault of the label whose signature has to permit a step ends a run: the step isn't taken,
+-- or memory ran out
+abbrev pub stop_of_label : LabelFault → Stop
+stop_of_label label.Memory = Memory
+stop_of_label fault = Refused (Command (NotTaken LabelUnread))
 
 -- what ends the run is a refusal of which this holds, or another reason
 abbrev pub IfStopped : Stop → (Refusal → Type 0) → Type 0

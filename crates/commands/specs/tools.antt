@@ -1,3 +1,4 @@
 pub mod Prepared
+pub mod Rewritten
 pub mod Verdicts
 pub mod Signed

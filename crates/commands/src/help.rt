@@ -33,6 +33,12 @@ hms: HTTP Message Signatures (RFC 9421) of recorded HTTP/1.1 messages
 
       hms sign --conf conf.toml --now \"$(date +%s)\" < request.http
 
+  hms rewrite --script SCRIPT [--label LABEL] [--conf FILE] [--request REQ] < MESSAGE
+      The message after the steps of SCRIPT, each a change that a proxy may make.
+      With LABEL, each step has to be one that keeps what LABEL signs.
+
+      hms rewrite --script steps.txt --label sig1 < signed.http
+
   With --request the message is a response, and REQ is the file of the request
   that it answers, from which components with `req` are drawn.
 

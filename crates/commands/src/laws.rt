@@ -1,8 +1,9 @@
 //! Laws of what is read, and of what comes of it. Each function does nothing; its contract is the
 //! law.
 
-ghost use Rattle.commands.specs.Laws.{IsConfigurationDecided, AreTablesDecided, IsRequestDecided, IsWantedDecided, IsInputDecided, AreParamsDecided, AreValuesDecided, HaveOneOutcome, HasConfiguration, HaveTables, HasRequest, HasWanted, HasMessage, HaveParams, HaveValuesOrLack, HaveSomeOutcome, HasOneSigning, HasSomeSigning, IsValidWhereConfigured};
+ghost use Rattle.commands.specs.Laws.{IsConfigurationDecided, AreTablesDecided, IsRequestDecided, IsWantedDecided, IsScriptDecided, IsInputDecided, AreParamsDecided, AreValuesDecided, HaveOneOutcome, HasConfiguration, HaveTables, HasRequest, HasWanted, HasScript, HasMessage, HaveParams, HaveValuesOrLack, HaveSomeOutcome, HasOneSigning, HasSomeSigning, IsValidWhereConfigured, HasOneRewritten, HasSomeRewritten, IsWritableWhereScripted};
 ghost use Rattle.commands.specs.SignedMessages.{IsMessageWhereSigned, IsRightWhereSigned};
+ghost use Rattle.commands.specs.RewrittenMessages.{IsMessageWhereRewritten, HasVerdictWhereRewritten};
 
 /// What a layer reads is at most one value, or there is at most one cause to refuse it, and not
 /// both. So where each layer is judged after the one before it, there is at most one outcome.
@@ -11,6 +12,7 @@ pub fn each_layer_is_decided()
     ensures tables { AreTablesDecided }
     ensures request { IsRequestDecided }
     ensures wanted { IsWantedDecided }
+    ensures script { IsScriptDecided }
     ensures input { IsInputDecided }
     ensures params { AreParamsDecided }
     ensures values { AreValuesDecided }
@@ -22,6 +24,7 @@ pub fn each_layer_has_an_answer()
     ensures tables { HaveTables }
     ensures request { HasRequest }
     ensures wanted { HasWanted }
+    ensures script { HasScript }
     ensures input { HasMessage }
     ensures params { HaveParams }
     ensures values { HaveValuesOrLack }
@@ -38,6 +41,20 @@ pub fn signing_has_one_outcome()
     ensures one { HasOneSigning }
     ensures some { HasSomeSigning }
     ensures valid { IsValidWhereConfigured }
+{}
+
+/// What a script makes of a message has one outcome.
+pub fn rewriting_has_one_outcome()
+    ensures one { HasOneRewritten }
+    ensures some { HasSomeRewritten }
+    ensures writable { IsWritableWhereScripted }
+{}
+
+/// What is rewritten is a message of the same kind. Under a label it keeps the label's verdict, at
+/// each moment and by each configuration.
+pub fn what_is_rewritten_keeps_its_verdict()
+    ensures message { IsMessageWhereRewritten }
+    ensures verdict { HasVerdictWhereRewritten }
 {}
 
 /// What is signed by a configuration can be verified by it: it is a message, in which the label of

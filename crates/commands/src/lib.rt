@@ -1,7 +1,8 @@
 //! The commands of `hms` over a configuration and a message: the signature base that `base` writes
-//! (RFC 9421 section 2.5), the verdicts that `verify` writes (section 3.2), and the signed message
-//! that `sign` writes (sections 3.1 and 5.1). Before them come the configuration, the request that
-//! the input answers, and the message that wishes signatures, each in a file or none; the input,
+//! (RFC 9421 section 2.5), the verdicts that `verify` writes (section 3.2), the signed message
+//! that `sign` writes (sections 3.1 and 5.1), and the message after the steps of a script that
+//! `rewrite` writes (section 1.1). Before them come the configuration, the request that the input
+//! answers, the message that wishes signatures, and the script, each in a file or none; the input,
 //! which is to be one whole message; and the context that all give.
 //!
 //! ```text
@@ -26,6 +27,8 @@ mod laws;
 mod message;
 mod message_file;
 mod outcome;
+mod rewrite;
+mod script_file;
 mod sign;
 mod stop;
 mod tables;
@@ -36,12 +39,15 @@ pub use configured::read_configuration;
 pub use context::context_for;
 pub use help::{HELP_TEXT, VERSION_TEXT, write_help, write_version};
 pub use laws::{
-    each_layer_has_an_answer, each_layer_is_decided, signing_has_one_outcome,
-    verdicts_have_one_outcome, what_is_signed_is_rightly_signed,
+    each_layer_has_an_answer, each_layer_is_decided, rewriting_has_one_outcome,
+    signing_has_one_outcome, verdicts_have_one_outcome, what_is_rewritten_keeps_its_verdict,
+    what_is_signed_is_rightly_signed,
 };
 pub use message::{Reading, read_input};
 pub use message_file::{read_taken, take_message};
 pub use outcome::Outcome;
+pub use rewrite::write_rewritten;
+pub use script_file::read_script_file;
 pub use sign::{write_signed, write_wished};
 pub use stop::Stop;
 pub use tables::{Needs, check_tables};

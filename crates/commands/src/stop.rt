@@ -9,9 +9,11 @@ use component_ids::IdFault;
 use conf::ConfFault;
 use hms_io::{FileError, FillError};
 use msg_body::{MessageError, MessageFault};
-use refusals::{CommandRefusal, FileRefusal, Refusal, Role};
+use refusals::{CommandRefusal, FileRefusal, Refusal, Role, StepRefusal};
+use rewrite_script::ScriptFault;
 use sfv_read::SfError;
 use sfv_text::Memory;
+use signatures::LabelFault;
 use signing::WantFault;
 
 /// What ends a run before it is done.
@@ -127,6 +129,21 @@ impl From<ConfFault> for Stop {
     }
 }
 
+/// A fault of the script.
+impl From<ScriptFault> for Stop {
+    ghost use Rattle.std.specs.Prelude.{◌≡◌};
+    ghost use Rattle.commands.specs.Stops.{stop_of_script};
+
+    ghost from_gives = { λ fault stop. stop ≡ stop_of_script fault };
+
+    fn from(fault: ScriptFault) -> Stop {
+        match fault {
+            ScriptFault::Memory => Stop::Memory,
+            _ => Stop::of_text(Role::Script, FileRefusal::Script(fault)),
+        }
+    }
+}
+
 /// A fault of the wishes for signatures.
 impl From<WantFault> for Stop {
     ghost use Rattle.std.specs.Prelude.{◌≡◌};
@@ -138,6 +155,23 @@ impl From<WantFault> for Stop {
         match fault {
             WantFault::Memory => Stop::Memory,
             _ => Stop::Refused(Refusal::Command(CommandRefusal::Wishes(fault))),
+        }
+    }
+}
+
+/// A fault of the label whose signature has to permit a step.
+impl From<LabelFault> for Stop {
+    ghost use Rattle.std.specs.Prelude.{◌≡◌};
+    ghost use Rattle.commands.specs.Stops.{stop_of_label};
+
+    ghost from_gives = { λ fault stop. stop ≡ stop_of_label fault };
+
+    fn from(fault: LabelFault) -> Stop {
+        match fault {
+            LabelFault::Memory => Stop::Memory,
+            LabelFault::Rule(_, _) => {
+                Stop::Refused(Refusal::Command(CommandRefusal::NotTaken(StepRefusal::LabelUnread)))
+            }
         }
     }
 }

@@ -5,9 +5,12 @@ use Rattle.commands.proofs.DecidedConf as configured
 use Rattle.commands.proofs.OneOutcome as verdicts
 use Rattle.commands.proofs.NeededTables as tables
 use Rattle.commands.proofs.OneSigning as signing
+use Rattle.commands.proofs.ScriptFiles as scripts
+use Rattle.commands.proofs.LowerRewriting as rewritten
 use Rattle.commands.proofs.SignedMessages as signed
 use Rattle.commands.proofs.TakenFiles as files
-use Rattle.commands.specs.Laws.{IsConfigurationDecided, AreTablesDecided, IsRequestDecided, IsWantedDecided, IsInputDecided, AreParamsDecided, AreValuesDecided, HaveOneOutcome, HasConfiguration, HaveTables, HasRequest, HasWanted, HasMessage, HaveParams, HaveValuesOrLack, HaveSomeOutcome, HasOneSigning, HasSomeSigning, IsValidWhereConfigured}
+use Rattle.commands.specs.Laws.{IsConfigurationDecided, AreTablesDecided, IsRequestDecided, IsWantedDecided, IsInputDecided, AreParamsDecided, AreValuesDecided, HaveOneOutcome, HasConfiguration, HaveTables, HasRequest, HasWanted, HasMessage, HaveParams, HaveValuesOrLack, HaveSomeOutcome, HasOneSigning, HasSomeSigning, IsValidWhereConfigured, IsScriptDecided, HasScript, HasOneRewritten, HasSomeRewritten, IsWritableWhereScripted}
+use Rattle.commands.specs.RewrittenMessages.{IsMessageWhereRewritten, HasVerdictWhereRewritten}
 use Rattle.commands.specs.SignedMessages.{IsMessageWhereSigned, IsRightWhereSigned}
 
 pub conf_decided : IsConfigurationDecided
@@ -72,3 +75,24 @@ message_where_signed = signed.message_where_signed
 
 pub right_where_signed : IsRightWhereSigned
 right_where_signed = signed.right_where_signed
+
+pub script_decided : IsScriptDecided
+script_decided = scripts.script_decided
+
+pub script_answer : HasScript
+script_answer = scripts.has_script
+
+pub writable_where_scripted : IsWritableWhereScripted
+writable_where_scripted = scripts.is_writable_where_scripted
+
+pub rewriting_law : HasOneRewritten
+rewriting_law = rewritten.one_rewritten
+
+pub rewriting_answer : HasSomeRewritten
+rewriting_answer = rewritten.has_some_rewritten
+
+pub message_where_rewritten : IsMessageWhereRewritten
+message_where_rewritten = rewritten.message_where_rewritten
+
+pub verdict_where_rewritten : HasVerdictWhereRewritten
+verdict_where_rewritten = rewritten.verdict_where_rewritten

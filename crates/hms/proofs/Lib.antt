@@ -4,4 +4,5 @@ pub mod OneReport
 pub mod Reports
 pub mod SomeReport
 pub mod Sources
+mod RewrittenInputs
 mod SignedInputs

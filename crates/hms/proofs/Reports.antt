@@ -1,6 +1,7 @@
 -- The outcome of arguments, files and an input.
 use Rattle.std.proofs.Common.{◌≡◌, ◌+◌, ◌≤◌, inl, inr, ℕ, Bool, true, false, List, [], Option, Some, None, Result, Err, refl, sym, ap, subst, ◌∙◌, arith}
-use Rattle.std.specs.Prelude.{IfSome, IfNone, option_map, length}
+use Rattle.std.specs.Prelude.{IfSome, IfNone, IsTrue, option_map, length}
+use Rattle.std.specs.List.{list_all}
 use Rattle.std.proofs.lemmas.Bool.{false≢true}
 use Rattle.std.specs.FinMap as map
 use Rattle.std.specs.Io.KnownBytes.{Appends}
@@ -17,7 +18,11 @@ use Rattle.commands.specs.Files.{FileRole, Conf, Request, Wanted, Script, Other,
 use Rattle.commands.specs.Layers.{ReadsFound, IsFileRefused}
 use Rattle.commands.specs.Messages.{IsInputMessage, IsInputRefused, any_message, one_request}
 use Rattle.commands.specs.MessageFiles.{IsMessageFile, IsMessageFileRefused, IsTaken, IsMessageIn, IsTextRefused}
+use Rattle.commands.specs.Scripts.{IsScripted, IsScriptRefused}
 use Rattle.commands.specs.Tables.{HasTables, IsTableMissing}
+use Rattle.rewrite_script.specs.Lines.{is_writable}
+use Rattle.rewrite_script.specs.declared.rewrite.Rewrite.{Rewrite}
+use Rattle.hms.proofs.CommandLaws.{writable_where_scripted}
 use Rattle.commands.specs.declared.message.Reading.{Reading}
 use Rattle.commands.specs.declared.tables.Needs.{Needs}
 use Rattle.refusals.specs.Laws.{IsOfRefusal}
@@ -26,12 +31,12 @@ use Rattle.refusals.proofs.Statuses.{status_of_refusal}
 use Rattle.commands.specs.Outcome.{status_of, output_of}
 use Rattle.hms.specs.Commands.{InputUse, Unread, Whole, input_use, name_of, AreFoundFor}
 use Rattle.hms.specs.Ends.{HasInput, HasOutcome, Leaves, HasReport, AppendsPrefix, Ends, CountsFaults, CountsReads}
-use Rattle.hms.specs.Report.{Answers, ReportsMessage, ReportsWishes, ReportsRequest, ReportsFiles, ReportsCommand}
+use Rattle.hms.specs.Report.{Answers, ReportsMessage, ReportsScript, ReportsWishes, ReportsRequest, ReportsFiles, ReportsCommand}
 use Rattle.refusals.specs.declared.refusal.Refusal.{Refusal}
 use Rattle.refusals.specs.declared.file.FileRefusal.{FileRefusal}
 use Rattle.refusals.specs.declared.refusal.TheConstants.{MAX_INPUT_BYTES}
 use Rattle.refusals.specs.declared.role.Role.{Role}
-use Rattle.refusals.specs.declared.role.Role.TheVariants.{Conf as OfConf, Request as OfRequest, Wanted as OfWanted}
+use Rattle.refusals.specs.declared.role.Role.TheVariants.{Conf as OfConf, Request as OfRequest, Wanted as OfWanted, Script as OfScript}
 use Rattle.refusals.specs.declared.refusal.Refusal.TheVariants.{Arguments, Of}
 use Rattle.commands.specs.declared.outcome.Outcome.{Outcome}
 use Rattle.commands.specs.declared.outcome.Outcome.TheVariants.{Done, NotOk, Refused}
@@ -54,21 +59,21 @@ none_found : (arguments : List (List ℕ)) (shelf : Option FileMap) → NoComman
 none_found arguments shelf none command is = absurd (none command is)
 
 -- nor for a command that names no file
-pub nothing_named : (shelf : Option FileMap) → AreFound shelf (file_names None None None) (λ role. None)
+pub nothing_named : (shelf : Option FileMap) → AreFound shelf (file_names None None None None) (λ role. None)
 nothing_named shelf Conf = tt
 nothing_named shelf Request = tt
 nothing_named shelf Wanted = tt
 nothing_named shelf Script = tt
 nothing_named shelf Other = tt
 
--- of a configuration, a request and a message that wishes signatures
-all_found : (shelf : Option FileMap) (conf request wanted conf_text request_text wanted_text : Option (List ℕ)) → IsFound shelf conf conf_text → IsFound shelf request request_text
-    → IsFound shelf wanted wanted_text → AreFound shelf (file_names conf request wanted) (file_names conf_text request_text wanted_text)
-all_found shelf conf request wanted conf_text request_text wanted_text is also other Conf = is
-all_found shelf conf request wanted conf_text request_text wanted_text is also other Request = also
-all_found shelf conf request wanted conf_text request_text wanted_text is also other Wanted = other
-all_found shelf conf request wanted conf_text request_text wanted_text is also other Script = tt
-all_found shelf conf request wanted conf_text request_text wanted_text is also other Other = tt
+-- of a configuration, a request, a message that wishes signatures and a script
+all_found : (shelf : Option FileMap) (conf request wanted script conf_text request_text wanted_text script_text : Option (List ℕ)) → IsFound shelf conf conf_text → IsFound shelf request request_text
+    → IsFound shelf wanted wanted_text → IsFound shelf script script_text → AreFound shelf (file_names conf request wanted script) (file_names conf_text request_text wanted_text script_text)
+all_found shelf conf request wanted script conf_text request_text wanted_text script_text is also other last Conf = is
+all_found shelf conf request wanted script conf_text request_text wanted_text script_text is also other last Request = also
+all_found shelf conf request wanted script conf_text request_text wanted_text script_text is also other last Wanted = other
+all_found shelf conf request wanted script conf_text request_text wanted_text script_text is also other last Script = last
+all_found shelf conf request wanted script conf_text request_text wanted_text script_text is also other last Other = tt
 
 -- what is there under a name that isn't asked for
 some_found : (shelf : Option FileMap) (name : Option (List ℕ)) → (text : Option (List ℕ)) × IsFound shelf name text
@@ -196,6 +201,9 @@ request_early limit Same before now cause same = same
 wanted_early : IsEarly OfWanted
 wanted_early limit Same before now cause same = same
 
+script_early : IsEarly OfScript
+script_early limit Same before now cause same = same
+
 module _ (shelf : Option FileMap) (Same : Type 0) (before now : Option (List ℕ)) where
   -- a run that comes to an outcome with the files of these names
   abbrev pub HasFilesOutcome : (Found → List ℕ → Outcome → Type 0) → FileNames → Outcome → Type 0
@@ -217,11 +225,47 @@ module _ (shelf : Option FileMap) (Same : Type 0) (before now : Option (List ℕ
         };
       }
 
+-- ---- the script
+
+-- lines can write a script that is read
+pub script_writable : (shelf : Option FileMap) (name : Option (List ℕ)) (script : List Rewrite) → HasFound shelf name (λ found. IsScripted name found script) → IsTrue (list_all is_writable script)
+script_writable shelf name script has = writable_where_scripted name has.found script has.holds
+
+module _ (Then : Answers) (conf : Configuration) (related wishes : Option Message) (name : Option (List ℕ)) (shelf : Option FileMap) (Same : Type 0) (before now : Option (List ℕ)) where
+  abbrev pub HasScriptOutcome : Outcome → Type 0
+  HasScriptOutcome = HasFilesOutcome shelf Same before now (ReportsScript Then conf related wishes (file_names None None None name)) (file_names None None None name)
+
+  -- a stop while its file is read
+  pub script_stopped : (stop : Stop) → Same → IfStopped stop (λ refusal. HasFound shelf name (λ found. IsRefusalFor (IsScriptRefused name found) (λ cause. Of OfScript cause) refusal))
+      → IfOutcome (Err stop) HasScriptOutcome
+  script_stopped Memory same has = tt
+  script_stopped ReadFailed same has = tt
+  script_stopped (IsRefused refusal) same has =
+      let names = file_names None None None name in
+      let cause = has.holds in
+      refused_early shelf Same before now (ReportsScript Then conf related wishes names) names OfScript (file_names None None None has.found) cause.0 refusal script_early
+      (all_found shelf None None None name None None None has.found tt tt tt has.known) same cause.2 (λ input. inr (cause.0, cause.1, refl))
+
+  -- what comes after it
+  pub script_read : (script : List Rewrite) (result : Result Outcome Stop) → HasFound shelf name (λ found. IsScripted name found script)
+      → IfOutcome result (HasInput (ReportsMessage (Then conf wishes script) conf related) (LeavesInput Same before now) before) → IfOutcome result HasScriptOutcome
+  script_read script result has =
+      went_on (λ outcome reported. record {
+        found = file_names None None None has.found;
+        files = all_found shelf None None None name None None None has.found tt tt tt has.known;
+        holds = record {
+          input = reported.input;
+          known = reported.known;
+          reports = inl (script, has.holds, reported.reports);
+          leaves = reported.leaves;
+        };
+      }) result
+
 -- ---- the message that wishes signatures
 
-module _ (Then : Answers) (conf : Configuration) (related : Option Message) (name : Option (List ℕ)) (shelf : Option FileMap) (Same : Type 0) (before now : Option (List ℕ)) where
+module _ (Then : Answers) (conf : Configuration) (related : Option Message) (name script : Option (List ℕ)) (shelf : Option FileMap) (Same : Type 0) (before now : Option (List ℕ)) where
   abbrev pub HasWishesOutcome : Outcome → Type 0
-  HasWishesOutcome = HasFilesOutcome shelf Same before now (ReportsWishes Then conf related (file_names None None name)) (file_names None None name)
+  HasWishesOutcome = HasFilesOutcome shelf Same before now (ReportsWishes Then conf related (file_names None None name script)) (file_names None None name script)
 
   -- a stop while its file is taken and read
   pub wishes_stopped : (stop : Stop) → Same → IfStopped stop (λ refusal. HasFound shelf name (λ found. IsRefusalFor (IsMessageFileRefused any_message name found) (λ cause. Of OfWanted cause) refusal))
@@ -229,31 +273,33 @@ module _ (Then : Answers) (conf : Configuration) (related : Option Message) (nam
   wishes_stopped Memory same has = tt
   wishes_stopped ReadFailed same has = tt
   wishes_stopped (IsRefused refusal) same has =
-      let names = file_names None None name in
+      let names = file_names None None name script in
+      let other = some_found shelf script in
       let cause = has.holds in
-      refused_early shelf Same before now (ReportsWishes Then conf related names) names OfWanted (file_names None None has.found) cause.0 refusal wanted_early
-      (all_found shelf None None name None None has.found tt tt has.known) same cause.2 (λ input. inr (cause.0, cause.1, refl))
+      refused_early shelf Same before now (ReportsWishes Then conf related names) names OfWanted (file_names None None has.found other.0) cause.0 refusal wanted_early
+      (all_found shelf None None name script None None has.found other.0 tt tt has.known other.1) same cause.2 (λ input. inr (cause.0, cause.1, refl))
 
-  -- what comes after it
-  pub wishes_read : (text : Option (List ℕ)) (wishes : Option Message) (result : Result Outcome Stop) → HasFound shelf name (λ found. IsTaken name found text) → IsMessageIn any_message text wishes
-      → IfOutcome result (HasInput (ReportsMessage (Then conf wishes) conf related) (LeavesInput Same before now) before) → IfOutcome result HasWishesOutcome
-  wishes_read text wishes result has is =
+  -- what comes after it, of a shelf that keeps its files
+  pub wishes_read : (text : Option (List ℕ)) (wishes : Option Message) (later : Option FileMap) (result : Result Outcome Stop) → HasFound shelf name (λ found. IsTaken name found text)
+      → IsMessageIn any_message text wishes → KeepsFiles shelf later → IfOutcome result (HasScriptOutcome Then conf related wishes script later Same before now) → IfOutcome result HasWishesOutcome
+  wishes_read text wishes later result has is keeps =
       went_on (λ outcome reported. record {
-        found = file_names None None has.found;
-        files = all_found shelf None None name None None has.found tt tt has.known;
+        found = file_names None None has.found (reported.found Script);
+        files = all_found shelf None None name script None None has.found (reported.found Script) tt tt has.known
+            (found_before shelf later script (reported.found Script) keeps (reported.files Script));
         holds = record {
-          input = reported.input;
-          known = reported.known;
-          reports = inl (wishes, file_read any_message name has.found text wishes has.holds is, reported.reports);
-          leaves = reported.leaves;
+          input = reported.holds.input;
+          known = reported.holds.known;
+          reports = inl (wishes, file_read any_message name has.found text wishes has.holds is, reported.holds.reports);
+          leaves = reported.holds.leaves;
         };
       }) result
 
 -- ---- the request
 
-module _ (Then : Answers) (conf : Configuration) (name wanted : Option (List ℕ)) (shelf : Option FileMap) (Same : Type 0) (before now : Option (List ℕ)) where
+module _ (Then : Answers) (conf : Configuration) (name wanted script : Option (List ℕ)) (shelf : Option FileMap) (Same : Type 0) (before now : Option (List ℕ)) where
   abbrev pub HasRequestOutcome : Outcome → Type 0
-  HasRequestOutcome = HasFilesOutcome shelf Same before now (ReportsRequest Then conf (file_names None name wanted)) (file_names None name wanted)
+  HasRequestOutcome = HasFilesOutcome shelf Same before now (ReportsRequest Then conf (file_names None name wanted script)) (file_names None name wanted script)
 
   -- a stop while its file is taken and read
   pub request_stopped : (stop : Stop) → Same → IfStopped stop (λ refusal. HasFound shelf name (λ found. IsRefusalFor (IsMessageFileRefused one_request name found) (λ cause. Of OfRequest cause) refusal))
@@ -261,20 +307,22 @@ module _ (Then : Answers) (conf : Configuration) (name wanted : Option (List ℕ
   request_stopped Memory same has = tt
   request_stopped ReadFailed same has = tt
   request_stopped (IsRefused refusal) same has =
-      let names = file_names None name wanted in
+      let names = file_names None name wanted script in
       let other = some_found shelf wanted in
+      let last = some_found shelf script in
       let cause = has.holds in
-      refused_early shelf Same before now (ReportsRequest Then conf names) names OfRequest (file_names None has.found other.0) cause.0 refusal request_early
-      (all_found shelf None name wanted None has.found other.0 tt has.known other.1) same cause.2 (λ input. inr (cause.0, cause.1, refl))
+      refused_early shelf Same before now (ReportsRequest Then conf names) names OfRequest (file_names None has.found other.0 last.0) cause.0 refusal request_early
+      (all_found shelf None name wanted script None has.found other.0 last.0 tt has.known other.1 last.1) same cause.2 (λ input. inr (cause.0, cause.1, refl))
 
   -- what comes after it, of a shelf that keeps its files
   pub request_read : (text : Option (List ℕ)) (related : Option Message) (later : Option FileMap) (result : Result Outcome Stop) → HasFound shelf name (λ found. IsTaken name found text)
-      → IsMessageIn one_request text related → KeepsFiles shelf later → IfOutcome result (HasWishesOutcome Then conf related wanted later Same before now) → IfOutcome result HasRequestOutcome
+      → IsMessageIn one_request text related → KeepsFiles shelf later → IfOutcome result (HasWishesOutcome Then conf related wanted script later Same before now) → IfOutcome result HasRequestOutcome
   request_read text related later result has is keeps =
       went_on (λ outcome reported. record {
-        found = file_names None has.found (reported.found Wanted);
-        files = all_found shelf None name wanted None has.found (reported.found Wanted) tt has.known
-            (found_before shelf later wanted (reported.found Wanted) keeps (reported.files Wanted));
+        found = file_names None has.found (reported.found Wanted) (reported.found Script);
+        files = all_found shelf None name wanted script None has.found (reported.found Wanted) (reported.found Script) tt has.known
+            (found_before shelf later wanted (reported.found Wanted) keeps (reported.files Wanted))
+            (found_before shelf later script (reported.found Script) keeps (reported.files Script));
         holds = record {
           input = reported.holds.input;
           known = reported.holds.known;
@@ -285,9 +333,21 @@ module _ (Then : Answers) (conf : Configuration) (name wanted : Option (List ℕ
 
 -- ---- the configuration
 
-module _ (needs : Needs) (Then : Answers) (name request wanted : Option (List ℕ)) (shelf : Option FileMap) (Same : Type 0) (before now : Option (List ℕ)) where
+module _ (needs : Needs) (Then : Answers) (name request wanted script : Option (List ℕ)) (shelf : Option FileMap) (Same : Type 0) (before now : Option (List ℕ)) where
   abbrev pub HasConfOutcome : Outcome → Type 0
-  HasConfOutcome = HasFilesOutcome shelf Same before now (ReportsFiles needs Then (file_names name request wanted)) (file_names name request wanted)
+  HasConfOutcome = HasFilesOutcome shelf Same before now (ReportsFiles needs Then (file_names name request wanted script)) (file_names name request wanted script)
+
+  -- one that is refused, whatever is there under the other names
+  refused_by_conf : (found : Option (List ℕ)) (cause : FileRefusal) (refusal : Refusal) → IsFound shelf name found → Same → refusal ≡ Of OfConf cause
+      → ((others : Found) → others Conf ≡ found → (input : List ℕ) → ReportsFiles needs Then (file_names name request wanted script) others input (Refused (Of OfConf cause))) → HasConfOutcome (Refused refusal)
+  refused_by_conf found cause refusal known same is reports =
+      let names = file_names name request wanted script in
+      let one = some_found shelf request in
+      let other = some_found shelf wanted in
+      let last = some_found shelf script in
+      let others = file_names found one.0 other.0 last.0 in
+      refused_early shelf Same before now (ReportsFiles needs Then names) names OfConf others cause refusal conf_early
+      (all_found shelf name request wanted script found one.0 other.0 last.0 known one.1 other.1 last.1) same is (reports others refl)
 
   -- a stop while the configuration is read
   pub conf_stopped : (stop : Stop) → Same → IfStopped stop (λ refusal. HasFound shelf name (λ found. IsRefusalFor (IsConfRefused name found) (λ cause. Of OfConf cause) refusal))
@@ -295,12 +355,9 @@ module _ (needs : Needs) (Then : Answers) (name request wanted : Option (List �
   conf_stopped Memory same has = tt
   conf_stopped ReadFailed same has = tt
   conf_stopped (IsRefused refusal) same has =
-      let names = file_names name request wanted in
-      let one = some_found shelf request in
-      let other = some_found shelf wanted in
       let cause = has.holds in
-      refused_early shelf Same before now (ReportsFiles needs Then names) names OfConf (file_names has.found one.0 other.0) cause.0 refusal conf_early
-      (all_found shelf name request wanted has.found one.0 other.0 has.known one.1 other.1) same cause.2 (λ input. inr (cause.0, cause.1, refl))
+      refused_by_conf has.found cause.0 refusal has.known same cause.2
+      (λ others is input. inr (cause.0, subst (λ (f : Option (List ℕ)). IsConfRefused name f cause.0) (sym is) cause.1, refl))
 
   -- one because it lacks a table
   pub table_stopped : (conf : Configuration) (stop : Stop) → Same → HasFound shelf name (λ found. IsConfigured name found conf)
@@ -308,21 +365,19 @@ module _ (needs : Needs) (Then : Answers) (name request wanted : Option (List �
   table_stopped conf Memory same has is = tt
   table_stopped conf ReadFailed same has is = tt
   table_stopped conf (IsRefused refusal) same has is =
-      let names = file_names name request wanted in
-      let one = some_found shelf request in
-      let other = some_found shelf wanted in
-      refused_early shelf Same before now (ReportsFiles needs Then names) names OfConf (file_names has.found one.0 other.0) is.0 refusal conf_early
-      (all_found shelf name request wanted has.found one.0 other.0 has.known one.1 other.1) same is.2 (λ input. inl (conf, has.holds, inr (is.0, is.1, refl)))
+      refused_by_conf has.found is.0 refusal has.known same is.2
+      (λ others there input. inl (conf, subst (λ (f : Option (List ℕ)). IsConfigured name f conf) (sym there) has.holds, inr (is.0, is.1, refl)))
 
   -- what comes after it, of a shelf that keeps its files
   pub conf_read : (conf : Configuration) (later : Option FileMap) (result : Result Outcome Stop) → HasFound shelf name (λ found. IsConfigured name found conf) → HasTables needs conf → KeepsFiles shelf later
-      → IfOutcome result (HasRequestOutcome Then conf request wanted later Same before now) → IfOutcome result HasConfOutcome
+      → IfOutcome result (HasRequestOutcome Then conf request wanted script later Same before now) → IfOutcome result HasConfOutcome
   conf_read conf later result has tables keeps =
       went_on (λ outcome reported. record {
-        found = file_names has.found (reported.found Request) (reported.found Wanted);
-        files = all_found shelf name request wanted has.found (reported.found Request) (reported.found Wanted) has.known
+        found = file_names has.found (reported.found Request) (reported.found Wanted) (reported.found Script);
+        files = all_found shelf name request wanted script has.found (reported.found Request) (reported.found Wanted) (reported.found Script) has.known
             (found_before shelf later request (reported.found Request) keeps (reported.files Request))
-            (found_before shelf later wanted (reported.found Wanted) keeps (reported.files Wanted));
+            (found_before shelf later wanted (reported.found Wanted) keeps (reported.files Wanted))
+            (found_before shelf later script (reported.found Script) keeps (reported.files Script));
         holds = record {
           input = reported.holds.input;
           known = reported.holds.known;
@@ -342,79 +397,124 @@ abbrev count_of : {X : Type 0} → Option X → ℕ
 count_of None = 0
 count_of (Some x) = 1
 
-files_counted : {X : Type 0} (f : X → List ℕ) (conf request wanted : Option X)
-    → file_count (file_names (option_map f conf) (option_map f request) (option_map f wanted)) ≡ count_of conf + (count_of request + count_of wanted)
-files_counted f None None None = refl
-files_counted f None None (Some z) = refl
-files_counted f None (Some y) None = refl
-files_counted f None (Some y) (Some z) = refl
-files_counted f (Some x) None None = refl
-files_counted f (Some x) None (Some z) = refl
-files_counted f (Some x) (Some y) None = refl
-files_counted f (Some x) (Some y) (Some z) = refl
+files_counted : {X : Type 0} (f : X → List ℕ) (conf request wanted script : Option X)
+    → file_count (file_names (option_map f conf) (option_map f request) (option_map f wanted) (option_map f script)) ≡ count_of conf + (count_of request + (count_of wanted + count_of script))
+files_counted f None None None None = refl
+files_counted f None None None (Some s) = refl
+files_counted f None None (Some z) None = refl
+files_counted f None None (Some z) (Some s) = refl
+files_counted f None (Some y) None None = refl
+files_counted f None (Some y) None (Some s) = refl
+files_counted f None (Some y) (Some z) None = refl
+files_counted f None (Some y) (Some z) (Some s) = refl
+files_counted f (Some x) None None None = refl
+files_counted f (Some x) None None (Some s) = refl
+files_counted f (Some x) None (Some z) None = refl
+files_counted f (Some x) None (Some z) (Some s) = refl
+files_counted f (Some x) (Some y) None None = refl
+files_counted f (Some x) (Some y) None (Some s) = refl
+files_counted f (Some x) (Some y) (Some z) None = refl
+files_counted f (Some x) (Some y) (Some z) (Some s) = refl
 
 one_counted : {X S : Type 0} (asked : S → ℕ) (name : Option X) (before now : S) → IfNone name (now ≡ before) → asked now ≤ asked before + 1 → asked now ≤ asked before + count_of name
 one_counted asked None before now same one = omega (arith, ap asked same)
 one_counted asked (Some x) before now same one = one
 
--- of a request, and of what is asked for after it
-pub request_asked : {X S : Type 0} (asked : S → ℕ) (f : X → List ℕ) (request wanted : Option X) (before middle now : S)
-    → IfNone request (middle ≡ before) → asked middle ≤ asked before + 1 → IfNone wanted (now ≡ middle) → asked now ≤ asked middle + 1
-    → asked now ≤ asked before + file_count (file_names None (option_map f request) (option_map f wanted))
-request_asked {X} asked f request wanted before middle now same one also other =
-    let first = one_counted asked request before middle same one in
-    let second = one_counted asked wanted middle now also other in
+-- of a message that wishes signatures, and of the script that is asked for after it
+pub wishes_asked : {X S : Type 0} (asked : S → ℕ) (f : X → List ℕ) (wanted script : Option X) (before middle now : S)
+    → IfNone wanted (middle ≡ before) → asked middle ≤ asked before + 1 → IfNone script (now ≡ middle) → asked now ≤ asked middle + 1
+    → asked now ≤ asked before + file_count (file_names None None (option_map f wanted) (option_map f script))
+wishes_asked {X} asked f wanted script before middle now same one also other =
+    let first = one_counted asked wanted before middle same one in
+    let second = one_counted asked script middle now also other in
     let none : Option X = None in
-    omega (arith, first, second, files_counted f none request wanted)
+    omega (arith, first, second, files_counted f none none wanted script)
 
 -- where nothing comes after it
-pub request_asked_alone : {X S : Type 0} (asked : S → ℕ) (f : X → List ℕ) (request wanted : Option X) (before now : S) → IfNone request (now ≡ before) → asked now ≤ asked before + 1
-    → asked now ≤ asked before + file_count (file_names None (option_map f request) (option_map f wanted))
-request_asked_alone {X} asked f request wanted before now same one =
+pub wishes_asked_alone : {X S : Type 0} (asked : S → ℕ) (f : X → List ℕ) (wanted script : Option X) (before now : S) → IfNone wanted (now ≡ before) → asked now ≤ asked before + 1
+    → asked now ≤ asked before + file_count (file_names None None (option_map f wanted) (option_map f script))
+wishes_asked_alone {X} asked f wanted script before now same one =
+    let first = one_counted asked wanted before now same one in
+    let none : Option X = None in
+    omega (arith, first, files_counted f none none wanted script)
+
+-- of a request, and of what is asked for after it
+pub request_asked : {X S : Type 0} (asked : S → ℕ) (f : X → List ℕ) (request wanted script : Option X) (before middle now : S)
+    → IfNone request (middle ≡ before) → asked middle ≤ asked before + 1 → asked now ≤ asked middle + file_count (file_names None None (option_map f wanted) (option_map f script))
+    → asked now ≤ asked before + file_count (file_names None (option_map f request) (option_map f wanted) (option_map f script))
+request_asked {X} asked f request wanted script before middle now same one others =
+    let first = one_counted asked request before middle same one in
+    let none : Option X = None in
+    omega (arith, first, others, files_counted f none none wanted script, files_counted f none request wanted script)
+
+-- where nothing comes after it
+pub request_asked_alone : {X S : Type 0} (asked : S → ℕ) (f : X → List ℕ) (request wanted script : Option X) (before now : S) → IfNone request (now ≡ before) → asked now ≤ asked before + 1
+    → asked now ≤ asked before + file_count (file_names None (option_map f request) (option_map f wanted) (option_map f script))
+request_asked_alone {X} asked f request wanted script before now same one =
     let first = one_counted asked request before now same one in
     let none : Option X = None in
-    omega (arith, first, files_counted f none request wanted)
+    omega (arith, first, files_counted f none request wanted script)
 
 -- of a configuration, and of what is asked for after it
-pub conf_asked : {X S : Type 0} (asked : S → ℕ) (f : X → List ℕ) (conf request wanted : Option X) (before middle now : S)
-    → IfNone conf (middle ≡ before) → asked middle ≤ asked before + 1 → asked now ≤ asked middle + file_count (file_names None (option_map f request) (option_map f wanted))
-    → asked now ≤ asked before + file_count (file_names (option_map f conf) (option_map f request) (option_map f wanted))
-conf_asked {X} asked f conf request wanted before middle now same one others =
+pub conf_asked : {X S : Type 0} (asked : S → ℕ) (f : X → List ℕ) (conf request wanted script : Option X) (before middle now : S)
+    → IfNone conf (middle ≡ before) → asked middle ≤ asked before + 1 → asked now ≤ asked middle + file_count (file_names None (option_map f request) (option_map f wanted) (option_map f script))
+    → asked now ≤ asked before + file_count (file_names (option_map f conf) (option_map f request) (option_map f wanted) (option_map f script))
+conf_asked {X} asked f conf request wanted script before middle now same one others =
     let first = one_counted asked conf before middle same one in
     let none : Option X = None in
-    omega (arith, first, others, files_counted f none request wanted, files_counted f conf request wanted)
+    omega (arith, first, others, files_counted f none request wanted script, files_counted f conf request wanted script)
 
 -- where nothing comes after it
-pub conf_asked_alone : {X S : Type 0} (asked : S → ℕ) (f : X → List ℕ) (conf request wanted : Option X) (before now : S) → IfNone conf (now ≡ before) → asked now ≤ asked before + 1
-    → asked now ≤ asked before + file_count (file_names (option_map f conf) (option_map f request) (option_map f wanted))
-conf_asked_alone asked f conf request wanted before now same one =
+pub conf_asked_alone : {X S : Type 0} (asked : S → ℕ) (f : X → List ℕ) (conf request wanted script : Option X) (before now : S) → IfNone conf (now ≡ before) → asked now ≤ asked before + 1
+    → asked now ≤ asked before + file_count (file_names (option_map f conf) (option_map f request) (option_map f wanted) (option_map f script))
+conf_asked_alone asked f conf request wanted script before now same one =
     let first = one_counted asked conf before now same one in
-    omega (arith, first, files_counted f conf request wanted)
+    omega (arith, first, files_counted f conf request wanted script)
 
--- nothing is asked for where no file is named
-pub both_unasked : {X S : Type 0} (request wanted : Option X) (before middle now : S) → IfNone request (middle ≡ before) → IfNone wanted (now ≡ middle)
-    → IfNone request (IfNone wanted (now ≡ before))
-both_unasked None None before middle now same also = also ∙ same
-both_unasked None (Some y) before middle now same also = tt
-both_unasked (Some x) wanted before middle now same also = tt
+-- ---- nothing is asked for where no file is named
 
-pub one_unasked : {X S : Type 0} (request wanted : Option X) (before now : S) → IfNone request (now ≡ before) → IfNone request (IfNone wanted (now ≡ before))
-one_unasked None None before now same = same
-one_unasked None (Some y) before now same = tt
-one_unasked (Some x) wanted before now same = tt
+-- two states that are the same where names are missing
+pub then_unasked : {X S : Type 0} (name : Option X) (before middle now : S) (Rest : Type 0 → Type 0) → ((P Q : Type 0) → (P → Q) → Rest P → Rest Q)
+    → IfNone name (middle ≡ before) → Rest (now ≡ middle) → IfNone name (Rest (now ≡ before))
+then_unasked None before middle now Rest more same also = more (now ≡ middle) (now ≡ before) (λ e. e ∙ same) also
+then_unasked (Some x) before middle now Rest more same also = tt
 
-pub all_unasked : {X S : Type 0} (conf request wanted : Option X) (before middle now : S) → IfNone conf (middle ≡ before) → IfNone request (IfNone wanted (now ≡ middle))
-    → IfNone conf (IfNone request (IfNone wanted (now ≡ before)))
-all_unasked None None None before middle now same also = also ∙ same
-all_unasked None None (Some z) before middle now same also = tt
-all_unasked None (Some y) wanted before middle now same also = tt
-all_unasked (Some x) request wanted before middle now same also = tt
+pub if_none : {X : Type 0} (name : Option X) (P Q : Type 0) → (P → Q) → IfNone name P → IfNone name Q
+if_none None P Q f p = f p
+if_none (Some x) P Q f p = p
 
-pub conf_unasked : {X S : Type 0} (conf request wanted : Option X) (before now : S) → IfNone conf (now ≡ before) → IfNone conf (IfNone request (IfNone wanted (now ≡ before)))
-conf_unasked None None None before now same = same
-conf_unasked None None (Some z) before now same = tt
-conf_unasked None (Some y) wanted before now same = tt
-conf_unasked (Some x) request wanted before now same = tt
+-- what holds holds where a name is missing
+pub or_named : {X : Type 0} (name : Option X) (P : Type 0) → P → IfNone name P
+or_named None P p = p
+or_named (Some x) P p = tt
+
+pub both_unasked : {X S : Type 0} (wanted script : Option X) (before middle now : S) → IfNone wanted (middle ≡ before) → IfNone script (now ≡ middle)
+    → IfNone wanted (IfNone script (now ≡ before))
+both_unasked wanted script before middle now same also = then_unasked wanted before middle now (λ P. IfNone script P) (if_none script) same also
+
+pub one_unasked : {X S : Type 0} (wanted script : Option X) (before now : S) → IfNone wanted (now ≡ before) → IfNone wanted (IfNone script (now ≡ before))
+one_unasked wanted script before now same = if_none wanted (now ≡ before) (IfNone script (now ≡ before)) (or_named script (now ≡ before)) same
+
+pub request_unasked : {X S : Type 0} (request wanted script : Option X) (before middle now : S) → IfNone request (middle ≡ before) → IfNone wanted (IfNone script (now ≡ middle))
+    → IfNone request (IfNone wanted (IfNone script (now ≡ before)))
+request_unasked request wanted script before middle now same also =
+    then_unasked request before middle now (λ P. IfNone wanted (IfNone script P)) (λ P Q f. if_none wanted (IfNone script P) (IfNone script Q) (if_none script P Q f)) same also
+
+pub request_unasked_alone : {X S : Type 0} (request wanted script : Option X) (before now : S) → IfNone request (now ≡ before) → IfNone request (IfNone wanted (IfNone script (now ≡ before)))
+request_unasked_alone request wanted script before now same =
+    if_none request (now ≡ before) (IfNone wanted (IfNone script (now ≡ before))) (λ e. or_named wanted (IfNone script (now ≡ before)) (or_named script (now ≡ before) e)) same
+
+pub all_unasked : {X S : Type 0} (conf request wanted script : Option X) (before middle now : S) → IfNone conf (middle ≡ before) → IfNone request (IfNone wanted (IfNone script (now ≡ middle)))
+    → IfNone conf (IfNone request (IfNone wanted (IfNone script (now ≡ before))))
+all_unasked conf request wanted script before middle now same also =
+    then_unasked conf before middle now (λ P. IfNone request (IfNone wanted (IfNone script P)))
+    (λ P Q f. if_none request (IfNone wanted (IfNone script P)) (IfNone wanted (IfNone script Q)) (if_none wanted (IfNone script P) (IfNone script Q) (if_none script P Q f))) same also
+
+pub conf_unasked : {X S : Type 0} (conf request wanted script : Option X) (before now : S) → IfNone conf (now ≡ before)
+    → IfNone conf (IfNone request (IfNone wanted (IfNone script (now ≡ before))))
+conf_unasked conf request wanted script before now same =
+    if_none conf (now ≡ before) (IfNone request (IfNone wanted (IfNone script (now ≡ before))))
+    (λ e. or_named request (IfNone wanted (IfNone script (now ≡ before))) (or_named wanted (IfNone script (now ≡ before)) (or_named script (now ≡ before) e))) same
 
 -- where a file isn't named, nothing is asked of the shelf for it
 pub none_named : {X : Type 0} (f : X → List ℕ) (name : Option X) (P : Type 0) → option_map f name ≡ None → IfNone name P → P

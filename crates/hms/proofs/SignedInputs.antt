@@ -26,7 +26,7 @@ use Rattle.verdicts.specs.declared.outcome.Verdict.TheVariants.{Ok as Accepted, 
 use Rattle.verdicts.proofs.RightlySigned.{holds_rules_of_signing}
 use Rattle.commands.specs.Configured.{IsConfigured}
 use Rattle.commands.specs.Contexts.{context_for}
-use Rattle.commands.specs.Files.{Found, Conf as ConfFile, Request as RequestFile, Wanted as WantedFile}
+use Rattle.commands.specs.Files.{Found, Conf as ConfFile, Request as RequestFile, Wanted as WantedFile, Script as ScriptFile}
 use Rattle.settings.specs.Valid.{IsValid}
 use Rattle.commands.specs.Layers.{ReadsThen, IsDecisive}
 use Rattle.commands.specs.Messages.{IsInputMessage, reading_for}
@@ -39,13 +39,13 @@ use Rattle.commands.specs.declared.outcome.Outcome.TheVariants.{Done}
 use Rattle.commands.specs.declared.tables.Needs.TheVariants.{Nothing}
 use Rattle.refusals.specs.declared.refusal.Refusal.{Refusal}
 use Rattle.refusals.specs.declared.refusal.Refusal.TheVariants.{Of}
-use Rattle.refusals.specs.declared.role.Role.TheVariants.{Conf as OfConf, Request as OfRequest, Wanted as OfWanted, Input as OfInput}
+use Rattle.refusals.specs.declared.role.Role.TheVariants.{Conf as OfConf, Request as OfRequest, Wanted as OfWanted, Script as OfScript, Input as OfInput}
 use Rattle.refusals.specs.declared.refusal.TheConstants.{MAX_INPUT_BYTES}
 use Rattle.hms.specs.Commands.{name_of}
 use Rattle.hms.specs.Laws.{IsAcceptedWhereSigned, IsOkOrPolicy, SignsLast, VerifiesSigned}
-use Rattle.hms.specs.Report.{Answers, Reports, ReportsCommand, ReportsMessage, ReportsRequest, ReportsTables, ReportsWishes}
+use Rattle.hms.specs.Report.{Answers, Reports, ReportsCommand, ReportsMessage, ReportsRequest, ReportsScript, ReportsTables, ReportsWishes}
 use Rattle.hms.proofs.Sources.{spelled_input}
-use Rattle.hms.proofs.CommandLaws.{conf_decided, tables_decided, request_decided, wanted_decided, input_decided, valid_where_configured, message_where_signed, right_where_signed}
+use Rattle.hms.proofs.CommandLaws.{conf_decided, tables_decided, request_decided, wanted_decided, script_decided, input_decided, valid_where_configured, message_where_signed, right_where_signed}
 
 -- ---- the words of `sign`
 
@@ -86,7 +86,8 @@ of_files words found input written (inl (conf, configured, inr cause)) = absurd 
 of_files words found input written (inl (conf, configured, inl (_, tables, inr cause))) = absurd (cc cause.2)
 of_files words found input written (inl (conf, configured, inl (_, tables, inl (related, requested, inr cause)))) = absurd (cc cause.2)
 of_files words found input written (inl (conf, configured, inl (_, tables, inl (related, requested, inl (wishes, wanted, inr cause))))) = absurd (cc cause.2)
-of_files words found input written (inl (conf, configured, inl (_, tables, inl (related, requested, inl (wishes, wanted, inl (message, is, reports)))))) = record {
+of_files words found input written (inl (conf, configured, inl (_, tables, inl (related, requested, inl (wishes, wanted, inl (script, scripted, inr cause)))))) = absurd (cc cause.2)
+of_files words found input written (inl (conf, configured, inl (_, tables, inl (related, requested, inl (wishes, wanted, inl (script, scripted, inl (message, is, reports))))))) = record {
   conf = conf;
   configured = configured;
   related = related;
@@ -107,7 +108,7 @@ signed_parts arguments words found input written is (inl (command, spells, repor
 
 -- ---- what `verify` reads
 
-to_head_is : (related : Option Message) → (reading_for related).to_head ≡ answers_head related
+pub to_head_is : (related : Option Message) → (reading_for related).to_head ≡ answers_head related
 to_head_is None = refl
 to_head_is (Some request) = refl
 
@@ -122,7 +123,7 @@ input_is related input written message signed is spells start bytes = record {
 }
 
 -- the one label has one verdict
-one_verdict : (conf : Configuration) (moment : ℕ) (context : MessageContext) (label : List ℕ) (verdicts : List Verdict) → AreVerdicts conf moment context (label ∷ []) verdicts
+pub one_verdict : (conf : Configuration) (moment : ℕ) (context : MessageContext) (label : List ℕ) (verdicts : List Verdict) → AreVerdicts conf moment context (label ∷ []) verdicts
     → (verdict : Verdict) × (verdicts ≡ verdict ∷ []) × IsVerdict (verification_for conf moment context label) verdict
 one_verdict conf moment context label [] are = absurd are
 one_verdict conf moment context label (verdict ∷ []) are = (verdict, refl, are.0)
@@ -136,32 +137,33 @@ ok_or_policy v keyid (Failing rule place) signed is = elim (cases_Bool (is_rule_
 ]
 
 -- what comes after the value that a layer has
-then_of : {V C : Type 0} (Reads : V → Type 0) (Causes : C → Type 0) (refusal_of : C → Refusal) (Then : V → Outcome → Type 0) → IsDecisive Reads Causes → (value : V) → Reads value → (outcome : Outcome)
+pub then_of : {V C : Type 0} (Reads : V → Type 0) (Causes : C → Type 0) (refusal_of : C → Refusal) (Then : V → Outcome → Type 0) → IsDecisive Reads Causes → (value : V) → Reads value → (outcome : Outcome)
     → ReadsThen Reads Causes refusal_of Then outcome → Then value outcome
 then_of {V} Reads Causes refusal_of Then d value reads outcome (inl read) = subst (λ (v : V). Then v outcome) (d.value read.0 value read.1 reads) read.2
 then_of Reads Causes refusal_of Then d value reads outcome (inr cause) = absurd (d.either value cause.0 reads cause.1)
 
 -- what `verify` comes to over a message that is read
-verdicts_of : (words : VerifyWords) (found : Found) (input : List ℕ) (outcome : Outcome) (conf : Configuration) (related : Option Message) (message : Message)
+pub verdicts_of : (words : VerifyWords) (found : Found) (input : List ℕ) (outcome : Outcome) (conf : Configuration) (related : Option Message) (message : Message)
     → IsConfigured (Some words.conf) (found ConfFile) conf → IsRequested words.request (found RequestFile) related → IsInputMessage (reading_for related) input message
     → ReportsCommand (Verify words) found input outcome → ReportsVerdicts words.label words.now conf (context_for conf message related) outcome
 verdicts_of words found input outcome conf related message configured requested is reports =
     let names = name_of (Verify words) in
-    let Then : Answers = λ conf wishes. ReportsVerdicts words.label words.now conf in
+    let Then : Answers = λ conf wishes script. ReportsVerdicts words.label words.now conf in
     let tables = then_of _ _ (λ refusal. Of OfConf refusal) (λ c. ReportsTables Nothing Then c names found input) (conf_decided (Some words.conf) (found ConfFile)) conf configured outcome reports in
     let request = then_of _ _ (λ refusal. Of OfConf refusal) (λ (_ : ⊤). ReportsRequest Then conf names found input) (tables_decided Nothing conf) tt tt outcome tables in
     let wishes = then_of _ _ (λ refusal. Of OfRequest refusal) (λ r. ReportsWishes Then conf r names found input) (request_decided words.request (found RequestFile)) related requested outcome request in
-    let over = then_of _ _ (λ refusal. Of OfWanted refusal) (λ w. ReportsMessage (Then conf w) conf related input) (wanted_decided None (found WantedFile)) None refl outcome wishes in
+    let script = then_of _ _ (λ refusal. Of OfWanted refusal) (λ w. ReportsScript Then conf related w names found input) (wanted_decided None (found WantedFile)) None refl outcome wishes in
+    let over = then_of _ _ (λ refusal. Of OfScript refusal) (λ s. ReportsMessage (Then conf None s) conf related input) (script_decided None (found ScriptFile)) [] refl outcome script in
     then_of _ _ (λ refusal. Of OfInput refusal) (λ m. ReportsVerdicts words.label words.now conf (context_for conf m related)) (input_decided (reading_for related) input) message is outcome over
 
-verify_parts : (arguments : List (List ℕ)) (words : VerifyWords) (found : Found) (input : List ℕ) (outcome : Outcome) → IsCommand arguments (Verify words) → Reports arguments found input outcome
+pub verify_parts : (arguments : List (List ℕ)) (words : VerifyWords) (found : Found) (input : List ℕ) (outcome : Outcome) → IsCommand arguments (Verify words) → Reports arguments found input outcome
     → ReportsCommand (Verify words) found input outcome
 verify_parts arguments words found input outcome is (inr cause) = absurd (cause.1 (Verify words) is)
 verify_parts arguments words found input outcome is (inl (command, spells, reports)) =
     subst (λ (c : CommandLine). ReportsCommand c found input outcome) (one_command arguments command (Verify words) spells is) reports
 
 -- the label's verdict is what comes of it
-label_verdict : (asked : Option (List ℕ)) (moment : ℕ) (conf : Configuration) (context : MessageContext) (outcome : Outcome) (label : List ℕ) → asked ≡ Some label
+pub label_verdict : (asked : Option (List ℕ)) (moment : ℕ) (conf : Configuration) (context : MessageContext) (outcome : Outcome) (label : List ℕ) → asked ≡ Some label
     → ReportsVerdicts asked moment conf context outcome
     → (verdict : Verdict) × IsVerdict (verification_for conf moment context label) verdict × (outcome ≡ verdicts_outcome (label ∷ []) (verdict ∷ []))
 label_verdict None moment conf context outcome label is reports = absurd (cc is)

@@ -12,7 +12,9 @@ use Rattle.component_values.specs.Context.{MessageContext, answers_head, context
 use Rattle.conf.specs.Configuration.{Configuration}
 use Rattle.verdicts.specs.declared.outcome.Verdict.{Verdict}
 use Rattle.commands.specs.Messages.{IsInputMessage, IsInputRefused, reading_for}
+use Rattle.commands.specs.Rewrite.{ReportsSteps, ReportsRewriting}
 use Rattle.commands.specs.Sign.{ReportsEach, ReportsSigning}
+use Rattle.rewrite_script.specs.declared.rewrite.Rewrite.{Rewrite}
 use Rattle.signing.specs.declared.spec.SignSpec.{SignSpec}
 use Rattle.commands.specs.Base.{ReportsBase}
 use Rattle.commands.specs.Verify.{is_accepted, verdicts_outcome, ReportsVerdicts}
@@ -26,7 +28,7 @@ use Rattle.refusals.specs.declared.refusal.TheConstants.{MAX_INPUT_BYTES}
 use Rattle.refusals.specs.declared.refusal.Refusal.TheVariants.{Arguments, Of, Command}
 use Rattle.refusals.specs.declared.role.Role.TheVariants.{Conf, Request, Wanted, Script, Input, Item}
 use Rattle.refusals.specs.declared.file.FileRefusal.{FileRefusal}
-use Rattle.refusals.specs.declared.file.FileRefusal.TheVariants.{Missing, TooLong, Message as NoMessage, Conf as NoConf}
+use Rattle.refusals.specs.declared.file.FileRefusal.TheVariants.{Missing, TooLong, Message as NoMessage, Conf as NoConf, Script as NoScript}
 use Rattle.commands.specs.declared.outcome.Outcome.{Outcome}
 use Rattle.commands.specs.declared.outcome.Outcome.TheVariants.{Done, NotOk, Refused}
 use Rattle.commands.specs.declared.stop.Stop.{Stop}
@@ -81,6 +83,7 @@ after_input Same before now none (Refused (Of Input Missing)) after = absurd aft
 after_input Same before now none (Refused (Of Input (TooLong n))) after = absurd after
 after_input Same before now none (Refused (Of Input (NoMessage f))) after = none
 after_input Same before now none (Refused (Of Input (NoConf f))) after = absurd after
+after_input Same before now none (Refused (Of Input (NoScript f))) after = absurd after
 after_input Same before now none (Refused (Of (Item n) r)) after = absurd after
 after_input Same before now none (Refused (Command r)) after = none
 
@@ -113,6 +116,7 @@ none_gone most (Some bytes) now same = (0, omega arith, (omega arith, same))
 after_cause : (reading : Reading) (input : List ℕ) (cause : FileRefusal) → length input ≤ MAX_INPUT_BYTES → IsInputRefused reading input cause → IsAfterInput (Refused (Of Input cause))
 after_cause reading input Missing short is = absurd is
 after_cause reading input (NoConf f) short is = absurd is
+after_cause reading input (NoScript f) short is = absurd is
 after_cause reading input (TooLong n) short is = absurd (omega (arith, short, is.1))
 after_cause reading input (NoMessage f) short is = tt
 
@@ -135,6 +139,7 @@ own_after (Refused (Of Input Missing)) own = absurd own
 own_after (Refused (Of Input (TooLong n))) own = absurd own
 own_after (Refused (Of Input (NoMessage f))) own = absurd own
 own_after (Refused (Of Input (NoConf f))) own = absurd own
+own_after (Refused (Of Input (NoScript f))) own = absurd own
 own_after (Refused (Of (Item n) r)) own = absurd own
 own_after (Refused (Command r)) own = tt
 
@@ -168,6 +173,14 @@ pub own_of_signing : (nonce : Option (List ℕ)) (moment : ℕ) (conf : Configur
 own_of_signing text moment conf None context outcome is = own_of_each (is.spec ∷ []) context outcome is.reports
 own_of_signing text moment conf (Some wishes) context outcome (inl specs) = own_of_each specs.0 context outcome specs.2
 own_of_signing text moment conf (Some wishes) context outcome (inr cause) = subst IsOwn (sym cause.2) tt
+
+own_of_steps : (script : List Rewrite) (label : Option (List ℕ)) (index : ℕ) (context : MessageContext) (outcome : Outcome) → ReportsSteps label index context script outcome → IsOwn outcome
+own_of_steps [] label index context outcome is = subst IsOwn (sym is) tt
+own_of_steps (step ∷ script) label index context outcome (inl taken) = own_of_steps script label (index + 1) (context_with context taken.0) outcome taken.2
+own_of_steps (step ∷ script) label index context outcome (inr cause) = subst IsOwn (sym cause.2) tt
+
+pub own_of_rewriting : (label : Option (List ℕ)) (script : List Rewrite) (context : MessageContext) (outcome : Outcome) → ReportsRewriting label script context outcome → IsOwn outcome
+own_of_rewriting label script context outcome is = own_of_steps script label 0 context outcome is
 
 -- an input is the text of the context's message
 pub spelled_input : (related : Option Message) (input : List ℕ) (message : Message) → IsInputMessage (reading_for related) input message → Spells (answers_head related) message input

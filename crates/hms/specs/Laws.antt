@@ -1,9 +1,9 @@
 -- Laws of what the program answers.
-use Rattle.std.specs.Prelude.{◌≡◌, ◌⊎◌, ⊤, ℕ, IsTrue, IsFalse, List, [], ◌∷◌, Option, Some, None}
+use Rattle.std.specs.Prelude.{◌≡◌, ◌⊎◌, ◌↔◌, ⊤, ℕ, IsTrue, IsFalse, List, [], ◌∷◌, Option, Some, None}
 use Rattle.std.specs.List.{list_all}
 use Rattle.hms_io.specs.declared.status.Status.TheVariants.{Done, NotOk}
 use Rattle.sfv_text.specs.Classes.{is_byte}
-use Rattle.command_line.specs.Command.{CommandLine, Help, Version, Base, Verify, Sign, SignWords, VerifyWords, IsCommand}
+use Rattle.command_line.specs.Command.{CommandLine, Help, Version, Base, Verify, Sign, Rewrite, SignWords, VerifyWords, RewriteWords, IsCommand}
 use Rattle.component_ids.specs.declared.params.SigParams.{SigParams}
 use Rattle.component_values.specs.Context.{MessageContext, context_with}
 use Rattle.component_values.specs.Values.{HaveValues}
@@ -12,11 +12,13 @@ use Rattle.conf.specs.Configuration.{Configuration}
 use Rattle.commands.specs.Configured.{IsConfigured}
 use Rattle.commands.specs.Contexts.{context_for}
 use Rattle.commands.specs.Covered.{ReadsParams}
-use Rattle.commands.specs.Files.{FileNames, Found, FileRole, Conf as ConfFile, Request as RequestFile, Wanted as WantedFile}
+use Rattle.commands.specs.Files.{FileNames, Found, FileRole, Conf as ConfFile, Request as RequestFile, Wanted as WantedFile, Script as ScriptFile}
 use Rattle.commands.specs.Layers.{IsUnrefused}
 use Rattle.commands.specs.Messages.{IsInputMessage, reading_for}
 use Rattle.commands.specs.Outcome.{status_of}
 use Rattle.commands.specs.MessageFiles.{IsRequested, IsWanted, IsOfBytes}
+use Rattle.commands.specs.Rewrite.{IsTaken}
+use Rattle.commands.specs.Scripts.{IsScripted}
 use Rattle.commands.specs.Sign.{AreWishesRefused, IsSignRefused}
 use Rattle.commands.specs.SignedMessages.{IsLastLabel}
 use Rattle.commands.specs.Tables.{HasTables}
@@ -26,6 +28,8 @@ use Rattle.commands.specs.declared.outcome.Outcome.TheVariants.{Done as Written}
 use Rattle.commands.specs.declared.tables.Needs.{Needs}
 use Rattle.commands.specs.declared.tables.Needs.TheVariants.{Nothing, SignTable}
 use Rattle.framing.specs.Framings.{is_request}
+use Rattle.rewrite_script.specs.declared.rewrite.Rewrite.{Rewrite as Rewriting}
+use Rattle.rewrites.specs.Steps.{Steps}
 use Rattle.signing.specs.Asked.{IsSpecOf}
 use Rattle.signing.specs.Signed.{IsSignedMessage}
 use Rattle.signing.specs.Wishes.{AreWished}
@@ -77,11 +81,16 @@ IsSignDone own moment conf (Some wishes) context =
     × IsUnrefused (AreWished conf moment wishes) (AreWishesRefused conf wishes) specs
     × CanSignEach context specs
 
--- the files of these names say a configuration, which has what is needed, a request, and a message
--- that wishes signatures, or the last two aren't named; the input is a message, which answers the
--- request; and over all of them the command can be done
+-- each step of the script can be taken, each on the message that the one before it gave
+abbrev pub IsRewriteDone : Option (List ℕ) → List Rewriting → MessageContext → Type 0
+IsRewriteDone label script context = (after : Message) × Steps (IsTaken label) context script after
+
+-- the files of these names say a configuration, which has what is needed, a request, a message that
+-- wishes signatures, and a script, or the last three aren't named; the input is a message, which
+-- answers the request; and over all of them the command can be done
 pub record IsServed (needs : Needs) (names : FileNames) (found : Found) (input : List ℕ)
-    (IsDone : Configuration → Option Message → MessageContext → Type 0) : Type 0 where
+    (IsDone : Configuration → Option Message → List Rewriting → MessageContext → Type 0)
+    : Type 0 where
   pub conf : Configuration
   pub configured : IsConfigured (names ConfFile) (found ConfFile) conf
   pub tables : HasTables needs conf
@@ -89,20 +98,27 @@ pub record IsServed (needs : Needs) (names : FileNames) (found : Found) (input :
   pub requested : IsRequested (names RequestFile) (found RequestFile) related
   pub wishes : Option Message
   pub wanted : IsWanted (names WantedFile) (found WantedFile) wishes
+  pub script : List Rewriting
+  pub scripted : IsScripted (names ScriptFile) (found ScriptFile) script
   pub message : Message
   pub is : IsInputMessage (reading_for related) input message
-  pub done : IsDone conf wishes (context_for conf message related)
+  pub done : IsDone conf wishes script (context_for conf message related)
 
 -- the command has all that it needs
 abbrev pub HasAll : CommandLine → Found → List ℕ → Type 0
 HasAll Help found input = ⊤
 HasAll Version found input = ⊤
 HasAll (Base words) found input =
-    IsServed Nothing (name_of (Base words)) found input (λ conf wishes. IsBaseDone words.params)
+    IsServed Nothing (name_of (Base words)) found input
+    (λ conf wishes script. IsBaseDone words.params)
 HasAll (Verify words) found input =
-    IsServed Nothing (name_of (Verify words)) found input (λ conf wishes context. ⊤)
+    IsServed Nothing (name_of (Verify words)) found input (λ conf wishes script context. ⊤)
 HasAll (Sign words) found input =
-    IsServed SignTable (name_of (Sign words)) found input (IsSignDone words.nonce words.now)
+    IsServed SignTable (name_of (Sign words)) found input
+    (λ conf wishes script. IsSignDone words.nonce words.now conf wishes)
+HasAll (Rewrite words) found input =
+    IsServed Nothing (name_of (Rewrite words)) found input
+    (λ conf wishes script. IsRewriteDone words.label script)
 
 -- the outcome is what was asked for, and no refusal
 abbrev pub IsAnswered : Outcome → Type 0
@@ -151,3 +167,24 @@ IsAcceptedWhereSigned =
     → Reports verifying found written outcome
     → (verdict : Verdict) × IsOkOrPolicy verdict
     × (outcome ≡ verdicts_outcome (label ∷ []) (verdict ∷ []))
+
+-- ---- what is rewritten
+
+-- `verify` is asked for the label of `rewrite`, with the request of `rewrite`
+pub record VerifiesRewritten (rewritten : RewriteWords) (verified : VerifyWords)
+    (label : List ℕ) : Type 0 where
+  pub label_of : rewritten.label ≡ Some label
+  pub label_is : verified.label ≡ Some label
+  pub request : verified.request ≡ rewritten.request
+
+-- Where `rewrite` is done under a label, `verify` comes to the same for the label over what was
+-- read and over what was written: the same line and status, at each moment and by each
+-- configuration.
+abbrev pub IsVerdictKept : Type 0
+IsVerdictKept =
+    (rewriting verifying : List (List ℕ)) (rewritten : RewriteWords) (verified : VerifyWords)
+    (label : List ℕ) (found other : Found) (input written : List ℕ) (outcome : Outcome)
+    → IsCommand rewriting (Rewrite rewritten) → IsCommand verifying (Verify verified)
+    → VerifiesRewritten rewritten verified label → other RequestFile ≡ found RequestFile
+    → Reports rewriting found input (Written written) → IsTrue (list_all is_byte written)
+    → Reports verifying other input outcome ↔ Reports verifying other written outcome

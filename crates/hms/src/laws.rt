@@ -1,6 +1,6 @@
 //! Laws of what the program answers. Each function does nothing; its contract is the law.
 
-ghost use Rattle.hms.specs.Laws.{HasOneReport, HasSomeReport, IsComplete, IsAcceptedWhereSigned};
+ghost use Rattle.hms.specs.Laws.{HasOneReport, HasSomeReport, IsComplete, IsAcceptedWhereSigned, IsVerdictKept};
 
 /// For given arguments, files and input there is one outcome, and so one status and one output. So
 /// each row of the report is exact: its status and its output come there and nowhere else, out of
@@ -21,4 +21,11 @@ pub fn a_command_that_has_all_is_answered()
 /// moment, nonce, digest and what is covered are judged.
 pub fn what_is_signed_is_accepted()
     ensures { IsAcceptedWhereSigned }
+{}
+
+/// What `rewrite` writes under a label, given to `verify` with the same request, has the line of
+/// the label and the status that the message had that was read, at each moment and by each
+/// configuration.
+pub fn what_is_rewritten_keeps_its_verdict()
+    ensures { IsVerdictKept }
 {}

@@ -1,5 +1,5 @@
-//! `hms`: signature bases of recorded HTTP/1.1 messages, and what their signatures are worth (RFC
-//! 9421).
+//! `hms`: signature bases of recorded HTTP/1.1 messages, what their signatures are worth (RFC
+//! 9421), and what proxies may make of them.
 //!
 //! The program does what [`run::run`] does with its arguments, the files that they name, standard
 //! input and standard output:
@@ -21,6 +21,8 @@ use std::process::ExitCode;
 
 #[cfg(test)]
 mod device_tests;
+#[cfg(test)]
+mod rewrite_tests;
 #[cfg(test)]
 mod sign_tests;
 #[cfg(test)]

@@ -1,8 +1,9 @@
 //! Commands over a configuration and one whole message, and their steps: the configuration is read,
-//! then the request that the message answers, the message that wishes signatures, the source, and
-//! its message; the context is made, and the command is done over it.
+//! then the request that the message answers, the message that wishes signatures, the script, the
+//! source, and its message; the context is made, and the command is done over it.
 
-ghost use Rattle.std.specs.Prelude.{◌≡◌, ◌+◌, ◌≤◌, None, IfNone, Option, length, option_map};
+ghost use Rattle.std.specs.Prelude.{◌≡◌, ◌+◌, ◌≤◌, List, None, IfNone, IsTrue, Option, length, option_map};
+ghost use Rattle.std.specs.List.{list_all};
 ghost use Rattle.hms_io.specs.Files.{KeepsFiles};
 ghost use Rattle.msg_body.specs.Messages.{Spells};
 ghost use Rattle.msg_body.specs.Views.{message_of};
@@ -11,21 +12,24 @@ ghost use Rattle.conf.specs.ConfMeaning.{meaning};
 ghost use Rattle.commands.specs.Files.{AreFound, file_names, file_count};
 ghost use Rattle.commands.specs.Stops.{IfOutcome, ReadsNothing, CountsStop};
 ghost use Rattle.commands.specs.Tables.{HasTables};
+ghost use Rattle.rewrite_script.specs.Lines.{is_writable};
 ghost use Rattle.hms.specs.Commands.{LosesAtMost, Whole};
 ghost use Rattle.hms.specs.Ends.{HasInput, HasOutcome, Leaves};
-ghost use Rattle.hms.specs.Report.{ReportsFiles, ReportsMessage, ReportsRequest, ReportsWishes};
+ghost use Rattle.hms.specs.Report.{ReportsFiles, ReportsMessage, ReportsRequest, ReportsScript, ReportsWishes};
 ghost use Rattle.hms.specs.tools.Parts.{CountsOne, IsAfterInput, IsOwn};
 
-use command_line::{BaseWords, SignWords, VerifyWords};
+use command_line::{BaseWords, RewriteWords, SignWords, VerifyWords};
 use commands::{
     Needs, Outcome, Reading, Stop, check_tables, context_for, read_configuration, read_input,
-    read_taken, take_message, write_base, write_signed, write_verdicts, write_wished,
+    read_script_file, read_taken, take_message, write_base, write_rewritten, write_signed,
+    write_verdicts, write_wished,
 };
 use component_values::Context;
 use conf::Conf;
 use hms_io::{Shelf, Source, fill};
 use msg_body::MessageView;
 use refusals::{MAX_INPUT_BYTES, Role};
+use rewrite_script::Rewrite;
 use std::alloc::Global;
 
 /// A command over a configuration and one whole message.
@@ -35,6 +39,7 @@ pub trait OverMessage {
     ghost use Rattle.conf.specs.Configuration.{Configuration};
     ghost use Rattle.commands.specs.declared.outcome.Outcome.{Outcome};
     ghost use Rattle.commands.specs.declared.tables.Needs.{Needs};
+    ghost use Rattle.rewrite_script.specs.declared.rewrite.Rewrite.{Rewrite};
 
     // Its words are in their ranges.
     ghost is_in_range: { Self → Type 0 };
@@ -42,8 +47,9 @@ pub trait OverMessage {
     // What it needs of the configuration.
     ghost tables: { Self → Needs };
 
-    // What it comes to, over the message that wishes signatures, where there is one.
-    ghost reports: { Self → Configuration → Option Message → MessageContext → Outcome → Type 0 };
+    // What it comes to, over the message that wishes signatures, where there is one, and a script.
+    ghost reports: { Self → Configuration → Option Message → List Rewrite → MessageContext → Outcome
+        → Type 0 };
 
     /// What it needs of the configuration.
     fn needs(&self) -> Needs
@@ -55,15 +61,18 @@ pub trait OverMessage {
         alloc: Global,
         conf: &Conf,
         wishes: Option<&MessageView<'_>>,
+        script: &[Rewrite],
         bytes: &[u8],
         context: &Context<'_, '_>,
     ) -> Result<Outcome, Stop>
         requires in_range { is_in_range self.now }
         requires tables { HasTables (tables self.now) (meaning conf.now) }
+        requires writable { IsTrue (list_all is_writable script.now) }
         requires spells { Spells (answers_head (context_of context.now).related)
             (context_of context.now).message bytes.now }
         ensures report { IfOutcome result (reports self.now (meaning conf.now)
-            (option_map (λ view. message_of view.now) wishes.entry) (context_of context.now)) }
+            (option_map (λ view. message_of view.now) wishes.entry) script.now
+            (context_of context.now)) }
         ensures own { IfOutcome result IsOwn }
         ensures reads_nothing { ReadsNothing result };
 }
@@ -77,7 +86,7 @@ impl<'a> OverMessage for BaseWords<'a> {
 
     ghost tables = { λ words. Nothing };
 
-    ghost reports = { λ words conf wishes. ReportsBase words.params.now };
+    ghost reports = { λ words conf wishes script. ReportsBase words.params.now };
 
     fn needs(&self) -> Needs {
         Needs::Nothing
@@ -88,6 +97,7 @@ impl<'a> OverMessage for BaseWords<'a> {
         alloc: Global,
         _conf: &Conf,
         _wishes: Option<&MessageView<'_>>,
+        _script: &[Rewrite],
         _bytes: &[u8],
         context: &Context<'_, '_>,
     ) -> Result<Outcome, Stop> {
@@ -105,7 +115,7 @@ impl<'a> OverMessage for VerifyWords<'a> {
 
     ghost tables = { λ words. Nothing };
 
-    ghost reports = { λ words conf wishes.
+    ghost reports = { λ words conf wishes script.
         ReportsVerdicts (option_map (λ word. word.now) words.label) words.now conf };
 
     fn needs(&self) -> Needs {
@@ -117,6 +127,7 @@ impl<'a> OverMessage for VerifyWords<'a> {
         alloc: Global,
         conf: &Conf,
         _wishes: Option<&MessageView<'_>>,
+        _script: &[Rewrite],
         _bytes: &[u8],
         context: &Context<'_, '_>,
     ) -> Result<Outcome, Stop> {
@@ -136,8 +147,8 @@ impl<'a> OverMessage for SignWords<'a> {
 
     ghost tables = { λ words. SignTable };
 
-    ghost reports = { λ words.
-        ReportsSigning (option_map (λ word. word.now) words.nonce) words.now };
+    ghost reports = { λ words conf wishes script.
+        ReportsSigning (option_map (λ word. word.now) words.nonce) words.now conf wishes };
 
     fn needs(&self) -> Needs {
         Needs::SignTable
@@ -148,6 +159,7 @@ impl<'a> OverMessage for SignWords<'a> {
         alloc: Global,
         conf: &Conf,
         wishes: Option<&MessageView<'_>>,
+        _script: &[Rewrite],
         bytes: &[u8],
         context: &Context<'_, '_>,
     ) -> Result<Outcome, Stop> {
@@ -155,6 +167,35 @@ impl<'a> OverMessage for SignWords<'a> {
             None => write_signed(alloc, conf, self.now, self.nonce, bytes, context),
             Some(wishes) => write_wished(alloc, conf, self.now, wishes, bytes, context),
         }
+    }
+}
+
+impl<'a> OverMessage for RewriteWords<'a> {
+    ghost use Rattle.std.specs.Prelude.{⊤, option_map};
+    ghost use Rattle.commands.specs.Rewrite.{ReportsRewriting};
+    ghost use Rattle.commands.specs.declared.tables.Needs.TheVariants.{Nothing};
+
+    ghost is_in_range = { λ words. ⊤ };
+
+    ghost tables = { λ words. Nothing };
+
+    ghost reports = { λ words conf wishes.
+        ReportsRewriting (option_map (λ word. word.now) words.label) };
+
+    fn needs(&self) -> Needs {
+        Needs::Nothing
+    }
+
+    fn answer(
+        &self,
+        alloc: Global,
+        _conf: &Conf,
+        _wishes: Option<&MessageView<'_>>,
+        script: &[Rewrite],
+        bytes: &[u8],
+        context: &Context<'_, '_>,
+    ) -> Result<Outcome, Stop> {
+        write_rewritten(alloc, self.label, script, bytes, context)
     }
 }
 
@@ -166,13 +207,15 @@ fn over_input<'x, C: OverMessage>(
     conf: &'x Conf,
     related: Option<&'x MessageView<'x>>,
     wishes: Option<&MessageView<'_>>,
+    script: &[Rewrite],
     input: &'x [u8],
 ) -> Result<Outcome, Stop>
     requires in_range { C.is_in_range command.now }
     requires tables { HasTables (C.tables command.now) (meaning conf.now) }
+    requires writable { IsTrue (list_all is_writable script.now) }
     requires short { length input.now ≤ MAX_INPUT_BYTES }
     ensures report { IfOutcome result (ReportsMessage (C.reports command.now (meaning conf.now)
-        (option_map (λ view. message_of view.now) wishes.entry)) (meaning conf.now)
+        (option_map (λ view. message_of view.now) wishes.entry) script.now) (meaning conf.now)
         (option_map (λ view. message_of view.now) related.entry) input.now) }
     ensures after { IfOutcome result IsAfterInput }
     ensures reads_nothing { ReadsNothing result }
@@ -180,7 +223,7 @@ fn over_input<'x, C: OverMessage>(
     let reading = Reading::of_input(related);
     let message = read_input(alloc, reading, Role::Input, input)?;
     let context = context_for(conf, &message, related);
-    command.answer(alloc, conf, wishes, input, &context)
+    command.answer(alloc, conf, wishes, script, input, &context)
 }
 
 /// Does the command over what the source gives: reads it to its end, or one byte past the limit.
@@ -190,13 +233,15 @@ fn over_source<C: OverMessage, S: Source>(
     conf: &Conf,
     related: Option<&MessageView<'_>>,
     wishes: Option<&MessageView<'_>>,
+    script: &[Rewrite],
     source: &mut S,
 ) -> Result<Outcome, Stop>
     requires in_range { C.is_in_range command.now }
     requires tables { HasTables (C.tables command.now) (meaning conf.now) }
+    requires writable { IsTrue (list_all is_writable script.now) }
     ensures report { IfOutcome result (HasInput
         (ReportsMessage (C.reports command.now (meaning conf.now)
-        (option_map (λ view. message_of view.now) wishes.entry)) (meaning conf.now)
+        (option_map (λ view. message_of view.now) wishes.entry) script.now) (meaning conf.now)
         (option_map (λ view. message_of view.now) related.entry))
         (Leaves (Whole MAX_INPUT_BYTES) (source.new ≡ source.old)
         (S.left source.old) (S.left source.new)) (S.left source.old)) }
@@ -209,15 +254,16 @@ fn over_source<C: OverMessage, S: Source>(
         Ok(input) => input,
         Err(error) => return Err(Stop::of_fill(MAX_INPUT_BYTES, error)),
     };
-    over_input(alloc, command, conf, related, wishes, input.bytes())
+    over_input(alloc, command, conf, related, wishes, script, input.bytes())
 }
 
-/// Does the command over the named message that wishes signatures and what the source gives.
-fn over_wishes<C: OverMessage, F: Shelf, S: Source>(
+/// Does the command over the named script, or that without steps, and what the source gives.
+fn over_script<C: OverMessage, F: Shelf, S: Source>(
     alloc: Global,
     command: &C,
     conf: &Conf,
     related: Option<&MessageView<'_>>,
+    wishes: Option<&MessageView<'_>>,
     name: Option<&str>,
     shelf: &mut F,
     source: &mut S,
@@ -225,13 +271,14 @@ fn over_wishes<C: OverMessage, F: Shelf, S: Source>(
     requires in_range { C.is_in_range command.now }
     requires tables { HasTables (C.tables command.now) (meaning conf.now) }
     ensures report { IfOutcome result (HasOutcome
-        (ReportsWishes (C.reports command.now) (meaning conf.now)
+        (ReportsScript (C.reports command.now) (meaning conf.now)
         (option_map (λ view. message_of view.now) related.entry)
-        (file_names None None (option_map (λ word. word.now) name.entry)))
+        (option_map (λ view. message_of view.now) wishes.entry)
+        (file_names None None None (option_map (λ word. word.now) name.entry)))
         (Leaves (Whole MAX_INPUT_BYTES) (source.new ≡ source.old)
         (S.left source.old) (S.left source.new))
         (AreFound (F.files shelf.old)
-        (file_names None None (option_map (λ word. word.now) name.entry)))
+        (file_names None None None (option_map (λ word. word.now) name.entry)))
         (S.left source.old)) }
     ensures cause { CountsOne (source.new ≡ source.old) (F.faults shelf.old) (F.faults shelf.new)
         (S.faults source.old) (S.faults source.new) result }
@@ -243,9 +290,66 @@ fn over_wishes<C: OverMessage, F: Shelf, S: Source>(
     ensures files { KeepsFiles (F.files shelf.old) (F.files shelf.new) }
     ensures unasked { IfNone name.entry (shelf.new ≡ shelf.old) }
 {
+    let script = read_script_file(alloc, name, shelf)?;
+    over_source(
+        alloc,
+        command,
+        conf,
+        related,
+        wishes,
+        script.as_slice(),
+        source,
+    )
+}
+
+/// Does the command over the named message that wishes signatures, and what is read after it.
+fn over_wishes<C: OverMessage, F: Shelf, S: Source>(
+    alloc: Global,
+    command: &C,
+    conf: &Conf,
+    related: Option<&MessageView<'_>>,
+    name: Option<&str>,
+    script: Option<&str>,
+    shelf: &mut F,
+    source: &mut S,
+) -> Result<Outcome, Stop>
+    requires in_range { C.is_in_range command.now }
+    requires tables { HasTables (C.tables command.now) (meaning conf.now) }
+    ensures report { IfOutcome result (HasOutcome
+        (ReportsWishes (C.reports command.now) (meaning conf.now)
+        (option_map (λ view. message_of view.now) related.entry)
+        (file_names None None (option_map (λ word. word.now) name.entry)
+        (option_map (λ word. word.now) script.entry)))
+        (Leaves (Whole MAX_INPUT_BYTES) (source.new ≡ source.old)
+        (S.left source.old) (S.left source.new))
+        (AreFound (F.files shelf.old)
+        (file_names None None (option_map (λ word. word.now) name.entry)
+        (option_map (λ word. word.now) script.entry)))
+        (S.left source.old)) }
+    ensures cause { CountsOne (source.new ≡ source.old) (F.faults shelf.old) (F.faults shelf.new)
+        (S.faults source.old) (S.faults source.new) result }
+    ensures shelf_later { F.faults shelf.old ≤ F.faults shelf.new }
+    ensures source_later { S.faults source.old ≤ S.faults source.new }
+    ensures few { LosesAtMost (MAX_INPUT_BYTES + 1) (S.left source.old) (S.left source.new) }
+    ensures ended { S.ended source.old ≡ 0 → S.ended source.new ≤ 1 }
+    ensures asked { F.asked shelf.new ≤ F.asked shelf.old
+        + file_count (file_names None None (option_map (λ word. word.now) name.entry)
+        (option_map (λ word. word.now) script.entry)) }
+    ensures files { KeepsFiles (F.files shelf.old) (F.files shelf.new) }
+    ensures unasked { IfNone name.entry (IfNone script.entry (shelf.new ≡ shelf.old)) }
+{
     let text = take_message(alloc, Role::Wanted, name, shelf)?;
     let wishes = read_taken(alloc, Role::Wanted, Reading::of_any(), text.as_ref())?;
-    over_source(alloc, command, conf, related, wishes.as_ref(), source)
+    over_script(
+        alloc,
+        command,
+        conf,
+        related,
+        wishes.as_ref(),
+        script,
+        shelf,
+        source,
+    )
 }
 
 /// Does the command over the named request, and what is read after it.
@@ -255,6 +359,7 @@ fn over_request<C: OverMessage, F: Shelf, S: Source>(
     conf: &Conf,
     name: Option<&str>,
     wanted: Option<&str>,
+    script: Option<&str>,
     shelf: &mut F,
     source: &mut S,
 ) -> Result<Outcome, Stop>
@@ -263,11 +368,13 @@ fn over_request<C: OverMessage, F: Shelf, S: Source>(
     ensures report { IfOutcome result (HasOutcome
         (ReportsRequest (C.reports command.now) (meaning conf.now)
         (file_names None (option_map (λ word. word.now) name.entry)
-        (option_map (λ word. word.now) wanted.entry)))
+        (option_map (λ word. word.now) wanted.entry)
+        (option_map (λ word. word.now) script.entry)))
         (Leaves (Whole MAX_INPUT_BYTES) (source.new ≡ source.old)
         (S.left source.old) (S.left source.new))
         (AreFound (F.files shelf.old) (file_names None (option_map (λ word. word.now) name.entry)
-        (option_map (λ word. word.now) wanted.entry)))
+        (option_map (λ word. word.now) wanted.entry)
+        (option_map (λ word. word.now) script.entry)))
         (S.left source.old)) }
     ensures cause { CountsOne (source.new ≡ source.old) (F.faults shelf.old) (F.faults shelf.new)
         (S.faults source.old) (S.faults source.new) result }
@@ -277,9 +384,11 @@ fn over_request<C: OverMessage, F: Shelf, S: Source>(
     ensures ended { S.ended source.old ≡ 0 → S.ended source.new ≤ 1 }
     ensures asked { F.asked shelf.new ≤ F.asked shelf.old
         + file_count (file_names None (option_map (λ word. word.now) name.entry)
-        (option_map (λ word. word.now) wanted.entry)) }
+        (option_map (λ word. word.now) wanted.entry)
+        (option_map (λ word. word.now) script.entry)) }
     ensures files { KeepsFiles (F.files shelf.old) (F.files shelf.new) }
-    ensures unasked { IfNone name.entry (IfNone wanted.entry (shelf.new ≡ shelf.old)) }
+    ensures unasked { IfNone name.entry (IfNone wanted.entry (IfNone script.entry
+        (shelf.new ≡ shelf.old))) }
 {
     let text = take_message(alloc, Role::Request, name, shelf)?;
     let related = read_taken(alloc, Role::Request, Reading::of_request(), text.as_ref())?;
@@ -289,19 +398,21 @@ fn over_request<C: OverMessage, F: Shelf, S: Source>(
         conf,
         related.as_ref(),
         wanted,
+        script,
         shelf,
         source,
     )
 }
 
 /// Does the command over the files of these names and what the source gives: the configuration, the
-/// request that the input answers, and the message that wishes signatures.
+/// request that the input answers, the message that wishes signatures, and the script.
 pub fn over_files<C: OverMessage, F: Shelf, S: Source>(
     alloc: Global,
     command: &C,
     conf: Option<&str>,
     request: Option<&str>,
     wanted: Option<&str>,
+    script: Option<&str>,
     shelf: &mut F,
     source: &mut S,
 ) -> Result<Outcome, Stop>
@@ -310,12 +421,14 @@ pub fn over_files<C: OverMessage, F: Shelf, S: Source>(
         (ReportsFiles (C.tables command.now) (C.reports command.now)
         (file_names (option_map (λ word. word.now) conf.entry)
         (option_map (λ word. word.now) request.entry)
-        (option_map (λ word. word.now) wanted.entry)))
+        (option_map (λ word. word.now) wanted.entry)
+        (option_map (λ word. word.now) script.entry)))
         (Leaves (Whole MAX_INPUT_BYTES) (source.new ≡ source.old)
         (S.left source.old) (S.left source.new))
         (AreFound (F.files shelf.old) (file_names (option_map (λ word. word.now) conf.entry)
         (option_map (λ word. word.now) request.entry)
-        (option_map (λ word. word.now) wanted.entry)))
+        (option_map (λ word. word.now) wanted.entry)
+        (option_map (λ word. word.now) script.entry)))
         (S.left source.old)) }
     ensures cause { CountsOne (source.new ≡ source.old) (F.faults shelf.old) (F.faults shelf.new)
         (S.faults source.old) (S.faults source.new) result }
@@ -326,12 +439,15 @@ pub fn over_files<C: OverMessage, F: Shelf, S: Source>(
     ensures asked { F.asked shelf.new ≤ F.asked shelf.old
         + file_count (file_names (option_map (λ word. word.now) conf.entry)
         (option_map (λ word. word.now) request.entry)
-        (option_map (λ word. word.now) wanted.entry)) }
+        (option_map (λ word. word.now) wanted.entry)
+        (option_map (λ word. word.now) script.entry)) }
     ensures files { KeepsFiles (F.files shelf.old) (F.files shelf.new) }
     ensures unasked { IfNone conf.entry (IfNone request.entry (IfNone wanted.entry
-        (shelf.new ≡ shelf.old))) }
+        (IfNone script.entry (shelf.new ≡ shelf.old)))) }
 {
     let conf = read_configuration(alloc, conf, shelf)?;
     check_tables(alloc, command.needs(), &conf)?;
-    over_request(alloc, command, &conf, request, wanted, shelf, source)
+    over_request(
+        alloc, command, &conf, request, wanted, script, shelf, source,
+    )
 }

@@ -5,12 +5,14 @@ use Rattle.msg_body.specs.declared.error.MessageFault.{MessageFault}
 use Rattle.msg_body.specs.declared.error.MessageFault.TheVariants as fault
 use Rattle.refusals.specs.Laws.{IsOfRefusal, HasStatusOfRefusal}
 use Rattle.refusals.specs.Refusal.{command_status, sign_status}
-use Rattle.refusals.specs.Texts.{message_status, fault_status, file_status}
+use Rattle.refusals.specs.Texts.{message_status, fault_status, script_status, file_status}
 use Rattle.refusals.specs.declared.file.FileRefusal.{FileRefusal}
-use Rattle.refusals.specs.declared.file.FileRefusal.TheVariants.{Missing, TooLong, Message, Conf}
+use Rattle.refusals.specs.declared.file.FileRefusal.TheVariants.{Missing, TooLong, Message, Conf, Script}
 use Rattle.refusals.specs.declared.refusal.Refusal.TheVariants.{Arguments, Of, Command}
 use Rattle.refusals.specs.declared.refusal.CommandRefusal.{CommandRefusal}
-use Rattle.refusals.specs.declared.refusal.CommandRefusal.TheVariants.{Syntax, ItemKind, Ids, Lacks, Sign, Wishes}
+use Rattle.refusals.specs.declared.refusal.CommandRefusal.TheVariants.{Syntax, ItemKind, Ids, Lacks, Sign, Wishes, NotTaken}
+use Rattle.rewrite_script.specs.declared.fault.ScriptFault.{ScriptFault}
+use Rattle.rewrite_script.specs.declared.fault.ScriptFault.TheVariants as script
 use Rattle.signing.specs.declared.fault.SignFault.{SignFault}
 use Rattle.signing.specs.declared.fault.SignFault.TheVariants as sign
 
@@ -32,11 +34,17 @@ of_fault (fault.Refused e) = of_message e
 of_fault (fault.Truncated count) = tt
 of_fault (fault.Trailing offset) = tt
 
+of_script : (f : ScriptFault) → IsOfRefusal (script_status f)
+of_script script.Memory = tt
+of_script script.TooMany = tt
+of_script (script.BadLine index) = tt
+
 of_file : (refusal : FileRefusal) → IsOfRefusal (file_status refusal)
 of_file Missing = tt
 of_file (TooLong limit) = tt
 of_file (Message f) = of_fault f
 of_file (Conf f) = tt
+of_file (Script f) = of_script f
 
 of_sign : (f : SignFault) → IsOfRefusal (sign_status f)
 of_sign sign.Memory = tt
@@ -54,6 +62,7 @@ of_command (Ids f) = tt
 of_command (Lacks lack id) = tt
 of_command (Sign f) = of_sign f
 of_command (Wishes f) = tt
+of_command (NotTaken cause) = tt
 
 pub status_of_refusal : HasStatusOfRefusal
 status_of_refusal Arguments = tt

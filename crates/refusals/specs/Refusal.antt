@@ -13,10 +13,18 @@ use Rattle.refusals.specs.Texts.{role_text, file_text, file_status}
 use Rattle.refusals.specs.declared.refusal.Refusal.{Refusal}
 use Rattle.refusals.specs.declared.refusal.Refusal.TheVariants.{Arguments, Of, Command}
 use Rattle.refusals.specs.declared.refusal.CommandRefusal.{CommandRefusal}
-use Rattle.refusals.specs.declared.refusal.CommandRefusal.TheVariants.{Syntax, ItemKind, Ids, Lacks, Sign, Wishes}
+use Rattle.refusals.specs.declared.refusal.CommandRefusal.TheVariants.{Syntax, ItemKind, Ids, Lacks, Sign, Wishes, NotTaken}
+use Rattle.refusals.specs.declared.refusal.StepRefusal.{StepRefusal}
+use Rattle.refusals.specs.declared.refusal.StepRefusal.TheVariants.{LabelUnread, NotApplicable, NotPermitted}
 
--- why PARAMS are refused, which component lacks a value and how, why the message isn't signed, or
--- why the wishes aren't met
+-- why a step of a script isn't taken, with its index
+abbrev pub step_text : StepRefusal → List ℕ
+step_text LabelUnread = codes "label-unread"
+step_text (NotApplicable index) = codes "not-applicable " ++ decimal index
+step_text (NotPermitted index) = codes "not-permitted " ++ decimal index
+
+-- why PARAMS are refused, which component lacks a value and how, why the message isn't signed, why
+-- the wishes aren't met, or why a step of a script isn't taken
 abbrev pub command_text : CommandRefusal → List ℕ
 command_text (Syntax offset) = codes "params-syntax " ++ decimal offset
 command_text (ItemKind offset) = codes "params-kind " ++ decimal offset
@@ -24,6 +32,7 @@ command_text (Ids fault) = id_fault_text fault
 command_text (Lacks lack id) = lack_word lack ++ byte " " ∷ id
 command_text (Sign fault) = sign_fault_text fault
 command_text (Wishes fault) = want_fault_text fault
+command_text (NotTaken cause) = step_text cause
 
 -- what is refused, and why
 abbrev pub refusal_text : Refusal → List ℕ
@@ -48,6 +57,7 @@ command_status (Ids fault) = BadInput
 command_status (Lacks lack id) = BadInput
 command_status (Sign fault) = sign_status fault
 command_status (Wishes fault) = BadInput
+command_status (NotTaken cause) = BadInput
 
 -- the status of a refusal, by what is refused and why
 abbrev pub refusal_status : Refusal → Status

@@ -10,10 +10,13 @@ use Rattle.msg_body.specs.declared.error.MessageError.TheVariants as message
 use Rattle.msg_body.specs.declared.error.MessageFault.{MessageFault}
 use Rattle.msg_body.specs.declared.error.MessageFault.TheVariants as fault
 use Rattle.conf.specs.Refusals.{fault_number, fault_path}
+use Rattle.rewrite_script.specs.Words.{script_fault_text}
+use Rattle.rewrite_script.specs.declared.fault.ScriptFault.{ScriptFault}
+use Rattle.rewrite_script.specs.declared.fault.ScriptFault.TheVariants as script
 use Rattle.refusals.specs.declared.role.Role.{Role}
 use Rattle.refusals.specs.declared.role.Role.TheVariants as role
 use Rattle.refusals.specs.declared.file.FileRefusal.{FileRefusal}
-use Rattle.refusals.specs.declared.file.FileRefusal.TheVariants.{Missing, TooLong, Message, Conf}
+use Rattle.refusals.specs.declared.file.FileRefusal.TheVariants.{Missing, TooLong, Message, Conf, Script}
 
 -- how output calls the text
 abbrev pub role_text : Role → List ℕ
@@ -35,6 +38,7 @@ file_text Missing = codes "missing"
 file_text (TooLong limit) = codes "bytes " ++ decimal limit
 file_text (Message fault) = message_fault_text fault
 file_text (Conf fault) = decimal (fault_number fault) ++ path_text (fault_path fault)
+file_text (Script fault) = script_fault_text fault
 
 -- a message that passes a limit, or else a bad input
 abbrev pub message_status : MessageError → Status
@@ -48,9 +52,15 @@ abbrev pub fault_status : MessageFault → Status
 fault_status (fault.Refused error) = message_status error
 fault_status fault = BadInput
 
--- a missing file, a limit that is passed, a bad message or a bad configuration
+-- too many lines, or else a bad script
+abbrev pub script_status : ScriptFault → Status
+script_status script.TooMany = LimitPassed
+script_status fault = BadInput
+
+-- a missing file, a limit that is passed, a bad message, a bad configuration or a bad script
 abbrev pub file_status : FileRefusal → Status
 file_status Missing = FileMissing
 file_status (TooLong limit) = LimitPassed
 file_status (Message fault) = fault_status fault
 file_status (Conf fault) = BadConf
+file_status (Script fault) = script_status fault

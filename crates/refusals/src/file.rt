@@ -1,11 +1,12 @@
 //! Why a text is refused that a run reads, and the status that this gives.
 
 ghost use Rattle.std.specs.Prelude.{◌≡◌, ◌++◌, option_copied, OnOk};
-ghost use Rattle.refusals.specs.Texts.{path_text, file_text, message_status, fault_status, file_status};
+ghost use Rattle.refusals.specs.Texts.{path_text, file_text, message_status, fault_status, script_status, file_status};
 
 use conf::ConfFault;
 use hms_io::Status;
 use msg_body::{MessageError, MessageFault};
+use rewrite_script::ScriptFault;
 use sfv_text::{Memory, Text, append_number, append_words};
 use std::alloc::Global;
 
@@ -21,6 +22,8 @@ pub enum FileRefusal {
     Message(MessageFault),
     /// It is no configuration. The fault is never out of memory.
     Conf(ConfFault),
+    /// It is no script. The fault is never out of memory.
+    Script(ScriptFault),
 }
 
 impl FileRefusal {
@@ -33,6 +36,7 @@ impl FileRefusal {
             FileRefusal::TooLong(_) => Status::LimitPassed,
             FileRefusal::Message(fault) => fault_status(*fault),
             FileRefusal::Conf(_) => Status::BadConf,
+            FileRefusal::Script(fault) => script_status(*fault),
         }
     }
 }
@@ -53,6 +57,15 @@ fn fault_status(fault: MessageFault) -> Status
 {
     match fault {
         MessageFault::Refused(error) => message_status(error),
+        _ => Status::BadInput,
+    }
+}
+
+fn script_status(fault: ScriptFault) -> Status
+    ensures { result ≡ script_status fault }
+{
+    match fault {
+        ScriptFault::TooMany => Status::LimitPassed,
         _ => Status::BadInput,
     }
 }
@@ -81,6 +94,10 @@ pub fn append_file(alloc: Global, refusal: &FileRefusal, line: &mut Text) -> Res
         FileRefusal::Conf(fault) => {
             append_number(alloc, b"", fault.number() as usize, line)?;
             append_path(fault.path(), line)
+        }
+        FileRefusal::Script(fault) => {
+            let text = format!(in alloc; "{fault}")?;
+            line.append(text.as_bytes())
         }
     }
 }

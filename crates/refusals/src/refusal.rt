@@ -19,6 +19,9 @@ pub const MAX_INPUT_BYTES: usize = 16_777_216;
 /// The most bytes of a configuration.
 pub const MAX_CONF_BYTES: usize = 65_536;
 
+/// The most bytes of a script.
+pub const MAX_SCRIPT_BYTES: usize = 1_048_576;
+
 /// Why a run is refused.
 #[derive(Debug, Drop)]
 pub enum Refusal {
@@ -48,6 +51,19 @@ pub enum CommandRefusal {
     Sign(SignFault),
     /// The wishes for signatures aren't met (RFC 9421 section 5). The fault is never out of memory.
     Wishes(WantFault),
+    /// A step of the script isn't taken.
+    NotTaken(StepRefusal),
+}
+
+/// Why a step of a script isn't taken.
+#[derive(Clone, Copy, Debug, PartialEq, Eq)]
+pub enum StepRefusal {
+    /// The message that the step meets has no signature of the label that can be read.
+    LabelUnread,
+    /// The step of this index gives no message.
+    NotApplicable(usize),
+    /// The label's signature doesn't permit the step of this index.
+    NotPermitted(usize),
 }
 
 impl Refusal {
@@ -94,6 +110,7 @@ impl CommandRefusal {
             CommandRefusal::Lacks(_, _) => Status::BadInput,
             CommandRefusal::Sign(fault) => sign_status(*fault),
             CommandRefusal::Wishes(_) => Status::BadInput,
+            CommandRefusal::NotTaken(_) => Status::BadInput,
         }
     }
 }

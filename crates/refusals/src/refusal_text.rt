@@ -6,10 +6,10 @@ ghost use Rattle.component_ids.specs.Causes.{id_fault_text};
 ghost use Rattle.derived_values.specs.Words.{lack_word};
 ghost use Rattle.signing.specs.Words.{sign_fault_text, want_fault_text};
 ghost use Rattle.refusals.specs.Texts.{role_text};
-ghost use Rattle.refusals.specs.Refusal.{command_text, refusal_text};
+ghost use Rattle.refusals.specs.Refusal.{command_text, step_text, refusal_text};
 
 use crate::file::append_file;
-use crate::refusal::{CommandRefusal, Refusal};
+use crate::refusal::{CommandRefusal, Refusal, StepRefusal};
 use crate::role::Role;
 use component_ids::IdFault;
 use component_values::Lack;
@@ -52,6 +52,16 @@ fn append_want_fault(alloc: Global, fault: &WantFault, line: &mut Text) -> Resul
     line.append(text.as_bytes())
 }
 
+fn append_step(alloc: Global, cause: StepRefusal, line: &mut Text) -> Result<(), Memory>
+    ensures { OnOk result (line.new ≡ line.old ++ step_text cause) }
+{
+    match cause {
+        StepRefusal::LabelUnread => line.append(b"label-unread"),
+        StepRefusal::NotApplicable(index) => append_number(alloc, b"not-applicable ", index, line),
+        StepRefusal::NotPermitted(index) => append_number(alloc, b"not-permitted ", index, line),
+    }
+}
+
 fn append_command(alloc: Global, refusal: &CommandRefusal, line: &mut Text) -> Result<(), Memory>
     ensures { OnOk result (line.new ≡ line.old ++ command_text refusal.now) }
 {
@@ -62,6 +72,7 @@ fn append_command(alloc: Global, refusal: &CommandRefusal, line: &mut Text) -> R
         CommandRefusal::Lacks(lack, id) => append_lack(*lack, id, line),
         CommandRefusal::Sign(fault) => append_sign_fault(alloc, *fault, line),
         CommandRefusal::Wishes(fault) => append_want_fault(alloc, fault, line),
+        CommandRefusal::NotTaken(cause) => append_step(alloc, *cause, line),
     }
 }
 

@@ -6,7 +6,7 @@ use Rattle.sfv_text.specs.declared.pair.Pair.{Pair}
 use Rattle.command_line.specs.Options.{is_taken_by, option_of, row_of, words_of, AreOptions}
 use Rattle.command_line.specs.declared.options.CommandName.{CommandName}
 use Rattle.command_line.specs.declared.options.CommandOption.{CommandOption}
-use Rattle.command_line.specs.declared.options.CommandOption.TheVariants.{Conf, Now, Label, Request, Nonce, Wanted}
+use Rattle.command_line.specs.declared.options.CommandOption.TheVariants.{Conf, Now, Label, Request, Nonce, Wanted, Script}
 use Rattle.command_line.specs.declared.options.OptionWords.{OptionWords}
 
 -- the word of the option
@@ -17,6 +17,7 @@ word_in found Label = option_map (λ word. word.now) found.label
 word_in found Request = option_map (λ word. word.now) found.request
 word_in found Nonce = option_map (λ word. word.now) found.nonce
 word_in found Wanted = option_map (λ word. word.now) found.wanted
+word_in found Script = option_map (λ word. word.now) found.script
 
 -- the option has this name, the command takes it, it has no word yet, and it may have this one
 pub record IsNextOption (command : CommandName) (found : OptionWords) (name word : List ℕ)
@@ -56,6 +57,7 @@ pub record HasOptions (command : CommandName) (words : List (List ℕ)) (found :
   pub request_is : IsWordOf words (codes "--request") (option_map (λ word. word.now) found.request)
   pub nonce_is : IsWordOf words (codes "--nonce") (option_map (λ word. word.now) found.nonce)
   pub wanted_is : IsWordOf words (codes "--wanted") (option_map (λ word. word.now) found.wanted)
+  pub script_is : IsWordOf words (codes "--script") (option_map (λ word. word.now) found.script)
 
 -- the options up to the words that are left, whose words were found
 pub record AreFoundBefore (command : CommandName) (found : OptionWords)

@@ -16,7 +16,7 @@ returns-in-Err-clause-report g c =
     let conf = meaning c.args.conf.now in
     let related = option_map (λ view. message_of view.now) c.args.related in
     let wishes = option_map (λ view. message_of view.now) c.args.wishes in
-    rw c.of_fill.ensures (fill_stop (λ message. g.C.OverMessage.reports c.args.command.now conf wishes (context_for conf message related)) (reading_for related)
+    rw c.of_fill.ensures (fill_stop (λ message. g.C.OverMessage.reports c.args.command.now conf wishes c.args.script.now (context_for conf message related)) (reading_for related)
     (c.fill.new.source ≡ c.args.source.now) (g.S.Source.left c.args.source.now)
     (g.S.Source.left c.fill.new.source) c.in-Err.error (λ e. c.in-Err.ensures.too_long (ap as_err e)))
 
@@ -25,7 +25,7 @@ returns-clause-report g c =
     let conf = meaning c.args.conf.now in
     let related = option_map (λ view. message_of view.now) c.args.related in
     let wishes = option_map (λ view. message_of view.now) c.args.wishes in
-    input_outcome (λ message. g.C.OverMessage.reports c.args.command.now conf wishes (context_for conf message related)) (reading_for related)
+    input_outcome (λ message. g.C.OverMessage.reports c.args.command.now conf wishes c.args.script.now (context_for conf message related)) (reading_for related)
     (c.fill.new.source ≡ c.args.source.now) c.in-Ok.input c.bytes.result.now
     (g.S.Source.left c.args.source.now) (g.S.Source.left c.fill.new.source) c.bytes.ensures c.in-Ok.ensures.whole c.over_input.result c.over_input.ensures.report c.over_input.ensures.after
 

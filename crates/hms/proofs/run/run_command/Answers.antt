@@ -1,6 +1,6 @@
 use Rattle.std.proofs.Common.{◌≡◌, ◌+◌, ◌≤◌, map, string_bytes, refl, Ok}
-use Rattle.command_line.specs.Command.{CommandLine, Help, Version, Base, Verify, Sign, base_words, verify_words, sign_words, line_of}
-use Rattle.commands.specs.Files.{Conf, Request, file_count}
+use Rattle.command_line.specs.Command.{CommandLine, Help, Version, Base, Verify, Sign, Rewrite, base_words, verify_words, sign_words, rewrite_words, line_of}
+use Rattle.commands.specs.Files.{Conf, Request, Script, file_count}
 use Rattle.hms.specs.Commands.{input_use, name_of, LosesFew}
 use Rattle.hms.proofs.Reports.{alone, never_read, never, no_command, none_named, nothing_named, of_command, spelled}
 use Rattle.hms.proofs.run.run_command.Goals as goal
@@ -96,3 +96,24 @@ returns-in-Sign-clause-unread g c = λ none. never_read _ (none (Sign (sign_word
 
 pub returns-in-Sign-clause-unasked : goal.returns-in-Sign-clause-unasked
 returns-in-Sign-clause-unasked g c = λ named. never c.in-Sign.words.conf.now (named (Sign (sign_words c.in-Sign.words)) (rw c.in-Sign.is at c.in-Some.ensures.some) Conf)
+
+pub returns-in-Rewrite-clause-report : goal.returns-in-Rewrite-clause-report
+returns-in-Rewrite-clause-report g c =
+    spelled (map string_bytes c.args.arguments.now) (Rewrite (rewrite_words c.in-Rewrite.words)) (rw c.in-Rewrite.is at c.in-Some.ensures.some) (g.F.Shelf.files c.args.shelf.now)
+    (c.over_files-in-Rewrite.new.source ≡ c.args.source.now) (g.S.Source.left c.args.source.now) (g.S.Source.left c.over_files-in-Rewrite.new.source) c.over_files-in-Rewrite.result c.over_files-in-Rewrite.ensures.report
+
+pub returns-in-Rewrite-clause-few : goal.returns-in-Rewrite-clause-few
+returns-in-Rewrite-clause-few g c =
+    of_command (λ (line : CommandLine). LosesFew (input_use line) (g.S.Source.left c.args.source.now) (g.S.Source.left c.over_files-in-Rewrite.new.source))
+    (map string_bytes c.args.arguments.now) (Rewrite (rewrite_words c.in-Rewrite.words)) (rw c.in-Rewrite.is at c.in-Some.ensures.some) c.over_files-in-Rewrite.ensures.few
+
+pub returns-in-Rewrite-clause-asked : goal.returns-in-Rewrite-clause-asked
+returns-in-Rewrite-clause-asked g c =
+    of_command (λ (line : CommandLine). g.F.Shelf.asked c.over_files-in-Rewrite.new.shelf ≤ g.F.Shelf.asked c.args.shelf.now + file_count (name_of line))
+    (map string_bytes c.args.arguments.now) (Rewrite (rewrite_words c.in-Rewrite.words)) (rw c.in-Rewrite.is at c.in-Some.ensures.some) c.over_files-in-Rewrite.ensures.asked
+
+pub returns-in-Rewrite-clause-unread : goal.returns-in-Rewrite-clause-unread
+returns-in-Rewrite-clause-unread g c = λ none. never_read _ (none (Rewrite (rewrite_words c.in-Rewrite.words)) (rw c.in-Rewrite.is at c.in-Some.ensures.some))
+
+pub returns-in-Rewrite-clause-unasked : goal.returns-in-Rewrite-clause-unasked
+returns-in-Rewrite-clause-unasked g c = λ named. never c.in-Rewrite.words.script.now (named (Rewrite (rewrite_words c.in-Rewrite.words)) (rw c.in-Rewrite.is at c.in-Some.ensures.some) Script)

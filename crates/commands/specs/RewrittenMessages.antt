@@ -1,0 +1,33 @@
+-- What is rewritten under a label keeps the verdict on it (RFC 9421 sections 1.1 and 3.2).
+use Rattle.std.specs.Prelude.{◌≡◌, ℕ, IsTrue, Option, Some, List}
+use Rattle.std.specs.List.{list_all}
+use Rattle.framing.specs.Framings.{is_request}
+use Rattle.msg_body.specs.Messages.{Message, Spells}
+use Rattle.component_values.specs.Context.{MessageContext, answers_head}
+use Rattle.conf.specs.Configuration.{Configuration}
+use Rattle.rewrite_script.specs.Lines.{is_writable}
+use Rattle.rewrite_script.specs.declared.rewrite.Rewrite.{Rewrite}
+use Rattle.rewrites.specs.Laws.{HasSameVerdict}
+use Rattle.commands.specs.Contexts.{context_for}
+use Rattle.commands.specs.Rewrite.{ReportsRewriting}
+use Rattle.commands.specs.declared.outcome.Outcome.TheVariants.{Done}
+
+-- What was written is one message, of the kind of the one that was read.
+abbrev pub IsMessageWhereRewritten : Type 0
+IsMessageWhereRewritten =
+    (label : Option (List ℕ)) (script : List Rewrite) (context : MessageContext)
+    (bytes written : List ℕ) → Spells (answers_head context.related) context.message bytes
+    → ReportsRewriting label script context (Done written)
+    → (message : Message) × Spells (answers_head context.related) message written
+    × (is_request message.head.start ≡ is_request context.message.head.start)
+
+-- In what was written under a label, the label has the verdict that it has in what was read: at
+-- each moment, by each configuration and each book, its place included.
+abbrev pub HasVerdictWhereRewritten : Type 0
+HasVerdictWhereRewritten =
+    (label : List ℕ) (script : List Rewrite) (context : MessageContext) (bytes written : List ℕ)
+    (message : Message) (conf : Configuration) → IsTrue (list_all is_writable script)
+    → Spells (answers_head context.related) context.message bytes
+    → ReportsRewriting (Some label) script context (Done written)
+    → Spells (answers_head context.related) message written
+    → HasSameVerdict (context_for conf context.message context.related) message label
