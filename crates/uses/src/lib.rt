@@ -33,6 +33,8 @@ mod outcomes;
 #[cfg(test)]
 mod readers;
 #[cfg(test)]
+mod scripts;
+#[cfg(test)]
 mod signings;
 #[cfg(test)]
 mod values;
