@@ -5,7 +5,7 @@ ghost use Rattle.component_ids.specs.SignatureParams.{are_sig_params_in_range};
 
 use crate::components::{Fed, REQUEST, RESPONSE, message_of, params_of};
 use component_ids::{Scheme, SigParams, Types};
-use component_values::{Context, Prepared, Readings, prepare, prepare_in};
+use component_values::{Context, Prepared, prepare};
 use msg_body::MessageView;
 use sig_base::{base_bytes, feed_base};
 use std::alloc::Global;
@@ -99,51 +99,4 @@ fn the_base_of_a_response_is_that_of_the_rfc(rt: HostRuntime) {
     for exchange in &EXCHANGES {
         assert!(rt; holds(rt.alloc(), exchange));
     }
-}
-
-// The Dictionary of the request, as a strict text and by a key, and a parameter of its query.
-const READ_PARAMS: &[u8] = b"(\"content-digest\";sf \"content-digest\";key=\"sha-512\" \
-\"@query-param\";name=\"Pet\")";
-
-const READ_BASE: &[u8] =
-    b"\"content-digest\";sf: sha-512=:WZDPaVn/7XgHaAy8pmojAkGWoRx2UFChF41A2svX+T\
-aPm+AbwAgBWnrIiYllu7BNNyealdVLvRwEmTHWXvJwew==:\n\
-\"content-digest\";key=\"sha-512\": :WZDPaVn/7XgHaAy8pmojAkGWoRx2UFChF41A2svX+T\
-aPm+AbwAgBWnrIiYllu7BNNyealdVLvRwEmTHWXvJwew==:\n\
-\"@query-param\";name=\"Pet\": dog\n\
-\"@signature-params\": (\"content-digest\";sf \"content-digest\";key=\"sha-512\" \
-\"@query-param\";name=\"Pet\")";
-
-// Whether the request has the base over the signature parameters, thrice over what is read of it.
-fn has_bases(alloc: Global, request: &MessageView<'_>, params: &SigParams, base: &[u8]) -> bool
-    requires { IsTrue (are_sig_params_in_range params.now) }
-{
-    let Ok(types) = Types::standard(alloc) else {
-        return false;
-    };
-    let context = Context::of_message(request, Scheme::Https, &types);
-    let mut readings = Readings::new(alloc);
-    for _ in 0..3 {
-        match prepare_in(alloc, &context, params, &mut readings) {
-            Ok(prepared) => {
-                if !is_base(alloc, &prepared, base) {
-                    return false;
-                }
-            }
-            Err(_) => return false,
-        }
-    }
-    true
-}
-
-fn are_bases(alloc: Global) -> bool {
-    match (params_of(alloc, READ_PARAMS), message_of(alloc, REQUEST)) {
-        (Some(params), Some(request)) => has_bases(alloc, &request, &params, READ_BASE),
-        _ => false,
-    }
-}
-
-#[test]
-fn what_is_read_once_has_the_same_values_again(rt: HostRuntime) {
-    assert!(rt; are_bases(rt.alloc()));
 }
