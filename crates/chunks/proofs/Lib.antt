@@ -1,4 +1,5 @@
 pub mod LineLaws
+pub mod SizeLines
 pub mod TurnTexts
 pub mod TooLong
 pub mod Spans

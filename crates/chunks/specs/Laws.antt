@@ -1,6 +1,8 @@
 -- Laws of chunks.
-use Rattle.std.specs.Prelude.{◌≡◌, ◌⊎◌, ℕ, ◌<◌, ◌≤◌, List, length, take}
-use Rattle.chunks.specs.Chunks.{Chunks, AreChunksText, SpellsChunks}
+use Rattle.std.specs.Prelude.{◌≡◌, ◌⊎◌, ℕ, ◌<◌, ◌≤◌, false, List, length, take}
+use Rattle.std.specs.Fmt.{digits}
+use Rattle.chunks.specs.declared.limits.TheConstants.{MAX_CONTENT_BYTES}
+use Rattle.chunks.specs.Chunks.{Chunks, IsChunkLine, AreChunksText, SpellsChunks}
 use Rattle.chunks.specs.Causes.{BeginsChunks, IsChunksError, AreChunksUnfinished}
 use Rattle.chunks.specs.declared.error.ChunkError.{ChunkError}
 
@@ -44,3 +46,7 @@ NoChunksAnswerYet =
     (bytes : List ℕ) → AreChunksUnfinished bytes →
     ((fault : ChunkError) → ¬ IsChunksError bytes fault)
     × ((cs : Chunks) (used : ℕ) → ¬ SpellsChunks cs used bytes)
+
+-- The hexadecimal digits of a size, without zeros before them, are a chunk line of that size.
+abbrev pub IsLineOfSize : Type 0
+IsLineOfSize = (size : ℕ) → size ≤ MAX_CONTENT_BYTES → IsChunkLine (digits 16 false size) size

@@ -1,6 +1,6 @@
 //! Laws of chunks.
 
-ghost use Rattle.chunks.specs.Laws.{OneChunks, NoChunksInPrefix, EachHasAnAnswer, OneChunksFault, NoFaultAtChunks, NoChunksAnswerYet};
+ghost use Rattle.chunks.specs.Laws.{OneChunks, NoChunksInPrefix, EachHasAnAnswer, OneChunksFault, NoFaultAtChunks, NoChunksAnswerYet, IsLineOfSize};
 
 /// The laws of chunks: bytes begin with the text of at most one list of chunks, and nothing that
 /// begins chunks goes on after their end.
@@ -16,4 +16,9 @@ pub fn chunks_have_one_answer()
     ensures fault { OneChunksFault }
     ensures chunks { NoFaultAtChunks }
     ensures unfinished { NoChunksAnswerYet }
+{}
+
+/// A chunk line can be written for each size that content may have.
+pub fn sizes_have_a_line()
+    ensures { IsLineOfSize }
 {}

@@ -23,7 +23,7 @@ mod read;
 mod view;
 
 pub use error::ChunkError;
-pub use laws::{chunks_have_one_answer, chunks_laws};
+pub use laws::{chunks_have_one_answer, chunks_laws, sizes_have_a_line};
 pub use limits::{MAX_CONTENT_BYTES, MAX_EXTENSION_BYTES, MAX_SIZE_DIGITS};
 pub use pieces::ChunkPieces;
 pub use read::{ChunksRead, read_chunks};

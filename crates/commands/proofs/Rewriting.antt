@@ -6,11 +6,11 @@ use Rattle.msg_body.specs.Messages.{Message, Spells, IsMessage, message_text}
 use Rattle.component_ids.specs.declared.params.SigParams.{SigParams}
 use Rattle.component_values.specs.Context.{MessageContext, answers_head, context_with}
 use Rattle.rewrite_script.specs.declared.rewrite.Rewrite.{Rewrite}
-use Rattle.rewrite_script.specs.declared.rewrite.Rewrite.TheVariants.{Pad, Fold, Unfold, Join, Split, Move, Case, Add, Remove}
 use Rattle.rewrites.specs.Permitted.{Permits}
 use Rattle.rewrites.specs.Steps.{Step, IsNotApplicable, Rewrites}
-use Rattle.rewrites.specs.declared.fault.ApplyFault.{ApplyFault}
-use Rattle.rewrites.specs.declared.fault.ApplyFault.TheVariants as fault
+use Rattle.line_rewrites.specs.declared.fault.ApplyFault.{ApplyFault}
+use Rattle.line_rewrites.specs.declared.fault.ApplyFault.TheVariants as fault
+use Rattle.rewrites.proofs.StepKinds.{gives_kind}
 use Rattle.signatures.specs.Rules.{IsLabelUnread}
 use Rattle.signatures.specs.Signatures.{HasSignature}
 use Rattle.signatures.specs.declared.label.LabelFault.{LabelFault}
@@ -35,15 +35,7 @@ use Rattle.refusals.specs.declared.refusal.StepRefusal.TheVariants.{LabelUnread,
 -- ---- the message that a step gives
 
 pub step_message : (context : MessageContext) (step : Rewrite) (after : Message) → Step context step after → IsMessage (answers_head context.related) after
-step_message context (Pad side index before behind) after is = is.message
-step_message context (Fold side index at blanks) after is = is.message
-step_message context (Unfold side index at) after is = is.message
-step_message context (Join side index later) after is = is.message
-step_message context (Split side index at) after is = is.message
-step_message context (Move side index to) after is = is.message
-step_message context (Case side index name) after is = is.message
-step_message context (Add side index name text) after is = is.message
-step_message context (Remove side index) after is = is.message
+step_message context step after is = (gives_kind context step after is).0
 
 -- ---- the label
 

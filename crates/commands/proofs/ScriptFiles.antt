@@ -9,13 +9,13 @@ use Rattle.hms_io.specs.declared.whole_file.FileError.{FileError}
 use Rattle.hms_io.specs.declared.whole_file.FileError.TheVariants as file
 use Rattle.rewrite_script.specs.Causes.{IsScriptFault}
 use Rattle.rewrite_script.specs.Lines.{is_writable}
-use Rattle.rewrite_script.specs.Scripts.{SpellsScript}
+use Rattle.rewrite_script.specs.Scripts.{HaveValues, SpellsScript}
 use Rattle.rewrite_script.specs.declared.fault.ScriptFault.{ScriptFault}
 use Rattle.rewrite_script.specs.declared.fault.ScriptFault.TheVariants as fault
 use Rattle.rewrite_script.specs.declared.rewrite.Rewrite.{Rewrite}
 use Rattle.rewrite_script.proofs.ScriptLaws.{has_script_or_fault, one_script, one_script_fault, no_fault_of_script}
 use Rattle.commands.specs.Files.{HasFound}
-use Rattle.commands.specs.Laws.{IsScriptDecided, HasScript, IsWritableWhereScripted}
+use Rattle.commands.specs.Laws.{IsScriptDecided, HasScript, HaveValuesWhereScripted, IsWritableWhereScripted}
 use Rattle.commands.specs.Layers.{IsDecisive, HasAnswer}
 use Rattle.commands.specs.Scripts.{IsScriptText, IsScriptTextRefused, IsScripted, IsScriptRefused}
 use Rattle.commands.specs.Stops.{IfStopped, IsRefusalFor, stop_of_file, stop_of_script}
@@ -135,3 +135,12 @@ found_writable (Some text) name script is = is.1.writable
 pub is_writable_where_scripted : IsWritableWhereScripted
 is_writable_where_scripted None found script is = subst (λ (s : List Rewrite). IsTrue (list_all is_writable s)) (sym is) refl
 is_writable_where_scripted (Some name) found script is = found_writable found name script is
+
+found_values : (found : Option (List ℕ)) (name : List ℕ) (script : List Rewrite) → IsScripted (Some name) found script → HaveValues script
+found_values None name script is = absurd is
+found_values (Some text) name script is = is.1.values
+
+-- its words have values
+pub have_values_where_scripted : HaveValuesWhereScripted
+have_values_where_scripted None found script is = subst (λ (s : List Rewrite). HaveValues s) (sym is) tt
+have_values_where_scripted (Some name) found script is = found_values found name script is

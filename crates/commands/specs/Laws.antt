@@ -19,6 +19,7 @@ use Rattle.commands.specs.Layers.{IsDecisive, HasAnswer}
 use Rattle.commands.specs.Messages.{IsInputMessage, IsInputRefused}
 use Rattle.commands.specs.MessageFiles.{IsRequested, IsRequestRefused, IsWanted, IsWantedRefused, IsOfBytes}
 use Rattle.rewrite_script.specs.Lines.{is_writable}
+use Rattle.rewrite_script.specs.Scripts.{HaveValues as HaveStepValues}
 use Rattle.rewrite_script.specs.declared.rewrite.Rewrite.{Rewrite}
 use Rattle.commands.specs.Rewrite.{ReportsRewriting}
 use Rattle.commands.specs.Scripts.{IsScripted, IsScriptRefused}
@@ -169,6 +170,12 @@ abbrev pub IsWritableWhereScripted : Type 0
 IsWritableWhereScripted =
     (name found : Option (List ℕ)) (script : List Rewrite) → IsScripted name found script
     → IsTrue (list_all is_writable script)
+
+-- the words of a script that was found have values
+abbrev pub HaveValuesWhereScripted : Type 0
+HaveValuesWhereScripted =
+    (name found : Option (List ℕ)) (script : List Rewrite) → IsScripted name found script
+    → HaveStepValues script
 
 -- a configuration that was found is a valid one
 abbrev pub IsValidWhereConfigured : Type 0

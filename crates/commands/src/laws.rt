@@ -1,7 +1,7 @@
 //! Laws of what is read, and of what comes of it. Each function does nothing; its contract is the
 //! law.
 
-ghost use Rattle.commands.specs.Laws.{IsConfigurationDecided, AreTablesDecided, IsRequestDecided, IsWantedDecided, IsScriptDecided, IsInputDecided, AreParamsDecided, AreValuesDecided, HaveOneOutcome, HasConfiguration, HaveTables, HasRequest, HasWanted, HasScript, HasMessage, HaveParams, HaveValuesOrLack, HaveSomeOutcome, HasOneSigning, HasSomeSigning, IsValidWhereConfigured, HasOneRewritten, HasSomeRewritten, IsWritableWhereScripted};
+ghost use Rattle.commands.specs.Laws.{IsConfigurationDecided, AreTablesDecided, IsRequestDecided, IsWantedDecided, IsScriptDecided, IsInputDecided, AreParamsDecided, AreValuesDecided, HaveOneOutcome, HasConfiguration, HaveTables, HasRequest, HasWanted, HasScript, HasMessage, HaveParams, HaveValuesOrLack, HaveSomeOutcome, HasOneSigning, HasSomeSigning, IsValidWhereConfigured, HasOneRewritten, HasSomeRewritten, IsWritableWhereScripted, HaveValuesWhereScripted};
 ghost use Rattle.commands.specs.SignedMessages.{IsMessageWhereSigned, IsRightWhereSigned};
 ghost use Rattle.commands.specs.RewrittenMessages.{IsMessageWhereRewritten, HasVerdictWhereRewritten};
 
@@ -48,10 +48,12 @@ pub fn rewriting_has_one_outcome()
     ensures one { HasOneRewritten }
     ensures some { HasSomeRewritten }
     ensures writable { IsWritableWhereScripted }
+    ensures values { HaveValuesWhereScripted }
 {}
 
 /// What is rewritten is a message of the same kind. Under a label it keeps the label's verdict, at
-/// each moment and by each configuration.
+/// each moment and by each configuration, of the same scheme and kinds of fields where a step rests
+/// on these.
 pub fn what_is_rewritten_keeps_its_verdict()
     ensures message { IsMessageWhereRewritten }
     ensures verdict { HasVerdictWhereRewritten }

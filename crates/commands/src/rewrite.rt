@@ -23,7 +23,6 @@ use rewrite_script::Rewrite;
 use rewrites::{ApplyFault, apply, permits};
 use sfv_text::Text;
 use signatures::{LabelRead, read_label};
-use signing::answers_head;
 use std::alloc::Global;
 
 /// What stops a run over a step that isn't taken.
@@ -120,7 +119,7 @@ fn taken_again(
         → SaysTaken (option_map (λ word. word.now) label.entry)
         (context_with (context_of context.now) message) index step.now result }
 {
-    match read_message(alloc, bytes, Expect::Any, answers_head(context)) {
+    match read_message(alloc, bytes, Expect::Any, context.answers_head()) {
         Ok(MessageRead::Whole(message, _)) => {
             let context = Context {
                 message: &message,

@@ -26,7 +26,7 @@ use framing::is_request;
 use msg_body::{Expect, MessageRead, MessageView, read_message};
 use refusals::{CommandRefusal, Refusal};
 use sfv_text::{Memory, Text};
-use signing::{SignFault, SignSpec, answers_head, sign, spec_of, wanted};
+use signing::{SignFault, SignSpec, sign, spec_of, wanted};
 use std::alloc::Global;
 
 /// What stops a run over a message that isn't signed.
@@ -76,7 +76,7 @@ fn signed_again(
         → Spells (answers_head (context_of context.now).related) message bytes.now
         → SaysSigned (context_with (context_of context.now) message) spec.now result }
 {
-    match read_message(alloc, bytes, Expect::Any, answers_head(context)) {
+    match read_message(alloc, bytes, Expect::Any, context.answers_head()) {
         Ok(MessageRead::Whole(message, _)) => {
             let context = Context {
                 message: &message,

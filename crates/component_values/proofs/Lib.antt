@@ -10,3 +10,5 @@ mod Unread
 mod FieldAnswers
 pub mod LineLaws
 pub mod SameLists
+pub mod StrictEnds
+pub mod SameReadings

@@ -1,11 +1,12 @@
 -- What a component comes to depends on its field, as far as its form asks, and on the values of `Host`.
-use Rattle.std.proofs.Common.{◌≡◌, ℕ, Bool, true, false, Option, Some, None, Result, Ok, Err, List, codes, refl, sym, ap, subst, inl, inr}
-use Rattle.std.proofs.lemmas.Bool.{cases_Bool}
+use Rattle.std.proofs.Common.{◌≡◌, ℕ, Bool, true, false, not, Option, Some, None, Result, Ok, Err, List, codes, refl, sym, ap, subst, inl, inr}
+use Rattle.std.proofs.lemmas.Bool.{and_parts, cases_Bool, not-true}
 use Rattle.sfv_text.specs.declared.pair.Pair.{Pair}
 use Rattle.sfv_text.specs.declared.value.BareItem.{BareItem}
 use Rattle.msg_head.specs.Lines.{FieldLine}
 use Rattle.msg_head.specs.Starts.{StartLine, request, status}
 use Rattle.msg_head.specs.Values.{is_there, values}
+use Rattle.framing.specs.Framings.{is_request}
 use Rattle.msg_body.specs.Messages.{Message}
 use Rattle.msg_body.specs.Views.{lines_on}
 use Rattle.msg_head.specs.declared.error.Side.TheVariants.{Header}
@@ -21,11 +22,11 @@ use Rattle.derived_values.specs.declared.derived.DerivedName.TheVariants.{Method
 use Rattle.derived_values.specs.declared.derived.TargetName.{TargetName}
 use Rattle.derived_values.specs.declared.derived.TargetName.TheVariants as target
 use Rattle.derived_values.specs.declared.lack.Lack.{Lack}
-use Rattle.component_values.specs.Alike.{AreAlikeFor, AreSameIn}
+use Rattle.component_values.specs.Alike.{AreAlikeFor, AreSameIn, is_own_field}
 use Rattle.component_values.specs.Context.{MessageContext, context_with}
 use Rattle.component_values.specs.Forms.{Form, form_of}
 use Rattle.component_values.specs.Forms as form
-use Rattle.component_values.specs.Laws.{DependsOnItsLines}
+use Rattle.component_values.specs.Laws.{DependsOnItsLines, DependsOnItsRow, DependsOnKind, DependsOnOwnLines, HasSameRow}
 use Rattle.component_values.specs.Values.{side_of, ComesTo, FieldRow, FormRow, KeyRow, KindRow, LineRow, MessageRow, NameRow, related_message}
 
 -- ---- derived components
@@ -121,36 +122,56 @@ module _ (context : MessageContext) (other : Message) where
   related_row (Err lack) id result row = row
   related_row (Ok message) id result row = drawn_same (is_field_name id.name) id message result row
 
-  module _ (start : other.head.start ≡ context.message.head.start) where
-    related_same : related_message moved ≡ related_message context
-    related_same = rw start refl
+  related_same : is_request other.head.start ≡ is_request context.message.head.start → related_message moved ≡ related_message context
+  related_same same = rw same refl
 
-    module _ (hosts : values (lines_on Header other) (codes "host") ≡ values (lines_on Header context.message) (codes "host")) (id : ComponentId) where
-      own_row : (is : Bool) (result : Result (List ℕ) Lack)
-          → (is ≡ true → AreSameIn (form_of id.params) (lines_on (side_of id.params) context.message) (lines_on (side_of id.params) other) id.name) → NameRow is context id context.message result
-          → NameRow is moved id other result
-      own_row true result same row =
-          field_same (lines_on (side_of id.params) context.message) (lines_on (side_of id.params) other) id.name id.params (kind_in context.types id.name) result (same refl) row
-      own_row false result same row =
-          subst (λ (s : StartLine). DerivedRow (derived_of id.name) id.params context.scheme (lines_on Header other) s result) (sym start)
-          (derived_same (lines_on Header context.message) (lines_on Header other) hosts id.params context.scheme (derived_of id.name) context.message.head.start result row)
+  by_kind : (id : ComponentId) → has_param id.params (codes "req") ≡ true → is_request other.head.start ≡ is_request context.message.head.start → (result : Result (List ℕ) Lack) → ComesTo context id result
+      → ComesTo moved id result
+  by_kind id req same result comes =
+      rw req (subst (λ (drawn : Result Message Lack). MessageRow drawn moved id result) (sym (related_same same)) (related_row (related_message context) id result (rw req at comes)))
 
-  comes_to_it : (id : ComponentId) (result : Result (List ℕ) Lack) → AreAlikeFor id context.message other → ComesTo context id result → ComesTo moved id result
-  comes_to_it id result alike comes = elim (cases_Bool (has_param id.params (codes "req"))) [
-    | inl req ↦
-        rw req (subst (λ (drawn : Result Message Lack). MessageRow drawn moved id result) (sym (related_same alike.start)) (related_row (related_message context) id result (rw req at comes)))
-    | inr own ↦ rw own (own_row alike.start alike.hosts id (is_field_name id.name) result (λ is. alike.own (rw (is, own) refl)) (rw own at comes))
-  ]
+  by_lines : (id : ComponentId) → is_own_field id ≡ true → AreSameIn (form_of id.params) (lines_on (side_of id.params) context.message) (lines_on (side_of id.params) other) id.name → (result : Result (List ℕ) Lack)
+      → ComesTo context id result → ComesTo moved id result
+  by_lines id own same result comes =
+      let both = and_parts (is_field_name id.name) (not (has_param id.params (codes "req"))) own in
+      let is : has_param id.params (codes "req") ≡ false = not-true (has_param id.params (codes "req")) both.1 in
+      rw (is, both.0) (field_same (lines_on (side_of id.params) context.message) (lines_on (side_of id.params) other) id.name id.params (kind_in context.types id.name) result same (rw (is, both.0) at comes))
 
-pub alike_back : (id : ComponentId) (message other : Message) → AreAlikeFor id message other → AreAlikeFor id other message
-alike_back id message other alike = record {
-  start = sym alike.start;
-  hosts = sym alike.hosts;
-  own = λ own. same_back (lines_on (side_of id.params) message) (lines_on (side_of id.params) other) id.name (form_of id.params) (alike.own own);
-}
+  by_row : (id : ComponentId) → has_param id.params (codes "req") ≡ false → is_field_name id.name ≡ false → HasSameRow context other id → (result : Result (List ℕ) Lack) → ComesTo context id result → ComesTo moved id result
+  by_row id own derived same result comes = rw (own, derived) ((same result).0 (rw (own, derived) at comes))
+
+-- ---- the laws
+
+pub depends_on_kind : DependsOnKind
+depends_on_kind context other id req same result = (by_kind context other id req same result, by_kind (context_with context other) context.message id req (sym same) result)
+
+pub depends_on_own_lines : DependsOnOwnLines
+depends_on_own_lines context other id own same result =
+    let side = side_of id.params in
+    let back = same_back (lines_on side context.message) (lines_on side other) id.name (form_of id.params) same in
+    (by_lines context other id own same result, by_lines (context_with context other) context.message id own back result)
+
+pub depends_on_its_row : DependsOnItsRow
+depends_on_its_row context other id own derived same result =
+    (by_row context other id own derived same result, by_row (context_with context other) context.message id own derived (λ result. ((same result).1, (same result).0)) result)
+
+-- the row over the same start line and the same values of `Host`
+row_same : (context : MessageContext) (other : Message) (id : ComponentId) → AreAlikeFor id context.message other → HasSameRow context other id
+row_same context other id alike result =
+    let name = derived_of id.name in
+    let before = lines_on Header context.message in
+    let after = lines_on Header other in (
+      λ row. subst (λ (s : StartLine). DerivedRow name id.params context.scheme after s result) (sym alike.start)
+          (derived_same before after alike.hosts id.params context.scheme name context.message.head.start result row),
+      λ row. subst (λ (s : StartLine). DerivedRow name id.params context.scheme before s result) alike.start
+          (derived_same after before (sym alike.hosts) id.params context.scheme name other.head.start result row),
+    )
 
 pub depends_on_its_lines : DependsOnItsLines
-depends_on_its_lines context other id alike result = (
-  comes_to_it context other id result alike,
-  comes_to_it (context_with context other) context.message id result (alike_back id context.message other alike),
-)
+depends_on_its_lines context other id alike = elim (cases_Bool (has_param id.params (codes "req"))) [
+  | inl req ↦ depends_on_kind context other id req (ap is_request alike.start)
+  | inr mine ↦ elim (cases_Bool (is_field_name id.name)) [
+    | inl field ↦ let own : is_own_field id ≡ true = rw (field, mine) refl in depends_on_own_lines context other id own (alike.own own)
+    | inr derived ↦ depends_on_its_row context other id mine derived (row_same context other id alike)
+  ]
+]

@@ -45,7 +45,7 @@ strict_one {V} Reads text_of decides one text = elim (decides text) [
     is_unread none (Ok value) row = absurd (none row.0 row.1)
     is_unread none (Err lack) row = ap Err row.0
 
-kind_one : (known : Option FieldKind) (text : List ℕ) → HasSoleAnswer (KindRow known text)
+pub kind_one : (known : Option FieldKind) (text : List ℕ) → HasSoleAnswer (KindRow known text)
 kind_one (Some kind.Item) text = strict_one ReadsItem item_text item_is_decided item_has_one_value text
 kind_one (Some kind.List) text = strict_one ReadsList list_text list_is_decided list_has_one_value text
 kind_one (Some kind.Dictionary) text = strict_one ReadsDict dict_text dict_is_decided dict_has_one_value text
@@ -53,11 +53,11 @@ kind_one None text = the_answer (Err Unreadable)
 
 -- ---- members
 
-abbrev member_answer : Option Member → Answer
+abbrev pub member_answer : Option Member → Answer
 member_answer None = Err Absent
 member_answer (Some member) = Ok (member_text member)
 
-member_some : (key text : List ℕ) (dict : List (Pair Member)) → ReadsDict text dict → (found : Option Member) → value_of dict key ≡ found → MemberRow key text (member_answer found)
+pub member_some : (key text : List ℕ) (dict : List (Pair Member)) → ReadsDict text dict → (found : Option Member) → value_of dict key ≡ found → MemberRow key text (member_answer found)
 member_some key text dict reads None is = (dict, reads, is)
 member_some key text dict reads (Some member) is = (dict, reads, rw is refl)
 
@@ -68,7 +68,7 @@ at_member value (Some member) is = ap Ok is
 one_dict : (text : List ℕ) (dict other : List (Pair Member)) → ReadsDict text dict → ReadsDict text other → dict ≡ other
 one_dict = dict_has_one_value
 
-member_read : (key text : List ℕ) (dict : List (Pair Member)) → ReadsDict text dict → (other : Answer) → MemberRow key text other → other ≡ member_answer (value_of dict key)
+pub member_read : (key text : List ℕ) (dict : List (Pair Member)) → ReadsDict text dict → (other : Answer) → MemberRow key text other → other ≡ member_answer (value_of dict key)
 member_read key text dict reads (Ok value) row =
     at_member value (value_of row.0 key) row.2 ∙ ap (λ d. member_answer (value_of d key)) (one_dict text row.0 dict row.1 reads)
 member_read key text dict reads (Err Absent) row =

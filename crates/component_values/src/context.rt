@@ -1,6 +1,7 @@
 //! What the values of components are drawn from.
 
 use component_ids::{Scheme, Types};
+use framing::is_head_request;
 use msg_body::MessageView;
 
 /// What the values of components are drawn from (RFC 9421 section 1.1: the context of a signature).
@@ -20,7 +21,7 @@ pub struct Context<'a, 'm> {
 impl<'a, 'm> Context<'a, 'm> {
     ghost use Rattle.std.specs.Prelude.{◌≡◌, None};
     ghost use Rattle.msg_body.specs.Views.{message_of};
-    ghost use Rattle.component_values.specs.Context.{context_of};
+    ghost use Rattle.component_values.specs.Context.{answers_head, context_of};
 
     /// The context of a message without a related request.
     pub fn of_message(
@@ -41,6 +42,17 @@ impl<'a, 'm> Context<'a, 'm> {
             related,
             scheme,
             types,
+        }
+    }
+
+    /// Whether the message answers a HEAD request, so that it has no content (RFC 9112 section
+    /// 6.3).
+    pub fn answers_head(&self) -> bool
+        ensures { result ≡ answers_head (context_of self.now).related }
+    {
+        match self.related {
+            Some(request) => is_head_request(request.start()),
+            None => false,
         }
     }
 }

@@ -33,8 +33,9 @@ pub use covered::{prepare, prepare_in};
 pub use derived_values::Lack;
 pub use fault::ValueFault;
 pub use laws::{
-    components_depend_on_their_lines, components_have_one_answer,
-    signatures_depend_on_their_components, signatures_have_one_answer,
+    components_depend_on_their_lines, components_depend_on_what_they_are_drawn_from,
+    components_have_one_answer, signatures_depend_on_their_components, signatures_have_one_answer,
+    strict_texts_come_to_the_same,
 };
 pub use prepared::Prepared;
 pub use readings::Readings;

@@ -1,3 +1,4 @@
 mod Bytes
 pub mod DigestLaws
+pub mod SameDicts
 mod Judged

@@ -1,5 +1,6 @@
 -- Laws of digests.
-use Rattle.std.specs.Prelude.{◌≡◌, ◌⊎◌, ℕ, List}
+use Rattle.std.specs.Prelude.{◌≡◌, ◌↔◌, ◌⊎◌, ℕ, List}
+use Rattle.sfv_read.specs.Laws.{ReadAlike}
 use Rattle.content_digest.specs.declared.fault.DigestFault.{DigestFault}
 use Rattle.content_digest.specs.Digests.{DigestHolds}
 use Rattle.content_digest.specs.Faults.{IsDigestFault}
@@ -18,3 +19,11 @@ NoFaultWhereHolds = (text content : List ℕ) (fault : DigestFault) →
 abbrev pub OneDigestFault : Type 0
 OneDigestFault = (text content : List ℕ) (fault other : DigestFault) →
     IsDigestFault text content fault → IsDigestFault text content other → fault ≡ other
+
+-- Of two texts that read as the same Dictionary both or neither have the digests of a content, and
+-- both have the same faults.
+pub record DependsOnItsDict : Type 0 where
+  pub holds : (text other content : List ℕ) → ReadAlike text other
+      → DigestHolds text content ↔ DigestHolds other content
+  pub fault : (text other content : List ℕ) (fault : DigestFault) → ReadAlike text other
+      → IsDigestFault text content fault → IsDigestFault other content fault

@@ -1,4 +1,5 @@
 pub mod Words
 pub mod Answers
 pub mod Derived
+pub mod Laws
 pub mod tools

@@ -7,13 +7,15 @@
 //! same_tag(&hmac.finish(), tag)
 //! ```
 //!
-//! Nothing here takes memory or refuses anything. How long a call takes may depend on the key and
-//! on the tags.
+//! But for a kept key, nothing here takes memory or refuses anything. How long a call takes may
+//! depend on the key and on the tags.
 #![tactic(auto)]
 
+mod hmac_key;
 mod key;
 mod mac;
 mod tag;
 
+pub use hmac_key::HmacKey;
 pub use mac::Hmac;
 pub use tag::same_tag;

@@ -1,13 +1,32 @@
 //! HMAC over pieces.
 
 ghost use Rattle.std.specs.Prelude.{◌≡◌, ◌++◌, ℕ, List, []};
-ghost use Rattle.hmac_sha256.specs.Hmac.{hmac, key_block};
+ghost use Rattle.sha2.specs.Hashers.{Holds256};
+ghost use Rattle.hmac_sha256.specs.Hmac.{hmac, key_block, xor_each};
 ghost use Rattle.hmac_sha256.specs.State.{HasAbsorbed, HasText};
 
 use crate::key::{BLOCK_SIZE, IPAD, OPAD, key_block, xor_each};
 use sfv_text::Absorb;
 use sha2::{Digest, Sha256};
 use std::marker::Model;
+
+/// SHA-256 of the block under the pad, and of what is still to come.
+fn under_pad(block: &[u8; BLOCK_SIZE], pad: u8) -> Sha256
+    ensures { Holds256 result (xor_each pad block.now) }
+{
+    let mut hasher = Sha256::new();
+    hasher.update(&xor_each(block, pad));
+    hasher
+}
+
+fn copy_of(hasher: &Sha256) -> Sha256
+    ensures { result ≡ hasher.now }
+{
+    match hasher.clone() {
+        Ok(copy) => copy,
+        Err(_) => unreachable!(),
+    }
+}
 
 /// The HMAC of a text that comes in pieces (RFC 2104 section 2), with SHA-256.
 ///
@@ -17,8 +36,8 @@ use std::marker::Model;
 pub struct Hmac {
     // It was given the key XOR ipad, and then the text.
     inner: Sha256,
-    // The key XOR opad.
-    outer: [u8; BLOCK_SIZE],
+    // It was given the key XOR opad.
+    outer: Sha256,
 }
 
 impl Model for Hmac {
@@ -37,11 +56,19 @@ impl Hmac {
         ensures absorbed { HasAbsorbed result (key_block key.now) }
     {
         let block = key_block(key);
-        let mut inner = Sha256::new();
-        inner.update(&xor_each(&block, IPAD));
         Hmac {
-            inner,
-            outer: xor_each(&block, OPAD),
+            inner: under_pad(&block, IPAD),
+            outer: under_pad(&block, OPAD),
+        }
+    }
+
+    /// An equal one of its own.
+    pub(crate) fn copy(&self) -> Hmac
+        ensures { result ≡ self.now }
+    {
+        Hmac {
+            inner: copy_of(&self.inner),
+            outer: copy_of(&self.outer),
         }
     }
 
@@ -62,8 +89,7 @@ impl Hmac {
             → result ≡ hmac key text }
     {
         let inner = self.inner.finalize();
-        let mut outer = Sha256::new();
-        outer.update(&self.outer);
+        let mut outer = self.outer;
         outer.update(&inner);
         outer.finalize()
     }

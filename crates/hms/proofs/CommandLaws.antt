@@ -9,7 +9,7 @@ use Rattle.commands.proofs.ScriptFiles as scripts
 use Rattle.commands.proofs.LowerRewriting as rewritten
 use Rattle.commands.proofs.SignedMessages as signed
 use Rattle.commands.proofs.TakenFiles as files
-use Rattle.commands.specs.Laws.{IsConfigurationDecided, AreTablesDecided, IsRequestDecided, IsWantedDecided, IsInputDecided, AreParamsDecided, AreValuesDecided, HaveOneOutcome, HasConfiguration, HaveTables, HasRequest, HasWanted, HasMessage, HaveParams, HaveValuesOrLack, HaveSomeOutcome, HasOneSigning, HasSomeSigning, IsValidWhereConfigured, IsScriptDecided, HasScript, HasOneRewritten, HasSomeRewritten, IsWritableWhereScripted}
+use Rattle.commands.specs.Laws.{IsConfigurationDecided, AreTablesDecided, IsRequestDecided, IsWantedDecided, IsInputDecided, AreParamsDecided, AreValuesDecided, HaveOneOutcome, HasConfiguration, HaveTables, HasRequest, HasWanted, HasMessage, HaveParams, HaveValuesOrLack, HaveSomeOutcome, HasOneSigning, HasSomeSigning, IsValidWhereConfigured, IsScriptDecided, HasScript, HasOneRewritten, HasSomeRewritten, HaveValuesWhereScripted, IsWritableWhereScripted}
 use Rattle.commands.specs.RewrittenMessages.{IsMessageWhereRewritten, HasVerdictWhereRewritten}
 use Rattle.commands.specs.SignedMessages.{IsMessageWhereSigned, IsRightWhereSigned}
 
@@ -84,6 +84,9 @@ script_answer = scripts.has_script
 
 pub writable_where_scripted : IsWritableWhereScripted
 writable_where_scripted = scripts.is_writable_where_scripted
+
+pub values_where_scripted : HaveValuesWhereScripted
+values_where_scripted = scripts.have_values_where_scripted
 
 pub rewriting_law : HasOneRewritten
 rewriting_law = rewritten.one_rewritten

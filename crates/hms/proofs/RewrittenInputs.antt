@@ -1,7 +1,7 @@
 -- What `rewrite` writes under a label has the verdict on it that the message had that was read.
 use Rattle.std.proofs.Common.{◌≡◌, ◌≤◌, ℕ, Bool, Option, Some, None, List, [], ◌∷◌, length, refl, sym, ap, subst, ◌∙◌, inl, inr}
 use Rattle.std.specs.Prelude.{⊤, ◌↔◌, IsTrue, not}
-use Rattle.std.specs.List.{list_all}
+use Rattle.std.specs.List.{list_all, list_any}
 use Rattle.sfv_text.specs.Classes.{is_byte}
 use Rattle.command_line.specs.Command.{CommandLine, Rewrite, Verify, RewriteWords, VerifyWords, IsCommand}
 use Rattle.command_line.proofs.CommandLaws.{one_command}
@@ -10,9 +10,11 @@ use Rattle.msg_body.specs.Messages.{Message, Spells, is_expected}
 use Rattle.component_values.specs.Context.{MessageContext, answers_head}
 use Rattle.conf.specs.Configuration.{Configuration}
 use Rattle.rewrite_script.specs.declared.rewrite.Rewrite.{Rewrite as Rewriting}
-use Rattle.rewrites.specs.Laws.{HasSameVerdict}
+use Rattle.permissions.specs.Laws.{IsReadAs}
+use Rattle.rewrites.specs.Laws.{HasSameVerdict, rests_on_conf}
 use Rattle.verdicts.specs.Verdicts.{IsVerdict}
 use Rattle.verdicts.specs.declared.outcome.Verdict.{Verdict}
+use Rattle.commands.specs.Configured.{IsConfigured}
 use Rattle.commands.specs.Contexts.{context_for}
 use Rattle.commands.specs.Files.{Found, Conf as ConfFile, Request as RequestFile, Wanted as WantedFile, Script as ScriptFile}
 use Rattle.commands.specs.Layers.{ReadsThen}
@@ -33,7 +35,7 @@ use Rattle.hms.specs.Laws.{IsVerdictKept, VerifiesRewritten}
 use Rattle.hms.specs.Report.{Answers, Reports, ReportsCommand, ReportsMessage, ReportsRequest, ReportsScript, ReportsTables, ReportsWishes}
 use Rattle.hms.proofs.Sources.{spelled_input}
 use Rattle.hms.proofs.SignedInputs.{label_verdict, then_of, to_head_is}
-use Rattle.hms.proofs.CommandLaws.{request_decided, input_decided, message_where_rewritten, verdict_where_rewritten, writable_where_scripted}
+use Rattle.hms.proofs.CommandLaws.{request_decided, input_decided, message_where_rewritten, values_where_scripted, verdict_where_rewritten, writable_where_scripted}
 
 -- ---- what `rewrite` read
 
@@ -46,6 +48,7 @@ record IsRewritten (words : RewriteWords) (found : Found) (input written : List 
   message : Message
   is : IsInputMessage (reading_for related) input message
   conf : Configuration
+  configured : IsConfigured words.conf (found ConfFile) conf
   reports : ReportsRewriting words.label script (context_for conf message related) (Done written)
 
 of_files : (words : RewriteWords) (found : Found) (input written : List ℕ) → ReportsCommand (Rewrite words) found input (Done written) → IsRewritten words found input written
@@ -63,6 +66,7 @@ of_files words found input written (inl (conf, configured, inl (_, tables, inl (
   message = message;
   is = is;
   conf = conf;
+  configured = configured;
   reports = reports;
 }
 
@@ -106,46 +110,46 @@ more_of Reads Causes refusal_of Then Other outcome more (inr cause) = inr cause
 
 module _ (verified : VerifyWords) (label : List ℕ) (asked : verified.label ≡ Some label) (found : Found) (related : Option Message) (requested : IsRequested verified.request (found RequestFile) related)
     (input other : List ℕ) (message after : Message) (is : IsInputMessage (reading_for related) input message) (also : IsInputMessage (reading_for related) other after)
-    (same : (conf : Configuration) (verdict : Verdict) → IsVerdict (verification_for conf verified.now (context_for conf message related) label) verdict
+    (same : (conf : Configuration) → IsConfigured (Some verified.conf) (found ConfFile) conf → (verdict : Verdict) → IsVerdict (verification_for conf verified.now (context_for conf message related) label) verdict
     → IsVerdict (verification_for conf verified.now (context_for conf after related) label) verdict) where
   Then : Answers
   Then = λ conf wishes script. ReportsVerdicts verified.label verified.now conf
 
-  message_same : (conf : Configuration) (wishes : Option Message) (script : List Rewriting) (outcome : Outcome)
+  message_same : (conf : Configuration) → IsConfigured (Some verified.conf) (found ConfFile) conf → (wishes : Option Message) (script : List Rewriting) (outcome : Outcome)
       → ReportsMessage (Then conf wishes script) conf related input outcome → ReportsMessage (Then conf wishes script) conf related other outcome
   unfolding Then
-  message_same conf wishes script outcome reports =
+  message_same conf configured wishes script outcome reports =
       let verdicts = then_of _ _ (λ refusal. Of OfInput refusal) (λ m. ReportsVerdicts verified.label verified.now conf (context_for conf m related)) (input_decided (reading_for related) input) message is outcome reports in
-      inl (after, also, verdicts_same verified conf label (context_for conf message related) (context_for conf after related) outcome asked (same conf) verdicts)
+      inl (after, also, verdicts_same verified conf label (context_for conf message related) (context_for conf after related) outcome asked (same conf configured) verdicts)
 
-  script_same : (conf : Configuration) (wishes : Option Message) (outcome : Outcome) → ReportsScript Then conf related wishes (name_of (Verify verified)) found input outcome
+  script_same : (conf : Configuration) → IsConfigured (Some verified.conf) (found ConfFile) conf → (wishes : Option Message) (outcome : Outcome) → ReportsScript Then conf related wishes (name_of (Verify verified)) found input outcome
       → ReportsScript Then conf related wishes (name_of (Verify verified)) found other outcome
-  script_same conf wishes outcome =
+  script_same conf configured wishes outcome =
       more_of _ _ (λ refusal. Of OfScript refusal) (λ s. ReportsMessage (Then conf wishes s) conf related input) (λ s. ReportsMessage (Then conf wishes s) conf related other) outcome
-      (λ script _. message_same conf wishes script outcome)
+      (λ script _. message_same conf configured wishes script outcome)
 
-  wishes_same : (conf : Configuration) (outcome : Outcome) → ReportsWishes Then conf related (name_of (Verify verified)) found input outcome
+  wishes_same : (conf : Configuration) → IsConfigured (Some verified.conf) (found ConfFile) conf → (outcome : Outcome) → ReportsWishes Then conf related (name_of (Verify verified)) found input outcome
       → ReportsWishes Then conf related (name_of (Verify verified)) found other outcome
-  wishes_same conf outcome =
+  wishes_same conf configured outcome =
       more_of _ _ (λ refusal. Of OfWanted refusal) (λ w. ReportsScript Then conf related w (name_of (Verify verified)) found input) (λ w. ReportsScript Then conf related w (name_of (Verify verified)) found other) outcome
-      (λ wishes _. script_same conf wishes outcome)
+      (λ wishes _. script_same conf configured wishes outcome)
 
-  request_same : (conf : Configuration) (outcome : Outcome) → ReportsRequest Then conf (name_of (Verify verified)) found input outcome
+  request_same : (conf : Configuration) → IsConfigured (Some verified.conf) (found ConfFile) conf → (outcome : Outcome) → ReportsRequest Then conf (name_of (Verify verified)) found input outcome
       → ReportsRequest Then conf (name_of (Verify verified)) found other outcome
-  request_same conf outcome =
+  request_same conf configured outcome =
       more_of _ _ (λ refusal. Of OfRequest refusal) (λ r. ReportsWishes Then conf r (name_of (Verify verified)) found input) (λ r. ReportsWishes Then conf r (name_of (Verify verified)) found other) outcome
       (λ r reads then.
       let one : related ≡ r = (request_decided verified.request (found RequestFile)).value related r requested reads in
       subst (λ (q : Option Message). ReportsWishes Then conf q (name_of (Verify verified)) found other outcome) one
-      (wishes_same conf outcome (subst (λ (q : Option Message). ReportsWishes Then conf q (name_of (Verify verified)) found input outcome) (sym one) then)))
+      (wishes_same conf configured outcome (subst (λ (q : Option Message). ReportsWishes Then conf q (name_of (Verify verified)) found input outcome) (sym one) then)))
 
   command_same : (outcome : Outcome) → ReportsCommand (Verify verified) found input outcome → ReportsCommand (Verify verified) found other outcome
   unfolding Then
   command_same outcome =
       more_of _ _ (λ refusal. Of OfConf refusal) (λ c. ReportsTables Nothing Then c (name_of (Verify verified)) found input) (λ c. ReportsTables Nothing Then c (name_of (Verify verified)) found other) outcome
-      (λ conf _.
+      (λ conf configured.
       more_of _ _ (λ refusal. Of OfConf refusal) (λ (_ : ⊤). ReportsRequest Then conf (name_of (Verify verified)) found input) (λ (_ : ⊤). ReportsRequest Then conf (name_of (Verify verified)) found other) outcome
-      (λ _ _. request_same conf outcome))
+      (λ _ _. request_same conf configured outcome))
 
   reports_same : (arguments : List (List ℕ)) (outcome : Outcome) → IsCommand arguments (Verify verified) → Reports arguments found input outcome → Reports arguments found other outcome
   reports_same arguments outcome spells (inr cause) = absurd (cause.1 (Verify verified) spells)
@@ -157,7 +161,7 @@ module _ (verified : VerifyWords) (label : List ℕ) (asked : verified.label ≡
       )
 
 pub verdict_kept : IsVerdictKept
-verdict_kept rewriting verifying rewritten verified label found other input written outcome is also same request wrote bytes =
+verdict_kept rewriting verifying rewritten verified label found other input written outcome is also same request alike wrote bytes =
     let parts = rewritten_parts rewriting rewritten found input written is wrote in
     let context = context_for parts.conf parts.message parts.related in
     let spelled = spelled_input parts.related input parts.message parts.is in
@@ -165,13 +169,18 @@ verdict_kept rewriting verifying rewritten verified label found other input writ
     let writable = writable_where_scripted (Some rewritten.script) (found ScriptFile) parts.script parts.scripted in
     let reports : ReportsRewriting (Some label) parts.script context (Done written) =
     subst (λ (l : Option (List ℕ)). ReportsRewriting l parts.script context (Done written)) same.label_of parts.reports in
-    let kept = λ (conf : Configuration). verdict_where_rewritten label parts.script context input written end.0 conf writable spelled reports end.1 in
+    let values = values_where_scripted (Some rewritten.script) (found ScriptFile) parts.script parts.scripted in
+    let agree : (conf : Configuration) → IsConfigured (Some verified.conf) (other ConfFile) conf → IsTrue (list_any rests_on_conf parts.script)
+    → IsReadAs context (context_for conf parts.message parts.related) =
+    λ conf configured rests. alike (parts.script, parts.scripted, rests) parts.conf conf parts.configured configured in
+    let kept = λ (conf : Configuration) (configured : IsConfigured (Some verified.conf) (other ConfFile) conf).
+    verdict_where_rewritten label parts.script context input written end.0 conf writable values (agree conf configured) spelled reports end.1 in
     let requested : IsRequested verified.request (other RequestFile) parts.related =
     subst (λ (text : Option (List ℕ)). IsRequested verified.request text parts.related) (sym request)
     (subst (λ (name : Option (List ℕ)). IsRequested name (found RequestFile) parts.related) (sym same.request) parts.requested) in
     let then = input_is parts.related input written parts.message end.0 parts.is end.1 end.2 bytes in (
       reports_same verified label same.label_is other parts.related requested input written parts.message end.0 parts.is then
-          (λ conf verdict. (kept conf conf verified.now None verdict).0) verifying outcome also,
+          (λ conf configured verdict. (kept conf configured conf verified.now None verdict).0) verifying outcome also,
       reports_same verified label same.label_is other parts.related requested written input end.0 parts.message then parts.is
-          (λ conf verdict. (kept conf conf verified.now None verdict).1) verifying outcome also,
+          (λ conf configured verdict. (kept conf configured conf verified.now None verdict).1) verifying outcome also,
     )

@@ -1,6 +1,6 @@
 -- Laws of what the program answers.
 use Rattle.std.specs.Prelude.{◌≡◌, ◌⊎◌, ◌↔◌, ⊤, ℕ, IsTrue, IsFalse, List, [], ◌∷◌, Option, Some, None}
-use Rattle.std.specs.List.{list_all}
+use Rattle.std.specs.List.{list_all, list_any}
 use Rattle.hms_io.specs.declared.status.Status.TheVariants.{Done, NotOk}
 use Rattle.sfv_text.specs.Classes.{is_byte}
 use Rattle.command_line.specs.Command.{CommandLine, Help, Version, Base, Verify, Sign, Rewrite, SignWords, VerifyWords, RewriteWords, IsCommand}
@@ -29,6 +29,7 @@ use Rattle.commands.specs.declared.tables.Needs.{Needs}
 use Rattle.commands.specs.declared.tables.Needs.TheVariants.{Nothing, SignTable}
 use Rattle.framing.specs.Framings.{is_request}
 use Rattle.rewrite_script.specs.declared.rewrite.Rewrite.{Rewrite as Rewriting}
+use Rattle.rewrites.specs.Laws.{rests_on_conf}
 use Rattle.rewrites.specs.Steps.{Steps}
 use Rattle.signing.specs.Asked.{IsSpecOf}
 use Rattle.signing.specs.Signed.{IsSignedMessage}
@@ -177,14 +178,28 @@ pub record VerifiesRewritten (rewritten : RewriteWords) (verified : VerifyWords)
   pub label_is : verified.label ≡ Some label
   pub request : verified.request ≡ rewritten.request
 
+-- a step of the script rests on the configured scheme or kinds of fields
+abbrev pub RestsOnConf : RewriteWords → Found → Type 0
+RestsOnConf words found = (script : List Rewriting)
+    × IsScripted (Some words.script) (found ScriptFile) script
+    × IsTrue (list_any rests_on_conf script)
+
+-- the configurations of both commands have one scheme and the same kinds of fields
+abbrev pub AreReadAlike : RewriteWords → VerifyWords → Found → Found → Type 0
+AreReadAlike rewritten verified found other =
+    (conf next : Configuration) → IsConfigured rewritten.conf (found ConfFile) conf
+    → IsConfigured (Some verified.conf) (other ConfFile) next
+    → (next.scheme ≡ conf.scheme) × (next.types ≡ conf.types)
+
 -- Where `rewrite` is done under a label, `verify` comes to the same for the label over what was
 -- read and over what was written: the same line and status, at each moment and by each
--- configuration.
+-- configuration. Where a step rests on the scheme or the kinds of fields, these are the same.
 abbrev pub IsVerdictKept : Type 0
 IsVerdictKept =
     (rewriting verifying : List (List ℕ)) (rewritten : RewriteWords) (verified : VerifyWords)
     (label : List ℕ) (found other : Found) (input written : List ℕ) (outcome : Outcome)
     → IsCommand rewriting (Rewrite rewritten) → IsCommand verifying (Verify verified)
     → VerifiesRewritten rewritten verified label → other RequestFile ≡ found RequestFile
+    → (RestsOnConf rewritten found → AreReadAlike rewritten verified found other)
     → Reports rewriting found input (Written written) → IsTrue (list_all is_byte written)
     → Reports verifying other input outcome ↔ Reports verifying other written outcome

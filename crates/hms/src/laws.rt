@@ -25,7 +25,8 @@ pub fn what_is_signed_is_accepted()
 
 /// What `rewrite` writes under a label, given to `verify` with the same request, has the line of
 /// the label and the status that the message had that was read, at each moment and by each
-/// configuration.
+/// configuration; where a step rests on the configured scheme or kinds of fields, by each that has
+/// the same.
 pub fn what_is_rewritten_keeps_its_verdict()
     ensures { IsVerdictKept }
 {}

@@ -1,18 +1,21 @@
 -- Sides, blanks, names and texts.
-use Rattle.std.proofs.Common.{◌≡◌, ℕ, ◌≤◌, Bool, true, false, ◌&&◌, List, [], ◌∷◌, length, map, codes, Some, None, refl, sym, ap, ◌∙◌, inl, inr, eqb, bytes_eq, cond, arith}
+use Rattle.std.proofs.Common.{◌≡◌, ℕ, ◌≤◌, Bool, true, false, not, ◌&&◌, ◌||◌, List, [], ◌∷◌, length, map, codes, Some, None, refl, sym, ap, ◌∙◌, inl, inr, eqb, bytes_eq, cond, arith}
 use Rattle.std.specs.Prelude.{nat_lt, nat_le}
+use Rattle.std.specs.Char.{is_ascii_uppercase}
 use Rattle.std.specs.List.{list_all}
 use Rattle.std.proofs.lemmas.Bool.{cases_Bool, and_parts, and_from, eqb-true}
 use Rattle.std.proofs.lemmas.Bool.Decides.{nat_tests}
 use Rattle.std.proofs.lemmas.List.{length-map}
 use Rattle.std.proofs.lemmas.Slice.Eq.{bytes_eq-Decides}
 use Rattle.byte_grammar.specs.Classes.{is_blank, is_line_byte, is_tchar, is_token}
+use Rattle.byte_grammar.specs.Language.{starts_in}
 use Rattle.byte_grammar.proofs.ChoiceLaws.{apart}
 use Rattle.byte_grammar.proofs.ListLaws.{all_implied}
+use Rattle.sfv_text.specs.Classes.{is_key, is_key_first, is_key_rest}
 use Rattle.msg_head.specs.declared.error.Side.{Side}
 use Rattle.msg_head.specs.declared.error.Side.TheVariants.{Header, Trailer}
-use Rattle.rewrite_script.specs.Lines.{side_word, blank_letter, blanks_word, are_blanks}
-use Rattle.rewrite_script.specs.tools.LineWalk.{side_read, is_blank_letter, are_blank_letters, blank_of, blanks_read, name_read, text_read}
+use Rattle.rewrite_script.specs.Lines.{side_word, blank_letter, blanks_word, are_blanks, ends_in_space, is_base64_byte, is_list_text, is_lower_name, is_lower_tchar, is_query_byte, is_query_text}
+use Rattle.rewrite_script.specs.tools.LineWalk.{side_read, is_blank_letter, are_blank_letters, blank_of, blanks_read, name_read, text_read, lower_name_read, query_text_read, key_read, tag_read, params_read}
 use Rattle.rewrite_script.proofs.Cuts.{but}
 use Rattle.rewrite_script.proofs.Exactness.{IsExact, choice, itself_exact, line_byte_of, some_if_is, some_is}
 
@@ -161,3 +164,53 @@ name_free name is = all_implied is_tchar (but 32) (apart is_tchar 32 refl) name 
 pub text_exact : IsExact (λ text. text) (list_all is_line_byte) text_read
 unfolding text_read
 text_exact = itself_exact (list_all is_line_byte) (λ text is. is)
+
+lower_tchars : (name : List ℕ) → is_lower_name name ≡ true → list_all is_tchar name ≡ true
+lower_tchars name is =
+    let all = (and_parts (nat_lt 0 (length name)) (list_all is_lower_tchar name) is).1 in
+    all_implied is_lower_tchar is_tchar (λ c one. (and_parts (is_tchar c) (not (is_ascii_uppercase c)) one).0) name all
+
+pub lower_name_exact : IsExact (λ name. name) is_lower_name lower_name_read
+unfolding lower_name_read
+lower_name_exact = itself_exact is_lower_name (λ name is. all_implied is_tchar is_line_byte (line_byte_of is_tchar refl) name (lower_tchars name is))
+
+pub query_text_exact : IsExact (λ text. text) is_query_text query_text_read
+unfolding query_text_read
+query_text_exact = itself_exact is_query_text (λ text is. all_implied is_query_byte is_line_byte (line_byte_of is_query_byte refl) text (and_parts (starts_in (λ c. eqb c 63) text) (list_all is_query_byte text) is).1)
+
+-- ---- labels, tags and parameters
+
+abbrev is_key_byte : ℕ → Bool
+is_key_byte c = is_key_first c || is_key_rest c
+
+key_bytes : (key : List ℕ) → is_key key ≡ true → list_all is_key_byte key ≡ true
+key_bytes [] is = absurd cc
+key_bytes (c ∷ cs) is =
+    let both = and_parts (is_key_first c) (list_all is_key_rest cs) is in
+    and_from (is_key_byte c) (list_all is_key_byte cs) (or_left (is_key_first c) (is_key_rest c) both.0) (all_implied is_key_rest is_key_byte (λ d one. or_right (is_key_first d) (is_key_rest d) one) cs both.1)
+  where
+    or_left : (a b : Bool) → a ≡ true → (a || b) ≡ true
+    or_left true b e = refl
+    or_left false b e = absurd cc
+
+    or_right : (a b : Bool) → b ≡ true → (a || b) ≡ true
+    or_right true b e = refl
+    or_right false b e = e
+
+pub key_exact : IsExact (λ key. key) is_key key_read
+unfolding key_read
+key_exact = itself_exact is_key (λ key is. all_implied is_key_byte is_line_byte (line_byte_of is_key_byte refl) key (key_bytes key is))
+
+pub key_free : (key : List ℕ) → is_key key ≡ true → list_all (but 32) key ≡ true
+key_free key is = all_implied is_key_byte (but 32) (apart is_key_byte 32 refl) key (key_bytes key is)
+
+pub tag_exact : IsExact (λ tag. tag) (list_all is_base64_byte) tag_read
+unfolding tag_read
+tag_exact = itself_exact (list_all is_base64_byte) (λ tag is. all_implied is_base64_byte is_line_byte (line_byte_of is_base64_byte refl) tag is)
+
+pub tag_free : (tag : List ℕ) → list_all is_base64_byte tag ≡ true → list_all (but 32) tag ≡ true
+tag_free tag is = all_implied is_base64_byte (but 32) (apart is_base64_byte 32 refl) tag is
+
+pub params_exact : IsExact (λ params. params) is_list_text params_read
+unfolding params_read
+params_exact = itself_exact is_list_text (λ params is. (and_parts (list_all is_line_byte params) (starts_in (λ c. eqb c 40) params && not (ends_in_space params)) is).0)

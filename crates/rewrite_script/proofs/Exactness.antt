@@ -95,13 +95,18 @@ abbrev pub IsWrittenBy : List ℕ → Rewrite → Type 0
 IsWrittenBy line rewrite = (is_writable rewrite ≡ true) × (line ≡ spaced (rewrite_words rewrite))
 
 pub made_sound : {V : Type 0} {text : V → List ℕ} {right : V → Bool} {read : List ℕ → Option V} → IsExact text right read → (make : V → Rewrite) (kind : List ℕ)
-    → ((v : V) → is_writable (make v) ≡ right v) → ((v : V) → kind ++ 32 ∷ text v ≡ spaced (rewrite_words (make v)))
+    → ((v : V) → right v ≡ true → IsWrittenBy (kind ++ 32 ∷ text v) (make v))
     → (rest : List ℕ) (rewrite : Rewrite) → (read rest >>= λ v. Some (make v)) ≡ Some rewrite → IsWrittenBy (kind ++ 32 ∷ rest) rewrite
-made_sound {V} {text} {right} {read} exact make kind writable words rest rewrite e =
+made_sound {V} {text} {right} {read} exact make kind written rest rewrite e =
     let u = bind_some (read rest) (λ v. Some (make v)) rewrite e in
     let s = exact.sound rest u.0 u.1 in
     let same : make u.0 ≡ rewrite = some_is _ _ u.2 in
-    subst (IsWrittenBy (kind ++ 32 ∷ rest)) same (writable u.0 ∙ s.0, ap (λ (y : List ℕ). kind ++ 32 ∷ y) s.1 ∙ words u.0)
+    let line = written u.0 s.0 in
+    subst (IsWrittenBy (kind ++ 32 ∷ rest)) same (line.0, ap (λ (y : List ℕ). kind ++ 32 ∷ y) s.1 ∙ line.1)
+
+-- a line of one word
+pub word_is : (line word : List ℕ) (made rewrite : Rewrite) → bytes_eq line word ≡ true → Some made ≡ Some rewrite → IsWrittenBy word made → IsWrittenBy line rewrite
+word_is line word made rewrite is e written = subst (IsWrittenBy line) (some_is _ _ e) (written.0, (bytes_eq-Decides line word).0 is ∙ written.1)
 
 pub kind_is : (kind word rest : List ℕ) (rewrite : Rewrite) → bytes_eq kind word ≡ true → IsWrittenBy (word ++ 32 ∷ rest) rewrite → IsWrittenBy (kind ++ 32 ∷ rest) rewrite
 kind_is kind word rest rewrite is written = (written.0, ap (λ (k : List ℕ). k ++ 32 ∷ rest) ((bytes_eq-Decides kind word).0 is) ∙ written.1)

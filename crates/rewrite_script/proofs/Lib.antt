@@ -2,6 +2,8 @@ pub mod Cuts
 pub mod Exactness
 pub mod Numerals
 pub mod Arguments
+pub mod SizeLaws
 pub mod KindLaws
+pub mod ValueLaws
 pub mod ScriptLaws
 pub mod Judged

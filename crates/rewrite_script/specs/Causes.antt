@@ -6,13 +6,13 @@ use Rattle.rewrite_script.specs.declared.limits.TheConstants.{MAX_SCRIPT_LINES}
 use Rattle.rewrite_script.specs.declared.fault.ScriptFault.{ScriptFault}
 use Rattle.rewrite_script.specs.declared.fault.ScriptFault.TheVariants.{Memory, TooMany, BadLine}
 use Rattle.rewrite_script.specs.declared.rewrite.Rewrite.{Rewrite}
-use Rattle.rewrite_script.specs.Lines.{is_writable}
-use Rattle.rewrite_script.specs.Scripts.{ended_line, script_text, line_count}
+use Rattle.rewrite_script.specs.Lines.{HasValues, is_writable}
+use Rattle.rewrite_script.specs.Scripts.{HaveValues, ended_line, script_text, line_count}
 
 -- the bytes don't begin with the line of a rewriting and its LF
 abbrev pub BeginsWithNoLine : List ℕ → Type 0
 BeginsWithNoLine bytes = (rewrite : Rewrite) (more : List ℕ)
-    → IsTrue (is_writable rewrite) → ¬ (bytes ≡ ended_line rewrite ++ more)
+    → IsTrue (is_writable rewrite) → HasValues rewrite → ¬ (bytes ≡ ended_line rewrite ++ more)
 
 -- So many lines of rewritings come first, each ended by LF. After them there is something that
 -- doesn't begin with another.
@@ -21,6 +21,7 @@ pub record IsBadLine (text : List ℕ) (index : ℕ) : Type 0 where
   pub rest : List ℕ
   pub joined : text ≡ script_text before ++ rest
   pub writable : IsTrue (list_all is_writable before)
+  pub values : HaveValues before
   pub count : length before ≡ index
   pub some : 0 < length rest
   pub bad : BeginsWithNoLine rest

@@ -6,11 +6,13 @@ ghost use Rattle.std.specs.List.{list_all};
 ghost use Rattle.std.specs.Str.{byte};
 ghost use Rattle.std.specs.Str.Parse.{digits_value};
 ghost use Rattle.byte_grammar.specs.Classes.{is_digit, is_line_byte, is_tchar, is_token};
-ghost use Rattle.rewrite_script.specs.tools.LineWalk.{cut_read, side_read, is_number_word, has_leading_zero, number_read, is_blank_letter, are_blank_letters, blank_of, blanks_read, name_read, text_read};
+ghost use Rattle.rewrite_script.specs.Lines.{is_lower_name, is_lower_tchar, is_query_byte, is_query_text};
+ghost use Rattle.rewrite_script.specs.tools.LineWalk.{cut_read, side_read, is_number_word, has_leading_zero, number_read, is_blank_letter, are_blank_letters, blank_of, blanks_read, name_read, text_read, lower_name_read, query_text_read, sizes_read};
 ghost use Rattle.rewrite_script.specs.tools.Gives.{Gives};
 
 use crate::fault::LineFault;
 use crate::limits::{MAX_BLANKS, MAX_NUMBER_DIGITS};
+use crate::rewrite::Sizes;
 use byte_grammar::{Byte, ByteClass, Class, is_tchar, read_all, starts_with};
 use msg_head::Side;
 use sfv_text::{Memory, Text};
@@ -193,7 +195,7 @@ pub(crate) fn name_of(alloc: Global, word: &[u8]) -> Result<Text, LineFault>
     Ok(Text::from_bytes(alloc, word)?)
 }
 
-fn are_line_bytes(bytes: &[u8]) -> bool
+pub(crate) fn are_line_bytes(bytes: &[u8]) -> bool
     ensures { result ≡ list_all is_line_byte bytes.now }
 {
     bytes.iter().all(|byte| Class::LineByte.allows(*byte))
@@ -208,4 +210,79 @@ pub(crate) fn text_of(alloc: Global, rest: &[u8]) -> Result<Text, LineFault>
         return Err(LineFault::NotSpelled);
     }
     Ok(Text::from_bytes(alloc, rest)?)
+}
+
+/// Numbers, with SP between two of them.
+#[tactic(auto, using(crate::proofs::SizeLaws::after_none, crate::proofs::SizeLaws::shorter_after, crate::proofs::SizeLaws::size_more, crate::proofs::SizeLaws::size_missing, crate::proofs::SizeLaws::last_size, crate::proofs::SizeLaws::no_last_size))]
+pub(crate) fn sizes_of(alloc: Global, bytes: &[u8]) -> Result<Sizes, LineFault>
+    ensures { Gives (λ sizes. sizes) result (sizes_read bytes.now) }
+{
+    let mut sizes = Sizes::new(alloc);
+    let mut rest = bytes;
+    'words: while let Some((word, after)) = cut(b' ', rest) {
+        sizes.push(number_of(word)? as u64)?;
+        rest = after;
+    }
+    sizes.push(number_of(rest)? as u64)?;
+    Ok(sizes)
+}
+
+fn is_lower_tchar(byte: u8) -> bool
+    ensures { result ≡ is_lower_tchar byte }
+{
+    is_tchar(byte) && !byte.is_ascii_uppercase()
+}
+
+fn are_lower_tchars(bytes: &[u8]) -> bool
+    ensures { result ≡ list_all is_lower_tchar bytes.now }
+{
+    bytes.iter().all(|byte| is_lower_tchar(*byte))
+}
+
+/// Whether the word is a field name in lower case.
+fn is_lower_name(word: &[u8]) -> bool
+    ensures { result ≡ is_lower_name word.now }
+{
+    !word.is_empty() && are_lower_tchars(word)
+}
+
+/// The field name in lower case that the word is.
+#[tactic(auto, unfolding(crate::specs::tools::LineWalk::lower_name_read))]
+pub(crate) fn lower_name_of(alloc: Global, word: &[u8]) -> Result<Text, LineFault>
+    ensures { Gives (λ name. name) result (lower_name_read word.now) }
+{
+    if !is_lower_name(word) {
+        return Err(LineFault::NotSpelled);
+    }
+    Ok(Text::from_bytes(alloc, word)?)
+}
+
+fn is_query_byte(byte: u8) -> bool
+    ensures { result ≡ is_query_byte byte }
+{
+    Class::Visible.allows(byte) && byte != b'#'
+}
+
+fn are_query_bytes(bytes: &[u8]) -> bool
+    ensures { result ≡ list_all is_query_byte bytes.now }
+{
+    bytes.iter().all(|byte| is_query_byte(*byte))
+}
+
+/// Whether the text is `?` and the bytes of a query.
+fn is_query_text(text: &[u8]) -> bool
+    ensures { result ≡ is_query_text text.now }
+{
+    starts_with(Byte(b'?'), text) && are_query_bytes(text)
+}
+
+/// The query, with its `?`, that the text is.
+#[tactic(auto, unfolding(crate::specs::tools::LineWalk::query_text_read))]
+pub(crate) fn query_text_of(alloc: Global, text: &[u8]) -> Result<Text, LineFault>
+    ensures { Gives (λ query. query) result (query_text_read text.now) }
+{
+    if !is_query_text(text) {
+        return Err(LineFault::NotSpelled);
+    }
+    Ok(Text::from_bytes(alloc, text)?)
 }

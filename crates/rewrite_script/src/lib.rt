@@ -14,6 +14,15 @@
 //! case h 0 HOST
 //! add h 2 Via 1.1 proxy
 //! remove t 1
+//! add-label b AAAA ();created=1 // signature lines with label b, tag AAAA and these parameters
+//! rechunk 5 13            // the content in chunks of 5 and 13 bytes
+//! chunk 5 13
+//! dechunk
+//! origin
+//! absolute
+//! host example.com
+//! query ?a=1              // the target's query; `query` alone takes it away
+//! resf h example-dict
 //! ```
 //!
 //! ```text
@@ -24,6 +33,7 @@
 
 mod argument;
 mod fault;
+mod label;
 mod laws;
 mod limits;
 mod line;
@@ -33,5 +43,5 @@ mod script;
 pub use fault::ScriptFault;
 pub use laws::{a_line_has_one_rewriting, a_text_is_a_script_or_has_a_fault};
 pub use limits::{MAX_BLANKS, MAX_NUMBER_DIGITS, MAX_SCRIPT_LINES};
-pub use rewrite::{Rewrite, Script};
+pub use rewrite::{LineRewrite, Rewrite, Script, Sizes, WholeRewrite};
 pub use script::read_script;

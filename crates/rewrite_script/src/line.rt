@@ -1,12 +1,18 @@
 //! The lines of the kinds of rewritings.
 
+ghost use Rattle.std.specs.Prelude.{Some};
 ghost use Rattle.std.specs.Str.{byte};
-ghost use Rattle.rewrite_script.specs.tools.LineWalk.{first_read, side_read, number_read, blanks_read, name_read, two_read, pad_read, fold_read, unfold_read, join_read, split_read, move_read, case_read, add_read, remove_read, rewrite_read, line_read};
-ghost use Rattle.rewrite_script.specs.tools.Gives.{Gives};
+ghost use Rattle.rewrite_script.specs.tools.LineWalk.{first_read, side_read, key_read, tag_read, number_read, blanks_read, name_read, two_read, pad_read, fold_read, unfold_read, join_read, split_read, move_read, case_read, add_read, remove_read, add_label_read, rechunk_read, chunk_read, host_read, query_read, resf_read, message_read, rewrite_read, word_read, line_read};
+ghost use Rattle.rewrite_script.specs.Lines.{HasValues};
+ghost use Rattle.rewrite_script.specs.tools.Gives.{Gives, GivesWhere};
 
-use crate::argument::{blanks_of, name_of, number_of, read_word, side_of, text_of};
+use crate::argument::{
+    blanks_of, cut, lower_name_of, name_of, number_of, query_text_of, read_word, side_of, sizes_of,
+    text_of,
+};
 use crate::fault::LineFault;
-use crate::rewrite::Rewrite;
+use crate::label::{has_values, key_of, params_of, tag_of};
+use crate::rewrite::{LineRewrite, Rewrite, Sizes, WholeRewrite};
 use msg_head::Side;
 use sfv_text::Text;
 use std::alloc::Global;
@@ -60,12 +66,12 @@ fn read_pad(alloc: Global, bytes: &[u8]) -> Result<Rewrite, LineFault>
     let (index, rest) = read_number(rest)?;
     let (before, rest) = read_blanks(alloc, rest)?;
     let after = blanks_of(alloc, rest)?;
-    Ok(Rewrite::Pad {
+    Ok(Rewrite::Lines(LineRewrite::Pad {
         side,
         index,
         before,
         after,
-    })
+    }))
 }
 
 /// `SIDE INDEX OFFSET BLANKS`
@@ -77,12 +83,12 @@ fn read_fold(alloc: Global, bytes: &[u8]) -> Result<Rewrite, LineFault>
     let (index, rest) = read_number(rest)?;
     let (at, rest) = read_number(rest)?;
     let blanks = blanks_of(alloc, rest)?;
-    Ok(Rewrite::Fold {
+    Ok(Rewrite::Lines(LineRewrite::Fold {
         side,
         index,
         at,
         blanks,
-    })
+    }))
 }
 
 /// `SIDE INDEX NUMBER`
@@ -102,7 +108,7 @@ fn read_unfold(bytes: &[u8]) -> Result<Rewrite, LineFault>
     ensures { Gives (λ rewrite. rewrite) result (unfold_read bytes.now) }
 {
     let (side, index, at) = read_two(bytes)?;
-    Ok(Rewrite::Unfold { side, index, at })
+    Ok(Rewrite::Lines(LineRewrite::Unfold { side, index, at }))
 }
 
 /// `SIDE INDEX INDEX`
@@ -111,7 +117,7 @@ fn read_join(bytes: &[u8]) -> Result<Rewrite, LineFault>
     ensures { Gives (λ rewrite. rewrite) result (join_read bytes.now) }
 {
     let (side, index, later) = read_two(bytes)?;
-    Ok(Rewrite::Join { side, index, later })
+    Ok(Rewrite::Lines(LineRewrite::Join { side, index, later }))
 }
 
 /// `SIDE INDEX OFFSET`
@@ -120,7 +126,7 @@ fn read_split(bytes: &[u8]) -> Result<Rewrite, LineFault>
     ensures { Gives (λ rewrite. rewrite) result (split_read bytes.now) }
 {
     let (side, index, at) = read_two(bytes)?;
-    Ok(Rewrite::Split { side, index, at })
+    Ok(Rewrite::Lines(LineRewrite::Split { side, index, at }))
 }
 
 /// `SIDE INDEX INDEX`
@@ -129,7 +135,7 @@ fn read_move(bytes: &[u8]) -> Result<Rewrite, LineFault>
     ensures { Gives (λ rewrite. rewrite) result (move_read bytes.now) }
 {
     let (side, index, to) = read_two(bytes)?;
-    Ok(Rewrite::Move { side, index, to })
+    Ok(Rewrite::Lines(LineRewrite::Move { side, index, to }))
 }
 
 /// `SIDE INDEX NAME`
@@ -140,7 +146,7 @@ fn read_case(alloc: Global, bytes: &[u8]) -> Result<Rewrite, LineFault>
     let (side, rest) = read_side(bytes)?;
     let (index, rest) = read_number(rest)?;
     let name = name_of(alloc, rest)?;
-    Ok(Rewrite::Case { side, index, name })
+    Ok(Rewrite::Lines(LineRewrite::Case { side, index, name }))
 }
 
 /// `SIDE INDEX NAME TEXT`
@@ -152,12 +158,12 @@ fn read_add(alloc: Global, bytes: &[u8]) -> Result<Rewrite, LineFault>
     let (index, rest) = read_number(rest)?;
     let (name, rest) = read_name(alloc, rest)?;
     let text = text_of(alloc, rest)?;
-    Ok(Rewrite::Add {
+    Ok(Rewrite::Lines(LineRewrite::Add {
         side,
         index,
         name,
         text,
-    })
+    }))
 }
 
 /// `SIDE INDEX`
@@ -167,7 +173,110 @@ fn read_remove(bytes: &[u8]) -> Result<Rewrite, LineFault>
 {
     let (side, rest) = read_side(bytes)?;
     let index = number_of(rest)?;
-    Ok(Rewrite::Remove { side, index })
+    Ok(Rewrite::Lines(LineRewrite::Remove { side, index }))
+}
+
+/// Reads a key and SP.
+#[tactic(auto, unfolding(crate::specs::tools::LineWalk::first_read))]
+fn read_key(alloc: Global, bytes: &[u8]) -> Result<(Text, &[u8]), LineFault>
+    ensures { Gives (λ x. (x.0, x.1.now)) result (first_read (byte " ") key_read bytes.now) }
+{
+    let (word, rest) = read_word(bytes)?;
+    let key = key_of(alloc, word)?;
+    Ok((key, rest))
+}
+
+/// Reads a tag and SP.
+#[tactic(auto, unfolding(crate::specs::tools::LineWalk::first_read))]
+fn read_tag(alloc: Global, bytes: &[u8]) -> Result<(Text, &[u8]), LineFault>
+    ensures { Gives (λ x. (x.0, x.1.now)) result (first_read (byte " ") tag_read bytes.now) }
+{
+    let (word, rest) = read_word(bytes)?;
+    let tag = tag_of(alloc, word)?;
+    Ok((tag, rest))
+}
+
+/// `LABEL TAG PARAMS`
+#[tactic(auto, unfolding(crate::specs::tools::LineWalk::add_label_read, crate::specs::tools::LineWalk::then_read))]
+fn read_add_label(alloc: Global, bytes: &[u8]) -> Result<Rewrite, LineFault>
+    ensures { Gives (λ rewrite. rewrite) result (add_label_read bytes.now) }
+{
+    let (label, rest) = read_key(alloc, bytes)?;
+    let (tag, rest) = read_tag(alloc, rest)?;
+    let params = params_of(alloc, rest)?;
+    Ok(Rewrite::Whole(WholeRewrite::AddLabel { label, tag, params }))
+}
+
+/// `SIZE SIZE ..`
+#[tactic(auto, unfolding(crate::specs::tools::LineWalk::rechunk_read))]
+fn read_rechunk(alloc: Global, bytes: &[u8]) -> Result<Rewrite, LineFault>
+    ensures { Gives (λ rewrite. rewrite) result (rechunk_read bytes.now) }
+{
+    let sizes = sizes_of(alloc, bytes)?;
+    Ok(Rewrite::Whole(WholeRewrite::Rechunk { sizes }))
+}
+
+/// `SIZE SIZE ..`
+#[tactic(auto, unfolding(crate::specs::tools::LineWalk::chunk_read))]
+fn read_chunk(alloc: Global, bytes: &[u8]) -> Result<Rewrite, LineFault>
+    ensures { Gives (λ rewrite. rewrite) result (chunk_read bytes.now) }
+{
+    let sizes = sizes_of(alloc, bytes)?;
+    Ok(Rewrite::Whole(WholeRewrite::Chunk { sizes }))
+}
+
+/// `TEXT`
+#[tactic(auto, unfolding(crate::specs::tools::LineWalk::host_read))]
+fn read_host(alloc: Global, bytes: &[u8]) -> Result<Rewrite, LineFault>
+    ensures { Gives (λ rewrite. rewrite) result (host_read bytes.now) }
+{
+    let text = text_of(alloc, bytes)?;
+    Ok(Rewrite::Whole(WholeRewrite::Host { text }))
+}
+
+/// `TEXT`
+#[tactic(auto, unfolding(crate::specs::tools::LineWalk::query_read))]
+fn read_query(alloc: Global, bytes: &[u8]) -> Result<Rewrite, LineFault>
+    ensures { Gives (λ rewrite. rewrite) result (query_read bytes.now) }
+{
+    let text = query_text_of(alloc, bytes)?;
+    Ok(Rewrite::Whole(WholeRewrite::Query { text: Some(text) }))
+}
+
+/// `SIDE NAME`
+#[tactic(auto, unfolding(crate::specs::tools::LineWalk::resf_read, crate::specs::tools::LineWalk::then_read))]
+fn read_resf(alloc: Global, bytes: &[u8]) -> Result<Rewrite, LineFault>
+    ensures { Gives (λ rewrite. rewrite) result (resf_read bytes.now) }
+{
+    let (side, rest) = read_side(bytes)?;
+    let name = lower_name_of(alloc, rest)?;
+    Ok(Rewrite::Whole(WholeRewrite::Resf { side, name }))
+}
+
+/// The rewriting of this kind, which changes more than field lines.
+#[tactic(auto, unfolding(crate::specs::tools::LineWalk::message_read))]
+fn read_of_message(alloc: Global, kind: &[u8], rest: &[u8]) -> Result<Rewrite, LineFault>
+    ensures { Gives (λ rewrite. rewrite) result (message_read kind.now rest.now) }
+{
+    if kind == b"add-label".as_slice() {
+        return read_add_label(alloc, rest);
+    }
+    if kind == b"rechunk".as_slice() {
+        return read_rechunk(alloc, rest);
+    }
+    if kind == b"chunk".as_slice() {
+        return read_chunk(alloc, rest);
+    }
+    if kind == b"host".as_slice() {
+        return read_host(alloc, rest);
+    }
+    if kind == b"query".as_slice() {
+        return read_query(alloc, rest);
+    }
+    if kind == b"resf".as_slice() {
+        return read_resf(alloc, rest);
+    }
+    Err(LineFault::NotSpelled)
 }
 
 /// The rewriting of this kind, whose other words come after the SP.
@@ -202,14 +311,66 @@ fn read_rewrite(alloc: Global, kind: &[u8], rest: &[u8]) -> Result<Rewrite, Line
     if kind == b"remove".as_slice() {
         return read_remove(rest);
     }
+    read_of_message(alloc, kind, rest)
+}
+
+/// The rewriting whose line is this one word.
+#[tactic(auto, unfolding(crate::specs::tools::LineWalk::word_read))]
+fn of_word(alloc: Global, word: &[u8]) -> Result<Rewrite, LineFault>
+    ensures { Gives (λ rewrite. rewrite) result (word_read word.now) }
+{
+    if word == b"rechunk".as_slice() {
+        return Ok(Rewrite::Whole(WholeRewrite::Rechunk {
+            sizes: Sizes::new(alloc),
+        }));
+    }
+    if word == b"chunk".as_slice() {
+        return Ok(Rewrite::Whole(WholeRewrite::Chunk {
+            sizes: Sizes::new(alloc),
+        }));
+    }
+    if word == b"dechunk".as_slice() {
+        return Ok(Rewrite::Whole(WholeRewrite::Dechunk));
+    }
+    if word == b"origin".as_slice() {
+        return Ok(Rewrite::Whole(WholeRewrite::Origin));
+    }
+    if word == b"absolute".as_slice() {
+        return Ok(Rewrite::Whole(WholeRewrite::Absolute));
+    }
+    if word == b"query".as_slice() {
+        return Ok(Rewrite::Whole(WholeRewrite::Query { text: None }));
+    }
     Err(LineFault::NotSpelled)
 }
 
-/// Reads a line, without the LF at its end.
+/// Reads the words of a line, without the LF at its end.
 #[tactic(auto, unfolding(crate::specs::tools::LineWalk::line_read))]
-pub(crate) fn read_line(alloc: Global, line: &[u8]) -> Result<Rewrite, LineFault>
+fn read_words(alloc: Global, line: &[u8]) -> Result<Rewrite, LineFault>
     ensures { Gives (λ rewrite. rewrite) result (line_read line.now) }
 {
-    let (kind, rest) = read_word(line)?;
-    read_rewrite(alloc, kind, rest)
+    match cut(b' ', line) {
+        None => of_word(alloc, line),
+        Some((kind, rest)) => read_rewrite(alloc, kind, rest),
+    }
+}
+
+/// The rewriting, where its words have values.
+#[tactic(auto, using(crate::proofs::ValueLaws::not_valued))]
+fn with_values(alloc: Global, rewrite: Rewrite) -> Result<Rewrite, LineFault>
+    ensures { GivesWhere HasValues (λ given. given) result (Some rewrite) }
+{
+    if !has_values(alloc, &rewrite)? {
+        return Err(LineFault::NotSpelled);
+    }
+    Ok(rewrite)
+}
+
+/// Reads a line, without the LF at its end.
+#[tactic(auto, using(crate::proofs::ValueLaws::given_where, crate::proofs::ValueLaws::none_where))]
+pub(crate) fn read_line(alloc: Global, line: &[u8]) -> Result<Rewrite, LineFault>
+    ensures { GivesWhere HasValues (λ rewrite. rewrite) result (line_read line.now) }
+{
+    let rewrite = read_words(alloc, line)?;
+    with_values(alloc, rewrite)
 }

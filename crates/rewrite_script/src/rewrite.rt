@@ -3,10 +3,10 @@
 use msg_head::Side;
 use sfv_text::{Sequence, Text};
 
-/// A rewriting of a message. An index counts the field lines of a side, an offset the bytes of a
+/// A rewriting of the field lines of a side. An index counts these lines, an offset the bytes of a
 /// line's raw value, both from 0. Blanks are SP and HTAB, at most `MAX_BLANKS` of them.
 #[derive(Debug, Drop)]
-pub enum Rewrite {
+pub enum LineRewrite {
     /// `pad`: the blanks at both ends of the raw value become these.
     Pad {
         side: Side,
@@ -64,6 +64,58 @@ pub enum Rewrite {
         index: usize,
     },
 }
+
+/// A rewriting of a whole message: of its target, its content, a field by its name.
+#[derive(Debug, Drop)]
+pub enum WholeRewrite {
+    /// `add-label`: lines with a signature of this label are put in (RFC 9421 section 4). The tag
+    /// is its bytes in base64, `params` the covered components and the signature parameters.
+    AddLabel {
+        label: Text,
+        tag: Text,
+        params: Text,
+    },
+    /// `rechunk`: the content comes in chunks of these sizes (RFC 9112 section 7.1).
+    Rechunk {
+        sizes: Sizes,
+    },
+    /// `chunk`: content of a known length comes in chunks of these sizes (RFC 9112 section 7.1).
+    Chunk {
+        sizes: Sizes,
+    },
+    /// `dechunk`: content in chunks comes with its length (RFC 9112 section 6.2).
+    Dechunk,
+    /// `origin`: the target comes to origin form (RFC 9112 section 3.2.1).
+    Origin,
+    /// `absolute`: the target comes to absolute form (RFC 9112 section 3.2.2).
+    Absolute,
+    /// `host`: the value of the Host line becomes this text (RFC 9110 section 7.2).
+    Host {
+        text: Text,
+    },
+    /// `query`: the target's query becomes this one, with its `?`, or goes (RFC 3986 section 3.4).
+    Query {
+        text: Option<Text>,
+    },
+    /// `resf`: the lines of the name become one, with the strict text of their structured field
+    /// (RFC 9651 section 4.1).
+    Resf {
+        side: Side,
+        name: Text,
+    },
+}
+
+/// A rewriting of a message.
+#[derive(Debug, Drop)]
+pub enum Rewrite {
+    /// Of field lines, by their indexes.
+    Lines(LineRewrite),
+    /// Of the whole message.
+    Whole(WholeRewrite),
+}
+
+/// The sizes of chunks, in bytes.
+pub type Sizes = Sequence<u64>;
 
 /// A script: its rewritings, in order.
 pub type Script = Sequence<Rewrite>;

@@ -5,8 +5,9 @@ ghost use Rattle.byte_grammar.specs.Causes.{AnswersWhere};
 ghost use Rattle.rewrite_script.specs.declared.fault.ScriptFault.{ScriptFault};
 ghost use Rattle.rewrite_script.specs.declared.rewrite.Rewrite.{Rewrite};
 ghost use Rattle.rewrite_script.specs.Causes.{IsScriptFault};
+ghost use Rattle.rewrite_script.specs.Lines.{HasValues};
 ghost use Rattle.rewrite_script.specs.Scripts.{is_unended, line_count, SpellsScript};
-ghost use Rattle.rewrite_script.specs.tools.Gives.{Gives};
+ghost use Rattle.rewrite_script.specs.tools.Gives.{GivesWhere};
 ghost use Rattle.rewrite_script.specs.tools.Judged.{ExplainsLines, ExplainsScript};
 ghost use Rattle.rewrite_script.specs.tools.LineWalk.{ended_read};
 
@@ -41,15 +42,18 @@ fn line_count(text: &[u8]) -> usize
 }
 
 /// Reads a line and the LF at its end.
-#[tactic(auto, unfolding(crate::specs::tools::LineWalk::ended_read, crate::specs::tools::LineWalk::first_read))]
+#[tactic(auto, using(crate::proofs::ScriptLaws::ended_is, crate::proofs::ScriptLaws::ended_err, crate::proofs::ScriptLaws::not_ended))]
 fn read_ended_line(alloc: Global, bytes: &[u8]) -> Result<(Rewrite, &[u8]), LineFault>
-    ensures { Gives (λ x. (x.0, x.1.now)) result (ended_read bytes.now) }
+    ensures { GivesWhere (λ x. HasValues x.0) (λ x. (x.0, x.1.now)) result
+        (ended_read bytes.now) }
 {
     let Some((line, rest)) = cut(b'\n', bytes) else {
         return Err(LineFault::NotSpelled);
     };
-    let rewrite = read_line(alloc, line)?;
-    Ok((rewrite, rest))
+    match read_line(alloc, line) {
+        Ok(rewrite) => Ok((rewrite, rest)),
+        Err(fault) => Err(fault),
+    }
 }
 
 /// Reads line after line, up to the first that is that of no rewriting.

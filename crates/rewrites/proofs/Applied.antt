@@ -1,181 +1,79 @@
--- The bytes that a step makes are those of the message that it gives, where they are a message's with content of that length.
-use Rattle.std.proofs.Common.{◌≡◌, nat_le, nat_lt, ℕ, Bool, true, false, Option, Some, None, Result, Ok, Err, IfOk, List, [], ◌∷◌, ◌++◌, length, take, drop, length-append, arith, refl, sym, subst, ap, ◌∙◌, inl, inr}
-use Rattle.std.specs.Prelude.{option_map}
-use Rattle.std.proofs.lemmas.Bool.{cases_Bool, false≢true, ltb-true}
+-- The message that a rewriting makes is the one that its bytes are, where they are a message's with as much content.
+use Rattle.std.proofs.Common.{◌≡◌, ℕ, Bool, true, Result, Ok, Err, IfOk, List, length, refl, subst, ◌∙◌, inl, inr}
 use Rattle.byte_grammar.specs.Causes.{AnswersWhere}
-use Rattle.msg_head.specs.declared.error.Side.{Side}
-use Rattle.msg_head.specs.declared.error.Side.TheVariants.{Header, Trailer}
-use Rattle.msg_head.specs.Lines.{FieldLine}
-use Rattle.msg_body.specs.Bodies.{Body, chunked, plain, trailers_in}
-use Rattle.msg_body.specs.Messages.{IsMessage, Message, Spells, message_text}
-use Rattle.msg_body.specs.Views.{lines_on, message_content}
-use Rattle.component_values.specs.Context.{MessageContext}
-use Rattle.rewrite_script.specs.Lines.{is_writable}
-use Rattle.rewrite_script.specs.declared.rewrite.Rewrite.{Rewrite}
-use Rattle.rewrite_script.specs.declared.rewrite.Rewrite.TheVariants.{Pad, Fold, Unfold, Join, Split, Move, Case, Add, Remove}
-use Rattle.component_ids.specs.declared.params.SigParams.{SigParams}
+use Rattle.msg_body.specs.Messages.{IsMessage, Message, Spells}
+use Rattle.msg_body.specs.Views.{message_content}
 use Rattle.msg_body.proofs.OneMessages.{one_message_law}
+use Rattle.component_ids.specs.declared.params.SigParams.{SigParams}
+use Rattle.component_values.specs.Context.{MessageContext, answers_head}
 use Rattle.signatures.specs.Signatures.{HasSignature}
-use Rattle.component_values.specs.Context.{answers_head}
+use Rattle.rewrite_script.specs.Lines.{HasValues, is_writable}
+use Rattle.rewrite_script.specs.declared.rewrite.Rewrite.{Rewrite}
+use Rattle.rewrite_script.specs.declared.rewrite.Rewrite.TheVariants.{Lines, Whole}
+use Rattle.rewrite_script.specs.declared.rewrite.LineRewrite.{LineRewrite}
+use Rattle.rewrite_script.specs.declared.rewrite.WholeRewrite.{WholeRewrite}
+use Rattle.line_rewrites.specs.declared.fault.ApplyFault.{ApplyFault}
+use Rattle.line_rewrites.specs.declared.fault.ApplyFault.TheVariants.{Memory, NotApplicable}
+use Rattle.line_rewrites.specs.Sized.{SpellsSized}
+use Rattle.line_rewrites.specs.Steps.{HasNoLineStep, RewritesLines}
 use Rattle.rewrites.specs.Laws.{KeepsSignature, KeepsWherePermitted}
 use Rattle.rewrites.specs.Permitted.{Permits}
-use Rattle.rewrites.specs.Steps.{IsNotApplicable, Rewrites, Step, with_lines_on, with_trailers}
-use Rattle.rewrites.specs.LineLists.{line_of}
-use Rattle.rewrites.specs.declared.fault.ApplyFault.{ApplyFault}
-use Rattle.rewrites.specs.declared.fault.ApplyFault.TheVariants.{Memory, NotApplicable}
-use Rattle.rewrites.specs.tools.Computed.{changed, changed_side, rewritten}
-use Rattle.rewrites.specs.tools.Judged.{ExplainsStep, Makes, SpellsSized}
-use Rattle.rewrites.specs.tools.Sides.{has_side, has_trailers, side_parts, text_with}
-use Rattle.rewrites.proofs.Changes.{change_is}
-use Rattle.rewrites.proofs.Results.{changes_step, side_sound, step_changes, step_lines}
-use Rattle.rewrites.proofs.Slices.{side_lines}
-use Rattle.rewrites.proofs.SoundChanges.{change_sound}
-use Rattle.rewrites.proofs.Texts.{message_sound, one_sound, with_lines_content, with_lines_sound, with_lines_text, with_lines_there}
+use Rattle.rewrites.specs.Steps.{IsNotApplicable, Rewrites, Step}
+use Rattle.rewrites.specs.tools.Judged.{ExplainsStep, IsOffered, Offers}
+use Rattle.rewrites.proofs.WholeKinds.{exact}
+use Rattle.rewrites.proofs.StepLaws.{message_is, spelled_where_message}
+use Rattle.rewrites.proofs.StepKinds.{gives_kind}
 
--- what is computed of the message
-record IsMade (message : Message) (step : Rewrite) (text : List ℕ) : Type 0 where
-  has : has_side (changed_side step) message ≡ true
-  lines : List FieldLine
-  computed : changed step (lines_on (changed_side step) message) ≡ Some lines
-  text_is : text ≡ text_with (side_parts (changed_side step) message) lines
+-- ---- a rewriting of the whole message
 
-is_made : (message : Message) (step : Rewrite) (text : List ℕ) → rewritten message step ≡ Some text → IsMade message step text
-is_made message step text made = elim (cases_Bool (has_side (changed_side step) message)) [
-  | inr fails ↦ absurd (let e : None ≡ Some text = rw fails at made in cc)
-  | inl has ↦ by has (changed step (side_parts (changed_side step) message).lines) refl (rw has at made)
-]
-  where
-    by : has_side (changed_side step) message ≡ true → (o : Option (List FieldLine)) → changed step (side_parts (changed_side step) message).lines ≡ o
-        → option_map (text_with (side_parts (changed_side step) message)) o ≡ Some text → IsMade message step text
-    by has None is e = absurd cc
-    by has (Some lines) is e = record {
-      has = has;
-      lines = lines;
-      computed = ap (changed step) (side_lines (changed_side step) message) ∙ is;
-      text_is = cc;
-    }
+pub made_fault : (context : MessageContext) (step : WholeRewrite) (fault : ApplyFault) → Offers context step (Err fault) → ExplainsStep context (Whole step) (Err fault)
+made_fault context step NotApplicable none = λ after gives. none after gives.makes gives.message
+made_fault context step Memory none = tt
 
--- the message that the bytes are is the one that the step gives
-pub result_is : (context : MessageContext) (step : Rewrite) (text : List ℕ) (after : Message) → IsMessage (answers_head context.related) context.message → is_writable step ≡ true
-    → rewritten context.message step ≡ Some text → SpellsSized (answers_head context.related) text (length (message_content context.message)) after → Step context step after
-result_is context step text after is writable made spelled =
-    let to_head = answers_head context.related in
-    let side = changed_side step in
-    let m = is_made context.message step text made in
-    let sound = change_sound step (lines_on side context.message) m.lines writable (side_sound to_head side context.message is) m.computed in
-    let whole = with_lines_sound to_head side context.message m.lines is sound in
-    let texts : message_text after ≡ message_text (with_lines_on to_head side context.message m.lines) =
-    sym spelled.spells.text ∙ (m.text_is ∙ sym (with_lines_text to_head side context.message m.lines m.has)) in
-    let sizes = spelled.sized ∙ ap (λ t. length t) (sym (with_lines_content to_head side context.message m.lines)) in
-    let same = one_sound to_head after (with_lines_on to_head side context.message m.lines) (message_sound to_head after spelled.spells.is) whole texts sizes in
-    changes_step context step after (record {
-      lines = m.lines;
-      change = change_is step (lines_on side context.message) m.lines m.computed;
-      after_is = same;
-      there = ap (lines_on side) same ∙ with_lines_there to_head side context.message m.lines m.has;
-      message = spelled.spells.is;
-    })
-
--- ---- a step that gives a message
-
--- no step makes no lines of no lines
-none_of_none : (step : Rewrite) → changed step [] ≡ Some [] → ⊥
-none_of_none (Pad side index before after) e = absurd cc
-none_of_none (Fold side index offset blanks) e = absurd cc
-none_of_none (Unfold side index offset) e = absurd cc
-none_of_none (Join side index later) e = absurd cc
-none_of_none (Split side index offset) e = absurd cc
-none_of_none (Move side index to) e = absurd cc
-none_of_none (Case side index name) e = absurd cc
-none_of_none (Add side index name text) e = elim (cases_Bool (nat_le index 0)) [
-  | inr fails ↦ absurd (let f : None ≡ Some [] = rw fails at e in cc)
-  | inl le ↦ absurd (
-      let f : Some (take index [] ++ line_of name text ∷ drop index []) ≡ Some [] = rw le at e in
-      let same : take index [] ++ line_of name text ∷ drop index [] ≡ [] = cc in
-      let size = ap (λ (ls : List FieldLine). length ls) same in
-      let joined = length-append (take index []) (line_of name text ∷ drop index []) in
-      omega (arith, size, joined))
-]
-none_of_none (Remove side index) e = elim (cases_Bool (nat_lt index 0)) [
-  | inr fails ↦ absurd (let f : None ≡ Some [] = rw fails at e in cc)
-  | inl less ↦ absurd (let low = ltb-true index 0 less in omega (arith, low))
-]
-
--- a side that isn't there has no lines, whatever is put there
-no_side : (side : Side) (to_head : Bool) (message : Message) (lines : List FieldLine) → has_side side message ≡ false → (lines_on side message ≡ []) × (lines_on side (with_lines_on to_head side message lines) ≡ [])
-no_side Header to_head message lines none = absurd (false≢true (sym none))
-no_side Trailer to_head message lines none = by message.body none
-  where
-    by : (body : Body) → has_trailers body ≡ false → (trailers_in body ≡ []) × (trailers_in (with_trailers lines body) ≡ [])
-    by (plain content) f = (refl, refl)
-    by (chunked chunks trailers) f = absurd (false≢true (sym f))
-
-pub step_made : (context : MessageContext) (step : Rewrite) (after : Message) → Step context step after
-    → (text : List ℕ) × (rewritten context.message step ≡ Some text) × SpellsSized (answers_head context.related) text (length (message_content context.message)) after
-step_made context step after gives =
-    let to_head = answers_head context.related in
-    let side = changed_side step in
-    let s = step_changes context step after gives in
-    let computed = step_lines context step after s in
-    let text = text_with (side_parts side context.message) s.lines in
-    elim (cases_Bool (has_side side context.message)) [
-      | inl has ↦ (
-        text,
-        rw has (ap (option_map (text_with (side_parts side context.message))) (ap (changed step) (sym (side_lines side context.message)) ∙ computed)),
-        record {
-          spells = record { is = s.message; text = sym (ap message_text s.after_is ∙ with_lines_text to_head side context.message s.lines has) };
-          sized = ap (λ t. length t) (ap message_content s.after_is ∙ with_lines_content to_head side context.message s.lines);
-        },
+module _ (context : MessageContext) (step : WholeRewrite) (text bytes : List ℕ) (to_head : Bool) (count : ℕ) (heads : to_head ≡ answers_head context.related) (same : bytes ≡ text)
+    (sizes : count ≡ length (message_content context.message)) (offered : IsOffered context step text) where
+  pub spelled_is : (message : Message) × SpellsSized to_head bytes count message → Rewrites context (Whole step) text
+  spelled_is spelled =
+      let here = rw (heads, same ∙ offered.text_is, sizes) at spelled.1 in
+      let is = message_is context step offered.made offered.makes offered.sound spelled.0 here in (
+        offered.made,
+        record { makes = offered.makes; message = subst (λ (m : Message). IsMessage (answers_head context.related) m) is here.spells.is },
+        offered.text_is,
       )
-      | inr none ↦ absurd (
-          let empty = no_side side to_head context.message s.lines none in
-          let lines : s.lines ≡ [] = sym s.there ∙ (ap (lines_on side) s.after_is ∙ empty.1) in
-          none_of_none step (ap (changed step) (sym empty.0) ∙ (computed ∙ ap Some lines)))
-    ]
+
+  pub unspelled_is : ((message : Message) → ¬ SpellsSized to_head bytes count message) → IsNotApplicable context (Whole step)
+  unspelled_is unread = λ after gives.
+      let one = (exact step).one context after offered.made gives.makes offered.makes in
+      let message = subst (λ (m : Message). IsMessage (answers_head context.related) m) one gives.message in
+      let here = rw (heads, same ∙ offered.text_is, sizes) at unread in
+      here offered.made (spelled_where_message context step offered.made offered.makes message)
+
+-- ---- a rewriting of lines
+
+pub lines_explained : (context : MessageContext) (step : LineRewrite) (result : Result (List ℕ) ApplyFault) → IfOk result (RewritesLines context step)
+    → AnswersWhere Memory result NotApplicable (HasNoLineStep context step) → ExplainsStep context (Lines step) result
+lines_explained context step (Ok text) made answered = made
+lines_explained context step (Err NotApplicable) made answered = answered.only refl
+lines_explained context step (Err Memory) made answered = tt
 
 -- ---- what is answered
-
-pub not_made : (context : MessageContext) (step : Rewrite) → rewritten context.message step ≡ None → IsNotApplicable context step
-not_made context step none = λ after gives. let m = step_made context step after gives in (let e = sym none ∙ m.1 in cc)
-
-pub not_spelled : (context : MessageContext) (step : Rewrite) (text : List ℕ) → rewritten context.message step ≡ Some text
-    → ((message : Message) → ¬ SpellsSized (answers_head context.related) text (length (message_content context.message)) message) → IsNotApplicable context step
-not_spelled context step text made none = λ after gives.
-    let m = step_made context step after gives in
-    let same : text ≡ m.0 = (let e = sym made ∙ m.1 in cc) in
-    none after (subst (λ t. SpellsSized (answers_head context.related) t (length (message_content context.message)) after) (sym same) m.2)
 
 pub fault_is : (context : MessageContext) (step : Rewrite) (result : Result (List ℕ) ApplyFault) → ExplainsStep context step result → AnswersWhere Memory result NotApplicable (IsNotApplicable context step)
 fault_is context step (Ok text) is = record { only = λ e. absurd cc; there = λ none. absurd (none is.0 is.1) }
 fault_is context step (Err NotApplicable) is = record { only = λ _. is; there = λ _. inl refl }
 fault_is context step (Err Memory) is = record { only = λ e. absurd cc; there = λ _. inr refl }
 
--- the answers to the bytes that are made, judged by these copies of what decides
-pub spelled_is : (context : MessageContext) (step : Rewrite) (text bytes : List ℕ) (to_head : Bool) (count : ℕ) → to_head ≡ answers_head context.related → bytes ≡ text → count ≡ length (message_content context.message)
-    → IsMessage (answers_head context.related) context.message → is_writable step ≡ true → rewritten context.message step ≡ Some text → (message : Message) × SpellsSized to_head bytes count message → Rewrites context step text
-spelled_is context step text bytes to_head count heads same sizes is writable made spelled =
-    let here = rw (heads, same, sizes) at spelled.1 in
-    (spelled.0, result_is context step text spelled.0 is writable made here, here.spells.text)
-
-pub unspelled_is : (context : MessageContext) (step : Rewrite) (text bytes : List ℕ) (to_head : Bool) (count : ℕ) → to_head ≡ answers_head context.related → bytes ≡ text → count ≡ length (message_content context.message)
-    → rewritten context.message step ≡ Some text → ((message : Message) → ¬ SpellsSized to_head bytes count message) → IsNotApplicable context step
-unspelled_is context step text bytes to_head count heads same sizes made none = not_spelled context step text made (rw (heads, same, sizes) at none)
-
-pub made_fault : (context : MessageContext) (step : Rewrite) (fault : ApplyFault) → Makes (rewritten context.message step) (Err fault) → ExplainsStep context step (Err fault)
-made_fault context step NotApplicable none = not_made context step none
-made_fault context step Memory none = tt
-
 -- the text that is answered is a message's
 pub is_spelled : (context : MessageContext) (step : Rewrite) (result : Result (List ℕ) ApplyFault) → ExplainsStep context step result → IfOk result (λ text. (after : Message) × Spells (answers_head context.related) after text)
-is_spelled context step (Ok text) is = (is.0, record { is = (step_changes context step is.0 is.1).message; text = is.2 })
+is_spelled context step (Ok text) is = (is.0, record { is = (gives_kind context step is.0 is.1).0; text = is.2 })
 is_spelled context step (Err fault) is = tt
 
 -- it is the one that keeps a signature which permits the step
 pub keeps_signature : (context : MessageContext) (step : Rewrite) (result : Result (List ℕ) ApplyFault) → KeepsWherePermitted → is_writable step ≡ true → ExplainsStep context step result
-    → IfOk result (λ text. (after : Message) (label : List ℕ) (params : SigParams) (tag : List ℕ) → Spells (answers_head context.related) after text
+    → IfOk result (λ text. (after : Message) (label : List ℕ) (params : SigParams) (tag : List ℕ) → Spells (answers_head context.related) after text → HasValues step
     → HasSignature context.message label params tag → Permits context step label params → KeepsSignature context label params tag after)
-keeps_signature context step (Ok text) law writable is = λ after label params tag spells signature permits.
-    let own : Spells (answers_head context.related) is.0 text = record { is = (step_changes context step is.0 is.1).message; text = is.2 } in
+keeps_signature context step (Ok text) law writable is = λ after label params tag spells values signature permits.
+    let own : Spells (answers_head context.related) is.0 text = record { is = (gives_kind context step is.0 is.1).0; text = is.2 } in
     let same = one_message_law (answers_head context.related) text is.0 after own spells in
-    law context step label params tag after writable signature (subst (λ (m : Message). Step context step m) same is.1) permits
+    law context step label params tag after writable values signature (subst (λ (m : Message). Step context step m) same is.1) permits
 keeps_signature context step (Err fault) law writable is = tt

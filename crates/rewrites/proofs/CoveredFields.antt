@@ -1,8 +1,8 @@
 -- What a signature covers, as the forms of its components and the rule of the digest ask for it.
-use Rattle.std.proofs.Common.{◌≡◌, ◌<◌, ℕ, Bool, true, false, Option, Some, None, List, [], ◌∷◌, codes, length, get_or, refl, sym, ap, ◌∙◌, inl, inr}
-use Rattle.std.specs.Prelude.{option_map, unwrap_or, if◌then◌else◌}
+use Rattle.std.proofs.Common.{◌≡◌, ◌<◌, ℕ, [], ◌∷◌, ◌∙◌, Bool, true, false, Option, Some, None, List, codes, length, get_or, refl, sym, ap, inl, inr}
 use Rattle.std.specs.Cmp.Derive.{both_true}
 use Rattle.std.specs.List.{list_all}
+use Rattle.std.specs.Prelude.{option_map, unwrap_or, if◌then◌else◌}
 use Rattle.std.specs.Str.{bytes_eq}
 use Rattle.std.proofs.lemmas.Bool.{and_parts, cases_Bool, false≢true}
 use Rattle.std.proofs.lemmas.List.Folds.{Any-from_list_any, list_any-from_Any, list_any_at}
@@ -10,8 +10,8 @@ use Rattle.std.proofs.lemmas.Slice.Eq.{bytes_eq-Decides}
 use Rattle.sfv_text.specs.Keys.{has_key}
 use Rattle.sfv_text.specs.declared.pair.Pair.{Pair}
 use Rattle.sfv_text.specs.declared.value.BareItem.{BareItem}
-use Rattle.msg_head.specs.declared.error.Side.TheVariants.{Header}
 use Rattle.msg_head.specs.Lines.{FieldLine}
+use Rattle.msg_head.specs.declared.error.Side.TheVariants.{Header}
 use Rattle.field_values.specs.SameFields.{HasSameField, HasSameValues}
 use Rattle.component_ids.specs.Table.{has_param, is_field_name, is_listed}
 use Rattle.component_ids.specs.declared.id.ComponentId.{ComponentId}
@@ -21,18 +21,18 @@ use Rattle.component_values.specs.Forms.{form_of, member_key}
 use Rattle.component_values.specs.Forms as form
 use Rattle.component_values.specs.Values.{side_of}
 use Rattle.verdicts.specs.ContentDigest.{covers_digest, digest_name, is_whole_digest, keeps_whole}
-use Rattle.rewrites.specs.Covered.{covers_field, covers_lines, is_field_on, is_on, is_wrapped_on}
+use Rattle.line_rewrites.specs.Covered.{covers_field, covers_lines, is_field_on, is_on, is_wrapped_on}
 
 -- ---- a component among those of the parameters
 
 -- its field is on its side
-on_its_side : (id : ComponentId) → is_on (side_of id.params) id ≡ true
+pub on_its_side : (id : ComponentId) → is_on (side_of id.params) id ≡ true
 on_its_side id = elim (cases_Bool (has_param id.params (codes "tr"))) [
   | inl trailer ↦ rw trailer trailer
   | inr header ↦ rw header (rw header refl)
 ]
 
-own_field : (id : ComponentId) → is_own_field id ≡ true → is_field_on (side_of id.params) id.name id ≡ true
+pub own_field : (id : ComponentId) → is_own_field id ≡ true → is_field_on (side_of id.params) id.name id ≡ true
 own_field id own = both_true own (both_true (on_its_side id) ((bytes_eq-Decides id.name id.name).1 refl))
 
 module _ (params : SigParams) (k : ℕ) (d : ComponentId) (lt : k < length params.ids) where

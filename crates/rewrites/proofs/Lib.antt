@@ -1,26 +1,28 @@
-mod ListParts
-mod SameLists
-mod RawValueKinds
-mod LineKinds
-mod SameMessages
-pub mod PermittedSteps
-mod CoveredFields
+mod Targeted
+pub mod TargetKinds
+mod TargetOffers
+pub mod ContentLists
+pub mod ContentKinds
+pub mod ContentSame
+pub mod ContentSteps
+pub mod ContentMade
+pub mod ContentDigits
+pub mod FieldValues
+pub mod FieldParts
+pub mod FieldSound
+pub mod FieldKinds
+pub mod FieldTexts
+pub mod CoveredFields
 pub mod Keeping
 pub mod KeptSteps
-pub mod Lengths
-pub mod Slices
-pub mod Runs
-pub mod Cores
-pub mod Sound
-pub mod Parts
-pub mod Changes
-pub mod Results
-pub mod SoundChanges
-pub mod StartTexts
-pub mod Texts
-pub mod Applied
-pub mod Sizes
-pub mod Passing
+pub mod AlikeParts
+pub mod AlikeTargets
+pub mod AlikeHosts
+pub mod AlikeStrict
+pub mod AlikeLabels
 pub mod Kept
-pub mod Deciding
+pub mod WholeKinds
+pub mod StepKinds
+pub mod StepLaws
+pub mod Applied
 pub mod Permitting

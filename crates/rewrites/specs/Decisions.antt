@@ -2,10 +2,9 @@
 use Rattle.std.specs.Prelude.{◌⊎◌, ℕ, IsTrue, List}
 use Rattle.msg_body.specs.Messages.{Message, IsMessage}
 use Rattle.component_ids.specs.declared.params.SigParams.{SigParams}
-use Rattle.component_values.specs.Context.{MessageContext}
+use Rattle.component_values.specs.Context.{MessageContext, answers_head}
 use Rattle.rewrite_script.specs.Lines.{is_writable}
 use Rattle.rewrite_script.specs.declared.rewrite.Rewrite.{Rewrite}
-use Rattle.component_values.specs.Context.{answers_head}
 use Rattle.rewrites.specs.Permitted.{Permits}
 use Rattle.rewrites.specs.Steps.{Step, IsNotApplicable}
 

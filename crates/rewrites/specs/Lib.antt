@@ -1,10 +1,8 @@
-pub mod RawValues
-pub mod LineLists
+pub mod Lines
+pub mod Content
+pub mod Targets
 pub mod Steps
-pub mod Covered
 pub mod Permitted
-pub mod SameFor
 pub mod Decisions
 pub mod Laws
-pub mod Words
 pub mod tools

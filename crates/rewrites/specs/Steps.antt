@@ -1,77 +1,60 @@
 -- The message that a rewriting gives: a row for each kind. A step that has no such message isn't
 -- applicable.
-use Rattle.std.specs.Prelude.{◌≡◌, ℕ, Bool, List}
+use Rattle.std.specs.Prelude.{◌≡◌, List, ℕ, IsTrue}
 use Rattle.std.specs.List.{FoldsTo}
 use Rattle.msg_head.specs.declared.error.Side.{Side}
-use Rattle.msg_head.specs.declared.error.Side.TheVariants.{Header, Trailer}
-use Rattle.msg_head.specs.Heads.{Head}
+use Rattle.msg_head.specs.declared.error.Side.TheVariants.{Header}
 use Rattle.msg_head.specs.Lines.{FieldLine}
-use Rattle.framing.specs.Framings.{framing_of}
-use Rattle.msg_body.specs.Bodies.{Body, plain, chunked}
+use Rattle.framing.specs.Framings.{is_request}
 use Rattle.msg_body.specs.Messages.{Message, IsMessage, message_text}
 use Rattle.msg_body.specs.Views.{lines_on}
+use Rattle.component_ids.specs.Types.{kind_in}
 use Rattle.component_values.specs.Context.{MessageContext, answers_head, context_with}
 use Rattle.rewrite_script.specs.declared.rewrite.Rewrite.{Rewrite}
-use Rattle.rewrite_script.specs.declared.rewrite.Rewrite.TheVariants.{Pad, Fold, Unfold, Join, Split, Move, Case, Add, Remove}
-use Rattle.rewrites.specs.RawValues.{IsPadded, IsFolded, IsUnfolded}
-use Rattle.rewrites.specs.LineLists.{line_of, Replaces, ChangesRaw, IsRenamed, IsJoined, IsSplit, IsAdded, IsRemoved, IsMoved}
+use Rattle.rewrite_script.specs.declared.rewrite.Rewrite.TheVariants.{Lines, Whole}
+use Rattle.rewrite_script.specs.declared.rewrite.WholeRewrite.{WholeRewrite}
+use Rattle.rewrite_script.specs.declared.rewrite.WholeRewrite.TheVariants.{AddLabel, Rechunk, Chunk, Dechunk, Origin, Absolute, Host, Query, Resf}
+use Rattle.line_rewrites.specs.Steps.{LineStep, with_lines_on}
+use Rattle.rewrites.specs.Lines.{IsLabelled, IsOtherHost, IsStrict}
+use Rattle.rewrites.specs.Content.{IsRechunked, IsChunked, IsDechunked}
+use Rattle.rewrites.specs.Targets.{ChangesTarget, IsOriginOf, IsAbsoluteOf, HasOtherQuery}
 
--- ---- messages with other lines
+-- ---- rewritings of the whole message
 
--- the message of this head: how its content ends is what the head says (RFC 9112 section 6.3)
-abbrev pub with_head : Bool → Message → Head → Message
-with_head to_head message head = record {
-  head = head;
-  framing = framing_of to_head head;
-  body = message.body;
-}
-
--- the body with these lines in its trailer section, where it has one
-abbrev pub with_trailers : List FieldLine → Body → Body
-with_trailers lines (plain content) = plain content
-with_trailers lines (chunked chunks trailers) = chunked chunks lines
-
--- the message with these lines on the side
-abbrev pub with_lines_on : Bool → Side → Message → List FieldLine → Message
-with_lines_on to_head Header message lines =
-    with_head to_head message (record { start = message.head.start; lines = lines })
-with_lines_on to_head Trailer message lines = record {
-  head = message.head;
-  framing = message.framing;
-  body = with_trailers lines message.body;
-}
-
--- The lines of the side change so, and all else stays: the start line, the lines of the other side,
--- and the content with its chunks. The result is a message, within the limits.
-pub record ChangesLines (context : MessageContext) (side : Side)
-    (Change : List FieldLine → List FieldLine → Type 0) (after : Message) : Type 0 where
+-- the lines of the side become others so, and all else stays
+pub record MakesLines (context : MessageContext) (side : Side)
+    (Change : List FieldLine → List FieldLine → Type 0) (made : Message) : Type 0 where
   pub lines : List FieldLine
   pub change : Change (lines_on side context.message) lines
-  pub after_is : after ≡ with_lines_on (answers_head context.related) side context.message lines
-  -- content that isn't in chunks has no trailer section
-  pub there : lines_on side after ≡ lines
+  pub made_is : made ≡ with_lines_on (answers_head context.related) side context.message lines
+
+-- what the rewriting makes of the message; whether that is a message within the limits isn't asked
+abbrev pub Makes : MessageContext → WholeRewrite → Message → Type 0
+Makes context (AddLabel added tag params) made =
+    MakesLines context Header (IsLabelled added tag params) made
+Makes context (Rechunk sizes) made = IsRechunked context sizes made
+Makes context (Chunk sizes) made = IsChunked context sizes made
+Makes context Dechunk made = IsDechunked context made
+Makes context Origin made = ChangesTarget context IsOriginOf made
+Makes context Absolute made = ChangesTarget context (IsAbsoluteOf context) made
+Makes context (Host text) made = IsTrue (is_request context.message.head.start)
+    × MakesLines context Header (IsOtherHost text) made
+Makes context (Query text) made = ChangesTarget context (HasOtherQuery text) made
+Makes context (Resf side name) made =
+    MakesLines context side (IsStrict (kind_in context.types name) name) made
+
+-- the rewriting makes the message, within the limits
+pub record GivesWhole (context : MessageContext) (step : WholeRewrite) (after : Message)
+    : Type 0 where
+  pub makes : Makes context step after
   pub message : IsMessage (answers_head context.related) after
 
--- ---- kinds
+-- ---- steps
 
 -- the step gives the message
 abbrev pub Step : MessageContext → Rewrite → Message → Type 0
-Step context (Pad side index before after) result =
-    ChangesLines context side (Replaces (ChangesRaw (IsPadded before after)) index) result
-Step context (Fold side index offset blanks) result =
-    ChangesLines context side (Replaces (ChangesRaw (IsFolded offset blanks)) index) result
-Step context (Unfold side index offset) result =
-    ChangesLines context side (Replaces (ChangesRaw (IsUnfolded offset)) index) result
-Step context (Join side index later) result =
-    ChangesLines context side (IsJoined index later) result
-Step context (Split side index offset) result =
-    ChangesLines context side (IsSplit index offset) result
-Step context (Move side index to) result = ChangesLines context side (IsMoved index to) result
-Step context (Case side index name) result =
-    ChangesLines context side (Replaces (IsRenamed name) index) result
-Step context (Add side index name text) result =
-    ChangesLines context side (IsAdded index (line_of name text)) result
-Step context (Remove side index) result = ChangesLines context side (IsRemoved index) result
+Step context (Lines step) result = LineStep context step result
+Step context (Whole step) result = GivesWhole context step result
 
 -- the step isn't applicable
 abbrev pub IsNotApplicable : MessageContext → Rewrite → Type 0

@@ -1,4 +1,5 @@
-pub mod Sides
-pub mod Computed
 pub mod Judged
-pub mod Permitted
+pub mod Kinds
+pub mod Retargeted
+pub mod Chunking
+pub mod Fields

@@ -7,19 +7,22 @@
 //! ```
 #![tactic(auto)]
 
-mod covered;
-mod fault;
+mod chunking;
+mod content;
+mod fed_text;
+mod field;
+mod label;
 mod laws;
-mod line;
 mod permit;
-mod raw;
-mod sides;
 mod step;
+mod strict;
+mod target;
 mod write;
 
-pub use fault::ApplyFault;
 pub use laws::{
-    a_step_gives_one_message, a_step_is_permitted_or_not, permitted_steps_keep_a_signature,
+    a_step_gives_one_message, a_step_is_permitted_or_not, a_step_rests_on_messages,
+    permitted_steps_keep_a_signature,
 };
+pub use line_rewrites::ApplyFault;
 pub use permit::permits;
 pub use step::apply;

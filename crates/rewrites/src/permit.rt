@@ -1,187 +1,35 @@
 //! Whether a signature permits a step.
 
-ghost use Rattle.std.specs.Prelude.{◌≡◌, ℕ, List, ◌↔◌, IsTrue, IfOk};
-ghost use Rattle.component_values.specs.Context.{MessageContext, context_of};
-ghost use Rattle.component_ids.specs.Table.{is_listed};
+ghost use Rattle.std.specs.Prelude.{ℕ, List, ◌↔◌, IsTrue, IfOk};
+ghost use Rattle.component_values.specs.Context.{context_of};
 ghost use Rattle.msg_body.specs.Messages.{Message};
-ghost use Rattle.msg_body.specs.Views.{message_of, lines_on};
-ghost use Rattle.msg_head.specs.Values.{has_bytes, value};
-ghost use Rattle.msg_head.specs.Views.{field_line_of};
-ghost use Rattle.rewrite_script.specs.Lines.{is_writable};
+ghost use Rattle.rewrite_script.specs.Lines.{HasValues, is_writable};
 ghost use Rattle.rewrites.specs.Laws.{KeepsSignature};
-ghost use Rattle.field_values.specs.SameFields.{name_of};
-ghost use Rattle.rewrites.specs.LineLists.{PassesOtherNames};
-ghost use Rattle.rewrites.specs.tools.Permitted.{OfLineOn};
-ghost use Rattle.rewrites.specs.Permitted.{Permits, MayChangeNumber, MayChangeValue, HasValue, counted_names, kept_names};
-ghost use Rattle.rewrites.specs.RawValues.{IsBeforeLoneSpace, IsLoneSpace};
+ghost use Rattle.rewrites.specs.Permitted.{Permits};
 ghost use Rattle.rewrites.specs.Steps.{Step};
 ghost use Rattle.signatures.specs.Signatures.{HasSignature};
 
-use crate::covered::{covers_field, covers_lines};
-use crate::raw::{is_before_lone_space, is_lone_space};
-use crate::sides::{is_between, line_at};
 use component_ids::SigParams;
 use component_values::Context;
-use field_values::line_pieces;
-use msg_body::MessageView;
-use msg_head::{LineView, Side};
+use line_rewrites::permits_lines;
+use permissions::permits_whole;
 use rewrite_script::Rewrite;
 use sfv_text::Memory;
 use std::alloc::Global;
 
-/// Whether the number of lines of the name counts, whatever is covered.
-fn is_counted(line: LineView<'_>) -> bool
-    ensures { result ≡ is_listed counted_names (name_of (field_line_of line.entry)) }
-{
-    line.is_named(b"host")
-        || line.is_named(b"content-length")
-        || line.is_named(b"transfer-encoding")
-}
-
-/// Whether lines of the name are kept, whatever is covered.
-fn is_kept(line: LineView<'_>) -> bool
-    ensures { result ≡ is_listed kept_names (name_of (field_line_of line.entry)) }
-{
-    line.is_named(b"signature") || line.is_named(b"signature-input") || is_counted(line)
-}
-
-/// Whether lines of the name may be joined and split.
-fn may_change_number(side: Side, line: LineView<'_>, params: &SigParams) -> bool
-    ensures { IsTrue result
-        ↔ MayChangeNumber side (name_of (field_line_of line.entry)) params.now }
-{
-    !is_counted(line) && !covers_lines(side, line, params)
-}
-
-/// Whether lines of the name may come and go.
-fn may_change_value(side: Side, line: LineView<'_>, params: &SigParams) -> bool
-    ensures { IsTrue result
-        ↔ MayChangeValue side (name_of (field_line_of line.entry)) params.now }
-{
-    !is_kept(line) && !covers_field(side, line, params)
-}
-
-/// Whether the line has a value, and not the empty one.
-fn has_value(line: LineView<'_>) -> bool
-    ensures { result ≡ has_bytes (value line.entry.raw.now) }
-{
-    for piece in line_pieces(line) {
-        if !piece.is_empty() {
-            return true;
-        }
-    }
-    false
-}
-
-fn permits_fold(message: &MessageView<'_>, side: Side, index: usize, at: usize) -> bool
-    ensures { IsTrue result ↔ OfLineOn (lines_on side (message_of message.now)) index
-        (λ line. IsLoneSpace at line.raw) }
-{
-    match line_at(message, side, index) {
-        Some(line) => is_lone_space(line.raw, at),
-        None => false,
-    }
-}
-
-fn permits_join(
-    message: &MessageView<'_>,
-    side: Side,
-    index: usize,
-    later: usize,
-    params: &SigParams,
-) -> bool
-    ensures { IsTrue result ↔ (OfLineOn (lines_on side (message_of message.now)) index
-        (λ line. MayChangeNumber side (name_of line) params.now)
-        × OfLineOn (lines_on side (message_of message.now)) later HasValue) }
-{
-    let Some(line) = line_at(message, side, index) else {
-        return false;
-    };
-    let Some(other) = line_at(message, side, later) else {
-        return false;
-    };
-    may_change_number(side, line, params) && has_value(other)
-}
-
-fn permits_split(
-    message: &MessageView<'_>,
-    side: Side,
-    index: usize,
-    at: usize,
-    params: &SigParams,
-) -> bool
-    ensures { IsTrue result ↔ OfLineOn (lines_on side (message_of message.now)) index
-        (λ line. MayChangeNumber side (name_of line) params.now
-        × IsBeforeLoneSpace at line.raw) }
-{
-    match line_at(message, side, index) {
-        Some(line) => {
-            may_change_number(side, line, params) && is_before_lone_space(line.raw, at)
-        }
-        None => false,
-    }
-}
-
-fn permits_move(message: &MessageView<'_>, side: Side, index: usize, to: usize) -> bool
-    ensures { IsTrue result ↔ PassesOtherNames index to (lines_on side (message_of message.now)) }
-{
-    let Some(line) = line_at(message, side, index) else {
-        return false;
-    };
-    if to >= message.line_count(side) {
-        return false;
-    }
-    if index <= to {
-        !is_between(message, side, index + 1, to + 1, line)
-    } else {
-        !is_between(message, side, to, index, line)
-    }
-}
-
-fn permits_remove(message: &MessageView<'_>, side: Side, index: usize, params: &SigParams) -> bool
-    ensures { IsTrue result ↔ OfLineOn (lines_on side (message_of message.now)) index
-        (λ line. MayChangeValue side (name_of line) params.now) }
-{
-    match line_at(message, side, index) {
-        Some(line) => may_change_value(side, line, params),
-        None => false,
-    }
-}
-
 /// Whether the row of the step's kind holds.
-fn is_permitted(message: &MessageView<'_>, step: &Rewrite, params: &SigParams) -> bool
-    ensures { (context : MessageContext) (label : List ℕ)
-        → context.message ≡ message_of message.now
-        → IsTrue result ↔ Permits context step.now label params.now }
+fn is_permitted(
+    alloc: Global,
+    context: &Context<'_, '_>,
+    step: &Rewrite,
+    params: &SigParams,
+) -> Result<bool, Memory>
+    ensures { (label : List ℕ) → IfOk result (λ permitted. IsTrue permitted
+        ↔ Permits (context_of context.now) step.now label params.now) }
 {
     match step {
-        Rewrite::Pad { .. } => true,
-        Rewrite::Unfold { .. } => true,
-        Rewrite::Case { .. } => true,
-        Rewrite::Fold {
-            side,
-            index,
-            at,
-            ..
-        } => permits_fold(message, *side, *index, *at),
-        Rewrite::Join { side, index, later } => {
-            permits_join(message, *side, *index, *later, params)
-        }
-        Rewrite::Split { side, index, at } => permits_split(message, *side, *index, *at, params),
-        Rewrite::Move { side, index, to } => permits_move(message, *side, *index, *to),
-        Rewrite::Add {
-            side,
-            name,
-            text,
-            ..
-        } => {
-            let line = LineView {
-                name: name.bytes(),
-                raw: text.bytes(),
-            };
-            may_change_value(*side, line, params)
-        }
-        Rewrite::Remove { side, index } => permits_remove(message, *side, *index, params),
+        Rewrite::Lines(step) => Ok(permits_lines(context.message, step, params)),
+        Rewrite::Whole(step) => permits_whole(alloc, context, step, params),
     }
 }
 
@@ -200,9 +48,10 @@ pub fn permits(
     ensures is { IfOk result (λ permitted. IsTrue permitted
         ↔ Permits (context_of context.now) step.now label.now params.now) }
     ensures keeps { IfOk result (λ permitted. IsTrue permitted → (tag : List ℕ) (after : Message)
+        → HasValues step.now
         → HasSignature (context_of context.now).message label.now params.now tag
         → Step (context_of context.now) step.now after
         → KeepsSignature (context_of context.now) label.now params.now tag after) }
 {
-    Ok(is_permitted(context.message, step, params))
+    is_permitted(alloc, context, step, params)
 }

@@ -1,282 +1,54 @@
-//! The bytes of a message with the lines that a step makes.
+//! The bytes of what a rewriting of the whole message makes.
 
-ghost use Rattle.std.specs.Prelude.{◌≡◌, ◌+◌, ◌^◌, ◌<◌, ◌≤◌, ◌++◌, Bool, Some, OnOk, length, option_map, slice_get};
-ghost use Rattle.msg_head.specs.Lines.{FieldLine};
+ghost use Rattle.std.specs.Prelude.{IsTrue};
+ghost use Rattle.component_values.specs.Context.{answers_head, context_of};
 ghost use Rattle.msg_body.specs.Messages.{Spells};
-ghost use Rattle.msg_body.specs.Views.{message_of};
-ghost use Rattle.rewrites.specs.LineLists.{line_of};
-ghost use Rattle.rewrites.specs.tools.Computed.{replaced_at, joined_at, split_at, moved_at, moved_backward, moved_forward, added, removed, changed_side, changed_text, rewritten};
-ghost use Rattle.rewrites.specs.tools.Sides.{text_with};
-ghost use Rattle.rewrites.specs.tools.Judged.{Adds, Makes};
+ghost use Rattle.rewrite_script.specs.Lines.{is_whole_writable};
+ghost use Rattle.rewrites.specs.tools.Judged.{Offers};
 
-use crate::fault::ApplyFault;
-use crate::line::{append_joined_line, append_line, append_text_line, append_value_line, new_line};
-use crate::raw::cut_at_comma;
-use crate::sides::{SideLines, is_same_name};
-use msg_body::MessageView;
-use msg_head::Side;
-use rewrite_script::Rewrite;
-use sfv_text::{Memory, Text};
+use crate::content::{chunked, dechunked, rechunked};
+use crate::field::{in_strict_form, with_host};
+use crate::label::with_label;
+use crate::target::{in_absolute_form, in_origin_form, with_query};
+use component_values::Context;
+use line_rewrites::ApplyFault;
+use rewrite_script::WholeRewrite;
+use sfv_text::Text;
 use std::alloc::Global;
 
-/// The line becomes another.
-fn write_replaced(
-    lines: &SideLines<'_, '_, '_>,
-    index: usize,
-    step: &Rewrite,
-    text: &mut Text,
-) -> Result<(), ApplyFault>
-    ensures { Adds (option_map (text_with lines.now)
-        (replaced_at step.now index lines.now.lines (slice_get lines.now.lines index)))
-        text.old text.new result }
-{
-    let Some(line) = lines.line(index) else {
-        return Err(ApplyFault::NotApplicable);
-    };
-    let Some(other) = new_line(step, line) else {
-        return Err(ApplyFault::NotApplicable);
-    };
-    text.append(lines.before(index))?;
-    append_line(other, text)?;
-    text.append(lines.rest_from(index + 1))?;
-    Ok(())
-}
-
-/// The line and a later one become one.
-fn write_joined(
-    lines: &SideLines<'_, '_, '_>,
-    index: usize,
-    later: usize,
-    text: &mut Text,
-) -> Result<(), ApplyFault>
-    ensures { Adds (option_map (text_with lines.now) (joined_at index later lines.now.lines
-        (slice_get lines.now.lines index) (slice_get lines.now.lines later)))
-        text.old text.new result }
-{
-    let Some(line) = lines.line(index) else {
-        return Err(ApplyFault::NotApplicable);
-    };
-    let Some(other) = lines.line(later) else {
-        return Err(ApplyFault::NotApplicable);
-    };
-    if index >= later || !is_same_name(other.name, line.name) {
-        return Err(ApplyFault::NotApplicable);
-    }
-    if lines.is_between(index + 1, later, line) {
-        return Err(ApplyFault::NotApplicable);
-    }
-    text.append(lines.before(index))?;
-    append_joined_line(line, other, text)?;
-    text.append(lines.between(index + 1, later))?;
-    text.append(lines.rest_from(later + 1))?;
-    Ok(())
-}
-
-/// The line becomes two at the comma.
-fn write_split(
-    lines: &SideLines<'_, '_, '_>,
-    index: usize,
-    at: usize,
-    text: &mut Text,
-) -> Result<(), ApplyFault>
-    ensures { Adds (option_map (text_with lines.now)
-        (split_at index at lines.now.lines (slice_get lines.now.lines index)))
-        text.old text.new result }
-{
-    let Some(line) = lines.line(index) else {
-        return Err(ApplyFault::NotApplicable);
-    };
-    let Some((first, last)) = cut_at_comma(line.raw, at) else {
-        return Err(ApplyFault::NotApplicable);
-    };
-    text.append(lines.before(index))?;
-    append_value_line(line.name, first, text)?;
-    append_value_line(line.name, last, text)?;
-    text.append(lines.rest_from(index + 1))?;
-    Ok(())
-}
-
-/// The line comes to an index that isn't before its own.
-fn write_forward(
-    lines: &SideLines<'_, '_, '_>,
-    index: usize,
-    to: usize,
-    text: &mut Text,
-) -> Result<(), Memory>
-    requires order { index ≤ to }
-    requires there { to < length lines.now.lines }
-    requires fits { to + 1 < 2 ^ 64 }
-    ensures { OnOk result ((line : FieldLine) → slice_get lines.now.lines index ≡ Some line
-        → text.new ≡ text.old ++ text_with lines.now
-        (moved_forward index to lines.now.lines line)) }
-{
-    text.append(lines.before(index))?;
-    text.append(lines.between(index + 1, to + 1))?;
-    text.append(lines.between(index, index + 1))?;
-    text.append(lines.rest_from(to + 1))?;
-    Ok(())
-}
-
-/// The line comes to an index before its own.
-fn write_backward(
-    lines: &SideLines<'_, '_, '_>,
-    index: usize,
-    to: usize,
-    text: &mut Text,
-) -> Result<(), Memory>
-    requires order { to < index }
-    requires there { index < length lines.now.lines }
-    requires fits { index + 1 < 2 ^ 64 }
-    ensures { OnOk result ((line : FieldLine) → slice_get lines.now.lines index ≡ Some line
-        → text.new ≡ text.old ++ text_with lines.now
-        (moved_backward index to lines.now.lines line)) }
-{
-    text.append(lines.before(to))?;
-    text.append(lines.between(index, index + 1))?;
-    text.append(lines.between(to, index))?;
-    text.append(lines.rest_from(index + 1))?;
-    Ok(())
-}
-
-/// The line comes to the other index.
-fn write_moved(
-    lines: &SideLines<'_, '_, '_>,
-    index: usize,
-    to: usize,
-    text: &mut Text,
-) -> Result<(), ApplyFault>
-    ensures { Adds (option_map (text_with lines.now)
-        (moved_at index to lines.now.lines (slice_get lines.now.lines index)))
-        text.old text.new result }
-{
-    let Some(_) = lines.line(index) else {
-        return Err(ApplyFault::NotApplicable);
-    };
-    let Some(_) = lines.line(to) else {
-        return Err(ApplyFault::NotApplicable);
-    };
-    if index <= to {
-        write_forward(lines, index, to, text)?;
-        return Ok(());
-    }
-    write_backward(lines, index, to, text)?;
-    Ok(())
-}
-
-/// A line is put in.
-fn write_added(
-    lines: &SideLines<'_, '_, '_>,
-    index: usize,
-    name: &[u8],
-    line: &[u8],
-    text: &mut Text,
-) -> Result<(), ApplyFault>
-    ensures { Adds (option_map (text_with lines.now)
-        (added index (line_of name.now line.now) lines.now.lines)) text.old text.new result }
-{
-    if index > lines.count() {
-        return Err(ApplyFault::NotApplicable);
-    }
-    text.append(lines.before(index))?;
-    append_text_line(name, line, text)?;
-    text.append(lines.rest_from(index))?;
-    Ok(())
-}
-
-/// The line goes.
-fn write_removed(
-    lines: &SideLines<'_, '_, '_>,
-    index: usize,
-    text: &mut Text,
-) -> Result<(), ApplyFault>
-    ensures { Adds (option_map (text_with lines.now) (removed index lines.now.lines))
-        text.old text.new result }
-{
-    if index >= lines.count() {
-        return Err(ApplyFault::NotApplicable);
-    }
-    text.append(lines.before(index))?;
-    text.append(lines.rest_from(index + 1))?;
-    Ok(())
-}
-
-/// Adds the bytes of the message, with the lines that the step makes of those of the side.
-fn write(lines: &SideLines<'_, '_, '_>, step: &Rewrite, text: &mut Text) -> Result<(), ApplyFault>
-    ensures { Adds (changed_text lines.now step.now) text.old text.new result }
-{
-    match step {
-        Rewrite::Pad { index, .. } => write_replaced(lines, *index, step, text),
-        Rewrite::Fold { index, .. } => write_replaced(lines, *index, step, text),
-        Rewrite::Unfold { index, .. } => write_replaced(lines, *index, step, text),
-        Rewrite::Case { index, .. } => write_replaced(lines, *index, step, text),
-        Rewrite::Join { index, later, .. } => write_joined(lines, *index, *later, text),
-        Rewrite::Split { index, at, .. } => write_split(lines, *index, *at, text),
-        Rewrite::Move { index, to, .. } => write_moved(lines, *index, *to, text),
-        Rewrite::Add {
-            index,
-            name,
-            text: line,
-            ..
-        } => write_added(lines, *index, name.bytes(), line.bytes(), text),
-        Rewrite::Remove { index, .. } => write_removed(lines, *index, text),
-    }
-}
-
-/// The side that the step changes.
-fn side_of(step: &Rewrite) -> Side
-    ensures { result ≡ changed_side step.now }
-{
-    match step {
-        Rewrite::Pad { side, .. } => *side,
-        Rewrite::Fold { side, .. } => *side,
-        Rewrite::Unfold { side, .. } => *side,
-        Rewrite::Join { side, .. } => *side,
-        Rewrite::Split { side, .. } => *side,
-        Rewrite::Move { side, .. } => *side,
-        Rewrite::Case { side, .. } => *side,
-        Rewrite::Add { side, .. } => *side,
-        Rewrite::Remove { side, .. } => *side,
-    }
-}
-
-/// How many bytes the step adds at most.
-fn growth(step: &Rewrite, lines: &SideLines<'_, '_, '_>) -> usize {
-    match step {
-        Rewrite::Pad { before, after, .. } => before
-            .bytes()
-            .len()
-            .saturating_add(after.bytes().len()),
-        Rewrite::Fold { blanks, .. } => blanks.bytes().len().saturating_add(1),
-        Rewrite::Split { index, .. } => match lines.line(*index) {
-            Some(line) => line.name.len().saturating_add(6),
-            None => 0,
-        },
-        Rewrite::Add { name, text, .. } => {
-            name.bytes()
-                .len()
-                .saturating_add(text.bytes().len())
-                .saturating_add(4)
-        }
-        _ => 0,
-    }
-}
-
-/// The bytes of the message, whose bytes these are, with the lines that the step makes of those of
-/// its side. Whether they are a message isn't asked.
-pub(crate) fn rewritten(
+/// The bytes of what the rewriting makes of the context's message, whose bytes these are. Whether
+/// they are a message within the limits isn't asked.
+pub(crate) fn made(
     alloc: Global,
     bytes: &[u8],
-    message: &MessageView<'_>,
-    step: &Rewrite,
+    context: &Context<'_, '_>,
+    step: &WholeRewrite,
 ) -> Result<Text, ApplyFault>
-    requires { (to_head : Bool) × Spells to_head (message_of message.now) bytes.now }
-    ensures { Makes (rewritten (message_of message.now) step.now) result }
+    requires writable { IsTrue (is_whole_writable step.now) }
+    requires spells { Spells (answers_head (context_of context.now).related)
+        (context_of context.now).message bytes.now }
+    ensures { Offers (context_of context.now) step.now result }
 {
-    let Some(lines) = SideLines::of(message, bytes, side_of(step)) else {
-        return Err(ApplyFault::NotApplicable);
-    };
-    let room = bytes.len().saturating_add(growth(step, &lines));
-    let mut text = Text::with_capacity(alloc, room)?;
-    write(&lines, step, &mut text)?;
-    Ok(text)
+    match step {
+        WholeRewrite::AddLabel { label, tag, params } => {
+            with_label(
+                alloc,
+                bytes,
+                context,
+                label.bytes(),
+                tag.bytes(),
+                params.bytes(),
+            )
+        }
+        WholeRewrite::Rechunk { sizes } => rechunked(alloc, bytes, context, sizes),
+        WholeRewrite::Chunk { sizes } => chunked(alloc, bytes, context, sizes),
+        WholeRewrite::Dechunk => dechunked(alloc, bytes, context),
+        WholeRewrite::Origin => in_origin_form(alloc, bytes, context),
+        WholeRewrite::Absolute => in_absolute_form(alloc, bytes, context),
+        WholeRewrite::Host { text } => with_host(alloc, bytes, context, text.bytes()),
+        WholeRewrite::Query { text } => with_query(alloc, bytes, context, text),
+        WholeRewrite::Resf { side, name } => {
+            in_strict_form(alloc, bytes, context, *side, name.bytes())
+        }
+    }
 }

@@ -13,6 +13,7 @@ use crate::keys::Keys;
 use crate::policy::Policy;
 use crate::sign_conf::SignConf;
 use component_ids::{Scheme, Types};
+use hmac_sha256::HmacKey;
 use sfv_text::Memory;
 use std::alloc::Global;
 
@@ -90,6 +91,18 @@ impl Conf {
 
     /// The key of the keyid, where it has one. It takes no memory.
     pub fn key(&self, keyid: &[u8]) -> Option<&[u8]>
+        ensures is { option_copied result ≡ map.get (meaning self.now).keys keyid.now }
+        ensures valid { IfSome result (λ key. IsHmacKey key.now) }
+        ensures keyid { IfSome result (λ _. IsTrue (is_keyid keyid.now)) }
+    {
+        match self.hmac_key(keyid) {
+            Some(key) => Some(key.bytes()),
+            None => None,
+        }
+    }
+
+    /// The key of the keyid, with its pads hashed. It takes no memory.
+    pub fn hmac_key(&self, keyid: &[u8]) -> Option<&HmacKey>
         ensures is { option_copied result ≡ map.get (meaning self.now).keys keyid.now }
         ensures valid { IfSome result (λ key. IsHmacKey key.now) }
         ensures keyid { IfSome result (λ _. IsTrue (is_keyid keyid.now)) }

@@ -3,6 +3,7 @@
 ghost use Rattle.std.specs.Prelude.{◌≡◌, IfOk, OnOk, OnErr, option_copied};
 ghost use Rattle.std.specs.FinMap as map;
 
+use hmac_sha256::HmacKey;
 use sfv_text::Memory;
 use std::alloc::Global;
 use std::collections::BTreeMap;
@@ -13,7 +14,7 @@ use std::marker::Model;
 /// They have no `Debug`, since that would print them.
 #[derive(Drop)]
 pub struct Keys {
-    keys: BTreeMap<Vec<u8>, Vec<u8>>,
+    keys: BTreeMap<Vec<u8>, HmacKey>,
     alloc: Global,
 }
 
@@ -47,19 +48,15 @@ impl Keys {
     {
         let mut name = Vec::new(self.alloc);
         name.extend_from_slice(keyid)?;
-        let mut bytes = Vec::new(self.alloc);
-        bytes.extend_from_slice(key)?;
-        self.keys.insert(name, bytes)?;
+        let key = HmacKey::of(self.alloc, key)?;
+        self.keys.insert(name, key)?;
         Ok(())
     }
 
     /// The key of the keyid. It takes no memory.
-    pub fn get(&self, keyid: &[u8]) -> Option<&[u8]>
+    pub fn get(&self, keyid: &[u8]) -> Option<&HmacKey>
         ensures { option_copied result ≡ map.get self.now keyid.now }
     {
-        match self.keys.get(keyid) {
-            None => None,
-            Some(key) => Some(key.as_slice()),
-        }
+        self.keys.get(keyid)
     }
 }

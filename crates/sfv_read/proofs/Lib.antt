@@ -14,4 +14,5 @@ pub mod Readings
 pub mod InRange
 pub mod StrictReads
 pub mod MoreMembers
+pub mod SameDicts
 pub mod TextLaws

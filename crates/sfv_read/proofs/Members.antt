@@ -26,7 +26,6 @@ use Rattle.sfv_text.specs.declared.value.Member.TheVariants.{Item as ItemMember,
 use Rattle.sfv_text.specs.declared.pair.Pair.{Pair}
 use Rattle.sfv_read.specs.tools.ItemWalk.{pair_with}
 use Rattle.sfv_read.specs.tools.InnerWalk.{inner_of}
-use Rattle.sfv_text.specs.Keys.{value_of}
 use Rattle.sfv_read.specs.Reads.{ReadsList, ReadsDict}
 use Rattle.sfv_read.proofs.BareItems.{word_starts, none_some}
 use Rattle.sfv_read.proofs.Items.{after_params, AreDistinct, meets_key, meets_kept, meets_item, params_next, item_starts, starts_append}
@@ -52,7 +51,7 @@ kind_ows k c e = go (eqb c 32) (eqb c 9) refl refl
     go false true is other = absurd (none_some k (ap kind_of_bare_item (sym (eqb-true c 9 other)) ∙ e))
     go false false is other = refl
 
-inner_starts : (P : ℕ → Bool) → P 40 ≡ true → (x : List ℕ) (v : InnerList) → IsInner x v → Starts P x
+pub inner_starts : (P : ℕ → Bool) → P 40 ≡ true → (x : List ℕ) (v : InnerList) → IsInner x v → Starts P x
 inner_starts P is x v h = subst (λ (y : List ℕ). Starts P y) (sym h.joined) is
 
 true_read : IsItem (63 ∷ 49 ∷ []) (true_item [])
@@ -77,11 +76,11 @@ meets_member =
     from x (ItemMember v) h = inr (v, h, refl)
     from x (InnerMember v) h = inl (v, h, refl)
 
-member_starts : (x : List ℕ) (v : Member) → IsMember x v → Starts (λ c. not (is_blank c)) x
+pub member_starts : (x : List ℕ) (v : Member) → IsMember x v → Starts (λ c. not (is_blank c)) x
 member_starts x (ItemMember v) h = item_starts (λ c. not (is_blank c)) kind_ows x v h
 member_starts x (InnerMember v) h = inner_starts (λ c. not (is_blank c)) refl x v h
 
-after_ows : (c : ℕ) → is_blank c ≡ true → is_one_of after_params c ≡ true
+pub after_ows : (c : ℕ) → is_blank c ≡ true → is_one_of after_params c ≡ true
 after_ows c e = go (eqb c 32) (eqb c 9) refl refl e
   where
     go : (a b : Bool) → eqb c 32 ≡ a → eqb c 9 ≡ b → (a || b) ≡ true → is_one_of after_params c ≡ true
@@ -198,7 +197,7 @@ key_start : (x : List ℕ) → Starts is_key_first x → Starts (λ c. not (is_b
 key_start [] h = absurd h
 key_start (c ∷ x) h = key_ows c h
 
-dict_member_starts : (x : List ℕ) (p : Pair Member) → IsDictMember x p → Starts (λ c. not (is_blank c)) x
+pub dict_member_starts : (x : List ℕ) (p : Pair Member) → IsDictMember x p → Starts (λ c. not (is_blank c)) x
 dict_member_starts x p h = key_start x (subst (λ (y : List ℕ). Starts is_key_first y) (sym h.joined) (starts_append is_key_first h.key h.rest (word_starts is_key_first is_key_rest h.key p.key h.is_key)))
 
 some_dict_member : IsDictMember (97 ∷ []) (pair_with (97 ∷ []) (ItemMember (true_item [])))

@@ -63,13 +63,17 @@ members_more M text (w ∷ ws) last v some h is =
       );
     }
 
-pub dict_more : (text : List ℕ) (dict : List (Pair Member)) (member : Pair Member) → ReadsDict text dict → ¬ (dict ≡ []) → is_dict_member_in_range member ≡ true
-    → ReadsDict (text ++ (codes ", " ++ dict_member_text member)) (put dict member.key member.value)
-dict_more text dict member reads some in_range = (
+pub dict_more_text : (text more : List ℕ) (dict : List (Pair Member)) (member : Pair Member) → ReadsDict text dict → ¬ (dict ≡ []) → IsDictMember more member
+    → ReadsDict (text ++ (codes ", " ++ more)) (put dict member.key member.value)
+dict_more_text text more dict member reads some is = (
   reads.0 ++ member ∷ [],
-  members_more IsDictMember text reads.0 (dict_member_text member) member (λ none. some (reads.2 ∙ ap distinct_pairs none)) reads.1 (dict_member_reads member in_range),
+  members_more IsDictMember text reads.0 more member (λ none. some (reads.2 ∙ ap distinct_pairs none)) reads.1 is,
   ap (λ (ps : List (Pair Member)). put_pair ps member) reads.2 ∙ sym (after_more put_pair [] reads.0 member),
 )
+
+pub dict_more : (text : List ℕ) (dict : List (Pair Member)) (member : Pair Member) → ReadsDict text dict → ¬ (dict ≡ []) → is_dict_member_in_range member ≡ true
+    → ReadsDict (text ++ (codes ", " ++ dict_member_text member)) (put dict member.key member.value)
+dict_more text dict member reads some in_range = dict_more_text text (dict_member_text member) dict member reads some (dict_member_reads member in_range)
 
 -- ---- the ends of texts
 

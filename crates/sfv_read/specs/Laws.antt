@@ -5,11 +5,13 @@ use Rattle.byte_grammar.specs.FaultOffset.{IsFaultOffset}
 use Rattle.byte_grammar.specs.Language.{starts_in}
 use Rattle.sfv_text.specs.Keys.{put}
 use Rattle.sfv_text.specs.Range.{is_dict_member_in_range}
-use Rattle.sfv_text.specs.Strict.{dict_member_text}
+use Rattle.sfv_text.specs.Strict.{dict_member_text, item_text, list_text}
 use Rattle.sfv_text.specs.declared.pair.Pair.{Pair}
+use Rattle.sfv_text.specs.declared.value.Item.{Item}
 use Rattle.sfv_text.specs.declared.value.Member.{Member}
 use Rattle.sfv_read.specs.Fault.{IsSfError}
-use Rattle.sfv_read.specs.Reads.{ReadsDict}
+use Rattle.sfv_read.specs.Member.{IsDictMember}
+use Rattle.sfv_read.specs.Reads.{ReadsItem, ReadsList, ReadsDict}
 use Rattle.sfv_read.specs.declared.error.SfError.{SfError}
 use Rattle.sfv_read.specs.declared.error.SfError.TheVariants.{Memory}
 
@@ -58,9 +60,29 @@ ReadsFurtherMember =
     → ¬ (dict ≡ []) → IsTrue (is_dict_member_in_range member)
     → ReadsDict (text ++ (codes ", " ++ dict_member_text member)) (put dict member.key member.value)
 
+-- so does any other text of a member
+abbrev pub ReadsFurtherText : Type 0
+ReadsFurtherText =
+    (text more : List ℕ) (dict : List (Pair Member)) (member : Pair Member) → ReadsDict text dict
+    → ¬ (dict ≡ []) → IsDictMember more member
+    → ReadsDict (text ++ (codes ", " ++ more)) (put dict member.key member.value)
+
 -- the strict text of a member has no blank at either end
 abbrev pub HasNoBlankEnds : Type 0
 HasNoBlankEnds =
     (member : Pair Member) → IsTrue (is_dict_member_in_range member)
     → IsFalse (starts_in is_blank (dict_member_text member))
     × IsFalse (starts_in is_blank (reverse (dict_member_text member)))
+
+-- ---- texts that read as the same Dictionary
+
+-- both texts read as the same Dictionaries
+abbrev pub ReadAlike : List ℕ → List ℕ → Type 0
+ReadAlike one other = (dict : List (Pair Member)) → ReadsDict one dict ↔ ReadsDict other dict
+
+-- The strict text of what a text reads as, be it an Item or a List, reads as a Dictionary where the
+-- text does, and as the same.
+pub record ReadsAsSameDict : Type 0 where
+  pub item : (text : List ℕ) (item : Item) → ReadsItem text item → ReadAlike text (item_text item)
+  pub list : (text : List ℕ) (list : List Member) → ReadsList text list
+      → ReadAlike text (list_text list)

@@ -2,7 +2,7 @@
 
 ghost use Rattle.sfv_text.specs.Range.{is_item_in_range, is_inner_in_range, is_list_in_range, is_dict_in_range};
 ghost use Rattle.sfv_text.specs.Strict.{item_text, inner_text, list_text, dict_text};
-ghost use Rattle.sfv_read.specs.Laws.{HasOneValue, HasOneAnswer, HasValueOrNone, HasFault, ReadsOnly, ReadsBack, HasDistinctTexts, ReadsFurtherMember, HasNoBlankEnds};
+ghost use Rattle.sfv_read.specs.Laws.{HasOneValue, HasOneAnswer, HasValueOrNone, HasFault, ReadsOnly, ReadsBack, HasDistinctTexts, ReadsFurtherMember, ReadsFurtherText, HasNoBlankEnds, ReadsAsSameDict};
 ghost use Rattle.sfv_read.specs.Reads.{ReadsItem, ReadsInner, ReadsList, ReadsDict};
 
 /// A text reads as at most one value of a kind.
@@ -62,9 +62,15 @@ pub fn strict_texts_are_distinct()
     ensures dict { HasDistinctTexts is_dict_in_range dict_text }
 {}
 
-/// A member whose strict text comes after a Dictionary and a comma is put at its key. Its text has
+/// A member whose text comes after a Dictionary and a comma is put at its key. Its strict text has
 /// no blank at either end.
 pub fn a_dictionary_takes_a_further_member()
     ensures further { ReadsFurtherMember }
+    ensures text { ReadsFurtherText }
     ensures ends { HasNoBlankEnds }
+{}
+
+/// The strict text of an Item or a List reads as the Dictionary that its own text reads as.
+pub fn strict_texts_read_as_the_same_dictionary()
+    ensures { ReadsAsSameDict }
 {}

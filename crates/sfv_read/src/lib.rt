@@ -30,6 +30,6 @@ pub use error::SfError;
 pub use laws::{
     a_dictionary_takes_a_further_member, a_text_has_one_answer, a_text_has_one_value,
     a_text_is_read_or_not, a_text_not_read_has_a_fault, strict_texts_are_distinct,
-    strict_texts_read_back, values_read_are_in_range,
+    strict_texts_read_as_the_same_dictionary, strict_texts_read_back, values_read_are_in_range,
 };
 pub use read::{read_dict, read_inner, read_item, read_list};

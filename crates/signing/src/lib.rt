@@ -29,6 +29,6 @@ pub use laws::{
     wishes_are_met_or_have_a_fault,
 };
 pub use mac::TAG_BYTES;
-pub use message::{answers_head, sign};
+pub use message::sign;
 pub use spec::{SignSpec, Specs};
 pub use wishes::wanted;

@@ -20,7 +20,6 @@ use crate::parts::{Parts, parts_of};
 use crate::refuse::judge_label;
 use crate::spec::SignSpec;
 use component_values::Context;
-use framing::is_head_request;
 use msg_body::{Expect, MAX_MESSAGE_BYTES, MessageRead, read_message};
 use msg_head::{MAX_HEAD_BYTES, MAX_HEAD_LINES};
 use sfv_text::{Memory, Text};
@@ -69,17 +68,6 @@ fn text_of(alloc: Global, parts: Parts<'_>, digest: &[u8], signature: &[u8]) -> 
     Ok(text)
 }
 
-/// Whether the message of the context answers a HEAD request, so that it has no content (RFC 9112
-/// section 6.3).
-pub fn answers_head(context: &Context<'_, '_>) -> bool
-    ensures { result ≡ answers_head (context_of context.now).related }
-{
-    match context.related {
-        Some(request) => is_head_request(request.start()),
-        None => false,
-    }
-}
-
 /// The tag of a message that is read from its bytes, the line of its digest among them.
 fn tag_of_bytes(
     alloc: Global,
@@ -93,7 +81,7 @@ fn tag_of_bytes(
     ensures { ExplainsTag (context_with_digest (context_of context.now) spec.now.digest) spec.now
         result }
 {
-    match read_message(alloc, bytes, Expect::Any, answers_head(context)) {
+    match read_message(alloc, bytes, Expect::Any, context.answers_head()) {
         Ok(MessageRead::Whole(message, _)) => {
             let context = Context {
                 message: &message,

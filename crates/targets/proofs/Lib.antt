@@ -7,4 +7,6 @@ pub mod Visible
 mod EncodingLaws
 pub mod ValueLaws
 pub mod Schemes
+pub mod AuthorityValues
 mod ParamLaws
+mod SameTexts

@@ -3,10 +3,10 @@ use Rattle.std.proofs.Common.{◌≡◌, ℕ, ◌&&◌, ◌||◌, ◌==◌, List
 use Rattle.std.specs.Char.{to_ascii_lowercase}
 use Rattle.std.specs.Str.{bytes_eq, str_to_ascii_lowercase}
 use Rattle.std.proofs.lemmas.Str.Ascii.{lowercase-lowercase}
-use Rattle.targets.specs.Authorities.{AuthorityParts, is_default_port, kept_port}
+use Rattle.targets.specs.Authorities.{is_default_port, kept_port}
 use Rattle.targets.specs.Laws.{SchemeInAnyCase}
 
-lowered_twice : (text : List ℕ) → str_to_ascii_lowercase (str_to_ascii_lowercase text) ≡ str_to_ascii_lowercase text
+pub lowered_twice : (text : List ℕ) → str_to_ascii_lowercase (str_to_ascii_lowercase text) ≡ str_to_ascii_lowercase text
 lowered_twice [] = refl
 lowered_twice (c ∷ text) = ap (λ d. d ∷ str_to_ascii_lowercase (str_to_ascii_lowercase text)) (lowercase-lowercase c) ∙ ap (λ t. to_ascii_lowercase c ∷ t) (lowered_twice text)
 

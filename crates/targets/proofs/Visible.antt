@@ -69,7 +69,7 @@ module _ (p : ℕ → Bool) (letters : (c : ℕ) → is_ascii_alphanumeric c ≡
     | inr mark ↦ let same : c ≡ 58 = eqb-true c 58 mark in rw same colon
   ]
 
-  host_passes : (host : List ℕ) → IsHost host → list_all p host ≡ true
+  pub host_passes : (host : List ℕ) → IsHost host → list_all p host ≡ true
   host_passes host (inr name) = all_implied is_host_byte p host_byte host (and_parts _ _ name).1
   host_passes host (inl literal) =
       let inner = all_implied is_literal_byte p literal_byte literal.inner literal.each in

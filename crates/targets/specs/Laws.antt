@@ -2,6 +2,7 @@
 use Rattle.std.specs.Prelude.{◌≡◌, ◌⊎◌, ℕ, IsTrue, List, Option, IfSome}
 use Rattle.std.specs.List.{list_all}
 use Rattle.byte_grammar.specs.Classes.{is_visible}
+use Rattle.targets.specs.UriBytes.{is_authority_byte}
 use Rattle.targets.specs.Targets.{TargetParts, SpellsTarget}
 use Rattle.targets.specs.Authorities.{AuthorityParts, IsAuthority, IsAuthorityFor, IsAuthorityValue}
 use Rattle.std.specs.Str.{str_to_ascii_lowercase}
@@ -29,6 +30,20 @@ abbrev pub SchemeInAnyCase : Type 0
 SchemeInAnyCase =
     (scheme text : List ℕ) (parts : AuthorityParts) → IsAuthorityFor scheme text parts
     → IsAuthorityFor (str_to_ascii_lowercase scheme) text parts
+
+-- ---- the value of an authority
+
+-- The value of an authority is itself an authority, of that value.
+abbrev pub HasItselfForValue : Type 0
+HasItselfForValue =
+    (scheme text value : List ℕ) →
+    IsAuthorityValue scheme text value → IsAuthorityValue scheme value value
+
+-- The value of an authority can be the authority in a target (RFC 3986 section 3.2).
+abbrev pub IsAuthorityInTarget : Type 0
+IsAuthorityInTarget =
+    (scheme text value : List ℕ) →
+    IsAuthorityValue scheme text value → IsTrue (list_all is_authority_byte value)
 
 -- ---- each text is of the form or isn't
 

@@ -1,6 +1,6 @@
 //! Laws of targets and authorities. Each function does nothing; its contract is the law.
 
-ghost use Rattle.targets.specs.Laws.{OneTarget, OneAuthority, OneAuthorityValue, SchemeInAnyCase, TargetIsDecided, AuthorityIsDecided, HasVisibleParts, HasVisibleText, HasVisibleValue};
+ghost use Rattle.targets.specs.Laws.{OneTarget, OneAuthority, OneAuthorityValue, SchemeInAnyCase, TargetIsDecided, AuthorityIsDecided, HasVisibleParts, HasVisibleText, HasVisibleValue, HasItselfForValue, IsAuthorityInTarget};
 
 /// A method and a target spell at most one target's parts, a text has at most one host and port,
 /// and under a scheme, in whatever case it is written, at most one value.
@@ -24,4 +24,10 @@ pub fn values_are_visible()
     ensures parts { HasVisibleParts }
     ensures text { HasVisibleText }
     ensures value { HasVisibleValue }
+{}
+
+/// The value of an authority is an authority of that value, and can stand in a target.
+pub fn values_are_authorities()
+    ensures itself { HasItselfForValue }
+    ensures in_target { IsAuthorityInTarget }
 {}

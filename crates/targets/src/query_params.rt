@@ -1,10 +1,10 @@
 //! The parameters of a query, read once for all names.
 
-ghost use Rattle.std.specs.Prelude.{◌≡◌, ℕ, List, ◌∷◌, ◌++◌, [], IsTrue, IfOk, OnOk};
+ghost use Rattle.std.specs.Prelude.{◌≡◌, ◌↔◌, ℕ, List, ◌∷◌, ◌++◌, [], IsTrue, IfOk, OnOk};
 ghost use Rattle.targets.specs.Query.{QueryPair, IsFound, decoded_pair, matches};
 ghost use Rattle.targets.specs.tools.Params.{AreFoundIn};
 
-use crate::query::{ParamFound, encode_again};
+use crate::query::{ParamFound, encode_again, have_same_values};
 use form_urlencoded::raw_pairs;
 use sfv_text::{Memory, Pairs, Text};
 use std::alloc::Global;
@@ -102,4 +102,25 @@ pub fn query_param_in(
     let found = params.find(alloc, name);
     *kept = Some(params);
     found
+}
+
+/// Whether both queries have the same values under the name, in the same order. A query is read
+/// again only where both have more than one.
+pub fn have_same_values_in(
+    alloc: Global,
+    params: &QueryParams,
+    others: &QueryParams,
+    name: &[u8],
+) -> Result<bool, Memory>
+    ensures { IfOk result (λ same. IsTrue same
+        ↔ (matches params.now name.now ≡ matches others.now name.now)) }
+{
+    match (params.values.find(name), others.values.find(name)) {
+        (None, None) => Ok(true),
+        (Some(Some(value)), Some(Some(other))) => Ok(value.bytes() == other.bytes()),
+        (Some(None), Some(None)) => {
+            have_same_values(alloc, params.query.bytes(), others.query.bytes(), name)
+        }
+        _ => Ok(false),
+    }
 }

@@ -1,9 +1,9 @@
 //! The crates below the program as their users call them. Each function is the example of a crate's
 //! documentation, and calls each of its calls that takes memory, with ample memory; but those over
-//! what was read before, as `prepare_in` and `verdict_in`, and `apply` are called by runs of the
-//! program alone. Beside them are vectors from outside (RFC 4231, RFC 9421, RFC 9530, RFC 9651) and
-//! what no run of the program shows. There is nothing here but tests: what a user of the program
-//! sees is a case of cases/.
+//! what was read before, as `prepare_in` and `verdict_in`, and those of rewritings, `read_script`
+//! aside, are called by runs of the program alone. Beside them are vectors from outside (RFC 4231,
+//! RFC 9421, RFC 9530, RFC 9651) and what no run of the program shows. There is nothing here but
+//! tests: what a user of the program sees is a case of cases/.
 #![tactic(auto)]
 
 #[cfg(test)]

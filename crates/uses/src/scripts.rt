@@ -1,7 +1,7 @@
 // Tests of scripts.
 
 use msg_head::Side;
-use rewrite_script::{Rewrite, ScriptFault, read_script};
+use rewrite_script::{LineRewrite, Rewrite, ScriptFault, read_script};
 use sfv_text::Text;
 use std::alloc::Global;
 
@@ -12,7 +12,7 @@ struct Row {
     read: Result<usize, usize>,
 }
 
-const ROWS: [Row; 44] = [
+const ROWS: [Row; 74] = [
     Row {
         text: b"",
         read: Ok(0),
@@ -189,6 +189,126 @@ const ROWS: [Row; 44] = [
         text: b"REMOVE t 1\n",
         read: Err(0),
     },
+    Row {
+        text: b"add-label b AAAA ();created=1\n",
+        read: Ok(1),
+    },
+    Row {
+        text: b"add-label *b.1  (\"a\"  \"b\" )\n",
+        read: Ok(1),
+    },
+    Row {
+        text: b"rechunk\nrechunk 5 13\nrechunk 0\n",
+        read: Ok(3),
+    },
+    Row {
+        text: b"chunk\nchunk 999999999\n",
+        read: Ok(2),
+    },
+    Row {
+        text: b"dechunk\norigin\nabsolute\n",
+        read: Ok(3),
+    },
+    Row {
+        text: b"host example.com\nhost \nhost a b \n",
+        read: Ok(3),
+    },
+    Row {
+        text: b"query\nquery ?\nquery ?a=1&b?c\n",
+        read: Ok(3),
+    },
+    Row {
+        text: b"resf h example-dict\nresf t a\n",
+        read: Ok(2),
+    },
+    Row {
+        text: b"add-label B AAAA ()\n",
+        read: Err(0),
+    },
+    Row {
+        text: b"add-label b AAA ()\n",
+        read: Err(0),
+    },
+    Row {
+        text: b"add-label b AB== ()\n",
+        read: Err(0),
+    },
+    Row {
+        text: b"add-label b AAAA  ()\n",
+        read: Err(0),
+    },
+    Row {
+        text: b"add-label b AAAA () \n",
+        read: Err(0),
+    },
+    Row {
+        text: b"add-label b AAAA\n",
+        read: Err(0),
+    },
+    Row {
+        text: b"add-label b AAAA (\n",
+        read: Err(0),
+    },
+    Row {
+        text: b"add-label b AAAA (@1)\n",
+        read: Err(0),
+    },
+    Row {
+        text: b"rechunk \n",
+        read: Err(0),
+    },
+    Row {
+        text: b"rechunk 5  6\n",
+        read: Err(0),
+    },
+    Row {
+        text: b"rechunk 05\n",
+        read: Err(0),
+    },
+    Row {
+        text: b"chunk 1000000000\n",
+        read: Err(0),
+    },
+    Row {
+        text: b"chunk 5 \n",
+        read: Err(0),
+    },
+    Row {
+        text: b"dechunk \n",
+        read: Err(0),
+    },
+    Row {
+        text: b"absolute /\n",
+        read: Err(0),
+    },
+    Row {
+        text: b"host\n",
+        read: Err(0),
+    },
+    Row {
+        text: b"query \n",
+        read: Err(0),
+    },
+    Row {
+        text: b"query a\n",
+        read: Err(0),
+    },
+    Row {
+        text: b"query ?a b\n",
+        read: Err(0),
+    },
+    Row {
+        text: b"query ?a#b\n",
+        read: Err(0),
+    },
+    Row {
+        text: b"resf h Date\n",
+        read: Err(0),
+    },
+    Row {
+        text: b"resf h \n",
+        read: Err(0),
+    },
 ];
 
 fn is_row(alloc: Global, row: &Row) -> bool {
@@ -238,12 +358,14 @@ fn is_pad(alloc: Global) -> bool {
                 return false;
             }
             match script.get(0) {
-                Rewrite::Pad {
-                    side,
-                    index,
-                    before,
-                    after,
-                } => {
+                Rewrite::Lines(
+                    LineRewrite::Pad {
+                        side,
+                        index,
+                        before,
+                        after,
+                    },
+                ) => {
                     *side == Side::Trailer
                         && *index == 12
                         && before.bytes() == b" \t".as_slice()

@@ -1,29 +1,33 @@
--- The verdict is the same over messages that are alike for it.
-use Rattle.std.proofs.Common.{◌≡◌, ◌⊎◌, ℕ, IsTrue, IsFalse, Option, Some, None, IfSome, List, sym, ap, subst, inl, inr}
+-- The verdict is the same over messages that are alike for it, or for the label's signature.
+use Rattle.std.proofs.Common.{◌≡◌, ◌↔◌, ℕ, Bool, IsTrue, Option, Some, None, IfSome, List, sym, ap, subst, inl, inr}
 use Rattle.std.specs.List.{All}
 use Rattle.msg_body.specs.Messages.{Message}
 use Rattle.msg_body.specs.Views.{message_content}
 use Rattle.framing.specs.Framings.{is_request}
 use Rattle.msg_head.specs.Starts.{StartLine}
+use Rattle.sfv_read.specs.Laws.{ReadAlike}
+use Rattle.sfv_read.specs.Reads.{ReadsDict}
 use Rattle.component_ids.specs.declared.id.ComponentId.{ComponentId}
 use Rattle.component_ids.specs.declared.params.SigParams.{SigParams}
 use Rattle.derived_values.specs.declared.lack.Lack.{Lack}
 use Rattle.derived_values.specs.declared.lack.Lack.TheVariants as lack
-use Rattle.component_values.specs.Context.{context_with}
+use Rattle.component_values.specs.Alike.{ComesToSame}
 use Rattle.component_values.specs.Values.{HaveValues, IsFirstLack}
 use Rattle.component_values.proofs.SameLists.{have_same_list, have_same_first_lack}
 use Rattle.content_digest.specs.Digests.{DigestHolds}
 use Rattle.content_digest.specs.Faults.{IsDigestFault}
+use Rattle.content_digest.proofs.SameDicts.{depends_on_its_dict}
 use Rattle.settings.specs.declared.policy.Policy.{Policy}
 use Rattle.signatures.specs.declared.place.DigestReason.{DigestReason}
 use Rattle.signatures.specs.declared.place.Place.{Place}
 use Rattle.signatures.specs.declared.rule.Rule.{Rule}
 use Rattle.signatures.specs.declared.rule.Rule.TheVariants.{InputAbsent, InputMalformed, SignatureAbsent, SignatureMalformed, LabelNotInInput, LabelNotInSignature, InputNotList, SignatureNotBytes, ComponentsMany, ComponentBad, ComponentRepeated, ParameterBad, AlgRefused, AlgUnknown, KeyidAbsent, KeyUnknown, ComponentRequired, CreatedAbsent, CreatedAhead, TooOld, ExpiresAbsent, Expired, TagWrong, NonceAbsent, NonceRepeated, NonceLong, Absent, Ambiguous, Underivable, Unreadable, NotAscii, MacMismatch, Digest, NoncesFull}
-use Rattle.signatures.specs.Rules.{FailsToRead, IsFirstFailure}
+use Rattle.signatures.specs.Rules.{FailsToRead}
 use Rattle.signatures.specs.Signatures.{HasSignature}
+use Rattle.signatures.proofs.Reading.{has_no_failure_where_read, has_one_signature}
 use Rattle.signatures.proofs.SameFields.{have_same_signature, fail_to_read_the_same, same_fields_back}
 use Rattle.verdicts.specs.ContentDigest.{HasDigest, LacksDigest, asks_digest, covers_digest, digest_text}
-use Rattle.verdicts.specs.Laws.{AreAlikeForVerdict, DependsOnItsSignature, verification_with}
+use Rattle.verdicts.specs.Laws.{AreAlikeForVerdict, AreAlikeWhereSigned, DependsOnItsSignature, DependsOnSignature, verification_with}
 use Rattle.verdicts.specs.Parameters.{nonce_of}
 use Rattle.verdicts.specs.Policies.{AcceptsByPolicy, IsCovered, IsFirstUncovered, IsNewNonce, required_ids, required_of}
 use Rattle.verdicts.specs.Rules.{Fails, FailsByLack, IsNoMac, asks_digest_of}
@@ -36,12 +40,21 @@ new_nonce : (v : Verification) (other : Message) (params : SigParams) (o : Optio
 new_nonce v other params (Some text) new = record { new = new.new; short = new.short }
 new_nonce v other params None new = tt
 
-module _ (v : Verification) (other : Message) (alike : AreAlikeForVerdict v other) where
+-- what a verdict rests on is kept by the other message
+record Keeps (v : Verification) (other : Message) : Type 0 where
+  has_same : (params : SigParams) (tag : List ℕ) → HasSignature v.context.message v.label params tag → HasSignature other v.label params tag
+  reading_fails : (rule : Rule) (place : Place) → FailsToRead v.context.message v.label rule place → FailsToRead other v.label rule place
+  kind : is_request other.head.start ≡ is_request v.context.message.head.start
+  content : message_content other ≡ message_content v.context.message
+  components : (params : SigParams) (tag : List ℕ) → HasSignature v.context.message v.label params tag → All (ComesToSame v.context other) params.ids
+  digest : (params : SigParams) (tag : List ℕ) → HasSignature v.context.message v.label params tag → IsTrue (covers_digest params.ids) → ReadAlike (digest_text v.context.message) (digest_text other)
+
+module _ (v : Verification) (other : Message) (alike : Keeps v other) where
   abbrev moved : Verification
   moved = verification_with v other
 
   has_same : (params : SigParams) (tag : List ℕ) → HasSignature v.context.message v.label params tag → HasSignature other v.label params tag
-  has_same params tag has = (have_same_signature v.context.message other v.label params tag alike.fields).0 has
+  has_same params tag has = alike.has_same params tag has
 
   have_same : (params : SigParams) (tag : List ℕ) (values : List (List ℕ)) → HasSignature v.context.message v.label params tag → HaveValues v.context params.ids values
       → HaveValues moved.context params.ids values
@@ -52,7 +65,7 @@ module _ (v : Verification) (other : Message) (alike : AreAlikeForVerdict v othe
   lack_same params tag index how has first = (have_same_first_lack v.context other params.ids index how (alike.components params tag has)).0 first
 
   required_same : (policy : Policy) → required_of v policy ≡ required_of moved policy
-  required_same policy = ap (λ (start : StartLine). required_ids policy (is_request start)) (sym alike.start)
+  required_same policy = ap (λ (request : Bool). required_ids policy request) (sym alike.kind)
 
   -- ---- the digest
 
@@ -67,7 +80,7 @@ module _ (v : Verification) (other : Message) (alike : AreAlikeForVerdict v othe
     covered = digest.covered;
     holds =
         subst (λ (content : List ℕ). DigestHolds (digest_text other) content) (sym alike.content)
-        (subst (λ (text : List ℕ). DigestHolds text (message_content v.context.message)) (sym (alike.digest params tag has digest.covered)) digest.holds);
+        ((depends_on_its_dict.holds (digest_text v.context.message) (digest_text other) (message_content v.context.message) (alike.digest params tag has digest.covered)).0 digest.holds);
   }
 
   lacks_digest : (params : SigParams) (tag : List ℕ) (reason : DigestReason) → HasSignature v.context.message v.label params tag → LacksDigest v.context.message params.ids reason
@@ -79,7 +92,7 @@ module _ (v : Verification) (other : Message) (alike : AreAlikeForVerdict v othe
         fault.1,
         fault.2,
         subst (λ (content : List ℕ). IsDigestFault (digest_text other) content fault.1) (sym alike.content)
-            (subst (λ (text : List ℕ). IsDigestFault text (message_content v.context.message) fault.1) (sym (alike.digest params tag has fault.0)) fault.3),
+            (depends_on_its_dict.fault (digest_text v.context.message) (digest_text other) (message_content v.context.message) fault.1 (alike.digest params tag has fault.0) fault.3),
       )
 
   -- ---- the rules
@@ -100,7 +113,7 @@ module _ (v : Verification) (other : Message) (alike : AreAlikeForVerdict v othe
   }
 
   reading_fails : (rule : Rule) (place : Place) → FailsToRead v.context.message v.label rule place → FailsToRead other v.label rule place
-  reading_fails rule place fails = (fail_to_read_the_same v.context.message other v.label rule place alike.fields).0 fails
+  reading_fails rule place fails = alike.reading_fails rule place fails
 
   fails_same : (rule : Rule) (place : Place) → Fails v rule place → Fails moved rule place
   fails_same InputAbsent place fails = reading_fails InputAbsent place fails
@@ -186,6 +199,33 @@ module _ (v : Verification) (other : Message) (alike : AreAlikeForVerdict v othe
     room = accepts.room;
   }
 
+verdict_same : (v : Verification) (other : Message) (verdict : Verdict) → Keeps v other → Keeps (verification_with v other) v.context.message → IsVerdict v verdict
+    → IsVerdict (verification_with v other) verdict
+verdict_same v other (Accepted keyid) there back accepts = accepts_same v other there keyid accepts
+verdict_same v other (Refused rule place) there back first = record {
+  holds = fails_same v other there rule place first.holds;
+  none_before = λ failure lt fails. first.none_before failure lt (fails_same (verification_with v other) v.context.message back failure.rule failure.place fails);
+}
+
+both_same : (v : Verification) (other : Message) (verdict : Verdict) → Keeps v other → Keeps (verification_with v other) v.context.message
+    → IsVerdict v verdict ↔ IsVerdict (verification_with v other) verdict
+both_same v other verdict there back = (verdict_same v other verdict there back, verdict_same (verification_with v other) v.context.message verdict back there)
+
+-- ---- messages that are alike for the verdict
+
+same_reading : (text same : List ℕ) → same ≡ text → ReadAlike text same
+same_reading text same e dict = subst (λ (t : List ℕ). ReadsDict text dict ↔ ReadsDict t dict) (sym e) ((λ h. h), (λ h. h))
+
+keeps_where_alike : (v : Verification) (other : Message) → AreAlikeForVerdict v other → Keeps v other
+keeps_where_alike v other alike = record {
+  has_same = λ params tag has. (have_same_signature v.context.message other v.label params tag alike.fields).0 has;
+  reading_fails = λ rule place fails. (fail_to_read_the_same v.context.message other v.label rule place alike.fields).0 fails;
+  kind = ap (λ (start : StartLine). is_request start) alike.start;
+  content = alike.content;
+  components = alike.components;
+  digest = λ params tag has covered. same_reading (digest_text v.context.message) (digest_text other) (alike.digest params tag has covered);
+}
+
 -- what is alike is so in both directions
 alike_back : (v : Verification) (other : Message) → AreAlikeForVerdict v other → AreAlikeForVerdict (verification_with v other) v.context.message
 alike_back v other alike =
@@ -198,14 +238,36 @@ alike_back v other alike =
       digest = λ params tag has covered. sym (alike.digest params tag (had params tag has) covered);
     }
 
-verdict_same : (v : Verification) (other : Message) (verdict : Verdict) → AreAlikeForVerdict v other → IsVerdict v verdict → IsVerdict (verification_with v other) verdict
-verdict_same v other (Accepted keyid) alike accepts = accepts_same v other alike keyid accepts
-verdict_same v other (Refused rule place) alike first = record {
-  holds = fails_same v other alike rule place first.holds;
-  none_before = λ failure lt fails.
-      first.none_before failure lt (fails_same (verification_with v other) v.context.message (alike_back v other alike) failure.rule failure.place fails);
-}
-
 pub depends_on_its_signature : DependsOnItsSignature
 depends_on_its_signature v other verdict alike =
-    (verdict_same v other verdict alike, verdict_same (verification_with v other) v.context.message verdict (alike_back v other alike))
+    both_same v other verdict (keeps_where_alike v other alike) (keeps_where_alike (verification_with v other) v.context.message (alike_back v other alike))
+
+-- ---- messages that are alike for a signature
+
+keeps_where_signed : (v : Verification) (params : SigParams) (tag : List ℕ) (other : Message) → AreAlikeWhereSigned v params tag other → Keeps v other
+keeps_where_signed v params tag other alike =
+    let one = λ (p : SigParams) (t : List ℕ) (has : HasSignature v.context.message v.label p t). has_one_signature v.context.message v.label params p tag t alike.signature has in
+    record {
+      has_same = λ p t has.
+          subst (λ (x : List ℕ). HasSignature other v.label p x) (one p t has).1 (subst (λ (x : SigParams). HasSignature other v.label x tag) (one p t has).0 alike.other_signature);
+      reading_fails = λ rule place fails. absurd (has_no_failure_where_read v.context.message v.label params tag rule place alike.signature fails);
+      kind = alike.kind;
+      content = alike.content;
+      components = λ p t has. subst (λ (x : SigParams). All (ComesToSame v.context other) x.ids) (one p t has).0 alike.components;
+      digest = λ p t has covered. alike.digests (subst (λ (x : SigParams). IsTrue (covers_digest x.ids)) (sym (one p t has).0) covered);
+    }
+
+signed_back : (v : Verification) (params : SigParams) (tag : List ℕ) (other : Message) → AreAlikeWhereSigned v params tag other
+    → AreAlikeWhereSigned (verification_with v other) params tag v.context.message
+signed_back v params tag other alike = record {
+  signature = alike.other_signature;
+  other_signature = alike.signature;
+  kind = sym alike.kind;
+  content = sym alike.content;
+  components = λ k id lt result. let same = alike.components k id lt result in (same.1, same.0);
+  digests = λ covered dict. let same = alike.digests covered dict in (same.1, same.0);
+}
+
+pub depends_on_signature : DependsOnSignature
+depends_on_signature v params tag other verdict alike =
+    both_same v other verdict (keeps_where_signed v params tag other alike) (keeps_where_signed (verification_with v other) params tag v.context.message (signed_back v params tag other alike))

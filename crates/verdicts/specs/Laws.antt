@@ -1,6 +1,8 @@
 -- Laws of verdicts.
 use Rattle.std.specs.Prelude.{◌≡◌, ◌↔◌, ℕ, Bool, ◌&&◌, ◌||◌, nat_le, IsTrue, IsFalse, Some, List}
 use Rattle.std.specs.List.{All}
+use Rattle.sfv_read.specs.Laws.{ReadAlike}
+use Rattle.framing.specs.Framings.{is_request}
 use Rattle.msg_body.specs.Messages.{Message}
 use Rattle.msg_body.specs.Views.{message_content}
 use Rattle.component_ids.specs.declared.params.SigParams.{SigParams}
@@ -95,4 +97,24 @@ verification_with v message = record v { context = context_with v.context messag
 abbrev pub DependsOnItsSignature : Type 0
 DependsOnItsSignature =
     (v : Verification) (other : Message) (verdict : Verdict) → AreAlikeForVerdict v other
+    → IsVerdict v verdict ↔ IsVerdict (verification_with v other) verdict
+
+-- What the verdict on a label that has this signature rests on is the same over the other message:
+-- the signature, the kind of the message, the content, what the components come to, and what the
+-- field of the digests reads as, where it is covered.
+pub record AreAlikeWhereSigned (v : Verification) (params : SigParams) (tag : List ℕ)
+    (other : Message) : Type 0 where
+  pub signature : HasSignature v.context.message v.label params tag
+  pub other_signature : HasSignature other v.label params tag
+  pub kind : is_request other.head.start ≡ is_request v.context.message.head.start
+  pub content : message_content other ≡ message_content v.context.message
+  pub components : All (ComesToSame v.context other) params.ids
+  pub digests : IsTrue (covers_digest params.ids)
+      → ReadAlike (digest_text v.context.message) (digest_text other)
+
+-- over messages that are alike for its signature the label has the same verdict
+abbrev pub DependsOnSignature : Type 0
+DependsOnSignature =
+    (v : Verification) (params : SigParams) (tag : List ℕ) (other : Message) (verdict : Verdict)
+    → AreAlikeWhereSigned v params tag other
     → IsVerdict v verdict ↔ IsVerdict (verification_with v other) verdict

@@ -25,6 +25,7 @@ use crate::readings::LabelReadings;
 use crate::verification::Verification;
 use component_ids::SigParams;
 use component_values::Context;
+use hmac_sha256::HmacKey;
 use nonces::{NonceBook, Steps};
 use settings::Conf;
 use sfv_text::{Memory, Text};
@@ -44,12 +45,12 @@ fn keyid_of(params: &SigParams) -> Result<&[u8], LabelFault>
 }
 
 /// The key of the `keyid`: rule 16.
-fn key_of<'a>(conf: &'a Conf, keyid: &[u8]) -> Result<&'a [u8], LabelFault>
+fn key_of<'a>(conf: &'a Conf, keyid: &[u8]) -> Result<&'a HmacKey, LabelFault>
     ensures explains { Explains (λ key. key_in (meaning conf.now) keyid.now ≡ Some key.now)
         (FailsByKey (key_in (meaning conf.now) keyid.now)) result }
     ensures short { IfOk result (λ _. length keyid.now ≤ MAX_KEYID_BYTES) }
 {
-    match conf.key(keyid) {
+    match conf.hmac_key(keyid) {
         Some(key) => Ok(key),
         None => Err(LabelFault::Rule(Rule::KeyUnknown, Place::None)),
     }

@@ -1,6 +1,6 @@
 //! Laws of verdicts. Each function does nothing; its contract is the law.
 
-ghost use Rattle.verdicts.specs.Laws.{HasVerdict, HasOneVerdict, IsAcceptedWhereNoRuleFails, HoldsRulesOfSigning, IsAcceptedByOtherRules, DependsOnItsSignature};
+ghost use Rattle.verdicts.specs.Laws.{HasVerdict, HasOneVerdict, IsAcceptedWhereNoRuleFails, HoldsRulesOfSigning, IsAcceptedByOtherRules, DependsOnItsSignature, DependsOnSignature};
 
 /// A label has one verdict, and it is accepted exactly where no rule fails.
 pub fn a_label_has_one_verdict()
@@ -18,6 +18,9 @@ pub fn a_signed_label_is_accepted_by_the_other_rules()
 
 /// The verdict on a label depends on the start line, on the content, on the fields of signatures,
 /// on what the covered components come to, and on the field of the digests where it is covered.
+/// Of a label that has a signature it depends on that and on the kind of the message, in place of
+/// the fields of signatures and the start line, and on what the field of the digests reads as.
 pub fn a_verdict_depends_on_its_signature()
-    ensures { DependsOnItsSignature }
+    ensures label { DependsOnItsSignature }
+    ensures signed { DependsOnSignature }
 {}

@@ -1,17 +1,18 @@
 //! The signature base and the tag of a signature: rules 27 to 32.
 
-ghost use Rattle.std.specs.Prelude.{◌≡◌, ◌<◌, ◌↔◌, IsTrue, length};
+ghost use Rattle.std.specs.Prelude.{◌≡◌, ◌<◌, ◌↔◌, ℕ, List, IsTrue, length};
 ghost use Rattle.component_ids.specs.SignatureParams.{are_sig_params_in_range};
 ghost use Rattle.component_values.specs.Context.{context_of};
 ghost use Rattle.component_values.specs.Readings.{AreReadOf};
 ghost use Rattle.sig_base.specs.SignatureBase.{signature_base};
-ghost use Rattle.hmac_sha256.specs.Hmac.{hmac};
+ghost use Rattle.hmac_sha256.specs.Hmac.{hmac, key_block};
+ghost use Rattle.hmac_sha256.specs.State.{HasAbsorbed};
 ghost use Rattle.component_values.specs.Faults.{HasIndexBelow};
 ghost use Rattle.verdicts.specs.tools.Judged.{ExplainsMac, SaysFault, rule_of_lack};
 
 use component_ids::ComponentId;
 use component_values::{Context, Lack, Prepared, Readings, ValueFault, prepare_in};
-use hmac_sha256::{Hmac, same_tag};
+use hmac_sha256::{Hmac, HmacKey, same_tag};
 use sig_base::feed_base;
 use signatures::{LabelFault, LabelRead, Place, Rule};
 use std::alloc::Global;
@@ -43,15 +44,25 @@ fn fault_of_lack(alloc: Global, ids: &[ComponentId], fault: ValueFault) -> Label
     }
 }
 
+/// Whether the tag is what the HMAC comes to over the signature base, all its bytes (RFC 9421
+/// section 3.3.3).
+fn is_tag(prepared: &Prepared<'_, '_>, empty: Hmac, tag: &[u8]) -> bool
+    ensures { (key : List ℕ) → HasAbsorbed empty (key_block key)
+        → IsTrue result ↔ (tag.now
+        ≡ hmac key (signature_base prepared.now.params prepared.now.values)) }
+{
+    let mut mac = empty;
+    feed_base(prepared, &mut mac);
+    same_tag(tag, &mac.finish())
+}
+
 /// Whether the tag is the HMAC of the signature base under the key, all its bytes (RFC 9421 section
 /// 3.3.3).
 pub fn tag_matches(prepared: &Prepared<'_, '_>, key: &[u8], tag: &[u8]) -> bool
     ensures { IsTrue result ↔ (tag.now
         ≡ hmac key.now (signature_base prepared.now.params prepared.now.values)) }
 {
-    let mut mac = Hmac::new(key);
-    feed_base(prepared, &mut mac);
-    same_tag(tag, &mac.finish())
+    is_tag(prepared, Hmac::new(key), tag)
 }
 
 /// Whether each component has its value, and the tag is right: rules 27 to 32.
@@ -59,7 +70,7 @@ pub(crate) fn judge_mac(
     alloc: Global,
     context: &Context<'_, '_>,
     read: &LabelRead,
-    key: &[u8],
+    key: &HmacKey,
     readings: &mut Readings,
 ) -> Result<(), LabelFault>
     requires in_range { IsTrue (are_sig_params_in_range read.now.params) }
@@ -72,7 +83,7 @@ pub(crate) fn judge_mac(
         Ok(prepared) => prepared,
         Err(fault) => return Err(fault_of_lack(alloc, read.params.ids.as_slice(), fault)),
     };
-    if tag_matches(&prepared, key, read.tag.bytes()) {
+    if is_tag(&prepared, key.hmac(), read.tag.bytes()) {
         Ok(())
     } else {
         Err(LabelFault::Rule(Rule::MacMismatch, Place::None))

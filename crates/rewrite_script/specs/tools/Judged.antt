@@ -6,11 +6,12 @@ use Rattle.rewrite_script.specs.declared.fault.ScriptFault.TheVariants.{Memory, 
 use Rattle.rewrite_script.specs.declared.rewrite.Rewrite.{Rewrite}
 use Rattle.rewrite_script.specs.Causes.{IsBadLine, IsScriptFault}
 use Rattle.rewrite_script.specs.Lines.{is_writable}
-use Rattle.rewrite_script.specs.Scripts.{script_text, SpellsScript}
+use Rattle.rewrite_script.specs.Scripts.{HaveValues, script_text, SpellsScript}
 
 -- the lines of these rewritings come first, and the rest after them
 pub record AreRead (text : List ℕ) (script : List Rewrite) (rest : List ℕ) : Type 0 where
   pub writable : IsTrue (list_all is_writable script)
+  pub values : HaveValues script
   pub joined : text ≡ script_text script ++ rest
 
 -- what is answered of the lines, however many there are

@@ -5,11 +5,15 @@ use Rattle.std.specs.Str.{byte, bytes_eq}
 use Rattle.std.specs.Str.Parse.{digits_value}
 use Rattle.byte_grammar.specs.Classes.{is_digit, is_line_byte, is_token}
 use Rattle.byte_grammar.specs.Language.{starts_in}
+use Rattle.sfv_text.specs.Classes.{is_key}
 use Rattle.msg_head.specs.declared.error.Side.{Side}
 use Rattle.msg_head.specs.declared.error.Side.TheVariants.{Header, Trailer}
 use Rattle.rewrite_script.specs.declared.limits.TheConstants.{MAX_BLANKS, MAX_NUMBER_DIGITS}
+use Rattle.rewrite_script.specs.Lines.{is_base64_byte, is_list_text, is_lower_name, is_query_text}
 use Rattle.rewrite_script.specs.declared.rewrite.Rewrite.{Rewrite}
-use Rattle.rewrite_script.specs.declared.rewrite.Rewrite.TheVariants.{Pad, Fold, Unfold, Join, Split, Move, Case, Add, Remove}
+use Rattle.rewrite_script.specs.declared.rewrite.LineRewrite.TheVariants.{Pad, Fold, Unfold, Join, Split, Move, Case, Add, Remove}
+use Rattle.rewrite_script.specs.declared.rewrite.Rewrite.TheVariants.{Lines, Whole}
+use Rattle.rewrite_script.specs.declared.rewrite.WholeRewrite.TheVariants.{AddLabel, Rechunk, Chunk, Dechunk, Origin, Absolute, Host, Query, Resf}
 
 -- A reader gives the value of a text, or none.
 abbrev pub Reader : Type 0 → Type 0
@@ -86,46 +90,114 @@ name_read word = some_if (is_token word) word
 unfoldable pub text_read : Reader (List ℕ)
 text_read text = some_if (list_all is_line_byte text) text
 
+unfoldable pub lower_name_read : Reader (List ℕ)
+lower_name_read word = some_if (is_lower_name word) word
+
+unfoldable pub query_text_read : Reader (List ℕ)
+query_text_read text = some_if (is_query_text text) text
+
+unfoldable pub key_read : Reader (List ℕ)
+key_read word = some_if (is_key word) word
+
+unfoldable pub tag_read : Reader (List ℕ)
+tag_read word = some_if (list_all is_base64_byte word) word
+
+unfoldable pub params_read : Reader (List ℕ)
+params_read text = some_if (is_list_text text) text
+
+-- ---- sizes
+
+-- the words, the first with one more byte before it
+abbrev pub first_more : ℕ → List (List ℕ) → List (List ℕ)
+first_more c [] = (c ∷ []) ∷ []
+first_more c (word ∷ words) = (c ∷ word) ∷ words
+
+abbrev pub word_if : Bool → ℕ → List (List ℕ) → List (List ℕ)
+word_if b c words = if b then [] ∷ words else first_more c words
+
+-- the words with SP between them
+unfoldable pub words_read : List ℕ → List (List ℕ)
+words_read [] = [] ∷ []
+words_read (c ∷ rest) = word_if (c == byte " ") c (words_read rest)
+
+-- the number of each word
+unfoldable pub numbers_read : List (List ℕ) → Option (List ℕ)
+numbers_read [] = Some []
+numbers_read (word ∷ words) =
+    number_read word >>= λ n. numbers_read words >>= λ ns. Some (n ∷ ns)
+
+unfoldable pub sizes_read : Reader (List ℕ)
+sizes_read bytes = numbers_read (words_read bytes)
+
 -- ---- kinds
 
 unfoldable pub pad_read : Reader Rewrite
 pad_read rest = then_read side_read (then_read number_read (then_read blanks_read blanks_read)) rest
-    >>= λ a. Some (Pad a.0 a.1.0 a.1.1.0 a.1.1.1)
+    >>= λ a. Some (Lines (Pad a.0 a.1.0 a.1.1.0 a.1.1.1))
 
 unfoldable pub fold_read : Reader Rewrite
 fold_read rest =
     then_read side_read (then_read number_read (then_read number_read blanks_read)) rest
-    >>= λ a. Some (Fold a.0 a.1.0 a.1.1.0 a.1.1.1)
+    >>= λ a. Some (Lines (Fold a.0 a.1.0 a.1.1.0 a.1.1.1))
 
 unfoldable pub two_read : Reader (Side × (ℕ × ℕ))
 two_read rest = then_read side_read (then_read number_read number_read) rest
 
 unfoldable pub unfold_read : Reader Rewrite
-unfold_read rest = two_read rest >>= λ a. Some (Unfold a.0 a.1.0 a.1.1)
+unfold_read rest = two_read rest >>= λ a. Some (Lines (Unfold a.0 a.1.0 a.1.1))
 
 unfoldable pub join_read : Reader Rewrite
-join_read rest = two_read rest >>= λ a. Some (Join a.0 a.1.0 a.1.1)
+join_read rest = two_read rest >>= λ a. Some (Lines (Join a.0 a.1.0 a.1.1))
 
 unfoldable pub split_read : Reader Rewrite
-split_read rest = two_read rest >>= λ a. Some (Split a.0 a.1.0 a.1.1)
+split_read rest = two_read rest >>= λ a. Some (Lines (Split a.0 a.1.0 a.1.1))
 
 unfoldable pub move_read : Reader Rewrite
-move_read rest = two_read rest >>= λ a. Some (Move a.0 a.1.0 a.1.1)
+move_read rest = two_read rest >>= λ a. Some (Lines (Move a.0 a.1.0 a.1.1))
 
 unfoldable pub case_read : Reader Rewrite
 case_read rest = then_read side_read (then_read number_read name_read) rest
-    >>= λ a. Some (Case a.0 a.1.0 a.1.1)
+    >>= λ a. Some (Lines (Case a.0 a.1.0 a.1.1))
 
 unfoldable pub add_read : Reader Rewrite
 add_read rest = then_read side_read (then_read number_read (then_read name_read text_read)) rest
-    >>= λ a. Some (Add a.0 a.1.0 a.1.1.0 a.1.1.1)
+    >>= λ a. Some (Lines (Add a.0 a.1.0 a.1.1.0 a.1.1.1))
 
 unfoldable pub remove_read : Reader Rewrite
-remove_read rest = then_read side_read number_read rest >>= λ a. Some (Remove a.0 a.1)
+remove_read rest = then_read side_read number_read rest >>= λ a. Some (Lines (Remove a.0 a.1))
+
+unfoldable pub add_label_read : Reader Rewrite
+add_label_read rest = then_read key_read (then_read tag_read params_read) rest
+    >>= λ a. Some (Whole (AddLabel a.0 a.1.0 a.1.1))
+
+unfoldable pub rechunk_read : Reader Rewrite
+rechunk_read rest = sizes_read rest >>= λ sizes. Some (Whole (Rechunk sizes))
+
+unfoldable pub chunk_read : Reader Rewrite
+chunk_read rest = sizes_read rest >>= λ sizes. Some (Whole (Chunk sizes))
+
+unfoldable pub host_read : Reader Rewrite
+host_read rest = text_read rest >>= λ text. Some (Whole (Host text))
+
+unfoldable pub query_read : Reader Rewrite
+query_read rest = query_text_read rest >>= λ text. Some (Whole (Query (Some text)))
+
+unfoldable pub resf_read : Reader Rewrite
+resf_read rest = then_read side_read lower_name_read rest >>= λ a. Some (Whole (Resf a.0 a.1))
 
 -- ---- lines
 
--- by the kind's word
+-- by the kind's word, where more words come after it and the kind changes more than field lines
+unfoldable pub message_read : List ℕ → Reader Rewrite
+message_read kind rest = if bytes_eq kind (codes "add-label") then add_label_read rest
+    else if bytes_eq kind (codes "rechunk") then rechunk_read rest
+    else if bytes_eq kind (codes "chunk") then chunk_read rest
+    else if bytes_eq kind (codes "host") then host_read rest
+    else if bytes_eq kind (codes "query") then query_read rest
+    else if bytes_eq kind (codes "resf") then resf_read rest
+    else None
+
+-- by the kind's word, where more words come after it
 unfoldable pub rewrite_read : List ℕ → Reader Rewrite
 rewrite_read kind rest = if bytes_eq kind (codes "pad") then pad_read rest
     else if bytes_eq kind (codes "fold") then fold_read rest
@@ -136,11 +208,26 @@ rewrite_read kind rest = if bytes_eq kind (codes "pad") then pad_read rest
     else if bytes_eq kind (codes "case") then case_read rest
     else if bytes_eq kind (codes "add") then add_read rest
     else if bytes_eq kind (codes "remove") then remove_read rest
+    else message_read kind rest
+
+-- a line of one word
+unfoldable pub word_read : Reader Rewrite
+word_read word = if bytes_eq word (codes "rechunk") then Some (Whole (Rechunk []))
+    else if bytes_eq word (codes "chunk") then Some (Whole (Chunk []))
+    else if bytes_eq word (codes "dechunk") then Some (Whole Dechunk)
+    else if bytes_eq word (codes "origin") then Some (Whole Origin)
+    else if bytes_eq word (codes "absolute") then Some (Whole Absolute)
+    else if bytes_eq word (codes "query") then Some (Whole (Query None))
     else None
+
+-- a line that is cut at its first SP, or has none
+abbrev pub parts_read : List ℕ → Option (List ℕ × List ℕ) → Option Rewrite
+parts_read line (Some w) = rewrite_read w.0 w.1
+parts_read line None = word_read line
 
 -- a line without the LF at its end
 unfoldable pub line_read : Reader Rewrite
-line_read line = cut_read (byte " ") line >>= λ w. rewrite_read w.0 w.1
+line_read line = parts_read line (cut_read (byte " ") line)
 
 -- a line with its LF, and the bytes after it
 unfoldable pub ended_read : Reader (Rewrite × List ℕ)

@@ -1,30 +1,27 @@
 -- What the parts of the code answer. No public clause cites this module.
-use Rattle.std.specs.Prelude.{◌≡◌, ◌≢◌, ⊤, ℕ, Bool, Option, Some, None, IsSomeAnd, Result, Ok, Err, List, ◌++◌, length}
-use Rattle.msg_body.specs.Messages.{Message, Spells}
-use Rattle.msg_body.specs.Views.{message_content}
-use Rattle.component_values.specs.Context.{MessageContext}
+use Rattle.std.specs.Prelude.{◌≡◌, ⊤, ℕ, Result, Ok, Err, List}
+use Rattle.msg_body.specs.Messages.{Message, IsMessage, message_text}
+use Rattle.component_values.specs.Context.{MessageContext, answers_head}
 use Rattle.rewrite_script.specs.declared.rewrite.Rewrite.{Rewrite}
-use Rattle.rewrites.specs.Steps.{IsNotApplicable, Rewrites}
-use Rattle.rewrites.specs.declared.fault.ApplyFault.{ApplyFault}
-use Rattle.rewrites.specs.declared.fault.ApplyFault.TheVariants.{Memory, NotApplicable}
+use Rattle.rewrite_script.specs.declared.rewrite.WholeRewrite.{WholeRewrite}
+use Rattle.line_rewrites.specs.declared.fault.ApplyFault.{ApplyFault}
+use Rattle.line_rewrites.specs.declared.fault.ApplyFault.TheVariants.{Memory, NotApplicable}
+use Rattle.line_rewrites.specs.Sound.{IsSoundMessage}
+use Rattle.rewrites.specs.Steps.{IsNotApplicable, Makes, Rewrites}
 
--- the bytes that are made are added at the end of the text, or there are none
-abbrev pub Adds : {T : Type 0} → Option (List ℕ) → List ℕ → List ℕ → Result T ApplyFault → Type 0
-Adds made old new (Ok _) = IsSomeAnd made (λ bytes. new ≡ old ++ bytes)
-Adds made old new (Err NotApplicable) = made ≡ None
-Adds made old new (Err Memory) = ⊤
+-- the text is that of what the rewriting makes of the message, and sound
+pub record IsOffered (context : MessageContext) (step : WholeRewrite) (text : List ℕ) : Type 0 where
+  pub made : Message
+  pub makes : Makes context step made
+  pub sound : IsSoundMessage (answers_head context.related) made
+  pub text_is : text ≡ message_text made
 
--- the bytes that are made are answered, or there are none
-abbrev pub Makes : Option (List ℕ) → Result (List ℕ) ApplyFault → Type 0
-Makes made (Ok text) = made ≡ Some text
-Makes made (Err NotApplicable) = made ≡ None
-Makes made (Err Memory) = ⊤
-
--- the text is that of a message whose content has so many bytes
-pub record SpellsSized (to_head : Bool) (text : List ℕ) (count : ℕ) (message : Message)
-    : Type 0 where
-  pub spells : Spells to_head message text
-  pub sized : length (message_content message) ≡ count
+-- such a text, or the rewriting makes no message
+abbrev pub Offers : MessageContext → WholeRewrite → Result (List ℕ) ApplyFault → Type 0
+Offers context step (Ok text) = IsOffered context step text
+Offers context step (Err NotApplicable) = (made : Message) → Makes context step made
+    → ¬ IsMessage (answers_head context.related) made
+Offers context step (Err Memory) = ⊤
 
 -- the text is that of the message which the step gives, or the step gives none
 abbrev pub ExplainsStep : MessageContext → Rewrite → Result (List ℕ) ApplyFault → Type 0

@@ -6,8 +6,8 @@ use Rattle.std.specs.Coded.{Coded, coded_list, coded_ℕ}
 use Rattle.std.specs.declared.alloc.Global.{Global}
 use Rattle.settings.specs.Keys.{KeyMap}
 
-abbrev pub by_keyid : List (Vec ℕ Global × Vec ℕ Global) → List (List ℕ × List ℕ)
-by_keyid entries = map (λ e. (e.0.items, e.1.items)) entries
+abbrev pub by_keyid : List (Vec ℕ Global × List ℕ) → List (List ℕ × List ℕ)
+by_keyid entries = map (λ e. (e.0.items, e.1)) entries
 
 abbrev pub keys_code : Coded KeyMap
 keys_code = finite.code (coded_list coded_ℕ) (coded_list coded_ℕ)

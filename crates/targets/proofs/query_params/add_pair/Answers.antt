@@ -1,7 +1,7 @@
-use Rattle.std.proofs.Common.{◌≡◌, ℕ, List, Option, Some, None, rules}
+use Rattle.std.proofs.Common.{◌≡◌, List, Some, None, rules}
 use Rattle.std.proofs.lemmas.Result.{on_ok_weaker}
 use Rattle.sfv_text.specs.Keys.{put, value_of}
-use Rattle.targets.specs.Query.{QueryPair, decoded, decoded_pair, encoded}
+use Rattle.targets.specs.Query.{QueryPair, decoded_pair, encoded}
 use Rattle.targets.specs.tools.Params.{AreFoundIn}
 use Rattle.targets.proofs.ParamLaws.{found_again, found_first}
 use Rattle.targets.proofs.query_params.add_pair.Goals.{in-None+in_ok-encode_again-in-None, in-Some}

@@ -25,6 +25,16 @@ returns-clause-explains c =
       c.in-Ok.ensures.values,
       λ e.
           false≢true
-          (c.if-tag_matches.ensures.1
+          ((c.if-is_tag.ensures c.args.key.now c.hmac.ensures.absorbed).1
           (c.bytes.ensures ∙ (e ∙ ap (λ (p : SigParams). hmac c.args.key.now (signature_base p c.in-Ok.prepared.values)) (sym params_are)))),
+    )
+
+pub returns-then-is_tag-clause-explains : goal.returns-then-is_tag-clause-explains
+returns-then-is_tag-clause-explains c =
+    let params_are = c.in-Ok.ensures.params in (
+      c.in-Ok.prepared.values,
+      c.in-Ok.ensures.values,
+      sym c.bytes.ensures
+          ∙ ((c.if-is_tag.ensures c.args.key.now c.hmac.ensures.absorbed).0 refl
+          ∙ ap (λ (p : SigParams). hmac c.args.key.now (signature_base p c.in-Ok.prepared.values)) params_are),
     )

@@ -9,5 +9,4 @@ returns-clause-absorbed c key text absorbed =
     let held = subst (λ state. HasAbsorbed state (key_block key ++ text)) (sym c.self.view_is) absorbed in
     let long = length-key_block key ∙ sym (length-key_block held.key) in
     let parts = same_parts (key_block key) (key_block held.key) text held.text held.parts long in
-    let digest = c.finalize.ensures _ (c.update-2.ensures _ (c.update.ensures _ c.new-outer.ensures)) in
-    rw (parts.0, parts.1, digest, c.finalize-inner.ensures _ held.has.inner, held.has.outer)
+    rw (parts.0, parts.1, c.finalize.ensures _ (c.update.ensures _ held.has.outer), c.finalize-inner.ensures _ held.has.inner)

@@ -1,0 +1,13 @@
+pub mod RawValues
+pub mod LineLists
+pub mod Sides
+pub mod Sized
+pub mod Sound
+pub mod Steps
+pub mod Covered
+pub mod Permitted
+pub mod SameFor
+pub mod Decisions
+pub mod Laws
+pub mod Words
+pub mod tools

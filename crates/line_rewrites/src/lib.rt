@@ -1,0 +1,30 @@
+//! Rewritings of the field lines of a message on its way: what each gives, and which of them keep
+//! a signature (RFC 9421 section 1.1).
+//!
+//! ```text
+//! let text = rewrite_lines(alloc, bytes, &context, &step)?;    // or it isn't applicable
+//! permits_lines(context.message, &step, &label_read.params)    // the label's base stays
+//! ```
+#![tactic(auto)]
+
+mod covered;
+mod fault;
+mod laws;
+mod line;
+mod permit;
+mod raw;
+mod sides;
+mod sized;
+mod step;
+mod write;
+
+pub use covered::covers_field;
+pub use fault::ApplyFault;
+pub use laws::{
+    a_line_step_gives_one_message, a_line_step_is_permitted_or_not, a_text_has_one_sound_message,
+};
+pub use line::append_text_line;
+pub use permit::permits_lines;
+pub use sides::SideLines;
+pub use sized::is_sized_message;
+pub use step::rewrite_lines;

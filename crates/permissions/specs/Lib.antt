@@ -1,0 +1,5 @@
+pub mod Targets
+pub mod Covered
+pub mod Permitted
+pub mod Laws
+pub mod tools

@@ -1,0 +1,100 @@
+//! Whether a signature permits another form of fields: of those that frame, of signatures, and of
+//! structured fields.
+
+ghost use Rattle.std.specs.Prelude.{◌≡◌, ◌↔◌, IsTrue, IsFalse, IfOk};
+ghost use Rattle.std.specs.List.{list_any};
+ghost use Rattle.std.specs.Str.{str_to_ascii_lowercase};
+ghost use Rattle.component_ids.specs.Table.{is_listed};
+ghost use Rattle.msg_body.specs.Views.{message_of};
+ghost use Rattle.msg_head.specs.declared.error.Side.TheVariants.{Header};
+ghost use Rattle.line_rewrites.specs.Covered.{covers_field};
+ghost use Rattle.line_rewrites.specs.Permitted.{counted_names};
+ghost use Rattle.permissions.specs.Covered.{covers_unread, rests_on_label};
+ghost use Rattle.permissions.specs.Permitted.{LacksLabel, MayAddLabel, MayFrameAnew};
+
+use crate::covered::{covers_unread, rests_on_label};
+use byte_grammar::is_listed;
+use component_ids::SigParams;
+use line_rewrites::covers_field;
+use msg_body::MessageView;
+use msg_head::{LineView, Side};
+use sfv_text::Memory;
+use signatures::{DictField, read_field};
+use std::alloc::Global;
+
+/// The fields of which the number of lines counts (RFC 9110 section 7.2, RFC 9112 section 6).
+const COUNTED_NAMES: [&[u8]; 3] = [b"host", b"content-length", b"transfer-encoding"];
+
+/// Whether the field of the name, which is in lower case, is covered in the header.
+fn covers_header(name: &[u8], params: &SigParams) -> bool
+    requires { str_to_ascii_lowercase name.now ≡ name.now }
+    ensures { result ≡ covers_field Header name.now params.now }
+{
+    covers_field(Side::Header, LineView { name, raw: b"" }, params)
+}
+
+/// Whether content may be sent in another way: no field that frames is covered.
+pub(crate) fn permits_framing(params: &SigParams) -> bool
+    ensures { IsTrue result ↔ MayFrameAnew params.now }
+{
+    !covers_header(b"content-length", params) && !covers_header(b"transfer-encoding", params)
+}
+
+/// Whether the header has the field, and it reads as a Dictionary without the label.
+fn lacks_label(
+    alloc: Global,
+    message: &MessageView<'_>,
+    name: &[u8],
+    label: &[u8],
+) -> Result<bool, Memory>
+    ensures { IfOk result (λ lacks.
+        IsTrue lacks ↔ LacksLabel (message_of message.now) name.now label.now) }
+{
+    match read_field(alloc, message, name)? {
+        DictField::Dict(dict) => Ok(dict.find(label).is_none()),
+        DictField::Malformed => Ok(false),
+        DictField::Absent => Ok(false),
+    }
+}
+
+/// Whether a component rests on the lines of the label's signature.
+fn rests_on(label: &[u8], params: &SigParams) -> bool
+    ensures { result ≡ list_any (rests_on_label label.now) params.now.ids }
+{
+    params.ids.iter().any(|id| rests_on_label(label, id))
+}
+
+/// Whether a signature of these parameters permits a further label.
+pub(crate) fn permits_label(
+    alloc: Global,
+    message: &MessageView<'_>,
+    label: &[u8],
+    params: &SigParams,
+) -> Result<bool, Memory>
+    ensures { IfOk result (λ permitted.
+        IsTrue permitted ↔ MayAddLabel (message_of message.now) label.now params.now) }
+{
+    if rests_on(label, params) {
+        return Ok(false);
+    }
+    if !lacks_label(alloc, message, b"signature-input", label)? {
+        return Ok(false);
+    }
+    lacks_label(alloc, message, b"signature", label)
+}
+
+/// Whether the number of lines of the name counts, whatever is covered.
+fn is_counted(name: &[u8]) -> bool
+    ensures { result ≡ is_listed counted_names name.now }
+{
+    is_listed(&COUNTED_NAMES, name)
+}
+
+/// Whether a signature of these parameters permits the strict text of the field on the side (RFC
+/// 9421 section 2.1.1).
+pub(crate) fn permits_strict_form(side: Side, name: &[u8], params: &SigParams) -> bool
+    ensures { IsTrue result ↔ (IsFalse (is_listed counted_names name.now)
+        × IsFalse (covers_unread side name.now params.now)) }
+{
+    !is_counted(name) && !covers_unread(side, name, params)
+}

@@ -1,0 +1,18 @@
+//! Which rewritings of a whole message a signature permits, since they keep what it rests on (RFC
+//! 9421 section 1.1).
+//!
+//! ```text
+//! permits_whole(alloc, &context, &step, &label_read.params)?   // the label's base stays
+//! ```
+#![tactic(auto)]
+
+mod covered;
+mod field;
+mod laws;
+mod permit;
+mod request;
+mod target;
+
+pub use laws::a_whole_rewriting_is_permitted_or_not;
+pub use permit::permits_whole;
+pub use request::{TargetLine, scheme_text, target_line};

@@ -1,0 +1,279 @@
+//! Whether a signature permits another target of a request, and another `Host`.
+
+ghost use Rattle.std.specs.Prelude.{◌≡◌, ◌↔◌, ℕ, List, IsTrue, IsFalse, IfOk, IfSome, IfNone};
+ghost use Rattle.std.specs.List.{All, list_all};
+ghost use Rattle.std.specs.Str.{str_to_ascii_lowercase};
+ghost use Rattle.byte_grammar.specs.Classes.{is_visible};
+ghost use Rattle.component_values.specs.Context.{context_of};
+ghost use Rattle.derived_values.specs.Derived.{param_name, scheme_text};
+ghost use Rattle.msg_body.specs.Views.{message_of};
+ghost use Rattle.msg_head.specs.Starts.{RequestLine};
+ghost use Rattle.rewrite_script.specs.declared.rewrite.WholeRewrite.TheVariants.{Host, Origin, Query};
+ghost use Rattle.targets.specs.Targets.{TargetParts};
+ghost use Rattle.targets.specs.Views.{authority_parts, parts_of};
+ghost use Rattle.permissions.specs.Permitted.{HasOneHost, IsSameHost, MayChangeTarget, NamesHost, PermitsWhole};
+ghost use Rattle.permissions.specs.Targets.{AreOneAuthority, HasTarget, OfTarget, query_in};
+ghost use Rattle.permissions.specs.tools.Requests.{HasQuery, HaveOneValue, KeepsParamIn, NamesOwn, scheme_in};
+
+use crate::covered::{covers_one_of, is_own_of};
+use crate::request::{scheme_text, target_line};
+use component_ids::{ComponentId, SigParams};
+use component_values::Context;
+use line_rewrites::covers_field;
+use msg_body::MessageView;
+use msg_head::{LineView, Side};
+use sfv_text::{Memory, Params, Text};
+use std::alloc::Global;
+use targets::{Authority, QueryParams, Target, authority_of, have_same_values_in, query_of};
+
+// ---- requests
+
+/// The parts of the request's target; None of a response, and where the target is in no form.
+fn target_of<'m>(message: &MessageView<'m>) -> Option<Target<'m>>
+    ensures some { IfSome result (λ target. (line : RequestLine)
+        × HasTarget (message_of message.now) line (parts_of target)) }
+    ensures none { IfNone result ((line : RequestLine) (parts : TargetParts) →
+        ¬ HasTarget (message_of message.now) line parts) }
+{
+    match target_line(message) {
+        Some(line) => Some(line.parts),
+        None => None,
+    }
+}
+
+/// The value of the one line `Host`; None where there isn't one alone, and where a fold is within
+/// its value.
+fn host_of<'m>(message: &MessageView<'m>) -> Option<&'m [u8]>
+    ensures some { IfSome result (λ host. HasOneHost (message_of message.now) host.now) }
+    ensures none { IfNone result ((host : List ℕ) → HasOneHost (message_of message.now) host
+        → IsFalse (list_all is_visible host)) }
+{
+    let mut lines = message.lines_named(Side::Header, b"host");
+    let line = lines.next()?;
+    match lines.next() {
+        Some(_) => None,
+        None => line.whole_value(),
+    }
+}
+
+// ---- authorities
+
+/// Whether both authorities have one value.
+fn have_one_value(one: Authority<'_>, other: Authority<'_>) -> bool
+    ensures { IsTrue result
+        ↔ HaveOneValue (authority_parts one.entry) (authority_parts other.entry) }
+{
+    one.host.eq_ignore_ascii_case(other.host) && one.port == other.port
+}
+
+/// Whether under the scheme, in whatever case it is written, both texts are authorities, of one
+/// value (RFC 9421 section 2.2.3).
+fn are_one_authority(scheme: &[u8], one: &[u8], other: &[u8]) -> bool
+    ensures { IsTrue result
+        ↔ AreOneAuthority (str_to_ascii_lowercase scheme.now) one.now other.now }
+{
+    let Some(one) = authority_of(one, scheme) else {
+        return false;
+    };
+    let Some(other) = authority_of(other, scheme) else {
+        return false;
+    };
+    have_one_value(one, other)
+}
+
+// ---- another form of the target
+
+/// Whether a signature of these parameters permits the rewriting `absolute`: the target as it is
+/// sent isn't covered (RFC 9421 section 2.2.5).
+pub(crate) fn permits_absolute(params: &SigParams) -> bool
+    ensures { IsTrue result ↔ MayChangeTarget params.now }
+{
+    !covers_one_of(&[b"@request-target"], params)
+}
+
+/// Whether the scheme is the configured one, and the authority that of the one line `Host`.
+fn is_own_authority(context: &Context<'_, '_>, scheme: &[u8], authority: &[u8]) -> bool
+    ensures { IsTrue result ↔ NamesOwn (context_of context.now) scheme.now authority.now }
+{
+    let Some(host) = host_of(context.message) else {
+        return false;
+    };
+    let configured = scheme_text(context.scheme);
+    scheme.eq_ignore_ascii_case(configured) && are_one_authority(configured, host, authority)
+}
+
+/// Whether the target names the configured scheme and the authority of the one line `Host`.
+fn names_host(context: &Context<'_, '_>) -> bool
+    ensures { IsTrue result ↔ OfTarget (context_of context.now).message
+        (NamesHost (context_of context.now)) }
+{
+    let Some(target) = target_of(context.message) else {
+        return false;
+    };
+    let Some(scheme) = target.scheme else {
+        return false;
+    };
+    match target.authority {
+        Some(authority) => is_own_authority(context, scheme, authority),
+        None => false,
+    }
+}
+
+/// Whether a signature of these parameters permits the rewriting `origin`: besides, what the target
+/// names is what the message has without it.
+pub(crate) fn permits_origin(context: &Context<'_, '_>, params: &SigParams) -> bool
+    ensures { IsTrue result ↔ PermitsWhole (context_of context.now) Origin params.now }
+{
+    permits_absolute(params) && names_host(context)
+}
+
+// ---- another `Host`
+
+/// The scheme of the request, in whatever case it is written (RFC 9421 section 2.2.4).
+fn scheme_of<'m>(context: &Context<'_, '_>, target: &Target<'m>) -> &'m [u8]
+    ensures { str_to_ascii_lowercase result.now
+        ≡ scheme_in (context_of context.now) (parts_of target.now) }
+{
+    match target.scheme {
+        Some(text) => text,
+        None => scheme_text(context.scheme),
+    }
+}
+
+/// Whether under the scheme of the request the line is of the authority that the one line `Host`
+/// has.
+fn is_same_host(context: &Context<'_, '_>, line: LineView<'_>) -> bool
+    ensures { IsTrue result ↔ IsSameHost (context_of context.now) line.entry.raw.now }
+{
+    let Some(target) = target_of(context.message) else {
+        return false;
+    };
+    let Some(host) = host_of(context.message) else {
+        return false;
+    };
+    match line.whole_value() {
+        Some(text) => are_one_authority(scheme_of(context, &target), host, text),
+        None => false,
+    }
+}
+
+/// Whether a signature of these parameters permits the rewriting `host` to this text: `Host` isn't
+/// covered, and `@authority` stays (RFC 9421 section 2.2.3).
+pub(crate) fn permits_host(context: &Context<'_, '_>, text: &[u8], params: &SigParams) -> bool
+    ensures { IsTrue result
+        ↔ PermitsWhole (context_of context.now) (Host text.now) params.now }
+{
+    let line = LineView {
+        name: b"host",
+        raw: text,
+    };
+    !covers_field(Side::Header, line, params) && is_same_host(context, line)
+}
+
+// ---- another query
+
+/// The components that have a query whole in their values.
+const WHOLE_QUERY_NAMES: [&[u8]; 3] = [b"@query", b"@target-uri", b"@request-target"];
+
+/// The query of the text, without the `?` that the text begins with.
+fn query_in(text: &Option<Text>) -> &[u8]
+    ensures { result.now ≡ query_in text.now }
+{
+    match text {
+        Some(text) => text.bytes().get(1..).unwrap_or(b""),
+        None => b"",
+    }
+}
+
+/// The query of the request, empty where there is no `?`; None where its target has no path, and
+/// where there is no target.
+fn request_query<'m>(message: &MessageView<'m>) -> Option<&'m [u8]>
+    ensures some { IfSome result (λ query. HasQuery (message_of message.now) query.now) }
+    ensures none { IfNone result ((query : List ℕ) → ¬ HasQuery (message_of message.now) query) }
+{
+    let target = target_of(message)?;
+    let query = query_of(&target)?;
+    Some(query.unwrap_or(b""))
+}
+
+/// The String that the parameter `name` is (RFC 9421 section 2.2.8).
+fn param_name(params: &Params) -> &[u8]
+    ensures { result.now ≡ param_name params.now }
+{
+    match params.string(b"name") {
+        Some(text) => text.bytes(),
+        None => b"",
+    }
+}
+
+/// Whether the component is no parameter of the query, or both queries have the same values of it.
+fn keeps_param(
+    alloc: Global,
+    params: &QueryParams,
+    others: &QueryParams,
+    id: &ComponentId,
+) -> Result<bool, Memory>
+    ensures { IfOk result (λ keeps. IsTrue keeps ↔ KeepsParamIn params.now others.now id.now) }
+{
+    if !is_own_of(&[b"@query-param"], id) {
+        return Ok(true);
+    }
+    have_same_values_in(alloc, others, params, param_name(&id.params))
+}
+
+/// The same of each component that is a parameter of the query.
+fn keeps_each(
+    alloc: Global,
+    params: &QueryParams,
+    others: &QueryParams,
+    ids: &[ComponentId],
+) -> Result<bool, Memory>
+    ensures { IfOk result (λ keeps. IsTrue keeps
+        ↔ All (KeepsParamIn params.now others.now) ids.now) }
+{
+    for id in ids {
+        if !keeps_param(alloc, params, others, id)? {
+            return Ok(false);
+        }
+    }
+    Ok(true)
+}
+
+/// Whether both queries have the same values of each component that is a parameter of the query.
+fn keeps_params(
+    alloc: Global,
+    query: &[u8],
+    other: &[u8],
+    ids: &[ComponentId],
+) -> Result<bool, Memory>
+    ensures { IfOk result (λ keeps. IsTrue keeps
+        ↔ All (KeepsParamIn query.now other.now) ids.now) }
+{
+    let params = QueryParams::of(alloc, query)?;
+    let others = QueryParams::of(alloc, other)?;
+    keeps_each(alloc, &params, &others, ids)
+}
+
+/// Whether a signature of these parameters permits the rewriting `query` to this text: the query
+/// isn't covered whole, and of each parameter that is covered the values stay (RFC 9421 section
+/// 2.2.8). Each query is read once.
+pub(crate) fn permits_query(
+    alloc: Global,
+    context: &Context<'_, '_>,
+    text: &Option<Text>,
+    params: &SigParams,
+) -> Result<bool, Memory>
+    ensures { IfOk result (λ permitted. IsTrue permitted
+        ↔ PermitsWhole (context_of context.now) (Query text.now) params.now) }
+{
+    if covers_one_of(&WHOLE_QUERY_NAMES, params) {
+        return Ok(false);
+    }
+    if !covers_one_of(&[b"@query-param"], params) {
+        return Ok(true);
+    }
+    match request_query(context.message) {
+        Some(query) => keeps_params(alloc, query, query_in(text), params.ids.as_slice()),
+        None => Ok(false),
+    }
+}

@@ -1,0 +1,22 @@
+use Rattle.component_values.specs.Context.{context_of}
+use Rattle.targets.specs.Views.{parts_of}
+use Rattle.rewrites.specs.Targets.{IsOriginOf}
+use Rattle.permissions.specs.Targets.{request_line_of}
+use Rattle.rewrites.specs.tools.Retargeted.{new_target_text}
+use Rattle.rewrites.proofs.Targeted.{changes_none}
+use Rattle.rewrites.proofs.TargetOffers.{origin_offers}
+use Rattle.rewrites.proofs.target.in_origin_form.Goals as goal
+
+pub returns-in_default : goal.returns-in_default
+returns-in_default c = λ made makes is. c.in_default.ensures.none makes.line makes.parts makes.has
+
+pub returns-in_default-origin_target : goal.returns-in_default-origin_target
+returns-in_default-origin_target c = λ made makes is.
+    changes_none (context_of c.args.context.now) IsOriginOf (request_line_of c.in-Some.line) (parts_of c.in-Some.line.parts) c.in-Some.ensures.some
+    (c.in_default-origin_target.ensures.none (request_line_of c.in-Some.line)) made makes
+
+pub returns : goal.returns
+returns c =
+    let line = request_line_of c.in-Some.line in
+    origin_offers (context_of c.args.context.now) c.args.bytes.now line (parts_of c.in-Some.line.parts) (new_target_text c.in-Some-origin_target.target) c.retargeted.result c.requires.spells
+    c.in-Some.ensures.some (c.in-Some-origin_target.ensures.some line) c.retargeted.ensures
