@@ -5,7 +5,7 @@ use Rattle.std.specs.Str.{bytes_eq}
 use Rattle.std.specs.Str.Parse.{digits_value}
 use Rattle.sfv_text.specs.Keys.{value_of}
 use Rattle.sfv_text.specs.declared.pair.Pair.{Pair}
-use Rattle.command_line.specs.Command.{CommandLine, Help, Version, Base, Verify, Sign, Rewrite, BaseWords, VerifyWords, SignWords, RewriteWords, IsCommand, SpellsBase, SpellsVerify, SpellsSign, SpellsRewrite}
+use Rattle.command_line.specs.Command.{CommandLine, Help, Version, Base, Verify, Sign, Rewrite, Audit, BaseWords, VerifyWords, SignWords, RewriteWords, AuditWords, IsCommand, SpellsBase, SpellsVerify, SpellsSign, SpellsRewrite, SpellsAudit}
 use Rattle.command_line.specs.Laws.{HasOneCommand}
 use Rattle.command_line.specs.Options.{words_of}
 
@@ -49,6 +49,9 @@ rewrite_in options = record {
   request = value_of options (codes "--request");
 }
 
+audit_in : List (Pair (List ℕ)) → AuditWords
+audit_in options = record { conf = word_of options (codes "--conf") }
+
 after_base : List (List ℕ) → CommandLine
 after_base [] = Help
 after_base (params ∷ words) = Base (base_in params (options_in words))
@@ -60,7 +63,8 @@ after name words =
     else (if bytes_eq name (codes "verify") then Verify (verify_in (options_in words))
     else (if bytes_eq name (codes "sign") then Sign (sign_in (options_in words))
     else (if bytes_eq name (codes "rewrite") then Rewrite (rewrite_in (options_in words))
-    else (if bytes_eq name (codes "--version") then Version else Help))))
+    else (if bytes_eq name (codes "audit") then Audit (audit_in (options_in words))
+    else (if bytes_eq name (codes "--version") then Version else Help)))))
 
 read : List (List ℕ) → CommandLine
 read [] = Help
@@ -108,6 +112,12 @@ rewrite_is arguments rewrite a =
     let script : rewrite.script ≡ word_of a.options (codes "--script") = word_is a.options (codes "--script") rewrite.script a.script_is in
     λ i. record { script = script i; conf = a.conf_is i; label = a.label_is i; request = a.request_is i }
 
+audit_is : (arguments : List (List ℕ)) (audit : AuditWords) (a : SpellsAudit arguments audit) → audit ≡ audit_in a.options
+unfolding audit_in word_of
+audit_is arguments audit a =
+    let conf : audit.conf ≡ word_of a.options (codes "--conf") = word_is a.options (codes "--conf") audit.conf a.conf_is in
+    λ i. record { conf = conf i }
+
 is_read : (arguments : List (List ℕ)) (command : CommandLine) → IsCommand arguments command → read arguments ≡ command
 unfolding read after after_base
 is_read arguments Help a = ap read a
@@ -120,6 +130,8 @@ is_read arguments (Sign words) a = ap read a.joined
     ∙ (ap (λ (options : List (Pair (List ℕ))). Sign (sign_in options)) (are_in a.words a.options a.are.joined) ∙ ap Sign (sym (sign_is arguments words a)))
 is_read arguments (Rewrite words) a = ap read a.joined
     ∙ (ap (λ (options : List (Pair (List ℕ))). Rewrite (rewrite_in options)) (are_in a.words a.options a.are.joined) ∙ ap Rewrite (sym (rewrite_is arguments words a)))
+is_read arguments (Audit words) a = ap read a.joined
+    ∙ (ap (λ (options : List (Pair (List ℕ))). Audit (audit_in options)) (are_in a.words a.options a.are.joined) ∙ ap Audit (sym (audit_is arguments words a)))
 
 pub one_command : HasOneCommand
 one_command arguments one other a b = sym (is_read arguments one a) ∙ is_read arguments other b

@@ -8,7 +8,7 @@ use Rattle.std.proofs.lemmas.Bool.{cases_Bool, and_parts, false≢true}
 use Rattle.std.proofs.lemmas.Slice.Eq.{bytes_eq-Decides}
 use Rattle.sfv_text.specs.Keys.{have_distinct_keys, value_of}
 use Rattle.sfv_text.specs.declared.pair.Pair.{Pair}
-use Rattle.command_line.specs.Command.{Help, Version, Base, Verify, Sign, Rewrite, BaseWords, VerifyWords, SignWords, RewriteWords, NoCommand, SpellsBase, SpellsVerify, SpellsSign, SpellsRewrite}
+use Rattle.command_line.specs.Command.{Help, Version, Base, Verify, Sign, Rewrite, Audit, BaseWords, VerifyWords, SignWords, RewriteWords, AuditWords, NoCommand, SpellsBase, SpellsVerify, SpellsSign, SpellsRewrite, SpellsAudit}
 use Rattle.command_line.specs.Laws.{HasCommandOrNone}
 use Rattle.command_line.specs.Options.{may_have, takes, words_of, AreOptions}
 use Rattle.command_line.specs.declared.options.CommandName.{CommandName}
@@ -264,17 +264,39 @@ rewrite_of : (words : List (List ℕ)) → SomeOrNone (SpellsRewrite (codes "rew
 rewrite_of words =
     with_or_none (SpellsRewrite (codes "rewrite" ∷ words)) name.Rewrite words (λ rewrite is. (is.options, rewrite_are words rewrite is)) (rewrite_with words)
 
+-- ---- `audit`
+
+audit_are : (words : List (List ℕ)) (audit : AuditWords) (is : SpellsAudit (codes "audit" ∷ words) audit) → AreOptions name.Audit words is.options
+audit_are words audit is = are_of name.Audit (codes "audit") words is.words is.options is.joined is.are
+
+audit_with : (words : List (List ℕ)) (options : List (Pair (List ℕ))) → AreOptions name.Audit words options → SomeOrNone (SpellsAudit (codes "audit" ∷ words))
+audit_with words options are = elim (has_word (value_of options (codes "--conf"))) [
+  | inr none ↦ inr (λ audit is.
+      let same = same_options name.Audit words options is.options are (audit_are words audit is) in
+      no_word (value_of options (codes "--conf")) audit.conf none
+      (subst (λ (all : List (Pair (List ℕ))). value_of all (codes "--conf") ≡ Some audit.conf) same is.conf_is))
+  | inl conf ↦ inl (
+    record { conf = conf.0 },
+    record { words = words; options = options; joined = refl; are = are; conf_is = conf.1 },
+  )
+]
+
+audit_of : (words : List (List ℕ)) → SomeOrNone (SpellsAudit (codes "audit" ∷ words))
+audit_of words = with_or_none (SpellsAudit (codes "audit" ∷ words)) name.Audit words (λ audit is. (is.options, audit_are words audit is)) (audit_with words)
+
 -- ---- any command
 
 none_of : (arguments : List (List ℕ)) → (arguments ≡ codes "--help" ∷ [] → ⊥) → (arguments ≡ codes "--version" ∷ [] → ⊥)
     → ((base : BaseWords) → SpellsBase arguments base → ⊥) → ((verify : VerifyWords) → SpellsVerify arguments verify → ⊥)
-    → ((sign : SignWords) → SpellsSign arguments sign → ⊥) → ((rewrite : RewriteWords) → SpellsRewrite arguments rewrite → ⊥) → NoCommand arguments
-none_of arguments no_help no_version no_base no_verify no_sign no_rewrite Help is = no_help is
-none_of arguments no_help no_version no_base no_verify no_sign no_rewrite Version is = no_version is
-none_of arguments no_help no_version no_base no_verify no_sign no_rewrite (Base words) is = no_base words is
-none_of arguments no_help no_version no_base no_verify no_sign no_rewrite (Verify words) is = no_verify words is
-none_of arguments no_help no_version no_base no_verify no_sign no_rewrite (Sign words) is = no_sign words is
-none_of arguments no_help no_version no_base no_verify no_sign no_rewrite (Rewrite words) is = no_rewrite words is
+    → ((sign : SignWords) → SpellsSign arguments sign → ⊥) → ((rewrite : RewriteWords) → SpellsRewrite arguments rewrite → ⊥)
+    → ((audit : AuditWords) → SpellsAudit arguments audit → ⊥) → NoCommand arguments
+none_of arguments no_help no_version no_base no_verify no_sign no_rewrite no_audit Help is = no_help is
+none_of arguments no_help no_version no_base no_verify no_sign no_rewrite no_audit Version is = no_version is
+none_of arguments no_help no_version no_base no_verify no_sign no_rewrite no_audit (Base words) is = no_base words is
+none_of arguments no_help no_version no_base no_verify no_sign no_rewrite no_audit (Verify words) is = no_verify words is
+none_of arguments no_help no_version no_base no_verify no_sign no_rewrite no_audit (Sign words) is = no_sign words is
+none_of arguments no_help no_version no_base no_verify no_sign no_rewrite no_audit (Rewrite words) is = no_rewrite words is
+none_of arguments no_help no_version no_base no_verify no_sign no_rewrite no_audit (Audit words) is = no_audit words is
 
 base_or_none : (arguments : List (List ℕ)) → SomeOrNone (SpellsBase arguments)
 base_or_none arguments = named_or_none SpellsBase (codes "base") (λ all base is. (base.params ∷ is.words, is.joined)) base_of arguments
@@ -287,6 +309,9 @@ sign_or_none arguments = named_or_none SpellsSign (codes "sign") (λ all sign is
 
 rewrite_or_none : (arguments : List (List ℕ)) → SomeOrNone (SpellsRewrite arguments)
 rewrite_or_none arguments = named_or_none SpellsRewrite (codes "rewrite") (λ all rewrite is. (is.words, is.joined)) rewrite_of arguments
+
+audit_or_none : (arguments : List (List ℕ)) → SomeOrNone (SpellsAudit arguments)
+audit_or_none arguments = named_or_none SpellsAudit (codes "audit") (λ all audit is. (is.words, is.joined)) audit_of arguments
 
 pub command_or_none : HasCommandOrNone
 command_or_none arguments = elim (word_or_not (codes "--help") arguments) [
@@ -301,7 +326,10 @@ command_or_none arguments = elim (word_or_not (codes "--help") arguments) [
           | inl sign ↦ inl (Sign sign.0, sign.1)
           | inr no_sign ↦ elim (rewrite_or_none arguments) [
             | inl rewrite ↦ inl (Rewrite rewrite.0, rewrite.1)
-            | inr no_rewrite ↦ inr (none_of arguments no_help no_version no_base no_verify no_sign no_rewrite)
+            | inr no_rewrite ↦ elim (audit_or_none arguments) [
+              | inl audit ↦ inl (Audit audit.0, audit.1)
+              | inr no_audit ↦ inr (none_of arguments no_help no_version no_base no_verify no_sign no_rewrite no_audit)
+            ]
           ]
         ]
       ]

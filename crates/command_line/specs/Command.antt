@@ -10,6 +10,7 @@ use Rattle.command_line.specs.declared.command.BaseWords as base
 use Rattle.command_line.specs.declared.command.VerifyWords as verify
 use Rattle.command_line.specs.declared.command.SignWords as sign
 use Rattle.command_line.specs.declared.command.RewriteWords as rewrite
+use Rattle.command_line.specs.declared.command.AuditWords as audit
 use Rattle.command_line.specs.declared.command.Command.{Command}
 use Rattle.command_line.specs.declared.command.Command.TheVariants as command
 
@@ -45,6 +46,10 @@ pub record RewriteWords : Type 0 where
   pub label : Option (List ℕ)
   pub request : Option (List ℕ)
 
+-- the words of `audit`: the file of the configuration
+pub record AuditWords : Type 0 where
+  pub conf : List ℕ
+
 -- what arguments ask for
 pub data CommandLine : Type 0 where
   -- what the program does
@@ -62,6 +67,8 @@ pub data CommandLine : Type 0 where
   -- the message after the steps of a script, by a configuration or without one: any, or those alone
   -- that the signature of a label permits
   Rewrite : RewriteWords → CommandLine
+  -- the report on a recorded chain of messages, by a configuration
+  Audit : AuditWords → CommandLine
 
 -- the arguments are `base`, PARAMS and the options of `base`
 pub record SpellsBase (arguments : List (List ℕ)) (base : BaseWords) : Type 0 where
@@ -110,6 +117,14 @@ pub record SpellsRewrite (arguments : List (List ℕ)) (rewrite : RewriteWords) 
   pub label_is : rewrite.label ≡ value_of options (codes "--label")
   pub request_is : rewrite.request ≡ value_of options (codes "--request")
 
+-- the arguments are `audit` and its options, with the configuration
+pub record SpellsAudit (arguments : List (List ℕ)) (audit : AuditWords) : Type 0 where
+  pub words : List (List ℕ)
+  pub options : List (Pair (List ℕ))
+  pub joined : arguments ≡ codes "audit" ∷ words
+  pub are : AreOptions name.Audit words options
+  pub conf_is : value_of options (codes "--conf") ≡ Some audit.conf
+
 -- the arguments spell the command
 abbrev pub IsCommand : List (List ℕ) → CommandLine → Type 0
 IsCommand arguments Help = arguments ≡ codes "--help" ∷ []
@@ -118,6 +133,7 @@ IsCommand arguments (Base words) = SpellsBase arguments words
 IsCommand arguments (Verify words) = SpellsVerify arguments words
 IsCommand arguments (Sign words) = SpellsSign arguments words
 IsCommand arguments (Rewrite words) = SpellsRewrite arguments words
+IsCommand arguments (Audit words) = SpellsAudit arguments words
 
 -- the arguments spell no command
 abbrev pub NoCommand : List (List ℕ) → Type 0
@@ -131,6 +147,7 @@ conf_of (Base words) = words.conf
 conf_of (Verify words) = Some words.conf
 conf_of (Sign words) = Some words.conf
 conf_of (Rewrite words) = words.conf
+conf_of (Audit words) = Some words.conf
 
 -- the file of the request that the input answers
 abbrev pub request_of : CommandLine → Option (List ℕ)
@@ -140,6 +157,7 @@ request_of (Base words) = words.request
 request_of (Verify words) = words.request
 request_of (Sign words) = words.request
 request_of (Rewrite words) = words.request
+request_of (Audit words) = None
 
 -- the file of the message that asks for signatures
 abbrev pub wanted_of : CommandLine → Option (List ℕ)
@@ -187,6 +205,10 @@ rewrite_words words = record {
   request = option_map (λ word. word.now) words.request;
 }
 
+-- what the borrowed words of `audit` stand for
+abbrev pub audit_words : audit.AuditWords → AuditWords
+audit_words words = record { conf = words.conf.now }
+
 -- what a command with borrowed words stands for
 abbrev pub line_of : Command → CommandLine
 line_of command.Help = Help
@@ -195,6 +217,7 @@ line_of (command.Base words) = Base (base_words words)
 line_of (command.Verify words) = Verify (verify_words words)
 line_of (command.Sign words) = Sign (sign_words words)
 line_of (command.Rewrite words) = Rewrite (rewrite_words words)
+line_of (command.Audit words) = Audit (audit_words words)
 
 -- the moment is one of at most 15 digits
 abbrev pub IsTimely : CommandLine → Type 0

@@ -58,6 +58,13 @@ pub struct RewriteWords<'a> {
     pub request: Option<&'a str>,
 }
 
+/// The words of `audit`. They are borrowed.
+#[derive(Clone, Copy, Debug, PartialEq, Eq)]
+pub struct AuditWords<'a> {
+    /// The file of the configuration.
+    pub conf: &'a str,
+}
+
 /// What the arguments ask for.
 #[derive(Clone, Copy, Debug, PartialEq, Eq)]
 pub enum Command<'a> {
@@ -74,6 +81,8 @@ pub enum Command<'a> {
     Sign(SignWords<'a>),
     /// `rewrite`: the message after the steps of a script (RFC 9421 section 1.1).
     Rewrite(RewriteWords<'a>),
+    /// `audit`: what became of the signatures of a recorded chain of messages, hop by hop.
+    Audit(AuditWords<'a>),
 }
 
 /// The arguments after the program's name.
@@ -193,6 +202,19 @@ fn read_rewrite<'a>(words: &'a [String]) -> Option<Command<'a>>
     }))
 }
 
+/// The words after `audit`.
+fn read_audit<'a>(words: &'a [String]) -> Option<Command<'a>>
+    ensures some { IfSome result
+        (λ command. IsAfter (codes "audit") (map string_bytes words.now) (line_of command)) }
+    ensures none { IfNone result (NoneAfter (codes "audit") (map string_bytes words.now)) }
+    ensures timely { IfSome result (λ command. IsTimely (line_of command)) }
+    ensures nonce { IfSome result (λ command. HasRightNonce (line_of command)) }
+{
+    let found = read_options(CommandName::Audit, words)?;
+    let conf = found.conf?;
+    Some(Command::Audit(AuditWords { conf }))
+}
+
 /// Reads the arguments after the program's name. It takes no memory.
 pub fn read_words(words: &[String]) -> Option<Command<'_>>
     ensures some { IfSome result
@@ -209,6 +231,7 @@ pub fn read_words(words: &[String]) -> Option<Command<'_>>
         "verify" => read_verify(others),
         "sign" => read_sign(others),
         "rewrite" => read_rewrite(others),
+        "audit" => read_audit(others),
         _ => None,
     }
 }

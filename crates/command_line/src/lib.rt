@@ -10,7 +10,7 @@ mod laws;
 mod options;
 
 pub use command::{
-    BaseWords, Command, RewriteWords, SignWords, VerifyWords, after_name, read_words,
+    AuditWords, BaseWords, Command, RewriteWords, SignWords, VerifyWords, after_name, read_words,
 };
 pub use laws::{arguments_are_a_command_or_none, arguments_have_one_command};
 pub use nonces::MAX_NONCE_BYTES;

@@ -26,6 +26,8 @@ pub enum CommandName {
     Sign,
     /// `rewrite`.
     Rewrite,
+    /// `audit`.
+    Audit,
 }
 
 /// The options.
@@ -116,7 +118,7 @@ impl CommandOption {
             CommandOption::Conf => true,
             CommandOption::Now => matches!(command, CommandName::Verify | CommandName::Sign),
             CommandOption::Label => matches!(command, CommandName::Verify | CommandName::Rewrite),
-            CommandOption::Request => true,
+            CommandOption::Request => command != CommandName::Audit,
             CommandOption::Nonce => command == CommandName::Sign,
             CommandOption::Wanted => command == CommandName::Sign,
             CommandOption::Script => command == CommandName::Rewrite,

@@ -25,8 +25,9 @@ use Rattle.commands.specs.Covered.{ReadsParams}
 use Rattle.commands.specs.Laws.{HasConfiguration, HasMessage, HaveParams, HaveValuesOrLack, HaveSomeOutcome}
 use Rattle.commands.specs.Layers.{HasAnswer, ReadsFound, IsFileRefused}
 use Rattle.commands.specs.Messages.{IsInputMessage, IsInputRefused}
-use Rattle.commands.specs.Verify.{AreAsked, AreVerdicts, or_no_label, verification_for, verdicts_outcome}
-use Rattle.commands.specs.declared.message.Reading.{Reading}
+use Rattle.commands.specs.Verify.{AreAsked, AreVerdicts, verdicts_outcome}
+use Rattle.verdicts.specs.Verification.{or_no_label, verification_for}
+use Rattle.msg_body.specs.declared.whole.Reading.{Reading}
 use Rattle.refusals.specs.declared.refusal.TheConstants.{MAX_CONF_BYTES, MAX_INPUT_BYTES}
 use Rattle.refusals.specs.declared.file.FileRefusal.{FileRefusal}
 use Rattle.refusals.specs.declared.file.FileRefusal.TheVariants.{Missing, TooLong, Message as NoMessage, Conf}
@@ -56,30 +57,12 @@ has_configuration (Some name) found = found_answer IsConfText IsConfTextRefused 
 
 -- ---- the input
 
-whole_or_not : (r : Reading) (input : List ℕ) → IsTrue (list_all is_byte input) → length input ≤ MAX_INPUT_BYTES → (message : Message) (used : ℕ) → SpellsMessage r.to_head message used input
-    → IsTrue (is_expected r.expect message.head.start) → HasAnswer (IsInputMessage r input) (IsInputRefused r input)
-whole_or_not r input bytes short message used spells expected = elim (eq-or-lt_of_le spells.within) [
-  | inl all ↦ inl (
-    message,
-    record {
-      are_bytes = bytes;
-      within = short;
-      expected = expected;
-      spells = subst (λ (text : List ℕ). Spells r.to_head message text) (take_all used input (omega (arith, all))) spells.spells;
-    },
-  )
-  | inr more ↦ inr (NoMessage (Trailing used), (short, record { message = message; expected = expected; spells = spells; more = more }))
-]
-
 pub has_message : HasMessage
 has_message r input bytes = elim (cases_lt MAX_INPUT_BYTES (length input)) [
   | inl long ↦ inr (TooLong MAX_INPUT_BYTES, (refl, long))
   | inr short ↦ elim (message_answer r input short) [
-    | inl found ↦ whole_or_not r input bytes short found.0 found.1 found.2 found.3
-    | inr other ↦ elim other [
-      | inl fault ↦ inr (NoMessage (Refused fault.0), (short, fault.1))
-      | inr more ↦ inr (NoMessage (Truncated (length input)), (short, (refl, more)))
-    ]
+    | inl found ↦ inl (found.0, record { are_bytes = bytes; within = short; whole = found.1 })
+    | inr fault ↦ inr (NoMessage fault.0, (short, fault.1))
   ]
 ]
 

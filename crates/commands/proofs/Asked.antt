@@ -4,7 +4,8 @@ use Rattle.std.specs.Prelude.{IfOk}
 use Rattle.msg_body.specs.Messages.{Message}
 use Rattle.sfv_text.specs.declared.memory.Memory.{Memory}
 use Rattle.signatures.specs.Signatures.{AreLabels}
-use Rattle.commands.specs.Verify.{no_label, AreAsked}
+use Rattle.commands.specs.Verify.{AreAsked}
+use Rattle.verdicts.specs.Verification.{no_label}
 
 -- a message without a label is asked for the one that no message has
 pub none_asked : (message : Message) (found : List (List ℕ)) (result : Result (List (List ℕ)) Memory) → AreLabels message found → found ≡ []

@@ -1,10 +1,12 @@
 pub mod Answered
 pub mod Asked
+pub mod Auditing
 pub mod Decided
 pub mod DecidedConf
 pub mod FoundFiles
 pub mod Lacking
 pub mod LowerAnswers
+pub mod LowerAudit
 pub mod LowerConf
 pub mod LowerLaws
 pub mod LowerRewriting
@@ -13,6 +15,7 @@ pub mod NeededTables
 pub mod OneOutcome
 pub mod OneRewriting
 pub mod OneSigning
+pub mod RecordedTexts
 pub mod Rewriting
 pub mod RewrittenMessages
 pub mod ScriptFiles

@@ -13,7 +13,8 @@ use Rattle.component_values.proofs.FirstLacks.{have_or_lack}
 use Rattle.msg_body.specs.Causes.{IsMessageError, IsMessageUnfinished}
 use Rattle.msg_body.specs.Messages.{Message, SpellsMessage, is_expected}
 use Rattle.msg_body.specs.declared.error.MessageError.{MessageError}
-use Rattle.msg_body.proofs.EachAnswers.{each_has_a_message_answer}
+use Rattle.msg_body.specs.Laws.{IsWholeOrNot}
+use Rattle.msg_body.proofs.WholeTexts.{is_whole_or_not}
 use Rattle.conf.specs.Laws.{HasConfAnswer, IsStandardOfEmpty}
 use Rattle.conf.proofs.AnswerLaws as conf
 use Rattle.conf.proofs.EmptyLaws.{empty_configures}
@@ -22,7 +23,7 @@ use Rattle.signatures.specs.Laws.{HasLabels}
 use Rattle.signatures.proofs.Reading.{has_labels}
 use Rattle.verdicts.specs.Laws.{HasVerdict}
 use Rattle.verdicts.proofs.Judging.{has_verdict}
-use Rattle.commands.specs.declared.message.Reading.{Reading}
+use Rattle.msg_body.specs.declared.whole.Reading.{Reading}
 use Rattle.refusals.specs.declared.refusal.TheConstants.{MAX_INPUT_BYTES}
 
 pub conf_answer_of : HasConfAnswer
@@ -43,11 +44,8 @@ ids_answer = ids.has_answer
 pub values_or_lack : HaveOrLack
 values_or_lack = have_or_lack
 
-pub message_answer : (r : Reading) (input : List ℕ) → length input ≤ MAX_INPUT_BYTES
-    → ((message : Message) × (used : ℕ) × SpellsMessage r.to_head message used input × IsTrue (is_expected r.expect message.head.start))
-    ⊎ ((fault : MessageError) × IsMessageError r.expect r.to_head input fault)
-    ⊎ IsMessageUnfinished r.expect r.to_head input
-message_answer r input short = each_has_a_message_answer r.expect r.to_head input short
+pub message_answer : IsWholeOrNot
+message_answer = is_whole_or_not
 
 pub some_labels : HasLabels
 some_labels = has_labels

@@ -5,7 +5,8 @@ use Rattle.component_values.specs.Context.{MessageContext}
 use Rattle.conf.specs.Configuration.{Configuration}
 use Rattle.verdicts.specs.declared.outcome.Verdict.{Verdict}
 use Rattle.commands.specs.Laws.{HaveOneOutcome}
-use Rattle.commands.specs.Verify.{AreAsked, AreVerdicts, verification_for, or_no_label, verdicts_outcome}
+use Rattle.commands.specs.Verify.{AreAsked, AreVerdicts, verdicts_outcome}
+use Rattle.verdicts.specs.Verification.{verification_for, or_no_label}
 use Rattle.commands.proofs.LowerConf.{one_list_of_labels, one_verdict}
 
 labels_one : (label : Option (List ℕ)) (message : Message) (a b : List (List ℕ)) → AreAsked label message a → AreAsked label message b → a ≡ b

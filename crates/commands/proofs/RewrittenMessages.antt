@@ -14,7 +14,7 @@ use Rattle.rewrite_script.specs.declared.rewrite.Rewrite.{Rewrite}
 use Rattle.permissions.specs.Laws.{IsReadAs}
 use Rattle.rewrites.specs.Laws.{AgreeFor, DependsOnMessages, GivesKind, HasSameVerdict, IsPermittedStep, KeepsOverSteps, rests_on_conf}
 use Rattle.rewrites.specs.Steps.{Step, Steps}
-use Rattle.commands.specs.Contexts.{context_for}
+use Rattle.verdicts.specs.Contexts.{context_for}
 use Rattle.commands.specs.Rewrite.{IsTaken, ReportsSteps}
 use Rattle.commands.specs.RewrittenMessages.{IsMessageWhereRewritten, HasVerdictWhereRewritten}
 use Rattle.commands.specs.declared.outcome.Outcome.TheVariants.{Done}

@@ -19,10 +19,10 @@ use Rattle.commands.specs.Laws.{IsScriptDecided, HasScript, HaveValuesWhereScrip
 use Rattle.commands.specs.Layers.{IsDecisive, HasAnswer}
 use Rattle.commands.specs.Scripts.{IsScriptText, IsScriptTextRefused, IsScripted, IsScriptRefused}
 use Rattle.commands.specs.Stops.{IfStopped, IsRefusalFor, stop_of_file, stop_of_script}
-use Rattle.refusals.specs.declared.refusal.TheConstants.{MAX_SCRIPT_BYTES}
+use Rattle.rewrite_script.specs.declared.limits.TheConstants.{MAX_SCRIPT_BYTES}
 use Rattle.refusals.specs.declared.role.Role.TheVariants.{Script as OfScript}
 use Rattle.refusals.specs.declared.file.FileRefusal.{FileRefusal}
-use Rattle.refusals.specs.declared.file.FileRefusal.TheVariants.{Missing, TooLong, Message, Conf, Script}
+use Rattle.refusals.specs.declared.file.FileRefusal.TheVariants.{Missing, TooLong, Message, Conf, Script, Recording, Order, TooManyHops}
 use Rattle.refusals.specs.declared.refusal.Refusal.TheVariants.{Of}
 use Rattle.commands.proofs.Answered.{found_answer}
 use Rattle.commands.proofs.DecidedConf.{found_value, found_cause, found_either}
@@ -74,14 +74,23 @@ text_cause : (text : List ℕ) (c d : FileRefusal) → IsScriptTextRefused text 
 text_cause text Missing d a b = absurd a
 text_cause text (Message f) d a b = absurd a
 text_cause text (Conf f) d a b = absurd a
+text_cause text (Recording f) d a b = absurd a
+text_cause text (Order i) d a b = absurd a
+text_cause text (TooManyHops i) d a b = absurd a
 text_cause text (TooLong n) Missing a b = absurd b
 text_cause text (TooLong n) (Message g) a b = absurd b
 text_cause text (TooLong n) (Conf g) a b = absurd b
+text_cause text (TooLong n) (Recording g) a b = absurd b
+text_cause text (TooLong n) (Order j) a b = absurd b
+text_cause text (TooLong n) (TooManyHops j) a b = absurd b
 text_cause text (TooLong n) (TooLong m) a b = ap (λ (limit : ℕ). TooLong limit) (a.0 ∙ sym b.0)
 text_cause text (TooLong n) (Script g) a b = absurd (omega (arith, a.1, b.0))
 text_cause text (Script f) Missing a b = absurd b
 text_cause text (Script f) (Message g) a b = absurd b
 text_cause text (Script f) (Conf g) a b = absurd b
+text_cause text (Script f) (Recording g) a b = absurd b
+text_cause text (Script f) (Order j) a b = absurd b
+text_cause text (Script f) (TooManyHops j) a b = absurd b
 text_cause text (Script f) (TooLong m) a b = absurd (omega (arith, a.0, b.1))
 text_cause text (Script f) (Script g) a b = ap (λ (h : ScriptFault). Script h) (one_script_fault text f g a.1 b.1)
 
@@ -89,6 +98,9 @@ text_either : (text : List ℕ) (script : List Rewrite) (c : FileRefusal) → Is
 text_either text script Missing is c = c
 text_either text script (Message f) is c = c
 text_either text script (Conf f) is c = c
+text_either text script (Recording f) is c = c
+text_either text script (Order i) is c = c
+text_either text script (TooManyHops i) is c = c
 text_either text script (TooLong n) is c = omega (arith, is.0, c.1)
 text_either text script (Script f) is c = no_fault_of_script text script f is.1 c.1
 

@@ -26,7 +26,7 @@ use Rattle.verdicts.specs.Laws.{IsRightlySigned}
 use Rattle.commands.specs.Layers.{IsUnrefused}
 use Rattle.commands.specs.Sign.{IsSignRefused, ReportsEach}
 use Rattle.commands.specs.SignedMessages.{IsMessageWhereSigned, IsRightWhereSigned}
-use Rattle.commands.specs.Verify.{verification_for}
+use Rattle.verdicts.specs.Verification.{verification_for}
 use Rattle.commands.specs.declared.outcome.Outcome.TheVariants.{Done}
 use Rattle.commands.proofs.OneSigning.{refusal_of}
 use Rattle.commands.proofs.SignedKeys.{NamesKey, asked_names_key, wish_names_key}

@@ -30,7 +30,7 @@ use Rattle.signing.specs.declared.fault.SignFault.{SignFault}
 use Rattle.signing.specs.declared.fault.SignFault.TheVariants as fault
 use Rattle.signing.specs.declared.spec.SignSpec.{SignSpec}
 use Rattle.commands.proofs.Lacking.{said_id}
-use Rattle.commands.proofs.LowerLaws.{at_length}
+use Rattle.msg_body.proofs.WholeTexts.{at_length}
 use Rattle.commands.specs.Sign.{AreWishesRefused, IsSignRefused, ReportsEach, ReportsSign, ReportsWished}
 use Rattle.commands.specs.Stops.{IfOutcome, IfRefused, IsRefusalFor, ReadsNothing, stop_of_want}
 use Rattle.commands.specs.declared.outcome.Outcome.{Outcome}

@@ -7,8 +7,9 @@ use Rattle.msg_body.specs.Messages.{Message}
 use Rattle.commands.specs.Files.{HasFound}
 use Rattle.commands.specs.Laws.{IsRequestDecided, IsWantedDecided, HasRequest, HasWanted}
 use Rattle.commands.specs.Layers.{HasAnswer}
-use Rattle.commands.specs.declared.message.Reading.{Reading}
-use Rattle.commands.specs.Messages.{IsInputMessage, IsInputRefused, any_message, one_request}
+use Rattle.msg_body.specs.declared.whole.Reading.{Reading}
+use Rattle.commands.specs.Messages.{IsInputMessage, IsInputRefused}
+use Rattle.msg_body.specs.WholeTexts.{any_message, one_request}
 use Rattle.commands.specs.MessageFiles.{IsMessageFile, IsMessageFileRefused, IsTaken, IsOfBytes}
 use Rattle.commands.specs.Stops.{IfStopped, IsRefusalFor, stop_of_file}
 use Rattle.refusals.specs.declared.refusal.TheConstants.{MAX_INPUT_BYTES}

@@ -8,7 +8,9 @@ use Rattle.conf.specs.Configuration.{Configuration}
 use Rattle.verdicts.specs.Verdicts.{IsVerdict}
 use Rattle.verdicts.specs.declared.outcome.Verdict.{Verdict}
 use Rattle.verdicts.specs.VerdictLine.{verdict_line}
-use Rattle.commands.specs.Verify.{AreVerdicts, verification_for, is_accepted, verdict_lines}
+use Rattle.commands.specs.Verify.{AreVerdicts, verdict_lines}
+use Rattle.verdicts.specs.Verification.{verification_for}
+use Rattle.verdicts.specs.Verdicts.{is_accepted}
 use Rattle.commands.specs.tools.Verdicts.{WritesVerdict, AreLinesSoFar}
 
 verdicts_more : (conf : Configuration) (moment : ℕ) (context : MessageContext) (labels : List (List ℕ)) (verdicts : List Verdict) (label : List ℕ) (verdict : Verdict)

@@ -10,14 +10,17 @@ use Rattle.msg_body.specs.Messages.{Message, IsMessage}
 use Rattle.conf.specs.Configuration.{Configuration}
 use Rattle.settings.specs.Valid.{IsValid}
 use Rattle.settings.specs.declared.sign_conf.SignConf.{SignConf}
-use Rattle.commands.specs.declared.message.Reading.{Reading}
+use Rattle.msg_body.specs.declared.whole.Reading.{Reading}
 use Rattle.commands.specs.declared.tables.Needs.{Needs}
+use Rattle.commands.specs.Audit.{IsRecordingText, IsRecordingRefused, IsChainRefused, ReportsAudit}
 use Rattle.commands.specs.Base.{AreParamsRefused, IsValueLacking}
 use Rattle.commands.specs.Configured.{IsConfigured, IsConfRefused}
 use Rattle.commands.specs.Covered.{ReadsParams}
 use Rattle.commands.specs.Layers.{IsDecisive, HasAnswer}
 use Rattle.commands.specs.Messages.{IsInputMessage, IsInputRefused}
 use Rattle.commands.specs.MessageFiles.{IsRequested, IsRequestRefused, IsWanted, IsWantedRefused, IsOfBytes}
+use Rattle.recording.specs.Items.{PlacedItem}
+use Rattle.hop_audit.specs.Report.{IsAudit}
 use Rattle.rewrite_script.specs.Lines.{is_writable}
 use Rattle.rewrite_script.specs.Scripts.{HaveValues as HaveStepValues}
 use Rattle.rewrite_script.specs.declared.rewrite.Rewrite.{Rewrite}
@@ -72,6 +75,17 @@ AreValuesDecided =
     (context : MessageContext) (ids : List ComponentId)
     → IsDecisive (HaveValues context ids) (IsValueLacking context ids)
 
+-- an input is the recording of at most one list of items, or is refused for at most one cause
+abbrev pub IsRecordingDecided : Type 0
+IsRecordingDecided =
+    (input : List ℕ) → IsDecisive (IsRecordingText input) (IsRecordingRefused input)
+
+-- items have at most one report, or are refused as a chain for at most one cause
+abbrev pub IsChainDecided : Type 0
+IsChainDecided =
+    (conf : Configuration) (items : List PlacedItem)
+    → IsDecisive (IsAudit conf items) (IsChainRefused items)
+
 -- a label or none, a moment, a configuration and a context have at most one outcome
 abbrev pub HaveOneOutcome : Type 0
 HaveOneOutcome =
@@ -94,6 +108,12 @@ HasOneRewritten =
     (label : Option (List ℕ)) (script : List Rewrite) (context : MessageContext)
     (one other : Outcome) → ReportsRewriting label script context one
     → ReportsRewriting label script context other → one ≡ other
+
+-- a configuration and an input have at most one outcome of `audit`
+abbrev pub HasOneAuditing : Type 0
+HasOneAuditing =
+    (conf : Configuration) (input : List ℕ) (one other : Outcome) → ReportsAudit conf input one
+    → ReportsAudit conf input other → one ≡ other
 
 -- ---- each has an answer
 
@@ -142,6 +162,16 @@ HaveValuesOrLack =
     (context : MessageContext) (ids : List ComponentId)
     → HasAnswer (HaveValues context ids) (IsValueLacking context ids)
 
+-- an input is a recording, or there is a cause to refuse it
+abbrev pub HasRecording : Type 0
+HasRecording = (input : List ℕ) → HasAnswer (IsRecordingText input) (IsRecordingRefused input)
+
+-- the items of a recording have a report, or there is a cause to refuse them as a chain
+abbrev pub HasAudit : Type 0
+HasAudit =
+    (conf : Configuration) (input : List ℕ) (items : List PlacedItem)
+    → IsRecordingText input items → HasAnswer (IsAudit conf items) (IsChainRefused items)
+
 -- a label or none, a moment, a configuration and a context have an outcome
 abbrev pub HaveSomeOutcome : Type 0
 HaveSomeOutcome =
@@ -164,6 +194,11 @@ HasSomeRewritten =
     → IsTrue (list_all is_writable script)
     → IsMessage (answers_head context.related) context.message
     → (outcome : Outcome) × ReportsRewriting label script context outcome
+
+-- a configuration and an input have an outcome of `audit`
+abbrev pub HasSomeAuditing : Type 0
+HasSomeAuditing =
+    (conf : Configuration) (input : List ℕ) → (outcome : Outcome) × ReportsAudit conf input outcome
 
 -- lines can write a script that was found
 abbrev pub IsWritableWhereScripted : Type 0

@@ -1,6 +1,6 @@
+pub mod Audit
 pub mod Base
 pub mod Configured
-pub mod Contexts
 pub mod Covered
 pub mod Files
 pub mod Help

@@ -5,8 +5,9 @@ use Rattle.std.specs.List.{list_all}
 use Rattle.sfv_text.specs.Classes.{is_byte}
 use Rattle.msg_body.specs.Messages.{Message}
 use Rattle.commands.specs.Layers.{ReadsFound, IsFileRefused}
-use Rattle.commands.specs.Messages.{IsInputMessage, IsInputRefused, any_message, one_request}
-use Rattle.commands.specs.declared.message.Reading.{Reading}
+use Rattle.commands.specs.Messages.{IsInputMessage, IsInputRefused}
+use Rattle.msg_body.specs.WholeTexts.{any_message, one_request}
+use Rattle.msg_body.specs.declared.whole.Reading.{Reading}
 use Rattle.refusals.specs.declared.refusal.TheConstants.{MAX_INPUT_BYTES}
 use Rattle.refusals.specs.declared.file.FileRefusal.{FileRefusal}
 

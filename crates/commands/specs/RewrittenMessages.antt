@@ -10,7 +10,7 @@ use Rattle.rewrite_script.specs.Scripts.{HaveValues}
 use Rattle.rewrite_script.specs.declared.rewrite.Rewrite.{Rewrite}
 use Rattle.permissions.specs.Laws.{IsReadAs}
 use Rattle.rewrites.specs.Laws.{HasSameVerdict, rests_on_conf}
-use Rattle.commands.specs.Contexts.{context_for}
+use Rattle.verdicts.specs.Contexts.{context_for}
 use Rattle.commands.specs.Rewrite.{ReportsRewriting}
 use Rattle.commands.specs.declared.outcome.Outcome.TheVariants.{Done}
 

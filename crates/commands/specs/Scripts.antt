@@ -1,7 +1,7 @@
 -- The script of a command, in a file.
 use Rattle.std.specs.Prelude.{◌≡◌, ◌<◌, ◌≤◌, ℕ, List, [], length, Option, Some, None}
 use Rattle.commands.specs.Layers.{ReadsFound, IsFileRefused}
-use Rattle.refusals.specs.declared.refusal.TheConstants.{MAX_SCRIPT_BYTES}
+use Rattle.rewrite_script.specs.declared.limits.TheConstants.{MAX_SCRIPT_BYTES}
 use Rattle.refusals.specs.declared.file.FileRefusal.{FileRefusal}
 use Rattle.refusals.specs.declared.file.FileRefusal.TheVariants.{TooLong, Script}
 use Rattle.rewrite_script.specs.Causes.{IsScriptFault}

@@ -13,7 +13,7 @@ use Rattle.signatures.specs.Signatures.{HasDict}
 use Rattle.signing.specs.Wishes.{wish_name}
 use Rattle.verdicts.specs.Laws.{IsRightlySigned}
 use Rattle.commands.specs.Sign.{ReportsSigning}
-use Rattle.commands.specs.Verify.{verification_for}
+use Rattle.verdicts.specs.Verification.{verification_for}
 use Rattle.commands.specs.declared.outcome.Outcome.TheVariants.{Done}
 
 -- the label of the signature that is made last: the configured one, or that of the last wish

@@ -9,7 +9,6 @@ use Rattle.hms_io.specs.declared.read_write.FillError.{FillError}
 use Rattle.hms_io.specs.declared.read_write.FillError.TheVariants.{Memory as NoFillMemory, Failed, TooLong as Longer}
 use Rattle.hms_io.specs.declared.whole_file.FileError.{FileError}
 use Rattle.hms_io.specs.declared.whole_file.FileError.TheVariants.{Memory as NoFileMemory, Failed as FetchFailed, TooLong as LongerFile, Missing as NoFile}
-use Rattle.msg_body.specs.declared.error.MessageError.{MessageError}
 use Rattle.msg_body.specs.declared.error.MessageError.TheVariants as message
 use Rattle.msg_body.specs.declared.error.MessageFault.{MessageFault}
 use Rattle.msg_body.specs.declared.error.MessageFault.TheVariants as fault
@@ -21,7 +20,13 @@ use Rattle.signing.specs.declared.fault.WantFault.{WantFault}
 use Rattle.signing.specs.declared.fault.WantFault.TheVariants as want
 use Rattle.signatures.specs.declared.label.LabelFault.{LabelFault}
 use Rattle.signatures.specs.declared.label.LabelFault.TheVariants as label
-use Rattle.refusals.specs.declared.file.FileRefusal.TheVariants.{Missing, TooLong, Message as NoMessage, Conf as NoConf, Script as NoScript}
+use Rattle.rewrite_script.specs.declared.limits.TheConstants.{MAX_SCRIPT_BYTES}
+use Rattle.recording.specs.declared.fault.RecordingFault.{RecordingFault}
+use Rattle.recording.specs.declared.fault.RecordingFault.TheVariants as recording
+use Rattle.hop_audit.specs.declared.fault.ChainFault.{ChainFault}
+use Rattle.hop_audit.specs.declared.fault.ChainFault.TheVariants as chain
+use Rattle.hop_audit.specs.declared.limits.TheConstants.{MAX_HOPS}
+use Rattle.refusals.specs.declared.file.FileRefusal.TheVariants.{Missing, TooLong, Message as NoMessage, Conf as NoConf, Script as NoScript, Recording as NoRecording, Order, TooManyHops}
 use Rattle.refusals.specs.declared.role.Role.{Role}
 use Rattle.refusals.specs.declared.role.Role.TheVariants as role
 use Rattle.refusals.specs.declared.refusal.Refusal.{Refusal}
@@ -51,14 +56,11 @@ stop_of_fill limit NoFillMemory = Memory
 stop_of_fill limit Failed = ReadFault
 stop_of_fill limit Longer = Refused (Of role.Input (TooLong limit))
 
--- how a text of this role that is no message ends a run: it is refused, with its fault
-abbrev pub stop_for : Role → MessageFault → Stop
-stop_for role fault = Refused (Of role (NoMessage fault))
-
--- how an error of a message ends a run: the text is refused, or memory ran out
-abbrev pub stop_of_message : Role → MessageError → Stop
-stop_of_message role message.Memory = Memory
-stop_of_message role error = stop_for role (fault.Refused error)
+-- how a text of this role that is no message ends a run: it is refused, with its fault, or memory
+-- ran out
+abbrev pub stop_of_message : Role → MessageFault → Stop
+stop_of_message role (fault.Refused message.Memory) = Memory
+stop_of_message role own = Refused (Of role (NoMessage own))
 
 -- how a failed read of a file of this role and limit ends a run: none is there, it is too long, it
 -- failed, or memory ran out
@@ -88,6 +90,21 @@ stop_of_want fault = Refused (Command (Wishes fault))
 abbrev pub stop_of_label : LabelFault → Stop
 stop_of_label label.Memory = Memory
 stop_of_label fault = Refused (Command (NotTaken LabelUnread))
+
+-- how a fault of a recording ends a run: it is refused, or memory ran out
+abbrev pub stop_of_recording : RecordingFault → Stop
+stop_of_recording recording.Memory = Memory
+stop_of_recording fault = Refused (Of role.Input (NoRecording fault))
+
+-- how a fault of a chain ends a run: the input or one of its items is refused, or memory ran out
+abbrev pub stop_of_chain : ChainFault → Stop
+stop_of_chain chain.Memory = Memory
+stop_of_chain (chain.Order offset) = Refused (Of role.Input (Order offset))
+stop_of_chain chain.TooManyHops = Refused (Of role.Input (TooManyHops MAX_HOPS))
+stop_of_chain (chain.Message index fault) = Refused (Of (role.Item index) (NoMessage fault))
+stop_of_chain (chain.Script index fault) = Refused (Of (role.Item index) (NoScript fault))
+stop_of_chain (chain.ScriptTooLong index) =
+    Refused (Of (role.Item index) (TooLong MAX_SCRIPT_BYTES))
 
 -- what ends the run is a refusal of which this holds, or another reason
 abbrev pub IfStopped : Stop → (Refusal → Type 0) → Type 0

@@ -1,42 +1,22 @@
 -- What `verify` comes to, for labels, a moment, a configuration and a context.
-use Rattle.std.specs.Prelude.{◌≡◌, ⊤, ℕ, Bool, true, false, List, [], ◌∷◌, codes, Option, Some, None, if◌then◌else◌}
+use Rattle.std.specs.Prelude.{◌≡◌, ⊤, ℕ, List, [], ◌∷◌, Option, Some, None, if◌then◌else◌}
 use Rattle.std.specs.List.{list_all, flat_map, zip}
 use Rattle.msg_body.specs.Messages.{Message}
 use Rattle.component_values.specs.Context.{MessageContext}
 use Rattle.conf.specs.Configuration.{Configuration}
-use Rattle.verdicts.specs.Verification.{Verification}
+use Rattle.verdicts.specs.Verification.{or_no_label, verification_for}
 use Rattle.signatures.specs.Signatures.{AreLabels}
-use Rattle.verdicts.specs.Verdicts.{IsVerdict}
+use Rattle.verdicts.specs.Verdicts.{IsVerdict, is_accepted}
 use Rattle.verdicts.specs.declared.outcome.Verdict.{Verdict}
-use Rattle.verdicts.specs.declared.outcome.Verdict.TheVariants.{Ok as Accepted, Rule as Failing}
 use Rattle.verdicts.specs.VerdictLine.{verdict_line}
 use Rattle.commands.specs.declared.outcome.Outcome.{Outcome}
 use Rattle.commands.specs.declared.outcome.Outcome.TheVariants.{Done, NotOk}
-
--- what is asked for where a message has no label, which no Dictionary has
-abbrev pub no_label : List ℕ
-no_label = codes "-"
-
--- the labels, or `-` alone where there are none
-abbrev pub or_no_label : List (List ℕ) → List (List ℕ)
-or_no_label [] = no_label ∷ []
-or_no_label labels = labels
 
 -- the labels that are asked for: the one that is given, or else those of the message
 abbrev pub AreAsked : Option (List ℕ) → Message → List (List ℕ) → Type 0
 AreAsked (Some label) message labels = labels ≡ label ∷ []
 AreAsked None message labels =
     (found : List (List ℕ)) × AreLabels message found × (labels ≡ or_no_label found)
-
--- what a label is judged by at this moment; no nonce is remembered
-abbrev pub verification_for : Configuration → ℕ → MessageContext → List ℕ → Verification
-verification_for conf moment context label = record {
-  context = context;
-  label = label;
-  conf = conf;
-  now = moment;
-  seen = None;
-}
 
 -- each label has its verdict
 abbrev pub AreVerdicts : Configuration → ℕ → MessageContext → List (List ℕ) → List Verdict
@@ -46,11 +26,6 @@ AreVerdicts conf moment context (label ∷ labels) (verdict ∷ verdicts) =
     IsVerdict (verification_for conf moment context label) verdict
     × AreVerdicts conf moment context labels verdicts
 AreVerdicts conf moment context labels verdicts = ⊥
-
--- the verdict is `ok`
-abbrev pub is_accepted : Verdict → Bool
-is_accepted (Accepted keyid) = true
-is_accepted (Failing rule place) = false
 
 -- the lines of labels and their verdicts
 abbrev pub verdict_lines : List (List ℕ) → List Verdict → List ℕ

@@ -39,17 +39,24 @@ hms: HTTP Message Signatures (RFC 9421) of recorded HTTP/1.1 messages
 
       hms rewrite --script steps.txt --label sig1 < signed.http
 
+  hms audit --conf FILE < RECORDING
+      What became of each signature along a recorded chain of messages: its
+      verdict in each message, whether the script of each hop explains what came
+      out, whether the signature permits that, and whether it is kept.
+
+      hms audit --conf conf.toml < chain.rec
+
   With --request the message is a response, and REQ is the file of the request
   that it answers, from which components with `req` are drawn.
 
   hms --help
   hms --version
 
-One whole message is read from standard input. All output, refusals included,
-goes to standard output.
+One whole message, or one whole recording, is read from standard input. All
+output, refusals included, goes to standard output.
 
-  0  done, and each line is `ok`      5  a write failed
-  1  not every line is `ok`           6  out of memory
+  0  done                             5  a write failed
+  1  a signature or a hop isn't right 6  out of memory
   2  the arguments are no command     7  the configuration isn't accepted
   3  the input or the command refused 8  a limit is passed
   4  a read failed                    9  a named file is missing

@@ -1,7 +1,7 @@
 //! Laws of what is read, and of what comes of it. Each function does nothing; its contract is the
 //! law.
 
-ghost use Rattle.commands.specs.Laws.{IsConfigurationDecided, AreTablesDecided, IsRequestDecided, IsWantedDecided, IsScriptDecided, IsInputDecided, AreParamsDecided, AreValuesDecided, HaveOneOutcome, HasConfiguration, HaveTables, HasRequest, HasWanted, HasScript, HasMessage, HaveParams, HaveValuesOrLack, HaveSomeOutcome, HasOneSigning, HasSomeSigning, IsValidWhereConfigured, HasOneRewritten, HasSomeRewritten, IsWritableWhereScripted, HaveValuesWhereScripted};
+ghost use Rattle.commands.specs.Laws.{IsConfigurationDecided, AreTablesDecided, IsRequestDecided, IsWantedDecided, IsScriptDecided, IsInputDecided, AreParamsDecided, AreValuesDecided, HaveOneOutcome, HasConfiguration, HaveTables, HasRequest, HasWanted, HasScript, HasMessage, HaveParams, HaveValuesOrLack, HaveSomeOutcome, HasOneSigning, HasSomeSigning, IsValidWhereConfigured, HasOneRewritten, HasSomeRewritten, IsWritableWhereScripted, HaveValuesWhereScripted, HasOneAuditing, HasSomeAuditing, IsRecordingDecided, IsChainDecided, HasRecording, HasAudit};
 ghost use Rattle.commands.specs.SignedMessages.{IsMessageWhereSigned, IsRightWhereSigned};
 ghost use Rattle.commands.specs.RewrittenMessages.{IsMessageWhereRewritten, HasVerdictWhereRewritten};
 
@@ -16,6 +16,8 @@ pub fn each_layer_is_decided()
     ensures input { IsInputDecided }
     ensures params { AreParamsDecided }
     ensures values { AreValuesDecided }
+    ensures recording { IsRecordingDecided }
+    ensures chain { IsChainDecided }
 {}
 
 /// What a layer reads is some value, or there is some cause to refuse it.
@@ -28,6 +30,8 @@ pub fn each_layer_has_an_answer()
     ensures input { HasMessage }
     ensures params { HaveParams }
     ensures values { HaveValuesOrLack }
+    ensures recording { HasRecording }
+    ensures chain { HasAudit }
 {}
 
 /// The verdicts on the labels that are asked for have one outcome.
@@ -49,6 +53,12 @@ pub fn rewriting_has_one_outcome()
     ensures some { HasSomeRewritten }
     ensures writable { IsWritableWhereScripted }
     ensures values { HaveValuesWhereScripted }
+{}
+
+/// What is audited by a configuration has one outcome.
+pub fn auditing_has_one_outcome()
+    ensures one { HasOneAuditing }
+    ensures some { HasSomeAuditing }
 {}
 
 /// What is rewritten is a message of the same kind. Under a label it keeps the label's verdict, at

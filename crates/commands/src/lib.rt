@@ -3,7 +3,8 @@
 //! that `sign` writes (sections 3.1 and 5.1), and the message after the steps of a script that
 //! `rewrite` writes (section 1.1). Before them come the configuration, the request that the input
 //! answers, the message that wishes signatures, and the script, each in a file or none; the input,
-//! which is to be one whole message; and the context that all give.
+//! which is to be one whole message; and the context that all give. `audit` writes the report on a
+//! recorded chain of messages, over a configuration and an input that is a recording.
 //!
 //! ```text
 //! let conf = read_configuration(alloc, Some("hms.toml"), &mut shelf)?;
@@ -18,9 +19,9 @@
 //! ```
 #![tactic(auto)]
 
+mod audit;
 mod base;
 mod configured;
-mod context;
 mod covered;
 mod help;
 mod laws;
@@ -34,21 +35,23 @@ mod stop;
 mod tables;
 mod verify;
 
+pub use audit::write_audit;
 pub use base::write_base;
 pub use configured::read_configuration;
-pub use context::context_for;
 pub use help::{HELP_TEXT, VERSION_TEXT, write_help, write_version};
 pub use laws::{
-    each_layer_has_an_answer, each_layer_is_decided, rewriting_has_one_outcome,
-    signing_has_one_outcome, verdicts_have_one_outcome, what_is_rewritten_keeps_its_verdict,
-    what_is_signed_is_rightly_signed,
+    auditing_has_one_outcome, each_layer_has_an_answer, each_layer_is_decided,
+    rewriting_has_one_outcome, signing_has_one_outcome, verdicts_have_one_outcome,
+    what_is_rewritten_keeps_its_verdict, what_is_signed_is_rightly_signed,
 };
-pub use message::{Reading, read_input};
+pub use message::read_input;
 pub use message_file::{read_taken, take_message};
+pub use msg_body::Reading;
 pub use outcome::Outcome;
 pub use rewrite::write_rewritten;
 pub use script_file::read_script_file;
 pub use sign::{write_signed, write_wished};
 pub use stop::Stop;
 pub use tables::{Needs, check_tables};
+pub use verdicts::context_for;
 pub use verify::write_verdicts;

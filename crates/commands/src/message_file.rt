@@ -8,13 +8,13 @@ ghost use Rattle.refusals.specs.declared.refusal.TheConstants.{MAX_INPUT_BYTES};
 ghost use Rattle.refusals.specs.declared.refusal.Refusal.TheVariants.{Of};
 ghost use Rattle.commands.specs.Files.{HasFound};
 ghost use Rattle.commands.specs.MessageFiles.{IsTaken, IsMessageFileRefused, IsMessageIn, IsTextRefused};
-ghost use Rattle.commands.specs.declared.message.Reading.{Reading};
+ghost use Rattle.msg_body.specs.declared.whole.Reading.{Reading};
 ghost use Rattle.commands.specs.Stops.{IfStopped, IfRefused, IsRefusalFor, CountsStop};
 
-use crate::message::{Reading, read_input};
+use crate::message::read_input;
 use crate::stop::Stop;
 use hms_io::{Shelf, take_file};
-use msg_body::MessageView;
+use msg_body::{MessageView, Reading};
 use refusals::{MAX_INPUT_BYTES, Role};
 use sfv_text::Text;
 use std::alloc::Global;

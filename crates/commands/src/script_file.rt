@@ -10,8 +10,8 @@ ghost use Rattle.commands.specs.Stops.{IfStopped, IsRefusalFor, CountsStop};
 
 use crate::stop::Stop;
 use hms_io::{Shelf, take_file};
-use refusals::{MAX_SCRIPT_BYTES, Role};
-use rewrite_script::{Script, read_script};
+use refusals::Role;
+use rewrite_script::{MAX_SCRIPT_BYTES, Script, read_script};
 use std::alloc::Global;
 
 /// Reads the script in the named file.

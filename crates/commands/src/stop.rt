@@ -8,9 +8,11 @@ ghost use Rattle.commands.specs.Stops.{stop_of_fill, stop_of_file, stop_of_messa
 use component_ids::IdFault;
 use conf::ConfFault;
 use hms_io::{FileError, FillError};
+use hop_audit::{ChainFault, MAX_HOPS};
 use msg_body::{MessageError, MessageFault};
+use recording::RecordingFault;
 use refusals::{CommandRefusal, FileRefusal, Refusal, Role, StepRefusal};
-use rewrite_script::ScriptFault;
+use rewrite_script::{MAX_SCRIPT_BYTES, ScriptFault};
 use sfv_read::SfError;
 use sfv_text::Memory;
 use signatures::LabelFault;
@@ -59,12 +61,12 @@ impl Stop {
     }
 
     /// Why the text of this role is no message.
-    pub fn of_message(role: Role, error: MessageError) -> Stop
-        ensures { result ≡ stop_of_message role error }
+    pub fn of_message(role: Role, fault: MessageFault) -> Stop
+        ensures { result ≡ stop_of_message role fault }
     {
-        match error {
-            MessageError::Memory => Stop::Memory,
-            _ => Stop::of_text(role, FileRefusal::Message(MessageFault::Refused(error))),
+        match fault {
+            MessageFault::Refused(MessageError::Memory) => Stop::Memory,
+            _ => Stop::of_text(role, FileRefusal::Message(fault)),
         }
     }
 }
@@ -140,6 +142,48 @@ impl From<ScriptFault> for Stop {
         match fault {
             ScriptFault::Memory => Stop::Memory,
             _ => Stop::of_text(Role::Script, FileRefusal::Script(fault)),
+        }
+    }
+}
+
+/// A fault of the recording.
+impl From<RecordingFault> for Stop {
+    ghost use Rattle.std.specs.Prelude.{◌≡◌};
+    ghost use Rattle.commands.specs.Stops.{stop_of_recording};
+
+    ghost from_gives = { λ fault stop. stop ≡ stop_of_recording fault };
+
+    fn from(fault: RecordingFault) -> Stop {
+        match fault {
+            RecordingFault::Memory => Stop::Memory,
+            _ => Stop::of_text(Role::Input, FileRefusal::Recording(fault)),
+        }
+    }
+}
+
+/// A fault of the chain.
+impl From<ChainFault> for Stop {
+    ghost use Rattle.std.specs.Prelude.{◌≡◌};
+    ghost use Rattle.commands.specs.Stops.{stop_of_chain};
+
+    ghost from_gives = { λ fault stop. stop ≡ stop_of_chain fault };
+
+    fn from(fault: ChainFault) -> Stop {
+        match fault {
+            ChainFault::Memory => Stop::Memory,
+            ChainFault::Order(offset) => Stop::of_text(Role::Input, FileRefusal::Order(offset)),
+            ChainFault::TooManyHops => {
+                Stop::of_text(Role::Input, FileRefusal::TooManyHops(MAX_HOPS))
+            }
+            ChainFault::Message(index, fault) => {
+                Stop::of_text(Role::Item(index), FileRefusal::Message(fault))
+            }
+            ChainFault::Script(index, fault) => {
+                Stop::of_text(Role::Item(index), FileRefusal::Script(fault))
+            }
+            ChainFault::ScriptTooLong(index) => {
+                Stop::of_text(Role::Item(index), FileRefusal::TooLong(MAX_SCRIPT_BYTES))
+            }
         }
     }
 }

@@ -13,6 +13,7 @@
 //! ```
 #![tactic(auto)]
 
+mod equal;
 mod fault;
 mod id;
 mod laws;

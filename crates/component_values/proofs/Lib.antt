@@ -1,7 +1,7 @@
 mod Below
 pub mod FirstLacks
 pub mod RowLaws
-mod CleanLaws
+pub mod CleanLaws
 mod DerivedRows
 mod DerivedValues
 mod Encoded

@@ -27,10 +27,11 @@ mod plan;
 mod prepared;
 mod readings;
 mod strict;
+mod value;
 
 pub use context::Context;
 pub use covered::{prepare, prepare_in};
-pub use derived_values::Lack;
+pub use derived_values::{Lack, NoValue};
 pub use fault::ValueFault;
 pub use laws::{
     components_depend_on_their_lines, components_depend_on_what_they_are_drawn_from,
@@ -39,3 +40,4 @@ pub use laws::{
 };
 pub use prepared::Prepared;
 pub use readings::Readings;
+pub use value::component_text;

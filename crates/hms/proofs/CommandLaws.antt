@@ -1,5 +1,6 @@
 -- Laws of the commands, in the form that the proofs here use.
 use Rattle.commands.proofs.Answered as answered
+use Rattle.commands.proofs.Auditing as audits
 use Rattle.commands.proofs.Decided as decided
 use Rattle.commands.proofs.DecidedConf as configured
 use Rattle.commands.proofs.OneOutcome as verdicts
@@ -9,7 +10,9 @@ use Rattle.commands.proofs.ScriptFiles as scripts
 use Rattle.commands.proofs.LowerRewriting as rewritten
 use Rattle.commands.proofs.SignedMessages as signed
 use Rattle.commands.proofs.TakenFiles as files
-use Rattle.commands.specs.Laws.{IsConfigurationDecided, AreTablesDecided, IsRequestDecided, IsWantedDecided, IsInputDecided, AreParamsDecided, AreValuesDecided, HaveOneOutcome, HasConfiguration, HaveTables, HasRequest, HasWanted, HasMessage, HaveParams, HaveValuesOrLack, HaveSomeOutcome, HasOneSigning, HasSomeSigning, IsValidWhereConfigured, IsScriptDecided, HasScript, HasOneRewritten, HasSomeRewritten, HaveValuesWhereScripted, IsWritableWhereScripted}
+use Rattle.commands.specs.Laws.{IsConfigurationDecided, AreTablesDecided, IsRequestDecided, IsWantedDecided, IsInputDecided, AreParamsDecided, AreValuesDecided, HaveOneOutcome, HasConfiguration, HaveTables, HasRequest, HasWanted, HasMessage, HaveParams, HaveValuesOrLack, HaveSomeOutcome, HasOneSigning, HasSomeSigning, IsValidWhereConfigured, IsScriptDecided, HasScript, HasOneRewritten, HasSomeRewritten, HaveValuesWhereScripted, IsWritableWhereScripted, HasAudit, HasOneAuditing, HasSomeAuditing}
+use Rattle.hop_audit.proofs.SameVerdicts as reports
+use Rattle.hop_audit.specs.Laws.{KeepsWhatIsPermitted}
 use Rattle.commands.specs.RewrittenMessages.{IsMessageWhereRewritten, HasVerdictWhereRewritten}
 use Rattle.commands.specs.SignedMessages.{IsMessageWhereSigned, IsRightWhereSigned}
 
@@ -99,3 +102,15 @@ message_where_rewritten = rewritten.message_where_rewritten
 
 pub verdict_where_rewritten : HasVerdictWhereRewritten
 verdict_where_rewritten = rewritten.verdict_where_rewritten
+
+pub audit_answer : HasAudit
+audit_answer = audits.has_audit
+
+pub auditing_law : HasOneAuditing
+auditing_law = audits.one_auditing
+
+pub auditing_answer : HasSomeAuditing
+auditing_answer = audits.some_auditing
+
+pub keeps_what_is_permitted : KeepsWhatIsPermitted
+keeps_what_is_permitted = reports.what_is_permitted_is_kept

@@ -1,8 +1,10 @@
 pub mod CommandLaws
 pub mod Layers
 pub mod OneReport
+pub mod Recordings
 pub mod Reports
 pub mod SomeReport
 pub mod Sources
+mod AuditedInputs
 mod RewrittenInputs
 mod SignedInputs

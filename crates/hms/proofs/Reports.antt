@@ -16,14 +16,15 @@ use Rattle.msg_body.specs.Views.{MessageParts, message_of}
 use Rattle.commands.specs.Configured.{IsConfigured, IsConfRefused}
 use Rattle.commands.specs.Files.{FileRole, Conf, Request, Wanted, Script, Other, Found, IsFound, AreFound, HasFound, FileNames, file_names, file_count}
 use Rattle.commands.specs.Layers.{ReadsFound, IsFileRefused}
-use Rattle.commands.specs.Messages.{IsInputMessage, IsInputRefused, any_message, one_request}
+use Rattle.commands.specs.Messages.{IsInputMessage, IsInputRefused}
+use Rattle.msg_body.specs.WholeTexts.{any_message, one_request}
 use Rattle.commands.specs.MessageFiles.{IsMessageFile, IsMessageFileRefused, IsTaken, IsMessageIn, IsTextRefused}
 use Rattle.commands.specs.Scripts.{IsScripted, IsScriptRefused}
 use Rattle.commands.specs.Tables.{HasTables, IsTableMissing}
 use Rattle.rewrite_script.specs.Lines.{is_writable}
 use Rattle.rewrite_script.specs.declared.rewrite.Rewrite.{Rewrite}
 use Rattle.hms.proofs.CommandLaws.{writable_where_scripted}
-use Rattle.commands.specs.declared.message.Reading.{Reading}
+use Rattle.msg_body.specs.declared.whole.Reading.{Reading}
 use Rattle.commands.specs.declared.tables.Needs.{Needs}
 use Rattle.refusals.specs.Laws.{IsOfRefusal}
 use Rattle.refusals.specs.Refusal.{refusal_status}
@@ -50,7 +51,7 @@ use Rattle.hms.proofs.Sources.{LeavesInput}
 -- ---- the layers over the input
 
 -- some input, which is the known bytes where they are known
-some_input : (before : Option (List ℕ)) → (input : List ℕ) × IfSome before (λ bytes. bytes ≡ input)
+pub some_input : (before : Option (List ℕ)) → (input : List ℕ) × IfSome before (λ bytes. bytes ≡ input)
 some_input None = ([], tt)
 some_input (Some bytes) = (bytes, refl)
 
@@ -67,7 +68,7 @@ nothing_named shelf Script = tt
 nothing_named shelf Other = tt
 
 -- of a configuration, a request, a message that wishes signatures and a script
-all_found : (shelf : Option FileMap) (conf request wanted script conf_text request_text wanted_text script_text : Option (List ℕ)) → IsFound shelf conf conf_text → IsFound shelf request request_text
+pub all_found : (shelf : Option FileMap) (conf request wanted script conf_text request_text wanted_text script_text : Option (List ℕ)) → IsFound shelf conf conf_text → IsFound shelf request request_text
     → IsFound shelf wanted wanted_text → IsFound shelf script script_text → AreFound shelf (file_names conf request wanted script) (file_names conf_text request_text wanted_text script_text)
 all_found shelf conf request wanted script conf_text request_text wanted_text script_text is also other last Conf = is
 all_found shelf conf request wanted script conf_text request_text wanted_text script_text is also other last Request = also

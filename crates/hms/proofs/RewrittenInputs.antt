@@ -15,14 +15,16 @@ use Rattle.rewrites.specs.Laws.{HasSameVerdict, rests_on_conf}
 use Rattle.verdicts.specs.Verdicts.{IsVerdict}
 use Rattle.verdicts.specs.declared.outcome.Verdict.{Verdict}
 use Rattle.commands.specs.Configured.{IsConfigured}
-use Rattle.commands.specs.Contexts.{context_for}
+use Rattle.verdicts.specs.Contexts.{context_for}
 use Rattle.commands.specs.Files.{Found, Conf as ConfFile, Request as RequestFile, Wanted as WantedFile, Script as ScriptFile}
 use Rattle.commands.specs.Layers.{ReadsThen}
-use Rattle.commands.specs.Messages.{IsInputMessage, reading_for}
+use Rattle.commands.specs.Messages.{IsInputMessage}
+use Rattle.msg_body.specs.WholeTexts.{reading_for}
 use Rattle.commands.specs.MessageFiles.{IsRequested}
 use Rattle.commands.specs.Rewrite.{ReportsRewriting}
 use Rattle.commands.specs.Scripts.{IsScripted}
-use Rattle.commands.specs.Verify.{AreVerdicts, ReportsVerdicts, verdicts_outcome, verification_for}
+use Rattle.commands.specs.Verify.{AreVerdicts, ReportsVerdicts, verdicts_outcome}
+use Rattle.verdicts.specs.Verification.{verification_for}
 use Rattle.commands.specs.declared.outcome.Outcome.{Outcome}
 use Rattle.commands.specs.declared.outcome.Outcome.TheVariants.{Done}
 use Rattle.commands.specs.declared.tables.Needs.TheVariants.{Nothing}
@@ -84,8 +86,10 @@ input_is : (related : Option Message) (input written : List ℕ) (message after 
 input_is related input written message after is spells kind bytes = record {
   are_bytes = bytes;
   within = let short : length written ≤ MAX_INPUT_BYTES = rw spells.text spells.is.short in short;
-  expected = expected related is.expected;
-  spells = subst (λ (to_head : Bool). Spells to_head after written) (sym (to_head_is related)) spells;
+  whole = record {
+    expected = expected related is.whole.expected;
+    spells = subst (λ (to_head : Bool). Spells to_head after written) (sym (to_head_is related)) spells;
+  };
 } where
   expected : (r : Option Message) → IsTrue (is_expected (reading_for r).expect message.head.start) → IsTrue (is_expected (reading_for r).expect after.head.start)
   expected None was = refl

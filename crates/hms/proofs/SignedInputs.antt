@@ -25,15 +25,17 @@ use Rattle.verdicts.specs.declared.outcome.Verdict.{Verdict}
 use Rattle.verdicts.specs.declared.outcome.Verdict.TheVariants.{Ok as Accepted, Rule as Failing}
 use Rattle.verdicts.proofs.RightlySigned.{holds_rules_of_signing}
 use Rattle.commands.specs.Configured.{IsConfigured}
-use Rattle.commands.specs.Contexts.{context_for}
+use Rattle.verdicts.specs.Contexts.{context_for}
 use Rattle.commands.specs.Files.{Found, Conf as ConfFile, Request as RequestFile, Wanted as WantedFile, Script as ScriptFile}
 use Rattle.settings.specs.Valid.{IsValid}
 use Rattle.commands.specs.Layers.{ReadsThen, IsDecisive}
-use Rattle.commands.specs.Messages.{IsInputMessage, reading_for}
+use Rattle.commands.specs.Messages.{IsInputMessage}
+use Rattle.msg_body.specs.WholeTexts.{reading_for}
 use Rattle.commands.specs.MessageFiles.{IsRequested, IsWanted}
 use Rattle.commands.specs.Sign.{ReportsSigning}
 use Rattle.commands.specs.SignedMessages.{IsLastLabel}
-use Rattle.commands.specs.Verify.{AreVerdicts, ReportsVerdicts, verdicts_outcome, verification_for}
+use Rattle.commands.specs.Verify.{AreVerdicts, ReportsVerdicts, verdicts_outcome}
+use Rattle.verdicts.specs.Verification.{verification_for}
 use Rattle.commands.specs.declared.outcome.Outcome.{Outcome}
 use Rattle.commands.specs.declared.outcome.Outcome.TheVariants.{Done}
 use Rattle.commands.specs.declared.tables.Needs.TheVariants.{Nothing}
@@ -118,8 +120,10 @@ input_is : (related : Option Message) (input written : List ℕ) (message signed
 input_is related input written message signed is spells start bytes = record {
   are_bytes = bytes;
   within = let short : length written ≤ MAX_INPUT_BYTES = rw spells.text spells.is.short in short;
-  expected = rw start is.expected;
-  spells = subst (λ (to_head : Bool). Spells to_head signed written) (sym (to_head_is related)) spells;
+  whole = record {
+    expected = rw start is.whole.expected;
+    spells = subst (λ (to_head : Bool). Spells to_head signed written) (sym (to_head_is related)) spells;
+  };
 }
 
 -- the one label has one verdict

@@ -4,19 +4,23 @@ use Rattle.std.proofs.Common.{◌≡◌, ◌⊎◌, ◌+◌, inl, inr, ℕ, Bool
 use Rattle.std.specs.Prelude.{⊤, IsTrue, IsSome}
 use Rattle.std.specs.List.{list_all}
 use Rattle.sfv_text.specs.Classes.{is_byte}
-use Rattle.command_line.specs.Command.{CommandLine, Help, Version, Base, Verify, Sign, Rewrite, IsCommand, NoCommand}
+use Rattle.command_line.specs.Command.{CommandLine, Help, Version, Base, Verify, Sign, Rewrite, Audit, IsCommand, NoCommand}
 use Rattle.command_line.proofs.CommandOrNone.{command_or_none}
 use Rattle.component_ids.specs.declared.params.SigParams.{SigParams}
 use Rattle.component_values.specs.Context.{MessageContext, answers_head, context_with}
 use Rattle.conf.specs.Configuration.{Configuration}
 use Rattle.sig_base.specs.SignatureBase.{signature_base}
 use Rattle.verdicts.specs.declared.outcome.Verdict.{Verdict}
+use Rattle.recording.specs.Items.{PlacedItem}
+use Rattle.hop_audit.specs.Lines.{finds_fault}
+use Rattle.hop_audit.specs.declared.line.AuditLine.{AuditLine}
+use Rattle.commands.specs.Audit.{IsRecordingText, IsChainRefused, ReportsAudit, audit_outcome}
 use Rattle.commands.specs.Base.{ReportsValues, ReportsBase}
-use Rattle.commands.specs.Contexts.{context_for}
+use Rattle.verdicts.specs.Contexts.{context_for}
 use Rattle.commands.specs.Configured.{IsConfigured}
 use Rattle.commands.specs.Files.{FileNames, Found, FileRole, Conf as ConfFile, Request as RequestFile, Wanted as WantedFile, Script as ScriptFile}
 use Rattle.commands.specs.Layers.{ReadsThen, HasAnswer}
-use Rattle.commands.specs.Messages.{reading_for}
+use Rattle.msg_body.specs.WholeTexts.{reading_for}
 use Rattle.commands.specs.MessageFiles.{IsOfBytes}
 use Rattle.commands.specs.Rewrite.{IsTaken, ReportsSteps, ReportsRewriting}
 use Rattle.commands.specs.Sign.{ReportsEach, ReportsSigning}
@@ -29,7 +33,8 @@ use Rattle.rewrite_script.specs.Lines.{is_writable}
 use Rattle.rewrite_script.specs.declared.rewrite.Rewrite.{Rewrite as Rewriting}
 use Rattle.rewrites.specs.Steps.{Steps}
 use Rattle.signing.specs.declared.spec.SignSpec.{SignSpec}
-use Rattle.commands.specs.Verify.{ReportsVerdicts, is_accepted, verdicts_outcome}
+use Rattle.commands.specs.Verify.{ReportsVerdicts, verdicts_outcome}
+use Rattle.verdicts.specs.Verdicts.{is_accepted}
 use Rattle.commands.specs.declared.help.TheConstants.{HELP_TEXT, VERSION_TEXT}
 use Rattle.commands.specs.declared.outcome.Outcome.{Outcome}
 use Rattle.commands.specs.declared.outcome.Outcome.TheVariants.{Done, Refused}
@@ -37,7 +42,7 @@ use Rattle.refusals.specs.declared.refusal.Refusal.{Refusal}
 use Rattle.hms.specs.Laws.{HasSomeReport, IsBaseDone, CanSignEach, IsSignDone, IsRewriteDone, IsServed, HasAll, IsAnswered, IsComplete}
 use Rattle.hms.specs.Commands.{name_of}
 use Rattle.hms.specs.Report.{Answers, ReportsCommand, ReportsFiles}
-use Rattle.hms.proofs.CommandLaws.{conf_answer, tables_answer, request_answer, wanted_answer, script_answer, input_answer, params_answer, values_answer, verdicts_answer, signing_answer, rewriting_answer, writable_where_scripted, valid_where_configured}
+use Rattle.hms.proofs.CommandLaws.{conf_answer, tables_answer, request_answer, wanted_answer, script_answer, input_answer, params_answer, values_answer, verdicts_answer, signing_answer, rewriting_answer, auditing_answer, audit_answer, writable_where_scripted, valid_where_configured}
 use Rattle.hms.proofs.Sources.{spelled_input}
 
 -- some outcome
@@ -101,6 +106,7 @@ some_of_command (Sign words) found input files bytes =
 some_of_command (Rewrite words) found input files bytes =
     some_of_files Nothing (λ conf wishes script. ReportsRewriting words.label script) (name_of (Rewrite words)) found input
     (λ conf _ _ wishes script writable context message. rewriting_answer words.label script context writable message) files bytes
+some_of_command (Audit words) found input files bytes = some_of_layers _ _ _ _ (conf_answer (Some words.conf) (found ConfFile)) (λ conf _. auditing_answer conf input)
 
 arguments_answer : (arguments : List (List ℕ)) → HasAnswer (IsCommand arguments) (λ (_ : ⊤). NoCommand arguments)
 arguments_answer arguments = elim (command_or_none arguments) [
@@ -167,6 +173,16 @@ verdicts_answered label now conf context =
     let reports = some.1 in
     (some.0, reports, rw (reports.outcome_is) (lines_answered reports.labels reports.verdicts (list_all is_accepted reports.verdicts) refl))
 
+report_answered : (lines : List AuditLine) (counts : Bool) → finds_fault lines ≡ counts → IsAnswered (audit_outcome lines)
+report_answered lines true is = rw is (inr refl)
+report_answered lines false is = rw is (inl refl)
+
+audit_answered : (conf : Configuration) (input : List ℕ) (items : List PlacedItem) → IsRecordingText input items → ((refusal : Refusal) → ¬ IsChainRefused items refusal) → HasAnswered (ReportsAudit conf input)
+audit_answered conf input items is none = elim (audit_answer conf input items is) [
+  | inl audit ↦ (audit_outcome audit.0, inl (items, is, inl (audit.0, audit.1, refl)), report_answered audit.0 (finds_fault audit.0) refl)
+  | inr cause ↦ absurd (none cause.0 cause.1)
+]
+
 command_answered : (command : CommandLine) (found : Found) (input : List ℕ) → HasAll command found input → HasAnswered (ReportsCommand command found input)
 command_answered Help found input has = (Done HELP_TEXT.now, refl, inl refl)
 command_answered Version found input has = (Done VERSION_TEXT.now, refl, inl refl)
@@ -181,6 +197,9 @@ command_answered (Sign words) found input has =
 command_answered (Rewrite words) found input has =
     files_answered Nothing (λ conf wishes script. ReportsRewriting words.label script) (λ conf wishes script. IsRewriteDone words.label script)
     (λ conf wishes script context done. steps_answered script words.label 0 context done.0 done.1) (name_of (Rewrite words)) found input has
+command_answered (Audit words) found input has =
+    let next = audit_answered has.conf input has.items has.recorded has.none in
+    (next.0, inl (has.conf, has.configured, next.1), next.2)
 
 pub complete_law : IsComplete
 complete_law arguments command found input is has =

@@ -11,14 +11,16 @@ use Rattle.msg_body.specs.Messages.{Message, Spells}
 use Rattle.component_values.specs.Context.{MessageContext, answers_head, context_with}
 use Rattle.conf.specs.Configuration.{Configuration}
 use Rattle.verdicts.specs.declared.outcome.Verdict.{Verdict}
-use Rattle.commands.specs.Messages.{IsInputMessage, IsInputRefused, reading_for}
+use Rattle.commands.specs.Messages.{IsInputMessage, IsInputRefused}
+use Rattle.msg_body.specs.WholeTexts.{reading_for}
 use Rattle.commands.specs.Rewrite.{ReportsSteps, ReportsRewriting}
 use Rattle.commands.specs.Sign.{ReportsEach, ReportsSigning}
 use Rattle.rewrite_script.specs.declared.rewrite.Rewrite.{Rewrite}
 use Rattle.signing.specs.declared.spec.SignSpec.{SignSpec}
 use Rattle.commands.specs.Base.{ReportsBase}
-use Rattle.commands.specs.Verify.{is_accepted, verdicts_outcome, ReportsVerdicts}
-use Rattle.commands.specs.declared.message.Reading.{Reading}
+use Rattle.commands.specs.Verify.{verdicts_outcome, ReportsVerdicts}
+use Rattle.verdicts.specs.Verdicts.{is_accepted}
+use Rattle.msg_body.specs.declared.whole.Reading.{Reading}
 use Rattle.hms.specs.Commands.{Whole, LosesAtMost}
 use Rattle.hms.specs.Ends.{HasInput, Leaves}
 use Rattle.hms.specs.Report.{ReportsInput}
@@ -28,7 +30,7 @@ use Rattle.refusals.specs.declared.refusal.TheConstants.{MAX_INPUT_BYTES}
 use Rattle.refusals.specs.declared.refusal.Refusal.TheVariants.{Arguments, Of, Command}
 use Rattle.refusals.specs.declared.role.Role.TheVariants.{Conf, Request, Wanted, Script, Input, Item}
 use Rattle.refusals.specs.declared.file.FileRefusal.{FileRefusal}
-use Rattle.refusals.specs.declared.file.FileRefusal.TheVariants.{Missing, TooLong, Message as NoMessage, Conf as NoConf, Script as NoScript}
+use Rattle.refusals.specs.declared.file.FileRefusal.TheVariants.{Missing, TooLong, Message as NoMessage, Conf as NoConf, Script as NoScript, Recording as NoRecording, Order, TooManyHops}
 use Rattle.commands.specs.declared.outcome.Outcome.{Outcome}
 use Rattle.commands.specs.declared.outcome.Outcome.TheVariants.{Done, NotOk, Refused}
 use Rattle.commands.specs.declared.stop.Stop.{Stop}
@@ -37,7 +39,7 @@ use Rattle.commands.specs.Stops.{IfOutcome, IfRefused, IsRefusalFor, ReadsNothin
 use Rattle.hms.proofs.Layers.{both, went_on}
 
 -- some input, the known bytes where they are known, that is longer than n
-longer : (n : ℕ) (before now : Option (List ℕ)) → LosesPrefix before now (n + 1)
+pub longer : (n : ℕ) (before now : Option (List ℕ)) → LosesPrefix before now (n + 1)
     → (input : List ℕ) × IfSome before (λ bytes. bytes ≡ input) × (n < length input)
 longer n None now lost = (replicate (n + 1) 0, tt, rw (length-replicate {A = ℕ} (n + 1) 0) (omega arith))
 longer n (Some all) now lost = (all, refl, omega (arith, lost.0))
@@ -63,11 +65,11 @@ fill_counts T limit before now Longer cause = cause
 
 -- ---- an input that was read whole
 
-known_input : (before now : Option (List ℕ)) (input : List ℕ) → GivesAll before now input → IfSome before (λ bytes. bytes ≡ input)
+pub known_input : (before now : Option (List ℕ)) (input : List ℕ) → GivesAll before now input → IfSome before (λ bytes. bytes ≡ input)
 known_input None now input all = tt
 known_input (Some bytes) now input all = sym all.0
 
-nothing_left : (before now : Option (List ℕ)) (input : List ℕ) → GivesAll before now input → IfSome before (λ _. now ≡ Some [])
+pub nothing_left : (before now : Option (List ℕ)) (input : List ℕ) → GivesAll before now input → IfSome before (λ _. now ≡ Some [])
 nothing_left None now input all = tt
 nothing_left (Some bytes) now input all = all.1
 
@@ -84,6 +86,9 @@ after_input Same before now none (Refused (Of Input (TooLong n))) after = absurd
 after_input Same before now none (Refused (Of Input (NoMessage f))) after = none
 after_input Same before now none (Refused (Of Input (NoConf f))) after = absurd after
 after_input Same before now none (Refused (Of Input (NoScript f))) after = absurd after
+after_input Same before now none (Refused (Of Input (NoRecording f))) after = absurd after
+after_input Same before now none (Refused (Of Input (Order n))) after = absurd after
+after_input Same before now none (Refused (Of Input (TooManyHops n))) after = absurd after
 after_input Same before now none (Refused (Of (Item n) r)) after = absurd after
 after_input Same before now none (Refused (Command r)) after = none
 
@@ -99,9 +104,9 @@ input_outcome Then reading Same input read before now same all result reported a
     }) result (both (ReportsInput Then reading read) IsAfterInput result reported after)
 
 -- what is gone once it was read to its end
-pub all_gone : (before now : Option (List ℕ)) (input : List ℕ) → GivesAll before now input → length input ≤ MAX_INPUT_BYTES → LosesAtMost (MAX_INPUT_BYTES + 1) before now
-all_gone None now input all short = (0, omega arith, tt)
-all_gone (Some bytes) now input all short =
+pub all_gone : (limit : ℕ) (before now : Option (List ℕ)) (input : List ℕ) → GivesAll before now input → length input ≤ limit → LosesAtMost (limit + 1) before now
+all_gone limit None now input all short = (0, omega arith, tt)
+all_gone limit (Some bytes) now input all short =
     let within : length input ≤ length bytes = omega (arith, ap length all.0) in
     let whole : length bytes ≤ length input = omega (arith, ap length all.0) in
     (length input, omega (arith, short), (within, all.1 ∙ ap (λ (l : List ℕ). Some l) (sym (drop_all (length input) bytes whole))))
@@ -117,6 +122,9 @@ after_cause : (reading : Reading) (input : List ℕ) (cause : FileRefusal) → l
 after_cause reading input Missing short is = absurd is
 after_cause reading input (NoConf f) short is = absurd is
 after_cause reading input (NoScript f) short is = absurd is
+after_cause reading input (NoRecording f) short is = absurd is
+after_cause reading input (Order n) short is = absurd is
+after_cause reading input (TooManyHops n) short is = absurd is
 after_cause reading input (TooLong n) short is = absurd (omega (arith, short, is.1))
 after_cause reading input (NoMessage f) short is = tt
 
@@ -131,16 +139,7 @@ own_after : (outcome : Outcome) → IsOwn outcome → IsAfterInput outcome
 own_after (Done text) own = tt
 own_after (NotOk text) own = tt
 own_after (Refused Arguments) own = absurd own
-own_after (Refused (Of Conf r)) own = absurd own
-own_after (Refused (Of Request r)) own = absurd own
-own_after (Refused (Of Wanted r)) own = absurd own
-own_after (Refused (Of Script r)) own = absurd own
-own_after (Refused (Of Input Missing)) own = absurd own
-own_after (Refused (Of Input (TooLong n))) own = absurd own
-own_after (Refused (Of Input (NoMessage f))) own = absurd own
-own_after (Refused (Of Input (NoConf f))) own = absurd own
-own_after (Refused (Of Input (NoScript f))) own = absurd own
-own_after (Refused (Of (Item n) r)) own = absurd own
+own_after (Refused (Of role r)) own = absurd own
 own_after (Refused (Command r)) own = tt
 
 pub after_answer : (result : Result Outcome Stop) → IfOutcome result IsOwn → IfOutcome result IsAfterInput
@@ -184,8 +183,8 @@ own_of_rewriting label script context outcome is = own_of_steps script label 0 c
 
 -- an input is the text of the context's message
 pub spelled_input : (related : Option Message) (input : List ℕ) (message : Message) → IsInputMessage (reading_for related) input message → Spells (answers_head related) message input
-spelled_input None input message is = is.spells
-spelled_input (Some request) input message is = is.spells
+spelled_input None input message is = is.whole.spells
+spelled_input (Some request) input message is = is.whole.spells
 
 pub reads_nothing_counts : (before now : ℕ) (result : Result Outcome Stop) → ReadsNothing result → now ≡ before → CountsStop before now result
 reads_nothing_counts before now (Ok outcome) none same = same

@@ -3,18 +3,20 @@ use Rattle.std.specs.Prelude.{◌≡◌, ◌⊎◌, ◌↔◌, ⊤, ℕ, IsTrue,
 use Rattle.std.specs.List.{list_all, list_any}
 use Rattle.hms_io.specs.declared.status.Status.TheVariants.{Done, NotOk}
 use Rattle.sfv_text.specs.Classes.{is_byte}
-use Rattle.command_line.specs.Command.{CommandLine, Help, Version, Base, Verify, Sign, Rewrite, SignWords, VerifyWords, RewriteWords, IsCommand}
+use Rattle.command_line.specs.Command.{CommandLine, Help, Version, Base, Verify, Sign, Rewrite, Audit, SignWords, VerifyWords, RewriteWords, AuditWords, IsCommand}
 use Rattle.component_ids.specs.declared.params.SigParams.{SigParams}
 use Rattle.component_values.specs.Context.{MessageContext, context_with}
 use Rattle.component_values.specs.Values.{HaveValues}
 use Rattle.msg_body.specs.Messages.{Message}
 use Rattle.conf.specs.Configuration.{Configuration}
+use Rattle.commands.specs.Audit.{IsChainRefused, IsRecordingText, audit_outcome}
 use Rattle.commands.specs.Configured.{IsConfigured}
-use Rattle.commands.specs.Contexts.{context_for}
+use Rattle.verdicts.specs.Contexts.{context_for}
 use Rattle.commands.specs.Covered.{ReadsParams}
 use Rattle.commands.specs.Files.{FileNames, Found, FileRole, Conf as ConfFile, Request as RequestFile, Wanted as WantedFile, Script as ScriptFile}
 use Rattle.commands.specs.Layers.{IsUnrefused}
-use Rattle.commands.specs.Messages.{IsInputMessage, reading_for}
+use Rattle.commands.specs.Messages.{IsInputMessage}
+use Rattle.msg_body.specs.WholeTexts.{reading_for}
 use Rattle.commands.specs.Outcome.{status_of}
 use Rattle.commands.specs.MessageFiles.{IsRequested, IsWanted, IsOfBytes}
 use Rattle.commands.specs.Rewrite.{IsTaken}
@@ -29,6 +31,12 @@ use Rattle.commands.specs.declared.tables.Needs.{Needs}
 use Rattle.commands.specs.declared.tables.Needs.TheVariants.{Nothing, SignTable}
 use Rattle.framing.specs.Framings.{is_request}
 use Rattle.rewrite_script.specs.declared.rewrite.Rewrite.{Rewrite as Rewriting}
+use Rattle.recording.specs.Items.{PlacedItem}
+use Rattle.hop_audit.specs.ChainValues.{Chain}
+use Rattle.hop_audit.specs.Laws.{IsSoundReport}
+use Rattle.hop_audit.specs.Report.{AreItemsOf, IsReport}
+use Rattle.hop_audit.specs.declared.line.AuditLine.{AuditLine}
+use Rattle.refusals.specs.declared.refusal.Refusal.{Refusal}
 use Rattle.rewrites.specs.Laws.{rests_on_conf}
 use Rattle.rewrites.specs.Steps.{Steps}
 use Rattle.signing.specs.Asked.{IsSpecOf}
@@ -105,6 +113,15 @@ pub record IsServed (needs : Needs) (names : FileNames) (found : Found) (input :
   pub is : IsInputMessage (reading_for related) input message
   pub done : IsDone conf wishes script (context_for conf message related)
 
+-- the file of this name says a configuration, and the input is the recording of a chain, which
+-- isn't refused
+pub record IsAuditable (words : AuditWords) (found : Found) (input : List ℕ) : Type 0 where
+  pub conf : Configuration
+  pub configured : IsConfigured (Some words.conf) (found ConfFile) conf
+  pub items : List PlacedItem
+  pub recorded : IsRecordingText input items
+  pub none : (refusal : Refusal) → ¬ IsChainRefused items refusal
+
 -- the command has all that it needs
 abbrev pub HasAll : CommandLine → Found → List ℕ → Type 0
 HasAll Help found input = ⊤
@@ -120,6 +137,7 @@ HasAll (Sign words) found input =
 HasAll (Rewrite words) found input =
     IsServed Nothing (name_of (Rewrite words)) found input
     (λ conf wishes script. IsRewriteDone words.label script)
+HasAll (Audit words) found input = IsAuditable words found input
 
 -- the outcome is what was asked for, and no refusal
 abbrev pub IsAnswered : Outcome → Type 0
@@ -203,3 +221,27 @@ IsVerdictKept =
     → (RestsOnConf rewritten found → AreReadAlike rewritten verified found other)
     → Reports rewriting found input (Written written) → IsTrue (list_all is_byte written)
     → Reports verifying other input outcome ↔ Reports verifying other written outcome
+
+-- ---- what is audited
+
+-- The outcome is the report on the chain that the input records, by this configuration. Where a
+-- line of it says that a label's signature permits a hop, it is kept or lacking.
+pub record IsSoundAudit (conf : Configuration) (input : List ℕ) (outcome : Outcome)
+    : Type 0 where
+  pub items : List PlacedItem
+  pub recorded : IsRecordingText input items
+  pub chain : Chain
+  pub are : AreItemsOf items chain
+  pub lines : List AuditLine
+  pub report : IsReport conf chain lines
+  pub outcome_is : outcome ≡ audit_outcome lines
+  pub sound : IsSoundReport chain lines
+
+-- What `audit` writes is such a report.
+abbrev pub IsKeptWherePermitted : Type 0
+IsKeptWherePermitted =
+    (arguments : List (List ℕ)) (words : AuditWords) (found : Found) (input : List ℕ)
+    (outcome : Outcome) → IsCommand arguments (Audit words)
+    → Reports arguments found input outcome → IsAnswered outcome
+    → (conf : Configuration) × IsConfigured (Some words.conf) (found ConfFile) conf
+    × IsSoundAudit conf input outcome

@@ -1,24 +1,26 @@
 -- What the program answers for its arguments, what was found in its files, and its input, and for
 -- nothing else.
 use Rattle.std.specs.Prelude.{⊤, ℕ, List, Option}
-use Rattle.command_line.specs.Command.{CommandLine, Help, Version, Base, Verify, Sign, Rewrite, IsCommand, NoCommand}
+use Rattle.command_line.specs.Command.{CommandLine, Help, Version, Base, Verify, Sign, Rewrite, Audit, IsCommand, NoCommand}
 use Rattle.msg_body.specs.Messages.{Message}
 use Rattle.component_values.specs.Context.{MessageContext}
 use Rattle.conf.specs.Configuration.{Configuration}
+use Rattle.commands.specs.Audit.{ReportsAudit}
 use Rattle.commands.specs.Base.{ReportsBase}
 use Rattle.commands.specs.Configured.{IsConfigured, IsConfRefused}
-use Rattle.commands.specs.Contexts.{context_for}
+use Rattle.verdicts.specs.Contexts.{context_for}
 use Rattle.commands.specs.Files.{FileNames, Found, Conf as ConfFile, Request as RequestFile, Wanted as WantedFile, Script as ScriptFile}
 use Rattle.commands.specs.Help.{ReportsHelp, ReportsVersion}
 use Rattle.commands.specs.Layers.{ReadsThen}
-use Rattle.commands.specs.Messages.{IsInputMessage, IsInputRefused, reading_for}
+use Rattle.commands.specs.Messages.{IsInputMessage, IsInputRefused}
+use Rattle.msg_body.specs.WholeTexts.{reading_for}
 use Rattle.commands.specs.MessageFiles.{IsRequested, IsRequestRefused, IsWanted, IsWantedRefused}
 use Rattle.commands.specs.Rewrite.{ReportsRewriting}
 use Rattle.commands.specs.Scripts.{IsScripted, IsScriptRefused}
 use Rattle.commands.specs.Sign.{ReportsSigning}
 use Rattle.commands.specs.Tables.{HasTables, IsTableMissing}
 use Rattle.commands.specs.Verify.{ReportsVerdicts}
-use Rattle.commands.specs.declared.message.Reading.{Reading}
+use Rattle.msg_body.specs.declared.whole.Reading.{Reading}
 use Rattle.commands.specs.declared.outcome.Outcome.{Outcome}
 use Rattle.commands.specs.declared.tables.Needs.{Needs}
 use Rattle.commands.specs.declared.tables.Needs.TheVariants.{Nothing, SignTable}
@@ -78,12 +80,17 @@ ReportsTables needs Then conf names found input =
     ReadsThen (λ (_ : ⊤). HasTables needs conf) (IsTableMissing needs conf)
     (λ refusal. Of Conf refusal) (λ _. ReportsRequest Then conf names found input)
 
+-- what comes of the configuration in the file of this name
+abbrev pub ReportsConfigured : (Configuration → Outcome → Type 0) → FileNames → Found → Outcome
+    → Type 0
+ReportsConfigured Then names found =
+    ReadsThen (IsConfigured (names ConfFile) (found ConfFile))
+    (IsConfRefused (names ConfFile) (found ConfFile)) (λ refusal. Of Conf refusal) Then
+
 -- what comes of the configuration in the file of this name, and of what is read after it
 abbrev pub ReportsFiles : Needs → Answers → FileNames → Found → List ℕ → Outcome → Type 0
 ReportsFiles needs Then names found input =
-    ReadsThen (IsConfigured (names ConfFile) (found ConfFile))
-    (IsConfRefused (names ConfFile) (found ConfFile))
-    (λ refusal. Of Conf refusal) (λ conf. ReportsTables needs Then conf names found input)
+    ReportsConfigured (λ conf. ReportsTables needs Then conf names found input) names found
 
 -- what a command comes to over what was found and an input
 abbrev pub ReportsCommand : CommandLine → Found → List ℕ → Outcome → Type 0
@@ -101,10 +108,12 @@ ReportsCommand (Sign words) found input =
 ReportsCommand (Rewrite words) found input =
     ReportsFiles Nothing (λ conf wishes script. ReportsRewriting words.label script)
     (name_of (Rewrite words)) found input
+ReportsCommand (Audit words) found input =
+    ReportsConfigured (λ conf. ReportsAudit conf input) (name_of (Audit words)) found
 
 -- The outcome for these arguments, what was found and this input. The arguments are judged first,
 -- then the configuration, the request, the message that wishes signatures, the script, the input,
--- and the command over them.
+-- and the command over them; of `audit` the configuration, and then the input.
 abbrev pub Reports : List (List ℕ) → Found → List ℕ → Outcome → Type 0
 Reports arguments found input =
     ReadsThen (IsCommand arguments) (λ (_ : ⊤). NoCommand arguments) (λ _. Arguments) (λ command.

@@ -1,6 +1,6 @@
 //! Laws of what the program answers. Each function does nothing; its contract is the law.
 
-ghost use Rattle.hms.specs.Laws.{HasOneReport, HasSomeReport, IsComplete, IsAcceptedWhereSigned, IsVerdictKept};
+ghost use Rattle.hms.specs.Laws.{HasOneReport, HasSomeReport, IsComplete, IsAcceptedWhereSigned, IsVerdictKept, IsKeptWherePermitted};
 
 /// For given arguments, files and input there is one outcome, and so one status and one output. So
 /// each row of the report is exact: its status and its output come there and nowhere else, out of
@@ -29,4 +29,11 @@ pub fn what_is_signed_is_accepted()
 /// the same.
 pub fn what_is_rewritten_keeps_its_verdict()
     ensures { IsVerdictKept }
+{}
+
+/// What `audit` writes is the report on the chain that its input records, and a sound one: a label
+/// for which a hop is permitted keeps its signature, or lacks what it lacked, and where both
+/// messages have one moment, it has the same verdict in both.
+pub fn what_is_permitted_is_kept()
+    ensures { IsKeptWherePermitted }
 {}

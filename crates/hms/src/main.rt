@@ -1,5 +1,5 @@
 //! `hms`: signature bases of recorded HTTP/1.1 messages, what their signatures are worth (RFC
-//! 9421), and what proxies may make of them.
+//! 9421), what proxies may make of them, and what they made of them, hop by hop.
 //!
 //! The program does what [`run::run`] does with its arguments, the files that they name, standard
 //! input and standard output:
@@ -11,6 +11,7 @@
 
 mod laws;
 mod over_message;
+mod over_recording;
 mod run;
 
 use command_line::after_name;
@@ -19,6 +20,8 @@ use std::env;
 use std::io::ErrorKind;
 use std::process::ExitCode;
 
+#[cfg(test)]
+mod audit_tests;
 #[cfg(test)]
 mod device_tests;
 #[cfg(test)]

@@ -11,6 +11,7 @@ ghost use Rattle.commands.specs.Stops.{IfOutcome};
 ghost use Rattle.hms.specs.tools.Parts.{CountsOne};
 
 use crate::over_message::over_files;
+use crate::over_recording::over_recording;
 use command_line::{Command, read_words};
 use commands::{Outcome, Stop, write_help, write_version};
 use hms_io::{Failed, Shelf, Sink, Source, Status, put_all};
@@ -87,6 +88,7 @@ fn run_command<F: Shelf, S: Source>(
             shelf,
             source,
         ),
+        Command::Audit(words) => over_recording(alloc, &words, shelf, source),
     }
 }
 

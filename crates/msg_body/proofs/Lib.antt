@@ -6,3 +6,4 @@ pub mod OneMessages
 mod Outcomes
 mod Readings
 pub mod EachAnswers
+pub mod WholeTexts

@@ -6,6 +6,9 @@ use Rattle.msg_body.specs.declared.limits.TheConstants.{MAX_MESSAGE_BYTES}
 use Rattle.msg_body.specs.declared.error.MessageError.{MessageError}
 use Rattle.msg_body.specs.Causes.{IsMessageError, IsMessageUnfinished}
 use Rattle.msg_body.specs.Messages.{Message, Spells, SpellsMessage, is_expected}
+use Rattle.msg_body.specs.WholeTexts.{IsMessageFault, IsWhole}
+use Rattle.msg_body.specs.declared.error.MessageFault.{MessageFault}
+use Rattle.msg_body.specs.declared.whole.Reading.{Reading}
 
 -- Bytes spell at most one message. It follows from `OneMessageAt`, over the bytes alone.
 abbrev pub OneMessage : Type 0
@@ -62,3 +65,30 @@ NoMessageAnswerYet =
     ((fault : MessageError) → ¬ IsMessageError expect to_head bytes fault)
     × ((message : Message) (used : ℕ) → IsTrue (is_expected expect message.head.start) →
     ¬ SpellsMessage to_head message used bytes)
+
+-- ---- whole texts
+
+-- A text is at most one whole message, read in one way.
+abbrev pub OneWhole : Type 0
+OneWhole =
+    (reading : Reading) (text : List ℕ) (one other : Message) →
+    IsWhole reading text one → IsWhole reading text other → one ≡ other
+
+-- It has at most one fault.
+abbrev pub OneFaultOfText : Type 0
+OneFaultOfText =
+    (reading : Reading) (text : List ℕ) (fault other : MessageFault) →
+    IsMessageFault reading text fault → IsMessageFault reading text other → fault ≡ other
+
+-- A whole message has none.
+abbrev pub NoFaultOfWhole : Type 0
+NoFaultOfWhole =
+    (reading : Reading) (text : List ℕ) (message : Message) (fault : MessageFault) →
+    IsWhole reading text message → ¬ IsMessageFault reading text fault
+
+-- A text that is no longer than a message may be is one, or has a fault.
+abbrev pub IsWholeOrNot : Type 0
+IsWholeOrNot =
+    (reading : Reading) (text : List ℕ) → length text ≤ MAX_MESSAGE_BYTES →
+    ((message : Message) × IsWhole reading text message)
+    ⊎ ((fault : MessageFault) × IsMessageFault reading text fault)

@@ -6,6 +6,7 @@ pub mod Errors
 pub mod Words
 pub mod Causes
 pub mod Outcome
+pub mod WholeTexts
 pub mod Laws
 pub mod tools
 pub use Rattle.msg_head.specs.Heads

@@ -24,11 +24,13 @@ mod laws;
 mod limits;
 mod read;
 mod view;
+mod whole;
 
 pub use content::ContentPieces;
 pub use error::{MessageError, MessageFault};
 pub use expect::Expect;
-pub use laws::{message_laws, messages_have_one_answer};
+pub use laws::{a_text_is_one_message_or_not, message_laws, messages_have_one_answer};
 pub use limits::MAX_MESSAGE_BYTES;
 pub use read::{MessageRead, read_message};
 pub use view::MessageView;
+pub use whole::{Reading, whole_message};

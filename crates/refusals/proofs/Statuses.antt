@@ -3,11 +3,13 @@ use Rattle.msg_body.specs.declared.error.MessageError.{MessageError}
 use Rattle.msg_body.specs.declared.error.MessageError.TheVariants as error
 use Rattle.msg_body.specs.declared.error.MessageFault.{MessageFault}
 use Rattle.msg_body.specs.declared.error.MessageFault.TheVariants as fault
+use Rattle.recording.specs.declared.fault.RecordingFault.{RecordingFault}
+use Rattle.recording.specs.declared.fault.RecordingFault.TheVariants as recording
 use Rattle.refusals.specs.Laws.{IsOfRefusal, HasStatusOfRefusal}
 use Rattle.refusals.specs.Refusal.{command_status, sign_status}
-use Rattle.refusals.specs.Texts.{message_status, fault_status, script_status, file_status}
+use Rattle.refusals.specs.Texts.{message_status, fault_status, script_status, recording_status, file_status}
 use Rattle.refusals.specs.declared.file.FileRefusal.{FileRefusal}
-use Rattle.refusals.specs.declared.file.FileRefusal.TheVariants.{Missing, TooLong, Message, Conf, Script}
+use Rattle.refusals.specs.declared.file.FileRefusal.TheVariants.{Missing, TooLong, Message, Conf, Script, Recording, Order, TooManyHops}
 use Rattle.refusals.specs.declared.refusal.Refusal.TheVariants.{Arguments, Of, Command}
 use Rattle.refusals.specs.declared.refusal.CommandRefusal.{CommandRefusal}
 use Rattle.refusals.specs.declared.refusal.CommandRefusal.TheVariants.{Syntax, ItemKind, Ids, Lacks, Sign, Wishes, NotTaken}
@@ -39,12 +41,21 @@ of_script script.Memory = tt
 of_script script.TooMany = tt
 of_script (script.BadLine index) = tt
 
+of_recording : (f : RecordingFault) → IsOfRefusal (recording_status f)
+of_recording recording.Memory = tt
+of_recording (recording.Syntax offset) = tt
+of_recording (recording.ItemTooLong offset) = tt
+of_recording (recording.MomentFalls offset) = tt
+
 of_file : (refusal : FileRefusal) → IsOfRefusal (file_status refusal)
 of_file Missing = tt
 of_file (TooLong limit) = tt
 of_file (Message f) = of_fault f
 of_file (Conf f) = tt
 of_file (Script f) = of_script f
+of_file (Recording f) = of_recording f
+of_file (Order offset) = tt
+of_file (TooManyHops limit) = tt
 
 of_sign : (f : SignFault) → IsOfRefusal (sign_status f)
 of_sign sign.Memory = tt

@@ -13,10 +13,13 @@ use Rattle.conf.specs.Refusals.{fault_number, fault_path}
 use Rattle.rewrite_script.specs.Words.{script_fault_text}
 use Rattle.rewrite_script.specs.declared.fault.ScriptFault.{ScriptFault}
 use Rattle.rewrite_script.specs.declared.fault.ScriptFault.TheVariants as script
+use Rattle.recording.specs.Words.{recording_fault_text}
+use Rattle.recording.specs.declared.fault.RecordingFault.{RecordingFault}
+use Rattle.recording.specs.declared.fault.RecordingFault.TheVariants as recording
 use Rattle.refusals.specs.declared.role.Role.{Role}
 use Rattle.refusals.specs.declared.role.Role.TheVariants as role
 use Rattle.refusals.specs.declared.file.FileRefusal.{FileRefusal}
-use Rattle.refusals.specs.declared.file.FileRefusal.TheVariants.{Missing, TooLong, Message, Conf, Script}
+use Rattle.refusals.specs.declared.file.FileRefusal.TheVariants.{Missing, TooLong, Message, Conf, Script, Recording, Order, TooManyHops}
 
 -- how output calls the text
 abbrev pub role_text : Role → List ℕ
@@ -32,13 +35,17 @@ abbrev pub path_text : Option (List ℕ) → List ℕ
 path_text None = []
 path_text (Some path) = byte " " ∷ path
 
--- why the text is refused: no such file, its limit, its fault, or its fault and the path of that
+-- why the text is refused: no such file, its limit, its fault, its fault and the path of that, the
+-- first item out of order, or the limit of hops
 abbrev pub file_text : FileRefusal → List ℕ
 file_text Missing = codes "missing"
 file_text (TooLong limit) = codes "bytes " ++ decimal limit
 file_text (Message fault) = message_fault_text fault
 file_text (Conf fault) = decimal (fault_number fault) ++ path_text (fault_path fault)
 file_text (Script fault) = script_fault_text fault
+file_text (Recording fault) = recording_fault_text fault
+file_text (Order offset) = codes "chain " ++ decimal offset
+file_text (TooManyHops limit) = codes "hops " ++ decimal limit
 
 -- a message that passes a limit, or else a bad input
 abbrev pub message_status : MessageError → Status
@@ -57,10 +64,19 @@ abbrev pub script_status : ScriptFault → Status
 script_status script.TooMany = LimitPassed
 script_status fault = BadInput
 
--- a missing file, a limit that is passed, a bad message, a bad configuration or a bad script
+-- an item that is too long, or else a bad recording
+abbrev pub recording_status : RecordingFault → Status
+recording_status (recording.ItemTooLong offset) = LimitPassed
+recording_status fault = BadInput
+
+-- a missing file, a limit that is passed, or a bad message, configuration, script, recording or
+-- chain
 abbrev pub file_status : FileRefusal → Status
 file_status Missing = FileMissing
 file_status (TooLong limit) = LimitPassed
 file_status (Message fault) = fault_status fault
 file_status (Conf fault) = BadConf
 file_status (Script fault) = script_status fault
+file_status (Recording fault) = recording_status fault
+file_status (Order offset) = BadInput
+file_status (TooManyHops limit) = LimitPassed

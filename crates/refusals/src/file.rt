@@ -1,11 +1,12 @@
 //! Why a text is refused that a run reads, and the status that this gives.
 
 ghost use Rattle.std.specs.Prelude.{◌≡◌, ◌++◌, option_copied, OnOk};
-ghost use Rattle.refusals.specs.Texts.{path_text, file_text, message_status, fault_status, script_status, file_status};
+ghost use Rattle.refusals.specs.Texts.{path_text, file_text, message_status, fault_status, script_status, recording_status, file_status};
 
 use conf::ConfFault;
 use hms_io::Status;
 use msg_body::{MessageError, MessageFault};
+use recording::RecordingFault;
 use rewrite_script::ScriptFault;
 use sfv_text::{Memory, Text, append_number, append_words};
 use std::alloc::Global;
@@ -24,6 +25,13 @@ pub enum FileRefusal {
     Conf(ConfFault),
     /// It is no script. The fault is never out of memory.
     Script(ScriptFault),
+    /// It is no recording. The fault is never out of memory.
+    Recording(RecordingFault),
+    /// It is a recording, but of no chain. The line of the first item that isn't in a chain's order
+    /// is at this offset.
+    Order(u64),
+    /// It is the recording of a chain of more hops than this limit.
+    TooManyHops(usize),
 }
 
 impl FileRefusal {
@@ -37,6 +45,9 @@ impl FileRefusal {
             FileRefusal::Message(fault) => fault_status(*fault),
             FileRefusal::Conf(_) => Status::BadConf,
             FileRefusal::Script(fault) => script_status(*fault),
+            FileRefusal::Recording(fault) => recording_status(*fault),
+            FileRefusal::Order(_) => Status::BadInput,
+            FileRefusal::TooManyHops(_) => Status::LimitPassed,
         }
     }
 }
@@ -70,6 +81,15 @@ fn script_status(fault: ScriptFault) -> Status
     }
 }
 
+fn recording_status(fault: RecordingFault) -> Status
+    ensures { result ≡ recording_status fault }
+{
+    match fault {
+        RecordingFault::ItemTooLong(_) => Status::LimitPassed,
+        _ => Status::BadInput,
+    }
+}
+
 /// Adds a path, after a space, where there is one.
 fn append_path(path: Option<&[u8]>, line: &mut Text) -> Result<(), Memory>
     ensures { OnOk result (line.new ≡ line.old ++ path_text (option_copied path.entry)) }
@@ -99,5 +119,11 @@ pub fn append_file(alloc: Global, refusal: &FileRefusal, line: &mut Text) -> Res
             let text = format!(in alloc; "{fault}")?;
             line.append(text.as_bytes())
         }
+        FileRefusal::Recording(fault) => {
+            let text = format!(in alloc; "{fault}")?;
+            line.append(text.as_bytes())
+        }
+        FileRefusal::Order(offset) => append_number(alloc, b"chain ", *offset as usize, line),
+        FileRefusal::TooManyHops(limit) => append_number(alloc, b"hops ", *limit, line),
     }
 }

@@ -16,6 +16,6 @@ mod role;
 pub use file::FileRefusal;
 pub use laws::a_refusal_has_a_status_of_its_own;
 pub use refusal::{
-    CommandRefusal, MAX_CONF_BYTES, MAX_INPUT_BYTES, MAX_SCRIPT_BYTES, Refusal, StepRefusal,
+    CommandRefusal, MAX_CONF_BYTES, MAX_INPUT_BYTES, MAX_RECORDING_BYTES, Refusal, StepRefusal,
 };
 pub use role::Role;

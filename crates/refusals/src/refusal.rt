@@ -16,11 +16,11 @@ use std::alloc::Global;
 /// The most bytes of an input that is one message, and of a file that is one.
 pub const MAX_INPUT_BYTES: usize = 16_777_216;
 
+/// The most bytes of an input that is a recording.
+pub const MAX_RECORDING_BYTES: usize = 67_108_864;
+
 /// The most bytes of a configuration.
 pub const MAX_CONF_BYTES: usize = 65_536;
-
-/// The most bytes of a script.
-pub const MAX_SCRIPT_BYTES: usize = 1_048_576;
 
 /// Why a run is refused.
 #[derive(Debug, Drop)]

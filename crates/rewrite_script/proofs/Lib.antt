@@ -7,3 +7,4 @@ pub mod KindLaws
 pub mod ValueLaws
 pub mod ScriptLaws
 pub mod Judged
+pub mod Printing

@@ -1,3 +1,4 @@
 pub mod LineWalk
 pub mod Gives
 pub mod Judged
+pub mod Printed

@@ -37,11 +37,13 @@ mod label;
 mod laws;
 mod limits;
 mod line;
+mod print;
 mod rewrite;
 mod script;
 
 pub use fault::ScriptFault;
 pub use laws::{a_line_has_one_rewriting, a_text_is_a_script_or_has_a_fault};
-pub use limits::{MAX_BLANKS, MAX_NUMBER_DIGITS, MAX_SCRIPT_LINES};
+pub use limits::{MAX_BLANKS, MAX_NUMBER_DIGITS, MAX_SCRIPT_BYTES, MAX_SCRIPT_LINES};
+pub use print::print_script;
 pub use rewrite::{LineRewrite, Rewrite, Script, Sizes, WholeRewrite};
 pub use script::read_script;

@@ -1,5 +1,8 @@
 //! What scripts may have at most.
 
+/// How many bytes a script may have.
+pub const MAX_SCRIPT_BYTES: usize = 1_048_576;
+
 /// How many lines a script may have.
 pub const MAX_SCRIPT_LINES: usize = 256;
 

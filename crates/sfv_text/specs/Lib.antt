@@ -8,3 +8,4 @@ pub mod Range
 pub mod Strict
 pub mod Values
 pub mod tools
+pub mod Fed

@@ -12,6 +12,7 @@
 
 mod absorb;
 mod bare;
+mod fed_text;
 mod index;
 mod key;
 mod laws;
@@ -25,6 +26,7 @@ mod text;
 mod value;
 
 pub use absorb::Absorb;
+pub use fed_text::FedText;
 pub use key::{are_string_bytes, is_key};
 pub use laws::{equality_is_tested, keys_stay_distinct, strict_texts_are_printable};
 pub use memory::Memory;

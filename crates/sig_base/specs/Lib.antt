@@ -1,2 +1,3 @@
 pub mod SignatureBase
 pub mod tools
+pub mod Laws

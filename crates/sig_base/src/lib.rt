@@ -9,5 +9,7 @@
 
 mod base;
 mod buffer;
+mod laws;
 
 pub use base::{base_bytes, feed_base};
+pub use laws::a_base_has_one_reading;

@@ -7,6 +7,8 @@
 #![tactic(auto)]
 
 #[cfg(test)]
+mod audits;
+#[cfg(test)]
 mod authorities;
 #[cfg(test)]
 mod bases;
@@ -34,6 +36,8 @@ mod macs;
 mod outcomes;
 #[cfg(test)]
 mod readers;
+#[cfg(test)]
+mod recordings;
 #[cfg(test)]
 mod scripts;
 #[cfg(test)]

@@ -1,7 +1,7 @@
 // Tests of scripts.
 
 use msg_head::Side;
-use rewrite_script::{LineRewrite, Rewrite, ScriptFault, read_script};
+use rewrite_script::{LineRewrite, Rewrite, ScriptFault, print_script, read_script};
 use sfv_text::Text;
 use std::alloc::Global;
 
@@ -311,9 +311,18 @@ const ROWS: [Row; 74] = [
     },
 ];
 
+fn is_printed(alloc: Global, script: &[Rewrite], text: &[u8]) -> bool {
+    match print_script(alloc, script) {
+        Ok(printed) => printed.bytes() == text,
+        Err(_) => false,
+    }
+}
+
 fn is_row(alloc: Global, row: &Row) -> bool {
     match (read_script(alloc, row.text), row.read) {
-        (Ok(script), Ok(count)) => script.len() == count,
+        (Ok(script), Ok(count)) => {
+            script.len() == count && is_printed(alloc, script.as_slice(), row.text)
+        }
         (Err(ScriptFault::BadLine(index)), Err(wanted)) => index == wanted,
         _ => false,
     }

@@ -8,3 +8,4 @@ pub mod VerdictLine
 pub mod Laws
 pub mod tools
 pub mod Readings
+pub mod Contexts

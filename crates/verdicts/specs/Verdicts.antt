@@ -1,5 +1,5 @@
 -- The verdict on a label (RFC 9421 section 3.2).
-use Rattle.std.specs.Prelude.{◌≡◌, ℕ, Bool, true, IsTrue, Some, IfSome, List}
+use Rattle.std.specs.Prelude.{◌≡◌, ℕ, Bool, true, false, IsTrue, Some, IfSome, List}
 use Rattle.component_ids.specs.Identifiers.{is_id_in_range}
 use Rattle.component_ids.specs.declared.params.SigParams.{SigParams}
 use Rattle.component_values.specs.Values.{HaveValues}
@@ -42,6 +42,11 @@ pub record Accepts (v : Verification) (keyid : List ℕ) : Type 0 where
 abbrev pub IsVerdict : Verification → Verdict → Type 0
 IsVerdict v (Accepted keyid) = Accepts v keyid
 IsVerdict v (Refused rule place) = IsFirstFailure (Fails v) rule place
+
+-- the verdict is `ok`
+abbrev pub is_accepted : Verdict → Bool
+is_accepted (Accepted keyid) = true
+is_accepted (Refused rule place) = false
 
 -- a component at which a rule fails can be written as a structured field
 abbrev pub is_place_in_range : Place → Bool

@@ -1,5 +1,5 @@
 -- What a label is judged by.
-use Rattle.std.specs.Prelude.{◌≡◌, ℕ, Option, IfSome, List, option_copied}
+use Rattle.std.specs.Prelude.{◌≡◌, ℕ, Option, None, IfSome, List, [], ◌∷◌, codes, option_copied}
 use Rattle.component_ids.specs.declared.params.SigParams.{SigParams}
 use Rattle.component_values.specs.Context.{MessageContext, context_of}
 use Rattle.component_values.specs.declared.context.Context.{Context}
@@ -40,3 +40,24 @@ IsAt now seen = IfSome seen (λ book. book.moment ≡ now)
 -- the policy by which signature parameters are judged
 abbrev pub policy_of : Configuration → SigParams → Policy
 policy_of conf params = conf.policy
+
+-- ---- the labels of a message
+
+-- what is judged where a message has no label, which no Dictionary has
+abbrev pub no_label : List ℕ
+no_label = codes "-"
+
+-- the labels, or `-` alone where there are none
+abbrev pub or_no_label : List (List ℕ) → List (List ℕ)
+or_no_label [] = no_label ∷ []
+or_no_label labels = labels
+
+-- what a label is judged by at this moment; no nonce is remembered
+abbrev pub verification_for : Configuration → ℕ → MessageContext → List ℕ → Verification
+verification_for conf moment context label = record {
+  context = context;
+  label = label;
+  conf = conf;
+  now = moment;
+  seen = None;
+}

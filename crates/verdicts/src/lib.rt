@@ -11,6 +11,7 @@
 #![tactic(auto)]
 
 mod algorithm;
+mod context;
 mod coverage;
 mod digest;
 mod judge;
@@ -25,6 +26,7 @@ mod tag_param;
 mod times;
 mod verification;
 
+pub use context::context_for;
 pub use judge::{verdict, verdict_in};
 pub use laws::{
     a_label_has_one_verdict, a_signed_label_is_accepted_by_the_other_rules,

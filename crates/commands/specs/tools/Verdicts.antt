@@ -7,7 +7,8 @@ use Rattle.verdicts.specs.Verification.{Verification}
 use Rattle.verdicts.specs.Verdicts.{IsVerdict}
 use Rattle.verdicts.specs.declared.outcome.Verdict.{Verdict}
 use Rattle.verdicts.specs.VerdictLine.{verdict_line}
-use Rattle.commands.specs.Verify.{AreVerdicts, is_accepted, verdict_lines, verdicts_outcome}
+use Rattle.commands.specs.Verify.{AreVerdicts, verdict_lines, verdicts_outcome}
+use Rattle.verdicts.specs.Verdicts.{is_accepted}
 use Rattle.commands.specs.declared.outcome.Outcome.{Outcome}
 
 -- the line of the label's verdict is added, and it is said whether it is accepted

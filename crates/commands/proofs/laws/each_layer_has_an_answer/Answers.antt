@@ -1,4 +1,6 @@
 use Rattle.commands.proofs.Answered.{has_configuration, has_message, have_params, have_values_or_lack}
+use Rattle.commands.proofs.Auditing.{has_audit}
+use Rattle.commands.proofs.RecordedTexts.{has_recording}
 use Rattle.commands.proofs.ScriptFiles.{has_script}
 use Rattle.commands.proofs.TakenFiles.{has_request, has_wanted}
 use Rattle.commands.proofs.NeededTables.{have_tables}
@@ -15,4 +17,6 @@ returns c =
       input = has_message;
       params = have_params;
       values = have_values_or_lack;
+      recording = has_recording;
+      chain = has_audit;
     }

@@ -1,5 +1,7 @@
 use Rattle.commands.proofs.Decided.{input_decided, params_decided, values_decided}
 use Rattle.commands.proofs.DecidedConf.{conf_decided}
+use Rattle.commands.proofs.Auditing.{chain_decided}
+use Rattle.commands.proofs.RecordedTexts.{recording_decided}
 use Rattle.commands.proofs.ScriptFiles.{script_decided}
 use Rattle.commands.proofs.TakenFiles.{request_decided, wanted_decided}
 use Rattle.commands.proofs.NeededTables.{tables_decided}
@@ -15,4 +17,6 @@ returns c = record {
   input = input_decided;
   params = params_decided;
   values = values_decided;
+  recording = recording_decided;
+  chain = chain_decided;
 }

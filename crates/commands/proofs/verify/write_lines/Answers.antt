@@ -3,7 +3,7 @@ use Rattle.verdicts.specs.Readings.{AreReadFor}
 use Rattle.component_values.specs.Context.{context_of}
 use Rattle.signatures.specs.Fields.{AreFieldsOf}
 use Rattle.verdicts.specs.Verification.{Verification, model_of}
-use Rattle.commands.specs.Verify.{verification_for}
+use Rattle.verdicts.specs.Verification.{verification_for}
 use Rattle.commands.specs.tools.Verdicts.{WritesVerdict}
 use Rattle.commands.proofs.VerdictLines.{more_lines}
 use Rattle.commands.proofs.verify.write_lines.Goals as goal

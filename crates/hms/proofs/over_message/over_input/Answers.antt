@@ -5,7 +5,7 @@ use Rattle.conf.specs.ConfMeaning.{meaning}
 use Rattle.msg_body.specs.Messages.{Spells}
 use Rattle.msg_body.specs.Views.{message_of}
 use Rattle.commands.specs.Messages.{IsInputMessage}
-use Rattle.commands.specs.declared.message.Reading.{Reading}
+use Rattle.msg_body.specs.declared.whole.Reading.{Reading}
 use Rattle.hms.proofs.Sources.{after_answer, after_refusal, spelled_input}
 use Rattle.std.proofs.lemmas.Result.{err_from_is_err_and}
 use Rattle.hms.proofs.over_message.over_input.Goals as goal

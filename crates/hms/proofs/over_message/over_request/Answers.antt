@@ -5,9 +5,9 @@ use Rattle.msg_body.specs.Messages.{Message}
 use Rattle.msg_body.specs.Views.{message_of}
 use Rattle.conf.specs.ConfMeaning.{meaning}
 use Rattle.commands.specs.MessageFiles.{IsMessageIn, IsTextRefused}
-use Rattle.commands.specs.Messages.{one_request}
+use Rattle.msg_body.specs.WholeTexts.{one_request}
 use Rattle.commands.specs.Stops.{IfOutcome, IfRefused, IsRefusalFor}
-use Rattle.commands.specs.declared.message.Reading.{Reading}
+use Rattle.msg_body.specs.declared.whole.Reading.{Reading}
 use Rattle.refusals.specs.declared.refusal.Refusal.TheVariants.{Of}
 use Rattle.refusals.specs.declared.role.Role.TheVariants.{Request as OfRequest}
 use Rattle.hms.proofs.Reports.{HasWishesOutcome, keeps_both, request_asked, request_asked_alone, request_read, request_stopped, request_unasked, request_unasked_alone, same_related, text_stop}

@@ -3,8 +3,8 @@ use Rattle.std.specs.Prelude.{option_map}
 use Rattle.msg_body.specs.Views.{message_of}
 use Rattle.conf.specs.ConfMeaning.{meaning}
 use Rattle.hms_io.specs.declared.read_write.FillError.{FillError}
-use Rattle.commands.specs.Contexts.{context_for}
-use Rattle.commands.specs.Messages.{reading_for}
+use Rattle.verdicts.specs.Contexts.{context_for}
+use Rattle.msg_body.specs.WholeTexts.{reading_for}
 use Rattle.hms.proofs.Sources.{all_gone, fill_stop, input_outcome}
 use Rattle.hms.proofs.over_message.over_source.Goals as goal
 
@@ -31,4 +31,4 @@ returns-clause-report g c =
 
 pub returns-clause-few : goal.returns-clause-few
 returns-clause-few g c =
-    all_gone (g.S.Source.left c.args.source.now) (g.S.Source.left c.fill.new.source) c.in-Ok.input c.in-Ok.ensures.whole c.in-Ok.ensures.within
+    all_gone _ (g.S.Source.left c.args.source.now) (g.S.Source.left c.fill.new.source) c.in-Ok.input c.in-Ok.ensures.whole c.in-Ok.ensures.within

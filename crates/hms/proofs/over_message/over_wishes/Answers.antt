@@ -5,9 +5,9 @@ use Rattle.msg_body.specs.Messages.{Message}
 use Rattle.msg_body.specs.Views.{message_of}
 use Rattle.conf.specs.ConfMeaning.{meaning}
 use Rattle.commands.specs.MessageFiles.{IsMessageIn, IsTextRefused}
-use Rattle.commands.specs.Messages.{any_message}
+use Rattle.msg_body.specs.WholeTexts.{any_message}
 use Rattle.commands.specs.Stops.{IfOutcome, IfRefused, IsRefusalFor}
-use Rattle.commands.specs.declared.message.Reading.{Reading}
+use Rattle.msg_body.specs.declared.whole.Reading.{Reading}
 use Rattle.refusals.specs.declared.refusal.Refusal.TheVariants.{Of}
 use Rattle.refusals.specs.declared.role.Role.TheVariants.{Wanted as OfWanted}
 use Rattle.hms.proofs.Reports.{HasScriptOutcome, both_unasked, keeps_both, one_unasked, same_related, text_stop, wishes_asked, wishes_asked_alone, wishes_read, wishes_stopped}

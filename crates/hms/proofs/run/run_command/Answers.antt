@@ -1,5 +1,5 @@
 use Rattle.std.proofs.Common.{◌≡◌, ◌+◌, ◌≤◌, map, string_bytes, refl, Ok}
-use Rattle.command_line.specs.Command.{CommandLine, Help, Version, Base, Verify, Sign, Rewrite, base_words, verify_words, sign_words, rewrite_words, line_of}
+use Rattle.command_line.specs.Command.{CommandLine, Help, Version, Base, Verify, Sign, Rewrite, Audit, base_words, verify_words, sign_words, rewrite_words, audit_words, line_of}
 use Rattle.commands.specs.Files.{Conf, Request, Script, file_count}
 use Rattle.hms.specs.Commands.{input_use, name_of, LosesFew}
 use Rattle.hms.proofs.Reports.{alone, never_read, never, no_command, none_named, nothing_named, of_command, spelled}
@@ -117,3 +117,24 @@ returns-in-Rewrite-clause-unread g c = λ none. never_read _ (none (Rewrite (rew
 
 pub returns-in-Rewrite-clause-unasked : goal.returns-in-Rewrite-clause-unasked
 returns-in-Rewrite-clause-unasked g c = λ named. never c.in-Rewrite.words.script.now (named (Rewrite (rewrite_words c.in-Rewrite.words)) (rw c.in-Rewrite.is at c.in-Some.ensures.some) Script)
+
+pub returns-in-Audit-clause-report : goal.returns-in-Audit-clause-report
+returns-in-Audit-clause-report g c =
+    spelled (map string_bytes c.args.arguments.now) (Audit (audit_words c.in-Audit.words)) (rw c.in-Audit.is at c.in-Some.ensures.some) (g.F.Shelf.files c.args.shelf.now)
+    (c.over_recording.new.source ≡ c.args.source.now) (g.S.Source.left c.args.source.now) (g.S.Source.left c.over_recording.new.source) c.over_recording.result c.over_recording.ensures.report
+
+pub returns-in-Audit-clause-few : goal.returns-in-Audit-clause-few
+returns-in-Audit-clause-few g c =
+    of_command (λ (line : CommandLine). LosesFew (input_use line) (g.S.Source.left c.args.source.now) (g.S.Source.left c.over_recording.new.source))
+    (map string_bytes c.args.arguments.now) (Audit (audit_words c.in-Audit.words)) (rw c.in-Audit.is at c.in-Some.ensures.some) c.over_recording.ensures.few
+
+pub returns-in-Audit-clause-asked : goal.returns-in-Audit-clause-asked
+returns-in-Audit-clause-asked g c =
+    of_command (λ (line : CommandLine). g.F.Shelf.asked c.over_recording.new.shelf ≤ g.F.Shelf.asked c.args.shelf.now + file_count (name_of line))
+    (map string_bytes c.args.arguments.now) (Audit (audit_words c.in-Audit.words)) (rw c.in-Audit.is at c.in-Some.ensures.some) c.over_recording.ensures.asked
+
+pub returns-in-Audit-clause-unread : goal.returns-in-Audit-clause-unread
+returns-in-Audit-clause-unread g c = λ none. never_read _ (none (Audit (audit_words c.in-Audit.words)) (rw c.in-Audit.is at c.in-Some.ensures.some))
+
+pub returns-in-Audit-clause-unasked : goal.returns-in-Audit-clause-unasked
+returns-in-Audit-clause-unasked g c = λ named. never c.in-Audit.words.conf.now (named (Audit (audit_words c.in-Audit.words)) (rw c.in-Audit.is at c.in-Some.ensures.some) Conf)

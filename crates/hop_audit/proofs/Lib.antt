@@ -1,0 +1,24 @@
+mod FirstOf
+mod Equal
+pub mod Fates
+mod Permitted
+mod Reports
+pub mod SameVerdicts
+pub mod StepLists
+mod ReadAgain
+mod WalkSteps
+pub mod OneChain
+mod Stopping
+mod OrderFaults
+mod HeldOrder
+pub mod FirstFaults
+mod ItemTexts
+mod ReportLines
+mod Sizes
+mod AuditSteps
+mod AuditAnswers
+pub mod OneReport
+pub mod SomeReport
+pub mod OneBases
+mod Comparing
+mod JudgedHops

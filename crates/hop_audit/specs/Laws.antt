@@ -1,0 +1,194 @@
+-- Laws of audits.
+use Rattle.std.specs.Prelude.{◌≡◌, ◌↔◌, ◌⊎◌, ⊤, ℕ, ◌+◌, Bool, true, IsTrue, Option, Some, List, slice_get}
+use Rattle.std.specs.List.{All, Contains, list_all}
+use Rattle.msg_body.specs.Messages.{Message}
+use Rattle.component_ids.specs.declared.id.ComponentId.{ComponentId}
+use Rattle.component_ids.specs.declared.params.SigParams.{SigParams}
+use Rattle.component_values.specs.Context.{MessageContext, context_with}
+use Rattle.component_values.specs.Laws.{HasMessages, IsSpelled}
+use Rattle.hmac_sha256.specs.Hmac.{hmac}
+use Rattle.nonces.specs.Books.{Book}
+use Rattle.settings.specs.Configuration.{Configuration}
+use Rattle.signatures.specs.Signatures.{HasSignature}
+use Rattle.rewrite_script.specs.Lines.{is_writable}
+use Rattle.rewrite_script.specs.Scripts.{HaveValues}
+use Rattle.rewrite_script.specs.declared.rewrite.Rewrite.{Rewrite}
+use Rattle.rewrites.specs.Laws.{IsBaseOf, verification_over}
+use Rattle.verdicts.specs.Rules.{key_in}
+use Rattle.verdicts.specs.Verdicts.{IsVerdict}
+use Rattle.verdicts.specs.declared.outcome.Verdict.{Verdict}
+use Rattle.verdicts.specs.declared.outcome.Verdict.TheVariants.{Ok as Accepted}
+use Rattle.hop_audit.specs.declared.fault.ChainFault.{ChainFault}
+use Rattle.hop_audit.specs.declared.line.Fate.{Fate}
+use Rattle.hop_audit.specs.declared.line.Fate.TheVariants.{Dropped, Changed, Lacking, Kept}
+use Rattle.hop_audit.specs.declared.line.AuditLine.{AuditLine}
+use Rattle.hop_audit.specs.declared.line.AuditLine.TheVariants.{Message as MessageLine, Label as LabelLine}
+use Rattle.hop_audit.specs.Chains.{RecordedChain, IsChain, IsOrderFault}
+use Rattle.hop_audit.specs.ChainFaults.{IsChainFault}
+use Rattle.hop_audit.specs.ChainValues.{Chain, moments_of}
+use Rattle.hop_audit.specs.Fates.{IsFate}
+use Rattle.hop_audit.specs.Hops.{IsPermitted, PlacedHop}
+use Rattle.recording.specs.Items.{IsShort, PlacedItem}
+use Rattle.recording.specs.Recordings.{BeginWithMoment, SpellsRecording, bodies}
+use Rattle.hop_audit.specs.Report.{AreItemsOf, IsReport, IsAudit, places_of}
+use Rattle.sfv_text.specs.Classes.{is_byte}
+use Rattle.verdicts.specs.Contexts.{context_for}
+
+-- ---- one answer
+
+-- items are at most one chain
+abbrev pub AreOneChain : Type 0
+AreOneChain = (items : List PlacedItem) (chain other : RecordedChain)
+    → IsChain items chain → IsChain items other → chain ≡ other
+
+-- items are a chain, or not in its order, at one item
+abbrev pub AreChainOrNot : Type 0
+AreChainOrNot = (items : List PlacedItem) → BeginWithMoment (bodies items)
+    → ((chain : RecordedChain) × IsChain items chain)
+    ⊎ ((offset : ℕ) × IsOrderFault items offset)
+
+-- they aren't in order at two items
+abbrev pub HaveOneOrderFault : Type 0
+HaveOneOrderFault = (items : List PlacedItem) (offset other : ℕ)
+    → IsOrderFault items offset → IsOrderFault items other → offset ≡ other
+
+-- items have at most one report
+abbrev pub HaveOneAudit : Type 0
+HaveOneAudit = (conf : Configuration) (items : List PlacedItem) (lines others : List AuditLine)
+    → IsAudit conf items lines → IsAudit conf items others → lines ≡ others
+
+-- items have at most one fault
+abbrev pub HaveOneFault : Type 0
+HaveOneFault = (items : List PlacedItem) (fault other : ChainFault)
+    → IsChainFault items fault → IsChainFault items other → fault ≡ other
+
+-- items that have a report have no fault
+abbrev pub HaveNoFaultWhereAudited : Type 0
+HaveNoFaultWhereAudited = (conf : Configuration) (items : List PlacedItem)
+    (lines : List AuditLine) (fault : ChainFault)
+    → IsAudit conf items lines → ¬ IsChainFault items fault
+
+-- items of a recording have a report, or a fault
+abbrev pub HaveAuditOrFault : Type 0
+HaveAuditOrFault = (conf : Configuration) (items : List PlacedItem) → BeginWithMoment (bodies items)
+    → All IsShort (bodies items)
+    → ((lines : List AuditLine) × IsAudit conf items lines)
+    ⊎ ((fault : ChainFault) × IsChainFault items fault)
+
+-- a signature has one fate
+abbrev pub HasOneFate : Type 0
+HasOneFate = (context : MessageContext) (other : Message) (label : List ℕ) (params : SigParams)
+    (tag : List ℕ) (fate another : Fate) → IsFate context other label params tag fate
+    → IsFate context other label params tag another → fate ≡ another
+
+-- it has some
+abbrev pub HasSomeFate : Type 0
+HasSomeFate = (context : MessageContext) (other : Message) (label : List ℕ) (params : SigParams)
+    (tag : List ℕ) → (fate : Fate) × IsFate context other label params tag fate
+
+-- ---- what is permitted is kept
+
+-- the signature has stayed: it has its base in both messages, or in none
+abbrev pub IsKeptOrLacking : Fate → Type 0
+IsKeptOrLacking Dropped = ⊥
+IsKeptOrLacking (Changed id) = ⊥
+IsKeptOrLacking (Lacking id) = ⊤
+IsKeptOrLacking Kept = ⊤
+
+-- a hop for which it is permitted keeps a signature, or leaves it lacking
+abbrev pub KeepsFate : Type 0
+KeepsFate = (context : MessageContext) (script : List Rewrite) (after : Message) (label : List ℕ)
+    (params : SigParams) (tag : List ℕ) (fate : Fate) → IsTrue (list_all is_writable script)
+    → HaveValues script → HasSignature context.message label params tag
+    → IsPermitted label context script after → IsFate context after label params tag fate
+    → IsKeptOrLacking fate
+
+-- messages of these indices have one moment
+abbrev pub HaveOneMoment : Chain → ℕ → ℕ → Type 0
+HaveOneMoment chain index other =
+    (seconds : ℕ) × (slice_get (moments_of chain) index ≡ Some seconds)
+    × (slice_get (moments_of chain) other ≡ Some seconds)
+
+-- A label for which the hop is permitted keeps its signature, or lacks what it lacked. Where both
+-- messages have one moment, the label has the same verdict in both, its place included.
+pub record IsSoundReport (chain : Chain) (lines : List AuditLine) : Type 0 where
+  pub fates : (index : ℕ) (label : List ℕ) (fate : Fate)
+      → Contains lines (LabelLine index label true fate) → IsKeptOrLacking fate
+  pub verdicts : (index : ℕ) (label : List ℕ) (fate : Fate) (verdict : Verdict)
+      → Contains lines (LabelLine (index + 1) label true fate)
+      → HaveOneMoment chain index (index + 1)
+      → Contains lines (MessageLine index label verdict)
+      ↔ Contains lines (MessageLine (index + 1) label verdict)
+
+-- every report is so
+abbrev pub KeepsWhatIsPermitted : Type 0
+KeepsWhatIsPermitted = (conf : Configuration) (items : List PlacedItem) (chain : Chain)
+    (lines : List AuditLine) → AreItemsOf items chain → IsReport conf chain lines
+    → IsSoundReport chain lines
+
+-- ---- one base, one meaning
+
+-- one text is the signature's base over both messages
+abbrev pub HasSameBase : MessageContext → Message → SigParams → Type 0
+HasSameBase context other params = (base : List ℕ) × IsBaseOf context params base
+    × IsBaseOf (context_with context other) params base
+
+-- A signature is kept exactly where the other message has it, and it has one base over both
+-- messages (RFC 9421 section 2.5).
+abbrev pub IsKeptWithItsBase : Type 0
+IsKeptWithItsBase = (context : MessageContext) (other : Message) (label : List ℕ)
+    (params : SigParams) (tag : List ℕ) → HasMessages context → IsSpelled other
+    → IsFate context other label params tag Kept
+    ↔ (HasSignature other label params tag × HasSameBase context other params)
+
+-- the label's verdict is `ok` at some moment, with some nonces that were seen
+abbrev pub IsAccepted : Configuration → MessageContext → List ℕ → List ℕ → Type 0
+IsAccepted conf context label keyid = (now : ℕ) × (seen : Option Book)
+    × IsVerdict (verification_over context label conf now seen) (Accepted keyid)
+
+-- The signature's bases over both messages are two texts, and the tag is the HMAC of both under the
+-- key that is configured for this `keyid`.
+pub record IsTagOfTwo (conf : Configuration) (keyid : List ℕ) (context : MessageContext)
+    (other : Message) (params : SigParams) (tag : List ℕ) : Type 0 where
+  pub base : List ℕ
+  pub base_is : IsBaseOf context params base
+  pub changed : List ℕ
+  pub changed_is : IsBaseOf (context_with context other) params changed
+  pub differ : ¬ (base ≡ changed)
+  pub key : List ℕ
+  pub key_is : key_in conf keyid ≡ Some key
+  pub mac : tag ≡ hmac key base
+  pub same : hmac key base ≡ hmac key changed
+
+-- Where a component of a signature has changed and the signature is accepted in both messages, two
+-- texts have one HMAC: its bases differ, since a base has one reading (RFC 9421 section 7.5.5).
+abbrev pub TellsWhatChanged : Type 0
+TellsWhatChanged = (conf : Configuration) (context : MessageContext) (other : Message)
+    (label : List ℕ) (params : SigParams) (tag keyid another : List ℕ) (id : ComponentId)
+    → HasMessages context → IsSpelled other
+    → HasSignature context.message label params tag
+    → IsFate context other label params tag (Changed id)
+    → IsAccepted conf context label keyid
+    → IsAccepted conf (context_with context other) label another
+    → IsTagOfTwo conf keyid context other params tag
+
+-- The report says that the label is accepted in the message of this index and in the next, and that
+-- this component of its signature has changed between them.
+pub record AcceptsChange (lines : List AuditLine) (index : ℕ) (label : List ℕ) (id : ComponentId)
+    (keyid : List ℕ) : Type 0 where
+  pub before : Contains lines (MessageLine index label (Accepted keyid))
+  pub another : List ℕ
+  pub after : Contains lines (MessageLine (index + 1) label (Accepted another))
+  pub permitted : Bool
+  pub changed : Contains lines (LabelLine (index + 1) label permitted (Changed id))
+
+-- Where the report on a recording says so, the tag is the HMAC of two texts: the bases over the
+-- messages before the hop and after it.
+abbrev pub TellsWhatChangedAtHops : Type 0
+TellsWhatChangedAtHops = (conf : Configuration) (text : List ℕ) (items : List PlacedItem)
+    (chain : Chain) (lines : List AuditLine) (index : ℕ) (label : List ℕ) (id : ComponentId)
+    (keyid : List ℕ) → IsTrue (list_all is_byte text) → SpellsRecording text items
+    → AreItemsOf items chain → IsReport conf chain lines → AcceptsChange lines index label id keyid
+    → (hop : PlacedHop) × (params : SigParams) × (tag : List ℕ)
+    × (slice_get (places_of chain) index ≡ Some hop) × HasSignature hop.before label params tag
+    × IsTagOfTwo conf keyid (context_for conf hop.before chain.related) hop.after params tag

@@ -1,0 +1,54 @@
+-- What the code makes of the components of two messages. No public clause cites this module.
+use Rattle.std.specs.Prelude.{◌≡◌, ℕ, Option, Some, None, List, take, Result, Ok, Err}
+use Rattle.std.specs.List.{All}
+use Rattle.msg_body.specs.Messages.{Message}
+use Rattle.component_ids.specs.declared.id.ComponentId.{ComponentId}
+use Rattle.component_values.specs.Context.{MessageContext, context_of}
+use Rattle.component_values.specs.Readings.{AreReadOf}
+use Rattle.derived_values.specs.declared.lack.Lack.{Lack}
+use Rattle.hop_audit.specs.declared.answer.Answer.{Answer}
+use Rattle.hop_audit.specs.declared.answer.Answer.TheVariants.{Value, Lacks}
+use Rattle.hop_audit.specs.declared.comparison.Comparison.{Comparison}
+use Rattle.hop_audit.specs.declared.line.Fate.{Fate}
+use Rattle.hop_audit.specs.declared.line.Fate.TheVariants.{Dropped, Changed, Lacking, Kept}
+use Rattle.hop_audit.specs.Fates.{HasChanged, HasKept, HasStayed, IsFirstOf, LacksValue}
+
+-- what the component comes to
+abbrev pub answer_of : Answer → Result (List ℕ) Lack
+answer_of (Value text) = Ok text
+answer_of (Lacks lack) = Err lack
+
+-- of the components: the first that has changed; the first that lacks, where none has; or that each
+-- is kept
+abbrev pub SaysCompared : MessageContext → Message → List ComponentId → Fate → Type 0
+SaysCompared context other ids Dropped = ⊥
+SaysCompared context other ids (Changed id) = IsFirstOf (HasChanged context other) ids id
+SaysCompared context other ids (Lacking id) =
+    All (HasStayed context other) ids × IsFirstOf (LacksValue context) ids id
+SaysCompared context other ids Kept = All (HasKept context other) ids
+
+-- the readings are those of the two messages, whose contexts differ in nothing else
+pub record IsComparison (context : MessageContext) (other : Message) (c : Comparison)
+    : Type 0 where
+  pub before : context_of c.before.now ≡ context
+  pub after : context_of c.after.now ≡ record {
+    message = other;
+    related = context.related;
+    scheme = context.scheme;
+    types = context.types;
+  }
+  pub was : AreReadOf (context_of c.before.now) c.was
+  pub now : AreReadOf (context_of c.after.now) c.now
+
+-- ---- component by component
+
+-- the first that lacks a value is this one, or none of so many does
+abbrev pub LacksSoFar : MessageContext → List ComponentId → ℕ → Option ComponentId → Type 0
+LacksSoFar context ids count None = All (λ id. ¬ LacksValue context id) (take count ids)
+LacksSoFar context ids count (Some id) = IsFirstOf (LacksValue context) ids id
+
+-- so many have stayed, and that is the first that lacks a value
+pub record AreComparedSoFar (context : MessageContext) (other : Message) (ids : List ComponentId)
+    (count : ℕ) (lacking : Option ComponentId) : Type 0 where
+  pub stay : All (HasStayed context other) (take count ids)
+  pub lacks : LacksSoFar context ids count lacking

@@ -1,0 +1,204 @@
+//! The audit of a recorded chain.
+
+ghost use Rattle.std.specs.Prelude.{◌≡◌, ◌≢◌, map, IfOk, IsTrue};
+ghost use Rattle.std.specs.List.{All};
+ghost use Rattle.byte_grammar.specs.Causes.{AnswersWhere};
+ghost use Rattle.settings.specs.ConfMeaning.{meaning};
+ghost use Rattle.hop_audit.specs.ChainFaults.{IsChainFault};
+ghost use Rattle.recording.specs.Recordings.{AreItems, bodies};
+ghost use Rattle.recording.specs.Items.{IsShort, placed};
+ghost use Rattle.hop_audit.specs.Lines.{are_lines_in_range};
+ghost use Rattle.hop_audit.specs.Report.{IsAudit};
+ghost use Rattle.hop_audit.specs.declared.fault.ChainFault.{ChainFault};
+ghost use Rattle.hop_audit.specs.tools.Judged.{IsHeldFor, SaysRelated, SaysReport};
+
+use crate::fault::ChainFault;
+use crate::hop_lines::{End, add_hop_lines};
+use crate::line::AuditReport;
+use crate::message_lines::add_message_lines;
+use crate::order::{RecordedChain, RecordedHop, Subject, recorded_chain, role_of};
+use crate::read::{item_message, item_script, reading_of};
+use crate::stage::Stage;
+use msg_body::{MessageView, Reading};
+use recording::{Recording, Role};
+use settings::Conf;
+use std::alloc::Global;
+use verdicts::context_for;
+
+/// The request that the messages answer, where it is recorded.
+fn related_request<'r>(
+    alloc: Global,
+    chain: &RecordedChain<'r>,
+) -> Result<Option<MessageView<'r>>, ChainFault>
+    requires { IsHeldFor chain.now }
+    ensures { SaysRelated chain.now result }
+{
+    match chain.subject {
+        Subject::Responses(Some(text)) => {
+            let reading = reading_of(None, Role::Related);
+            let request = item_message(alloc, chain.item - 1, reading, text)?;
+            Ok(Some(request))
+        }
+        Subject::Responses(None) => Ok(None),
+        Subject::Requests => Ok(None),
+    }
+}
+
+/// The parts of an audit: how its messages are read, and what they are judged by.
+#[derive(Drop)]
+struct ChainAudit<'a, 'r> {
+    conf: &'a Conf,
+    related: Option<&'a MessageView<'r>>,
+    reading: Reading,
+}
+
+impl<'a, 'r> ChainAudit<'a, 'r> {
+    ghost use Rattle.std.specs.Prelude.{◌≡◌, ◌≤◌, length, Err, OnOk, OnErr};
+    ghost use Rattle.component_values.specs.Context.{answers_head};
+    ghost use Rattle.msg_body.specs.Messages.{Message, Spells};
+    ghost use Rattle.msg_body.specs.Views.{message_of};
+    ghost use Rattle.msg_body.specs.declared.limits.TheConstants.{MAX_MESSAGE_BYTES};
+    ghost use Rattle.nonces.specs.declared.limits.TheConstants.{MAX_MOMENT};
+    ghost use Rattle.settings.specs.ConfMeaning.{meaning};
+    ghost use Rattle.hop_audit.specs.ChainValues.{AnswersRequest, reading_of, role_of};
+    ghost use Rattle.hop_audit.specs.declared.fault.ChainFault.{ChainFault};
+    ghost use Rattle.hop_audit.specs.tools.Judged.{IsHeldFor, IsSizedHop, SaysHop, SaysReport, SaysStage, context_of_audit, related_of};
+    ghost use Rattle.hop_audit.specs.tools.Read.{IsStageOf};
+    ghost use Rattle.hop_audit.specs.tools.Recorded.{subject_meant};
+    ghost use Rattle.hop_audit.specs.tools.Written.{AddsMessageLines};
+
+    /// The parts for the messages of a chain, which are these.
+    fn of(
+        conf: &'a Conf,
+        related: Option<&'a MessageView<'r>>,
+        subject: Subject<'_>,
+    ) -> ChainAudit<'a, 'r>
+        ensures conf { result.conf ≡ conf.entry }
+        ensures related { result.related ≡ related.entry }
+        ensures reading { result.reading
+            ≡ reading_of (related_of result) (role_of (subject_meant subject.entry)) }
+    {
+        ChainAudit {
+            conf,
+            related,
+            reading: reading_of(related, role_of(subject)),
+        }
+    }
+
+    /// The message of the item with this index, with its labels.
+    fn stage(&self, alloc: Global, item: usize, text: &'r [u8]) -> Result<Stage<'r>, ChainFault>
+        requires { length text.now ≤ MAX_MESSAGE_BYTES }
+        ensures { SaysStage item self.now.reading text.now result }
+    {
+        let message = item_message(alloc, item, self.reading, text)?;
+        Ok(Stage::of(alloc, message)?)
+    }
+
+    /// Adds the lines of the message with this index, at this moment.
+    fn add_message<'x>(
+        &'x self,
+        alloc: Global,
+        index: usize,
+        moment: u64,
+        stage: &'x Stage<'r>,
+        lines: &mut AuditReport,
+    ) -> Result<(), ChainFault>
+        requires stage { (message : Message) × IsStageOf message stage.now }
+        requires now { moment ≤ MAX_MOMENT }
+        ensures ok { OnOk result (AddsMessageLines (meaning self.now.conf.now)
+            (context_of_audit self.now (message_of stage.now.message)) index moment
+            lines.old lines.new) }
+        ensures err { OnErr result (result ≡ Err ChainFault.Memory) }
+    {
+        let context = context_for(self.conf, &stage.message, self.related);
+        Ok(add_message_lines(alloc, self.conf, &context, index, moment, stage, lines)?)
+    }
+
+    /// Adds the line of the hop with this index and of the labels before it. It answers the message
+    /// after it.
+    fn add_hop<'x>(
+        &'x self,
+        alloc: Global,
+        index: usize,
+        text: &'r [u8],
+        before: &'x Stage<'r>,
+        hop: &RecordedHop<'r>,
+        lines: &mut AuditReport,
+    ) -> Result<Stage<'r>, ChainFault>
+        requires spells { Spells (answers_head (related_of self.now))
+            (message_of before.now.message) text.now }
+        requires stage { IsStageOf (message_of before.now.message) before.now }
+        requires reading { self.now.reading.to_head ≡ answers_head (related_of self.now) }
+        requires sized { IsSizedHop hop.now }
+        ensures { SaysHop self.now index before.now hop.now lines.old lines.new result }
+    {
+        let script = item_script(alloc, hop.item, hop.script)?;
+        let after = self.stage(alloc, hop.item + 1, hop.message)?;
+        let was = context_for(self.conf, &before.message, self.related);
+        let now = context_for(self.conf, &after.message, self.related);
+        let from = End {
+            bytes: text,
+            context: &was,
+            stage: before,
+        };
+        let to = End {
+            bytes: hop.message,
+            context: &now,
+            stage: &after,
+        };
+        add_hop_lines(alloc, index, &from, script.as_slice(), &to, lines)?;
+        Ok(after)
+    }
+
+    /// The lines of the chain.
+    fn report(&self, alloc: Global, chain: &RecordedChain<'r>) -> Result<AuditReport, ChainFault>
+        requires held { IsHeldFor chain.now }
+        requires related { AnswersRequest (subject_meant chain.now.subject) (related_of self.now) }
+        requires reading { self.now.reading
+            ≡ reading_of (related_of self.now) (role_of (subject_meant chain.now.subject)) }
+        ensures { SaysReport self.now chain.now result }
+    {
+        let mut lines = AuditReport::new(alloc);
+        let mut before = self.stage(alloc, chain.item, chain.first)?;
+        let mut text = chain.first;
+        let mut moment = chain.moment;
+        (&*self).add_message(alloc, 0, moment, &before, &mut lines)?;
+        for (count, hop) in chain.hops.as_slice().iter().enumerate() {
+            let index = count + 1;
+            let after = (&*self).add_hop(alloc, index, text, &before, hop, &mut lines)?;
+            moment = hop.moment.unwrap_or(moment);
+            (&*self).add_message(alloc, index, moment, &after, &mut lines)?;
+            text = hop.message;
+            before = after;
+        }
+        Ok(lines)
+    }
+}
+
+/// Audits the chain that the items of a recording are: the verdict on each label of each message,
+/// and of each hop whether its script explains what came out, and for each label whether its
+/// signature permits that and what becomes of it (RFC 9421 sections 1.1 and 3.2).
+///
+/// The items are such as a recording has: the first is a moment, and each is within its limits.
+/// Each message is read once; two are held beside the recording.
+pub fn audit(
+    alloc: Global,
+    recording: &Recording<'_>,
+    conf: &Conf,
+) -> Result<AuditReport, ChainFault>
+    requires are { AreItems (bodies (map placed recording.now)) }
+    requires short { All IsShort (bodies (map placed recording.now)) }
+    ensures report { IfOk result (IsAudit (meaning conf.now) (map placed recording.now)) }
+    ensures in_range { IfOk result (λ lines. IsTrue (are_lines_in_range lines)) }
+
+    // The first fault whose cause holds is answered, and no other.
+    ensures fault { (fault : ChainFault) → fault ≢ ChainFault.Memory
+        → AnswersWhere ChainFault.Memory result fault
+        (IsChainFault (map placed recording.now) fault) }
+{
+    let chain = recorded_chain(alloc, recording.as_slice())?;
+    let related = related_request(alloc, &chain)?;
+    let related = related.as_ref();
+    let audit = ChainAudit::of(conf, related, chain.subject);
+    audit.report(alloc, &chain)
+}

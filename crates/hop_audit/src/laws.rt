@@ -1,0 +1,40 @@
+//! Laws of audits. Each function does nothing; its contract is the law.
+
+ghost use Rattle.hop_audit.specs.Laws.{IsKeptWithItsBase, KeepsFate, AreChainOrNot, AreOneChain, HasOneFate, HasSomeFate, HaveAuditOrFault, HaveNoFaultWhereAudited, HaveOneAudit, HaveOneFault, HaveOneOrderFault, KeepsWhatIsPermitted, TellsWhatChanged, TellsWhatChangedAtHops};
+
+/// Items are one chain, or there is one place where they aren't in its order.
+pub fn items_are_a_chain_or_not()
+    ensures one { AreOneChain }
+    ensures either { AreChainOrNot }
+    ensures fault { HaveOneOrderFault }
+{}
+
+/// The items of a recording have one report, or one fault.
+pub fn items_have_one_audit()
+    ensures report { HaveOneAudit }
+    ensures fault { HaveOneFault }
+    ensures none { HaveNoFaultWhereAudited }
+    ensures some { HaveAuditOrFault }
+{}
+
+/// A signature has one fate at a hop.
+pub fn a_signature_has_one_fate()
+    ensures one { HasOneFate }
+    ensures some { HasSomeFate }
+{}
+
+/// A signature for which a hop is permitted is kept, or lacks what it lacked; at the same moment it
+/// has the same verdict.
+pub fn what_is_permitted_is_kept()
+    ensures fate { KeepsFate }
+    ensures report { KeepsWhatIsPermitted }
+{}
+
+/// A signature is kept exactly where the other message has it and it has one base over both. Where
+/// a component has changed and the signature is accepted in both messages, its tag is the HMAC of
+/// two bases; so it is where a report on a recording says so.
+pub fn one_tag_tells_one_base()
+    ensures kept { IsKeptWithItsBase }
+    ensures changed { TellsWhatChanged }
+    ensures report { TellsWhatChangedAtHops }
+{}

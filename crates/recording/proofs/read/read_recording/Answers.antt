@@ -1,0 +1,8 @@
+use Rattle.recording.proofs.RecordingLaws.{only_recording, fault_is}
+use Rattle.recording.proofs.read.read_recording.Goals as goal
+
+pub returns-clause-only : goal.returns-clause-only
+returns-clause-only c = only_recording c.args.text.now c.judge.result c.judge.ensures
+
+pub returns-clause-fault : goal.returns-clause-fault
+returns-clause-fault c = fault_is c.args.text.now c.judge.result c.judge.ensures

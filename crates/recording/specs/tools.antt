@@ -1,0 +1,4 @@
+pub mod Running
+pub mod RecordingWalk
+pub mod RecordingTexts
+pub mod Judged

@@ -1,0 +1,43 @@
+//! Recordings: messages with the moments at which they were seen, and scripts that say how one
+//! message became the next.
+//!
+//! A recording is a line that names the format, items, and a last line. The first item is a moment.
+//! A moment is one line. A message or a script is a line that says how many bytes it has, those
+//! bytes, and LF: so bytes of any kind can be in it. In which order the items make a chain isn't
+//! said here.
+//!
+//! ```text
+//! hms-recording 1
+//! at 1618884473
+//! request 18
+//! GET / HTTP/1.1....
+//! script 11
+//! move h 1 0
+//!
+//! end
+//! ```
+//!
+//! ```text
+//! read_recording(alloc, b"hms-recording 1\nat 5\nend\n") // one item, at offset 16
+//! read_recording(alloc, b"hms-recording 1\nat 05\nend\n") // Err(RecordingFault::Syntax(20))
+//! ```
+//!
+//! The items borrow their bytes from the recording.
+#![tactic(auto)]
+
+mod fault;
+mod item;
+mod laws;
+mod limits;
+mod number;
+mod read;
+mod word;
+
+pub use fault::RecordingFault;
+pub use item::{Item, ItemBody, Recording, Role};
+pub use laws::{
+    a_text_is_a_recording_or_has_a_fault, the_first_fault_is_that_from_the_left,
+    the_rest_is_read_by_itself,
+};
+pub use limits::{MAX_ITEM_BYTES, MAX_NUMBER_DIGITS};
+pub use read::read_recording;

@@ -1,0 +1,201 @@
+// Tests of recordings.
+
+use recording::{ItemBody, RecordingFault, Role, read_recording};
+use std::alloc::Global;
+
+#[derive(Clone, Copy)]
+struct Row {
+    text: &'static [u8],
+    // How many items are read, or why none are.
+    read: Result<usize, RecordingFault>,
+}
+
+const ROWS: [Row; 37] = [
+    Row {
+        text: b"",
+        read: Err(RecordingFault::Syntax(0)),
+    },
+    Row {
+        text: b"hms-recording 1\nat 5\nend\n",
+        read: Ok(1),
+    },
+    Row {
+        text: b"hms-recording 1\nat 5\nat 4\nend\n",
+        read: Err(RecordingFault::MomentFalls(21)),
+    },
+    Row {
+        text: b"hms-recording 1\nat 5\nat 4\nrequest x",
+        read: Err(RecordingFault::MomentFalls(21)),
+    },
+    Row {
+        text: b"hms-recording 1\nat 01\n",
+        read: Err(RecordingFault::Syntax(20)),
+    },
+    Row {
+        text: b"hms-recording 1\nend\n",
+        read: Err(RecordingFault::Syntax(16)),
+    },
+    Row {
+        text: b"hms-recording 1\nat 5\nrequest 16777217\n",
+        read: Err(RecordingFault::ItemTooLong(21)),
+    },
+    Row {
+        text: b"hms-recording 1\nat 5\nscript 16777217\nx",
+        read: Err(RecordingFault::ItemTooLong(21)),
+    },
+    Row {
+        text: b"hms-recording 1\nat 5\nrequest 16777216\n",
+        read: Err(RecordingFault::Syntax(38)),
+    },
+    Row {
+        text: b"hms-recording 1\nat 5\nreq",
+        read: Err(RecordingFault::Syntax(24)),
+    },
+    Row {
+        text: b"hms-recording 1\nat 5\nend",
+        read: Err(RecordingFault::Syntax(24)),
+    },
+    Row {
+        text: b"hms-recording 1\nat 5\nend\nx",
+        read: Err(RecordingFault::Syntax(25)),
+    },
+    Row {
+        text: b"hms-recording 1\nat 5\nrequest 3\nabc\nend\n",
+        read: Ok(2),
+    },
+    Row {
+        text: b"hms-recording 1\nat 5\nrequest 3\nabcd\nend\n",
+        read: Err(RecordingFault::Syntax(34)),
+    },
+    Row {
+        text: b"hms-recording 1\nat 5\nrequest 16777217",
+        read: Err(RecordingFault::Syntax(37)),
+    },
+    Row {
+        text: b"hms-recording 1\nat 5\nrequest 16777217x\n",
+        read: Err(RecordingFault::Syntax(37)),
+    },
+    Row {
+        text: b"hms-recording 1\nat 5\nresponse 0\n\nend\n",
+        read: Ok(2),
+    },
+    Row {
+        text: b"hms-recording 1\nat 5\nrelated 1\n\n\nat 7\nend\n",
+        read: Ok(3),
+    },
+    Row {
+        text: b"hms-recording 1\nat 5\nscript 0\n\nend\n",
+        read: Ok(2),
+    },
+    Row {
+        text: b"hms-recording 1\nat 1234567890123456\n",
+        read: Err(RecordingFault::Syntax(34)),
+    },
+    Row {
+        text: b"hms-recording 1\nat 123456789012345\nend\n",
+        read: Ok(1),
+    },
+    Row {
+        text: b"hms-recording 1\nrequest 0\n\nend\n",
+        read: Err(RecordingFault::Syntax(16)),
+    },
+    Row {
+        text: b"hms-recording 2\n",
+        read: Err(RecordingFault::Syntax(14)),
+    },
+    Row {
+        text: b"hms-recording 1\nat 5\nreply",
+        read: Err(RecordingFault::Syntax(23)),
+    },
+    Row {
+        text: b"hms-recording 1\nat 5\nrel",
+        read: Err(RecordingFault::Syntax(24)),
+    },
+    Row {
+        text: b"hms-recording 1\nat 5\nres",
+        read: Err(RecordingFault::Syntax(24)),
+    },
+    Row {
+        text: b"hms-recording 1\nat 5\nr",
+        read: Err(RecordingFault::Syntax(22)),
+    },
+    Row {
+        text: b"hms-recording 1\nat 5\nrr",
+        read: Err(RecordingFault::Syntax(22)),
+    },
+    Row {
+        text: b"hms-recording 1\nat \n",
+        read: Err(RecordingFault::Syntax(19)),
+    },
+    Row {
+        text: b"hms-recording 1\nat 5\n\nend\n",
+        read: Err(RecordingFault::Syntax(21)),
+    },
+    Row {
+        text: b"hms-recording 1\nat 5 \n",
+        read: Err(RecordingFault::Syntax(20)),
+    },
+    Row {
+        text: b"hms-recording 1\nat 5\nat 4x",
+        read: Err(RecordingFault::Syntax(25)),
+    },
+    Row {
+        text: b"hms-recording 1\nat 5\nat 5\nend\n",
+        read: Ok(2),
+    },
+    Row {
+        text: b"hms-recording 1\nat 5\nrequest 5\nabc",
+        read: Err(RecordingFault::Syntax(34)),
+    },
+    Row {
+        text: b"hms-recording 1\nat 5\r\n",
+        read: Err(RecordingFault::Syntax(20)),
+    },
+    Row {
+        text: b"hms-recording 1\nat 0\nend\n",
+        read: Ok(1),
+    },
+    Row {
+        text: b"hms-recording 1\nat 00\n",
+        read: Err(RecordingFault::Syntax(20)),
+    },
+];
+
+fn is_read(alloc: Global, row: &Row) -> bool {
+    match read_recording(alloc, row.text) {
+        Ok(items) => row.read == Ok(items.len()),
+        Err(fault) => row.read == Err(fault),
+    }
+}
+
+#[test]
+fn recordings_are_read(rt: HostRuntime) {
+    for row in &ROWS {
+        assert!(rt; is_read(rt.alloc(), row));
+    }
+}
+
+// The items and their places.
+const PARTS: &[u8] = b"hms-recording 1\nat 5\nrelated 2\nab\nresponse 3\ncde\nscript 1\nf\nend\n";
+
+fn has_parts(alloc: Global) -> bool {
+    let Ok(items) = read_recording(alloc, PARTS) else {
+        return false;
+    };
+    let [first, second, third, fourth] = items.as_slice() else {
+        return false;
+    };
+    first.offset == 16
+        && matches!(first.body, ItemBody::At(5))
+        && second.offset == 21
+        && matches!(second.body, ItemBody::Message(Role::Related, b"ab"))
+        && third.offset == 34
+        && matches!(third.body, ItemBody::Message(Role::Response, b"cde"))
+        && fourth.offset == 49
+        && matches!(fourth.body, ItemBody::Script(b"f"))
+}
+
+#[test]
+fn items_have_their_places(rt: HostRuntime) {
+    assert!(rt; has_parts(rt.alloc()));
+}
