@@ -9,7 +9,7 @@ ghost use Rattle.commands.specs.Stops.{IfOutcome, ReadsNothing};
 use crate::outcome::Outcome;
 use crate::stop::Stop;
 use conf::Conf;
-use hop_audit::{append_report, audit};
+use hop_audit::{append_report, audit, finds_fault};
 use recording::read_recording;
 use sfv_text::Text;
 use std::alloc::Global;
@@ -23,8 +23,8 @@ pub fn write_audit(alloc: Global, conf: &Conf, input: &[u8]) -> Result<Outcome, 
     let recording = read_recording(alloc, input)?;
     let lines = audit(alloc, &recording, conf)?;
     let mut text = Text::new(alloc);
-    let found = append_report(alloc, lines.as_slice(), &mut text)?;
-    Ok(if found {
+    append_report(alloc, lines.as_slice(), &mut text)?;
+    Ok(if finds_fault(lines.as_slice()) {
         Outcome::NotOk(text)
     } else {
         Outcome::Done(text)

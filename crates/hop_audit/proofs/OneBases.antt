@@ -1,6 +1,6 @@
 -- A signature's base over two messages: what it tells of its components, and of its tag.
 use Rattle.std.proofs.Common.{◌≡◌, ℕ, zero, suc, ◌+◌, Bool, true, ◌&&◌, ◌==◌, not, Option, Some, None, unwrap_or, List, [], ◌∷◌, ◌++◌, codes, length, refl, sym, ap, subst, ◌∙◌, arith}
-use Rattle.std.specs.Prelude.{IfSome, slice_get}
+use Rattle.std.specs.Prelude.{IfSome, slice_get, ◌↔◌}
 use Rattle.std.specs.List.{All, AllZip, flat_map, list_all}
 use Rattle.std.proofs.lemmas.Bool.{and_from, and_parts}
 use Rattle.std.proofs.lemmas.Bool.Decides.{nat_tests}
@@ -32,10 +32,11 @@ use Rattle.recording.specs.Items.{Body, PlacedItem, body_text, kind_word, moment
 use Rattle.recording.specs.Recordings.{SpellsRecording, bodies, items_text}
 use Rattle.hop_audit.specs.Chains.{RecordedHop, Subject, hop_items, message_item, moment_items, related_items, requests, responses}
 use Rattle.hop_audit.specs.ChainValues.{AnswersRequest, Chain, Hop, IsHop, one_request, reading_of, role_of}
+use Rattle.hop_audit.specs.declared.line.Fate.{Fate}
 use Rattle.hop_audit.specs.declared.line.Fate.TheVariants.{Changed, Kept}
 use Rattle.hop_audit.specs.Fates.{HasKept, IsFate}
 use Rattle.hop_audit.specs.Hops.{PlacedHop, places_from}
-use Rattle.hop_audit.specs.Laws.{HasSameBase, IsKeptWithItsBase, TellsWhatChanged, TellsWhatChangedAtHops}
+use Rattle.hop_audit.specs.Laws.{HasSameBase, IsKeptWithItsBase, IsKeptWithItsBaseAtHops, TellsWhatChanged, TellsWhatChangedAtHops}
 use Rattle.hop_audit.specs.Report.{AreItemsOf, places_of}
 use Rattle.hop_audit.proofs.Fates.{has_one_fate}
 use Rattle.hop_audit.proofs.Reports.{label_line_is, some_is}
@@ -49,7 +50,8 @@ no_line_end c is = grind (arith, nat_tests)
 one_line : (value : List ℕ) → list_all is_value_byte value ≡ true → is_one_line value ≡ true
 one_line value clean = all_implied is_value_byte (λ c. not (c == 10)) no_line_end value clean
 
-all_lines : (context : MessageContext) (ids : List ComponentId) (values : List (List ℕ)) → HasMessages context → HaveValues context ids values → list_all is_one_line values ≡ true
+-- values of components have no LF
+pub all_lines : (context : MessageContext) (ids : List ComponentId) (values : List (List ℕ)) → HasMessages context → HaveValues context ids values → list_all is_one_line values ≡ true
 all_lines context [] [] spelled have = refl
 all_lines context (id ∷ ids) (value ∷ values) spelled have =
     and_from (is_one_line value) (list_all is_one_line values) (one_line value (has_clean_values context id value spelled have.0)) (all_lines context ids values spelled have.1)
@@ -236,4 +238,28 @@ tells_what_changed_at_hops conf text items chain lines index label id keyid byte
       of.report.signature,
       tells_what_changed conf (context_for conf hop.before chain.related) hop.after label of.report.params of.report.tag keyid says.another id
           (record { message = spelled.before; related = spelled.related }) spelled.after of.report.signature of.report.fate_is (hop.was, None, accepted) (hop.now, None, again),
+    )
+
+-- the fate of a label's line
+kept_or_not : (context : MessageContext) (other : Message) (label : List ℕ) (params : SigParams) (tag : List ℕ) (fate : Fate) → HasMessages context → IsSpelled other
+    → IsFate context other label params tag fate → (fate ≡ Kept) ↔ (HasSignature other label params tag × HasSameBase context other params)
+kept_or_not context other label params tag fate spelled also is = (
+  λ same. kept_base context other label params tag spelled also (subst (λ (f : Fate). IsFate context other label params tag f) same is),
+  λ has. has_one_fate context other label params tag fate Kept is (base_kept context other label params tag spelled also has),
+)
+
+pub is_kept_with_its_base_at_hops : IsKeptWithItsBaseAtHops
+is_kept_with_its_base_at_hops conf text items chain lines index label permitted fate bytes spells are report contains =
+    let of = label_line_is conf chain lines (index + 1) label permitted fate report contains in
+    let hop = of.hop in
+    let ends = between 0 chain.moment chain.message chain.hops of.at hop of.there in
+    let place : index ≡ of.at = omega (arith, of.index_is, ends.index_is) in
+    let spelled = are_spelled items chain of.at hop (recorded_bytes text items bytes spells) are of.there in (
+      hop,
+      of.report.params,
+      of.report.tag,
+      ap (slice_get (places_of chain)) place ∙ of.there,
+      of.report.signature,
+      kept_or_not (context_for conf hop.before chain.related) hop.after label of.report.params of.report.tag fate (record { message = spelled.before; related = spelled.related })
+          spelled.after of.report.fate_is,
     )

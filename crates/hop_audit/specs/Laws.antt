@@ -182,13 +182,36 @@ pub record AcceptsChange (lines : List AuditLine) (index : ℕ) (label : List �
   pub permitted : Bool
   pub changed : Contains lines (LabelLine (index + 1) label permitted (Changed id))
 
--- Where the report on a recording says so, the tag is the HMAC of two texts: the bases over the
--- messages before the hop and after it.
+-- At the hop after the message of this index the tag of the label is the HMAC of two texts: its
+-- signature's bases over the messages before the hop and after it.
+abbrev pub HasTagOfTwo : Configuration → Chain → ℕ → List ℕ → List ℕ → Type 0
+HasTagOfTwo conf chain index label keyid =
+    (hop : PlacedHop) × (params : SigParams) × (tag : List ℕ)
+    × (slice_get (places_of chain) index ≡ Some hop) × HasSignature hop.before label params tag
+    × IsTagOfTwo conf keyid (context_for conf hop.before chain.related) hop.after params tag
+
+-- Where the report on a recording says so, it is so.
 abbrev pub TellsWhatChangedAtHops : Type 0
 TellsWhatChangedAtHops = (conf : Configuration) (text : List ℕ) (items : List PlacedItem)
     (chain : Chain) (lines : List AuditLine) (index : ℕ) (label : List ℕ) (id : ComponentId)
     (keyid : List ℕ) → IsTrue (list_all is_byte text) → SpellsRecording text items
     → AreItemsOf items chain → IsReport conf chain lines → AcceptsChange lines index label id keyid
-    → (hop : PlacedHop) × (params : SigParams) × (tag : List ℕ)
+    → HasTagOfTwo conf chain index label keyid
+
+-- At the hop after the message of this index the label's signature is kept exactly where the
+-- message after it has the signature, with one base over both.
+abbrev pub IsKeptWithItsBaseAt : Configuration → Chain → ℕ → List ℕ → Fate → Type 0
+IsKeptWithItsBaseAt conf chain index label fate =
+    (hop : PlacedHop) × (params : SigParams) × (tag : List ℕ)
     × (slice_get (places_of chain) index ≡ Some hop) × HasSignature hop.before label params tag
-    × IsTagOfTwo conf keyid (context_for conf hop.before chain.related) hop.after params tag
+    × ((fate ≡ Kept) ↔ (HasSignature hop.after label params tag
+    × HasSameBase (context_for conf hop.before chain.related) hop.after params))
+
+-- So it is with the fate of each label's line in the report on a recording.
+abbrev pub IsKeptWithItsBaseAtHops : Type 0
+IsKeptWithItsBaseAtHops = (conf : Configuration) (text : List ℕ) (items : List PlacedItem)
+    (chain : Chain) (lines : List AuditLine) (index : ℕ) (label : List ℕ) (permitted : Bool)
+    (fate : Fate) → IsTrue (list_all is_byte text) → SpellsRecording text items
+    → AreItemsOf items chain → IsReport conf chain lines
+    → Contains lines (LabelLine (index + 1) label permitted fate)
+    → IsKeptWithItsBaseAt conf chain index label fate

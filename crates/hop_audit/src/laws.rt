@@ -1,6 +1,6 @@
 //! Laws of audits. Each function does nothing; its contract is the law.
 
-ghost use Rattle.hop_audit.specs.Laws.{IsKeptWithItsBase, KeepsFate, AreChainOrNot, AreOneChain, HasOneFate, HasSomeFate, HaveAuditOrFault, HaveNoFaultWhereAudited, HaveOneAudit, HaveOneFault, HaveOneOrderFault, KeepsWhatIsPermitted, TellsWhatChanged, TellsWhatChangedAtHops};
+ghost use Rattle.hop_audit.specs.Laws.{IsKeptWithItsBase, IsKeptWithItsBaseAtHops, KeepsFate, AreChainOrNot, AreOneChain, HasOneFate, HasSomeFate, HaveAuditOrFault, HaveNoFaultWhereAudited, HaveOneAudit, HaveOneFault, HaveOneOrderFault, KeepsWhatIsPermitted, TellsWhatChanged, TellsWhatChangedAtHops};
 
 /// Items are one chain, or there is one place where they aren't in its order.
 pub fn items_are_a_chain_or_not()
@@ -32,9 +32,10 @@ pub fn what_is_permitted_is_kept()
 
 /// A signature is kept exactly where the other message has it and it has one base over both. Where
 /// a component has changed and the signature is accepted in both messages, its tag is the HMAC of
-/// two bases; so it is where a report on a recording says so.
+/// two bases. So it is with the lines of a report on a recording.
 pub fn one_tag_tells_one_base()
     ensures kept { IsKeptWithItsBase }
+    ensures kept_line { IsKeptWithItsBaseAtHops }
     ensures changed { TellsWhatChanged }
-    ensures report { TellsWhatChangedAtHops }
+    ensures changed_line { TellsWhatChangedAtHops }
 {}

@@ -37,4 +37,4 @@ pub use laws::{
 };
 pub use limits::MAX_HOPS;
 pub use line::{AuditLine, AuditReport, Fate};
-pub use line_text::append_report;
+pub use line_text::{append_report, finds_fault};

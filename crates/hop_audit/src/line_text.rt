@@ -1,6 +1,6 @@
 //! The text of a report. Each function adds its part at the end of the text.
 
-ghost use Rattle.std.specs.Prelude.{◌≡◌, ◌++◌, OnOk, IfOk, IsTrue};
+ghost use Rattle.std.specs.Prelude.{◌≡◌, ◌++◌, OnOk, IsTrue};
 ghost use Rattle.component_ids.specs.Identifiers.{id_text, is_id_in_range};
 ghost use Rattle.hop_audit.specs.Lines.{are_lines_in_range, explanation_text, fate_text, finds_fault, is_counted, is_fate_in_range, is_line_in_range, line_text, report_text};
 
@@ -120,18 +120,22 @@ fn counts(line: &AuditLine) -> bool
     }
 }
 
-/// Adds the lines of a report, and answers whether one of them counts against the chain: a verdict
-/// that isn't `ok`, a hop that isn't explained, a label that isn't read, a hop that isn't
-/// permitted, or a signature that isn't kept.
-pub fn append_report(alloc: Global, lines: &[AuditLine], text: &mut Text) -> Result<bool, Memory>
-    requires { IsTrue (are_lines_in_range lines.now) }
-    ensures { IfOk result (λ found. (found ≡ finds_fault lines.now)
-        × (text.new ≡ text.old ++ report_text lines.now)) }
+/// Whether a line of the report counts against the chain: a verdict that isn't `ok`, a hop that
+/// isn't explained, a label that isn't read, a hop that isn't permitted, or a signature that isn't
+/// kept.
+pub fn finds_fault(lines: &[AuditLine]) -> bool
+    ensures { result ≡ finds_fault lines.now }
 {
-    let mut found = false;
+    lines.iter().any(counts)
+}
+
+/// Adds the lines of a report.
+pub fn append_report(alloc: Global, lines: &[AuditLine], text: &mut Text) -> Result<(), Memory>
+    requires { IsTrue (are_lines_in_range lines.now) }
+    ensures { OnOk result (text.new ≡ text.old ++ report_text lines.now) }
+{
     for line in lines {
         append_line(alloc, line, text)?;
-        found |= counts(line);
     }
-    Ok(found)
+    Ok(())
 }

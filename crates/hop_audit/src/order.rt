@@ -63,7 +63,7 @@ impl<'i, 'r> Items<'i, 'r> {
             Some(item) => ChainFault::Order(item.offset),
             None => match self.items.last() {
                 Some(item) => ChainFault::Order(item.offset),
-                None => ChainFault::Order(0),
+                None => unreachable!(),
             },
         }
     }

@@ -26,8 +26,8 @@ impl Absorb for FedText {
 }
 
 impl FedText {
-    ghost use Rattle.std.specs.Prelude.{◌≡◌, [], ℕ, List, IfOk};
-    ghost use Rattle.sfv_text.specs.Fed.{HasFed};
+    ghost use Rattle.std.specs.Prelude.{◌≡◌, [], ℕ, List, IfOk, IfErr};
+    ghost use Rattle.sfv_text.specs.Fed.{HasFed, LacksPiece};
 
     /// Nothing was fed yet. It takes no memory.
     pub fn new(alloc: Global) -> FedText
@@ -39,9 +39,10 @@ impl FedText {
         }
     }
 
-    /// The text that was fed.
+    /// The text that was fed. It takes no memory.
     pub fn into_text(self) -> Result<Text, Memory>
-        ensures { (text : List ℕ) → HasFed self text → IfOk result (λ own. own ≡ text) }
+        ensures fed { (text : List ℕ) → HasFed self text → IfOk result (λ own. own ≡ text) }
+        ensures short { IfErr result (λ _. LacksPiece self) }
     {
         if self.is_short {
             return Err(Memory);

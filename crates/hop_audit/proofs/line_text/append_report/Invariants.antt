@@ -1,6 +1,6 @@
 use Rattle.std.proofs.Common.{◌≡◌, ◌++◌, take}
-use Rattle.hop_audit.specs.Lines.{finds_fault, report_text}
+use Rattle.hop_audit.specs.Lines.{report_text}
 use Rattle.hop_audit.proofs.line_text.append_report.Given as goal
 
 abbrev pub invariant-loop-line : goal.invariant-loop-line
-invariant-loop-line l = (l.found ≡ finds_fault (take l.line-index l.lines)) × (l.text ≡ l.initial.text ++ report_text (take l.line-index l.lines))
+invariant-loop-line l = l.text ≡ l.initial.text ++ report_text (take l.line-index l.lines)
