@@ -5,7 +5,7 @@ use Rattle.std.specs.Str.{bytes_eq}
 use Rattle.std.specs.Str.Parse.{digits_value}
 use Rattle.sfv_text.specs.Keys.{value_of}
 use Rattle.sfv_text.specs.declared.pair.Pair.{Pair}
-use Rattle.command_line.specs.Command.{CommandLine, Help, Version, Base, Verify, Sign, Rewrite, Audit, BaseWords, VerifyWords, SignWords, RewriteWords, AuditWords, IsCommand, SpellsBase, SpellsVerify, SpellsSign, SpellsRewrite, SpellsAudit}
+use Rattle.command_line.specs.Command.{CommandLine, Help, Version, Base, Verify, Sign, Rewrite, Audit, Sample, BaseWords, VerifyWords, SignWords, RewriteWords, AuditWords, SampleWords, IsCommand, SpellsBase, SpellsVerify, SpellsSign, SpellsRewrite, SpellsAudit, SpellsSample}
 use Rattle.command_line.specs.Laws.{HasOneCommand}
 use Rattle.command_line.specs.Options.{words_of}
 
@@ -56,6 +56,13 @@ after_base : List (List ℕ) → CommandLine
 after_base [] = Help
 after_base (params ∷ words) = Base (base_in params (options_in words))
 
+sample_in : List ℕ → List ℕ → SampleWords
+sample_in seed count = record { seed = digits_value 10 seed; count = digits_value 10 count }
+
+after_sample : List (List ℕ) → CommandLine
+after_sample (seed ∷ count ∷ []) = Sample (sample_in seed count)
+after_sample words = Help
+
 -- a command by its name
 after : List ℕ → List (List ℕ) → CommandLine
 after name words =
@@ -64,7 +71,8 @@ after name words =
     else (if bytes_eq name (codes "sign") then Sign (sign_in (options_in words))
     else (if bytes_eq name (codes "rewrite") then Rewrite (rewrite_in (options_in words))
     else (if bytes_eq name (codes "audit") then Audit (audit_in (options_in words))
-    else (if bytes_eq name (codes "--version") then Version else Help)))))
+    else (if bytes_eq name (codes "sample") then after_sample words
+    else (if bytes_eq name (codes "--version") then Version else Help))))))
 
 read : List (List ℕ) → CommandLine
 read [] = Help
@@ -118,8 +126,12 @@ audit_is arguments audit a =
     let conf : audit.conf ≡ word_of a.options (codes "--conf") = word_is a.options (codes "--conf") audit.conf a.conf_is in
     λ i. record { conf = conf i }
 
+sample_is : (arguments : List (List ℕ)) (sample : SampleWords) (a : SpellsSample arguments sample) → sample ≡ sample_in a.seed a.count
+unfolding sample_in
+sample_is arguments sample a = λ i. record { seed = a.seed_is.1 i; count = a.count_is.1 i }
+
 is_read : (arguments : List (List ℕ)) (command : CommandLine) → IsCommand arguments command → read arguments ≡ command
-unfolding read after after_base
+unfolding read after after_base after_sample
 is_read arguments Help a = ap read a
 is_read arguments Version a = ap read a
 is_read arguments (Base words) a = ap read a.joined
@@ -132,6 +144,7 @@ is_read arguments (Rewrite words) a = ap read a.joined
     ∙ (ap (λ (options : List (Pair (List ℕ))). Rewrite (rewrite_in options)) (are_in a.words a.options a.are.joined) ∙ ap Rewrite (sym (rewrite_is arguments words a)))
 is_read arguments (Audit words) a = ap read a.joined
     ∙ (ap (λ (options : List (Pair (List ℕ))). Audit (audit_in options)) (are_in a.words a.options a.are.joined) ∙ ap Audit (sym (audit_is arguments words a)))
+is_read arguments (Sample words) a = ap read a.joined ∙ ap Sample (sym (sample_is arguments words a))
 
 pub one_command : HasOneCommand
 one_command arguments one other a b = sym (is_read arguments one a) ∙ is_read arguments other b

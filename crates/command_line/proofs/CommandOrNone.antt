@@ -1,15 +1,18 @@
 -- Arguments spell some command or none.
 use Rattle.std.proofs.Common.{◌≡◌, ◌⊎◌, ℕ, Bool, true, false, ◌&&◌, List, [], ◌∷◌, Option, Some, None, inl, inr, refl, sym, ap, subst, ◌∙◌}
-use Rattle.std.specs.Prelude.{codes, IsSomeAnd}
+use Rattle.std.proofs.Common.{◌≤◌, arith}
+use Rattle.std.specs.Prelude.{codes, nat_le, IsSomeAnd}
 use Rattle.std.specs.List.{list_all}
 use Rattle.std.specs.Str.{bytes_eq}
 use Rattle.std.specs.Str.Parse.{digits_value}
 use Rattle.std.proofs.lemmas.Bool.{cases_Bool, and_parts, false≢true}
+use Rattle.std.proofs.lemmas.Bool.Decides.{nat_tests}
 use Rattle.std.proofs.lemmas.Slice.Eq.{bytes_eq-Decides}
 use Rattle.sfv_text.specs.Keys.{have_distinct_keys, value_of}
 use Rattle.sfv_text.specs.declared.pair.Pair.{Pair}
-use Rattle.command_line.specs.Command.{Help, Version, Base, Verify, Sign, Rewrite, Audit, BaseWords, VerifyWords, SignWords, RewriteWords, AuditWords, NoCommand, SpellsBase, SpellsVerify, SpellsSign, SpellsRewrite, SpellsAudit}
+use Rattle.command_line.specs.Command.{Help, Version, Base, Verify, Sign, Rewrite, Audit, Sample, BaseWords, VerifyWords, SignWords, RewriteWords, AuditWords, SampleWords, NoCommand, SpellsBase, SpellsVerify, SpellsSign, SpellsRewrite, SpellsAudit, SpellsSample}
 use Rattle.command_line.specs.Laws.{HasCommandOrNone}
+use Rattle.command_line.specs.Numbers.{is_number, IsCount, IsSeed}
 use Rattle.command_line.specs.Options.{may_have, takes, words_of, AreOptions}
 use Rattle.command_line.specs.declared.options.CommandName.{CommandName}
 use Rattle.command_line.specs.declared.options.CommandName.TheVariants as name
@@ -284,19 +287,70 @@ audit_with words options are = elim (has_word (value_of options (codes "--conf")
 audit_of : (words : List (List ℕ)) → SomeOrNone (SpellsAudit (codes "audit" ∷ words))
 audit_of words = with_or_none (SpellsAudit (codes "audit" ∷ words)) name.Audit words (λ audit is. (is.options, audit_are words audit is)) (audit_with words)
 
+-- ---- `sample`
+
+seed_or_none : (word : List ℕ) → SomeOrNone (IsSeed word)
+seed_or_none word = elim (cases_Bool (is_number 9 word)) [
+  | inl is ↦ inl (digits_value 10 word, (is, refl))
+  | inr not ↦ inr (λ seed is. false≢true (sym not ∙ is.0))
+]
+
+few_or_not : (n most : ℕ) → (n ≤ most) ⊎ (n ≤ most → ⊥)
+few_or_not n most = elim (cases_Bool (nat_le n most)) [
+  | inl is ↦ inl (grind (arith, nat_tests))
+  | inr not ↦ inr (λ few. let is : nat_le n most ≡ true = grind (arith, nat_tests) in false≢true (sym not ∙ is))
+]
+
+count_or_none : (word : List ℕ) → SomeOrNone (IsCount word)
+count_or_none word = elim (cases_Bool (is_number 2 word)) [
+  | inr not ↦ inr (λ count is. false≢true (sym not ∙ is.0))
+  | inl is ↦ elim (few_or_not (digits_value 10 word) 64) [
+    | inl few ↦ inl (digits_value 10 word, (is, refl, few))
+    | inr many ↦ inr (λ count counted. many (subst (λ (n : ℕ). n ≤ 64) counted.1 counted.2))
+  ]
+]
+
+sample_words : (words : List (List ℕ)) (sample : SampleWords) (is : SpellsSample (codes "sample" ∷ words) sample) → words ≡ is.seed ∷ is.count ∷ []
+sample_words words sample is = (first_is (codes "sample") (codes "sample") words (is.seed ∷ is.count ∷ []) is.joined).1
+
+sample_with : (seed count : List ℕ) → SomeOrNone (SpellsSample (codes "sample" ∷ seed ∷ count ∷ []))
+sample_with seed count = elim (seed_or_none seed) [
+  | inr none ↦ inr (λ sample is.
+      let same : seed ≡ is.seed = (first_is seed is.seed (count ∷ []) (is.count ∷ []) (sample_words (seed ∷ count ∷ []) sample is)).0 in
+      none sample.seed (subst (λ (word : List ℕ). IsSeed word sample.seed) (sym same) is.seed_is))
+  | inl some ↦ elim (count_or_none count) [
+    | inr none ↦ inr (λ sample is.
+        let others : count ∷ [] ≡ is.count ∷ [] = (first_is seed is.seed (count ∷ []) (is.count ∷ []) (sample_words (seed ∷ count ∷ []) sample is)).1 in
+        let same : count ≡ is.count = (first_is count is.count [] [] others).0 in
+        none sample.count (subst (λ (word : List ℕ). IsCount word sample.count) (sym same) is.count_is))
+    | inl also ↦ inl (
+      record { seed = some.0; count = also.0 },
+      record { seed = seed; count = count; joined = refl; seed_is = some.1; count_is = also.1 },
+    )
+  ]
+]
+
+sample_of : (words : List (List ℕ)) → SomeOrNone (SpellsSample (codes "sample" ∷ words))
+sample_of [] = inr (λ sample is. let e : [] ≡ is.seed ∷ is.count ∷ [] = sample_words [] sample is in absurd cc)
+sample_of (seed ∷ []) = inr (λ sample is. let e : seed ∷ [] ≡ is.seed ∷ is.count ∷ [] = sample_words (seed ∷ []) sample is in absurd cc)
+sample_of (seed ∷ count ∷ []) = sample_with seed count
+sample_of (seed ∷ count ∷ word ∷ more) = inr (λ sample is.
+    let e : seed ∷ count ∷ word ∷ more ≡ is.seed ∷ is.count ∷ [] = sample_words (seed ∷ count ∷ word ∷ more) sample is in absurd cc)
+
 -- ---- any command
 
 none_of : (arguments : List (List ℕ)) → (arguments ≡ codes "--help" ∷ [] → ⊥) → (arguments ≡ codes "--version" ∷ [] → ⊥)
     → ((base : BaseWords) → SpellsBase arguments base → ⊥) → ((verify : VerifyWords) → SpellsVerify arguments verify → ⊥)
     → ((sign : SignWords) → SpellsSign arguments sign → ⊥) → ((rewrite : RewriteWords) → SpellsRewrite arguments rewrite → ⊥)
-    → ((audit : AuditWords) → SpellsAudit arguments audit → ⊥) → NoCommand arguments
-none_of arguments no_help no_version no_base no_verify no_sign no_rewrite no_audit Help is = no_help is
-none_of arguments no_help no_version no_base no_verify no_sign no_rewrite no_audit Version is = no_version is
-none_of arguments no_help no_version no_base no_verify no_sign no_rewrite no_audit (Base words) is = no_base words is
-none_of arguments no_help no_version no_base no_verify no_sign no_rewrite no_audit (Verify words) is = no_verify words is
-none_of arguments no_help no_version no_base no_verify no_sign no_rewrite no_audit (Sign words) is = no_sign words is
-none_of arguments no_help no_version no_base no_verify no_sign no_rewrite no_audit (Rewrite words) is = no_rewrite words is
-none_of arguments no_help no_version no_base no_verify no_sign no_rewrite no_audit (Audit words) is = no_audit words is
+    → ((audit : AuditWords) → SpellsAudit arguments audit → ⊥) → ((sample : SampleWords) → SpellsSample arguments sample → ⊥) → NoCommand arguments
+none_of arguments no_help no_version no_base no_verify no_sign no_rewrite no_audit no_sample Help is = no_help is
+none_of arguments no_help no_version no_base no_verify no_sign no_rewrite no_audit no_sample Version is = no_version is
+none_of arguments no_help no_version no_base no_verify no_sign no_rewrite no_audit no_sample (Base words) is = no_base words is
+none_of arguments no_help no_version no_base no_verify no_sign no_rewrite no_audit no_sample (Verify words) is = no_verify words is
+none_of arguments no_help no_version no_base no_verify no_sign no_rewrite no_audit no_sample (Sign words) is = no_sign words is
+none_of arguments no_help no_version no_base no_verify no_sign no_rewrite no_audit no_sample (Rewrite words) is = no_rewrite words is
+none_of arguments no_help no_version no_base no_verify no_sign no_rewrite no_audit no_sample (Audit words) is = no_audit words is
+none_of arguments no_help no_version no_base no_verify no_sign no_rewrite no_audit no_sample (Sample words) is = no_sample words is
 
 base_or_none : (arguments : List (List ℕ)) → SomeOrNone (SpellsBase arguments)
 base_or_none arguments = named_or_none SpellsBase (codes "base") (λ all base is. (base.params ∷ is.words, is.joined)) base_of arguments
@@ -313,6 +367,9 @@ rewrite_or_none arguments = named_or_none SpellsRewrite (codes "rewrite") (λ al
 audit_or_none : (arguments : List (List ℕ)) → SomeOrNone (SpellsAudit arguments)
 audit_or_none arguments = named_or_none SpellsAudit (codes "audit") (λ all audit is. (is.words, is.joined)) audit_of arguments
 
+sample_or_none : (arguments : List (List ℕ)) → SomeOrNone (SpellsSample arguments)
+sample_or_none arguments = named_or_none SpellsSample (codes "sample") (λ all sample is. (is.seed ∷ is.count ∷ [], is.joined)) sample_of arguments
+
 pub command_or_none : HasCommandOrNone
 command_or_none arguments = elim (word_or_not (codes "--help") arguments) [
   | inl help ↦ inl (Help, help)
@@ -328,7 +385,10 @@ command_or_none arguments = elim (word_or_not (codes "--help") arguments) [
             | inl rewrite ↦ inl (Rewrite rewrite.0, rewrite.1)
             | inr no_rewrite ↦ elim (audit_or_none arguments) [
               | inl audit ↦ inl (Audit audit.0, audit.1)
-              | inr no_audit ↦ inr (none_of arguments no_help no_version no_base no_verify no_sign no_rewrite no_audit)
+              | inr no_audit ↦ elim (sample_or_none arguments) [
+                | inl sample ↦ inl (Sample sample.0, sample.1)
+                | inr no_sample ↦ inr (none_of arguments no_help no_version no_base no_verify no_sign no_rewrite no_audit no_sample)
+              ]
             ]
           ]
         ]

@@ -1,5 +1,5 @@
--- The digits of a moment as a numeral of std.
-use Rattle.std.proofs.Common.{◌≡◌, ◌<◌, ◌≤◌, ◌^◌, ℕ, true, ◌&&◌, refl, List, [], ◌∷◌, length, get_or, arith}
+-- The digits of a moment as a numeral of std, and the numbers of a sample.
+use Rattle.std.proofs.Common.{◌≡◌, ◌<◌, ◌≤◌, ◌^◌, ℕ, true, ◌&&◌, refl, sym, subst, List, [], ◌∷◌, length, get_or, arith}
 use Rattle.std.specs.Prelude.{nat_lt, nat_le}
 use Rattle.std.specs.Char.{digit_value}
 use Rattle.std.specs.List.{list_all}
@@ -9,6 +9,8 @@ use Rattle.std.proofs.lemmas.Bool.Decides.{nat_tests}
 use Rattle.std.proofs.lemmas.Str.{digit_value_digit}
 use Rattle.std.proofs.lemmas.Str.Parse.{IsNumeralModel, without_leading_plus_none, digits_value_short}
 use Rattle.byte_grammar.specs.Classes.{is_digit}
+use Rattle.command_line.specs.Laws.{IsSampleBounded}
+use Rattle.command_line.specs.Numbers.{is_number}
 use Rattle.command_line.specs.Options.{is_moment}
 
 digit_below : (c : ℕ) → is_digit c ≡ true → digit_value c < 10
@@ -60,3 +62,25 @@ is_below word is =
     let rest = and_parts (nat_le (length word) 15) (list_all is_digit word) parts.1 in
     let short : length word ≤ 15 = grind (arith, nat_tests) in
     short_value word (all_digits word rest.1) short
+
+-- ---- the numbers of a sample
+
+-- a number of so many digits is one of at most more digits
+pub is_longer : (most more : ℕ) (word : List ℕ) → most ≤ more → is_number most word ≡ true → is_number more word ≡ true
+is_longer most more word le is =
+    let parts = and_parts (nat_lt 0 (length word)) (nat_le (length word) most && list_all is_digit word) is in
+    let rest = and_parts (nat_le (length word) most) (list_all is_digit word) parts.1 in
+    let short : length word ≤ most = grind (arith, nat_tests) in
+    let shorter : nat_le (length word) more ≡ true = grind (arith, nat_tests) in
+    rw (parts.0, shorter, rest.1) refl
+
+below_digits : (most : ℕ) (word : List ℕ) → is_number most word ≡ true → digits_value 10 word < 10 ^ most
+below_digits most word is =
+    let parts = and_parts (nat_lt 0 (length word)) (nat_le (length word) most && list_all is_digit word) is in
+    let rest = and_parts (nat_le (length word) most) (list_all is_digit word) parts.1 in
+    let short : length word ≤ most = grind (arith, nat_tests) in
+    digits_value_short plain_digits word most (all_digits word rest.1) short
+
+pub sample_bounded : IsSampleBounded
+sample_bounded arguments sample is =
+    (subst (λ (n : ℕ). n < 10 ^ 9) (sym is.seed_is.1) (below_digits 9 is.seed is.seed_is.0), is.count_is.2)

@@ -3,6 +3,7 @@ use Rattle.std.specs.Prelude.{◌≡◌, ◌⊎◌, ◌<◌, ◌^◌, ⊤, ℕ, 
 use Rattle.std.specs.Str.Parse.{digits_value}
 use Rattle.sfv_text.specs.Keys.{value_of}
 use Rattle.sfv_text.specs.declared.pair.Pair.{Pair}
+use Rattle.command_line.specs.Numbers.{IsCount, IsSeed}
 use Rattle.command_line.specs.Options.{is_nonce, AreOptions}
 use Rattle.command_line.specs.declared.options.TheConstants.{MAX_MOMENT_DIGITS}
 use Rattle.command_line.specs.declared.options.CommandName.TheVariants as name
@@ -11,6 +12,7 @@ use Rattle.command_line.specs.declared.command.VerifyWords as verify
 use Rattle.command_line.specs.declared.command.SignWords as sign
 use Rattle.command_line.specs.declared.command.RewriteWords as rewrite
 use Rattle.command_line.specs.declared.command.AuditWords as audit
+use Rattle.command_line.specs.declared.command.SampleWords as sample
 use Rattle.command_line.specs.declared.command.Command.{Command}
 use Rattle.command_line.specs.declared.command.Command.TheVariants as command
 
@@ -50,6 +52,11 @@ pub record RewriteWords : Type 0 where
 pub record AuditWords : Type 0 where
   pub conf : List ℕ
 
+-- the words of `sample`: the seed, and the number of hops
+pub record SampleWords : Type 0 where
+  pub seed : ℕ
+  pub count : ℕ
+
 -- what arguments ask for
 pub data CommandLine : Type 0 where
   -- what the program does
@@ -69,6 +76,8 @@ pub data CommandLine : Type 0 where
   Rewrite : RewriteWords → CommandLine
   -- the report on a recorded chain of messages, by a configuration
   Audit : AuditWords → CommandLine
+  -- the summary of the report on a chain that is drawn from a seed, with so many hops
+  Sample : SampleWords → CommandLine
 
 -- the arguments are `base`, PARAMS and the options of `base`
 pub record SpellsBase (arguments : List (List ℕ)) (base : BaseWords) : Type 0 where
@@ -125,6 +134,14 @@ pub record SpellsAudit (arguments : List (List ℕ)) (audit : AuditWords) : Type
   pub are : AreOptions name.Audit words options
   pub conf_is : value_of options (codes "--conf") ≡ Some audit.conf
 
+-- the arguments are `sample`, the seed and the number of hops
+pub record SpellsSample (arguments : List (List ℕ)) (sample : SampleWords) : Type 0 where
+  pub seed : List ℕ
+  pub count : List ℕ
+  pub joined : arguments ≡ codes "sample" ∷ seed ∷ count ∷ []
+  pub seed_is : IsSeed seed sample.seed
+  pub count_is : IsCount count sample.count
+
 -- the arguments spell the command
 abbrev pub IsCommand : List (List ℕ) → CommandLine → Type 0
 IsCommand arguments Help = arguments ≡ codes "--help" ∷ []
@@ -134,6 +151,7 @@ IsCommand arguments (Verify words) = SpellsVerify arguments words
 IsCommand arguments (Sign words) = SpellsSign arguments words
 IsCommand arguments (Rewrite words) = SpellsRewrite arguments words
 IsCommand arguments (Audit words) = SpellsAudit arguments words
+IsCommand arguments (Sample words) = SpellsSample arguments words
 
 -- the arguments spell no command
 abbrev pub NoCommand : List (List ℕ) → Type 0
@@ -148,6 +166,7 @@ conf_of (Verify words) = Some words.conf
 conf_of (Sign words) = Some words.conf
 conf_of (Rewrite words) = words.conf
 conf_of (Audit words) = Some words.conf
+conf_of (Sample words) = None
 
 -- the file of the request that the input answers
 abbrev pub request_of : CommandLine → Option (List ℕ)
@@ -158,6 +177,7 @@ request_of (Verify words) = words.request
 request_of (Sign words) = words.request
 request_of (Rewrite words) = words.request
 request_of (Audit words) = None
+request_of (Sample words) = None
 
 -- the file of the message that asks for signatures
 abbrev pub wanted_of : CommandLine → Option (List ℕ)
@@ -209,6 +229,10 @@ rewrite_words words = record {
 abbrev pub audit_words : audit.AuditWords → AuditWords
 audit_words words = record { conf = words.conf.now }
 
+-- what the words of `sample` stand for
+abbrev pub sample_words : sample.SampleWords → SampleWords
+sample_words words = record { seed = words.seed; count = words.count }
+
 -- what a command with borrowed words stands for
 abbrev pub line_of : Command → CommandLine
 line_of command.Help = Help
@@ -218,6 +242,7 @@ line_of (command.Verify words) = Verify (verify_words words)
 line_of (command.Sign words) = Sign (sign_words words)
 line_of (command.Rewrite words) = Rewrite (rewrite_words words)
 line_of (command.Audit words) = Audit (audit_words words)
+line_of (command.Sample words) = Sample (sample_words words)
 
 -- the moment is one of at most 15 digits
 abbrev pub IsTimely : CommandLine → Type 0

@@ -1,6 +1,7 @@
 -- Laws of commands.
-use Rattle.std.specs.Prelude.{◌≡◌, ◌⊎◌, ℕ, List}
-use Rattle.command_line.specs.Command.{CommandLine, IsCommand, NoCommand}
+use Rattle.std.specs.Prelude.{◌≡◌, ◌⊎◌, ◌<◌, ◌≤◌, ◌^◌, ℕ, List}
+use Rattle.command_line.specs.Command.{CommandLine, IsCommand, NoCommand, SampleWords, SpellsSample}
+use Rattle.command_line.specs.declared.sample_words.TheConstants.{MAX_SAMPLE_HOPS, MAX_SEED_DIGITS}
 
 -- the arguments spell at most one command
 abbrev pub HasOneCommand : Type 0
@@ -13,3 +14,9 @@ abbrev pub HasCommandOrNone : Type 0
 HasCommandOrNone =
     (arguments : List (List ℕ)) →
     ((command : CommandLine) × IsCommand arguments command) ⊎ NoCommand arguments
+
+-- the seed of a sample is less than any number of more digits, and its hops are at most 64
+abbrev pub IsSampleBounded : Type 0
+IsSampleBounded =
+    (arguments : List (List ℕ)) (sample : SampleWords) → SpellsSample arguments sample
+    → (sample.seed < 10 ^ MAX_SEED_DIGITS) × (sample.count ≤ MAX_SAMPLE_HOPS)

@@ -2,11 +2,11 @@
 use Rattle.std.specs.Prelude.{◌≡◌, ℕ, Bool, true, false, ◌&&◌, nat_lt, nat_le, List, [], ◌∷◌, length, codes, Option, option_map, unwrap_or, IsTrue}
 use Rattle.std.specs.List.{find, flat_map, list_all, list_any}
 use Rattle.std.specs.Str.{bytes_eq}
-use Rattle.byte_grammar.specs.Classes.{is_digit}
 use Rattle.sfv_text.specs.Classes.{is_key, is_string_byte}
 use Rattle.sfv_text.specs.Keys.{have_distinct_keys}
 use Rattle.sfv_text.specs.declared.pair.Pair.{Pair}
 use Rattle.nonces.specs.declared.limits.TheConstants.{MAX_NONCE_BYTES}
+use Rattle.command_line.specs.Numbers.{is_number}
 use Rattle.command_line.specs.declared.options.CommandName.{CommandName}
 use Rattle.command_line.specs.declared.options.CommandName.TheVariants.{Base, Verify, Sign, Rewrite, Audit}
 use Rattle.command_line.specs.declared.options.CommandOption.{CommandOption}
@@ -19,8 +19,7 @@ is_file_name word = nat_lt 0 (length word)
 
 -- 1 to 15 digits, which may begin with zeros
 abbrev pub is_moment : List ℕ → Bool
-is_moment word =
-    nat_lt 0 (length word) && (nat_le (length word) MAX_MOMENT_DIGITS && list_all is_digit word)
+is_moment = is_number MAX_MOMENT_DIGITS
 
 -- 1 to 256 bytes of a String (RFC 9651 section 3.3.3)
 abbrev pub is_nonce : List ℕ → Bool

@@ -5,6 +5,7 @@ ghost use Rattle.command_line.specs.Command.{HasRightNonce, IsCommand, NoCommand
 ghost use Rattle.command_line.specs.tools.After.{IsAfter, NoneAfter};
 
 use crate::options::{CommandName, moment_of, read_options};
+use crate::sample_words::{count_of, seed_of};
 
 /// The words of `base`. They are borrowed.
 #[derive(Clone, Copy, Debug, PartialEq, Eq)]
@@ -65,6 +66,15 @@ pub struct AuditWords<'a> {
     pub conf: &'a str,
 }
 
+/// The words of `sample`: what its digits write.
+#[derive(Clone, Copy, Debug, PartialEq, Eq)]
+pub struct SampleWords {
+    /// From which the sample is drawn, below 1,000,000,000.
+    pub seed: u64,
+    /// How many hops it has, at most 64.
+    pub count: usize,
+}
+
 /// What the arguments ask for.
 #[derive(Clone, Copy, Debug, PartialEq, Eq)]
 pub enum Command<'a> {
@@ -83,6 +93,9 @@ pub enum Command<'a> {
     Rewrite(RewriteWords<'a>),
     /// `audit`: what became of the signatures of a recorded chain of messages, hop by hop.
     Audit(AuditWords<'a>),
+    /// `sample SEED COUNT`: the summary of the report on a chain of COUNT hops that is drawn from
+    /// SEED.
+    Sample(SampleWords),
 }
 
 /// The arguments after the program's name.
@@ -215,6 +228,22 @@ fn read_audit<'a>(words: &'a [String]) -> Option<Command<'a>>
     Some(Command::Audit(AuditWords { conf }))
 }
 
+/// The words after `sample`.
+fn read_sample<'a>(words: &'a [String]) -> Option<Command<'a>>
+    ensures some { IfSome result
+        (λ command. IsAfter (codes "sample") (map string_bytes words.now) (line_of command)) }
+    ensures none { IfNone result (NoneAfter (codes "sample") (map string_bytes words.now)) }
+    ensures timely { IfSome result (λ command. IsTimely (line_of command)) }
+    ensures nonce { IfSome result (λ command. HasRightNonce (line_of command)) }
+{
+    let [seed, count] = words else {
+        return None;
+    };
+    let seed = seed_of(seed.as_str())?;
+    let count = count_of(count.as_str())?;
+    Some(Command::Sample(SampleWords { seed, count }))
+}
+
 /// Reads the arguments after the program's name. It takes no memory.
 pub fn read_words(words: &[String]) -> Option<Command<'_>>
     ensures some { IfSome result
@@ -232,6 +261,7 @@ pub fn read_words(words: &[String]) -> Option<Command<'_>>
         "sign" => read_sign(others),
         "rewrite" => read_rewrite(others),
         "audit" => read_audit(others),
+        "sample" => read_sample(others),
         _ => None,
     }
 }

@@ -8,10 +8,13 @@
 mod command;
 mod laws;
 mod options;
+mod sample_words;
 
 pub use command::{
-    AuditWords, BaseWords, Command, RewriteWords, SignWords, VerifyWords, after_name, read_words,
+    AuditWords, BaseWords, Command, RewriteWords, SampleWords, SignWords, VerifyWords, after_name,
+    read_words,
 };
-pub use laws::{arguments_are_a_command_or_none, arguments_have_one_command};
+pub use laws::{a_sample_is_bounded, arguments_are_a_command_or_none, arguments_have_one_command};
 pub use nonces::MAX_NONCE_BYTES;
 pub use options::MAX_MOMENT_DIGITS;
+pub use sample_words::{MAX_COUNT_DIGITS, MAX_SAMPLE_HOPS, MAX_SEED_DIGITS};

@@ -6,6 +6,7 @@ ghost use Rattle.std.specs.Str.Parse.{digits_value};
 ghost use Rattle.std.specs.List.{list_all};
 ghost use Rattle.byte_grammar.specs.Classes.{is_digit};
 ghost use Rattle.sfv_text.specs.declared.pair.Pair.{Pair};
+ghost use Rattle.command_line.specs.Numbers.{is_number};
 ghost use Rattle.command_line.specs.Options.{is_moment, is_nonce, is_taken_by, option_of, row_of, AreOptions};
 ghost use Rattle.command_line.specs.tools.Found.{word_in, AddsOption, AreFoundBefore, IsNextOption, HasOptions};
 
@@ -67,11 +68,18 @@ fn are_digits(bytes: &[u8]) -> bool
     bytes.iter().all(|byte| byte.is_ascii_digit())
 }
 
+/// Whether the word is a number, in 1 to so many digits.
+pub fn is_number(most: usize, word: &[u8]) -> bool
+    ensures { result ≡ is_number most word.now }
+{
+    !word.is_empty() && word.len() <= most && are_digits(word)
+}
+
 /// Whether the word is a moment: seconds since the epoch, in 1 to 15 digits.
 fn is_moment(word: &[u8]) -> bool
     ensures { result ≡ is_moment word.now }
 {
-    !word.is_empty() && word.len() <= MAX_MOMENT_DIGITS && are_digits(word)
+    is_number(MAX_MOMENT_DIGITS, word)
 }
 
 /// Whether the word is a nonce: 1 to 256 bytes of a String.

@@ -18,6 +18,7 @@ pub mod OneSigning
 pub mod RecordedTexts
 pub mod Rewriting
 pub mod RewrittenMessages
+pub mod Sampled
 pub mod ScriptFiles
 pub mod SignedKeys
 pub mod SignedMessages

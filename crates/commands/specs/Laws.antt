@@ -1,6 +1,7 @@
 -- Laws of what is read, and of what comes of it.
-use Rattle.std.specs.Prelude.{◌≡◌, ⊤, ℕ, IsTrue, List, Option, Some, IsSome}
+use Rattle.std.specs.Prelude.{◌≡◌, ◌⊎◌, ⊤, ℕ, IsTrue, List, Option, Some, IsSome}
 use Rattle.std.specs.FinMap as map
+use Rattle.hms_io.specs.declared.status.Status.TheVariants.{Done, NotOk}
 use Rattle.std.specs.List.{list_all}
 use Rattle.sfv_text.specs.Classes.{is_byte}
 use Rattle.component_ids.specs.declared.id.ComponentId.{ComponentId}
@@ -26,6 +27,8 @@ use Rattle.rewrite_script.specs.Scripts.{HaveValues as HaveStepValues}
 use Rattle.rewrite_script.specs.declared.rewrite.Rewrite.{Rewrite}
 use Rattle.commands.specs.Rewrite.{ReportsRewriting}
 use Rattle.commands.specs.Scripts.{IsScripted, IsScriptRefused}
+use Rattle.commands.specs.Outcome.{status_of}
+use Rattle.commands.specs.Sample.{ReportsSample}
 use Rattle.commands.specs.Sign.{ReportsSigning}
 use Rattle.commands.specs.Tables.{HasTables, IsTableMissing}
 use Rattle.commands.specs.Verify.{ReportsVerdicts}
@@ -115,6 +118,12 @@ HasOneAuditing =
     (conf : Configuration) (input : List ℕ) (one other : Outcome) → ReportsAudit conf input one
     → ReportsAudit conf input other → one ≡ other
 
+-- a seed and a number of hops have at most one outcome of `sample`
+abbrev pub HasOneSampling : Type 0
+HasOneSampling =
+    (seed count : ℕ) (one other : Outcome) → ReportsSample seed count one
+    → ReportsSample seed count other → one ≡ other
+
 -- ---- each has an answer
 
 -- what was found under a name is a configuration, or there is a cause to refuse it
@@ -199,6 +208,12 @@ HasSomeRewritten =
 abbrev pub HasSomeAuditing : Type 0
 HasSomeAuditing =
     (conf : Configuration) (input : List ℕ) → (outcome : Outcome) × ReportsAudit conf input outcome
+
+-- they have an outcome of `sample`, which is what was asked for
+abbrev pub HasSomeSampling : Type 0
+HasSomeSampling =
+    (seed count : ℕ) → (outcome : Outcome) × ReportsSample seed count outcome
+    × ((status_of outcome ≡ Done) ⊎ (status_of outcome ≡ NotOk))
 
 -- lines can write a script that was found
 abbrev pub IsWritableWhereScripted : Type 0

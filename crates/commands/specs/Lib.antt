@@ -11,6 +11,7 @@ pub mod Messages
 pub mod Outcome
 pub mod Rewrite
 pub mod RewrittenMessages
+pub mod Sample
 pub mod Scripts
 pub mod Sign
 pub mod SignedMessages

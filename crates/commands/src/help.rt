@@ -46,6 +46,12 @@ hms: HTTP Message Signatures (RFC 9421) of recorded HTTP/1.1 messages
 
       hms audit --conf conf.toml < chain.rec
 
+  hms sample SEED COUNT
+      The summary of the audit of a made chain: a request that is signed, and
+      COUNT hops, at most 64, that are drawn from SEED. It reads nothing.
+
+      hms sample 7 64
+
   With --request the message is a response, and REQ is the file of the request
   that it answers, from which components with `req` are drawn.
 

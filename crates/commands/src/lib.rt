@@ -4,7 +4,8 @@
 //! `rewrite` writes (section 1.1). Before them come the configuration, the request that the input
 //! answers, the message that wishes signatures, and the script, each in a file or none; the input,
 //! which is to be one whole message; and the context that all give. `audit` writes the report on a
-//! recorded chain of messages, over a configuration and an input that is a recording.
+//! recorded chain of messages, over a configuration and an input that is a recording. `sample`
+//! writes the summary of the report on a chain that is drawn from a seed.
 //!
 //! ```text
 //! let conf = read_configuration(alloc, Some("hms.toml"), &mut shelf)?;
@@ -29,6 +30,7 @@ mod message;
 mod message_file;
 mod outcome;
 mod rewrite;
+mod sample;
 mod script_file;
 mod sign;
 mod stop;
@@ -49,6 +51,7 @@ pub use message_file::{read_taken, take_message};
 pub use msg_body::Reading;
 pub use outcome::Outcome;
 pub use rewrite::write_rewritten;
+pub use sample::write_sample;
 pub use script_file::read_script_file;
 pub use sign::{write_signed, write_wished};
 pub use stop::Stop;

@@ -4,13 +4,14 @@ use Rattle.commands.proofs.Auditing as audits
 use Rattle.commands.proofs.Decided as decided
 use Rattle.commands.proofs.DecidedConf as configured
 use Rattle.commands.proofs.OneOutcome as verdicts
+use Rattle.commands.proofs.Sampled as samples
 use Rattle.commands.proofs.NeededTables as tables
 use Rattle.commands.proofs.OneSigning as signing
 use Rattle.commands.proofs.ScriptFiles as scripts
 use Rattle.commands.proofs.LowerRewriting as rewritten
 use Rattle.commands.proofs.SignedMessages as signed
 use Rattle.commands.proofs.TakenFiles as files
-use Rattle.commands.specs.Laws.{IsConfigurationDecided, AreTablesDecided, IsRequestDecided, IsWantedDecided, IsInputDecided, AreParamsDecided, AreValuesDecided, HaveOneOutcome, HasConfiguration, HaveTables, HasRequest, HasWanted, HasMessage, HaveParams, HaveValuesOrLack, HaveSomeOutcome, HasOneSigning, HasSomeSigning, IsValidWhereConfigured, IsScriptDecided, HasScript, HasOneRewritten, HasSomeRewritten, HaveValuesWhereScripted, IsWritableWhereScripted, HasAudit, HasOneAuditing, HasSomeAuditing}
+use Rattle.commands.specs.Laws.{IsConfigurationDecided, AreTablesDecided, IsRequestDecided, IsWantedDecided, IsInputDecided, AreParamsDecided, AreValuesDecided, HaveOneOutcome, HasConfiguration, HaveTables, HasRequest, HasWanted, HasMessage, HaveParams, HaveValuesOrLack, HaveSomeOutcome, HasOneSigning, HasSomeSigning, IsValidWhereConfigured, IsScriptDecided, HasScript, HasOneRewritten, HasSomeRewritten, HaveValuesWhereScripted, IsWritableWhereScripted, HasAudit, HasOneAuditing, HasSomeAuditing, HasOneSampling, HasSomeSampling}
 use Rattle.hop_audit.proofs.SameVerdicts as reports
 use Rattle.hop_audit.specs.Laws.{KeepsWhatIsPermitted}
 use Rattle.commands.specs.RewrittenMessages.{IsMessageWhereRewritten, HasVerdictWhereRewritten}
@@ -111,6 +112,12 @@ auditing_law = audits.one_auditing
 
 pub auditing_answer : HasSomeAuditing
 auditing_answer = audits.some_auditing
+
+pub sampling_law : HasOneSampling
+sampling_law = samples.one_sampling
+
+pub sampling_answer : HasSomeSampling
+sampling_answer = samples.some_sampling
 
 pub keeps_what_is_permitted : KeepsWhatIsPermitted
 keeps_what_is_permitted = reports.what_is_permitted_is_kept

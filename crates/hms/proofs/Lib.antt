@@ -6,5 +6,7 @@ pub mod Reports
 pub mod SomeReport
 pub mod Sources
 mod AuditedInputs
+mod Meanings
 mod RewrittenInputs
+mod Sampled
 mod SignedInputs

@@ -1,7 +1,7 @@
 -- Arguments, files and an input have one outcome.
 use Rattle.std.proofs.Common.{◌≡◌, List, ℕ, Option, Some, refl, sym, ◌∙◌}
 use Rattle.std.specs.Prelude.{⊤}
-use Rattle.command_line.specs.Command.{CommandLine, Help, Version, Base, Verify, Sign, Rewrite, Audit, IsCommand, NoCommand}
+use Rattle.command_line.specs.Command.{CommandLine, Help, Version, Base, Verify, Sign, Rewrite, Audit, Sample, IsCommand, NoCommand}
 use Rattle.command_line.proofs.CommandLaws.{one_command}
 use Rattle.msg_body.specs.Messages.{Message}
 use Rattle.component_values.specs.Context.{MessageContext}
@@ -23,7 +23,7 @@ use Rattle.rewrite_script.specs.declared.rewrite.Rewrite.{Rewrite as Rewriting}
 use Rattle.hms.specs.Laws.{HasOneReport}
 use Rattle.hms.specs.Commands.{name_of}
 use Rattle.hms.specs.Report.{Answers, ReportsCommand, ReportsMessage, ReportsScript, ReportsWishes, ReportsRequest, ReportsTables, ReportsFiles}
-use Rattle.hms.proofs.CommandLaws.{conf_decided, tables_decided, request_decided, wanted_decided, script_decided, input_decided, params_decided, values_decided, verdicts_law, signing_law, rewriting_law, auditing_law}
+use Rattle.hms.proofs.CommandLaws.{conf_decided, tables_decided, request_decided, wanted_decided, script_decided, input_decided, params_decided, values_decided, verdicts_law, signing_law, rewriting_law, auditing_law, sampling_law}
 use Rattle.hms.proofs.Layers.{HasOne, one_of_layers}
 
 one_cause : (arguments : List (List ℕ)) (c d : ⊤) → NoCommand arguments → NoCommand arguments → c ≡ d
@@ -76,6 +76,7 @@ one_of_command (Sign words) found input =
 one_of_command (Rewrite words) found input =
     one_of_files Nothing (λ conf wishes script. ReportsRewriting words.label script) (λ conf _ wishes script context. rewriting_law words.label script context) (name_of (Rewrite words)) found input
 one_of_command (Audit words) found input = one_of_layers _ _ _ _ (conf_decided (Some words.conf) (found ConfFile)) (λ conf _. auditing_law conf input)
+one_of_command (Sample words) found input = sampling_law words.seed words.count
 
 pub one_report_law : HasOneReport
 one_report_law arguments found input = one_of_layers _ _ _ _ (arguments_decided arguments) (λ command _. one_of_command command found input)

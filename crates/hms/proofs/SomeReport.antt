@@ -4,7 +4,7 @@ use Rattle.std.proofs.Common.{◌≡◌, ◌⊎◌, ◌+◌, inl, inr, ℕ, Bool
 use Rattle.std.specs.Prelude.{⊤, IsTrue, IsSome}
 use Rattle.std.specs.List.{list_all}
 use Rattle.sfv_text.specs.Classes.{is_byte}
-use Rattle.command_line.specs.Command.{CommandLine, Help, Version, Base, Verify, Sign, Rewrite, Audit, IsCommand, NoCommand}
+use Rattle.command_line.specs.Command.{CommandLine, Help, Version, Base, Verify, Sign, Rewrite, Audit, Sample, IsCommand, NoCommand}
 use Rattle.command_line.proofs.CommandOrNone.{command_or_none}
 use Rattle.component_ids.specs.declared.params.SigParams.{SigParams}
 use Rattle.component_values.specs.Context.{MessageContext, answers_head, context_with}
@@ -42,7 +42,7 @@ use Rattle.refusals.specs.declared.refusal.Refusal.{Refusal}
 use Rattle.hms.specs.Laws.{HasSomeReport, IsBaseDone, CanSignEach, IsSignDone, IsRewriteDone, IsServed, HasAll, IsAnswered, IsComplete}
 use Rattle.hms.specs.Commands.{name_of}
 use Rattle.hms.specs.Report.{Answers, ReportsCommand, ReportsFiles}
-use Rattle.hms.proofs.CommandLaws.{conf_answer, tables_answer, request_answer, wanted_answer, script_answer, input_answer, params_answer, values_answer, verdicts_answer, signing_answer, rewriting_answer, auditing_answer, audit_answer, writable_where_scripted, valid_where_configured}
+use Rattle.hms.proofs.CommandLaws.{conf_answer, tables_answer, request_answer, wanted_answer, script_answer, input_answer, params_answer, values_answer, verdicts_answer, signing_answer, rewriting_answer, auditing_answer, audit_answer, sampling_answer, writable_where_scripted, valid_where_configured}
 use Rattle.hms.proofs.Sources.{spelled_input}
 
 -- some outcome
@@ -107,6 +107,7 @@ some_of_command (Rewrite words) found input files bytes =
     some_of_files Nothing (λ conf wishes script. ReportsRewriting words.label script) (name_of (Rewrite words)) found input
     (λ conf _ _ wishes script writable context message. rewriting_answer words.label script context writable message) files bytes
 some_of_command (Audit words) found input files bytes = some_of_layers _ _ _ _ (conf_answer (Some words.conf) (found ConfFile)) (λ conf _. auditing_answer conf input)
+some_of_command (Sample words) found input files bytes = let some = sampling_answer words.seed words.count in (some.0, some.1)
 
 arguments_answer : (arguments : List (List ℕ)) → HasAnswer (IsCommand arguments) (λ (_ : ⊤). NoCommand arguments)
 arguments_answer arguments = elim (command_or_none arguments) [
@@ -200,6 +201,7 @@ command_answered (Rewrite words) found input has =
 command_answered (Audit words) found input has =
     let next = audit_answered has.conf input has.items has.recorded has.none in
     (next.0, inl (has.conf, has.configured, next.1), next.2)
+command_answered (Sample words) found input has = sampling_answer words.seed words.count
 
 pub complete_law : IsComplete
 complete_law arguments command found input is has =

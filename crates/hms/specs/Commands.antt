@@ -2,7 +2,7 @@
 use Rattle.std.specs.Prelude.{◌≡◌, ◌+◌, ◌≤◌, ℕ, Bool, true, IsTrue, List, Option, None}
 use Rattle.hms_io.specs.Files.{FileMap}
 use Rattle.hms_io.specs.Reading.{LosesPrefix}
-use Rattle.command_line.specs.Command.{CommandLine, Help, Version, Base, Verify, Sign, Rewrite, Audit, IsCommand, conf_of, request_of, wanted_of, script_of}
+use Rattle.command_line.specs.Command.{CommandLine, Help, Version, Base, Verify, Sign, Rewrite, Audit, Sample, IsCommand, conf_of, request_of, wanted_of, script_of}
 use Rattle.commands.specs.Files.{FileRole, FileNames, Found, AreFound, file_names, file_count}
 use Rattle.refusals.specs.declared.refusal.TheConstants.{MAX_INPUT_BYTES, MAX_RECORDING_BYTES}
 
@@ -26,6 +26,7 @@ input_use (Verify words) = Whole MAX_INPUT_BYTES
 input_use (Sign words) = Whole MAX_INPUT_BYTES
 input_use (Rewrite words) = Whole MAX_INPUT_BYTES
 input_use (Audit words) = Whole MAX_RECORDING_BYTES
+input_use (Sample words) = Unread
 
 -- what the command comes to is known before anything is written
 abbrev pub is_whole : InputUse → Bool

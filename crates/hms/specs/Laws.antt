@@ -3,7 +3,7 @@ use Rattle.std.specs.Prelude.{◌≡◌, ◌⊎◌, ◌↔◌, ⊤, ℕ, IsTrue,
 use Rattle.std.specs.List.{list_all, list_any}
 use Rattle.hms_io.specs.declared.status.Status.TheVariants.{Done, NotOk}
 use Rattle.sfv_text.specs.Classes.{is_byte}
-use Rattle.command_line.specs.Command.{CommandLine, Help, Version, Base, Verify, Sign, Rewrite, Audit, SignWords, VerifyWords, RewriteWords, AuditWords, IsCommand}
+use Rattle.command_line.specs.Command.{CommandLine, Help, Version, Base, Verify, Sign, Rewrite, Audit, Sample, SignWords, VerifyWords, RewriteWords, AuditWords, IsCommand}
 use Rattle.component_ids.specs.declared.params.SigParams.{SigParams}
 use Rattle.component_values.specs.Context.{MessageContext, context_with}
 use Rattle.component_values.specs.Values.{HaveValues}
@@ -138,6 +138,7 @@ HasAll (Rewrite words) found input =
     IsServed Nothing (name_of (Rewrite words)) found input
     (λ conf wishes script. IsRewriteDone words.label script)
 HasAll (Audit words) found input = IsAuditable words found input
+HasAll (Sample words) found input = ⊤
 
 -- the outcome is what was asked for, and no refusal
 abbrev pub IsAnswered : Outcome → Type 0

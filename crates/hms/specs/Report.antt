@@ -1,7 +1,7 @@
 -- What the program answers for its arguments, what was found in its files, and its input, and for
 -- nothing else.
 use Rattle.std.specs.Prelude.{⊤, ℕ, List, Option}
-use Rattle.command_line.specs.Command.{CommandLine, Help, Version, Base, Verify, Sign, Rewrite, Audit, IsCommand, NoCommand}
+use Rattle.command_line.specs.Command.{CommandLine, Help, Version, Base, Verify, Sign, Rewrite, Audit, Sample, IsCommand, NoCommand}
 use Rattle.msg_body.specs.Messages.{Message}
 use Rattle.component_values.specs.Context.{MessageContext}
 use Rattle.conf.specs.Configuration.{Configuration}
@@ -16,6 +16,7 @@ use Rattle.commands.specs.Messages.{IsInputMessage, IsInputRefused}
 use Rattle.msg_body.specs.WholeTexts.{reading_for}
 use Rattle.commands.specs.MessageFiles.{IsRequested, IsRequestRefused, IsWanted, IsWantedRefused}
 use Rattle.commands.specs.Rewrite.{ReportsRewriting}
+use Rattle.commands.specs.Sample.{ReportsSample}
 use Rattle.commands.specs.Scripts.{IsScripted, IsScriptRefused}
 use Rattle.commands.specs.Sign.{ReportsSigning}
 use Rattle.commands.specs.Tables.{HasTables, IsTableMissing}
@@ -110,6 +111,7 @@ ReportsCommand (Rewrite words) found input =
     (name_of (Rewrite words)) found input
 ReportsCommand (Audit words) found input =
     ReportsConfigured (λ conf. ReportsAudit conf input) (name_of (Audit words)) found
+ReportsCommand (Sample words) found input = ReportsSample words.seed words.count
 
 -- The outcome for these arguments, what was found and this input. The arguments are judged first,
 -- then the configuration, the request, the message that wishes signatures, the script, the input,

@@ -1,4 +1,4 @@
-// A recorded chain that is audited.
+// A recorded chain that is audited, and chains that are made.
 
 use crate::tests::{CONF, CONTENT, INPUT, LENGTH, REQUEST, SIGNATURE, comes_to};
 use hms_io::Status;
@@ -94,6 +94,43 @@ fn is_audited(alloc: Global, row: &Audit) -> Result<bool, Memory> {
 fn recorded_chains_are_audited(rt: HostRuntime) -> Result<(), Fail> {
     for (index, row) in AUDITS.iter().enumerate() {
         assert!(rt; is_audited(rt.alloc(), row)?, "row {index}");
+    }
+    Ok(())
+}
+
+// What the words of `sample` come to.
+struct Sample {
+    words: [&'static str; 3],
+    status: Status,
+    output: &'static [u8],
+}
+
+const SAMPLES: [Sample; 3] = [
+    Sample {
+        words: ["sample", "7", "0"],
+        status: Status::Done,
+        output: b"hops 0\nsteps 0\npermitted 0\nkept 0\nok 1\nlast 100370\n",
+    },
+    Sample {
+        words: ["sample", "7", "1"],
+        status: Status::Done,
+        output: b"hops 1\nsteps 3\npermitted 1\nkept 1\nok 2\nlast 100490\n",
+    },
+    Sample {
+        words: ["sample", "7", "65"],
+        status: Status::BadArguments,
+        output: b"refused words\n",
+    },
+];
+
+fn is_sampled(alloc: Global, row: &Sample) -> Result<bool, Memory> {
+    comes_to(alloc, &row.words, b"", &[], row.status, &[row.output])
+}
+
+#[test]
+fn made_chains_are_audited(rt: HostRuntime) -> Result<(), Fail> {
+    for (index, row) in SAMPLES.iter().enumerate() {
+        assert!(rt; is_sampled(rt.alloc(), row)?, "row {index}");
     }
     Ok(())
 }

@@ -1,6 +1,7 @@
 //! Laws of what the program answers. Each function does nothing; its contract is the law.
 
 ghost use Rattle.hms.specs.Laws.{HasOneReport, HasSomeReport, IsComplete, IsAcceptedWhereSigned, IsVerdictKept, IsKeptWherePermitted};
+ghost use Rattle.hms.specs.Meanings.{HasOneBase, HasOneChain};
 
 /// For given arguments, files and input there is one outcome, and so one status and one output. So
 /// each row of the report is exact: its status and its output come there and nowhere else, out of
@@ -36,4 +37,17 @@ pub fn what_is_rewritten_keeps_its_verdict()
 /// messages have one moment, it has the same verdict in both.
 pub fn what_is_permitted_is_kept()
     ensures { IsKeptWherePermitted }
+{}
+
+/// What `base` writes is the signature base of the parameters that were asked for and of the values
+/// that the input has for the components, and of no others.
+pub fn a_base_has_one_meaning()
+    ensures { HasOneBase }
+{}
+
+/// What `audit` writes says that a label is kept exactly where the message after the hop has its
+/// signature, and one base is over both messages. Where a label is accepted on both sides of a hop
+/// that changed a component, its tag is the HMAC of two texts.
+pub fn what_is_kept_has_one_base()
+    ensures { HasOneChain }
 {}

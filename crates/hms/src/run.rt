@@ -5,6 +5,7 @@ ghost use Rattle.hms_io.specs.Files.{KeepsFiles};
 ghost use Rattle.command_line.specs.Command.{NoCommand};
 ghost use Rattle.hms.specs.Commands.{NamesNoFile, ReadsNoInput, ReadsWhole, AsksForNamed, ReadsFew};
 ghost use Rattle.hms.specs.Ends.{HasReport, Ends, CountsFaults, CountsReads};
+ghost use Rattle.hms.specs.Meanings.{WritesOneBase, WritesOneChain};
 ghost use Rattle.refusals.specs.declared.refusal.Refusal.TheVariants.{Arguments};
 ghost use Rattle.commands.specs.declared.stop.Stop.TheVariants.{Refused};
 ghost use Rattle.commands.specs.Stops.{IfOutcome};
@@ -13,7 +14,7 @@ ghost use Rattle.hms.specs.tools.Parts.{CountsOne};
 use crate::over_message::over_files;
 use crate::over_recording::over_recording;
 use command_line::{Command, read_words};
-use commands::{Outcome, Stop, write_help, write_version};
+use commands::{Outcome, Stop, write_help, write_sample, write_version};
 use hms_io::{Failed, Shelf, Sink, Source, Status, put_all};
 use refusals::Refusal;
 use std::alloc::Global;
@@ -89,6 +90,7 @@ fn run_command<F: Shelf, S: Source>(
             source,
         ),
         Command::Audit(words) => over_recording(alloc, &words, shelf, source),
+        Command::Sample(words) => write_sample(alloc, words.seed, words.count),
     }
 }
 
@@ -108,6 +110,13 @@ pub fn run<F: Shelf, S: Source, K: Sink>(
         → Ends (map string_bytes arguments.now) (F.files shelf.old)
         (source.new ≡ source.old) (S.left source.old) (S.left source.new)
         (K.taken out.old) (K.taken out.new) result }
+
+    // What `base` and `audit` wrote tells what it was made of: equal bases have equal parameters
+    // and values, and what is kept at a hop has one base on both sides of it.
+    ensures base { WritesOneBase (map string_bytes arguments.now) (F.files shelf.old)
+        (S.left source.old) (K.taken out.old) (K.taken out.new) result }
+    ensures audit { WritesOneChain (map string_bytes arguments.now) (F.files shelf.old)
+        (S.left source.old) (K.taken out.old) (K.taken out.new) result }
 
     // Where the arguments are no command, or one without an input, the source isn't read, and where
     // they name no file, none is asked for. The files stay as they are.

@@ -1,5 +1,8 @@
-use Rattle.std.proofs.Common.{◌≡◌, map, string_bytes, ◌∙◌, refl, inl, inr}
+use Rattle.std.proofs.Common.{◌≡◌, map, string_bytes, ◌∙◌, refl, inl, inr, subst}
+use Rattle.hms_io.specs.declared.status.Status.{Status}
+use Rattle.hms.specs.Ends.{Ends}
 use Rattle.hms.proofs.Reports.{counts_no_read, counts_no_write, failed_outcome, written_outcome}
+use Rattle.hms.proofs.Meanings.{all_read_whole, writes_one_base, writes_one_chain}
 use Rattle.hms.proofs.run.run.Goals.{in-Ok, in-Err-Refused}
 use Rattle.hms.proofs.run.run.Goals as goal
 
@@ -46,3 +49,44 @@ returns-clause-ends g c = λ whole. elim c.match-run_command.branch [
       (g.K.Sink.taken c.args.out.now) (g.K.Sink.taken c.put_all.new.sink) c.match-run_command.outcome c.bytes.result.now
       (let told = rw w.in-Err-Refused.field-0-is at w.in-Err-Refused.ensures.report in rw w.outcome-is told) (c.bytes.ensures ∙ c.in-Ok-into_output.ensures) c.in-Err.ensures.prefix
 ]
+
+-- ---- what is told
+
+pub returns-in-Ok-put_all-clause-base : goal.returns-in-Ok-put_all-clause-base
+returns-in-Ok-put_all-clause-base g c =
+    let arguments = map string_bytes c.args.arguments.now in
+    writes_one_base arguments (g.F.Shelf.files c.args.shelf.now) (c.run_command.new.source ≡ c.args.source.now) (g.S.Source.left c.args.source.now) (g.S.Source.left c.run_command.new.source)
+    (g.K.Sink.taken c.args.out.now) (g.K.Sink.taken c.put_all.new.sink) c.status-status.result
+    (λ done. subst (λ (s : Status). Ends arguments (g.F.Shelf.files c.args.shelf.now) (c.run_command.new.source ≡ c.args.source.now) (g.S.Source.left c.args.source.now)
+    (g.S.Source.left c.run_command.new.source) (g.K.Sink.taken c.args.out.now) (g.K.Sink.taken c.put_all.new.sink) s) done
+    (returns-in-Ok-put_all-clause-ends g c (all_read_whole arguments)))
+
+pub returns-in-Ok-put_all-clause-audit : goal.returns-in-Ok-put_all-clause-audit
+returns-in-Ok-put_all-clause-audit g c =
+    let arguments = map string_bytes c.args.arguments.now in
+    writes_one_chain arguments (g.F.Shelf.files c.args.shelf.now) (c.run_command.new.source ≡ c.args.source.now) (g.S.Source.left c.args.source.now) (g.S.Source.left c.run_command.new.source)
+    (g.K.Sink.taken c.args.out.now) (g.K.Sink.taken c.put_all.new.sink) c.status-status.result
+    (λ done. subst (λ (s : Status). Ends arguments (g.F.Shelf.files c.args.shelf.now) (c.run_command.new.source ≡ c.args.source.now) (g.S.Source.left c.args.source.now)
+    (g.S.Source.left c.run_command.new.source) (g.K.Sink.taken c.args.out.now) (g.K.Sink.taken c.put_all.new.sink) s) done
+    (returns-in-Ok-put_all-clause-ends g c (all_read_whole arguments)))
+    (λ failed. subst (λ (s : Status). Ends arguments (g.F.Shelf.files c.args.shelf.now) (c.run_command.new.source ≡ c.args.source.now) (g.S.Source.left c.args.source.now)
+    (g.S.Source.left c.run_command.new.source) (g.K.Sink.taken c.args.out.now) (g.K.Sink.taken c.put_all.new.sink) s) failed
+    (returns-in-Ok-put_all-clause-ends g c (all_read_whole arguments)))
+
+pub returns-in-Err-ReadFault-clause-base : goal.returns-in-Err-ReadFault-clause-base
+returns-in-Err-ReadFault-clause-base g c = λ words is done. absurd (cc done)
+
+pub returns-in-Err-Memory-clause-base : goal.returns-in-Err-Memory-clause-base
+returns-in-Err-Memory-clause-base g c = λ words is done. absurd (cc done)
+
+pub returns-clause-base : goal.returns-clause-base
+returns-clause-base g c = λ words is done. absurd (cc done)
+
+pub returns-in-Err-ReadFault-clause-audit : goal.returns-in-Err-ReadFault-clause-audit
+returns-in-Err-ReadFault-clause-audit g c = λ words is done. elim done [ inl e ↦ absurd (cc e) | inr e ↦ absurd (cc e) ]
+
+pub returns-in-Err-Memory-clause-audit : goal.returns-in-Err-Memory-clause-audit
+returns-in-Err-Memory-clause-audit g c = λ words is done. elim done [ inl e ↦ absurd (cc e) | inr e ↦ absurd (cc e) ]
+
+pub returns-clause-audit : goal.returns-clause-audit
+returns-clause-audit g c = λ words is done. elim done [ inl e ↦ absurd (cc e) | inr e ↦ absurd (cc e) ]

@@ -1,7 +1,10 @@
 use Rattle.std.proofs.Common.{◌≡◌, ◌+◌, ◌≤◌, map, string_bytes, refl, Ok}
-use Rattle.command_line.specs.Command.{CommandLine, Help, Version, Base, Verify, Sign, Rewrite, Audit, base_words, verify_words, sign_words, rewrite_words, audit_words, line_of}
+use Rattle.command_line.specs.Command.{CommandLine, Help, Version, Base, Verify, Sign, Rewrite, Audit, Sample, base_words, verify_words, sign_words, rewrite_words, audit_words, sample_words, line_of}
 use Rattle.commands.specs.Files.{Conf, Request, Script, file_count}
 use Rattle.hms.specs.Commands.{input_use, name_of, LosesFew}
+use Rattle.command_line.proofs.Moments.{sample_bounded}
+use Rattle.hms.proofs.Sampled.{sampled}
+use Rattle.hms.proofs.Sources.{none_gone}
 use Rattle.hms.proofs.Reports.{alone, never_read, never, no_command, none_named, nothing_named, of_command, spelled}
 use Rattle.hms.proofs.run.run_command.Goals as goal
 
@@ -138,3 +141,23 @@ returns-in-Audit-clause-unread g c = λ none. never_read _ (none (Audit (audit_w
 
 pub returns-in-Audit-clause-unasked : goal.returns-in-Audit-clause-unasked
 returns-in-Audit-clause-unasked g c = λ named. never c.in-Audit.words.conf.now (named (Audit (audit_words c.in-Audit.words)) (rw c.in-Audit.is at c.in-Some.ensures.some) Conf)
+
+pub write_sample-requires-clause-seed : goal.write_sample-requires-clause-seed
+write_sample-requires-clause-seed g c =
+    (sample_bounded (map string_bytes c.args.arguments.now) (sample_words c.in-Sample.words) (rw c.in-Sample.is at c.in-Some.ensures.some)).0
+
+pub write_sample-requires-clause-count : goal.write_sample-requires-clause-count
+write_sample-requires-clause-count g c =
+    (sample_bounded (map string_bytes c.args.arguments.now) (sample_words c.in-Sample.words) (rw c.in-Sample.is at c.in-Some.ensures.some)).1
+
+pub returns-in-Sample-clause-report : goal.returns-in-Sample-clause-report
+returns-in-Sample-clause-report g c =
+    spelled (map string_bytes c.args.arguments.now) (Sample (sample_words c.in-Sample.words)) (rw c.in-Sample.is at c.in-Some.ensures.some) (g.F.Shelf.files c.args.shelf.now)
+    (c.args.source.now ≡ c.args.source.now) (g.S.Source.left c.args.source.now) (g.S.Source.left c.args.source.now) c.write_sample.result
+    (sampled (sample_words c.in-Sample.words) (g.F.Shelf.files c.args.shelf.now) (c.args.source.now ≡ c.args.source.now) (g.S.Source.left c.args.source.now) (g.S.Source.left c.args.source.now) refl c.write_sample.result
+    c.write_sample.ensures.report)
+
+pub returns-in-Sample-clause-few : goal.returns-in-Sample-clause-few
+returns-in-Sample-clause-few g c =
+    of_command (λ (line : CommandLine). LosesFew (input_use line) (g.S.Source.left c.args.source.now) (g.S.Source.left c.args.source.now))
+    (map string_bytes c.args.arguments.now) (Sample (sample_words c.in-Sample.words)) (rw c.in-Sample.is at c.in-Some.ensures.some) (none_gone 0 (g.S.Source.left c.args.source.now) (g.S.Source.left c.args.source.now) refl)

@@ -1,0 +1,12 @@
+use Rattle.std.proofs.Common.{◌∙◌, rules, tests}
+use Rattle.std.proofs.lemmas.Iterator.{YieldsList-from_slice}
+use Rattle.std.proofs.lemmas.Iterator.Consumers.{YieldsList-from_filter, count_from_yields_List}
+use Rattle.std.proofs.lemmas.List.Sums.{length-filter}
+use Rattle.samples.specs.Summary.{is_kept_line}
+use Rattle.samples.proofs.summary.count_kept.Goals as goal
+
+pub returns : goal.returns
+returns c =
+    count_from_yields_List c.filter.result c.count.result c.count.ensures.ran
+    (YieldsList-from_filter _ is_kept_line (YieldsList-from_slice c.args.lines.now (cc)) c.filter.ensures.closure (λ x b q k. search (rules, tests)))
+    ∙ length-filter is_kept_line c.args.lines.now
