@@ -1,4 +1,4 @@
--- What the program's output tells of the messages that it was given (RFC 9421 sections 2.5 and 3.2).
+-- What the program's output tells of the messages that it was given (RFC 9421 sections 2.5, 3.2).
 use Rattle.std.specs.Prelude.{◌≡◌, ◌⊎◌, ◌↔◌, ℕ, ◌+◌, Bool, IsTrue, List, Option, Some, IfSome}
 use Rattle.std.specs.Io.KnownBytes.{Appends}
 use Rattle.std.specs.List.{Contains, list_all}
@@ -64,10 +64,10 @@ HasOneBase =
 
 -- ---- `audit`
 
--- The output is the report on the chain that the input records. A label's fate is kept exactly where
--- the message after the hop has the label with the same parameters and tag, and both bases are the
--- same text. Where a label is accepted before and after a hop and one of its components has changed,
--- two bases have one HMAC.
+-- The output is the report on the chain that the input records. A label's fate is kept exactly
+-- where the message after the hop has the label with the same parameters and tag, and both bases
+-- are the same text. Where a label is accepted before and after a hop and one of its components has
+-- changed, two bases have one HMAC.
 pub record TellsOneChain (words : AuditWords) (found : Found) (input output : List ℕ)
     : Type 0 where
   pub conf : Configuration

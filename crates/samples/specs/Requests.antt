@@ -24,7 +24,10 @@ content_of seed = map (λ j. (j + seed) % 256) (range_with_len 0 content_bytes)
 
 -- the head of the unsigned request, and the line of its one chunk
 abbrev pub request_head : List ℕ
-request_head = codes "POST /sample HTTP/1.1\r\nHost: sample.example\r\nDate: Tue, 20 Apr 2021 02:07:55 GMT\r\nTransfer-Encoding: chunked\r\n\r\n186a0\r\n"
+request_head =
+    codes "POST /sample HTTP/1.1\r\nHost: sample.example\r\n"
+    ++ (codes "Date: Tue, 20 Apr 2021 02:07:55 GMT\r\n"
+    ++ codes "Transfer-Encoding: chunked\r\n\r\n186a0\r\n")
 
 -- the unsigned request
 abbrev pub request_text : ℕ → List ℕ

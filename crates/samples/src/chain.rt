@@ -59,7 +59,7 @@ fn item(body: ItemBody<'_>) -> Item<'_>
     Item { offset: 0, body }
 }
 
-/// The items of the chain: a moment, the first message, and for each hop its script and its message.
+/// The items of the chain: a moment, the first message, and for each hop its script and message.
 fn items_of<'t>(
     alloc: Global,
     first: &'t Text,

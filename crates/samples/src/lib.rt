@@ -6,7 +6,7 @@
 //! let summary = sample(alloc, 7, 1)?;
 //! summary.steps     // 3
 //! summary.kept      // 1
-//! append_summary(alloc, &summary, &mut text)?; // hops 1, steps 3, permitted 1, kept 1, ok 2, last 100490
+//! append_summary(alloc, &summary, &mut text)?; // hops 1, steps 3, permitted 1, kept 1, ok 2, ..
 //! ```
 #![tactic(auto)]
 
