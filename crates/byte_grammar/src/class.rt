@@ -14,7 +14,7 @@ pub trait ByteClass: Copy {
 }
 
 /// The class of one byte.
-#[derive(Clone, Copy, Debug, PartialEq, Eq)]
+#[derive(Clone, Copy, PartialEq, Eq)]
 pub struct Byte(pub u8);
 
 impl ByteClass for Byte {
@@ -28,7 +28,7 @@ impl ByteClass for Byte {
 }
 
 /// The classes that several formats share.
-#[derive(Clone, Copy, Debug, PartialEq, Eq)]
+#[derive(Clone, Copy, PartialEq, Eq)]
 pub enum Class {
     /// DIGIT: RFC 5234 appendix B.1.
     Digit,

@@ -9,7 +9,7 @@ ghost use Rattle.byte_grammar.specs.Walk.{byte_read, run_length, run_read, all_r
 use crate::class::ByteClass;
 
 /// A reader stopped with so many bytes left.
-#[derive(Clone, Copy, Debug, PartialEq, Eq)]
+#[derive(Clone, Copy, PartialEq, Eq)]
 pub struct Left(pub usize);
 
 /// Reads one byte of the class. Where there is none, no byte is read.

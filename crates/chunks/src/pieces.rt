@@ -7,7 +7,7 @@ use crate::view::ChunkSpan;
 use std::marker::Model;
 
 /// The data of the chunks that are left, in order. A contract sees it as these chunks.
-#[derive(Debug, Drop)]
+#[derive(Drop)]
 pub struct ChunkPieces<'v, 'm> {
     bytes: &'m [u8],
     spans: &'v [ChunkSpan],

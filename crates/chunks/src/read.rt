@@ -16,7 +16,7 @@ use byte_grammar::Left;
 use std::alloc::{AllocError, AllocFailed, Global};
 
 /// What the bytes begin with.
-#[derive(Debug, Drop)]
+#[derive(Drop)]
 pub enum ChunksRead<'m> {
     /// Chunks, and how many bytes spell them, the line of the last one and its CRLF included.
     Whole(ChunksView<'m>, usize),

@@ -10,7 +10,7 @@ use std::marker::Model;
 
 /// Where a chunk is, by offsets from where the chunks begin. After its line and after its data
 /// is CRLF.
-#[derive(Clone, Copy, Debug, PartialEq, Eq)]
+#[derive(Clone, Copy)]
 pub struct ChunkSpan {
     /// Where its line begins.
     pub line: usize,
@@ -22,7 +22,7 @@ pub struct ChunkSpan {
 
 /// Chunks, borrowed from their bytes. A contract sees them as the bytes and the offsets of the
 /// chunks, of which the chunks that they spell are a function.
-#[derive(Debug, Drop)]
+#[derive(Drop)]
 pub struct ChunksView<'m> {
     bytes: &'m [u8],
     spans: Vec<ChunkSpan>,

@@ -1,4 +1,5 @@
 pub mod CommandLaws
 pub mod CommandOrNone
+pub mod CommandWords
 pub mod Moments
 pub mod OptionLists

@@ -8,7 +8,7 @@ use crate::options::{CommandName, moment_of, read_options};
 use crate::sample_words::{count_of, seed_of};
 
 /// The words of `base`. They are borrowed.
-#[derive(Clone, Copy, Debug, PartialEq, Eq)]
+#[derive(Clone, Copy)]
 pub struct BaseWords<'a> {
     /// An Inner List as a member of a `Signature-Input` field is (RFC 9421 section 4.1).
     pub params: &'a str,
@@ -19,7 +19,7 @@ pub struct BaseWords<'a> {
 }
 
 /// The words of `verify`. They are borrowed.
-#[derive(Clone, Copy, Debug, PartialEq, Eq)]
+#[derive(Clone, Copy)]
 pub struct VerifyWords<'a> {
     /// The file of the configuration.
     pub conf: &'a str,
@@ -32,7 +32,7 @@ pub struct VerifyWords<'a> {
 }
 
 /// The words of `sign`. They are borrowed.
-#[derive(Clone, Copy, Debug, PartialEq, Eq)]
+#[derive(Clone, Copy)]
 pub struct SignWords<'a> {
     /// The file of the configuration.
     pub conf: &'a str,
@@ -47,7 +47,7 @@ pub struct SignWords<'a> {
 }
 
 /// The words of `rewrite`. They are borrowed.
-#[derive(Clone, Copy, Debug, PartialEq, Eq)]
+#[derive(Clone, Copy)]
 pub struct RewriteWords<'a> {
     /// The file of the script.
     pub script: &'a str,
@@ -60,14 +60,14 @@ pub struct RewriteWords<'a> {
 }
 
 /// The words of `audit`. They are borrowed.
-#[derive(Clone, Copy, Debug, PartialEq, Eq)]
+#[derive(Clone, Copy)]
 pub struct AuditWords<'a> {
     /// The file of the configuration.
     pub conf: &'a str,
 }
 
 /// The words of `sample`: what its digits write.
-#[derive(Clone, Copy, Debug, PartialEq, Eq)]
+#[derive(Clone, Copy)]
 pub struct SampleWords {
     /// From which the sample is drawn, below 1,000,000,000.
     pub seed: u64,
@@ -76,7 +76,7 @@ pub struct SampleWords {
 }
 
 /// What the arguments ask for.
-#[derive(Clone, Copy, Debug, PartialEq, Eq)]
+#[derive(Clone, Copy)]
 pub enum Command<'a> {
     /// `--help`: what the program does.
     Help,
@@ -113,8 +113,6 @@ fn read_help<'a>(words: &'a [String]) -> Option<Command<'a>>
     ensures some { IfSome result
         (λ command. IsAfter (codes "--help") (map string_bytes words.now) (line_of command)) }
     ensures none { IfNone result (NoneAfter (codes "--help") (map string_bytes words.now)) }
-    ensures timely { IfSome result (λ command. IsTimely (line_of command)) }
-    ensures nonce { IfSome result (λ command. HasRightNonce (line_of command)) }
 {
     if words.is_empty() {
         Some(Command::Help)
@@ -128,8 +126,6 @@ fn read_version<'a>(words: &'a [String]) -> Option<Command<'a>>
     ensures some { IfSome result
         (λ command. IsAfter (codes "--version") (map string_bytes words.now) (line_of command)) }
     ensures none { IfNone result (NoneAfter (codes "--version") (map string_bytes words.now)) }
-    ensures timely { IfSome result (λ command. IsTimely (line_of command)) }
-    ensures nonce { IfSome result (λ command. HasRightNonce (line_of command)) }
 {
     if words.is_empty() {
         Some(Command::Version)
@@ -143,8 +139,6 @@ fn read_base<'a>(words: &'a [String]) -> Option<Command<'a>>
     ensures some { IfSome result
         (λ command. IsAfter (codes "base") (map string_bytes words.now) (line_of command)) }
     ensures none { IfNone result (NoneAfter (codes "base") (map string_bytes words.now)) }
-    ensures timely { IfSome result (λ command. IsTimely (line_of command)) }
-    ensures nonce { IfSome result (λ command. HasRightNonce (line_of command)) }
 {
     let (params, words) = words.split_first()?;
     let found = read_options(CommandName::Base, words)?;
@@ -160,8 +154,6 @@ fn read_verify<'a>(words: &'a [String]) -> Option<Command<'a>>
     ensures some { IfSome result
         (λ command. IsAfter (codes "verify") (map string_bytes words.now) (line_of command)) }
     ensures none { IfNone result (NoneAfter (codes "verify") (map string_bytes words.now)) }
-    ensures timely { IfSome result (λ command. IsTimely (line_of command)) }
-    ensures nonce { IfSome result (λ command. HasRightNonce (line_of command)) }
 {
     let found = read_options(CommandName::Verify, words)?;
     let conf = found.conf?;
@@ -179,8 +171,6 @@ fn read_sign<'a>(words: &'a [String]) -> Option<Command<'a>>
     ensures some { IfSome result
         (λ command. IsAfter (codes "sign") (map string_bytes words.now) (line_of command)) }
     ensures none { IfNone result (NoneAfter (codes "sign") (map string_bytes words.now)) }
-    ensures timely { IfSome result (λ command. IsTimely (line_of command)) }
-    ensures nonce { IfSome result (λ command. HasRightNonce (line_of command)) }
 {
     let found = read_options(CommandName::Sign, words)?;
     let conf = found.conf?;
@@ -202,8 +192,6 @@ fn read_rewrite<'a>(words: &'a [String]) -> Option<Command<'a>>
     ensures some { IfSome result
         (λ command. IsAfter (codes "rewrite") (map string_bytes words.now) (line_of command)) }
     ensures none { IfNone result (NoneAfter (codes "rewrite") (map string_bytes words.now)) }
-    ensures timely { IfSome result (λ command. IsTimely (line_of command)) }
-    ensures nonce { IfSome result (λ command. HasRightNonce (line_of command)) }
 {
     let found = read_options(CommandName::Rewrite, words)?;
     let script = found.script?;
@@ -220,8 +208,6 @@ fn read_audit<'a>(words: &'a [String]) -> Option<Command<'a>>
     ensures some { IfSome result
         (λ command. IsAfter (codes "audit") (map string_bytes words.now) (line_of command)) }
     ensures none { IfNone result (NoneAfter (codes "audit") (map string_bytes words.now)) }
-    ensures timely { IfSome result (λ command. IsTimely (line_of command)) }
-    ensures nonce { IfSome result (λ command. HasRightNonce (line_of command)) }
 {
     let found = read_options(CommandName::Audit, words)?;
     let conf = found.conf?;
@@ -233,8 +219,6 @@ fn read_sample<'a>(words: &'a [String]) -> Option<Command<'a>>
     ensures some { IfSome result
         (λ command. IsAfter (codes "sample") (map string_bytes words.now) (line_of command)) }
     ensures none { IfNone result (NoneAfter (codes "sample") (map string_bytes words.now)) }
-    ensures timely { IfSome result (λ command. IsTimely (line_of command)) }
-    ensures nonce { IfSome result (λ command. HasRightNonce (line_of command)) }
 {
     let [seed, count] = words else {
         return None;
@@ -242,6 +226,25 @@ fn read_sample<'a>(words: &'a [String]) -> Option<Command<'a>>
     let seed = seed_of(seed.as_str())?;
     let count = count_of(count.as_str())?;
     Some(Command::Sample(SampleWords { seed, count }))
+}
+
+/// The words after a name.
+fn read_named<'a>(name: &str, words: &'a [String]) -> Option<Command<'a>>
+    ensures some { IfSome result
+        (λ command. IsAfter name.now (map string_bytes words.now) (line_of command)) }
+    ensures none { IfNone result (NoneAfter name.now (map string_bytes words.now)) }
+{
+    match name {
+        "--help" => read_help(words),
+        "--version" => read_version(words),
+        "base" => read_base(words),
+        "verify" => read_verify(words),
+        "sign" => read_sign(words),
+        "rewrite" => read_rewrite(words),
+        "audit" => read_audit(words),
+        "sample" => read_sample(words),
+        _ => None,
+    }
 }
 
 /// Reads the arguments after the program's name. It takes no memory.
@@ -253,15 +256,5 @@ pub fn read_words(words: &[String]) -> Option<Command<'_>>
     ensures nonce { IfSome result (λ command. HasRightNonce (line_of command)) }
 {
     let (name, others) = words.split_first()?;
-    match name.as_str() {
-        "--help" => read_help(others),
-        "--version" => read_version(others),
-        "base" => read_base(others),
-        "verify" => read_verify(others),
-        "sign" => read_sign(others),
-        "rewrite" => read_rewrite(others),
-        "audit" => read_audit(others),
-        "sample" => read_sample(others),
-        _ => None,
-    }
+    read_named(name.as_str(), others)
 }

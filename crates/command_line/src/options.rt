@@ -17,7 +17,7 @@ use sfv_text::{are_string_bytes, is_key};
 pub const MAX_MOMENT_DIGITS: usize = 15;
 
 /// The commands with options.
-#[derive(Clone, Copy, Debug, PartialEq, Eq)]
+#[derive(Clone, Copy)]
 pub enum CommandName {
     /// `base`.
     Base,
@@ -32,7 +32,7 @@ pub enum CommandName {
 }
 
 /// The options.
-#[derive(Clone, Copy, Debug, PartialEq, Eq)]
+#[derive(Clone, Copy)]
 pub enum CommandOption {
     /// `--conf`: the file of the configuration.
     Conf,
@@ -126,10 +126,10 @@ impl CommandOption {
             CommandOption::Conf => true,
             CommandOption::Now => matches!(command, CommandName::Verify | CommandName::Sign),
             CommandOption::Label => matches!(command, CommandName::Verify | CommandName::Rewrite),
-            CommandOption::Request => command != CommandName::Audit,
-            CommandOption::Nonce => command == CommandName::Sign,
-            CommandOption::Wanted => command == CommandName::Sign,
-            CommandOption::Script => command == CommandName::Rewrite,
+            CommandOption::Request => !matches!(command, CommandName::Audit),
+            CommandOption::Nonce => matches!(command, CommandName::Sign),
+            CommandOption::Wanted => matches!(command, CommandName::Sign),
+            CommandOption::Script => matches!(command, CommandName::Rewrite),
         }
     }
 

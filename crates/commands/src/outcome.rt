@@ -9,7 +9,7 @@ use sfv_text::{Memory, Text};
 use std::alloc::Global;
 
 /// What a run comes to.
-#[derive(Debug, Drop)]
+#[derive(Drop)]
 pub enum Outcome {
     /// What was asked for, which is the whole output.
     Done(Text),

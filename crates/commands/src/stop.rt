@@ -19,7 +19,7 @@ use signatures::LabelFault;
 use signing::WantFault;
 
 /// What ends a run before it is done.
-#[derive(Debug, Drop)]
+#[derive(Drop)]
 pub enum Stop {
     /// No memory was found.
     Memory,

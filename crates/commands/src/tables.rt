@@ -14,7 +14,7 @@ use sfv_text::Text;
 use std::alloc::Global;
 
 /// What a command needs of its configuration.
-#[derive(Clone, Copy, Debug, PartialEq, Eq)]
+#[derive(Clone, Copy, PartialEq, Eq)]
 pub enum Needs {
     /// No table.
     Nothing,

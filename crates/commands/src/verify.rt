@@ -8,7 +8,7 @@ ghost use Rattle.signatures.specs.Fields.{AreFieldsOf};
 ghost use Rattle.verdicts.specs.Readings.{AreReadFor};
 ghost use Rattle.verdicts.specs.Verification.{IsAt, model_of};
 ghost use Rattle.commands.specs.Verify.{AreAsked, ReportsVerdicts};
-ghost use Rattle.commands.specs.tools.Verdicts.{WritesVerdict, ReportsLabels};
+ghost use Rattle.commands.specs.tools.Verdicts.{AreLinesSoFar, WritesVerdict, ReportsLabels};
 
 use crate::outcome::Outcome;
 use component_values::Context;
@@ -47,8 +47,36 @@ fn write_line<L: Ledger>(
     })
 }
 
-/// The lines of the labels, in order, each judged as the first label is said to be. Steps are
-/// counted and the count is let go.
+/// Adds the lines of the labels, in order, each judged as the first label is said to be. It answers
+/// whether all are accepted.
+fn add_lines<'x, L: Ledger>(
+    alloc: Global,
+    first: &Verification<'x, '_, '_>,
+    fields: &SignatureFields,
+    labels: &'x [Text],
+    readings: &mut LabelReadings,
+    steps: &mut Steps<L>,
+    lines: &mut Text,
+) -> Result<bool, Memory>
+    requires fields { AreFieldsOf (model_of first.now).context.message fields.now }
+    requires now { (model_of first.now).now ≤ MAX_MOMENT }
+    requires seen { (model_of first.now).seen ≡ None }
+    requires readings { AreReadFor (model_of first.now).context readings.old }
+    requires lines { lines.old ≡ [] }
+    ensures { IfOk result (AreLinesSoFar (model_of first.entry.now).conf
+        (model_of first.entry.now).now (model_of first.entry.now).context labels.now lines.new) }
+{
+    let mut all_accepted = true;
+    for label in labels {
+        let verification = first.of_label(label.bytes());
+        let is_accepted = write_line(alloc, fields, readings, &verification, lines, steps)?;
+        all_accepted &= is_accepted;
+    }
+    Ok(all_accepted)
+}
+
+/// The lines of the labels, over nothing that was read before. Steps are counted and the count is
+/// let go.
 fn write_lines<'x, L: Ledger>(
     alloc: Global,
     first: &Verification<'x, '_, '_>,
@@ -68,19 +96,15 @@ fn write_lines<'x, L: Ledger>(
     let mut steps: Steps<L> = Steps::new(blank);
     let mut readings = LabelReadings::new(alloc);
     let mut lines = Text::new(alloc);
-    let mut all_accepted = true;
-    for label in labels {
-        let verification = first.of_label(label.bytes());
-        let is_accepted = write_line(
-            alloc,
-            fields,
-            &mut readings,
-            &verification,
-            &mut lines,
-            &mut steps,
-        )?;
-        all_accepted &= is_accepted;
-    }
+    let all_accepted = add_lines(
+        alloc,
+        first,
+        fields,
+        labels,
+        &mut readings,
+        &mut steps,
+        &mut lines,
+    )?;
     Ok(if all_accepted {
         Outcome::Done(lines)
     } else {

@@ -29,7 +29,7 @@ mod types;
 pub use fault::{BadReason, IdFault};
 pub use id::{ComponentId, Ids};
 pub use laws::{a_list_has_one_answer, sameness_is_tested};
-pub use params::{MAX_COMPONENTS, SigParams, read_params};
+pub use params::{MAX_COMPONENTS, SigParams, copy_of_ids, is_string_key, read_params};
 pub use params_text::{ParamsText, print_params};
 pub use print::print_id;
 pub use same::same_id;

@@ -16,15 +16,19 @@ ghost use Rattle.component_ids.specs.Table.{is_listed};
 use crate::fault::IdFault;
 use crate::id::{ComponentId, Ids};
 use crate::read_ids::read_ids;
+use byte_grammar::is_listed;
 use sfv_text::{BareItem, InnerList, Memory, Pair, Params};
 use std::alloc::Global;
 
 /// How many covered components signature parameters have at most. RFC 9421 sets no limit.
 pub const MAX_COMPONENTS: usize = 64;
 
+/// The keys of parameters that are Strings.
+const STRING_KEYS: [&[u8]; 4] = [b"nonce", b"alg", b"keyid", b"tag"];
+
 /// Signature parameters (RFC 9421 section 2.3): the covered components, and the parameters of the
 /// signature.
-#[derive(Debug, Drop)]
+#[derive(Drop)]
 pub struct SigParams {
     /// At most `MAX_COMPONENTS`, no two of them the same.
     pub ids: Ids,
@@ -32,7 +36,8 @@ pub struct SigParams {
     pub params: Params,
 }
 
-fn copy_of_ids(alloc: Global, ids: &[ComponentId]) -> Result<Ids, Memory>
+/// Equal identifiers of their own.
+pub fn copy_of_ids(alloc: Global, ids: &[ComponentId]) -> Result<Ids, Memory>
     ensures { IfOk result (λ copies. copies ≡ ids.now) }
 {
     let mut copies = Ids::with_capacity(alloc, ids.len())?;
@@ -54,11 +59,11 @@ impl SigParams {
     }
 }
 
-/// Whether a parameter of the key has to be a String.
-fn is_string_key(key: &[u8]) -> bool
+/// Whether a parameter of the key has to be a String (RFC 9421 section 2.3).
+pub fn is_string_key(key: &[u8]) -> bool
     ensures { result ≡ is_listed string_keys key.now }
 {
-    matches!(key, b"nonce" | b"alg" | b"keyid" | b"tag")
+    is_listed(&STRING_KEYS, key)
 }
 
 fn is_typed(param: &Pair<BareItem>) -> bool

@@ -18,7 +18,7 @@ use std::marker::Model;
 const MOSTLY: usize = 256;
 
 /// Where an identifier is in the text of signature parameters, in offsets from its first byte.
-#[derive(Clone, Copy, Debug)]
+#[derive(Clone, Copy)]
 pub(crate) struct IdSpan {
     /// The offset of the first byte.
     begin: usize,
@@ -28,7 +28,7 @@ pub(crate) struct IdSpan {
 
 /// The strict text of signature parameters (RFC 9421 section 2.3), and where the text of each
 /// covered identifier is in it. A contract sees the whole text, and those of the identifiers.
-#[derive(Debug, Drop)]
+#[derive(Drop)]
 pub struct ParamsText {
     text: Text,
     spans: Vec<IdSpan>,

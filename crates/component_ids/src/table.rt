@@ -79,20 +79,20 @@ fn row_of(name: &[u8]) -> Option<Row>
     None
 }
 
-fn is_field_key(key: &[u8]) -> bool
-    ensures { result ≡ is_listed (row_keys Row.Field) key.now }
-{
-    matches!(key, b"sf" | b"key" | b"bs" | b"tr" | b"req")
-}
+/// The keys of the parameters of a field.
+const FIELD_KEYS: [&[u8]; 5] = [b"sf", b"key", b"bs", b"tr", b"req"];
+
+/// The keys of the parameters of `@query-param`.
+const QUERY_PARAM_KEYS: [&[u8]; 2] = [b"name", b"req"];
 
 /// Whether a parameter of the key goes with the names of the row.
 fn allows(row: Row, key: &[u8]) -> bool
     ensures { result ≡ is_listed (row_keys row) key.now }
 {
     match row {
-        Row::Field => is_field_key(key),
+        Row::Field => is_listed(&FIELD_KEYS, key),
         Row::Request => key == b"req".as_slice(),
-        Row::QueryParam => matches!(key, b"name" | b"req"),
+        Row::QueryParam => is_listed(&QUERY_PARAM_KEYS, key),
         Row::Status => false,
     }
 }
@@ -103,12 +103,16 @@ fn has_unknown(row: Row, params: &Params) -> bool
     params.iter().any(|param| !allows(row, param.key.bytes()))
 }
 
+/// The keys of the parameters that are Strings.
+const STRING_KEYS: [&[u8]; 2] = [b"key", b"name"];
+
 fn has_value_type(param: &Pair<BareItem>) -> bool
     ensures { result ≡ has_value_type param.now }
 {
-    match param.key.bytes() {
-        b"key" | b"name" => matches!(param.value, BareItem::Str(_)),
-        _ => matches!(param.value, BareItem::Bool(true)),
+    if is_listed(&STRING_KEYS, param.key.bytes()) {
+        matches!(param.value, BareItem::Str(_))
+    } else {
+        matches!(param.value, BareItem::Bool(true))
     }
 }
 

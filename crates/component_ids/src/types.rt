@@ -10,7 +10,7 @@ use std::collections::BTreeMap;
 use std::marker::Model;
 
 /// The kind of structured field that a field name is defined as (RFC 9651 section 3).
-#[derive(Clone, Copy, Debug, PartialEq, Eq)]
+#[derive(Clone, Copy, PartialEq, Eq)]
 pub enum FieldKind {
     /// An Item (section 3.3).
     Item,
@@ -22,7 +22,7 @@ pub enum FieldKind {
 
 /// Which fields are structured, and how, by their names in lower case. No message says it: an
 /// application has to know it (RFC 9421 section 2.1.1).
-#[derive(Debug, Drop)]
+#[derive(Drop)]
 pub struct Types {
     kinds: BTreeMap<Vec<u8>, FieldKind>,
     alloc: Global,
@@ -51,11 +51,19 @@ impl Types {
             kinds: BTreeMap::new(alloc),
             alloc,
         };
-        types.add(b"content-digest", FieldKind::Dictionary)?;
-        types.add(b"accept-signature", FieldKind::Dictionary)?;
-        types.add(b"signature", FieldKind::Dictionary)?;
-        types.add(b"signature-input", FieldKind::Dictionary)?;
+        types.add_standard()?;
         Ok(types)
+    }
+
+    /// Adds those that are standard.
+    fn add_standard(&mut self) -> Result<(), Memory>
+        requires { self.old ≡ map.empty }
+        ensures { OnOk result (self.new ≡ standard_types) }
+    {
+        self.add(b"content-digest", FieldKind::Dictionary)?;
+        self.add(b"accept-signature", FieldKind::Dictionary)?;
+        self.add(b"signature", FieldKind::Dictionary)?;
+        self.add(b"signature-input", FieldKind::Dictionary)
     }
 
     /// Gives the name, which is to be in lower case, this kind, in place of an earlier one.

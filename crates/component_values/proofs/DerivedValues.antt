@@ -1,5 +1,5 @@
 -- The value of a derived component is printable ASCII.
-use Rattle.std.proofs.Common.{◌≡◌, ℕ, Bool, true, false, List, [], ◌∷◌, ◌++◌, length, ◌==◌, Option, Some, None, Ok, Err, inl, inr, refl, ◌∙◌, arith}
+use Rattle.std.proofs.Common.{◌≡◌, ℕ, true, List, [], ◌∷◌, ◌++◌, length, ◌==◌, Option, Some, None, Ok, Err, inl, inr, refl, ◌∙◌, arith}
 use Rattle.std.specs.Prelude.{option_map, unwrap_or, ok_or, IfSome, codes}
 use Rattle.std.specs.Char.{to_ascii_lowercase, is_ascii_alphanumeric}
 use Rattle.std.specs.List.{list_all}

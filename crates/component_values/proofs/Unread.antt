@@ -1,5 +1,5 @@
 -- Texts that aren't read, and members of Dictionaries.
-use Rattle.std.proofs.Common.{◌≡◌, ℕ, List, Some, Result, Ok, Err, refl, sym, ap, subst, ◌∙◌}
+use Rattle.std.proofs.Common.{◌≡◌, ℕ, List, Some, Result, Ok, Err, refl, sym, ap, ◌∙◌}
 use Rattle.std.specs.Prelude.{IsTrue}
 use Rattle.std.specs.List.{list_all}
 use Rattle.std.proofs.lemmas.Bool.{and_parts}
@@ -15,7 +15,6 @@ use Rattle.sfv_text.specs.Range.{is_dict_member_in_range, is_key, is_member_in_r
 use Rattle.sfv_read.specs.Reads.{ReadsDict}
 use Rattle.sfv_read.proofs.InRange.{dict_read_in_range}
 use Rattle.derived_values.specs.declared.lack.Lack.{Lack}
-use Rattle.derived_values.specs.declared.lack.Lack.TheVariants.{Unreadable}
 use Rattle.component_values.specs.Values.{StrictRow, MemberRow}
 use Rattle.component_values.specs.Readings.{DictRow}
 use Rattle.derived_values.specs.Answers.{AnswersRow, no_value_of}
@@ -29,10 +28,6 @@ pub unread : {V : Type 0} (Reads : List ℕ → V → Type 0) (strict : V → Li
 unread Reads strict text Memory none = tt
 unread Reads strict text (Syntax offset) none = (refl, none)
 unread Reads strict text (ItemKind offset) none = (refl, none)
-
--- what is joined reads as no Dictionary where the text doesn't
-pub unread_dict : (text joined : List ℕ) → text ≡ joined → ((dict : List (Pair Member)) → ¬ ReadsDict text dict) → DictRow joined (Err Unreadable)
-unread_dict text joined is none = (refl, λ dict reads. none dict (subst (λ (t : List ℕ). ReadsDict t dict) (sym is) reads))
 
 -- a text that reads as no Dictionary has no member
 pub no_dict : (key text : List ℕ) (lack : Lack) → DictRow text (Err lack) → MemberRow key text (Err lack)

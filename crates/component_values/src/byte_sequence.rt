@@ -12,7 +12,7 @@ use msg_head::LineView;
 use sfv_text::Absorb;
 
 /// The bytes that wait for a group of three.
-#[derive(Clone, Copy, Debug, Drop)]
+#[derive(Clone, Copy, Drop)]
 pub(crate) enum Carry {
     /// No byte waits.
     Nothing,

@@ -19,38 +19,63 @@ pub(crate) fn side_of(params: &Params) -> Side
     }
 }
 
+/// A field of a context. Its name is borrowed.
+#[derive(Clone, Copy)]
+pub(crate) struct FieldRef<'a> {
+    /// Whether it is a field of the related request (RFC 9421 section 2.4).
+    of_related: bool,
+    /// The side of its lines.
+    side: Side,
+    /// Its name, in lower case.
+    name: &'a [u8],
+}
+
+impl<'a> FieldRef<'a> {
+    ghost use Rattle.std.specs.Prelude.{◌≡◌, IfOk};
+    ghost use Rattle.component_values.specs.Readings.{field_of};
+    ghost use Rattle.component_values.specs.tools.Rows.{field_meant};
+
+    /// The field that the component is drawn from.
+    pub(crate) fn of(id: &'a ComponentId) -> FieldRef<'a>
+        ensures { field_meant result ≡ field_of id.now }
+    {
+        FieldRef {
+            of_related: has_param(&id.params, b"req"),
+            side: side_of(&id.params),
+            name: id.name.bytes(),
+        }
+    }
+
+    /// The field, with a name of its own.
+    pub(crate) fn copy(self, alloc: Global) -> Result<ContextField, Memory>
+        ensures { IfOk result (λ field. field ≡ field_meant self.entry) }
+    {
+        Ok(ContextField {
+            of_related: self.of_related,
+            side: self.side,
+            name: Text::from_bytes(alloc, self.name)?,
+        })
+    }
+}
+
 /// A field of a context.
 #[derive(Drop)]
 pub(crate) struct ContextField {
-    /// Whether it is a field of the related request (RFC 9421 section 2.4).
-    pub(crate) of_related: bool,
-    /// The side of its lines.
-    pub(crate) side: Side,
-    /// Its name, in lower case.
-    pub(crate) name: Text,
+    of_related: bool,
+    side: Side,
+    name: Text,
 }
 
 impl ContextField {
-    ghost use Rattle.std.specs.Prelude.{◌≡◌, ◌↔◌, IfOk, IsTrue};
-    ghost use Rattle.component_values.specs.Readings.{field_of};
-
-    /// The field that the component is drawn from.
-    pub(crate) fn of(alloc: Global, id: &ComponentId) -> Result<ContextField, Memory>
-        ensures { IfOk result (λ field. field ≡ field_of id.now) }
-    {
-        Ok(ContextField {
-            of_related: has_param(&id.params, b"req"),
-            side: side_of(&id.params),
-            name: id.name.copy(alloc)?,
-        })
-    }
+    ghost use Rattle.std.specs.Prelude.{◌≡◌, ◌↔◌, IsTrue};
+    ghost use Rattle.component_values.specs.tools.Rows.{field_meant};
 
     /// Whether both are one field.
-    pub(crate) fn is(&self, other: &ContextField) -> bool
-        ensures { IsTrue result ↔ (self.now ≡ other.now) }
+    pub(crate) fn is(&self, other: FieldRef<'_>) -> bool
+        ensures { IsTrue result ↔ (self.now ≡ field_meant other.entry) }
     {
         self.of_related == other.of_related
             && self.side == other.side
-            && self.name.bytes() == other.name.bytes()
+            && self.name.bytes() == other.name
     }
 }

@@ -1,15 +1,16 @@
 //! What was read of a context.
 
-ghost use Rattle.std.specs.Prelude.{◌≡◌, IfSome};
+ghost use Rattle.std.specs.Prelude.{◌≡◌, ◌++◌, ◌∷◌, [], IfSome, OnErr, OnOk};
 ghost use Rattle.std.specs.List.{Contains};
+ghost use Rattle.component_values.specs.tools.Rows.{field_meant};
 
 use crate::context::Context;
-use crate::context_field::ContextField;
+use crate::context_field::{ContextField, FieldRef};
 use crate::strict::{copied_text, dict_answer, member_in, strict_answer};
 use component_ids::{ComponentId, FieldKind};
 use derived_values::{Lack, NoValue};
 use msg_head::NamedFieldLines;
-use sfv_text::{Dict, Sequence, Text};
+use sfv_text::{Dict, Memory, Sequence, Text};
 use std::alloc::Global;
 use targets::QueryParams;
 
@@ -23,10 +24,10 @@ pub(crate) struct FieldAnswer<T> {
 /// What the field comes to, where that is among these.
 fn answer_for<'k, T>(
     answers: &'k [FieldAnswer<T>],
-    field: &ContextField,
+    field: FieldRef<'_>,
 ) -> Option<&'k Result<T, Lack>>
     ensures { IfSome result (λ answer.
-        Contains answers.now (record { field = field.now; answer = answer.now })) }
+        Contains answers.now (record { field = field_meant field.entry; answer = answer.now })) }
 {
     for own in answers {
         if own.field.is(field) {
@@ -34,6 +35,21 @@ fn answer_for<'k, T>(
         }
     }
     None
+}
+
+/// Keeps what the field comes to.
+fn keep<T: Drop>(
+    alloc: Global,
+    field: FieldRef<'_>,
+    answer: Result<T, Lack>,
+    answers: &mut Sequence<FieldAnswer<T>>,
+) -> Result<(), Memory>
+    ensures ok { OnOk result (answers.new
+        ≡ answers.old ++ record { field = field_meant field.entry; answer = answer } ∷ []) }
+    ensures err { OnErr result (answers.new ≡ answers.old) }
+{
+    let field = field.copy(alloc)?;
+    Ok(answers.push(FieldAnswer { field, answer })?)
 }
 
 /// What was read of a context, so that each of its structured fields and its query are read once
@@ -84,14 +100,14 @@ impl Readings {
             (joined_value lines.entry)) result }
         ensures readings { AreReadOf (context_of context.now) self.new }
     {
-        let field = ContextField::of(alloc, id)?;
-        if let Some(answer) = answer_for(self.texts.as_slice(), &field) {
+        let field = FieldRef::of(id);
+        if let Some(answer) = answer_for(self.texts.as_slice(), field) {
             return copied_text(alloc, answer);
         }
         let kind = context.types.kind_of(id.name.bytes());
         let answer = strict_answer(alloc, kind, lines)?;
         let text = copied_text(alloc, &answer);
-        self.texts.push(FieldAnswer { field, answer })?;
+        keep(alloc, field, answer, &mut self.texts)?;
         text
     }
 
@@ -110,13 +126,13 @@ impl Readings {
         ensures row { AnswersRow (MemberRow key.now (joined_value lines.entry)) result }
         ensures readings { AreReadOf (context_of context.now) self.new }
     {
-        let field = ContextField::of(alloc, id)?;
-        if let Some(answer) = answer_for(self.dicts.as_slice(), &field) {
+        let field = FieldRef::of(id);
+        if let Some(answer) = answer_for(self.dicts.as_slice(), field) {
             return member_in(alloc, answer, key);
         }
         let answer = dict_answer(alloc, lines)?;
         let text = member_in(alloc, &answer, key);
-        self.dicts.push(FieldAnswer { field, answer })?;
+        keep(alloc, field, answer, &mut self.dicts)?;
         text
     }
 

@@ -1,27 +1,36 @@
 //! The strict texts of structured values.
 
-ghost use Rattle.std.specs.Prelude.{◌≡◌, ℕ, Option, Some, None, List, IfOk};
+ghost use Rattle.std.specs.Prelude.{◌≡◌, ℕ, Option, Some, None, List, IfOk, IsTrue, MatchResult};
+ghost use Rattle.sfv_text.specs.Range.{is_dict_in_range, is_item_in_range};
 ghost use Rattle.sfv_text.specs.Strict.{item_text, list_text, dict_text};
 ghost use Rattle.sfv_read.specs.Reads.{ReadsItem, ReadsList, ReadsDict};
 ghost use Rattle.msg_head.specs.Values.{joined_value};
 ghost use Rattle.component_values.specs.Readings.{DictRow};
 ghost use Rattle.component_values.specs.Values.{StrictRow, KindRow, MemberRow};
 ghost use Rattle.derived_values.specs.Answers.{AnswersRow};
+ghost use Rattle.derived_values.specs.declared.lack.NoValue.TheVariants.{Memory as NoMemory};
 
 use component_ids::FieldKind;
 use derived_values::{Lack, NoValue};
 use field_values::joined_value;
 use msg_head::NamedFieldLines;
 use sfv_read::{SfError, read_dict, read_item, read_list};
-use sfv_text::{Dict, Memory, Text, print_dict, print_item, print_list, print_member};
+use sfv_text::{Dict, Item, Memory, Text, print_dict, print_item, print_list, print_member};
 use std::alloc::Global;
+
+fn text_of_item(alloc: Global, item: &Item) -> Result<Text, NoValue>
+    requires { IsTrue (is_item_in_range item.now) }
+    ensures { MatchResult result (λ text. text ≡ item_text item.now) (λ why. why ≡ NoMemory) }
+{
+    Ok(print_item(alloc, item)?)
+}
 
 #[tactic(auto, using(crate::proofs::Unread::unread))]
 fn strict_item(alloc: Global, text: &[u8]) -> Result<Text, NoValue>
     ensures { AnswersRow (StrictRow ReadsItem item_text text.now) result }
 {
     let item = read_item(alloc, text)?;
-    Ok(print_item(alloc, &item)?)
+    text_of_item(alloc, &item)
 }
 
 #[tactic(auto, using(crate::proofs::Unread::unread))]
@@ -32,12 +41,19 @@ fn strict_list(alloc: Global, text: &[u8]) -> Result<Text, NoValue>
     Ok(print_list(alloc, &list)?)
 }
 
+fn text_of_dict(alloc: Global, dict: &Dict) -> Result<Text, NoValue>
+    requires { IsTrue (is_dict_in_range dict.now) }
+    ensures { MatchResult result (λ text. text ≡ dict_text dict.now) (λ why. why ≡ NoMemory) }
+{
+    Ok(print_dict(alloc, dict)?)
+}
+
 #[tactic(auto, using(crate::proofs::Unread::unread))]
 fn strict_dict(alloc: Global, text: &[u8]) -> Result<Text, NoValue>
     ensures { AnswersRow (StrictRow ReadsDict dict_text text.now) result }
 {
     let dict = read_dict(alloc, text)?;
-    Ok(print_dict(alloc, &dict)?)
+    text_of_dict(alloc, &dict)
 }
 
 /// The strict text of what the text reads as, by the kind of its field.
@@ -52,6 +68,21 @@ fn strict_value(alloc: Global, kind: Option<FieldKind>, text: &[u8]) -> Result<T
     }
 }
 
+/// What the text comes to as a strict text, by the kind of its field.
+fn strict_text(
+    alloc: Global,
+    kind: Option<FieldKind>,
+    text: &[u8],
+) -> Result<Result<Text, Lack>, Memory>
+    ensures { IfOk result (KindRow kind text.now) }
+{
+    match strict_value(alloc, kind, text) {
+        Ok(text) => Ok(Ok(text)),
+        Err(NoValue::Lacks(lack)) => Ok(Err(lack)),
+        Err(NoValue::Memory) => Err(Memory),
+    }
+}
+
 /// What the combined value of the lines comes to as a strict text, by the kind of their field.
 pub(crate) fn strict_answer(
     alloc: Global,
@@ -61,11 +92,7 @@ pub(crate) fn strict_answer(
     ensures { IfOk result (KindRow kind (joined_value lines.entry)) }
 {
     let value = joined_value(alloc, lines)?;
-    match strict_value(alloc, kind, value.bytes()) {
-        Ok(text) => Ok(Ok(text)),
-        Err(NoValue::Lacks(lack)) => Ok(Err(lack)),
-        Err(NoValue::Memory) => Err(Memory),
-    }
+    strict_text(alloc, kind, value.bytes())
 }
 
 /// The strict text of its own.
@@ -78,6 +105,18 @@ pub(crate) fn copied_text(alloc: Global, answer: &Result<Text, Lack>) -> Result<
     }
 }
 
+/// What the text comes to as a Dictionary.
+fn dict_of(alloc: Global, text: &[u8]) -> Result<Result<Dict, Lack>, Memory>
+    ensures { IfOk result (DictRow text.now) }
+{
+    match read_dict(alloc, text) {
+        Ok(dict) => Ok(Ok(dict)),
+        Err(SfError::Memory) => Err(Memory),
+        Err(SfError::Syntax(_)) => Ok(Err(Lack::Unreadable)),
+        Err(SfError::ItemKind(_)) => Ok(Err(Lack::Unreadable)),
+    }
+}
+
 /// What the combined value of the lines comes to as a Dictionary.
 pub(crate) fn dict_answer(
     alloc: Global,
@@ -86,12 +125,7 @@ pub(crate) fn dict_answer(
     ensures { IfOk result (DictRow (joined_value lines.entry)) }
 {
     let value = joined_value(alloc, lines)?;
-    match read_dict(alloc, value.bytes()) {
-        Ok(dict) => Ok(Ok(dict)),
-        Err(SfError::Memory) => Err(Memory),
-        Err(SfError::Syntax(_)) => Ok(Err(Lack::Unreadable)),
-        Err(SfError::ItemKind(_)) => Ok(Err(Lack::Unreadable)),
-    }
+    dict_of(alloc, value.bytes())
 }
 
 /// The strict text of the member of the key, in what a text comes to as a Dictionary.

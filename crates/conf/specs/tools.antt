@@ -5,3 +5,4 @@ pub mod Added
 pub mod KeyFaults
 pub mod SectionReads
 pub mod Explained
+pub mod Entries

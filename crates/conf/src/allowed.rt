@@ -10,6 +10,7 @@ ghost use Rattle.settings.specs.Keys.{is_keyid};
 ghost use Rattle.settings.specs.Words.{kind_of_word};
 ghost use Rattle.conf.specs.declared.table.TableName.TheVariants.{Policy};
 ghost use Rattle.conf.specs.Table.{entries_of, members_at, members_in};
+ghost use Rattle.conf.specs.tools.Entries.{passes};
 ghost use Rattle.conf.specs.Values.{are_strings, clashes, has_type, is_allowed, is_integer_allowed, is_standard_field, is_table_allowed, is_text_allowed, is_type, is_within, window};
 
 use crate::members::{member, number_or, table_in};
@@ -23,26 +24,83 @@ use settings::{
 use sfv_text::{are_string_bytes, is_key};
 use toml::{Table, Value};
 
-// ---- types
+// ---- entries
 
-fn are_strings_in(table: &Table) -> bool
-    ensures { result
-        ≡ list_all (λ entry. is_some (as_str entry.1)) (entries_of (table_view table.now)) }
+const STANDARD_NAMES: [&[u8]; 4] = [
+    b"signature-input",
+    b"signature",
+    b"accept-signature",
+    b"content-digest",
+];
+
+/// Whether the field is structured by its own standard, as `Types::standard` has it.
+fn is_standard_field(name: &[u8]) -> bool
+    ensures { result ≡ is_standard_field name.now }
 {
-    for (_, value) in table.iter() {
-        if !value.is_str() {
+    is_listed(&STANDARD_NAMES, name)
+}
+
+fn is_kind_for(name: &[u8], word: &[u8]) -> bool
+    ensures { result ≡ (if is_standard_field name.now
+        then bytes_eq word.now (codes "dictionary") else is_some (kind_of_word word.now)) }
+{
+    if is_standard_field(name) {
+        word == b"dictionary".as_slice()
+    } else {
+        kind_of_word(word).is_some()
+    }
+}
+
+fn is_type(name: &[u8], value: &Value) -> bool
+    ensures { result ≡ is_type name.now (view value.now) }
+{
+    match value.as_str() {
+        None => true,
+        Some(word) => is_field_name(name) && is_kind_for(name, word.as_bytes()),
+    }
+}
+
+/// What is asked of each entry of a table.
+#[derive(Clone, Copy)]
+pub(crate) enum EntryTest {
+    /// Its value is a text.
+    HasText,
+    /// Its key is a keyid.
+    HasKeyid,
+    /// Its key is a field name, and its value a kind of such a field.
+    HasKind,
+}
+
+fn passes(test: EntryTest, key: &str, value: &Value) -> bool
+    ensures { result ≡ passes test (key.now, view value.now) }
+{
+    match test {
+        EntryTest::HasText => value.is_str(),
+        EntryTest::HasKeyid => is_keyid(key.as_bytes()),
+        EntryTest::HasKind => is_type(key.as_bytes(), value),
+    }
+}
+
+/// Whether each entry of the table passes the test.
+fn are_entries(test: EntryTest, table: &Table) -> bool
+    ensures { result ≡ list_all (passes test) (entries_of (table_view table.now)) }
+{
+    for (key, value) in table.iter() {
+        if !passes(test, key.as_str(), value) {
             return false;
         }
     }
     true
 }
 
+// ---- types
+
 fn are_strings(value: &Value) -> bool
     ensures { result ≡ are_strings (view value.now) }
 {
     match value.as_table() {
         None => false,
-        Some(table) => are_strings_in(table),
+        Some(table) => are_entries(EntryTest::HasText, table),
     }
 }
 
@@ -92,65 +150,6 @@ fn is_text_allowed(document: &Table, rule: ValueRule, text: &str) -> bool
     }
 }
 
-// ---- tables
-
-const STANDARD_NAMES: [&[u8]; 4] = [
-    b"signature-input",
-    b"signature",
-    b"accept-signature",
-    b"content-digest",
-];
-
-/// Whether the field is structured by its own standard, as `Types::standard` has it.
-fn is_standard_field(name: &[u8]) -> bool
-    ensures { result ≡ is_standard_field name.now }
-{
-    is_listed(&STANDARD_NAMES, name)
-}
-
-fn is_kind_for(name: &[u8], word: &[u8]) -> bool
-    ensures { result ≡ (if is_standard_field name.now
-        then bytes_eq word.now (codes "dictionary") else is_some (kind_of_word word.now)) }
-{
-    if is_standard_field(name) {
-        word == b"dictionary".as_slice()
-    } else {
-        kind_of_word(word).is_some()
-    }
-}
-
-fn is_type(name: &[u8], value: &Value) -> bool
-    ensures { result ≡ is_type name.now (view value.now) }
-{
-    match value.as_str() {
-        None => true,
-        Some(word) => is_field_name(name) && is_kind_for(name, word.as_bytes()),
-    }
-}
-
-fn are_keyids(table: &Table) -> bool
-    ensures { result ≡ list_all (λ entry. is_keyid entry.0) (entries_of (table_view table.now)) }
-{
-    for (keyid, _) in table.iter() {
-        if !is_keyid(keyid.as_bytes()) {
-            return false;
-        }
-    }
-    true
-}
-
-fn are_types(table: &Table) -> bool
-    ensures { result
-        ≡ list_all (λ entry. is_type entry.0 entry.1) (entries_of (table_view table.now)) }
-{
-    for (name, value) in table.iter() {
-        if !is_type(name.as_bytes(), value) {
-            return false;
-        }
-    }
-    true
-}
-
 // ---- values
 
 fn is_within(least: u64, most: u64, number: i64) -> bool
@@ -176,8 +175,8 @@ fn is_table_allowed(rule: ValueRule, table: &Table) -> bool
     ensures { result ≡ is_table_allowed rule (table_view table.now) }
 {
     match rule {
-        ValueRule::Keys => are_keyids(table),
-        ValueRule::Types => are_types(table),
+        ValueRule::Keys => are_entries(EntryTest::HasKeyid, table),
+        ValueRule::Types => are_entries(EntryTest::HasKind, table),
         _ => true,
     }
 }

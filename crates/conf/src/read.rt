@@ -29,8 +29,8 @@ fn conf_of(alloc: Global, document: &Table) -> Result<Conf, ConfFault>
 {
     judge_document(alloc, document)?;
     let keys = read_keys(alloc, document)?;
-    let Sections { policy, sign } = read_sections(alloc, document)?;
     let types = read_types(alloc, document)?;
+    let Sections { policy, sign } = read_sections(alloc, document)?;
     Ok(Conf::new(scheme_in(document), keys, types, policy, sign))
 }
 

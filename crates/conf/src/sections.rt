@@ -28,13 +28,14 @@ pub(crate) fn read_sections(alloc: Global, document: &Table) -> Result<Sections,
     ensures err { IfErr result (λ e. IsClearBelow 7 (table_view document.now)
         → IsFirstIn (table_view document.now) e) }
 {
+    let lists = read_lists(alloc, document)?;
+    judge_rows(alloc, RowFault::Missing, document)?;
     let Lists {
         require_request,
         require_response,
         components_request,
         components_response,
-    } = read_lists(alloc, document)?;
-    judge_rows(alloc, RowFault::Missing, document)?;
+    } = lists;
     let policy = policy_of(alloc, document, require_request, require_response)?;
     let sign = sign_of(alloc, document, components_request, components_response)?;
     Ok(Sections { policy, sign })

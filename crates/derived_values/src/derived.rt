@@ -25,7 +25,7 @@ use targets::{
 };
 
 /// A component that is drawn from the parts of a request's target.
-#[derive(Clone, Copy, Debug, PartialEq, Eq)]
+#[derive(Clone, Copy, PartialEq, Eq)]
 pub enum TargetName {
     /// `@target-uri` (RFC 9421 section 2.2.2).
     TargetUri,
@@ -42,7 +42,7 @@ pub enum TargetName {
 }
 
 /// A derived component, by its name.
-#[derive(Clone, Copy, Debug, PartialEq, Eq)]
+#[derive(Clone, Copy, PartialEq, Eq)]
 pub enum DerivedName {
     /// `@method` (RFC 9421 section 2.2.1).
     Method,

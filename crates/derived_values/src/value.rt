@@ -9,7 +9,7 @@ use std::marker::Model;
 use targets::{Authority, feed_lowered, feed_marked};
 
 /// The parts of a target URI (RFC 9421 section 2.2.2).
-#[derive(Clone, Copy, Debug)]
+#[derive(Clone, Copy)]
 pub(crate) struct TargetUri<'m> {
     /// In whatever case it is written.
     pub scheme: &'m [u8],

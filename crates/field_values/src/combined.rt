@@ -3,7 +3,7 @@
 use msg_head::{NamedFieldLines, Pieces};
 
 /// The pieces of a field's combined value that are left.
-#[derive(Debug, Drop)]
+#[derive(Drop)]
 pub struct Combined<'a, 'm> {
     // What is left of the current line's value.
     current: Pieces<'m>,

@@ -12,7 +12,7 @@ use sfv_text::{Memory, Text};
 use std::alloc::Global;
 
 /// The values of lines, joined by a comma and a space (RFC 9421 section 2.1).
-#[derive(Debug, Drop)]
+#[derive(Drop)]
 pub enum FieldValue<'m> {
     /// They are one piece of the message: the value of one line that isn't folded.
     Borrowed(&'m [u8]),

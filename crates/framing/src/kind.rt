@@ -8,7 +8,7 @@ use byte_grammar::{Byte, starts_with};
 use msg_head::Start;
 
 /// What says where the content of a message ends (RFC 9112 section 6.3).
-#[derive(Clone, Copy, Debug, PartialEq, Eq)]
+#[derive(Clone, Copy, PartialEq, Eq)]
 pub enum Framing {
     /// There is no content.
     None,

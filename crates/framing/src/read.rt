@@ -14,7 +14,7 @@ use crate::named::NamedLines;
 use msg_head::{HeadView, Start};
 
 /// How the content of a message is framed.
-#[derive(Clone, Copy, Debug, PartialEq, Eq)]
+#[derive(Clone, Copy, PartialEq, Eq)]
 pub struct Framed {
     /// What says where the content ends.
     pub framing: Framing,

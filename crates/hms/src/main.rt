@@ -1,35 +1,20 @@
 //! `hms`: signature bases of recorded HTTP/1.1 messages, what their signatures are worth (RFC
 //! 9421), what proxies may make of them, and what they made of them, hop by hop.
 //!
-//! The program does what [`run::run`] does with its arguments, the files that they name, standard
-//! input and standard output:
+//! The program does what [`program::run`] does with its arguments, the files that they name,
+//! standard input and standard output:
 //!
 //! ```text
 //! run(alloc, arguments, &mut shelf, &mut source, &mut out) // the status to exit with
 //! ```
 #![tactic(auto)]
 
-mod laws;
-mod over_message;
-mod over_recording;
-mod run;
-
 use command_line::after_name;
 use hms_io::{DirShelf, Status, StdSink, StdSource};
+use program::run;
 use std::env;
 use std::io::ErrorKind;
 use std::process::ExitCode;
-
-#[cfg(test)]
-mod audit_tests;
-#[cfg(test)]
-mod device_tests;
-#[cfg(test)]
-mod rewrite_tests;
-#[cfg(test)]
-mod sign_tests;
-#[cfg(test)]
-mod tests;
 
 /// The arguments of the process, the program's name among them.
 fn arguments_of(rt: &HostRuntime) -> Result<Vec<String>, Status> {
@@ -53,7 +38,7 @@ fn main(rt: HostRuntime) -> ExitCode {
     let mut shelf = DirShelf::new(&rt);
     let mut source = StdSource::new(rt.stdin());
     let mut out = StdSink::new(rt.stdout());
-    let status = run::run(
+    let status = run(
         rt.alloc(),
         after_name(&arguments),
         &mut shelf,

@@ -6,7 +6,7 @@ ghost use Rattle.hms_io.specs.Status.{status_code};
 use std::fmt;
 
 /// How the program ends.
-#[derive(Clone, Copy, Debug, PartialEq, Eq)]
+#[derive(Clone, Copy, PartialEq, Eq)]
 pub enum Status {
     /// 0: what was asked for is done, and every answer is yes.
     Done,

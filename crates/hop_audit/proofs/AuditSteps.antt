@@ -12,6 +12,7 @@ use Rattle.recording.specs.Items.{PlacedItem}
 use Rattle.rewrite_script.specs.declared.rewrite.Rewrite.{Rewrite}
 use Rattle.settings.specs.ConfMeaning.{meaning}
 use Rattle.hop_audit.specs.declared.chain_audit.ChainAudit.{ChainAudit}
+use Rattle.hop_audit.specs.declared.chain_audit.Reached.{Reached}
 use Rattle.hop_audit.specs.declared.fault.ChainFault.{ChainFault}
 use Rattle.hop_audit.specs.declared.fault.ChainFault.TheVariants.{Memory, Order, TooManyHops, Message as NoMessage, Script as NoScript, ScriptTooLong}
 use Rattle.hop_audit.specs.declared.line.AuditLine.{AuditLine}
@@ -24,7 +25,7 @@ use Rattle.hop_audit.specs.ChainValues.{AnswersRequest, Chain, Hop, IsChainOf, I
 use Rattle.hop_audit.specs.Hops.{PlacedHop, places_from}
 use Rattle.hop_audit.specs.Report.{AreHopLines, IsReport}
 use Rattle.hop_audit.specs.Lines.{are_lines_in_range}
-use Rattle.hop_audit.specs.tools.Judged.{AddsHop, IsSizedHop, SaysHop, SaysReport, SaysStage, context_of_audit, related_of}
+use Rattle.hop_audit.specs.tools.Judged.{AddsFirst, AddsHop, AddsNext, IsSizedHop, SaysHop, SaysReport, SaysStage, context_of_audit, related_of}
 use Rattle.hop_audit.specs.tools.Read.{IsStageOf, SaysMessage, SaysScript}
 use Rattle.hop_audit.specs.tools.Recorded.{IsHeldChain, chain_meant, hop_meant, items_up_to, subject_meant}
 use Rattle.hop_audit.specs.tools.Written.{AddsMessageLines}
@@ -105,6 +106,13 @@ module _ (audit : ChainAudit) (chain : HeldChain) (of : IsAuditOf audit chain) w
       };
     };
   }
+
+  pub first_reached : (reached : Reached) (lines : List AuditLine) → chain.moment ≤ MAX_MOMENT → AddsFirst audit chain [] lines reached
+      → IsAuditedSoFar audit chain 0 reached.moment reached.text.now reached.stage lines
+  first_reached reached lines short says =
+      subst (λ (m : ℕ). IsAuditedSoFar audit chain 0 m reached.text.now reached.stage lines) (sym says.moment_is)
+      (subst (λ (t : List ℕ). IsAuditedSoFar audit chain 0 chain.moment t reached.stage lines) (sym says.text_is)
+      (first_reported reached.stage lines short says.stage says.added))
 
   -- why the item of message 0 is none
   pub first_refused : (fault : ChainFault) → SaysMessage chain.item audit.reading chain.first.now (Err fault) → SaysReport audit chain (Err fault)
@@ -216,6 +224,15 @@ module _ (audit : ChainAudit) (chain : HeldChain) (of : IsAuditOf audit chain) w
     hop_refused more (NoMessage index fault) says = either (NoMessage index fault) says
     hop_refused more (NoScript index fault) says = either (NoScript index fault) says
     hop_refused more (ScriptTooLong index) says = either (ScriptTooLong index) says
+
+  pub next_reached : (count : ℕ) (before : Reached) (lines : List AuditLine) (hop : HeldHop) → slice_get chain.hops count ≡ Some hop
+      → IsAuditedSoFar audit chain count before.moment before.text.now before.stage lines
+      → (all : List AuditLine) (after : Reached) → IsSizedHop hop → AddsNext audit (count + 1) before hop lines all after
+      → IsAuditedSoFar audit chain (count + 1) after.moment after.text.now after.stage all
+  next_reached count before lines hop there so_far all after short says =
+      subst (λ (m : ℕ). IsAuditedSoFar audit chain (count + 1) m after.text.now after.stage all) (sym says.moment_is)
+      (subst (λ (t : List ℕ). IsAuditedSoFar audit chain (count + 1) (unwrap_or hop.moment before.moment) t after.stage all) (sym says.text_is)
+      (hop_reported count before.moment before.text.now before.stage lines hop there so_far says.between all after.stage short says.hop_lines says.added))
 
   -- ---- all hops
 

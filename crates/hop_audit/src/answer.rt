@@ -55,9 +55,6 @@ impl Answer {
     pub(crate) fn is_lack(&self) -> bool
         ensures { result ≡ is_err (answer_of self.now) }
     {
-        match self {
-            Answer::Value(_) => false,
-            Answer::Lacks(_) => true,
-        }
+        matches!(self, Answer::Lacks(_))
     }
 }

@@ -39,9 +39,16 @@ fn related_request<'r>(
             let request = item_message(alloc, chain.item - 1, reading, text)?;
             Ok(Some(request))
         }
-        Subject::Responses(None) => Ok(None),
-        Subject::Requests => Ok(None),
+        Subject::Responses(None) | Subject::Requests => Ok(None),
     }
+}
+
+/// A message of the chain that was judged: its moment, its text, and what was read of it.
+#[derive(Drop)]
+struct Reached<'r> {
+    moment: u64,
+    text: &'r [u8],
+    stage: Stage<'r>,
 }
 
 /// The parts of an audit: how its messages are read, and what they are judged by.
@@ -62,7 +69,7 @@ impl<'a, 'r> ChainAudit<'a, 'r> {
     ghost use Rattle.settings.specs.ConfMeaning.{meaning};
     ghost use Rattle.hop_audit.specs.ChainValues.{AnswersRequest, reading_of, role_of};
     ghost use Rattle.hop_audit.specs.declared.fault.ChainFault.{ChainFault};
-    ghost use Rattle.hop_audit.specs.tools.Judged.{IsHeldFor, IsSizedHop, SaysHop, SaysReport, SaysStage, context_of_audit, related_of};
+    ghost use Rattle.hop_audit.specs.tools.Judged.{IsHeldFor, IsSizedHop, SaysFirst, SaysHop, SaysNext, SaysReport, SaysStage, context_of_audit, related_of};
     ghost use Rattle.hop_audit.specs.tools.Read.{IsStageOf};
     ghost use Rattle.hop_audit.specs.tools.Recorded.{subject_meant};
     ghost use Rattle.hop_audit.specs.tools.Written.{AddsMessageLines};
@@ -114,8 +121,7 @@ impl<'a, 'r> ChainAudit<'a, 'r> {
         Ok(add_message_lines(alloc, self.conf, &context, index, moment, stage, lines)?)
     }
 
-    /// Adds the line of the hop with this index and of the labels before it. It answers the message
-    /// after it.
+    /// Adds the lines of the hop with this index. It answers the message after it.
     fn add_hop<'x>(
         &'x self,
         alloc: Global,
@@ -150,6 +156,52 @@ impl<'a, 'r> ChainAudit<'a, 'r> {
         Ok(after)
     }
 
+    /// Adds the lines of the first message of the chain.
+    fn first(
+        &self,
+        alloc: Global,
+        chain: &RecordedChain<'r>,
+        lines: &mut AuditReport,
+    ) -> Result<Reached<'r>, ChainFault>
+        requires { IsHeldFor chain.now }
+        ensures { SaysFirst self.now chain.now lines.old lines.new result }
+    {
+        let stage = self.stage(alloc, chain.item, chain.first)?;
+        (&*self).add_message(alloc, 0, chain.moment, &stage, lines)?;
+        Ok(Reached {
+            moment: chain.moment,
+            text: chain.first,
+            stage,
+        })
+    }
+
+    /// Adds the lines of the hop with this index, and those of the message after it.
+    fn next(
+        &self,
+        alloc: Global,
+        index: usize,
+        before: &Reached<'r>,
+        hop: &RecordedHop<'r>,
+        lines: &mut AuditReport,
+    ) -> Result<Reached<'r>, ChainFault>
+        requires now { before.now.moment ≤ MAX_MOMENT }
+        requires spells { Spells (answers_head (related_of self.now))
+            (message_of before.now.stage.message) before.now.text.now }
+        requires stage { IsStageOf (message_of before.now.stage.message) before.now.stage }
+        requires reading { self.now.reading.to_head ≡ answers_head (related_of self.now) }
+        requires sized { IsSizedHop hop.now }
+        ensures { SaysNext self.now index before.now hop.now lines.old lines.new result }
+    {
+        let moment = hop.moment.unwrap_or(before.moment);
+        let stage = (&*self).add_hop(alloc, index, before.text, &before.stage, hop, lines)?;
+        (&*self).add_message(alloc, index, moment, &stage, lines)?;
+        Ok(Reached {
+            moment,
+            text: hop.message,
+            stage,
+        })
+    }
+
     /// The lines of the chain.
     fn report(&self, alloc: Global, chain: &RecordedChain<'r>) -> Result<AuditReport, ChainFault>
         requires held { IsHeldFor chain.now }
@@ -159,17 +211,9 @@ impl<'a, 'r> ChainAudit<'a, 'r> {
         ensures { SaysReport self.now chain.now result }
     {
         let mut lines = AuditReport::new(alloc);
-        let mut before = self.stage(alloc, chain.item, chain.first)?;
-        let mut text = chain.first;
-        let mut moment = chain.moment;
-        (&*self).add_message(alloc, 0, moment, &before, &mut lines)?;
+        let mut reached = self.first(alloc, chain, &mut lines)?;
         for (count, hop) in chain.hops.as_slice().iter().enumerate() {
-            let index = count + 1;
-            let after = (&*self).add_hop(alloc, index, text, &before, hop, &mut lines)?;
-            moment = hop.moment.unwrap_or(moment);
-            (&*self).add_message(alloc, index, moment, &after, &mut lines)?;
-            text = hop.message;
-            before = after;
+            reached = self.next(alloc, count + 1, &reached, hop, &mut lines)?;
         }
         Ok(lines)
     }

@@ -1,15 +1,12 @@
 //! Why items aren't audited.
 
-ghost use Rattle.std.specs.Prelude.{◌≡◌};
-ghost use Rattle.hop_audit.specs.declared.fault.ChainFault.TheVariants.{Memory as OutOfMemory};
-
 use msg_body::MessageFault;
 use rewrite_script::ScriptFault;
 use sfv_text::Memory;
 
 /// Why the items of a recording aren't audited. Where several hold, the first in this order is
 /// answered; of the last three, the one of the first item. Items are counted from 0.
-#[derive(Clone, Copy, Debug, PartialEq, Eq)]
+#[derive(Clone, Copy, PartialEq, Eq)]
 pub enum ChainFault {
     /// Out of memory. It says nothing of the items.
     Memory,

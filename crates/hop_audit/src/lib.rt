@@ -2,10 +2,7 @@
 //! out. At which hop a signature (RFC 9421) was lost, and what was done to it there.
 //!
 //! ```text
-//! at 1618884473, request S, script "pad h 1 ss t", request S with its line 1 padded
-//! ```
-//!
-//! ```text
+//! // at 1618884473, request S, script "pad h 1 ss t", request S with its line 1 padded
 //! for line in audit(alloc, &recording, &conf)?.iter() { .. }
 //! // Message { index: 0, label: sig-b25, verdict: Ok { .. } }
 //! // Hop { index: 1, explained: true, stopped: None }

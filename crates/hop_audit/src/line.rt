@@ -5,7 +5,7 @@ use sfv_text::{Sequence, Text};
 use verdicts::Verdict;
 
 /// What becomes of a signature at a hop: the first of these that holds.
-#[derive(Debug, Drop)]
+#[derive(Drop)]
 pub enum Fate {
     /// The message after the hop hasn't the label with the same signature parameters and tag.
     Dropped,
@@ -19,7 +19,7 @@ pub enum Fate {
 }
 
 /// A line of a report. Messages are counted from 0; hop K leads from message K - 1 to message K.
-#[derive(Debug, Drop)]
+#[derive(Drop)]
 pub enum AuditLine {
     /// The verdict on the label in the message.
     Message {

@@ -53,6 +53,7 @@ fn add_lines<'x, L: Ledger>(
     index: usize,
     stage: &'x Stage<'_>,
     first: &Verification<'x, '_, '_>,
+    readings: &mut LabelReadings,
     blank: Blank,
     lines: &mut AuditReport,
 ) -> Result<(), Memory>
@@ -60,6 +61,7 @@ fn add_lines<'x, L: Ledger>(
     requires label { (model_of first.now).label ≡ no_label }
     requires now { (model_of first.now).now ≤ MAX_MOMENT }
     requires seen { (model_of first.now).seen ≡ None }
+    requires readings { AreReadFor (model_of first.now).context readings.old }
     requires name { blank.name ≡ L.name }
     requires parts { blank.parts ≡ L.parts }
     requires some { 0 < blank.parts }
@@ -68,13 +70,12 @@ fn add_lines<'x, L: Ledger>(
         lines.old lines.new) }
 {
     let mut steps: Steps<L> = Steps::new(blank);
-    let mut readings = LabelReadings::new(alloc);
     if stage.labels.is_empty() {
-        return add_line(alloc, index, stage, first, &mut readings, &mut steps, lines);
+        return add_line(alloc, index, stage, first, readings, &mut steps, lines);
     }
     for label in stage.labels.as_slice() {
         let own = first.of_label(label.bytes());
-        add_line(alloc, index, stage, &own, &mut readings, &mut steps, lines)?;
+        add_line(alloc, index, stage, &own, readings, &mut steps, lines)?;
     }
     Ok(())
 }
@@ -102,5 +103,7 @@ pub(crate) fn add_message_lines<'x>(
         now: moment,
         seen: None,
     };
-    add_lines::<Brand>(alloc, index, stage, &first, Blank::new(1), lines)
+    let mut readings = LabelReadings::new(alloc);
+    let blank = Blank::new(1);
+    add_lines::<Brand>(alloc, index, stage, &first, &mut readings, blank, lines)
 }

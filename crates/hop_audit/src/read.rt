@@ -19,8 +19,7 @@ pub(crate) fn reading_of(related: Option<&MessageView<'_>>, role: Role) -> Readi
         role }
 {
     match role {
-        Role::Request => Reading::of_request(),
-        Role::Related => Reading::of_request(),
+        Role::Request | Role::Related => Reading::of_request(),
         Role::Response => Reading {
             expect: Expect::Response,
             to_head: match related {

@@ -1,6 +1,5 @@
 -- Two parts, one after the other, are decided where each is.
-use Rattle.std.proofs.Common.{◌≡◌, ◌⊎◌, ℕ, ◌+◌, List, drop, refl, sym, subst, ap, ◌∙◌, inl, inr}
-use Rattle.msg_body.specs.Causes.{After}
+use Rattle.std.proofs.Common.{◌≡◌, ℕ, ◌+◌, List, drop, sym, subst, ap, ◌∙◌, inl, inr}
 use Rattle.msg_body.specs.tools.Decided.{IsDecided, IsFaultAs, AreParts, IsFaultOfParts, AreOpen}
 
 moved : {V : Type 0} (P : V → ℕ → Type 0) (part other : V) (n m : ℕ) → (part ≡ other) × (n ≡ m) → P part n → P other m

@@ -1,5 +1,5 @@
 -- Each list of bytes has an answer as a message, where it has no more bytes than a message may have.
-use Rattle.std.proofs.Common.{◌≡◌, ◌⊎◌, ℕ, ◌+◌, ◌<◌, ◌≤◌, Bool, IsTrue, List, [], ◌++◌, length, take, drop, refl, sym, subst, ap, ◌∙◌, inl, inr, arith}
+use Rattle.std.proofs.Common.{ℕ, ◌+◌, ◌≤◌, Bool, List, [], ◌++◌, length, take, drop, refl, sym, subst, inl, inr, arith}
 use Rattle.std.proofs.lemmas.Bool.{cases_Bool, cases_lt}
 use Rattle.std.proofs.lemmas.List.{length-take-le, take_all}
 use Rattle.msg_head.specs.Lines.{FieldLine}
@@ -18,10 +18,9 @@ use Rattle.framing.specs.Framings.{framing_of, content_length_of}
 use Rattle.framing.proofs.FramingLaws.{has_framing_answer}
 use Rattle.msg_body.specs.declared.limits.TheConstants.{MAX_MESSAGE_BYTES}
 use Rattle.msg_body.specs.declared.expect.Expect.{Expect}
-use Rattle.msg_body.specs.declared.error.MessageError.{MessageError}
 use Rattle.msg_body.specs.declared.error.MessageError.TheVariants.{BadStart, ContentTooLong}
 use Rattle.msg_body.specs.Bodies.{Body, plain, chunked, body_text}
-use Rattle.msg_body.specs.Messages.{Message, SpellsMessage, is_expected}
+use Rattle.msg_body.specs.Messages.{is_expected}
 use Rattle.msg_body.specs.Errors.{error_of, framing_error, chunk_error, trailer_error}
 use Rattle.msg_body.specs.Causes.{IsErrorAfterHead, IsBodyError, IsBodyUnfinished, IsMessageError, IsMessageUnfinished}
 use Rattle.msg_body.specs.Laws.{EachHasAMessageAnswer}

@@ -1,5 +1,5 @@
 -- A text of two parts, and the bytes that begin with it.
-use Rattle.std.proofs.Common.{◌≡◌, ℕ, ◌+◌, ◌-◌, ◌≤◌, List, ◌++◌, length, take, drop, refl, sym, subst, ap, ◌∙◌, arith, length-append}
+use Rattle.std.proofs.Common.{◌≡◌, ℕ, ◌+◌, ◌≤◌, List, ◌++◌, length, take, drop, sym, ap, ◌∙◌, arith, length-append}
 use Rattle.std.proofs.lemmas.List.{take-take, drop-take, length-take-le, length-drop}
 use Rattle.std.proofs.Math.Seq.{take-append_seam, drop-append_seam, take-add}
 

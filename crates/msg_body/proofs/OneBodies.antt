@@ -1,5 +1,5 @@
 -- Bytes after a head begin with at most one body of a framing.
-use Rattle.std.proofs.Common.{◌≡◌, ◌⊎◌, ℕ, ◌+◌, ◌<◌, ◌≤◌, List, [], ◌++◌, length, take, drop, refl, sym, subst, ap, ◌∙◌, inl, inr, arith}
+use Rattle.std.proofs.Common.{◌≡◌, ℕ, ◌+◌, ◌≤◌, List, length, take, drop, refl, sym, ap, ◌∙◌, arith}
 use Rattle.std.proofs.lemmas.List.{length-take-le}
 use Rattle.msg_head.specs.Lines.{FieldLine}
 use Rattle.msg_head.specs.Trailers.{SpellsTrailer, IsTrailerUnfinished, trailer_text}
@@ -10,9 +10,9 @@ use Rattle.chunks.specs.Causes.{IsChunksError, AreChunksUnfinished}
 use Rattle.framing.specs.declared.kind.Framing.{Framing}
 use Rattle.framing.specs.declared.kind.Framing.TheVariants.{None, Length, Chunked, ToEnd}
 use Rattle.msg_body.specs.declared.error.MessageError.{MessageError}
-use Rattle.msg_body.specs.Bodies.{Body, plain, chunked, IsBodyOf, body_text, content_in}
+use Rattle.msg_body.specs.Bodies.{Body, plain, chunked, content_in}
 use Rattle.msg_body.specs.Errors.{chunk_error, trailer_error}
-use Rattle.msg_body.specs.Causes.{After, IsBodyError, IsBodyUnfinished}
+use Rattle.msg_body.specs.Causes.{IsBodyError, IsBodyUnfinished}
 use Rattle.msg_body.specs.tools.Decided.{IsDecided, IsFaultAs, AreParts}
 use Rattle.msg_body.specs.tools.Judged.{SpellsBody}
 use Rattle.msg_body.proofs.Decided.{renamed, then_decided, as_whole}

@@ -1,8 +1,7 @@
 -- Bytes begin with at most one message.
-use Rattle.std.proofs.Common.{◌≡◌, ◌≢◌, ◌⊎◌, ℕ, ◌+◌, ◌-◌, ◌<◌, ◌≤◌, Bool, true, false, IsTrue, List, ◌++◌, length, take, drop, refl, sym, subst, ap, ◌∙◌, inl, inr, arith}
+use Rattle.std.proofs.Common.{◌≡◌, ◌≢◌, ◌⊎◌, ℕ, ◌+◌, ◌-◌, ◌≤◌, Bool, IsTrue, List, length, take, drop, refl, sym, subst, ap, ◌∙◌, inl, inr, arith}
 use Rattle.std.proofs.lemmas.Bool.{false≢true}
 use Rattle.std.proofs.lemmas.List.{take-take, take_all, length-take-le, length-drop}
-use Rattle.msg_head.specs.declared.error.HeadError.{HeadError}
 use Rattle.msg_head.specs.Heads.{Head, SpellsHead, IsUnfinished, head_text}
 use Rattle.msg_head.specs.Causes.{IsHeadError}
 use Rattle.msg_head.proofs.OneHeads.{one_head_law}
@@ -14,7 +13,7 @@ use Rattle.msg_body.specs.declared.expect.Expect.{Expect}
 use Rattle.msg_body.specs.declared.expect.Expect.TheVariants.{Any}
 use Rattle.msg_body.specs.declared.error.MessageError.{MessageError}
 use Rattle.msg_body.specs.Bodies.{Body, IsBodyOf, body_text}
-use Rattle.msg_body.specs.Messages.{Message, Spells, SpellsMessage, is_expected, message_text}
+use Rattle.msg_body.specs.Messages.{Message, Spells, SpellsMessage, is_expected}
 use Rattle.msg_body.specs.Errors.{error_of, framing_error}
 use Rattle.msg_body.specs.Causes.{IsErrorAfterHead, IsBodyError, IsBodyUnfinished, IsMessageError, IsMessageUnfinished}
 use Rattle.msg_body.specs.Laws.{OneMessage, NoMessageInPrefix, OneMessageAt, OneMessageFault, NoFaultAtMessage, NoMessageAnswerYet}

@@ -1,24 +1,24 @@
 -- What is read of bytes part by part.
-use Rattle.std.proofs.Common.{◌≡◌, ◌≢◌, ◌⊎◌, ℕ, ◌+◌, ◌-◌, ◌<◌, ◌≤◌, ◌^◌, Bool, true, false, IsTrue, List, ◌∷◌, ◌++◌, suc, length, length-append, take, drop, refl, sym, subst, ap, ◌∙◌, inl, inr, arith}
+use Rattle.std.proofs.Common.{◌≡◌, ◌≢◌, ℕ, ◌+◌, ◌<◌, ◌≤◌, ◌^◌, Bool, IsTrue, List, ◌∷◌, ◌++◌, suc, length, length-append, take, drop, refl, sym, subst, ap, ◌∙◌, inl, inr, arith}
 use Rattle.std.specs.Prelude.{Result, Ok, Err, IsErrAnd}
 use Rattle.std.proofs.lemmas.List.{length-take-le, length-drop, drop-take}
 use Rattle.std.proofs.Math.Seq.{take-add}
 use Rattle.msg_head.specs.declared.error.HeadError.{HeadError}
 use Rattle.msg_head.specs.declared.error.HeadError.TheVariants as head_error
-use Rattle.msg_head.specs.Heads.{Head, SpellsHead, head_text}
+use Rattle.msg_head.specs.Heads.{SpellsHead, head_text}
 use Rattle.msg_head.specs.Causes.{IsHeadError}
 use Rattle.msg_head.specs.Views.{View, IsViewOf, head_of}
-use Rattle.msg_head.specs.Trailers.{IsTrailerUnfinished, trailer_text, after_chunks}
+use Rattle.msg_head.specs.Trailers.{trailer_text, after_chunks}
 use Rattle.msg_head.specs.TrailerCauses.{IsTrailerError, HasTrailerNakedEnd}
 use Rattle.msg_head.specs.TrailerViews.{TrailerParts, IsTrailerViewOf, trailer_lines_of}
 use Rattle.chunks.specs.declared.error.ChunkError.{ChunkError}
 use Rattle.chunks.specs.declared.error.ChunkError.TheVariants as chunk
-use Rattle.chunks.specs.Chunks.{Chunks, SpellsChunks, chunks_text}
+use Rattle.chunks.specs.Chunks.{chunks_text}
 use Rattle.chunks.specs.Causes.{IsChunksError}
 use Rattle.chunks.specs.Views.{ChunksParts, IsChunksViewOf, chunks_of}
 use Rattle.framing.specs.declared.error.FramingError.{FramingError}
 use Rattle.framing.specs.declared.kind.Framing.{Framing}
-use Rattle.framing.specs.declared.kind.Framing.TheVariants.{Chunked, ToEnd}
+use Rattle.framing.specs.declared.kind.Framing.TheVariants.{Chunked}
 use Rattle.framing.specs.declared.read.Framed.{Framed}
 use Rattle.framing.specs.Framings.{IsFramable, framing_of, content_length_of}
 use Rattle.framing.specs.Causes.{IsFramingError}
@@ -26,13 +26,16 @@ use Rattle.msg_body.specs.declared.limits.TheConstants.{MAX_MESSAGE_BYTES}
 use Rattle.msg_body.specs.declared.expect.Expect.{Expect}
 use Rattle.msg_body.specs.declared.error.MessageError.{MessageError}
 use Rattle.msg_body.specs.declared.error.MessageError.TheVariants.{Memory}
+use Rattle.msg_body.specs.declared.body.BodyRead.{BodyRead}
+use Rattle.msg_body.specs.declared.body.BodyRead.TheVariants as body
 use Rattle.msg_body.specs.declared.read.MessageRead.{MessageRead}
 use Rattle.msg_body.specs.Bodies.{IsBodyOf, body_text}
 use Rattle.msg_body.specs.Messages.{is_expected}
 use Rattle.msg_body.specs.Errors.{error_of, framing_error, chunk_error, trailer_error}
-use Rattle.msg_body.specs.Views.{BodyParts, chunked_parts, MessageParts, IsMessageViewOf, body_of}
+use Rattle.msg_body.specs.Content.{body_parts}
+use Rattle.msg_body.specs.Views.{BodyParts, chunked_parts, IsMessageViewOf, body_of}
 use Rattle.msg_body.specs.Causes.{IsChunkedError, IsBodyError, IsBodyUnfinished, IsMessageError, IsMessageUnfinished}
-use Rattle.msg_body.specs.tools.Judged.{IsBodyViewOf, ExplainsMessage, IsChunkOffset, IsTrailerOffset}
+use Rattle.msg_body.specs.tools.Judged.{IsBodyViewOf, ExplainsBody, ExplainsMessage, ExplainsRest, IsChunkOffset, IsTrailerOffset}
 use Rattle.msg_body.proofs.Joins.{joined, within_both}
 
 -- ---- bodies
@@ -190,3 +193,14 @@ message_whole expect to_head bytes view start framed body count short j b =
       body = b.bytes_are ∙ sym (drop-take start count bytes);
       fills = b.fills;
     }
+
+pub rest_is : (expect : Expect) (to_head : Bool) (bytes : List ℕ) (view : View) (start : ℕ) (framed : Framed) (rest : List ℕ) (read : BodyRead)
+    → length bytes ≤ MAX_MESSAGE_BYTES → IsJudged expect to_head bytes view start framed → rest ≡ drop start bytes → ExplainsBody framed.framing framed.length start rest (Ok read)
+    → ExplainsRest expect to_head bytes view start (Ok (framed.framing, read))
+rest_is expect to_head bytes view start framed rest (body.Whole parts count) short j e b = message_whole expect to_head bytes view start framed (body_parts parts) count short j (rw e at b)
+rest_is expect to_head bytes view start framed rest body.Partial short j e b = body_unfinished expect to_head bytes view start framed j (rw e at b)
+
+pub rest_fault : (expect : Expect) (to_head : Bool) (bytes : List ℕ) (view : View) (start : ℕ) (result : Result (Framing × BodyRead) MessageError) (fault : MessageError)
+    → IsErrAnd result (λ given. given ≡ fault) → (fault ≢ Memory → IsMessageError expect to_head bytes fault) → ExplainsRest expect to_head bytes view start result
+rest_fault expect to_head bytes view start (Ok x) fault is cause = absurd is
+rest_fault expect to_head bytes view start (Err e) fault is cause = λ own. subst (IsMessageError expect to_head bytes) (sym is) (cause (λ m. own (is ∙ m)))

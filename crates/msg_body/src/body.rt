@@ -11,7 +11,7 @@ use msg_head::{TrailerRead, TrailerView, read_trailer};
 use std::alloc::Global;
 
 /// The body of a message, borrowed from its bytes.
-#[derive(Debug, Drop)]
+#[derive(Drop)]
 pub(crate) enum BodyView<'m> {
     /// Content that is the body.
     Plain(&'m [u8]),

@@ -4,7 +4,7 @@ use crate::body::BodyView;
 use chunks::ChunkPieces;
 
 /// The pieces of a message's content that are left (RFC 9112 section 7.1).
-#[derive(Debug, Drop)]
+#[derive(Drop)]
 pub enum ContentPieces<'a, 'm> {
     /// Content in one piece, where it has not come yet.
     Plain(Option<&'m [u8]>),

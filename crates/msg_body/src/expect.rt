@@ -8,7 +8,7 @@ use framing::is_request;
 use msg_head::Start;
 
 /// Which kind of message is read.
-#[derive(Clone, Copy, Debug, PartialEq, Eq)]
+#[derive(Clone, Copy, PartialEq, Eq)]
 pub enum Expect {
     /// A request (RFC 9112 section 3).
     Request,

@@ -3,28 +3,51 @@
 ghost use Rattle.std.specs.Prelude.{◌≡◌, ◌≢◌, ℕ, ◌≤◌, length, Ok, IsTrue};
 ghost use Rattle.byte_grammar.specs.Causes.{AnswersWhere, AnswersUnlessMemory};
 ghost use Rattle.msg_head.specs.Heads.{IsUnfinished};
+ghost use Rattle.msg_head.specs.Views.{IsViewOf};
 ghost use Rattle.msg_body.specs.declared.limits.TheConstants.{MAX_MESSAGE_BYTES};
 ghost use Rattle.msg_body.specs.Messages.{Message, SpellsMessage, is_expected};
 ghost use Rattle.msg_body.specs.Views.{IsMessageViewOf};
 ghost use Rattle.msg_body.specs.Causes.{IsMessageError, IsMessageUnfinished};
 ghost use Rattle.msg_body.specs.Outcome.{IfWholeMessage, IsMessageUnlessMemory};
-ghost use Rattle.msg_body.specs.tools.Judged.{ExplainsMessage};
+ghost use Rattle.msg_body.specs.tools.Judged.{ExplainsMessage, ExplainsRest};
 
 use crate::body::{BodyRead, read_body};
 use crate::error::MessageError;
 use crate::expect::{Expect, is_expected};
 use crate::view::MessageView;
-use framing::read_framing;
-use msg_head::{HeadRead, read_head};
+use framing::{Framing, read_framing};
+use msg_head::{HeadRead, HeadView, read_head};
 use std::alloc::Global;
 
 /// What the bytes begin with.
-#[derive(Debug, Drop)]
+#[derive(Drop)]
 pub enum MessageRead<'m> {
     /// A message, and how many bytes spell it.
     Whole(MessageView<'m>, usize),
     /// No end of a message is there yet, and there is room for more bytes.
     Partial,
+}
+
+// The framing that the head says, and what the bytes after it begin with.
+fn judge_rest<'m>(
+    alloc: Global,
+    bytes: &'m [u8],
+    head: &HeadView<'m>,
+    start: usize,
+    expect: Expect,
+    to_head: bool,
+) -> Result<(Framing, BodyRead<'m>), MessageError>
+    requires short { length bytes.now ≤ MAX_MESSAGE_BYTES }
+    requires view { IsViewOf bytes.now head.now start }
+    ensures { ExplainsRest expect to_head bytes.now head.now start result }
+{
+    if !is_expected(expect, head.start()) {
+        return Err(MessageError::BadStart);
+    }
+    let framed = read_framing(head, to_head)?;
+    let (_, rest) = bytes.split_at(start);
+    let body = read_body(alloc, rest, start, framed)?;
+    Ok((framed.framing, body))
 }
 
 // The answer to bytes, by its cause.
@@ -38,20 +61,17 @@ fn judge<'m>(
     ensures explains { ExplainsMessage expect to_head bytes.now result }
     ensures unfinished_head { IsUnfinished bytes.now → result ≡ Ok MessageRead.Partial }
 {
-    let (head, start) = match read_head(alloc, bytes)? {
-        HeadRead::Whole(head, start) => (head, start),
-        HeadRead::Partial => return Ok(MessageRead::Partial),
-    };
-    if !is_expected(expect, head.start()) {
-        return Err(MessageError::BadStart);
-    }
-    let framed = read_framing(&head, to_head)?;
-    let (_, rest) = bytes.split_at(start);
-    match read_body(alloc, rest, start, framed)? {
-        BodyRead::Whole(body, count) => {
-            Ok(MessageRead::Whole(MessageView::new(head, framed.framing, body), start + count))
+    match read_head(alloc, bytes)? {
+        HeadRead::Whole(head, start) => {
+            match judge_rest(alloc, bytes, &head, start, expect, to_head) {
+                Ok((framing, BodyRead::Whole(body, count))) => {
+                    Ok(MessageRead::Whole(MessageView::new(head, framing, body), start + count))
+                }
+                Ok((_, BodyRead::Partial)) => Ok(MessageRead::Partial),
+                Err(error) => Err(error),
+            }
         }
-        BodyRead::Partial => Ok(MessageRead::Partial),
+        HeadRead::Partial => Ok(MessageRead::Partial),
     }
 }
 

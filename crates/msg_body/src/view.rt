@@ -14,7 +14,7 @@ use std::marker::Model;
 
 /// A message, borrowed from its bytes. A contract sees it as the views of its head and its body and
 /// its framing, of which the message that it spells is a function.
-#[derive(Debug, Drop)]
+#[derive(Drop)]
 pub struct MessageView<'m> {
     head: HeadView<'m>,
     framing: Framing,

@@ -15,7 +15,7 @@ use framing::is_head_request;
 use std::alloc::Global;
 
 /// How a text is read as a message.
-#[derive(Clone, Copy, Debug, PartialEq, Eq)]
+#[derive(Clone, Copy)]
 pub struct Reading {
     /// The kind of message that it has to be.
     pub expect: Expect,

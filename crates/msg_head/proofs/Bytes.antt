@@ -34,11 +34,11 @@ clean_before test (c ∷ cs) (suc n) within none = elim (cases_Bool (test c)) [
   | inr not ↦ rw not (clean_before test cs n (omega (arith, within)) (λ k less. none (suc k) (omega (arith, less))))
 ]
 
--- the byte at the index passes it
-pub starts_at : (test : ℕ → Bool) (bytes : List ℕ) (n : ℕ) → n < length bytes → test (slice_index bytes n) ≡ true → starts_in test (drop n bytes) ≡ true
-starts_at test [] n less is = absurd (omega (arith, less))
-starts_at test (c ∷ cs) zero less is = is
-starts_at test (c ∷ cs) (suc n) less is = starts_at test cs n (omega (arith, less)) is
+-- the first byte from an index on is that at the index
+starts_is : (test : ℕ → Bool) (bytes : List ℕ) (n : ℕ) → n < length bytes → starts_in test (drop n bytes) ≡ test (slice_index bytes n)
+starts_is test [] n less = absurd (omega (arith, less))
+starts_is test (c ∷ cs) zero less = refl
+starts_is test (c ∷ cs) (suc n) less = starts_is test cs n (omega (arith, less))
 
 pub clean_all : (test : ℕ → Bool) (bytes : List ℕ) → ((k : ℕ) → k < length bytes → test (slice_index bytes k) ≡ true → ⊥)
     → list_all (λ c. not (test c)) bytes ≡ true
@@ -53,7 +53,7 @@ pub found_end : (bytes line rest : List ℕ) (n : ℕ) → line ≡ take n bytes
 found_end bytes line rest n line_is rest_is first = record {
   joined = sym (ap (λ l. l ++ rest) line_is ∙ ap (λ r. take n bytes ++ r) rest_is ∙ take-append-drop n bytes);
   clean = ap (list_all (λ c. not (is_end c))) line_is ∙ clean_before is_end bytes n (omega (arith, first.0.high)) (λ k less is. first.0.before k (omega arith) less is);
-  stops = inr (ap (starts_in is_end) rest_is ∙ starts_at is_end bytes n first.0.high first.1);
+  stops = inr (ap (starts_in is_end) rest_is ∙ starts_is is_end bytes n first.0.high ∙ first.1);
 }
 
 -- no end was found

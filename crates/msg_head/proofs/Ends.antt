@@ -1,9 +1,9 @@
 -- The end of a head or a trailer section: the first empty line.
-use Rattle.std.proofs.Common.{◌≡◌, ◌≢◌, ◌⊎◌, ℕ, ◌+◌, ◌==◌, List, [], ◌∷◌, ◌++◌, length, take, drop, get_or, Some, None, sym, ap, inl, inr, ◌∙◌, arith, append_assoc, length-append, length-take, refl, subst, codes}
+use Rattle.std.proofs.Common.{◌≡◌, ◌≢◌, ◌⊎◌, ℕ, zero, suc, ◌+◌, ◌-◌, ◌<◌, ◌==◌, List, [], ◌∷◌, ◌++◌, length, take, drop, get_or, Some, None, sym, ap, inl, inr, ◌∙◌, arith, append_assoc, length-append, length-take, refl, subst, codes}
 use Rattle.std.proofs.Math.ListN.{get_or-append}
 use Rattle.std.proofs.Math.Seq.{take-add}
 use Rattle.std.proofs.lemmas.Bool.{cases_lt, false≢true}
-use Rattle.std.proofs.lemmas.List.{nil_from_length, append_cancel_left, get_or-append-add, take-append-drop}
+use Rattle.std.proofs.lemmas.List.{nil_from_length, append_cancel_left, get_or-append-add, get_or-drop, length-drop, take-append-drop}
 use Rattle.memchr.specs.Find.{OccursAt, FindsNeedle}
 use Rattle.memchr.proofs.lemmas.MatchLemmas.{OccursAt-split}
 use Rattle.msg_head.specs.Cuts.{HasNoEnd, IsSection}
@@ -22,6 +22,78 @@ occurs_there before needle more bytes e = record {
 pub no_end_there : (bytes : List ℕ) → FindsNeedle bytes (codes "\r\n\r\n") 0 None → HasNoEnd bytes
 no_end_there bytes h before more e =
     h (length before) (omega arith) (omega (arith, ap (length {A = ℕ}) e, length-append before (codes "\r\n\r\n" ++ more))) (occurs_there before (codes "\r\n\r\n") more bytes e)
+
+-- what follows the first byte of an empty line's two ends
+inner : (bytes : List ℕ) (k : ℕ) → OccursAt bytes (codes "\r\n\r\n") k → OccursAt bytes (codes "\n\r\n") (k + 1)
+inner bytes k e = record {
+  fits = omega (arith, e.fits);
+  reads = λ j low.
+      let same : k + 1 + j ≡ k + suc j = omega arith in
+      ap (λ (m : ℕ). get_or bytes m 0) same ∙ e.reads (suc j) (omega (arith, low));
+}
+
+-- the same from an offset on
+inner_from : (bytes : List ℕ) (from k j : ℕ) → k + 1 ≡ from + j → OccursAt bytes (codes "\r\n\r\n") k → OccursAt (drop from bytes) (codes "\n\r\n") j
+inner_from bytes from k j same e =
+    let there = inner bytes k e in
+    record {
+      fits = omega (arith, same, there.fits, length-drop {A = ℕ} from bytes);
+      reads = λ i low.
+          let next : from + (j + i) ≡ k + 1 + i = omega (arith, same) in
+          get_or-drop from bytes (j + i) 0 ∙ ap (λ (m : ℕ). get_or bytes m 0) next ∙ there.reads i low;
+    }
+
+-- no empty line begins before the byte that is before the offset
+abbrev pub NoneBeginsBefore : List ℕ → ℕ → Type 0
+NoneBeginsBefore bytes from = (k : ℕ) → k + 1 < from → ¬ OccursAt bytes (codes "\r\n\r\n") k
+
+-- where none of these bytes is from the offset on, there is no empty line
+pub none_from : (bytes : List ℕ) (from : ℕ) → NoneBeginsBefore bytes from → FindsNeedle (drop from bytes) (codes "\n\r\n") 0 None → HasNoEnd bytes
+none_from bytes from before h = no_end_there bytes (λ k low high e. elim (cases_lt (k + 1) from) [
+  | inl less ↦ before k less e
+  | inr more ↦
+      let same : k + 1 ≡ from + (k + 1 - from) = omega (arith, more) in
+      let there = inner_from bytes from k (k + 1 - from) same e in
+      h (k + 1 - from) (omega arith) (omega (arith, there.fits)) there
+])
+
+-- none begins up to where they are found
+pub none_up_to : (bytes : List ℕ) (from n : ℕ) → NoneBeginsBefore bytes from → FindsNeedle (drop from bytes) (codes "\n\r\n") 0 (Some n) → NoneBeginsBefore bytes (from + n)
+none_up_to bytes from n before h k low e = elim (cases_lt (k + 1) from) [
+  | inl less ↦ before k less e
+  | inr more ↦
+      let same : k + 1 ≡ from + (k + 1 - from) = omega (arith, more) in
+      h.0.before (k + 1 - from) (omega arith) (omega (arith, low, more)) (inner_from bytes from k (k + 1 - from) same e)
+]
+
+-- nor there, where CR isn't before them
+pub none_past : (bytes : List ℕ) (at : ℕ) → NoneBeginsBefore bytes at → ((p : ℕ) → at ≡ p + 1 → get_or bytes p 0 ≢ 13) → NoneBeginsBefore bytes (at + 1)
+none_past bytes at before no_cr k low e = elim (cases_lt (k + 1) at) [
+  | inl less ↦ before k less e
+  | inr more ↦
+      let same : k + 0 ≡ k = omega arith in
+      no_cr k (omega (arith, low, more)) (sym (ap (λ (m : ℕ). get_or bytes m 0) same) ∙ e.reads 0 (omega arith))
+]
+
+outer : (bytes : List ℕ) (from n p : ℕ) → from + n ≡ p + 1 → get_or bytes p 0 ≡ 13 → OccursAt (drop from bytes) (codes "\n\r\n") n → (j : ℕ) → j < 4 → get_or bytes (p + j) 0 ≡ get_or (codes "\r\n\r\n") j 0
+outer bytes from n p same cr e zero low =
+    let here : p + 0 ≡ p = omega arith in
+    ap (λ (m : ℕ). get_or bytes m 0) here ∙ cr
+outer bytes from n p same cr e (suc j) low =
+    let next : p + suc j ≡ from + (n + j) = omega (arith, same) in
+    ap (λ (m : ℕ). get_or bytes m 0) next ∙ sym (get_or-drop from bytes (n + j) 0) ∙ e.reads j (omega (arith, low))
+
+-- and where CR is before them, the first empty line is there
+whole_there : (bytes : List ℕ) (from n p : ℕ) → from + n ≡ p + 1 → get_or bytes p 0 ≡ 13 → NoneBeginsBefore bytes from → FindsNeedle (drop from bytes) (codes "\n\r\n") 0 (Some n) → FindsNeedle bytes (codes "\r\n\r\n") 0 (Some p)
+whole_there bytes from n p same cr before h =
+    let size = length-drop {A = ℕ} from bytes in (
+      record {
+        low = omega arith;
+        high = omega (arith, same, size, h.1.fits);
+        before = λ k low high e. none_up_to bytes from n before h k (omega (arith, same, high)) e;
+      },
+      record { fits = omega (arith, same, size, h.1.fits); reads = outer bytes from n p same cr h.1 },
+    )
 
 -- and where it finds one, the bytes up to it are the section
 pub section_there : (bytes : List ℕ) (k : ℕ) → FindsNeedle bytes (codes "\r\n\r\n") 0 (Some k) → IsSection bytes (take (k + 4) bytes)
@@ -43,6 +115,11 @@ section_there bytes k h =
             | inr high ↦ nil_from_length other (omega (arith, high, ap (length {A = ℕ}) e, length-append one (codes "\r\n\r\n" ++ other), length-take {A = ℕ} (k + 4) bytes))
           ];
     }
+
+pub section_around : (bytes : List ℕ) (from n p : ℕ) → from + n ≡ p + 1 → get_or bytes p 0 ≡ 13 → NoneBeginsBefore bytes from → FindsNeedle (drop from bytes) (codes "\n\r\n") 0 (Some n) → IsSection bytes (take (from + n + 3) bytes)
+section_around bytes from n p same cr before h =
+    let size : p + 4 ≡ from + n + 3 = omega (arith, same) in
+    subst (λ (m : ℕ). IsSection bytes (take m bytes)) size (section_there bytes p (whole_there bytes from n p same cr before h))
 
 -- ---- after the last chunk's line
 

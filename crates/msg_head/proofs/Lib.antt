@@ -27,11 +27,7 @@ pub mod TrailerAnswers
 pub mod Deciding
 pub mod EachAnswers
 mod Bytes
-mod Lowered
-pub mod ByName
-mod FirstBytes
-mod NameOrder
-pub mod NamedLists
+pub mod FirstPlaces
 mod TextLaws
 mod Unfolded
 pub mod MoreLines

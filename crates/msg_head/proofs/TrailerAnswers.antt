@@ -7,7 +7,7 @@ use Rattle.std.proofs.lemmas.List.{length-map}
 use Rattle.byte_grammar.specs.Causes.{AnswersWhere}
 use Rattle.byte_grammar.proofs.AnswerLaws.{NamesFault, memory_if, answers_where}
 use Rattle.msg_head.specs.declared.limits.TheConstants.{MAX_HEAD_BYTES}
-use Rattle.msg_head.specs.declared.line.LineSpan.{LineSpan}
+use Rattle.line_index.specs.declared.span.LineSpan.{LineSpan}
 use Rattle.msg_head.specs.declared.trailer.TrailerRead.{TrailerRead}
 use Rattle.msg_head.specs.declared.trailer.TrailerRead.TheVariants.{Whole, Partial}
 use Rattle.msg_head.specs.declared.error.HeadError.{HeadError}

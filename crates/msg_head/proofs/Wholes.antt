@@ -4,7 +4,7 @@ use Rattle.std.specs.List.{flat_map}
 use Rattle.std.proofs.Math.Seq.{take-append_seam, drop-append_seam}
 use Rattle.std.proofs.lemmas.List.{append-nil, take_all, take-append-drop, length-map}
 use Rattle.msg_head.specs.declared.limits.TheConstants.{MAX_HEAD_BYTES}
-use Rattle.msg_head.specs.declared.line.LineSpan.{LineSpan}
+use Rattle.line_index.specs.declared.span.LineSpan.{LineSpan}
 use Rattle.msg_head.specs.Lines.{line_text}
 use Rattle.msg_head.specs.Starts.{StartLine, start_text}
 use Rattle.msg_head.specs.Cuts.{HasNoEnd, IsSection}

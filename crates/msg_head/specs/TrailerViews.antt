@@ -1,6 +1,6 @@
 -- What the view of a trailer section stands for.
 use Rattle.std.specs.Prelude.{◌≡◌, ℕ, ◌+◌, ◌≤◌, List, length, map, take}
-use Rattle.msg_head.specs.declared.line.LineSpan.{LineSpan}
+use Rattle.line_index.specs.declared.span.LineSpan.{LineSpan}
 use Rattle.msg_head.specs.Lines.{FieldLine}
 use Rattle.msg_head.specs.Views.{line_at, FollowEachOther}
 use Rattle.msg_head.specs.Trailers.{IsTrailerText}

@@ -1,7 +1,7 @@
 -- What a view stands for.
 use Rattle.std.specs.Prelude.{◌≡◌, ℕ, ◌+◌, ◌<◌, ◌≤◌, Bool, ◌&&◌, nat_le, nat_lt, List, [], ◌∷◌, length, map, take, option_map}
 use Rattle.std.specs.List.{slice_range}
-use Rattle.msg_head.specs.declared.line.LineSpan.{LineSpan}
+use Rattle.line_index.specs.declared.span.LineSpan.{LineSpan}
 use Rattle.msg_head.specs.declared.line.LineView.{LineView}
 use Rattle.msg_head.specs.declared.start.Start.{Start}
 use Rattle.msg_head.specs.declared.start.Start.TheVariants.{Request, Status}

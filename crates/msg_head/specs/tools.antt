@@ -4,4 +4,3 @@ pub mod Sections
 pub mod Judged
 pub mod TrailerJudged
 pub mod Walks
-pub mod Index

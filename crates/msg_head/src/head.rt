@@ -21,7 +21,7 @@ use crate::view::HeadView;
 use std::alloc::Global;
 
 /// What the bytes begin with.
-#[derive(Debug, Drop)]
+#[derive(Drop)]
 pub enum HeadRead<'m> {
     /// A head, and how many bytes spell it, the empty line at its end included.
     Whole(HeadView<'m>, usize),
@@ -30,6 +30,8 @@ pub enum HeadRead<'m> {
 }
 
 // The head that the section spells, or its fault where it has no naked end.
+// Inlined, as `judge` is, since a view is large and isn't moved then.
+#[inline(always)]
 fn read_section<'m>(alloc: Global, section: &'m [u8]) -> Result<HeadView<'m>, HeadError>
     requires is { IsSection section.now section.now }
     requires short { length section.now ≤ MAX_HEAD_BYTES }
@@ -45,6 +47,7 @@ fn read_section<'m>(alloc: Global, section: &'m [u8]) -> Result<HeadView<'m>, He
 }
 
 // The answer to bytes, by its cause.
+#[inline(always)]
 fn judge<'m>(alloc: Global, bytes: &'m [u8]) -> Result<HeadRead<'m>, HeadError>
     ensures explains { ExplainsHead bytes.now result }
     ensures partial { IsUnfinished bytes.now → result ≡ Ok HeadRead.Partial }

@@ -2,10 +2,10 @@
 //! lines after chunked content. And of each field line its name and its value (RFC 9110 section
 //! 5.1, RFC 9421 section 2.1).
 //!
-//! A head is read from the start of the bytes that hold it, and the view of it borrows them. It
-//! keeps the lines in order of their names too, by which the lines of a name are found. Raw values
-//! keep their obsolete line folding. The value of a line comes as borrowed pieces: its raw value
-//! without the blanks at its ends, each run of blanks and obsolete folds in it one space.
+//! A head is read from the start of the bytes that hold it, and the view of it borrows them. It has
+//! a `LineIndex` of the lines, by which those of a name are found. Raw values keep their obsolete
+//! line folding. The value of a line comes as borrowed pieces: its raw value without the blanks at
+//! its ends, each run of blanks and obsolete folds in it one space.
 //!
 //! ```text
 //! let bytes = b"GET / HTTP/1.1\r\nHost: example.com\r\n\r\n";
@@ -19,7 +19,6 @@
 mod blanks;
 mod error;
 mod head;
-mod index;
 mod laws;
 mod limits;
 mod line;
@@ -40,7 +39,8 @@ pub use laws::{
     further_line_laws, head_laws, heads_have_one_answer, trailers_have_one_answer, value_laws,
 };
 pub use limits::{MAX_HEAD_BYTES, MAX_HEAD_LINES};
-pub use line::{LineSpan, LineView};
+pub use line::LineView;
+pub use line_index::LineSpan;
 pub use named_lines::NamedFieldLines;
 pub use pieces::Pieces;
 pub use start::Start;

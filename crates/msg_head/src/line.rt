@@ -1,7 +1,9 @@
 //! Field lines.
 
 ghost use Rattle.std.specs.Prelude.{◌≡◌, ◌+◌, ◌<◌, ◌≤◌, ◌^◌, ℕ, List, length, IsTrue, IsSomeAnd, IfSome, IfOk, IfErr, MatchOption};
+ghost use Rattle.std.specs.Str.{byte};
 ghost use Rattle.byte_grammar.specs.Classes.{is_blank};
+ghost use Rattle.memchr.specs.Find.{IsFirstByte, is_byte3};
 ghost use Rattle.byte_grammar.specs.Language.{starts_in};
 ghost use Rattle.msg_head.specs.RawValues.{RawPieces, pieces_text};
 ghost use Rattle.msg_head.specs.Cuts.{AreLinesOf, MakesNoLine};
@@ -12,24 +14,14 @@ ghost use Rattle.msg_head.specs.tools.Sections.{IsRestOf, AreSpansOf, IsLinesFau
 
 use crate::error::{HeadError, Side};
 use crate::limits::MAX_HEAD_LINES;
-use crate::slices::{begins_with_crlf, prefix_before, rest_after, rest_from};
-use byte_grammar::{Class, is_blank};
-use memchr::memchr3;
+use crate::slices::{begins_with_crlf, rest_after, rest_from, split_name};
+use byte_grammar::is_blank;
+use line_index::LineSpan;
+use memchr::memchr3_iter;
 use std::alloc::Global;
 
-/// Where a field line is in the bytes of its message, in offsets from their first.
-#[derive(Clone, Copy, Debug, PartialEq, Eq)]
-pub struct LineSpan {
-    /// The offset of the name's first byte.
-    pub name: usize,
-    /// The offset of the colon.
-    pub colon: usize,
-    /// The offset of the first byte after the raw value.
-    pub end: usize,
-}
-
 /// A field line, borrowed from the bytes of its message (RFC 9112 section 5).
-#[derive(Clone, Copy, Debug)]
+#[derive(Clone, Copy)]
 pub struct LineView<'m> {
     /// The name as it is written, a token (RFC 9110 section 5.1).
     pub name: &'m [u8],
@@ -55,8 +47,18 @@ fn starts_with_blank(bytes: &[u8]) -> bool
     bytes.first().is_some_and(|byte| is_blank(*byte))
 }
 
+// Where the first NUL, CR or LF is. Most lines are short, and the iterator looks at 32 bytes first,
+// `memchr3` at 64.
+fn first_end(text: &[u8]) -> Option<usize>
+    ensures { IsFirstByte (is_byte3 (byte "\0") (byte "\r") (byte "\n")) text.now result }
+{
+    memchr3_iter(b'\0', b'\r', b'\n', text).next()
+}
+
 // What comes before the first CRLF that no blank follows, and what comes after it, where no NUL and
 // no half of a line's end is before it.
+// Inlined, since what it gives then keeps to registers.
+#[inline(always)]
 fn split_folded(text: &[u8]) -> Option<(&[u8], &[u8])>
     ensures sized { IfSome result
         (λ parts. length parts.0.now + 2 + length parts.1.now ≡ length text.now) }
@@ -67,7 +69,7 @@ fn split_folded(text: &[u8]) -> Option<(&[u8], &[u8])>
 {
     let mut left = text;
     'folds: loop {
-        let n = memchr3(b'\0', b'\r', b'\n', left)?;
+        let n = first_end(left)?;
         let after = rest_after(b"\r\n", rest_from(left, n))?;
         if !starts_with_blank(after) {
             return Some((&text[..text.len() - (after.len() + 2)], after));
@@ -85,7 +87,7 @@ fn read_line(bytes: &[u8]) -> Option<(LineView<'_>, &[u8])>
         → MatchOption result (MakesNoLine cut)
         (λ parts. ReadsLine cut more (field_line_of parts.0) parts.1.now) }
 {
-    let (name, after_name) = prefix_before(Class::Tchar, b':', bytes)?;
+    let (name, after_name) = split_name(bytes)?;
     if name.is_empty() {
         return None;
     }
@@ -154,7 +156,7 @@ pub(crate) fn read_lines(
     ensures err { (lines : List RawPieces) → AreLinesOf rest.now lines
         → IfErr result (λ fault. IsLinesFault side lines fault) }
 {
-    let mut spans = Vec::with_capacity(alloc, 16)?; // most heads have no more lines
+    let mut spans = Vec::with_capacity(alloc, 32)?; // most heads have no more lines
     let mut left = rest;
     'lines: loop {
         if begins_with_crlf(left) {

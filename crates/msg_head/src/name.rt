@@ -1,22 +1,11 @@
 //! Names of fields.
 
 ghost use Rattle.std.specs.Prelude.{◌≡◌};
-ghost use Rattle.std.specs.Str.{bytes_eq, str_to_ascii_lowercase};
 ghost use Rattle.msg_head.specs.Views.{field_line_of};
 ghost use Rattle.msg_head.specs.Names.{has_name};
 
 use crate::line::LineView;
-
-/// Whether the text in lower case is the name.
-pub(crate) fn is_lowered(text: &[u8], name: &[u8]) -> bool
-    ensures { result ≡ bytes_eq (str_to_ascii_lowercase text.now) name.now }
-{
-    text.len() == name.len()
-        && text
-            .iter()
-            .zip(name)
-            .all(|(written, lower)| written.to_ascii_lowercase() == *lower)
-}
+use line_index::is_lowered;
 
 impl<'m> LineView<'m> {
     /// Whether the line's name in lower case is the name. So a name with a letter in upper case is

@@ -1,51 +1,48 @@
 //! The field lines of a name, one after the other.
 
-use crate::index::IndexEntry;
-use crate::line::{LineSpan, LineView, line_at};
+use crate::line::{LineView, line_at};
+use line_index::NamedSpans;
 use std::marker::Model;
 
 /// The field lines of a name that are left, in order. A contract sees it as their list.
-#[derive(Debug, Drop)]
+#[derive(Drop)]
 pub struct NamedFieldLines<'h, 'm> {
     bytes: &'m [u8],
-    spans: &'h [LineSpan],
-    // The entries of those that are left.
-    left: &'h [IndexEntry],
+    // Where those are that are left.
+    left: NamedSpans<'h>,
 }
 
 impl<'h, 'm> Model for NamedFieldLines<'h, 'm> {
-    ghost use Rattle.std.specs.Prelude.{List, map};
+    ghost use Rattle.std.specs.Prelude.{List, map, length, IsTrue};
+    ghost use Rattle.std.specs.List.{list_all};
     ghost use Rattle.msg_head.specs.Lines.{FieldLine};
-    ghost use Rattle.msg_head.specs.tools.Index.{entry_line, AreChosen};
+    ghost use Rattle.msg_head.specs.Views.{line_at, lies_in};
 
     ghost Value = { List FieldLine };
 
-    ghost view = { λ n. map (entry_line n.bytes.now n.spans.now) n.left.now };
+    ghost view = { λ n. map (line_at n.bytes.now) n.left };
 
-    ghost invariant = { λ n. AreChosen n.bytes.now n.spans.now n.left.now };
+    ghost invariant = { λ n. IsTrue (list_all (lies_in (length n.bytes.now)) n.left) };
 }
 
 impl<'h, 'm> NamedFieldLines<'h, 'm> {
-    ghost use Rattle.std.specs.Prelude.{◌≡◌, ◌==◌, [], length, map};
-    ghost use Rattle.msg_head.specs.tools.Index.{entry_line, AreChosen};
+    ghost use Rattle.std.specs.Prelude.{◌≡◌, ◌==◌, [], length, map, IsTrue};
+    ghost use Rattle.std.specs.List.{list_all};
+    ghost use Rattle.msg_head.specs.Views.{line_at, lies_in};
 
-    /// The field lines of these entries.
-    pub(crate) fn new(
-        bytes: &'m [u8],
-        spans: &'h [LineSpan],
-        left: &'h [IndexEntry],
-    ) -> NamedFieldLines<'h, 'm>
-        requires { AreChosen bytes.now spans.now left.now }
-        ensures { result ≡ map (entry_line bytes.now spans.now) left.now }
+    /// The field lines that are there.
+    pub(crate) fn new(bytes: &'m [u8], left: NamedSpans<'h>) -> NamedFieldLines<'h, 'm>
+        requires { IsTrue (list_all (lies_in (length bytes.now)) left) }
+        ensures { result ≡ map (line_at bytes.now) left.entry }
     {
-        NamedFieldLines { bytes, spans, left }
+        NamedFieldLines { bytes, left }
     }
 
     /// The same once more.
     pub fn again(&self) -> NamedFieldLines<'h, 'm>
         ensures { result ≡ self.now }
     {
-        NamedFieldLines::new(self.bytes, self.spans, self.left)
+        NamedFieldLines::new(self.bytes, self.left.again())
     }
 
     /// No field lines.
@@ -54,8 +51,7 @@ impl<'h, 'm> NamedFieldLines<'h, 'm> {
     {
         NamedFieldLines {
             bytes: &[],
-            spans: &[],
-            left: &[],
+            left: NamedSpans::empty(),
         }
     }
 
@@ -85,8 +81,7 @@ impl<'h, 'm> Iterator for NamedFieldLines<'h, 'm> {
     ghost remaining = { item_count (λ lines. lines) };
 
     fn next(&mut self) -> Option<LineView<'m>> {
-        let (first, others) = self.left.split_first()?;
-        self.left = others;
-        Some(line_at(self.bytes, self.spans[first.line]))
+        let span = self.left.next()?;
+        Some(line_at(self.bytes, span))
     }
 }

@@ -3,7 +3,7 @@
 use crate::blanks::{skip_gap, split_text};
 
 /// The pieces of a line's value that are left.
-#[derive(Clone, Copy, Debug, Drop)]
+#[derive(Clone, Copy, Drop)]
 pub struct Pieces<'m> {
     // The bytes of the raw value that are left.
     pub(crate) left: &'m [u8],

@@ -15,8 +15,15 @@ pub(crate) fn head_section(bytes: &[u8]) -> Option<&[u8]>
     ensures some { IfSome result (λ section. IsSection bytes.now section.now) }
     ensures none { IfNone result (HasNoEnd bytes.now) }
 {
-    let end = memmem::find(bytes, b"\r\n\r\n")?;
-    Some(&bytes[..end + 4])
+    // each line ends with CRLF, but only before the empty line CR comes after LF
+    let mut from = 0;
+    'ends: loop {
+        let at = from + memmem::find(rest_from(bytes, from), b"\n\r\n")?;
+        if at > 0 && bytes[at - 1] == b'\r' {
+            return Some(&bytes[..at + 3]);
+        }
+        from = at + 1;
+    }
 }
 
 /// The bytes up to and with the end of the trailer section that they begin with.

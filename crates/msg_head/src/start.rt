@@ -9,7 +9,7 @@ use crate::slices::{allows_all, prefix_before, prefix_before_crlf};
 use byte_grammar::Class;
 
 /// A start line, borrowed from the bytes of its message (RFC 9112 section 2.1).
-#[derive(Clone, Copy, Debug)]
+#[derive(Clone, Copy)]
 pub enum Start<'m> {
     /// A request line (RFC 9112 section 3).
     Request {

@@ -22,7 +22,7 @@ use std::marker::Model;
 
 /// A trailer section, borrowed from its bytes. A contract sees it as the bytes and the offsets of
 /// the field lines, which fill the bytes.
-#[derive(Debug, Drop)]
+#[derive(Drop)]
 pub struct TrailerView<'m> {
     section: SectionLines<'m>,
 }
@@ -76,7 +76,7 @@ impl<'m> TrailerView<'m> {
 }
 
 /// What the bytes begin with.
-#[derive(Debug, Drop)]
+#[derive(Drop)]
 pub enum TrailerRead<'m> {
     /// A trailer section, and how many bytes spell it, the empty line at its end included.
     Whole(TrailerView<'m>, usize),

@@ -12,7 +12,7 @@ use std::marker::Model;
 
 /// A head, borrowed from its bytes. A contract sees it as the bytes, the start line and the offsets
 /// of the field lines, of which the head that they spell is a function. These fill the bytes.
-#[derive(Debug, Drop)]
+#[derive(Drop)]
 pub struct HeadView<'m> {
     start: Start<'m>,
     section: SectionLines<'m>,

@@ -3,7 +3,7 @@
 use sfv_text::Sequence;
 
 /// What a message is in its recording.
-#[derive(Clone, Copy, Debug, PartialEq, Eq)]
+#[derive(Clone, Copy, PartialEq, Eq)]
 pub enum Role {
     /// A request.
     Request,
@@ -14,7 +14,7 @@ pub enum Role {
 }
 
 /// What an item of a recording says. Its bytes are borrowed from the recording.
-#[derive(Clone, Copy, Debug)]
+#[derive(Clone, Copy)]
 pub enum ItemBody<'r> {
     /// The moment of what comes after it, in seconds since 1970 (`created` of RFC 9421 section 2.3
     /// counts so).
@@ -26,7 +26,7 @@ pub enum ItemBody<'r> {
 }
 
 /// An item of a recording.
-#[derive(Clone, Copy, Debug)]
+#[derive(Clone, Copy)]
 pub struct Item<'r> {
     /// The offset of its line in the recording.
     pub offset: u64,

@@ -12,7 +12,7 @@ use sfv_text::{Memory, Text, append_number, append_words};
 use std::alloc::Global;
 
 /// Why a text is refused: that of a file, or the input.
-#[derive(Debug, Drop)]
+#[derive(Drop)]
 pub enum FileRefusal {
     /// There is no file of the name.
     Missing,

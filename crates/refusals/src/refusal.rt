@@ -23,7 +23,7 @@ pub const MAX_RECORDING_BYTES: usize = 67_108_864;
 pub const MAX_CONF_BYTES: usize = 65_536;
 
 /// Why a run is refused.
-#[derive(Debug, Drop)]
+#[derive(Drop)]
 pub enum Refusal {
     /// The arguments are no command.
     Arguments,
@@ -34,7 +34,7 @@ pub enum Refusal {
 }
 
 /// Why a command is refused.
-#[derive(Debug, Drop)]
+#[derive(Drop)]
 pub enum CommandRefusal {
     /// PARAMS are no Inner List (RFC 9651 section 3.1.1): the longest prefix that begins one has so
     /// many bytes.
@@ -56,7 +56,7 @@ pub enum CommandRefusal {
 }
 
 /// Why a step of a script isn't taken.
-#[derive(Clone, Copy, Debug, PartialEq, Eq)]
+#[derive(Clone, Copy, PartialEq, Eq)]
 pub enum StepRefusal {
     /// The message that the step meets has no signature of the label that can be read.
     LabelUnread,

@@ -3,7 +3,7 @@
 use std::fmt;
 
 /// What a text is to the run that reads it.
-#[derive(Clone, Copy, Debug, PartialEq, Eq)]
+#[derive(Clone, Copy, PartialEq, Eq)]
 pub enum Role {
     /// The configuration.
     Conf,

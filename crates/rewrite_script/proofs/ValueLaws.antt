@@ -1,6 +1,8 @@
 -- Whether the words of a signature have values.
 use Rattle.std.proofs.Common.{◌≡◌, ◌⊎◌, inl, inr, ℕ, true, ◌&&◌, List, Result, Ok, Err, Option, Some, None, refl, sym, ap, subst, ◌∙◌, bytes_eq}
 use Rattle.std.specs.List.{list_all}
+use Rattle.std.specs.Prelude.{MatchResult}
+use Rattle.std.specs.Result.{result_and}
 use Rattle.std.proofs.lemmas.Bool.{cases_Bool, and_parts, and_from}
 use Rattle.std.proofs.lemmas.Slice.Eq.{bytes_eq-Decides}
 use Rattle.base64.specs.Engines.{standard}
@@ -16,6 +18,7 @@ use Rattle.rewrite_script.specs.declared.rewrite.Rewrite.{Rewrite}
 use Rattle.rewrite_script.specs.declared.rewrite.Rewrite.TheVariants.{Lines, Whole}
 use Rattle.rewrite_script.specs.declared.rewrite.WholeRewrite.TheVariants.{AddLabel, Rechunk, Chunk, Dechunk, Origin, Absolute, Host, Query, Resf}
 use Rattle.rewrite_script.specs.declared.fault.LineFault.{LineFault}
+use Rattle.rewrite_script.specs.declared.fault.LineFault.TheVariants.{Memory, NotSpelled}
 use Rattle.rewrite_script.specs.Lines.{HasValues, IsBase64, ReadsAsInner}
 use Rattle.rewrite_script.specs.tools.Gives.{GivesWhere}
 use Rattle.rewrite_script.proofs.Exactness.{some_is}
@@ -91,6 +94,13 @@ values_decided (Whole Absolute) = inl tt
 
 pub not_valued : (rewrite : Rewrite) → ¬ HasValues rewrite → (other : Rewrite) → Some rewrite ≡ Some other → ¬ HasValues other
 not_valued rewrite none other e values = none (subst (λ (r : Rewrite). HasValues r) (sym (some_is rewrite other e)) values)
+
+-- it is given where it was judged to have values
+pub given_judged : {T : Type 0} (judged : Result T LineFault) (rewrite : Rewrite) → MatchResult judged (λ _. HasValues rewrite) (λ fault. fault ≡ NotSpelled → ¬ HasValues rewrite)
+    → GivesWhere HasValues (λ r. r) (result_and judged (Ok rewrite)) (Some rewrite)
+given_judged (Ok x) rewrite values = (refl, values)
+given_judged (Err NotSpelled) rewrite none = not_valued rewrite (none refl)
+given_judged (Err Memory) rewrite none = tt
 
 pub given_where : (result : Result Rewrite LineFault) (rewrite : Rewrite) (read : Option Rewrite) → read ≡ Some rewrite → GivesWhere HasValues (λ r. r) result (Some rewrite) → GivesWhere HasValues (λ r. r) result read
 given_where result rewrite read is gives = subst (λ (o : Option Rewrite). GivesWhere HasValues (λ r. r) result o) (sym is) gives

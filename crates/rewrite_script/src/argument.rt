@@ -1,13 +1,14 @@
 //! The words of a line.
 
-ghost use Rattle.std.specs.Prelude.{◌≡◌, ◌<◌, map, option_map, IfOk, IsTrue};
+ghost use Rattle.std.specs.Prelude.{◌≡◌, ◌<◌, ◌++◌, ◌∷◌, [], ℕ, None, Some, map, option_map, IfOk, IsTrue, MatchResult};
 ghost use Rattle.std.specs.Char.{digit_value};
 ghost use Rattle.std.specs.List.{list_all};
 ghost use Rattle.std.specs.Str.{byte};
 ghost use Rattle.std.specs.Str.Parse.{digits_value};
 ghost use Rattle.byte_grammar.specs.Classes.{is_digit, is_line_byte, is_tchar, is_token};
 ghost use Rattle.rewrite_script.specs.Lines.{is_lower_name, is_lower_tchar, is_query_byte, is_query_text};
-ghost use Rattle.rewrite_script.specs.tools.LineWalk.{cut_read, side_read, is_number_word, has_leading_zero, number_read, is_blank_letter, are_blank_letters, blank_of, blanks_read, name_read, text_read, lower_name_read, query_text_read, sizes_read};
+ghost use Rattle.rewrite_script.specs.declared.fault.LineFault.TheVariants.{NotSpelled};
+ghost use Rattle.rewrite_script.specs.tools.LineWalk.{cut_read, side_read, is_number_word, has_leading_zero, number_read, is_blank_letter, are_blank_letters, blank_of, blanks_read, name_read, text_read, lower_name_read, query_text_read, sizes_read, some_if};
 ghost use Rattle.rewrite_script.specs.tools.Gives.{Gives};
 
 use crate::fault::LineFault;
@@ -171,6 +172,16 @@ pub(crate) fn blanks_of(alloc: Global, word: &[u8]) -> Result<Text, LineFault>
     Ok(blanks_of_letters(alloc, word)?)
 }
 
+/// The text of the bytes, where they are in its form.
+pub(crate) fn text_where(alloc: Global, is_so: bool, bytes: &[u8]) -> Result<Text, LineFault>
+    ensures { Gives (λ text. text) result (some_if is_so bytes.now) }
+{
+    if !is_so {
+        return Err(LineFault::NotSpelled);
+    }
+    Ok(Text::from_bytes(alloc, bytes)?)
+}
+
 fn are_tchars(bytes: &[u8]) -> bool
     ensures { result ≡ list_all is_tchar bytes.now }
 {
@@ -189,10 +200,7 @@ fn is_token(word: &[u8]) -> bool
 pub(crate) fn name_of(alloc: Global, word: &[u8]) -> Result<Text, LineFault>
     ensures { Gives (λ name. name) result (name_read word.now) }
 {
-    if !is_token(word) {
-        return Err(LineFault::NotSpelled);
-    }
-    Ok(Text::from_bytes(alloc, word)?)
+    text_where(alloc, is_token(word), word)
 }
 
 pub(crate) fn are_line_bytes(bytes: &[u8]) -> bool
@@ -206,10 +214,17 @@ pub(crate) fn are_line_bytes(bytes: &[u8]) -> bool
 pub(crate) fn text_of(alloc: Global, rest: &[u8]) -> Result<Text, LineFault>
     ensures { Gives (λ text. text) result (text_read rest.now) }
 {
-    if !are_line_bytes(rest) {
-        return Err(LineFault::NotSpelled);
-    }
-    Ok(Text::from_bytes(alloc, rest)?)
+    text_where(alloc, are_line_bytes(rest), rest)
+}
+
+/// Adds the number that the word writes.
+fn push_size(word: &[u8], sizes: &mut Sizes) -> Result<(), LineFault>
+    ensures { MatchResult result
+        (λ _. (n : ℕ) × (number_read word.now ≡ Some n) × (sizes.new ≡ sizes.old ++ n ∷ []))
+        (λ fault. fault ≡ NotSpelled → number_read word.now ≡ None) }
+{
+    let size = number_of(word)?;
+    Ok(sizes.push(size as u64)?)
 }
 
 /// Numbers, with SP between two of them.
@@ -220,10 +235,10 @@ pub(crate) fn sizes_of(alloc: Global, bytes: &[u8]) -> Result<Sizes, LineFault>
     let mut sizes = Sizes::new(alloc);
     let mut rest = bytes;
     'words: while let Some((word, after)) = cut(b' ', rest) {
-        sizes.push(number_of(word)? as u64)?;
+        push_size(word, &mut sizes)?;
         rest = after;
     }
-    sizes.push(number_of(rest)? as u64)?;
+    push_size(rest, &mut sizes)?;
     Ok(sizes)
 }
 
@@ -251,10 +266,7 @@ fn is_lower_name(word: &[u8]) -> bool
 pub(crate) fn lower_name_of(alloc: Global, word: &[u8]) -> Result<Text, LineFault>
     ensures { Gives (λ name. name) result (lower_name_read word.now) }
 {
-    if !is_lower_name(word) {
-        return Err(LineFault::NotSpelled);
-    }
-    Ok(Text::from_bytes(alloc, word)?)
+    text_where(alloc, is_lower_name(word), word)
 }
 
 fn is_query_byte(byte: u8) -> bool
@@ -281,8 +293,5 @@ fn is_query_text(text: &[u8]) -> bool
 pub(crate) fn query_text_of(alloc: Global, text: &[u8]) -> Result<Text, LineFault>
     ensures { Gives (λ query. query) result (query_text_read text.now) }
 {
-    if !is_query_text(text) {
-        return Err(LineFault::NotSpelled);
-    }
-    Ok(Text::from_bytes(alloc, text)?)
+    text_where(alloc, is_query_text(text), text)
 }

@@ -8,7 +8,7 @@ ghost use Rattle.rewrite_script.specs.Lines.{ends_in_space, is_base64_byte, is_l
 ghost use Rattle.rewrite_script.specs.tools.LineWalk.{key_read, tag_read, params_read};
 ghost use Rattle.rewrite_script.specs.tools.Gives.{Gives, Decides};
 
-use crate::argument::are_line_bytes;
+use crate::argument::{are_line_bytes, text_where};
 use crate::fault::LineFault;
 use crate::rewrite::{Rewrite, WholeRewrite};
 use base64::DecodeAllocError;
@@ -23,10 +23,7 @@ use std::alloc::Global;
 pub(crate) fn key_of(alloc: Global, word: &[u8]) -> Result<Text, LineFault>
     ensures { Gives (λ key. key) result (key_read word.now) }
 {
-    if !is_key(word) {
-        return Err(LineFault::NotSpelled);
-    }
-    Ok(Text::from_bytes(alloc, word)?)
+    text_where(alloc, is_key(word), word)
 }
 
 fn is_base64_byte(byte: u8) -> bool
@@ -46,10 +43,7 @@ fn are_base64_bytes(bytes: &[u8]) -> bool
 pub(crate) fn tag_of(alloc: Global, word: &[u8]) -> Result<Text, LineFault>
     ensures { Gives (λ tag. tag) result (tag_read word.now) }
 {
-    if !are_base64_bytes(word) {
-        return Err(LineFault::NotSpelled);
-    }
-    Ok(Text::from_bytes(alloc, word)?)
+    text_where(alloc, are_base64_bytes(word), word)
 }
 
 /// Whether the text's last byte is SP.
@@ -74,10 +68,7 @@ fn is_list_text(text: &[u8]) -> bool
 pub(crate) fn params_of(alloc: Global, rest: &[u8]) -> Result<Text, LineFault>
     ensures { Gives (λ params. params) result (params_read rest.now) }
 {
-    if !is_list_text(rest) {
-        return Err(LineFault::NotSpelled);
-    }
-    Ok(Text::from_bytes(alloc, rest)?)
+    text_where(alloc, is_list_text(rest), rest)
 }
 
 // ---- what they say

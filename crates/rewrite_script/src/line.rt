@@ -1,7 +1,8 @@
 //! The lines of the kinds of rewritings.
 
-ghost use Rattle.std.specs.Prelude.{Some};
-ghost use Rattle.std.specs.Str.{byte};
+ghost use Rattle.std.specs.Prelude.{◌≡◌, Some, MatchResult};
+ghost use Rattle.std.specs.Str.{byte, bytes_eq};
+ghost use Rattle.rewrite_script.specs.declared.fault.LineFault.TheVariants.{NotSpelled};
 ghost use Rattle.rewrite_script.specs.tools.LineWalk.{first_read, side_read, key_read, tag_read, number_read, blanks_read, name_read, two_read, pad_read, fold_read, unfold_read, join_read, split_read, move_read, case_read, add_read, remove_read, add_label_read, rechunk_read, chunk_read, host_read, query_read, resf_read, message_read, rewrite_read, word_read, line_read};
 ghost use Rattle.rewrite_script.specs.Lines.{HasValues};
 ghost use Rattle.rewrite_script.specs.tools.Gives.{Gives, GivesWhere};
@@ -16,6 +17,13 @@ use crate::rewrite::{LineRewrite, Rewrite, Sizes, WholeRewrite};
 use msg_head::Side;
 use sfv_text::Text;
 use std::alloc::Global;
+
+/// Whether it is the word.
+fn is_word(bytes: &[u8], word: &[u8]) -> bool
+    ensures { result ≡ bytes_eq bytes.now word.now }
+{
+    bytes == word
+}
 
 /// Reads a side and SP.
 #[tactic(auto, unfolding(crate::specs::tools::LineWalk::first_read))]
@@ -258,22 +266,22 @@ fn read_resf(alloc: Global, bytes: &[u8]) -> Result<Rewrite, LineFault>
 fn read_of_message(alloc: Global, kind: &[u8], rest: &[u8]) -> Result<Rewrite, LineFault>
     ensures { Gives (λ rewrite. rewrite) result (message_read kind.now rest.now) }
 {
-    if kind == b"add-label".as_slice() {
+    if is_word(kind, b"add-label") {
         return read_add_label(alloc, rest);
     }
-    if kind == b"rechunk".as_slice() {
+    if is_word(kind, b"rechunk") {
         return read_rechunk(alloc, rest);
     }
-    if kind == b"chunk".as_slice() {
+    if is_word(kind, b"chunk") {
         return read_chunk(alloc, rest);
     }
-    if kind == b"host".as_slice() {
+    if is_word(kind, b"host") {
         return read_host(alloc, rest);
     }
-    if kind == b"query".as_slice() {
+    if is_word(kind, b"query") {
         return read_query(alloc, rest);
     }
-    if kind == b"resf".as_slice() {
+    if is_word(kind, b"resf") {
         return read_resf(alloc, rest);
     }
     Err(LineFault::NotSpelled)
@@ -284,31 +292,31 @@ fn read_of_message(alloc: Global, kind: &[u8], rest: &[u8]) -> Result<Rewrite, L
 fn read_rewrite(alloc: Global, kind: &[u8], rest: &[u8]) -> Result<Rewrite, LineFault>
     ensures { Gives (λ rewrite. rewrite) result (rewrite_read kind.now rest.now) }
 {
-    if kind == b"pad".as_slice() {
+    if is_word(kind, b"pad") {
         return read_pad(alloc, rest);
     }
-    if kind == b"fold".as_slice() {
+    if is_word(kind, b"fold") {
         return read_fold(alloc, rest);
     }
-    if kind == b"unfold".as_slice() {
+    if is_word(kind, b"unfold") {
         return read_unfold(rest);
     }
-    if kind == b"join".as_slice() {
+    if is_word(kind, b"join") {
         return read_join(rest);
     }
-    if kind == b"split".as_slice() {
+    if is_word(kind, b"split") {
         return read_split(rest);
     }
-    if kind == b"move".as_slice() {
+    if is_word(kind, b"move") {
         return read_move(rest);
     }
-    if kind == b"case".as_slice() {
+    if is_word(kind, b"case") {
         return read_case(alloc, rest);
     }
-    if kind == b"add".as_slice() {
+    if is_word(kind, b"add") {
         return read_add(alloc, rest);
     }
-    if kind == b"remove".as_slice() {
+    if is_word(kind, b"remove") {
         return read_remove(rest);
     }
     read_of_message(alloc, kind, rest)
@@ -319,26 +327,26 @@ fn read_rewrite(alloc: Global, kind: &[u8], rest: &[u8]) -> Result<Rewrite, Line
 fn of_word(alloc: Global, word: &[u8]) -> Result<Rewrite, LineFault>
     ensures { Gives (λ rewrite. rewrite) result (word_read word.now) }
 {
-    if word == b"rechunk".as_slice() {
+    if is_word(word, b"rechunk") {
         return Ok(Rewrite::Whole(WholeRewrite::Rechunk {
             sizes: Sizes::new(alloc),
         }));
     }
-    if word == b"chunk".as_slice() {
+    if is_word(word, b"chunk") {
         return Ok(Rewrite::Whole(WholeRewrite::Chunk {
             sizes: Sizes::new(alloc),
         }));
     }
-    if word == b"dechunk".as_slice() {
+    if is_word(word, b"dechunk") {
         return Ok(Rewrite::Whole(WholeRewrite::Dechunk));
     }
-    if word == b"origin".as_slice() {
+    if is_word(word, b"origin") {
         return Ok(Rewrite::Whole(WholeRewrite::Origin));
     }
-    if word == b"absolute".as_slice() {
+    if is_word(word, b"absolute") {
         return Ok(Rewrite::Whole(WholeRewrite::Absolute));
     }
-    if word == b"query".as_slice() {
+    if is_word(word, b"query") {
         return Ok(Rewrite::Whole(WholeRewrite::Query { text: None }));
     }
     Err(LineFault::NotSpelled)
@@ -355,15 +363,24 @@ fn read_words(alloc: Global, line: &[u8]) -> Result<Rewrite, LineFault>
     }
 }
 
+/// Judges whether the words of the rewriting have values.
+fn judge_values(alloc: Global, rewrite: &Rewrite) -> Result<(), LineFault>
+    ensures { MatchResult result (λ _. HasValues rewrite.now)
+        (λ fault. fault ≡ NotSpelled → ¬ HasValues rewrite.now) }
+{
+    if !has_values(alloc, rewrite)? {
+        return Err(LineFault::NotSpelled);
+    }
+    Ok(())
+}
+
 /// The rewriting, where its words have values.
-#[tactic(auto, using(crate::proofs::ValueLaws::not_valued))]
+#[tactic(auto, using(crate::proofs::ValueLaws::given_judged))]
 fn with_values(alloc: Global, rewrite: Rewrite) -> Result<Rewrite, LineFault>
     ensures { GivesWhere HasValues (λ given. given) result (Some rewrite) }
 {
-    if !has_values(alloc, &rewrite)? {
-        return Err(LineFault::NotSpelled);
-    }
-    Ok(rewrite)
+    let judged = judge_values(alloc, &rewrite);
+    judged.and(Ok(rewrite))
 }
 
 /// Reads a line, without the LF at its end.

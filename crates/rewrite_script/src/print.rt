@@ -70,26 +70,31 @@ fn append_place(
     append_number(alloc, b" ", index, text)
 }
 
+/// The kind, the side and the index of the rewriting.
+fn place_of(rewrite: &LineRewrite) -> (&'static [u8], Side, usize)
+    ensures { result.0.now ∷ side_word result.1 ∷ decimal result.2 ∷ []
+        ≡ take 3 (line_rewrite_words rewrite.now) }
+{
+    match rewrite {
+        LineRewrite::Pad { side, index, .. } => (b"pad", *side, *index),
+        LineRewrite::Fold { side, index, .. } => (b"fold", *side, *index),
+        LineRewrite::Unfold { side, index, .. } => (b"unfold", *side, *index),
+        LineRewrite::Join { side, index, .. } => (b"join", *side, *index),
+        LineRewrite::Split { side, index, .. } => (b"split", *side, *index),
+        LineRewrite::Move { side, index, .. } => (b"move", *side, *index),
+        LineRewrite::Case { side, index, .. } => (b"case", *side, *index),
+        LineRewrite::Add { side, index, .. } => (b"add", *side, *index),
+        LineRewrite::Remove { side, index } => (b"remove", *side, *index),
+    }
+}
+
 /// Adds the kind, the side and the index of the rewriting.
 fn append_line_place(alloc: Global, rewrite: &LineRewrite, text: &mut Text) -> Result<(), Memory>
     ensures { OnOk result
         (text.new ≡ text.old ++ line_of_words (take 3 (line_rewrite_words rewrite.now))) }
 {
-    match rewrite {
-        LineRewrite::Pad { side, index, .. } => append_place(alloc, b"pad", *side, *index, text),
-        LineRewrite::Fold { side, index, .. } => append_place(alloc, b"fold", *side, *index, text),
-        LineRewrite::Unfold { side, index, .. } => {
-            append_place(alloc, b"unfold", *side, *index, text)
-        }
-        LineRewrite::Join { side, index, .. } => append_place(alloc, b"join", *side, *index, text),
-        LineRewrite::Split { side, index, .. } => {
-            append_place(alloc, b"split", *side, *index, text)
-        }
-        LineRewrite::Move { side, index, .. } => append_place(alloc, b"move", *side, *index, text),
-        LineRewrite::Case { side, index, .. } => append_place(alloc, b"case", *side, *index, text),
-        LineRewrite::Add { side, index, .. } => append_place(alloc, b"add", *side, *index, text),
-        LineRewrite::Remove { side, index } => append_place(alloc, b"remove", *side, *index, text),
-    }
+    let (kind, side, index) = place_of(rewrite);
+    append_place(alloc, kind, side, index, text)
 }
 
 /// Adds what comes after the index of the rewriting.
@@ -106,10 +111,10 @@ fn append_arguments(alloc: Global, rewrite: &LineRewrite, text: &mut Text) -> Re
             append_number(alloc, b" ", *at, text)?;
             append_blanks(blanks.bytes(), text)
         }
-        LineRewrite::Unfold { at, .. } => append_number(alloc, b" ", *at, text),
-        LineRewrite::Join { later, .. } => append_number(alloc, b" ", *later, text),
-        LineRewrite::Split { at, .. } => append_number(alloc, b" ", *at, text),
-        LineRewrite::Move { to, .. } => append_number(alloc, b" ", *to, text),
+        LineRewrite::Unfold { at, .. }
+        | LineRewrite::Join { later: at, .. }
+        | LineRewrite::Split { at, .. }
+        | LineRewrite::Move { to: at, .. } => append_number(alloc, b" ", *at, text),
         LineRewrite::Case { name, .. } => append_words(b" ", name.bytes(), text),
         LineRewrite::Add {
             name,
@@ -132,7 +137,58 @@ fn append_line_rewrite(alloc: Global, rewrite: &LineRewrite, text: &mut Text) ->
     append_arguments(alloc, rewrite, text)
 }
 
+/// The kind of a rewriting of a whole message.
+fn kind_of(rewrite: &WholeRewrite) -> &'static [u8]
+    ensures { whole_rewrite_words rewrite.now
+        ≡ result.now ∷ drop 1 (whole_rewrite_words rewrite.now) }
+{
+    match rewrite {
+        WholeRewrite::AddLabel { .. } => b"add-label",
+        WholeRewrite::Rechunk { .. } => b"rechunk",
+        WholeRewrite::Chunk { .. } => b"chunk",
+        WholeRewrite::Dechunk => b"dechunk",
+        WholeRewrite::Origin => b"origin",
+        WholeRewrite::Absolute => b"absolute",
+        WholeRewrite::Host { .. } => b"host",
+        WholeRewrite::Query { .. } => b"query",
+        WholeRewrite::Resf { .. } => b"resf",
+    }
+}
+
+/// Adds what comes after the kind of a rewriting of a whole message.
+fn append_whole_arguments(
+    alloc: Global,
+    rewrite: &WholeRewrite,
+    text: &mut Text,
+) -> Result<(), Memory>
+    ensures { OnOk result
+        (text.new ≡ text.old ++ words_after (drop 1 (whole_rewrite_words rewrite.now))) }
+{
+    match rewrite {
+        WholeRewrite::AddLabel { label, tag, params } => {
+            append_words(b" ", label.bytes(), text)?;
+            append_words(b" ", tag.bytes(), text)?;
+            append_words(b" ", params.bytes(), text)
+        }
+        WholeRewrite::Rechunk { sizes } | WholeRewrite::Chunk { sizes } => {
+            append_sizes(alloc, sizes.as_slice(), text)
+        }
+        WholeRewrite::Host { text: own } | WholeRewrite::Query { text: Some(own) } => {
+            append_words(b" ", own.bytes(), text)
+        }
+        WholeRewrite::Resf { side, name } => {
+            append_side(*side, text)?;
+            append_words(b" ", name.bytes(), text)
+        }
+        WholeRewrite::Dechunk
+        | WholeRewrite::Origin
+        | WholeRewrite::Absolute
+        | WholeRewrite::Query { text: None } => Ok(()),
+    }
+}
+
 /// Adds the line of a rewriting of a whole message, without its end.
+#[tactic(auto, using(crate::proofs::Printing::from_kind))]
 fn append_whole_rewrite(
     alloc: Global,
     rewrite: &WholeRewrite,
@@ -140,32 +196,8 @@ fn append_whole_rewrite(
 ) -> Result<(), Memory>
     ensures { OnOk result (text.new ≡ text.old ++ line_of_words (whole_rewrite_words rewrite.now)) }
 {
-    match rewrite {
-        WholeRewrite::AddLabel { label, tag, params } => {
-            append_words(b"add-label ", label.bytes(), text)?;
-            append_words(b" ", tag.bytes(), text)?;
-            append_words(b" ", params.bytes(), text)
-        }
-        WholeRewrite::Rechunk { sizes } => {
-            text.append(b"rechunk")?;
-            append_sizes(alloc, sizes.as_slice(), text)
-        }
-        WholeRewrite::Chunk { sizes } => {
-            text.append(b"chunk")?;
-            append_sizes(alloc, sizes.as_slice(), text)
-        }
-        WholeRewrite::Dechunk => text.append(b"dechunk"),
-        WholeRewrite::Origin => text.append(b"origin"),
-        WholeRewrite::Absolute => text.append(b"absolute"),
-        WholeRewrite::Host { text: own } => append_words(b"host ", own.bytes(), text),
-        WholeRewrite::Query { text: Some(own) } => append_words(b"query ", own.bytes(), text),
-        WholeRewrite::Query { text: None } => text.append(b"query"),
-        WholeRewrite::Resf { side, name } => {
-            text.append(b"resf")?;
-            append_side(*side, text)?;
-            append_words(b" ", name.bytes(), text)
-        }
-    }
+    text.append(kind_of(rewrite))?;
+    append_whole_arguments(alloc, rewrite, text)
 }
 
 /// Adds the line of a rewriting, without its end.

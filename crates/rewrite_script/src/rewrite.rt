@@ -5,7 +5,7 @@ use sfv_text::{Sequence, Text};
 
 /// A rewriting of the field lines of a side. An index counts these lines, an offset the bytes of a
 /// line's raw value, both from 0. Blanks are SP and HTAB, at most `MAX_BLANKS` of them.
-#[derive(Debug, Drop)]
+#[derive(Drop)]
 pub enum LineRewrite {
     /// `pad`: the blanks at both ends of the raw value become these.
     Pad {
@@ -66,7 +66,7 @@ pub enum LineRewrite {
 }
 
 /// A rewriting of a whole message: of its target, its content, a field by its name.
-#[derive(Debug, Drop)]
+#[derive(Drop)]
 pub enum WholeRewrite {
     /// `add-label`: lines with a signature of this label are put in (RFC 9421 section 4). The tag
     /// is its bytes in base64, `params` the covered components and the signature parameters.
@@ -106,7 +106,7 @@ pub enum WholeRewrite {
 }
 
 /// A rewriting of a message.
-#[derive(Debug, Drop)]
+#[derive(Drop)]
 pub enum Rewrite {
     /// Of field lines, by their indexes.
     Lines(LineRewrite),

@@ -11,7 +11,7 @@ use std::alloc::Global;
 use verdicts::Verdict;
 
 /// What the report on a sample says, in numbers.
-#[derive(Clone, Copy, Debug, PartialEq, Eq)]
+#[derive(Clone, Copy, PartialEq, Eq)]
 pub struct Summary {
     /// The hops.
     pub hops: usize,

@@ -11,7 +11,7 @@ use sfv_text::Text;
 use std::alloc::Global;
 
 /// How signatures are judged: the table `policy`.
-#[derive(Debug, Drop)]
+#[derive(Drop)]
 pub struct Policy {
     /// How many seconds after its creation a signature is taken (RFC 9421 section 2.3).
     pub max_age: u64,
@@ -34,7 +34,7 @@ pub struct Policy {
 }
 
 /// What is asked of the parameter `nonce` (RFC 9421 section 2.3).
-#[derive(Clone, Copy, Debug, PartialEq, Eq)]
+#[derive(Clone, Copy, PartialEq, Eq)]
 pub enum NonceUse {
     /// Nothing.
     Ignore,
@@ -46,7 +46,7 @@ pub enum NonceUse {
 
 /// When a digest of the content has to be covered, and to be that of the content (RFC 9530 section
 /// 2).
-#[derive(Clone, Copy, Debug, PartialEq, Eq)]
+#[derive(Clone, Copy, PartialEq, Eq)]
 pub enum DigestUse {
     /// Never.
     Ignore,

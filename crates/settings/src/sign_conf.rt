@@ -7,7 +7,7 @@ use component_ids::Ids;
 use sfv_text::Text;
 
 /// How messages are signed: the table `sign`.
-#[derive(Debug, Drop)]
+#[derive(Drop)]
 pub struct SignConf {
     /// The label of the signature, a key of a Dictionary (RFC 9421 section 4).
     pub label: Text,
@@ -28,7 +28,7 @@ pub struct SignConf {
 }
 
 /// The digest of the content that is added to a message before it is signed (RFC 9530 section 2).
-#[derive(Clone, Copy, Debug, PartialEq, Eq)]
+#[derive(Clone, Copy, PartialEq, Eq)]
 pub enum SignDigest {
     /// No digest is added.
     No,

@@ -40,7 +40,7 @@ impl fmt::Display for SfError {
 impl Error for SfError {}
 
 /// Why a reader inside a text stopped.
-#[derive(Clone, Copy, Debug, PartialEq, Eq)]
+#[derive(Clone, Copy, PartialEq, Eq)]
 pub enum PartError {
     /// Out of memory.
     Memory,

@@ -1,5 +1,5 @@
 -- The places of pairs by their keys, as pairs come and are replaced.
-use Rattle.std.proofs.Common.{◌≡◌, get_or, set, take, ℕ, zero, suc, ◌+◌, ◌<◌, Bool, true, false, cond, List, [], ◌∷◌, ◌++◌, length, refl, sym, ap, ◌∙◌, arith, inl, inr, Some, None, Option}
+use Rattle.std.proofs.Common.{◌≡◌, get_or, set, take, ℕ, zero, suc, ◌+◌, ◌<◌, Bool, true, false, cond, IsTrue, List, [], ◌∷◌, ◌++◌, length, refl, sym, subst, ap, ◌∙◌, arith, inl, inr, Some, None, Option}
 use Rattle.std.proofs.lemmas.Bool.{cases_Bool, lt-ltb}
 use Rattle.std.proofs.lemmas.Bool.Decides.{same_from_decides, Decides-ltb}
 use Rattle.std.proofs.lemmas.List.{length-set, length-take-le, take_more}
@@ -14,9 +14,9 @@ use Rattle.std.specs.List.{find, list_any, position, position_or_len}
 use Rattle.std.specs.Prelude.{nat_lt, option_map, slice_get}
 use Rattle.std.specs.Str.{bytes_eq}
 use Rattle.sfv_text.specs.declared.pair.Pair.{Pair}
-use Rattle.sfv_text.specs.Keys.{has_key, have_distinct_keys}
-use Rattle.sfv_text.specs.tools.Index.{Places, ArePlacesOf}
-use Rattle.sfv_text.proofs.PutLaws.{bytes_eq-sym, distinct_parts, or_false, none_found}
+use Rattle.sfv_text.specs.Keys.{has_key, have_distinct_keys, put}
+use Rattle.sfv_text.specs.tools.Index.{Places, ArePlacesOf, Indexes}
+use Rattle.sfv_text.proofs.PutLaws.{bytes_eq-sym, distinct_parts, or_false, none_found, none_has, put_found, put_found_distinct, put_new, put_new_distinct}
 
 -- a place in a list of that length, or none
 abbrev place_in : ℕ → ℕ → Option ℕ
@@ -131,3 +131,41 @@ next_place {V} places ps i d distinct lt are =
     let len : length (take i ps) ≡ i = length-take-le i ps (omega arith) in
     let more : ArePlacesOf (map.insert places (get_or ps i d).key (length (take i ps))) (take i ps ++ get_or ps i d ∷ []) = one_more_place places (take i ps) (get_or ps i d) are (new_at ps i d distinct lt) in
     rw (take_more ps i d lt) (rw len at more)
+
+-- ---- a put, in the terms of its steps
+
+-- where the key is found at no place, no pair has it
+pub none_in : {V : Type 0} (pairs given : List (Pair V)) (key bytes : List ℕ) → None ≡ position (has_key bytes) given → bytes ≡ key → given ≡ pairs → list_any (has_key key) pairs ≡ false
+none_in {V} pairs given key bytes none same are = none_has pairs key (sym (none ∙ (λ i. position (has_key {V = V} (same i)) (are i))))
+
+-- the pair at the end keeps the keys distinct, and has its place
+pub new_pair : {V : Type 0} (index : Option Places) (pairs made after : List (Pair V)) (key bytes : List ℕ) (value : V) → after ≡ made ++ record { key = key; value = value } ∷ [] → made ≡ pairs
+    → bytes ≡ key → have_distinct_keys pairs ≡ true → list_any (has_key key) pairs ≡ false → ((v : V) → Indexes index (pairs ++ record { key = bytes; value = v } ∷ []))
+    → IsTrue (have_distinct_keys after) × Indexes index after
+new_pair {V} index pairs made after key bytes value is kept same distinct none places =
+    let e : after ≡ pairs ++ record { key = key; value = value } ∷ [] = is ∙ ap (λ (ps : List (Pair V)). ps ++ record { key = key; value = value } ∷ []) kept in
+    let at : Indexes index (pairs ++ record { key = key; value = value } ∷ []) = subst (λ k. Indexes index (pairs ++ record { key = k; value = value } ∷ [])) same (places value) in
+    subst (λ ps. IsTrue (have_distinct_keys ps) × Indexes index ps) (sym e) (put_new_distinct pairs key value distinct none, at)
+
+pub new_put : {V : Type 0} (old pairs made after : List (Pair V)) (key : List ℕ) (value : V) → after ≡ made ++ record { key = key; value = value } ∷ [] → made ≡ pairs → pairs ≡ old
+    → list_any (has_key key) pairs ≡ false → after ≡ put old key value
+new_put {V} old pairs made after key value is kept same none =
+    is ∙ ap (λ (ps : List (Pair V)). ps ++ record { key = key; value = value } ∷ []) kept ∙ put_new pairs key value none ∙ ap (λ (ps : List (Pair V)). put ps key value) same
+
+place_of_key : {V : Type 0} (pairs given : List (Pair V)) (key bytes : List ℕ) (place : ℕ) → Some place ≡ position (has_key bytes) given → bytes ≡ key → given ≡ pairs
+    → position (has_key key) pairs ≡ Some place
+place_of_key {V} pairs given key bytes place found same are = sym (found ∙ (λ i. position (has_key {V = V} (same i)) (are i)))
+
+-- a pair in place of that of the key keeps the keys distinct, and has its place
+pub found_pair : {V : Type 0} (index : Option Places) (pairs given : List (Pair V)) (key bytes : List ℕ) (value : V) (place : ℕ) → Some place ≡ position (has_key bytes) given → bytes ≡ key
+    → given ≡ pairs → have_distinct_keys pairs ≡ true → Indexes index pairs
+    → IsTrue (have_distinct_keys (set pairs place (record { key = key; value = value }))) × Indexes index (set pairs place (record { key = key; value = value }))
+found_pair {V} None pairs given key bytes value place found same are distinct is = (put_found_distinct pairs key value place distinct (place_of_key pairs given key bytes place found same are), is)
+found_pair {V} (Some places) pairs given key bytes value place found same are distinct is =
+    let at = place_of_key pairs given key bytes place found same are in
+    (put_found_distinct pairs key value place distinct at, same_places places pairs key value place is at)
+
+pub found_put : {V : Type 0} (old pairs given : List (Pair V)) (key bytes : List ℕ) (value : V) (place : ℕ) → Some place ≡ position (has_key bytes) given → bytes ≡ key → given ≡ pairs → pairs ≡ old
+    → have_distinct_keys pairs ≡ true → set pairs place (record { key = key; value = value }) ≡ put old key value
+found_put {V} old pairs given key bytes value place found same are is distinct =
+    put_found pairs key value place distinct (place_of_key pairs given key bytes place found same are) ∙ ap (λ (ps : List (Pair V)). put ps key value) is

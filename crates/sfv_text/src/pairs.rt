@@ -1,6 +1,6 @@
 //! Lists of pairs with distinct keys.
 
-ghost use Rattle.std.specs.Prelude.{◌≡◌, ◌<◌, ◌↔◌, true, false, [], Some, IfSome, IfNone, length, slice_get, option_copied, IsTrue, OnOk, OnErr};
+ghost use Rattle.std.specs.Prelude.{◌≡◌, ◌<◌, ◌++◌, ◌∷◌, ◌↔◌, true, false, [], Some, IfSome, IfNone, length, slice_get, option_copied, vec_len, vec_capacity, IsTrue, OnOk, OnErr};
 ghost use Rattle.std.specs.List.{find, list_any};
 ghost use Rattle.std.specs.Slice.Iter.{iter_rest};
 ghost use Rattle.sfv_text.specs.Keys.{put, has_key, have_distinct_keys, value_of};
@@ -47,6 +47,27 @@ fn pair_of<'a, V>(index: &Option<KeyIndex>, pairs: &'a [Pair<V>], key: &[u8]) ->
         Some(place) => Some(&pairs[place]),
         None => None,
     }
+}
+
+/// Makes room for a pair that is to come at the end, and takes in its key. Out of memory, both
+/// stay as they were.
+fn make_room<V>(
+    index: &mut Option<KeyIndex>,
+    pairs: &mut Vec<Pair<V>>,
+    key: &[u8],
+) -> Result<(), Memory>
+    requires distinct { IsTrue (have_distinct_keys pairs.old.items) }
+    requires places { Indexes index.old pairs.old.items }
+    requires new_key { list_any (has_key key.now) pairs.old.items ≡ false }
+    ensures pairs { pairs.new.items ≡ pairs.old.items }
+    ensures room { OnOk result (vec_len pairs.new < vec_capacity pairs.new) }
+    ensures ok { OnOk result ((value : V) → Indexes index.new
+        (pairs.old.items ++ record { key = key.now; value = value } ∷ [])) }
+    ensures err { OnErr result (index.new ≡ index.old) }
+{
+    pairs.reserve(1)?;
+    let alloc = *pairs.allocator();
+    index_new(alloc, index, pairs.as_slice(), key)
 }
 
 impl<V: Drop> Pairs<V> {
@@ -113,21 +134,21 @@ impl<V: Drop> Pairs<V> {
 
     /// Replaces the value of the key in its place, or adds the pair at the end. Out of memory,
     /// the key and the value are dropped.
-    #[tactic(auto, using(crate::proofs::PutLaws::none_has, crate::proofs::PutLaws::put_new, crate::proofs::PutLaws::put_found, crate::proofs::PutLaws::put_found_distinct, crate::proofs::PutLaws::put_new_distinct, crate::proofs::IndexLaws::same_places))]
     pub fn put(&mut self, key: Text, value: V) -> Result<(), Memory>
         ensures ok { OnOk result (self.new ≡ put self.old key value) }
         ensures err { OnErr result (self.new ≡ self.old) }
         ensures new_key { OnErr result (list_any (has_key key) self.old ≡ false) }
     {
         match place_of(&self.index, self.pairs.as_slice(), key.bytes()) {
-            Some(place) => self.pairs[place] = Pair { key, value },
+            Some(place) => {
+                self.pairs[place] = Pair { key, value };
+                Ok(())
+            }
             None => {
-                self.pairs.reserve(1)?;
-                let alloc = *self.pairs.allocator();
-                index_new(alloc, &mut self.index, self.pairs.as_slice(), key.bytes())?;
+                make_room(&mut self.index, &mut self.pairs, key.bytes())?;
                 self.pairs.push_reserved(Pair { key, value });
+                Ok(())
             }
         }
-        Ok(())
     }
 }

@@ -9,7 +9,7 @@ use std::marker::Model;
 use std::slice::Iter;
 
 /// A list that owns its elements. A contract sees it as the list of their values.
-#[derive(Debug, Drop)]
+#[derive(Drop)]
 pub struct Sequence<T> {
     elements: Vec<T>,
 }

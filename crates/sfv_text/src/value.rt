@@ -1,6 +1,6 @@
 //! The values of structured fields (RFC 9651 section 3).
 
-ghost use Rattle.std.specs.Prelude.{◌≡◌, ◌≤◌, ◌<◌, ◌↔◌, ◌⊎◌, length, option_map, option_and_then, IsTrue, IfOk, IfErr, IfSome};
+ghost use Rattle.std.specs.Prelude.{◌≡◌, ◌≤◌, ◌<◌, ◌++◌, ◌↔◌, ◌⊎◌, length, option_map, option_and_then, IsTrue, IfOk, IfErr, IfSome, OnOk};
 ghost use Rattle.std.specs.List.{list_all};
 ghost use Rattle.sfv_text.specs.declared.short.TheConstants.{IN_PLACE};
 ghost use Rattle.sfv_text.specs.Equality.{is_equal_bare, is_equal_param};
@@ -93,6 +93,20 @@ fn copy_of_param(alloc: Global, param: &Pair<BareItem>) -> Result<Pair<BareItem>
     })
 }
 
+fn append_copies(
+    alloc: Global,
+    params: &[Pair<BareItem>],
+    copies: &mut Vec<Pair<BareItem>>,
+) -> Result<(), Memory>
+    ensures { OnOk result (copies.new.items ≡ copies.old.items ++ params.now) }
+{
+    for param in params {
+        copies.reserve(1)?;
+        copies.push_reserved(copy_of_param(alloc, param)?);
+    }
+    Ok(())
+}
+
 impl Pairs<BareItem> {
     /// Equal parameters of their own.
     pub fn copy(&self, alloc: Global) -> Result<Params, Memory>
@@ -104,11 +118,7 @@ impl Pairs<BareItem> {
             return Ok(Pairs::new(alloc));
         }
         let mut copies = Vec::with_capacity(alloc, params.len())?;
-        for param in params {
-            let copy = copy_of_param(alloc, param)?;
-            copies.reserve(1)?;
-            copies.push_reserved(copy);
-        }
+        append_copies(alloc, params, &mut copies)?;
         Ok(Pairs::from_vec(copies))
     }
 
@@ -137,7 +147,7 @@ impl Pairs<BareItem> {
 }
 
 /// An Item: a bare item with its parameters (RFC 9651 section 3.3).
-#[derive(Debug, Drop)]
+#[derive(Drop)]
 pub struct Item {
     pub bare: BareItem,
     pub params: Params,
@@ -161,14 +171,14 @@ impl Item {
 pub type Items = Sequence<Item>;
 
 /// An Inner List: Items, and parameters of the list itself (RFC 9651 section 3.1.1).
-#[derive(Debug, Drop)]
+#[derive(Drop)]
 pub struct InnerList {
     pub items: Items,
     pub params: Params,
 }
 
 /// A member of a List, or the value of a Dictionary's member (RFC 9651 sections 3.1 and 3.2).
-#[derive(Debug, Drop)]
+#[derive(Drop)]
 pub enum Member {
     Item(Item),
     InnerList(InnerList),

@@ -12,7 +12,7 @@ use sfv_text::{Dict, Memory};
 use std::alloc::Global;
 
 /// What was read of a header field that is to be a Dictionary (RFC 9651 section 3.2).
-#[derive(Debug, Drop)]
+#[derive(Drop)]
 pub enum DictField {
     /// No line has the name.
     Absent,

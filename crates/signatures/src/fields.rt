@@ -25,7 +25,7 @@ use std::alloc::Global;
 
 /// What was read of the header fields `Signature-Input` and `Signature` of a message (RFC 9421
 /// sections 4.1 and 4.2), so that each is read once for all labels.
-#[derive(Debug, Drop)]
+#[derive(Drop)]
 pub struct SignatureFields {
     input: DictField,
     signature: DictField,

@@ -11,7 +11,7 @@ use std::fmt;
 pub type Labels = Sequence<Text>;
 
 /// The signature of a label.
-#[derive(Debug, Drop)]
+#[derive(Drop)]
 pub struct LabelRead {
     /// Its covered components and parameters (RFC 9421 section 4.1).
     pub params: SigParams,

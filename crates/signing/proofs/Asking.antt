@@ -1,5 +1,5 @@
 -- The parameters that a configuration asks for, and that what it asks for can be signed.
-use Rattle.std.proofs.Common.{◌≡◌, ◌≤◌, ℕ, Bool, true, false, ◌&&◌, nat_le, nat_lt, Option, Some, None, IfSome, List, [], ◌++◌, codes, length, ◌+◌, ◌^◌, if◌then◌else◌, refl, arith}
+use Rattle.std.proofs.Common.{◌≡◌, ◌≤◌, ℕ, Bool, true, false, ◌&&◌, nat_le, nat_lt, Option, Some, None, IfSome, List, [], ◌++◌, codes, length, ◌+◌, ◌^◌, if◌then◌else◌, refl, arith, Result, Ok, Err, OnOk}
 use Rattle.std.specs.Prelude.{option_map}
 use Rattle.std.specs.List.{list_all}
 use Rattle.std.proofs.Math.Nat.{min-le_right}
@@ -52,12 +52,19 @@ put_values now (Some e) (Some n) (Some a) keyid None = refl
 put_values now (Some e) (Some n) (Some a) keyid (Some t) = refl
 
 -- by what each step leaves
-pub asked_by_steps : (now : ℕ) (expires : Option ℕ) (nonce alg : Option (List ℕ)) (keyid : List ℕ) (tag : Option (List ℕ)) (p0 p1 p2 p3 p4 p5 p6 : List (Pair BareItem)) → p0 ≡ []
+asked_by_steps : (now : ℕ) (expires : Option ℕ) (nonce alg : Option (List ℕ)) (keyid : List ℕ) (tag : Option (List ℕ)) (p0 p1 p2 p3 p4 p5 p6 : List (Pair BareItem)) → p0 ≡ []
     → p1 ≡ put_given p0 (codes "created") moment_item (Some now) → p2 ≡ put_given p1 (codes "expires") moment_item expires → p3 ≡ put_given p2 (codes "nonce") Str nonce
     → p4 ≡ put_given p3 (codes "alg") Str alg → p5 ≡ put_given p4 (codes "keyid") Str (Some keyid) → p6 ≡ put_given p5 (codes "tag") Str tag
     → p6 ≡ params_of_values now expires nonce alg keyid tag
 asked_by_steps now expires nonce alg keyid tag p0 p1 p2 p3 p4 p5 p6 e0 e1 e2 e3 e4 e5 e6 =
     rw (e6, e5, e4, e3, e2, e1, e0) (put_values now expires nonce alg keyid tag)
+
+pub put_by_steps : {E : Type 0} (now : ℕ) (expires : Option ℕ) (nonce alg : Option (List ℕ)) (keyid : List ℕ) (tag : Option (List ℕ)) (p0 p1 p2 p3 p4 p5 p6 : List (Pair BareItem)) (result : Result Unit E)
+    → p0 ≡ [] → p1 ≡ put_given p0 (codes "created") moment_item (Some now) → p2 ≡ put_given p1 (codes "expires") moment_item expires → p3 ≡ put_given p2 (codes "nonce") Str nonce
+    → p4 ≡ put_given p3 (codes "alg") Str alg → p5 ≡ put_given p4 (codes "keyid") Str (Some keyid) → OnOk result (p6 ≡ put_given p5 (codes "tag") Str tag)
+    → OnOk result (p6 ≡ params_of_values now expires nonce alg keyid tag)
+put_by_steps now expires text alg keyid tag p0 p1 p2 p3 p4 p5 p6 (Ok done) e0 e1 e2 e3 e4 e5 e6 = asked_by_steps now expires text alg keyid tag p0 p1 p2 p3 p4 p5 p6 e0 e1 e2 e3 e4 e5 e6
+put_by_steps now expires text alg keyid tag p0 p1 p2 p3 p4 p5 p6 (Err fault) e0 e1 e2 e3 e4 e5 e6 = tt
 
 -- ---- what is asked for can be signed
 

@@ -1,5 +1,5 @@
 -- The causes for which a message isn't signed, one after the other.
-use Rattle.std.proofs.Common.{◌≡◌, ◌≢◌, ◌<◌, lit<, ℕ, zero, suc, Bool, true, false, ◌||◌, [], ◌∷◌, take, Option, Some, None, Err, List, refl, sym, subst, ◌∙◌, arith, inl, inr}
+use Rattle.std.proofs.Common.{◌≡◌, ◌<◌, lit<, ℕ, zero, suc, Bool, true, false, ◌||◌, [], ◌∷◌, take, Option, Some, None, Err, List, refl, sym, subst, ◌∙◌, arith, inl, inr}
 use Rattle.std.specs.Prelude.{MatchOption}
 use Rattle.std.specs.List.{list_any, slice_get}
 use Rattle.std.proofs.lemmas.Bool.{cases_order, false≢true}

@@ -1,5 +1,5 @@
 -- The parameters of a wish as they are signed, step by step.
-use Rattle.std.proofs.Common.{◌≡◌, ◌≤◌, ◌+◌, ◌^◌, ℕ, Bool, true, false, ◌&&◌, ◌||◌, nat_lt, is_some, Option, Some, None, List, [], ◌∷◌, ◌++◌, map, codes, if◌then◌else◌, refl, sym, ap, subst, ◌∙◌, append_assoc, arith, inl, inr}
+use Rattle.std.proofs.Common.{◌≡◌, ◌≤◌, ◌+◌, ◌^◌, ℕ, Bool, true, false, ◌&&◌, ◌||◌, nat_lt, is_some, Option, Some, None, List, [], ◌∷◌, ◌++◌, map, codes, if◌then◌else◌, refl, sym, ap, subst, ◌∙◌, append_assoc, arith, inl, inr, Result, Ok, Err, OnOk}
 use Rattle.std.specs.List.{list_all, list_any}
 use Rattle.std.specs.Str.{bytes_eq}
 use Rattle.std.proofs.lemmas.Bool.{and_from, and_parts, cases_Bool, false≢true, lt-ltb}
@@ -122,7 +122,7 @@ keyid_same : (now : ℕ) (after : Option ℕ) (ps : List (Pair BareItem))
     → has_param (map (filled now after) ps ++ where_missing ps (codes "created") (moment_item now)) (codes "keyid") ≡ has_param ps (codes "keyid")
 keyid_same now after ps = no_keyid (map (filled now after) ps) ps now ∙ there_mapped (filled now after) (keeps_filled now after) ps (codes "keyid")
 
-pub wished_by_steps : (sign : SignConf) (now : ℕ) (p0 p1 p2 p3 p4 : List (Pair BareItem)) → p1 ≡ p0 → p2 ≡ map (expires_filled now sign.expires_after) p1
+wished_by_steps : (sign : SignConf) (now : ℕ) (p0 p1 p2 p3 p4 : List (Pair BareItem)) → p1 ≡ p0 → p2 ≡ map (expires_filled now sign.expires_after) p1
     → p3 ≡ map (created_filled now) p2 ++ where_missing p2 (codes "created") (moment_item now) → p4 ≡ p3 ++ where_missing p3 (codes "keyid") (Str sign.keyid) → p4 ≡ wished_params sign now p0
 wished_by_steps sign now p0 p1 p2 p3 p4 e1 e2 e3 e4 =
     let after = sign.expires_after in
@@ -137,6 +137,12 @@ wished_by_steps sign now p0 p1 p2 p3 p4 e1 e2 e3 e4 =
     ap (λ (ps : List (Pair BareItem)). has_param ps (codes "keyid")) three ∙ keyid_same now after p0 in
     e4 ∙ (ap (λ (b : Bool). p3 ++ (if b then [] else record { key = codes "keyid"; value = Str sign.keyid } ∷ [])) keyid
     ∙ (ap (λ (ps : List (Pair BareItem)). ps ++ where_missing p0 (codes "keyid") (Str sign.keyid)) three ∙ append_assoc filled_all added (where_missing p0 (codes "keyid") (Str sign.keyid))))
+
+pub filled_by_steps : {E : Type 0} (sign : SignConf) (now : ℕ) (p1 p2 p3 p4 : List (Pair BareItem)) (result : Result Unit E) → p2 ≡ map (expires_filled now sign.expires_after) p1
+    → p3 ≡ map (created_filled now) p2 ++ where_missing p2 (codes "created") (moment_item now) → OnOk result (p4 ≡ p3 ++ where_missing p3 (codes "keyid") (Str sign.keyid))
+    → OnOk result (p4 ≡ wished_params sign now p1)
+filled_by_steps sign now p1 p2 p3 p4 (Ok done) e2 e3 e4 = wished_by_steps sign now p1 p1 p2 p3 p4 refl e2 e3 e4
+filled_by_steps sign now p1 p2 p3 p4 (Err fault) e2 e3 e4 = tt
 
 -- ---- the parameters can be signed
 

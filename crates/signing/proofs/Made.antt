@@ -7,7 +7,7 @@ use Rattle.byte_grammar.specs.Causes.{AnswersWhere}
 use Rattle.byte_grammar.specs.tools.Determined.{AreDetermined}
 use Rattle.byte_grammar.proofs.AnswerLaws.{IsMemoryDecided, NamesFault, answers_where}
 use Rattle.byte_grammar.proofs.CauseLaws.{first_is_one}
-use Rattle.msg_body.specs.Messages.{message_text}
+use Rattle.msg_body.specs.Messages.{Message, message_text}
 use Rattle.component_values.specs.Context.{MessageContext}
 use Rattle.component_values.proofs.FirstLacks.{first_lack_is_one, none_lacks}
 use Rattle.signing.specs.Written.{context_with_digest, digest_lines, signature_lines, signed_message}
@@ -24,6 +24,14 @@ use Rattle.signing.specs.tools.Judged.{ExplainsSign, ExplainsTag, IsTagOf, IsMad
 use Rattle.signing.proofs.DigestBytes.{sha256_bytes}
 use Rattle.signing.proofs.Making.{limit_is}
 use Rattle.signing.proofs.Causes.{first, none_below_7, none_below_8, one_cover}
+
+-- what the parts say of the limits
+pub limit_of : (message : Message) (spec : SignSpec) (parts : Parts) (digest sized : AddedLines) (o : Option ℕ) → ArePartsOf message parts → AreLines digest (digest_lines message spec.digest)
+    → AreLines sized (signature_lines spec any_tag)
+    → o ≡ limit_passed_by (length parts.before.now + (length digest.text + length sized.text) + 2) (parts.lines + (digest.count + sized.count))
+    (length parts.before.now + (length digest.text + length sized.text) + length parts.after.now)
+    → passed_limit (signed_message message spec any_tag) ≡ o
+limit_of message spec parts digest sized o are one two is = sym (is ∙ limit_is message parts are (digest_lines message spec.digest) (signature_lines spec any_tag) digest sized one two)
 
 module _ (context : MessageContext) (spec : SignSpec) where
   pub too_long : NoneBelow context spec 6 → (limit : ℕ) → passed_limit (signed_message context.message spec any_tag) ≡ Some limit
@@ -53,14 +61,6 @@ module _ (context : MessageContext) (spec : SignSpec) where
     };
     none = none_below_8 context spec none (λ index lack. none_lacks (context_with_digest context spec.digest) spec.params.ids is.0 index lack is.1);
   }
-
-  -- what the parts say of the limits
-  pub limit_of : (parts : Parts) (digest sized : AddedLines) (o : Option ℕ) → ArePartsOf context.message parts → AreLines digest (digest_lines context.message spec.digest)
-      → AreLines sized (signature_lines spec any_tag)
-      → o ≡ limit_passed_by (length parts.before.now + (length digest.text + length sized.text) + 2) (parts.lines + (digest.count + sized.count))
-      (length parts.before.now + (length digest.text + length sized.text) + length parts.after.now)
-      → passed_limit (signed_message context.message spec any_tag) ≡ o
-  limit_of parts digest sized o are one two is = sym (is ∙ limit_is context.message parts are (digest_lines context.message spec.digest) (signature_lines spec any_tag) digest sized one two)
 
   -- a tag is bytes
   pub tag_bytes : (tag : List ℕ) → IsTagOf (context_with_digest context spec.digest) spec tag → list_all is_byte tag ≡ true

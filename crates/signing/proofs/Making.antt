@@ -130,12 +130,14 @@ module _ (message : Message) (parts : Parts) (are : ArePartsOf message parts) wh
         ∙ sym (are.text (a ++ b)))
 
 -- the message with the line of its digest is one, and its bytes are these
-pub digest_spelled : (to_head : Bool) (message : Message) (spec : SignSpec) (tag : List ℕ) (parts : Parts) (first second : AddedLines) → IsMessage to_head message → ArePartsOf message parts
-    → AreLines first (digest_lines message spec.digest) → AreLines second (signature_lines spec tag) → passed_limit (signed_message message spec tag) ≡ None
+pub digest_spelled : (to_head : Bool) (message : Message) (spec : SignSpec) (tag : List ℕ) (parts : Parts) (first : AddedLines) → IsMessage to_head message → ArePartsOf message parts
+    → AreLines first (digest_lines message spec.digest) → passed_limit (signed_message message spec tag) ≡ None
     → Spells to_head (with_digest message spec.digest) (parts.before.now ++ (first.text ++ parts.after.now))
-digest_spelled to_head message spec tag parts first second is are one two none =
+digest_spelled to_head message spec tag parts first is are one none =
     let lines = digest_lines message spec.digest in
-    let fits = first_within message parts are lines (signature_lines spec tag) first second one two none in
+    let own = signature_lines spec tag in
+    let second : AddedLines = record { text = flat_map line_text own; count = length own } in
+    let fits = first_within message parts are lines own first second one (record { text = refl; count = refl }) none in
     record {
       is = is_lengthened to_head message lines is (digest_are_lines message spec.digest) (digest_frame_nothing message spec.digest) fits.head fits.lines fits.message;
       text = rw one.text (sym (are.text lines));

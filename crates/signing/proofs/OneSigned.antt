@@ -1,12 +1,10 @@
 -- What is signed, and why it isn't: there is at most one of each.
 use Rattle.std.specs.FinMap as map
-use Rattle.std.proofs.Common.{◌≡◌, ℕ, Bool, Option, Some, List, [], ◌∷◌, refl, sym, ap, subst, ◌∙◌}
+use Rattle.std.proofs.Common.{◌≡◌, ℕ, Option, Some, List, [], ◌∷◌, refl, sym, ap, subst, ◌∙◌}
 use Rattle.byte_grammar.proofs.CauseLaws.{first_is_one}
 use Rattle.sfv_text.specs.declared.pair.Pair.{Pair}
 use Rattle.sfv_text.specs.declared.value.InnerList.{InnerList}
 use Rattle.sfv_text.specs.declared.value.Member.{Member}
-use Rattle.sfv_text.specs.declared.value.Member.TheVariants.{InnerList as InnerMember}
-use Rattle.msg_body.specs.Messages.{Message}
 use Rattle.component_ids.proofs.FaultLaws.{one_value}
 use Rattle.component_ids.specs.SignatureParams.{IsParamsOf}
 use Rattle.component_ids.specs.declared.id.ComponentId.{ComponentId}
@@ -18,7 +16,7 @@ use Rattle.settings.specs.Configuration.{Configuration}
 use Rattle.settings.specs.Covered.{params_of}
 use Rattle.settings.specs.declared.sign_conf.SignConf.{SignConf}
 use Rattle.signatures.proofs.Reading.{one_dict}
-use Rattle.signing.specs.Asked.{IsSpecOf, asked_params, covered_ids, digest_algorithm}
+use Rattle.signing.specs.Asked.{asked_params, covered_ids, digest_algorithm}
 use Rattle.signing.specs.Laws.{HasOneSignedMessage, HasOneSignFault, HasOneSpec, HasOneListOfSpecs, HasOneWantFault}
 use Rattle.signing.specs.SignCauses.{IsSignCause, sign_order}
 use Rattle.signing.specs.WishCauses.{IsWantCause, want_order}

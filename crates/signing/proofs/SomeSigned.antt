@@ -1,10 +1,10 @@
 -- What is signed, or why it isn't: there is one of both.
-use Rattle.std.proofs.Common.{◌≡◌, ◌⊎◌, ◌<◌, ◌≤◌, lit<, ℕ, zero, suc, Bool, true, false, Option, Some, None, List, [], ◌∷◌, length, refl, sym, ap, subst, ◌∙◌, inl, inr, arith}
+use Rattle.std.proofs.Common.{◌≡◌, ◌⊎◌, ◌<◌, ◌≤◌, lit<, ℕ, zero, suc, true, Option, Some, None, List, [], ◌∷◌, refl, ap, subst, inl, inr, arith}
 use Rattle.std.specs.FinMap as map
 use Rattle.std.specs.List.{All, list_all, list_any, slice_get}
 use Rattle.std.specs.Option.{IsSomeAnd}
 use Rattle.std.specs.Prelude.{IfSome, IsSome, MatchOption}
-use Rattle.std.proofs.lemmas.Bool.{and_parts, cases_Bool, false≢true}
+use Rattle.std.proofs.lemmas.Bool.{and_parts, cases_Bool}
 use Rattle.std.proofs.lemmas.List.Elements.{All-nil, All-cons}
 use Rattle.std.specs.Str.{bytes_eq}
 use Rattle.std.proofs.lemmas.Slice.Eq.{bytes_eq-Decides}
@@ -19,13 +19,11 @@ use Rattle.msg_body.specs.Views.{lines_on}
 use Rattle.msg_head.specs.Values.{combined_value}
 use Rattle.msg_head.specs.declared.error.Side.TheVariants.{Header}
 use Rattle.component_ids.proofs.Judged as id_laws
-use Rattle.component_ids.specs.Causes.{IsIdFault}
-use Rattle.component_ids.specs.SignatureParams.{IsParamsOf, list_of}
+use Rattle.component_ids.specs.SignatureParams.{IsParamsOf}
 use Rattle.component_ids.specs.Table.{is_listed}
 use Rattle.component_ids.specs.declared.id.ComponentId.{ComponentId}
 use Rattle.component_ids.specs.declared.params.SigParams.{SigParams}
 use Rattle.component_values.specs.Context.{MessageContext, answers_head}
-use Rattle.component_values.specs.Values.{HaveValues}
 use Rattle.component_values.proofs.FirstLacks.{have_or_lack, none_lacks}
 use Rattle.hmac_sha256.specs.Hmac.{hmac}
 use Rattle.sig_base.specs.SignatureBase.{signature_base}
@@ -41,12 +39,12 @@ use Rattle.signatures.specs.Signatures.{HasDict, input_name, signature_name}
 use Rattle.signatures.specs.declared.field.DictField.{DictField}
 use Rattle.signatures.specs.declared.field.DictField.TheVariants as field
 use Rattle.signatures.proofs.Reading.{has_field}
-use Rattle.signing.specs.Asked.{IsSpecOf, asked_params, covered_ids, digest_algorithm}
+use Rattle.signing.specs.Asked.{asked_params, covered_ids, digest_algorithm}
 use Rattle.signing.specs.Laws.{AreValidWhereWished, HasSignedMessageOrFault, HasSpec, HasSpecsOrFault, IsValidWhereAsked, IsVerifiableWhereSigned}
 use Rattle.signing.specs.SignCauses.{covers_itself, passed_limit, any_tag, IsSignCause, IsSignFault, sign_order}
 use Rattle.signing.specs.Signed.{IsSignedMessage}
 use Rattle.signing.specs.Specs.{IsValidSpec}
-use Rattle.signing.specs.WishCauses.{IsWantCause, IsWantFault}
+use Rattle.signing.specs.WishCauses.{IsWantFault}
 use Rattle.signing.specs.Wishes.{AreWished, MeetsWish, MeetWishes, can_be_met, components_in, wish_name, wished_alg, wished_key, wished_keyid, wished_params}
 use Rattle.signing.specs.Written.{context_with_digest, signed_message}
 use Rattle.signing.specs.declared.fault.SignFault.{SignFault}
@@ -59,7 +57,7 @@ use Rattle.signing.specs.declared.wish.WishFault.{WishFault}
 use Rattle.signing.specs.declared.wish.WishFault.TheVariants.{NotInnerList, Ids, Parameter, AlgRefused, AlgUnknown, KeyUnknown}
 use Rattle.signing.specs.tools.Fields.{IsPlaceIn, fault_of_places}
 use Rattle.signing.specs.tools.Judged.{IsMade, NoneBelow}
-use Rattle.signing.specs.tools.Wished.{IsWishCause, IsWishFault, HasNoCause, HaveNoCause, fault_at}
+use Rattle.signing.specs.tools.Wished.{IsWishFault, HasNoCause, HaveNoCause, fault_at}
 use Rattle.signing.proofs.Causes.{first, judged_places, no_self_cover, none_below_7, none_below_8, places_none}
 use Rattle.signing.proofs.Fields.{absent_place, empty_place, free_place, malformed_place, taken_place}
 use Rattle.signing.proofs.Asking.{valid_of}

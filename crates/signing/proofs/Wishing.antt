@@ -1,5 +1,5 @@
 -- The causes for which a wish isn't met.
-use Rattle.std.proofs.Common.{◌≡◌, ◌≢◌, ◌<◌, lit<, ℕ, Bool, true, false, ◌||◌, Option, Some, None, IfSome, Result, Err, List, ◌∷◌, refl, sym, ap, subst, ◌∙◌, arith}
+use Rattle.std.proofs.Common.{◌≡◌, ◌<◌, lit<, ℕ, Bool, true, false, ◌||◌, Option, Some, None, IfSome, Result, Err, List, ◌∷◌, refl, sym, ap, subst, ◌∙◌, arith}
 use Rattle.std.specs.Option.{IsSomeAnd}
 use Rattle.std.specs.List.{list_all}
 use Rattle.std.proofs.lemmas.Bool.{false≢true}

@@ -1,6 +1,6 @@
 //! What a configuration asks to be signed.
 
-ghost use Rattle.std.specs.Prelude.{◌≡◌, ◌≤◌, Option, Some, None, option_map, option_copied, IfOk, IfSome, IsSome, IsTrue, OnOk, if◌then◌else◌};
+ghost use Rattle.std.specs.Prelude.{◌≡◌, ◌≤◌, Option, Some, None, [], option_map, option_copied, IfOk, IfSome, IsSome, IsTrue, OnOk, if◌then◌else◌};
 ghost use Rattle.std.specs.List.{list_all};
 ghost use Rattle.sfv_text.specs.Range.{is_string_byte};
 ghost use Rattle.sfv_text.specs.declared.value.BareItem.TheVariants.{Str};
@@ -12,7 +12,7 @@ ghost use Rattle.signing.specs.Specs.{IsValidSpec};
 ghost use Rattle.signing.specs.tools.Params.{put_given};
 
 use crate::spec::SignSpec;
-use component_ids::{ComponentId, Ids, SigParams};
+use component_ids::{ComponentId, SigParams, copy_of_ids};
 use content_digest::Algorithm;
 use nonces::MAX_MOMENT;
 use settings::{Conf, SignConf, SignDigest};
@@ -51,17 +51,6 @@ pub(crate) fn digest_algorithm(digest: SignDigest) -> Option<Algorithm>
         SignDigest::Sha256 => Some(Algorithm::Sha256),
         SignDigest::Sha512 => Some(Algorithm::Sha512),
     }
-}
-
-/// Equal identifiers of their own.
-fn copy_of_ids(alloc: Global, ids: &[ComponentId]) -> Result<Ids, Memory>
-    ensures { IfOk result (λ copies. copies ≡ ids.now) }
-{
-    let mut copies = Ids::new(alloc);
-    for id in ids {
-        copies.push(id.copy(alloc)?)?;
-    }
-    Ok(copies)
 }
 
 /// Puts the key with a moment, where there is one.
@@ -134,6 +123,26 @@ fn tag_of(sign: &SignConf) -> Option<&[u8]>
     }
 }
 
+/// Puts the parameters that are asked for, where none are there.
+fn put_asked(
+    alloc: Global,
+    params: &mut Params,
+    sign: &SignConf,
+    now: u64,
+    nonce: Option<&[u8]>,
+) -> Result<(), Memory>
+    requires none { params.old ≡ [] }
+    requires now { now ≤ MAX_MOMENT }
+    ensures { OnOk result (params.new ≡ asked_params sign.now now (option_copied nonce.entry)) }
+{
+    put_moment(alloc, params, b"created", Some(now))?;
+    put_moment(alloc, params, b"expires", expires_of(sign, now))?;
+    put_string(alloc, params, b"nonce", nonce)?;
+    put_string(alloc, params, b"alg", alg_of(sign))?;
+    put_string(alloc, params, b"keyid", Some(sign.keyid.bytes()))?;
+    put_string(alloc, params, b"tag", tag_of(sign))
+}
+
 /// The parameters that are asked for.
 fn asked_params(
     alloc: Global,
@@ -146,12 +155,7 @@ fn asked_params(
         ≡ asked_params sign.now now (option_copied nonce.entry)) }
 {
     let mut params = Params::new(alloc);
-    put_moment(alloc, &mut params, b"created", Some(now))?;
-    put_moment(alloc, &mut params, b"expires", expires_of(sign, now))?;
-    put_string(alloc, &mut params, b"nonce", nonce)?;
-    put_string(alloc, &mut params, b"alg", alg_of(sign))?;
-    put_string(alloc, &mut params, b"keyid", Some(sign.keyid.bytes()))?;
-    put_string(alloc, &mut params, b"tag", tag_of(sign))?;
+    put_asked(alloc, &mut params, sign, now, nonce)?;
     Ok(params)
 }
 
@@ -164,6 +168,26 @@ fn covered_ids(sign: &SignConf, of_request: bool) -> &[ComponentId]
     } else {
         sign.components_response.as_slice()
     }
+}
+
+/// The components and the parameters that are asked for.
+fn asked_sig_params(
+    alloc: Global,
+    sign: &SignConf,
+    of_request: bool,
+    now: u64,
+    nonce: Option<&[u8]>,
+) -> Result<SigParams, Memory>
+    requires { now ≤ MAX_MOMENT }
+    ensures { IfOk result (λ params. params ≡ record {
+      ids = covered_ids sign.now of_request;
+      params = asked_params sign.now now (option_copied nonce.entry);
+    }) }
+{
+    Ok(SigParams {
+        ids: copy_of_ids(alloc, covered_ids(sign, of_request))?,
+        params: asked_params(alloc, sign, now, nonce)?,
+    })
 }
 
 /// What the configuration asks to be signed, of a request or a response (RFC 9421 section 2.3):
@@ -189,13 +213,12 @@ pub fn spec_of(
     let Some(key) = conf.key(sign.keyid.bytes()) else {
         unreachable!()
     };
-    Ok(SignSpec {
-        label: sign.label.copy(alloc)?,
-        params: SigParams {
-            ids: copy_of_ids(alloc, covered_ids(sign, of_request))?,
-            params: asked_params(alloc, sign, now, nonce)?,
-        },
-        key: Text::from_bytes(alloc, key)?,
-        digest: digest_algorithm(sign.digest),
-    })
+    let params = asked_sig_params(alloc, sign, of_request, now, nonce)?;
+    SignSpec::new(
+        alloc,
+        &sign.label,
+        params,
+        key,
+        digest_algorithm(sign.digest),
+    )
 }

@@ -1,14 +1,16 @@
 //! Signs a message.
 
-ghost use Rattle.std.specs.Prelude.{◌≡◌, ◌≢◌, ◌+◌, ◌++◌, length, IfOk};
+ghost use Rattle.std.specs.Prelude.{◌≡◌, ◌≢◌, ◌+◌, ◌++◌, length, IfOk, IsTrue};
 ghost use Rattle.byte_grammar.specs.Causes.{AnswersWhere};
-ghost use Rattle.msg_body.specs.Messages.{Spells};
-ghost use Rattle.component_values.specs.Context.{context_of, answers_head};
+ghost use Rattle.msg_body.specs.Messages.{IsMessage, Message, Spells};
+ghost use Rattle.msg_body.specs.Views.{message_of};
+ghost use Rattle.component_ids.specs.SignatureParams.{are_sig_params_in_range};
+ghost use Rattle.component_values.specs.Context.{context_of, context_with, answers_head};
 ghost use Rattle.signing.specs.declared.fault.SignFault.{SignFault};
-ghost use Rattle.signing.specs.SignCauses.{IsSignFault, limit_passed_by};
+ghost use Rattle.signing.specs.SignCauses.{IsSignFault, any_tag, limit_passed_by, passed_limit};
 ghost use Rattle.signing.specs.Signed.{IsSigned, IsVerifiable, SpellsSigned};
 ghost use Rattle.signing.specs.Specs.{IsValidSpec};
-ghost use Rattle.signing.specs.Written.{context_with_digest, digest_lines, with_digest};
+ghost use Rattle.signing.specs.Written.{context_with_digest, digest_lines, signed_message, with_digest};
 ghost use Rattle.signing.specs.tools.Judged.{ExplainsSign, ExplainsTag, IsMade, NoneBelow};
 ghost use Rattle.signing.specs.tools.Lines.{AreLines};
 ghost use Rattle.signing.specs.tools.Parts.{ArePartsOf};
@@ -20,7 +22,7 @@ use crate::parts::{Parts, parts_of};
 use crate::refuse::judge_label;
 use crate::spec::SignSpec;
 use component_values::Context;
-use msg_body::{Expect, MAX_MESSAGE_BYTES, MessageRead, read_message};
+use msg_body::{Expect, MAX_MESSAGE_BYTES, MessageRead, MessageView, read_message};
 use msg_head::{MAX_HEAD_BYTES, MAX_HEAD_LINES};
 use sfv_text::{Memory, Text};
 use std::alloc::Global;
@@ -68,6 +70,26 @@ fn text_of(alloc: Global, parts: Parts<'_>, digest: &[u8], signature: &[u8]) -> 
     Ok(text)
 }
 
+/// The tag of the message in place of that of the context.
+fn tag_of_message(
+    alloc: Global,
+    context: &Context<'_, '_>,
+    message: &MessageView<'_>,
+    spec: &SignSpec,
+) -> Result<[u8; TAG_BYTES], SignFault>
+    requires { IsTrue (are_sig_params_in_range spec.now.params) }
+    ensures { ExplainsTag (context_with (context_of context.now) (message_of message.now)) spec.now
+        result }
+{
+    let context = Context {
+        message,
+        related: context.related,
+        scheme: context.scheme,
+        types: context.types,
+    };
+    tag_of(alloc, &context, spec)
+}
+
 /// The tag of a message that is read from its bytes, the line of its digest among them.
 fn tag_of_bytes(
     alloc: Global,
@@ -82,15 +104,7 @@ fn tag_of_bytes(
         result }
 {
     match read_message(alloc, bytes, Expect::Any, context.answers_head()) {
-        Ok(MessageRead::Whole(message, _)) => {
-            let context = Context {
-                message: &message,
-                related: context.related,
-                scheme: context.scheme,
-                types: context.types,
-            };
-            tag_of(alloc, &context, spec)
-        }
+        Ok(MessageRead::Whole(message, _)) => tag_of_message(alloc, context, &message, spec),
         Ok(MessageRead::Partial) => unreachable!(),
         Err(_) => Err(SignFault::Memory),
     }
@@ -121,6 +135,51 @@ fn tag_with_digest(
     tag_of_bytes(alloc, text.bytes(), context, spec)
 }
 
+/// The first limit that the signed message passes.
+fn limit_passed(
+    alloc: Global,
+    spec: &SignSpec,
+    parts: Parts<'_>,
+    digest: &AddedLines,
+) -> Result<Option<usize>, Memory>
+    requires { IsTrue (are_sig_params_in_range spec.now.params) }
+    ensures { IfOk result (λ limit. (message : Message) → ArePartsOf message parts.entry
+        → AreLines digest.now (digest_lines message spec.now.digest)
+        → passed_limit (signed_message message spec.now any_tag) ≡ limit) }
+{
+    let sized = signature_lines(alloc, spec, &[0; TAG_BYTES])?;
+    Ok(passed_limit(parts, digest, &sized))
+}
+
+/// The signed message of these parts and the line of its digest, where it passes no limit and no
+/// component lacks a value.
+fn make_of_parts(
+    alloc: Global,
+    context: &Context<'_, '_>,
+    spec: &SignSpec,
+    parts: Parts<'_>,
+    digest: &AddedLines,
+) -> Result<Text, SignFault>
+    requires valid { IsValidSpec spec.now }
+    requires message { IsMessage (answers_head (context_of context.now).related)
+        (context_of context.now).message }
+    requires parts { ArePartsOf (context_of context.now).message parts }
+    requires lines { AreLines digest.now
+        (digest_lines (context_of context.now).message spec.now.digest) }
+    ensures { NoneBelow (context_of context.now) spec.now 6 → ExplainsSign (context_of context.now)
+        spec.now (IsMade (context_of context.now) spec.now) result }
+{
+    if let Some(limit) = limit_passed(alloc, spec, parts, digest)? {
+        return Err(SignFault::TooLong(limit));
+    }
+    let tag = match tag_with_digest(alloc, context, spec, parts, digest) {
+        Ok(tag) => tag,
+        Err(fault) => return Err(fault),
+    };
+    let signature = signature_lines(alloc, spec, &tag)?;
+    Ok(text_of(alloc, parts, digest.text.bytes(), signature.text.bytes())?)
+}
+
 /// The signed message, where it passes no limit and no component lacks a value.
 fn make(
     alloc: Global,
@@ -135,17 +194,8 @@ fn make(
         spec.now (IsMade (context_of context.now) spec.now) result }
 {
     let digest = digest_lines(alloc, context.message, spec.digest)?;
-    let sized = signature_lines(alloc, spec, &[0; TAG_BYTES])?;
     let parts = parts_of(context.message, bytes);
-    if let Some(limit) = passed_limit(parts, &digest, &sized) {
-        return Err(SignFault::TooLong(limit));
-    }
-    let tag = match tag_with_digest(alloc, context, spec, parts, &digest) {
-        Ok(tag) => tag,
-        Err(fault) => return Err(fault),
-    };
-    let signature = signature_lines(alloc, spec, &tag)?;
-    Ok(text_of(alloc, parts, digest.text.bytes(), signature.text.bytes())?)
+    make_of_parts(alloc, context, spec, parts, &digest)
 }
 
 fn judge(

@@ -2,7 +2,8 @@
 
 use component_ids::SigParams;
 use content_digest::Algorithm;
-use sfv_text::{Sequence, Text};
+use sfv_text::{Memory, Sequence, Text};
+use std::alloc::Global;
 
 /// What a signature is to be: its label, its parameters and its key.
 #[derive(Drop)]
@@ -15,6 +16,33 @@ pub struct SignSpec {
     pub key: Text,
     /// The algorithm of the digest of the content that is added, where one is (RFC 9530 section 2).
     pub digest: Option<Algorithm>,
+}
+
+impl SignSpec {
+    ghost use Rattle.std.specs.Prelude.{◌≡◌, IfOk};
+
+    /// A signature of the label with these parameters, under the key.
+    pub(crate) fn new(
+        alloc: Global,
+        label: &Text,
+        params: SigParams,
+        key: &[u8],
+        digest: Option<Algorithm>,
+    ) -> Result<SignSpec, Memory>
+        ensures { IfOk result (λ spec. spec ≡ record {
+          label = label.now;
+          params = params;
+          key = key.now;
+          digest = digest;
+        }) }
+    {
+        Ok(SignSpec {
+            label: label.copy(alloc)?,
+            params,
+            key: Text::from_bytes(alloc, key)?,
+            digest,
+        })
+    }
 }
 
 /// What is asked to be signed, in order.

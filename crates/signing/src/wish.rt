@@ -1,20 +1,19 @@
 //! A wish of a field `Accept-Signature`.
 
-ghost use Rattle.std.specs.Prelude.{◌≡◌, ◌≤◌, ◌++◌, codes, Some, unwrap_or, map, IfOk, IsTrue, OnOk};
+ghost use Rattle.std.specs.Prelude.{◌≡◌, ◌≤◌, ◌++◌, codes, Some, unwrap_or, map, IfErr, IfOk, IsTrue, OnOk};
 ghost use Rattle.std.specs.List.{list_all};
-ghost use Rattle.component_ids.specs.SignatureParams.{string_keys};
-ghost use Rattle.component_ids.specs.Table.{is_listed, is_true};
+ghost use Rattle.component_ids.specs.Table.{is_true};
 ghost use Rattle.sfv_text.specs.declared.value.BareItem.TheVariants.{Str};
 ghost use Rattle.sfv_text.specs.Range.{is_dict_member_in_range};
 ghost use Rattle.nonces.specs.declared.limits.TheConstants.{MAX_MOMENT};
 ghost use Rattle.settings.specs.ConfMeaning.{meaning};
 ghost use Rattle.signing.specs.Asked.{moment_item};
 ghost use Rattle.signing.specs.Wishes.{can_be_met, where_missing, wished_params, string_of_key};
-ghost use Rattle.signing.specs.tools.Wished.{created_filled, expires_filled, fault_of_ids, ExplainsComponents, ExplainsAlgorithm, ExplainsWish};
+ghost use Rattle.signing.specs.tools.Wished.{created_filled, expires_filled, fault_of_ids, ExplainsComponents, ExplainsAlgorithm, ExplainsWish, IsFaultOfParams, IsKeyOfWish};
 
 use crate::asked::{digest_algorithm, expires_at, moment_item};
 use crate::spec::SignSpec;
-use component_ids::{IdFault, Ids, SigParams, has_param, read_params};
+use component_ids::{IdFault, Ids, SigParams, has_param, is_string_key, read_params};
 use settings::{Conf, SignConf};
 use sfv_text::{BareItem, InnerList, Items, Member, Memory, Pair, Params, Text};
 use signatures::{SUPPORTED_ALGORITHM, is_refused_algorithm};
@@ -94,12 +93,6 @@ fn is_true(value: &BareItem) -> bool
     matches!(value, BareItem::Bool(true))
 }
 
-fn is_string_key(key: &[u8]) -> bool
-    ensures { result ≡ is_listed string_keys key.now }
-{
-    matches!(key, b"nonce" | b"alg" | b"keyid" | b"tag")
-}
-
 /// Whether the wish for a parameter can be met.
 fn can_be_met(after: Option<u64>, param: &Pair<BareItem>) -> bool
     ensures { result ≡ can_be_met after param.now }
@@ -164,6 +157,16 @@ fn add_keyid(alloc: Global, params: &mut Params, keyid: &Text) -> Result<(), Mem
     params.put(Text::from_bytes(alloc, b"keyid")?, value)
 }
 
+/// Makes the parameters of a wish those that are signed.
+fn fill_wished(alloc: Global, params: &mut Params, sign: &SignConf, now: u64) -> Result<(), Memory>
+    requires { now ≤ MAX_MOMENT }
+    ensures { OnOk result (params.new ≡ wished_params sign.now now params.old) }
+{
+    fill_expires(alloc, params, now, sign.expires_after)?;
+    fill_created(alloc, params, now)?;
+    add_keyid(alloc, params, &sign.keyid)
+}
+
 /// The parameters of a wish as they are signed.
 fn wished_params(
     alloc: Global,
@@ -175,9 +178,7 @@ fn wished_params(
     ensures { IfOk result (λ params. params ≡ wished_params sign.now now wished.now) }
 {
     let mut params = wished.copy(alloc)?;
-    fill_expires(alloc, &mut params, now, sign.expires_after)?;
-    fill_created(alloc, &mut params, now)?;
-    add_keyid(alloc, &mut params, &sign.keyid)?;
+    fill_wished(alloc, &mut params, sign, now)?;
     Ok(params)
 }
 
@@ -207,6 +208,23 @@ fn wished_keyid<'a>(sign: &'a SignConf, params: &'a Params) -> &'a [u8]
     }
 }
 
+/// The key of a wish whose components are read, or the first cause for which it isn't met.
+fn key_of_wish<'a>(conf: &'a Conf, sign: &SignConf, list: &InnerList) -> Result<&'a [u8], WishFault>
+    ensures ok { IfOk result (λ key. IsKeyOfWish (meaning conf.now) sign.now list.now key.now) }
+    ensures fault { IfErr result (IsFaultOfParams (meaning conf.now) sign.now list.now) }
+{
+    if !can_all_be_met(sign.expires_after, &list.params) {
+        return Err(WishFault::Parameter);
+    }
+    if let Err(fault) = judge_algorithm(&list.params) {
+        return Err(fault);
+    }
+    match conf.key(wished_keyid(sign, &list.params)) {
+        Some(key) => Ok(key),
+        None => Err(WishFault::KeyUnknown),
+    }
+}
+
 /// What a wish asks to be signed, or the first cause for which it isn't met.
 pub(crate) fn spec_of_wish(
     alloc: Global,
@@ -224,22 +242,11 @@ pub(crate) fn spec_of_wish(
         return Err(WishFault::NotInnerList);
     };
     let ids = read_components(alloc, list)?;
-    if !can_all_be_met(sign.expires_after, &list.params) {
-        return Err(WishFault::Parameter);
-    }
-    if let Err(fault) = judge_algorithm(&list.params) {
-        return Err(fault);
-    }
-    let Some(key) = conf.key(wished_keyid(sign, &list.params)) else {
-        return Err(WishFault::KeyUnknown);
+    let key = key_of_wish(conf, sign, list)?;
+    let params = SigParams {
+        ids,
+        params: wished_params(alloc, sign, now, &list.params)?,
     };
-    Ok(SignSpec {
-        label: wish.key.copy(alloc)?,
-        params: SigParams {
-            ids,
-            params: wished_params(alloc, sign, now, &list.params)?,
-        },
-        key: Text::from_bytes(alloc, key)?,
-        digest: digest_algorithm(sign.digest),
-    })
+    let digest = digest_algorithm(sign.digest);
+    Ok(SignSpec::new(alloc, &wish.key, params, key, digest)?)
 }

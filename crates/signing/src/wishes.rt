@@ -4,13 +4,15 @@ ghost use Rattle.std.specs.Prelude.{◌≡◌, ◌≢◌, ◌≤◌, Some, IfOk,
 ghost use Rattle.std.specs.List.{All, list_all};
 ghost use Rattle.byte_grammar.specs.Causes.{AnswersWhere};
 ghost use Rattle.sfv_text.specs.Range.{is_dict_member_in_range};
+ghost use Rattle.msg_body.specs.Messages.{Message};
 ghost use Rattle.msg_body.specs.Views.{message_of};
 ghost use Rattle.nonces.specs.declared.limits.TheConstants.{MAX_MOMENT};
 ghost use Rattle.settings.specs.ConfMeaning.{meaning};
 ghost use Rattle.signing.specs.declared.fault.WantFault.{WantFault};
 ghost use Rattle.signing.specs.Specs.{IsValidSpec};
 ghost use Rattle.signing.specs.WishCauses.{IsWantFault};
-ghost use Rattle.signing.specs.Wishes.{AreWished};
+ghost use Rattle.signatures.specs.Signatures.{HasDict};
+ghost use Rattle.signing.specs.Wishes.{AreWished, wish_name};
 ghost use Rattle.signing.specs.tools.Wished.{fault_at, ExplainsWishes, ExplainsWanted};
 
 use crate::fault::WantFault;
@@ -18,7 +20,7 @@ use crate::spec::Specs;
 use crate::wish::{WishFault, spec_of_wish};
 use msg_body::MessageView;
 use settings::{Conf, SignConf};
-use sfv_text::{Member, Pair};
+use sfv_text::{Dict, Member, Pair};
 use signatures::{DictField, read_field};
 use std::alloc::Global;
 
@@ -60,6 +62,26 @@ fn specs_of_wishes(
     Ok(specs)
 }
 
+/// What the Dictionary of wishes asks to be signed, or the first cause for which it isn't met.
+fn specs_of_dict(
+    alloc: Global,
+    conf: &Conf,
+    sign: &SignConf,
+    now: u64,
+    wishes: &Dict,
+) -> Result<Specs, WantFault>
+    requires sign { (meaning conf.now).sign ≡ Some sign.now }
+    requires now { now ≤ MAX_MOMENT }
+    requires in_range { IsTrue (list_all is_dict_member_in_range wishes.now) }
+    ensures { (message : Message) → HasDict message wish_name wishes.now
+        → ExplainsWanted (meaning conf.now) now message result }
+{
+    if wishes.is_empty() {
+        return Err(WantFault::Absent);
+    }
+    specs_of_wishes(alloc, conf, sign, now, wishes.as_slice())
+}
+
 fn judge_wishes(
     alloc: Global,
     view: &MessageView<'_>,
@@ -73,15 +95,11 @@ fn judge_wishes(
     let Some(sign) = conf.sign() else {
         unreachable!()
     };
-    let wishes = match read_field(alloc, view, b"accept-signature")? {
-        DictField::Absent => return Err(WantFault::Absent),
-        DictField::Malformed => return Err(WantFault::Malformed),
-        DictField::Dict(wishes) => wishes,
-    };
-    if wishes.is_empty() {
-        return Err(WantFault::Absent);
+    match read_field(alloc, view, b"accept-signature")? {
+        DictField::Absent => Err(WantFault::Absent),
+        DictField::Malformed => Err(WantFault::Malformed),
+        DictField::Dict(wishes) => specs_of_dict(alloc, conf, sign, now, &wishes),
     }
-    specs_of_wishes(alloc, conf, sign, now, wishes.as_slice())
 }
 
 /// What the message's header field `Accept-Signature` wishes to be signed (RFC 9421 section 5.1):

@@ -13,7 +13,7 @@ use byte_grammar::{Class, read_all};
 use sfv_text::Absorb;
 
 /// An authority without userinfo, borrowed from its text (RFC 3986 section 3.2).
-#[derive(Clone, Copy, Debug, PartialEq, Eq)]
+#[derive(Clone, Copy, PartialEq, Eq)]
 pub struct Authority<'m> {
     /// The host as it is written, not empty, with its brackets where it has some.
     pub host: &'m [u8],

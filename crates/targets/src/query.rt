@@ -22,7 +22,7 @@ const FORM_SET: AsciiSet = ascii_set!(
 );
 
 /// What a query has under a name.
-#[derive(Debug, Drop)]
+#[derive(Drop)]
 pub enum ParamFound {
     /// No pair has the name.
     None,

@@ -10,7 +10,7 @@ use crate::uri_byte::UriByte;
 use byte_grammar::{Byte, Class, read_all, read_word, starts_with};
 
 /// The forms of a request target (RFC 9112 section 3.2).
-#[derive(Clone, Copy, Debug, PartialEq, Eq)]
+#[derive(Clone, Copy, PartialEq, Eq)]
 pub enum Form {
     /// A path and a query (section 3.2.1).
     Origin,
@@ -24,7 +24,7 @@ pub enum Form {
 
 /// The parts of a request target, borrowed from it. A part that the form doesn't have is None, or
 /// empty.
-#[derive(Clone, Copy, Debug, PartialEq, Eq)]
+#[derive(Clone, Copy, PartialEq, Eq)]
 pub struct Target<'m> {
     /// The form.
     pub form: Form,

@@ -7,6 +7,8 @@
 #![tactic(auto)]
 
 #[cfg(test)]
+mod audit_runs;
+#[cfg(test)]
 mod audits;
 #[cfg(test)]
 mod authorities;
@@ -20,6 +22,8 @@ mod books;
 mod components;
 #[cfg(test)]
 mod configurations;
+#[cfg(test)]
+mod device_runs;
 #[cfg(test)]
 mod devices;
 #[cfg(test)]
@@ -39,7 +43,13 @@ mod readers;
 #[cfg(test)]
 mod recordings;
 #[cfg(test)]
+mod rewrite_runs;
+#[cfg(test)]
+mod runs;
+#[cfg(test)]
 mod scripts;
+#[cfg(test)]
+mod sign_runs;
 #[cfg(test)]
 mod signings;
 #[cfg(test)]

@@ -1,9 +1,9 @@
 -- Rules 13 to 32, and verdicts.
-use Rattle.std.proofs.Common.{◌≡◌, ◌⊎◌, ◌<◌, ◌≤◌, ◌+◌, lit<, lit≤, is_some, ℕ, Bool, true, false, ◌||◌, IsTrue, IsFalse, Option, Some, None, IfSome, List, ◌∷◌, Err, length, refl, sym, ap, subst, ◌∙◌, arith, inl, inr}
+use Rattle.std.proofs.Common.{◌≡◌, ◌⊎◌, ◌<◌, lit<, ℕ, Bool, true, false, ◌||◌, IsTrue, IsFalse, Option, Some, None, IfSome, List, ◌∷◌, Result, Ok, Err, refl, sym, ap, ◌∙◌, arith, inl, inr}
 use Rattle.std.specs.List.{slice_get}
 use Rattle.std.specs.Option.{IsSomeAnd}
 use Rattle.std.specs.Str.{bytes_eq}
-use Rattle.std.proofs.lemmas.Bool.{cases_Bool, cases_lt, false≢true}
+use Rattle.std.proofs.lemmas.Bool.{cases_Bool, false≢true}
 use Rattle.std.proofs.lemmas.Slice.Eq.{bytes_eq-Decides}
 use Rattle.byte_grammar.specs.Causes.{AnswersWhere}
 use Rattle.byte_grammar.proofs.Indices.{some_and, some_and_parts}
@@ -43,8 +43,8 @@ use Rattle.signatures.specs.Algorithms.{supported_algorithm, refused_algorithms}
 use Rattle.verdicts.specs.Rules.{key_in, asks_digest_of, OfSignature, FailsByLack, IsNoMac, Fails}
 use Rattle.verdicts.specs.Verdicts.{Accepts, IsVerdict}
 use Rattle.verdicts.specs.Laws.{HasVerdict, HasOneVerdict, IsAcceptedWhereNoRuleFails}
-use Rattle.signatures.specs.tools.Answered.{SaysRule}
-use Rattle.verdicts.specs.tools.Judged.{FailsByAlgorithm, FailsByKeyid, FailsByKey, FailsByMac, SaysFault, rule_of_lack, NoneBelow, FailsByDigest, FailsByRoom, IsJudged}
+use Rattle.signatures.specs.tools.Answered.{Explains, SaysRule}
+use Rattle.verdicts.specs.tools.Judged.{FailsByAlgorithm, FailsByKeyid, FailsByKey, FailsByMac, FailsByTag, IsTagOf, ExplainsMac, SaysFault, rule_of_lack, NoneBelow, FailsByDigest, FailsByRoom, IsJudged}
 use Rattle.verdicts.proofs.RuleOrder.{most, nor, first_failure, one_first_failure, says_failure}
 use Rattle.verdicts.proofs.OfSignature.{on_signature, on_policy}
 use Rattle.verdicts.proofs.PolicyFailures.{none_below_27, has_policy_answer, not_full_with_room, room_or_not}
@@ -353,6 +353,20 @@ says_judged v valid (IsRule rule place) first = (first, place_in_range v valid r
 pub says_first : (v : Verification) → ((params : SigParams) → IsValidPolicy (policy_of v.conf params)) → (FailsSo : Rule → Place → Type 0) (fault : LabelFault)
     → ((rule : Rule) (place : Place) → FailsSo rule place → IsFirstFailure (Fails v) rule place) → SaysRule FailsSo fault → SaysRule (IsJudged v) fault
 says_first v valid FailsSo fault firsts says = says_judged v valid fault (says_failure (Fails v) FailsSo fault firsts says)
+
+-- what an answer says by other facts, where each follows
+pub explains_by : (Holds More : Unit {0} → Type 0) (FailsSo FailsElse : Rule → Place → Type 0) (result : Result Unit LabelFault) → ((done : Unit {0}) → Holds done → More done)
+    → ((rule : Rule) (place : Place) → FailsSo rule place → FailsElse rule place) → Explains Holds FailsSo result → Explains More FailsElse result
+explains_by Holds More FailsSo FailsElse (Ok done) more firsts says = more done says
+explains_by Holds More FailsSo FailsElse (Err Memory) more firsts says = tt
+explains_by Holds More FailsSo FailsElse (Err (IsRule rule place)) more firsts says = firsts rule place says
+
+-- the tag is judged by the components' values
+pub tag_answered : (context : MessageContext) (params : SigParams) (tag key : List ℕ) (values : List (List ℕ)) → HaveValues context params.ids values → (result : Result Unit LabelFault)
+    → Explains (λ _. IsTagOf params values key tag) (FailsByTag params values key tag) result → ExplainsMac context params tag key result
+tag_answered context params tag key values have result says =
+    explains_by (λ _. IsTagOf params values key tag) (λ _. (own : List (List ℕ)) × HaveValues context params.ids own × (tag ≡ hmac key (signature_base params own)))
+    (FailsByTag params values key tag) (FailsByMac context params tag key) result (λ _ same. (values, have, same)) (λ rule place fails. inr (fails.0, fails.1, values, have, fails.2)) says
 
 -- ---- the laws
 

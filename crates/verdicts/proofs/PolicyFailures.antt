@@ -24,7 +24,7 @@ use Rattle.signatures.specs.declared.rule.Rule.{Rule}
 use Rattle.signatures.specs.declared.rule.Rule.TheVariants.{ComponentRequired, CreatedAbsent, CreatedAhead, TooOld, ExpiresAbsent, Expired, TagWrong, NonceAbsent, NonceRepeated, NonceLong}
 use Rattle.signatures.specs.Signatures.{HasSignature}
 use Rattle.signatures.specs.Rules.{IsFirstFailure}
-use Rattle.signatures.specs.tools.Answered.{SaysRule, Explains}
+use Rattle.signatures.specs.tools.Answered.{Explains}
 use Rattle.verdicts.specs.Parameters.{created_of, expires_of, nonce_of, keyid_of, tag_param_of}
 use Rattle.verdicts.specs.Policies.{required_of, IsCovered, IsFirstUncovered, IsAhead, IsTooOld, IsFresh, asks_new, is_replay, IsReplay, IsNewNonce, AcceptsByPolicy, is_full_at, LacksRoom, HasRoom}
 use Rattle.verdicts.specs.Rules.{OfPolicy, Fails}

@@ -1,5 +1,5 @@
 -- Rules in the order of their numbers, and the first that fails.
-use Rattle.std.proofs.Common.{◌≡◌, ◌<◌, ◌+◌, ℕ, subst, arith, inl, inr}
+use Rattle.std.proofs.Common.{◌≡◌, ◌<◌, ◌+◌, subst, arith, inl, inr}
 use Rattle.std.proofs.lemmas.Bool.{cases_order}
 use Rattle.signatures.specs.declared.rule.Rule.{Rule}
 use Rattle.signatures.specs.declared.label.LabelFault.{LabelFault}

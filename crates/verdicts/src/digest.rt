@@ -1,11 +1,12 @@
 //! Whether the signature covers the digest of the content: rule 33.
 
-ghost use Rattle.std.specs.Prelude.{◌≡◌, IsTrue, IfOk, IfSome};
+ghost use Rattle.std.specs.Prelude.{◌≡◌, Some, IsTrue, IfOk, IfSome};
 ghost use Rattle.std.specs.List.{list_all};
 ghost use Rattle.content_digest.specs.Digests.{DigestHolds};
 ghost use Rattle.msg_body.specs.Views.{message_of, message_content};
 ghost use Rattle.verdicts.specs.ContentDigest.{asks_digest, keeps_whole, is_whole_digest, covers_digest, digest_reason, digest_text, HasDigest};
 ghost use Rattle.verdicts.specs.Readings.{IsDigestAnswer};
+ghost use Rattle.signatures.specs.declared.place.DigestReason.{DigestReason};
 ghost use Rattle.signatures.specs.tools.Answered.{Explains};
 ghost use Rattle.verdicts.specs.tools.Judged.{FailsByField, FailsByDigest};
 
@@ -55,15 +56,31 @@ fn covers_digest(ids: &[ComponentId]) -> bool
     ids.iter().any(|id| is_whole_digest(id))
 }
 
-/// The reason, where the digests have a fault.
-fn reason_of(fault: &DigestFault) -> Option<DigestReason>
-    ensures { result ≡ digest_reason fault.now }
+/// The reason for which the digests have a fault.
+fn reason_of(fault: &DigestFault) -> Result<Option<DigestReason>, Memory>
+    ensures { IfOk result (λ answer. (reason : DigestReason) × (answer ≡ Some reason)
+        × (digest_reason fault.now ≡ Some reason)) }
 {
     match fault {
-        DigestFault::Memory => None,
-        DigestFault::Malformed => Some(DigestReason::Malformed),
-        DigestFault::NoneKnown => Some(DigestReason::NoneKnown),
-        DigestFault::Mismatch { algorithm, .. } => Some(DigestReason::Mismatch(*algorithm)),
+        DigestFault::Memory => Err(Memory),
+        DigestFault::Malformed => Ok(Some(DigestReason::Malformed)),
+        DigestFault::NoneKnown => Ok(Some(DigestReason::NoneKnown)),
+        DigestFault::Mismatch { algorithm, .. } => Ok(Some(DigestReason::Mismatch(*algorithm))),
+    }
+}
+
+/// Why the digests of the field's value aren't those of the content; nothing where they are.
+fn check_value(
+    alloc: Global,
+    value: &[u8],
+    message: &MessageView<'_>,
+) -> Result<Option<DigestReason>, Memory>
+    requires { value.now ≡ digest_text (message_of message.now) }
+    ensures { IfOk result (IsDigestAnswer (message_of message.now)) }
+{
+    match check_digest(alloc, value, message) {
+        Ok(()) => Ok(None),
+        Err(fault) => reason_of(&fault),
     }
 }
 
@@ -73,13 +90,7 @@ fn read_digest(alloc: Global, message: &MessageView<'_>) -> Result<Option<Digest
 {
     let lines = message.lines_named(Side::Header, b"content-digest");
     let value = joined_value(alloc, lines)?;
-    match check_digest(alloc, value.bytes(), message) {
-        Ok(()) => Ok(None),
-        Err(fault) => match reason_of(&fault) {
-            Some(reason) => Ok(Some(reason)),
-            None => Err(Memory),
-        },
-    }
+    check_value(alloc, value.bytes(), message)
 }
 
 /// Whether the digests of the field are those of the content. They are looked at where they weren't

@@ -1,6 +1,6 @@
 //! The verdict on a label.
 
-ghost use Rattle.std.specs.Prelude.{◌≡◌, ◌≤◌, Some, IsTrue, IfOk, length, option_copied};
+ghost use Rattle.std.specs.Prelude.{◌≡◌, ◌≤◌, ℕ, List, Some, IsTrue, IfOk, length, option_copied};
 ghost use Rattle.component_values.specs.Context.{context_of};
 ghost use Rattle.verdicts.specs.Readings.{AreReadFor};
 ghost use Rattle.settings.specs.ConfMeaning.{meaning};
@@ -10,10 +10,11 @@ ghost use Rattle.signatures.specs.Fields.{AreFieldsOf};
 ghost use Rattle.signatures.specs.Signatures.{HasSignature};
 ghost use Rattle.signatures.specs.tools.Answered.{Explains};
 ghost use Rattle.verdicts.specs.Parameters.{keyid_of};
-ghost use Rattle.verdicts.specs.Rules.{key_in};
+ghost use Rattle.signatures.specs.Rules.{IsFirstFailure};
+ghost use Rattle.verdicts.specs.Rules.{Fails, key_in};
 ghost use Rattle.verdicts.specs.Verdicts.{IsVerdict, is_verdict_in_range};
-ghost use Rattle.verdicts.specs.Verification.{IsAt, model_of, verification_of};
-ghost use Rattle.verdicts.specs.tools.Judged.{ExplainsJudged, FailsByKeyid, FailsByKey};
+ghost use Rattle.verdicts.specs.Verification.{IsAt, model_of, policy_of, verification_of};
+ghost use Rattle.verdicts.specs.tools.Judged.{AcceptsContent, AcceptsKeyid, ExplainsJudged, FailsByKeyid, FailsByKey, HasKey, HasKeyid};
 
 use crate::algorithm::judge_algorithm;
 use crate::digest::judge_digest;
@@ -27,7 +28,7 @@ use component_ids::SigParams;
 use component_values::Context;
 use hmac_sha256::HmacKey;
 use nonces::{NonceBook, Steps};
-use settings::Conf;
+use settings::{Conf, Policy};
 use sfv_text::{Memory, Text};
 use signatures::{LabelFault, LabelRead, Place, Rule, SignatureFields};
 use std::alloc::Global;
@@ -56,6 +57,64 @@ fn key_of<'a>(conf: &'a Conf, keyid: &[u8]) -> Result<&'a HmacKey, LabelFault>
     }
 }
 
+/// Whether the values of the components, the tag, the digest of the content and the nonces are
+/// accepted: rules 27 to 34.
+fn judge_content(
+    alloc: Global,
+    verification: &Verification<'_, '_, '_>,
+    read: &LabelRead,
+    policy: &Policy,
+    key: &HmacKey,
+    readings: &mut LabelReadings,
+) -> Result<(), LabelFault>
+    requires has { (keyid : List ℕ) × HasKey (model_of verification.now) read.now.params
+        read.now.tag keyid key.now }
+    requires policy { policy.now ≡ policy_of (model_of verification.now).conf read.now.params }
+    requires in_range { IsTrue (are_sig_params_in_range read.now.params) }
+    requires readings { AreReadFor (model_of verification.now).context readings.old }
+    requires now { IsAt (model_of verification.now).now (model_of verification.now).seen }
+    ensures explains { Explains (λ _. AcceptsContent (model_of verification.entry.now)
+        read.now.params read.now.tag key.now)
+        (IsFirstFailure (Fails (model_of verification.entry.now))) result }
+    ensures readings { AreReadFor (model_of verification.entry.now).context readings.new }
+{
+    judge_mac(alloc, verification.context, read, key, &mut readings.values)?;
+    judge_digest(
+        alloc,
+        verification.context.message,
+        &read.params,
+        policy.digest,
+        &mut readings.digest,
+    )?;
+    judge_room(&read.params, policy, verification.seen)
+}
+
+/// Whether the signature is accepted under the key of this `keyid`: rules 16 to 34.
+fn judge_keyid<L: Ledger>(
+    alloc: Global,
+    verification: &Verification<'_, '_, '_>,
+    read: &LabelRead,
+    policy: &Policy,
+    keyid: &[u8],
+    readings: &mut LabelReadings,
+    steps: &mut Steps<L>,
+) -> Result<(), LabelFault>
+    requires has { HasKeyid (model_of verification.now) read.now.params read.now.tag keyid.now }
+    requires policy { policy.now ≡ policy_of (model_of verification.now).conf read.now.params }
+    requires in_range { IsTrue (are_sig_params_in_range read.now.params) }
+    requires readings { AreReadFor (model_of verification.now).context readings.old }
+    requires now { IsAt (model_of verification.now).now (model_of verification.now).seen }
+    ensures explains { Explains (λ _. AcceptsKeyid (model_of verification.entry.now)
+        read.now.params read.now.tag keyid.now)
+        (IsFirstFailure (Fails (model_of verification.entry.now))) result }
+    ensures readings { AreReadFor (model_of verification.entry.now).context readings.new }
+    ensures steps { steps.old ≤ steps.new }
+{
+    let key = key_of(verification.conf, keyid)?;
+    judge_policy(alloc, verification, &read.params, policy, keyid, steps)?;
+    judge_content(alloc, verification, read, policy, key, readings)
+}
+
 /// The `keyid` of the accepted signature, or the first of rules 13 to 34 that fails.
 fn judge_signature<L: Ledger>(
     alloc: Global,
@@ -76,17 +135,7 @@ fn judge_signature<L: Ledger>(
     let policy = policy_of(verification.conf, &read.params);
     judge_algorithm(alloc, &read.params)?;
     let keyid = keyid_of(&read.params)?;
-    let key = key_of(verification.conf, keyid)?;
-    judge_policy(alloc, verification, &read.params, keyid, steps)?;
-    judge_mac(alloc, verification.context, read, key, &mut readings.values)?;
-    judge_digest(
-        alloc,
-        verification.context.message,
-        &read.params,
-        policy.digest,
-        &mut readings.digest,
-    )?;
-    judge_room(&read.params, policy, verification.seen)?;
+    judge_keyid(alloc, verification, read, policy, keyid, readings, steps)?;
     Ok(Text::from_bytes(alloc, keyid)?)
 }
 

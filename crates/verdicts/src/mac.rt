@@ -8,7 +8,8 @@ ghost use Rattle.sig_base.specs.SignatureBase.{signature_base};
 ghost use Rattle.hmac_sha256.specs.Hmac.{hmac, key_block};
 ghost use Rattle.hmac_sha256.specs.State.{HasAbsorbed};
 ghost use Rattle.component_values.specs.Faults.{HasIndexBelow};
-ghost use Rattle.verdicts.specs.tools.Judged.{ExplainsMac, SaysFault, rule_of_lack};
+ghost use Rattle.signatures.specs.tools.Answered.{Explains};
+ghost use Rattle.verdicts.specs.tools.Judged.{ExplainsMac, FailsByTag, IsTagOf, SaysFault, rule_of_lack};
 
 use component_ids::ComponentId;
 use component_values::{Context, Lack, Prepared, Readings, ValueFault, prepare_in};
@@ -65,6 +66,18 @@ pub fn tag_matches(prepared: &Prepared<'_, '_>, key: &[u8], tag: &[u8]) -> bool
     is_tag(prepared, Hmac::new(key), tag)
 }
 
+/// Whether the tag is right: rule 32.
+fn judge_tag(prepared: &Prepared<'_, '_>, key: &HmacKey, tag: &[u8]) -> Result<(), LabelFault>
+    ensures { Explains (λ _. IsTagOf prepared.now.params prepared.now.values key.now tag.now)
+        (FailsByTag prepared.now.params prepared.now.values key.now tag.now) result }
+{
+    if is_tag(prepared, key.hmac(), tag) {
+        Ok(())
+    } else {
+        Err(LabelFault::Rule(Rule::MacMismatch, Place::None))
+    }
+}
+
 /// Whether each component has its value, and the tag is right: rules 27 to 32.
 pub(crate) fn judge_mac(
     alloc: Global,
@@ -79,13 +92,8 @@ pub(crate) fn judge_mac(
         result }
     ensures readings { AreReadOf (context_of context.now) readings.new }
 {
-    let prepared = match prepare_in(alloc, context, &read.params, readings) {
-        Ok(prepared) => prepared,
-        Err(fault) => return Err(fault_of_lack(alloc, read.params.ids.as_slice(), fault)),
-    };
-    if is_tag(&prepared, key.hmac(), read.tag.bytes()) {
-        Ok(())
-    } else {
-        Err(LabelFault::Rule(Rule::MacMismatch, Place::None))
+    match prepare_in(alloc, context, &read.params, readings) {
+        Ok(prepared) => judge_tag(&prepared, key, read.tag.bytes()),
+        Err(fault) => Err(fault_of_lack(alloc, read.params.ids.as_slice(), fault)),
     }
 }

@@ -4,7 +4,7 @@ use sfv_text::Text;
 use signatures::{Place, Rule};
 
 /// The verdict on a label (RFC 9421 section 3.2).
-#[derive(Debug, Drop)]
+#[derive(Drop)]
 pub enum Verdict {
     /// It is accepted, under the key of this `keyid`.
     Ok { keyid: Text },

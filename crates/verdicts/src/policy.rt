@@ -47,16 +47,17 @@ pub(crate) fn judge_policy<L: Ledger>(
     alloc: Global,
     verification: &Verification<'_, '_, '_>,
     params: &SigParams,
+    policy: &Policy,
     keyid: &[u8],
     steps: &mut Steps<L>,
 ) -> Result<(), LabelFault>
     requires keyid { keyid_of params.now ≡ Some keyid.now }
     requires short { length keyid.now ≤ MAX_KEYID_BYTES }
+    requires policy { policy.now ≡ policy_of (model_of verification.now).conf params.now }
     requires now { IsAt (model_of verification.now).now (model_of verification.now).seen }
     ensures explains { ExplainsPolicy (model_of verification.entry.now) params.now result }
     ensures steps { steps.old ≤ steps.new }
 {
-    let policy = policy_of(verification.conf, params);
     let required = required_of(verification, policy);
     judge_coverage(alloc, params.ids.as_slice(), required)?;
     judge_created(params, policy, verification.now)?;

@@ -10,6 +10,8 @@ use Rattle.component_values.specs.declared.fault.ValueFault.TheVariants as fault
 use Rattle.component_values.specs.Forms as spec
 use Rattle.component_values.specs.declared.form.Form.{Form}
 use Rattle.component_values.specs.declared.form.Form.TheVariants as form
+use Rattle.component_values.specs.declared.context_field.ContextField.{ContextField}
+use Rattle.component_values.specs.declared.context_field.FieldRef.{FieldRef}
 use Rattle.component_values.specs.declared.plan.Plan.{Plan}
 use Rattle.component_values.specs.declared.plan.Plan.TheVariants as plan
 
@@ -38,3 +40,11 @@ form_meant form.Plain = spec.plain
 abbrev pub lack_fault_at : ℕ → NoValue → ValueFault
 lack_fault_at index Memory = fault.Memory
 lack_fault_at index (Lacks lack) = fault.Lacks index lack
+
+-- the field that the borrowed one stands for
+abbrev pub field_meant : FieldRef → ContextField
+field_meant field = record {
+  of_related = field.of_related;
+  side = field.side;
+  name = field.name.now;
+}

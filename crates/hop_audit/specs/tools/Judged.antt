@@ -1,11 +1,12 @@
 -- What the parts of the audit answer. No public clause cites this module.
-use Rattle.std.specs.Prelude.{◌≡◌, ◌<◌, ◌≤◌, ◌⊎◌, ⊤, ℕ, ◌+◌, ◌*◌, length, Option, Some, None, IfSome, IsTrue, option_map, slice_get, List, Result, Ok, Err}
+use Rattle.std.specs.Prelude.{◌≡◌, ◌<◌, ◌≤◌, ◌⊎◌, ⊤, ℕ, ◌+◌, ◌*◌, length, Option, Some, None, IfSome, IsTrue, option_map, unwrap_or, slice_get, List, Result, Ok, Err}
 use Rattle.msg_body.specs.Messages.{Message}
 use Rattle.msg_body.specs.Views.{MessageParts, message_of}
 use Rattle.component_values.specs.Context.{MessageContext}
 use Rattle.rewrite_script.specs.declared.rewrite.Rewrite.{Rewrite}
 use Rattle.settings.specs.ConfMeaning.{meaning}
 use Rattle.hop_audit.specs.declared.chain_audit.ChainAudit.{ChainAudit}
+use Rattle.hop_audit.specs.declared.chain_audit.Reached.{Reached}
 use Rattle.hop_audit.specs.declared.fault.ChainFault.{ChainFault}
 use Rattle.hop_audit.specs.declared.fault.ChainFault.TheVariants.{Memory}
 use Rattle.hop_audit.specs.declared.line.AuditLine.{AuditLine}
@@ -26,7 +27,7 @@ use Rattle.hop_audit.specs.Lines.{are_lines_in_range}
 use Rattle.hop_audit.specs.Report.{IsAudit}
 use Rattle.hop_audit.specs.tools.Read.{IsStageOf, SaysMessage, SaysScript}
 use Rattle.hop_audit.specs.tools.Recorded.{IsHeldChain, subject_meant}
-use Rattle.hop_audit.specs.tools.Written.{AddsHopLines}
+use Rattle.hop_audit.specs.tools.Written.{AddsHopLines, AddsMessageLines}
 
 -- the request that the messages of the audit answer
 abbrev pub related_of : ChainAudit → Option Message
@@ -91,6 +92,41 @@ SaysHop audit index before hop was now (Err fault) =
     SaysScript hop.item hop.script.now (Err fault)
     ⊎ ((script : List Rewrite) × IsScriptItem hop.script.now script
     × SaysMessage (hop.item + 1) audit.reading hop.message.now (Err fault))
+
+-- the lines of the first message are added, and this is what was read of it
+pub record AddsFirst (audit : ChainAudit) (chain : HeldChain) (was now : List AuditLine)
+    (reached : Reached) : Type 0 where
+  pub moment_is : reached.moment ≡ chain.moment
+  pub text_is : reached.text.now ≡ chain.first.now
+  pub stage : SaysStage chain.item audit.reading chain.first.now (Ok reached.stage)
+  pub added : AddsMessageLines (meaning audit.conf.now)
+      (context_of_audit audit (message_of reached.stage.message)) 0 chain.moment was now
+
+-- the same, or why its item is none
+abbrev pub SaysFirst : ChainAudit → HeldChain → List AuditLine → List AuditLine
+    → Result Reached ChainFault → Type 0
+SaysFirst audit chain was now (Ok reached) = AddsFirst audit chain was now reached
+SaysFirst audit chain was now (Err fault) =
+    SaysMessage chain.item audit.reading chain.first.now (Err fault)
+
+-- the lines of the hop and those of the message after it are added, and this was read of that
+pub record AddsNext (audit : ChainAudit) (index : ℕ) (before : Reached) (hop : HeldHop)
+    (was now : List AuditLine) (after : Reached) : Type 0 where
+  pub between : List AuditLine
+  pub moment_is : after.moment ≡ unwrap_or hop.moment before.moment
+  pub text_is : after.text.now ≡ hop.message.now
+  pub hop_lines : AddsHop audit index before.stage hop was between after.stage
+  pub added : AddsMessageLines (meaning audit.conf.now)
+      (context_of_audit audit (message_of after.stage.message)) index
+      (unwrap_or hop.moment before.moment) between now
+
+-- the same, or why its script or its message is none
+abbrev pub SaysNext : ChainAudit → ℕ → Reached → HeldHop → List AuditLine → List AuditLine
+    → Result Reached ChainFault → Type 0
+SaysNext audit index before hop was now (Ok after) =
+    AddsNext audit index before hop was now after
+SaysNext audit index before hop was now (Err fault) =
+    SaysHop audit index before.stage hop was now (Err fault)
 
 -- the report on the items of the chain, which can be written, or their fault, where the related
 -- request was read

@@ -2,6 +2,7 @@
 use Rattle.std.specs.Prelude.{◌≡◌, ◌≢◌, ⊤, ℕ, ◌+◌, ◌<◌, ◌≤◌, ◌^◌, Bool, List, length, take, Result, Ok, Err}
 use Rattle.msg_head.specs.declared.error.HeadError.{HeadError}
 use Rattle.msg_head.specs.declared.error.HeadError.TheVariants as head
+use Rattle.msg_head.specs.Views.{View}
 use Rattle.chunks.specs.declared.limits.TheConstants.{MAX_CONTENT_BYTES}
 use Rattle.chunks.specs.declared.error.ChunkError.{ChunkError}
 use Rattle.chunks.specs.declared.error.ChunkError.TheVariants as chunk
@@ -53,6 +54,17 @@ ExplainsMessage expect to_head bytes (Ok (read.Whole view used)) =
     IsMessageViewOf expect to_head bytes view used
 ExplainsMessage expect to_head bytes (Ok read.Partial) = IsMessageUnfinished expect to_head bytes
 ExplainsMessage expect to_head bytes (Err fault) =
+    fault ≢ Memory → IsMessageError expect to_head bytes fault
+
+-- the answer's fact for what comes after a head, with the framing that the head says
+abbrev pub ExplainsRest :
+    Expect → Bool → List ℕ → View → ℕ → Result (Framing × BodyRead) MessageError → Type 0
+ExplainsRest expect to_head bytes head start (Ok (framing, body.Whole view count)) =
+    IsMessageViewOf expect to_head bytes
+    (record { head = head; framing = framing; body = body_parts view }) (start + count)
+ExplainsRest expect to_head bytes head start (Ok (framing, body.Partial)) =
+    IsMessageUnfinished expect to_head bytes
+ExplainsRest expect to_head bytes head start (Err fault) =
     fault ≢ Memory → IsMessageError expect to_head bytes fault
 
 -- the offset of a fault, counted from the start, is one of a message

@@ -1,10 +1,17 @@
 -- What bytes begin with, by parts of a head. No public clause cites this module.
-use Rattle.std.specs.Prelude.{◌≡◌, ◌≢◌, ℕ, Bool, IsTrue, List, ◌++◌, Option}
+use Rattle.std.specs.Prelude.{◌≡◌, ◌≢◌, ◌<◌, ℕ, Bool, IsTrue, IsFalse, List, ◌++◌, length, take, drop, Option}
 use Rattle.std.specs.List.{list_all}
+use Rattle.byte_grammar.specs.Language.{starts_in}
 use Rattle.msg_head.specs.RawValues.{RawPieces}
 use Rattle.msg_head.specs.Lines.{FieldLine}
 use Rattle.msg_head.specs.Starts.{StartLine, IsStartLine, start_text, request, status, RequestLine, IsRequestLine, StatusLine, IsStatusLine, request_text, status_text, is_code, reason_text}
 use Rattle.msg_head.specs.Cuts.{MakesLine}
+
+-- so many bytes are of the class, and the next one isn't
+pub record EndsAt (test : ℕ → Bool) (n : ℕ) (bytes : List ℕ) : Type 0 where
+  pub within : n < length bytes
+  pub each : IsTrue (list_all test (take n bytes))
+  pub ends : IsFalse (starts_in test (drop n bytes))
 
 -- the bytes are a prefix of the class, that end, and more
 pub record StandsBefore (test : ℕ → Bool) (end prefix more bytes : List ℕ) : Type 0 where

@@ -2,7 +2,7 @@
 use Rattle.std.specs.Prelude.{◌≡◌, ℕ, ◌+◌, ◌-◌, ◌<◌, ◌≤◌, ⊤, IsTrue, List, ◌++◌, length, map, drop, codes}
 use Rattle.std.specs.List.{All, list_all, flat_map}
 use Rattle.msg_head.specs.declared.limits.TheConstants.{MAX_HEAD_LINES}
-use Rattle.msg_head.specs.declared.line.LineSpan.{LineSpan}
+use Rattle.line_index.specs.declared.span.LineSpan.{LineSpan}
 use Rattle.msg_head.specs.declared.error.Side.{Side}
 use Rattle.msg_head.specs.declared.error.HeadError.{HeadError}
 use Rattle.msg_head.specs.declared.error.HeadError.TheVariants.{Memory, TooLong, NakedEnd, BadStart, TooManyLines, BadLine}

@@ -18,11 +18,12 @@ use Rattle.component_ids.specs.declared.fault.IdFault.{IdFault}
 use Rattle.component_ids.specs.declared.fault.IdFault.TheVariants as id
 use Rattle.settings.specs.Configuration.{Configuration}
 use Rattle.settings.specs.Covered.{params_of}
+use Rattle.settings.specs.Keys.{is_keyid}
 use Rattle.settings.specs.declared.sign_conf.SignConf.{SignConf}
 use Rattle.signatures.specs.Algorithms.{supported_algorithm, refused_algorithms}
 use Rattle.signing.specs.Asked.{moment_item}
 use Rattle.signing.specs.Specs.{IsValidSpec}
-use Rattle.signing.specs.Wishes.{expires_item, can_be_met, components_in, wished_alg, wished_key, MeetsWish, MeetWishes, AreWished}
+use Rattle.signing.specs.Wishes.{expires_item, can_be_met, components_in, wished_alg, wished_keyid, wished_key, MeetsWish, MeetWishes, AreWished}
 use Rattle.signing.specs.WishCauses.{IsWantCause, IsWantFault}
 use Rattle.signing.specs.declared.fault.WantFault.{WantFault}
 use Rattle.signing.specs.declared.fault.WantFault.TheVariants as want
@@ -115,6 +116,20 @@ IsWishFault conf sign member fault = IsFirst wish_order (IsWishCause conf sign m
 abbrev pub ExplainsFault : Configuration → SignConf → Member → WishFault → Type 0
 ExplainsFault conf sign member Memory = ⊤
 ExplainsFault conf sign member fault = IsWishFault conf sign member fault
+
+-- the key of a wish, against which there is no cause but its components
+pub record IsKeyOfWish (conf : Configuration) (sign : SignConf) (list : InnerList)
+    (key : List ℕ) : Type 0 where
+  pub can : IsTrue (list_all (can_be_met sign.expires_after) list.params)
+  pub alg : IfSome (wished_alg list) (λ alg. alg ≡ supported_algorithm)
+  pub key_is : wished_key conf sign list ≡ Some key
+  pub keyid : IsTrue (is_keyid (wished_keyid sign list))
+
+-- the first cause against a wish, where there is none against its components
+abbrev pub IsFaultOfParams : Configuration → SignConf → InnerList → WishFault → Type 0
+IsFaultOfParams conf sign list fault =
+    (ids : List ComponentId) → IsParamsOf (components_in list) (params_of ids)
+    → ExplainsFault conf sign (InnerMember list) fault
 
 -- what is wished and no cause against it, or the first cause
 abbrev pub ExplainsWish : Configuration → SignConf → ℕ → Pair Member → Result SignSpec WishFault

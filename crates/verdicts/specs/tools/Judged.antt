@@ -20,10 +20,10 @@ use Rattle.nonces.specs.declared.limits.TheConstants.{MAX_NONCE_BYTES}
 use Rattle.nonces.specs.Books.{Book}
 use Rattle.component_ids.specs.Sameness.{is_same}
 use Rattle.verdicts.specs.Parameters.{alg_of, keyid_of}
-use Rattle.verdicts.specs.Policies.{IsFirstUncovered, IsAhead, IsTooOld, asks_new, AcceptsByPolicy, LacksRoom}
+use Rattle.verdicts.specs.Policies.{IsFirstUncovered, IsAhead, IsTooOld, asks_new, AcceptsByPolicy, HasRoom, LacksRoom}
 use Rattle.verdicts.specs.Verification.{Verification, policy_of}
 use Rattle.msg_body.specs.Messages.{Message}
-use Rattle.verdicts.specs.ContentDigest.{LacksDigest}
+use Rattle.verdicts.specs.ContentDigest.{HasDigest, LacksDigest}
 use Rattle.verdicts.specs.Readings.{IsDigestAnswer}
 use Rattle.signatures.specs.declared.place.DigestReason.{DigestReason}
 use Rattle.signatures.specs.declared.label.LabelFault.{LabelFault}
@@ -36,7 +36,7 @@ use Rattle.signatures.specs.Words.{rule_number}
 use Rattle.signatures.specs.Signatures.{HasSignature}
 use Rattle.signatures.specs.Rules.{IsFirstFailure}
 use Rattle.signatures.specs.Algorithms.{supported_algorithm, refused_algorithms}
-use Rattle.verdicts.specs.Rules.{Fails}
+use Rattle.verdicts.specs.Rules.{key_in, asks_digest_of, Fails}
 use Rattle.verdicts.specs.Verdicts.{Accepts, is_place_in_range}
 use Rattle.signatures.specs.tools.Answered.{Explains}
 
@@ -83,6 +83,15 @@ abbrev pub SaysFault : List ComponentId → ValueFault → LabelFault → Type 0
 SaysFault ids fault Memory = ⊤
 SaysFault ids value.Memory (Refused rule place) = ⊥
 SaysFault ids (value.Lacks index lack) (Refused rule place) = SaysLack ids index lack rule place
+
+-- the tag is that of the values under the key
+abbrev pub IsTagOf : SigParams → List (List ℕ) → List ℕ → List ℕ → Type 0
+IsTagOf params values key tag = tag ≡ hmac key (signature_base params values)
+
+-- rule 32 fails
+abbrev pub FailsByTag : SigParams → List (List ℕ) → List ℕ → List ℕ → Rule → Place → Type 0
+FailsByTag params values key tag rule place =
+    (rule ≡ MacMismatch) × (place ≡ Nowhere) × ¬ IsTagOf params values key tag
 
 -- a rule from 27 to 32 fails
 abbrev pub FailsByMac : MessageContext → SigParams → List ℕ → List ℕ → Rule → Place → Type 0
@@ -180,6 +189,21 @@ ExplainsPolicy v params result =
     → Explains (λ _. AcceptsByPolicy v (policy_of v.conf params) params)
     (IsFirstFailure (Fails v)) result
 
+-- ---- rules 13 to 26
+
+-- rules up to 15 hold, with this `keyid`
+pub record HasKeyid (v : Verification) (params : SigParams) (tag keyid : List ℕ) : Type 0 where
+  pub signature : HasSignature v.context.message v.label params tag
+  pub alg : IfSome (alg_of params) (λ alg. alg ≡ supported_algorithm)
+  pub is : keyid_of params ≡ Some keyid
+
+-- rules up to 26 hold, with this key of the `keyid`
+pub record HasKey (v : Verification) (params : SigParams) (tag keyid key : List ℕ)
+    : Type 0 where
+  pub under : HasKeyid v params tag keyid
+  pub is : key_in v.conf keyid ≡ Some key
+  pub policy : AcceptsByPolicy v (policy_of v.conf params) params
+
 -- ---- rules 33 and 34
 
 -- the field's digests have a fault
@@ -206,3 +230,20 @@ IsJudged v rule place = IsFirstFailure (Fails v) rule place × IsTrue (is_place_
 -- the `keyid` of an accepted label, or the first rule that fails
 abbrev pub ExplainsJudged : Verification → Result (List ℕ) LabelFault → Type 0
 ExplainsJudged v result = Explains (Accepts v) (IsJudged v) result
+
+-- ---- rules 27 to 34
+
+-- they hold, with this key
+pub record AcceptsContent (v : Verification) (params : SigParams) (tag key : List ℕ)
+    : Type 0 where
+  pub values : List (List ℕ)
+  pub have : HaveValues v.context params.ids values
+  pub mac : tag ≡ hmac key (signature_base params values)
+  pub digest : IsTrue (asks_digest_of v (policy_of v.conf params))
+      → HasDigest v.context.message params.ids
+  pub room : HasRoom v.now v.seen (policy_of v.conf params) params
+
+-- rules 16 to 34 hold, with this `keyid`
+abbrev pub AcceptsKeyid : Verification → SigParams → List ℕ → List ℕ → Type 0
+AcceptsKeyid v params tag keyid =
+    (key : List ℕ) × HasKey v params tag keyid key × AcceptsContent v params tag key

@@ -1,14 +1,9 @@
 use Rattle.std.proofs.Common.{sym}
 use Rattle.std.specs.Prelude.{codes}
-use Rattle.command_line.proofs.OptionLists.{value_had, word_had}
+use Rattle.command_line.proofs.OptionLists.{value_had}
 use Rattle.command_line.proofs.command.read_sign.Goals as goal
 
 pub moment_of-requires : goal.moment_of-requires
 moment_of-requires c =
     let found = c.in_ok-found.ensures.some in
     value_had (codes "--now") c.in_ok-now.now.now found.options found.are.had (sym (rw c.in_ok-now.was at found.now_is found.options found.are.joined))
-
-pub returns-clause-nonce : goal.returns-clause-nonce
-returns-clause-nonce c =
-    let found = c.in_ok-found.ensures.some in
-    word_had (codes "--nonce") found.options _ found.are.had (found.nonce_is found.options found.are.joined)

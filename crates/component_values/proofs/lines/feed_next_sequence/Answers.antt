@@ -1,4 +1,4 @@
-use Rattle.std.proofs.Common.{ℕ, List, ◌++◌, codes, sym, ap, subst, ◌∙◌}
+use Rattle.std.proofs.Common.{ℕ, List, ◌++◌, codes, sym, subst, ◌∙◌}
 use Rattle.component_values.specs.Values.{byte_sequences}
 use Rattle.component_values.proofs.Sequences.{first_sequence, next_sequence}
 use Rattle.component_values.proofs.lines.feed_next_sequence.Goals as goal

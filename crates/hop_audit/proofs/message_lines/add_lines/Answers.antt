@@ -1,14 +1,10 @@
 use Rattle.std.proofs.Common.{subst, refl}
 use Rattle.std.proofs.lemmas.Bool.{false≢true}
 use Rattle.std.proofs.lemmas.Result.{on_ok_weaker}
-use Rattle.component_values.specs.Context.{context_of}
 use Rattle.verdicts.specs.Readings.{AreReadFor}
 use Rattle.verdicts.specs.Verification.{Verification, model_of}
 use Rattle.hop_audit.proofs.ReportLines.{all_labels, label_added, more_label, no_labels, one_label}
 use Rattle.hop_audit.proofs.message_lines.add_lines.Goals as goal
-
-pub add_line-requires-clause-readings : goal.add_line-requires-clause-readings
-add_line-requires-clause-readings g c = c.new-readings.ensures (context_of c.args.first.now.context.now)
 
 pub returns-then-is_empty : goal.returns-then-is_empty
 returns-then-is_empty g c =
@@ -20,7 +16,7 @@ returns-then-is_empty g c =
 pub loop-label-init : goal.loop-label-init
 loop-label-init g c =
     let first = model_of c.args.first.now in
-    (no_labels first.conf first.context c.args.index first.now c.args.lines.now, c.new-readings.ensures (context_of c.args.first.now.context.now))
+    (no_labels first.conf first.context c.args.index first.now c.args.lines.now, c.requires.readings)
 
 pub loop-label-preserved : goal.loop-label-preserved
 loop-label-preserved g c =

@@ -11,24 +11,24 @@ use Rattle.msg_head.proofs.line.split_folded.Goals as goal
 pub returns-in_err-n-clause-there : goal.returns-in_err-n-clause-there
 returns-in_err-n-clause-there c pieces more b =
     let at = c.folds.invariant.still pieces more b in
-    let found = cr_found at.0 more c.folds.left.now c.memchr3.result at.1 c.memchr3.ensures in
+    let found = cr_found at.0 more c.folds.left.now c.first_end.result at.1 c.first_end.ensures in
     absurd (cc (found, c.in_err-n.was))
 
 pub returns-in_err-after-clause-there : goal.returns-in_err-after-clause-there
 returns-in_err-after-clause-there c pieces more b =
     let at = c.folds.invariant.still pieces more b in
-    let found = cr_found at.0 more c.folds.left.now c.memchr3.result at.1 c.memchr3.ensures in
+    let found = cr_found at.0 more c.folds.left.now c.first_end.result at.1 c.first_end.ensures in
     let same : c.in_ok-n.n ≡ length at.0.first = cc (found, c.in_ok-n.was) in
     absurd (c.in_err-after.ensures.none _ (c.rest_from.ensures ∙ at_cr at.0 more c.folds.left.now c.in_ok-n.n at.1 same))
 
 pub returns-then-not-starts_with_blank-clause-clean : goal.returns-then-not-starts_with_blank-clause-clean
 returns-then-not-starts_with_blank-clause-clean c =
-    clean_after c.args.text.now c.folds.left.now c.in_ok-after.after.now c.in_ok-n.n c.folds.invariant.clean (rw c.in_ok-n.was at c.memchr3.ensures) (sym c.rest_from.ensures ∙ c.in_ok-after.ensures.some)
+    clean_after c.args.text.now c.folds.left.now c.in_ok-after.after.now c.in_ok-n.n c.folds.invariant.clean (rw c.in_ok-n.was at c.first_end.ensures) (sym c.rest_from.ensures ∙ c.in_ok-after.ensures.some)
 
 pub returns-then-not-starts_with_blank-clause-there : goal.returns-then-not-starts_with_blank-clause-there
 returns-then-not-starts_with_blank-clause-there c pieces more b =
     let at = c.folds.invariant.still pieces more b in
-    let found = cr_found at.0 more c.folds.left.now c.memchr3.result at.1 c.memchr3.ensures in
+    let found = cr_found at.0 more c.folds.left.now c.first_end.result at.1 c.first_end.ensures in
     let same : c.in_ok-n.n ≡ length at.0.first = cc (found, c.in_ok-n.was) in
     let after = after_is at.0 more c.folds.left.now c.in_ok-after.after.now c.in_ok-n.n at.1 same (sym c.rest_from.ensures ∙ c.in_ok-after.ensures.some) in
     let ends = after ∙ last_piece at.0.continued more (and_parts _ _ at.1.are).1 (ap (starts_in is_blank) (sym after) ∙ sym c.if-not-starts_with_blank.ensures) in
@@ -38,11 +38,11 @@ pub folds-preserved : goal.folds-preserved
 folds-preserved c =
     let size = ap (length {A = ℕ}) c.in_ok-after.ensures.some in
     record {
-      clean = clean_after c.args.text.now c.folds.left.now c.in_ok-after.after.now c.in_ok-n.n c.folds.invariant.clean (rw c.in_ok-n.was at c.memchr3.ensures) (sym c.rest_from.ensures ∙ c.in_ok-after.ensures.some);
+      clean = clean_after c.args.text.now c.folds.left.now c.in_ok-after.after.now c.in_ok-n.n c.folds.invariant.clean (rw c.in_ok-n.was at c.first_end.ensures) (sym c.rest_from.ensures ∙ c.in_ok-after.ensures.some);
       within = omega (arith, size, ap (length {A = ℕ}) c.rest_from.ensures, length-drop c.in_ok-n.n c.folds.left.now, c.folds.invariant.within);
       still = λ pieces more b.
           let at = c.folds.invariant.still pieces more b in
-          let found = cr_found at.0 more c.folds.left.now c.memchr3.result at.1 c.memchr3.ensures in
+          let found = cr_found at.0 more c.folds.left.now c.first_end.result at.1 c.first_end.ensures in
           let same : c.in_ok-n.n ≡ length at.0.first = cc (found, c.in_ok-n.was) in
           let after = after_is at.0 more c.folds.left.now c.in_ok-after.after.now c.in_ok-n.n at.1 same (sym c.rest_from.ensures ∙ c.in_ok-after.ensures.some) in
           let next = next_piece at.0.continued more (and_parts _ _ at.1.are).1 at.1.ends (ap (starts_in is_blank) (sym after) ∙ sym c.if-not-starts_with_blank.ensures) in

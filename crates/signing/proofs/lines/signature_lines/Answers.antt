@@ -10,8 +10,7 @@ returns c =
     let spec = c.args.spec.now in
     record {
       text = two_lines (member_line (codes "Signature-Input") spec.label (sig_params_text spec.params)) (member_line (codes "Signature") spec.label (bytes_text c.args.tag.now))
-          c.new-text.result c.append_member.new.text c.append_member-2.new.text c.new-text.ensures
-          (rw (c.bytes.ensures, c.bytes-2.ensures, c.in_ok-params.ensures.is) at c.in_ok-append_member.ensures)
-          (rw (c.bytes-3.ensures, c.bytes-4.ensures, c.in_ok-value.ensures.is, c.in_ok-from_bytes.ensures.ok) at c.in_ok-append_member-2.ensures);
+          c.new-text.result c.append_params_line.new.text c.append_tag_line.new.text c.new-text.ensures
+          c.in_ok-append_params_line.ensures (rw c.bytes.ensures at c.in_ok-append_tag_line.ensures);
       count = refl;
     }

@@ -21,4 +21,4 @@ returns-in-Ok-Whole c =
     let bytes = c.args.bytes.now in
     let found = c.read_message.ensures.found message (length bytes) (found_again c.answers_head.result (answers_head context.related) message bytes c.answers_head.ensures c.requires.spells) refl in
     let same = read_again c.read_message.result message (length bytes) c.in-Ok-Whole.field-0-1 c.in-Ok-Whole.message found (c.in-Ok-Whole.is ∙ ap Ok c.in-Ok-Whole.field-0-is) in
-    subst (λ (m : Message). ExplainsTag (record { message = m; related = context.related; scheme = context.scheme; types = context.types }) c.args.spec.now c.tag_of.result) same c.tag_of.ensures
+    subst (λ (m : Message). ExplainsTag (record { message = m; related = context.related; scheme = context.scheme; types = context.types }) c.args.spec.now c.tag_of_message.result) same c.tag_of_message.ensures

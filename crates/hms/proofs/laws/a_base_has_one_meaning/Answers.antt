@@ -1,5 +1,0 @@
-use Rattle.hms.proofs.Meanings.{has_one_base}
-use Rattle.hms.proofs.laws.a_base_has_one_meaning.Goals as goal
-
-pub returns : goal.returns
-returns c = has_one_base

@@ -1,5 +1,0 @@
-use Rattle.hms.proofs.Meanings.{has_one_chain}
-use Rattle.hms.proofs.laws.what_is_kept_has_one_base.Goals as goal
-
-pub returns : goal.returns
-returns c = has_one_chain

@@ -1,5 +1,0 @@
-use Rattle.hms.proofs.AuditedInputs.{kept_where_permitted}
-use Rattle.hms.proofs.laws.what_is_permitted_is_kept.Goals as goal
-
-pub returns : goal.returns
-returns c = kept_where_permitted

@@ -1,5 +1,0 @@
-use Rattle.hms.proofs.RewrittenInputs.{verdict_kept}
-use Rattle.hms.proofs.laws.what_is_rewritten_keeps_its_verdict.Goals as goal
-
-pub returns : goal.returns
-returns c = verdict_kept

@@ -1,5 +1,0 @@
-use Rattle.hms.proofs.SignedInputs.{accepted_where_signed}
-use Rattle.hms.proofs.laws.what_is_signed_is_accepted.Goals as goal
-
-pub returns : goal.returns
-returns c = accepted_where_signed

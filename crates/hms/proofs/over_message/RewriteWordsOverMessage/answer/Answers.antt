@@ -1,9 +1,0 @@
-use Rattle.std.specs.Prelude.{option_map}
-use Rattle.component_values.specs.Context.{context_of}
-use Rattle.hms.proofs.Layers.{went_on}
-use Rattle.hms.proofs.Sources.{own_of_rewriting}
-use Rattle.hms.proofs.over_message.RewriteWordsOverMessage.answer.Goals as goal
-
-pub returns-clause-own : goal.returns-clause-own
-returns-clause-own c =
-    went_on (own_of_rewriting (option_map (λ word. word.now) c.args.self.now.label) c.args.script.now (context_of c.args.context.now)) c.write_rewritten.result c.write_rewritten.ensures.report

@@ -1,0 +1,6 @@
+mod Lowered
+mod FirstBytes
+pub mod Filtered
+pub mod ByName
+mod NameOrder
+mod NamedLists

@@ -1,0 +1,205 @@
+-- What `base` and `audit` write tells what it was made of.
+use Rattle.std.proofs.Common.{◌≡◌, ◌⊎◌, ◌∙◌, inl, inr, ℕ, Bool, true, false, Option, Some, None, List, refl, sym, ap, subst}
+use Rattle.std.specs.Prelude.{IfSome, IsTrue, ◌↔◌}
+use Rattle.std.specs.Io.KnownBytes.{Appends}
+use Rattle.std.specs.List.{list_all}
+use Rattle.hms_io.specs.Files.{FileMap}
+use Rattle.hms_io.specs.declared.status.Status.{Status}
+use Rattle.hms_io.specs.declared.status.Status.TheVariants.{Done, NotOk}
+use Rattle.sfv_text.specs.Classes.{is_byte}
+use Rattle.sfv_read.proofs.InRange.{inner_read_in_range}
+use Rattle.command_line.specs.Command.{CommandLine, Help, Version, Base, Verify, Sign, Rewrite, Audit, Sample, BaseWords, AuditWords, IsCommand}
+use Rattle.command_line.proofs.CommandLaws.{one_command}
+use Rattle.msg_body.specs.Messages.{Message}
+use Rattle.msg_body.specs.WholeTexts.{one_request, reading_for}
+use Rattle.component_ids.specs.SignatureParams.{are_sig_params_in_range, list_of}
+use Rattle.component_ids.specs.declared.params.SigParams.{SigParams}
+use Rattle.component_ids.proofs.AnswerLaws.{in_range_of_list}
+use Rattle.component_values.specs.Context.{MessageContext}
+use Rattle.component_values.specs.Laws.{HasMessages, IsSpelled}
+use Rattle.component_values.specs.Values.{HaveValues}
+use Rattle.component_values.proofs.FirstLacks.{have_length}
+use Rattle.sig_base.specs.Laws.{HaveLines}
+use Rattle.sig_base.specs.SignatureBase.{signature_base}
+use Rattle.sig_base.proofs.Readings.{one_reading}
+use Rattle.conf.specs.Configuration.{Configuration}
+use Rattle.verdicts.specs.Contexts.{context_for}
+use Rattle.recording.specs.Items.{PlacedItem}
+use Rattle.hop_audit.specs.Lines.{finds_fault, report_text}
+use Rattle.hop_audit.specs.declared.line.AuditLine.{AuditLine}
+use Rattle.hop_audit.proofs.OneBases.{all_lines, is_kept_with_its_base_at_hops, tells_what_changed_at_hops}
+use Rattle.commands.specs.Audit.{ReportsAudit, audit_outcome}
+use Rattle.commands.specs.Base.{ReportsBase}
+use Rattle.commands.specs.Configured.{IsConfigured}
+use Rattle.commands.specs.Covered.{ReadsParams}
+use Rattle.commands.specs.Files.{Found, Conf as ConfFile, Request as RequestFile}
+use Rattle.commands.specs.Layers.{ReadsFound}
+use Rattle.commands.specs.MessageFiles.{IsMessageFile, IsRequested}
+use Rattle.commands.specs.Messages.{IsInputMessage}
+use Rattle.commands.specs.Outcome.{output_of, status_of}
+use Rattle.commands.specs.declared.outcome.Outcome.{Outcome}
+use Rattle.commands.specs.declared.outcome.Outcome.TheVariants.{Done as Written, NotOk as Counted, Refused}
+use Rattle.refusals.specs.Laws.{IsOfRefusal}
+use Rattle.refusals.specs.declared.refusal.Refusal.{Refusal}
+use Rattle.refusals.proofs.Statuses.{status_of_refusal}
+use Rattle.program.specs.Commands.{AreFoundFor, ReadsWhole, input_use, is_whole}
+use Rattle.program.specs.Ends.{Ends, HasReport}
+use Rattle.program.specs.Meanings.{HasOneBase, HasOneChain, HasWritten, TellsOneBase, TellsOneChain, WritesOneBase, WritesOneChain}
+use Rattle.program.specs.Report.{Reports, ReportsCommand}
+
+-- ---- a base
+
+-- a message that is read is spelled by bytes
+input_spelled : (related : Option Message) (input : List ℕ) (message : Message) → IsInputMessage (reading_for related) input message → IsSpelled message
+input_spelled related input message is =
+    record { to_head = (reading_for related).to_head; text = input; are_bytes = is.are_bytes; spells = is.whole.spells }
+
+request_spelled : (name found : Option (List ℕ)) (related : Option Message) → IsRequested name found related → IfSome related IsSpelled
+request_spelled name found None is = tt
+request_spelled None found (Some request) is = absurd (cc is)
+request_spelled (Some name) None (Some request) is = absurd is
+request_spelled (Some name) (Some text) (Some request) is =
+    record { to_head = one_request.to_head; text = text; are_bytes = is.are_bytes; spells = is.whole.spells }
+
+params_in_range : (text : List ℕ) (params : SigParams) → ReadsParams text params → are_sig_params_in_range params ≡ true
+params_in_range text params reads = in_range_of_list params ∙ inner_read_in_range text (list_of params) reads.reads
+
+one_base : (text : List ℕ) (params : SigParams) (context : MessageContext) (values : List (List ℕ)) → ReadsParams text params → HasMessages context → HaveValues context params.ids values
+    → (output : List ℕ) → output ≡ signature_base params values → (others : SigParams) (also : List (List ℕ)) → HaveLines others also
+    → (output ≡ signature_base others also) ↔ ((others ≡ params) × (also ≡ values))
+one_base text params context values reads spelled have output is others also lines =
+    let own : HaveLines params values = record {
+      in_range = params_in_range text params reads;
+      each = have_length context params.ids values have;
+      lines = all_lines context params.ids values spelled have;
+    } in
+    let both = one_reading others params also values lines own in
+    (λ same. both.0 (sym same ∙ is), λ same. is ∙ sym (both.1 same))
+
+base_told : (words : BaseWords) (found : Found) (input output : List ℕ) → ReportsCommand (Base words) found input (Written output) → TellsOneBase words found input output
+base_told words found input output (inr cause) = absurd (cc cause.2)
+base_told words found input output (inl (conf, configured, inr cause)) = absurd (cc cause.2)
+base_told words found input output (inl (conf, configured, inl (_, tables, inr cause))) = absurd (cc cause.2)
+base_told words found input output (inl (conf, configured, inl (_, tables, inl (related, requested, inr cause)))) = absurd (cc cause.2)
+base_told words found input output (inl (conf, configured, inl (_, tables, inl (related, requested, inl (wishes, wanted, inr cause))))) = absurd (cc cause.2)
+base_told words found input output (inl (conf, configured, inl (_, tables, inl (related, requested, inl (wishes, wanted, inl (script, scripted, inr cause)))))) = absurd (cc cause.2)
+base_told words found input output (inl (conf, configured, inl (_, tables, inl (related, requested, inl (wishes, wanted, inl (script, scripted, inl (message, is, inr cause))))))) = absurd (cc cause.2)
+base_told words found input output (inl (conf, configured, inl (_, tables, inl (related, requested, inl (wishes, wanted, inl (script, scripted, inl (message, is, inl (params, reads, inr cause)))))))) = absurd (cc cause.2)
+base_told words found input output (inl (conf, configured, inl (_, tables, inl (related, requested, inl (wishes, wanted, inl (script, scripted, inl (message, is, inl (params, reads, inl (values, have, same))))))))) = record {
+  conf = conf;
+  configured = configured;
+  related = related;
+  requested = requested;
+  message = message;
+  is = is;
+  params = params;
+  reads = reads;
+  values = values;
+  have = have;
+  one = one_base words.params params (context_for conf message related) values reads
+      (record { message = input_spelled related input message is; related = request_spelled words.request (found RequestFile) related requested }) have output (ap output_of same);
+}
+
+pub has_one_base : HasOneBase
+has_one_base arguments words found input output is (inr cause) = absurd (cc cause.2)
+has_one_base arguments words found input output is (inl (command, spells, reports)) =
+    base_told words found input output (subst (λ (c : CommandLine). ReportsCommand c found input (Written output)) (one_command arguments command (Base words) spells is) reports)
+
+-- ---- a chain
+
+refused_not : (refusal : Refusal) → (status_of (Refused refusal) ≡ Done) ⊎ (status_of (Refused refusal) ≡ NotOk) → ⊥
+refused_not refusal (inl done) = subst (λ (s : Status). IsOfRefusal s) done (status_of_refusal refusal)
+refused_not refusal (inr failed) = subst (λ (s : Status). IsOfRefusal s) failed (status_of_refusal refusal)
+
+no_refusal : (refusal : Refusal) (outcome : Outcome) → outcome ≡ Refused refusal → (status_of outcome ≡ Done) ⊎ (status_of outcome ≡ NotOk) → ⊥
+no_refusal refusal outcome same answered =
+    refused_not refusal (subst (λ (o : Outcome). (status_of o ≡ Done) ⊎ (status_of o ≡ NotOk)) same answered)
+
+report_written : (lines : List AuditLine) (counts : Bool) → finds_fault lines ≡ counts → output_of (audit_outcome lines) ≡ report_text lines
+report_written lines true is = rw is refl
+report_written lines false is = rw is refl
+
+chain_told : (words : AuditWords) (found : Found) (input : List ℕ) (outcome : Outcome) (conf : Configuration) → IsConfigured (Some words.conf) (found ConfFile) conf → ReportsAudit conf input outcome
+    → (status_of outcome ≡ Done) ⊎ (status_of outcome ≡ NotOk) → TellsOneChain words found input (output_of outcome)
+chain_told words found input outcome conf configured (inr cause) answered = absurd (no_refusal _ outcome cause.2 answered)
+chain_told words found input outcome conf configured (inl (items, is, inr cause)) answered = absurd (no_refusal _ outcome cause.2 answered)
+chain_told words found input outcome conf configured (inl (items, is, inl (lines, audit, same))) answered = record {
+  conf = conf;
+  configured = configured;
+  items = items;
+  recorded = is;
+  chain = audit.0;
+  are = audit.1;
+  lines = lines;
+  report = audit.2;
+  written = ap output_of same ∙ report_written lines (finds_fault lines) refl;
+  kept = λ index label permitted fate bytes line.
+      is_kept_with_its_base_at_hops conf input items audit.0 lines index label permitted fate bytes is.1 audit.1 audit.2 line;
+  changed = λ index label id keyid bytes accepts.
+      tells_what_changed_at_hops conf input items audit.0 lines index label id keyid bytes is.1 audit.1 audit.2 accepts;
+}
+
+audit_told : (words : AuditWords) (found : Found) (input : List ℕ) (outcome : Outcome) → ReportsCommand (Audit words) found input outcome
+    → (status_of outcome ≡ Done) ⊎ (status_of outcome ≡ NotOk) → TellsOneChain words found input (output_of outcome)
+audit_told words found input outcome (inr cause) answered = absurd (no_refusal _ outcome cause.2 answered)
+audit_told words found input outcome (inl (conf, configured, reports)) answered = chain_told words found input outcome conf configured reports answered
+
+pub has_one_chain : HasOneChain
+has_one_chain arguments words found input outcome is (inr cause) answered = absurd (no_refusal _ outcome cause.2 answered)
+has_one_chain arguments words found input outcome is (inl (command, spells, reports)) answered =
+    audit_told words found input outcome (subst (λ (c : CommandLine). ReportsCommand c found input outcome) (one_command arguments command (Audit words) spells is) reports) answered
+
+-- ---- of a run
+
+-- each command writes nothing before it has read all
+reads_whole : (command : CommandLine) → IsTrue (is_whole (input_use command))
+reads_whole Help = refl
+reads_whole Version = refl
+reads_whole (Base words) = refl
+reads_whole (Verify words) = refl
+reads_whole (Sign words) = refl
+reads_whole (Rewrite words) = refl
+reads_whole (Audit words) = refl
+reads_whole (Sample words) = refl
+
+pub all_read_whole : (arguments : List (List ℕ)) → ReadsWhole arguments
+all_read_whole arguments command is = reads_whole command
+
+-- an outcome of this status is a text
+written_is : (outcome : Outcome) → status_of outcome ≡ Done → outcome ≡ Written (output_of outcome)
+written_is (Written text) is = refl
+written_is (Counted text) is = absurd (cc is)
+written_is (Refused refusal) is = absurd (refused_not refusal (inl is))
+
+module _ (arguments : List (List ℕ)) (shelf : Option FileMap) (Same : Type 0) (before left taken now : Option (List ℕ)) (status : Status) where
+  pub writes_one_base : (status ≡ Done → Ends arguments shelf Same before left taken now Done) → WritesOneBase arguments shelf before taken now status
+  writes_one_base ends words is done =
+      let end = ends done in
+      let report = end.1 in
+      record {
+        found = report.found;
+        files = report.files;
+        input = report.holds.input;
+        known = report.holds.known;
+        output = output_of end.0;
+        appended = end.3;
+        tells = has_one_base arguments words report.found report.holds.input (output_of end.0) is
+            (subst (λ (o : Outcome). Reports arguments report.found report.holds.input o) (written_is end.0 end.2) report.holds.reports);
+      }
+
+  chain_written : (words : AuditWords) → IsCommand arguments (Audit words) → (outcome : Outcome) → HasReport arguments shelf Same before left outcome
+      → (status_of outcome ≡ Done) ⊎ (status_of outcome ≡ NotOk) → Appends taken now (output_of outcome) → HasWritten (TellsOneChain words) (AreFoundFor arguments shelf) before taken now
+  chain_written words is outcome report answered appended = record {
+    found = report.found;
+    files = report.files;
+    input = report.holds.input;
+    known = report.holds.known;
+    output = output_of outcome;
+    appended = appended;
+    tells = has_one_chain arguments words report.found report.holds.input outcome is report.holds.reports answered;
+  }
+
+  pub writes_one_chain : (status ≡ Done → Ends arguments shelf Same before left taken now Done) → (status ≡ NotOk → Ends arguments shelf Same before left taken now NotOk)
+      → WritesOneChain arguments shelf before taken now status
+  writes_one_chain ends counted words is (inl done) = let end = ends done in chain_written words is end.0 end.1 (inl end.2) end.3
+  writes_one_chain ends counted words is (inr failed) = let end = counted failed in chain_written words is end.0 end.1 (inr end.2) end.3

@@ -1,0 +1,224 @@
+-- What `sign` writes is accepted by `verify`, or fails a rule of the policy.
+use Rattle.std.proofs.Common.{◌≡◌, ◌<◌, ◌≤◌, ◌^◌, ℕ, Bool, true, false, ◌&&◌, nat_lt, nat_le, Option, Some, None, List, [], ◌∷◌, codes, length, refl, sym, ap, subst, ◌∙◌, inl, inr, arith}
+use Rattle.std.specs.Prelude.{⊤, IfSome, IsSomeAnd, IsTrue}
+use Rattle.std.specs.List.{list_all}
+use Rattle.std.specs.Str.Parse.{digits_value}
+use Rattle.std.proofs.lemmas.Bool.{and_parts, cases_Bool}
+use Rattle.sfv_text.specs.Classes.{is_byte}
+use Rattle.sfv_text.specs.Keys.{value_of}
+use Rattle.sfv_text.specs.Range.{is_string_byte}
+use Rattle.command_line.specs.Command.{CommandLine, Sign, Verify, SignWords, VerifyWords, IsCommand, SpellsSign}
+use Rattle.command_line.specs.Options.{is_moment, may_have}
+use Rattle.command_line.proofs.CommandLaws.{one_command}
+use Rattle.command_line.proofs.Moments.{is_below}
+use Rattle.command_line.proofs.OptionLists.{value_had, word_had}
+use Rattle.nonces.specs.declared.limits.TheConstants.{MAX_MOMENT, MAX_NONCE_BYTES}
+use Rattle.msg_body.specs.Messages.{Message, Spells, is_expected}
+use Rattle.component_values.specs.Context.{MessageContext, answers_head}
+use Rattle.conf.specs.Configuration.{Configuration}
+use Rattle.signatures.specs.declared.place.Place.{Place}
+use Rattle.signatures.specs.declared.rule.Rule.{Rule}
+use Rattle.verdicts.specs.Laws.{IsRightlySigned, is_rule_of_signing}
+use Rattle.verdicts.specs.Verdicts.{IsVerdict}
+use Rattle.verdicts.specs.Verification.{Verification}
+use Rattle.verdicts.specs.declared.outcome.Verdict.{Verdict}
+use Rattle.verdicts.specs.declared.outcome.Verdict.TheVariants.{Ok as Accepted, Rule as Failing}
+use Rattle.verdicts.proofs.RightlySigned.{holds_rules_of_signing}
+use Rattle.commands.specs.Configured.{IsConfigured}
+use Rattle.verdicts.specs.Contexts.{context_for}
+use Rattle.commands.specs.Files.{Found, Conf as ConfFile, Request as RequestFile, Wanted as WantedFile, Script as ScriptFile}
+use Rattle.settings.specs.Valid.{IsValid}
+use Rattle.commands.specs.Layers.{ReadsThen, IsDecisive}
+use Rattle.commands.specs.Messages.{IsInputMessage}
+use Rattle.msg_body.specs.WholeTexts.{reading_for}
+use Rattle.commands.specs.MessageFiles.{IsRequested, IsWanted}
+use Rattle.commands.specs.Sign.{ReportsSigning}
+use Rattle.commands.specs.SignedMessages.{IsLastLabel}
+use Rattle.commands.specs.Verify.{AreVerdicts, ReportsVerdicts, verdicts_outcome}
+use Rattle.verdicts.specs.Verification.{verification_for}
+use Rattle.commands.specs.declared.outcome.Outcome.{Outcome}
+use Rattle.commands.specs.declared.outcome.Outcome.TheVariants.{Done}
+use Rattle.commands.specs.declared.tables.Needs.TheVariants.{Nothing}
+use Rattle.refusals.specs.declared.refusal.Refusal.{Refusal}
+use Rattle.refusals.specs.declared.refusal.Refusal.TheVariants.{Of}
+use Rattle.refusals.specs.declared.role.Role.TheVariants.{Conf as OfConf, Request as OfRequest, Wanted as OfWanted, Script as OfScript, Input as OfInput}
+use Rattle.refusals.specs.declared.refusal.TheConstants.{MAX_INPUT_BYTES}
+use Rattle.program.specs.Commands.{name_of}
+use Rattle.program.specs.Laws.{IsAcceptedWhereSigned, IsOkOrPolicy, SignsLast, VerifiesSigned}
+use Rattle.program.specs.Report.{Answers, Reports, ReportsCommand, ReportsMessage, ReportsRequest, ReportsScript, ReportsTables, ReportsWishes}
+use Rattle.program.proofs.Sources.{spelled_input}
+use Rattle.program.proofs.CommandLaws.{conf_decided, tables_decided, request_decided, wanted_decided, script_decided, input_decided, valid_where_configured, message_where_signed, right_where_signed}
+
+-- ---- the words of `sign`
+
+signs_timely : (arguments : List (List ℕ)) (words : SignWords) → SpellsSign arguments words → words.now ≤ MAX_MOMENT
+signs_timely arguments words spells = of_option (value_of spells.options (codes "--now")) refl spells.now_is where
+  of_option : (o : Option (List ℕ)) → value_of spells.options (codes "--now") ≡ o → IsSomeAnd o (λ digits. words.now ≡ digits_value 10 digits) → words.now ≤ MAX_MOMENT
+  of_option None there is = absurd is
+  of_option (Some digits) there is =
+      let moment : is_moment digits ≡ true = value_had (codes "--now") digits spells.options spells.are.had there in
+      let below : digits_value 10 digits < 10 ^ 15 = is_below digits moment in
+      omega (arith, is, below)
+
+signs_characters : (arguments : List (List ℕ)) (words : SignWords) → SpellsSign arguments words → IfSome words.nonce (λ text. IsTrue (list_all is_string_byte text))
+signs_characters arguments words spells = of_option words.nonce (word_had (codes "--nonce") spells.options words.nonce spells.are.had spells.nonce_is) where
+  of_option : (o : Option (List ℕ)) → IfSome o (λ word. may_have (codes "--nonce") word ≡ true) → IfSome o (λ text. IsTrue (list_all is_string_byte text))
+  of_option None had = tt
+  of_option (Some text) had =
+      let both = and_parts (nat_lt 0 (length text)) (nat_le (length text) MAX_NONCE_BYTES && list_all is_string_byte text) had in
+      (and_parts (nat_le (length text) MAX_NONCE_BYTES) (list_all is_string_byte text) both.1).1
+
+-- ---- what `sign` read
+
+-- the parts of a message that was signed
+record IsSigned (words : SignWords) (found : Found) (input written : List ℕ) : Type 0 where
+  conf : Configuration
+  configured : IsConfigured (Some words.conf) (found ConfFile) conf
+  related : Option Message
+  requested : IsRequested words.request (found RequestFile) related
+  wishes : Option Message
+  wanted : IsWanted words.wanted (found WantedFile) wishes
+  message : Message
+  is : IsInputMessage (reading_for related) input message
+  reports : ReportsSigning words.nonce words.now conf wishes (context_for conf message related) (Done written)
+
+of_files : (words : SignWords) (found : Found) (input written : List ℕ) → ReportsCommand (Sign words) found input (Done written) → IsSigned words found input written
+of_files words found input written (inr cause) = absurd (cc cause.2)
+of_files words found input written (inl (conf, configured, inr cause)) = absurd (cc cause.2)
+of_files words found input written (inl (conf, configured, inl (_, tables, inr cause))) = absurd (cc cause.2)
+of_files words found input written (inl (conf, configured, inl (_, tables, inl (related, requested, inr cause)))) = absurd (cc cause.2)
+of_files words found input written (inl (conf, configured, inl (_, tables, inl (related, requested, inl (wishes, wanted, inr cause))))) = absurd (cc cause.2)
+of_files words found input written (inl (conf, configured, inl (_, tables, inl (related, requested, inl (wishes, wanted, inl (script, scripted, inr cause)))))) = absurd (cc cause.2)
+of_files words found input written (inl (conf, configured, inl (_, tables, inl (related, requested, inl (wishes, wanted, inl (script, scripted, inl (message, is, reports))))))) = record {
+  conf = conf;
+  configured = configured;
+  related = related;
+  requested = requested;
+  wishes = wishes;
+  wanted = wanted;
+  message = message;
+  is = is;
+  reports = reports;
+}
+
+signed_parts : (arguments : List (List ℕ)) (words : SignWords) (found : Found) (input written : List ℕ) → IsCommand arguments (Sign words) → Reports arguments found input (Done written)
+    → IsSigned words found input written
+signed_parts arguments words found input written is (inr cause) = absurd (cc cause.2)
+signed_parts arguments words found input written is (inl (command, spells, reports)) =
+    of_files words found input written
+    (subst (λ (c : CommandLine). ReportsCommand c found input (Done written)) (one_command arguments command (Sign words) spells is) reports)
+
+-- ---- what `verify` reads
+
+pub to_head_is : (related : Option Message) → (reading_for related).to_head ≡ answers_head related
+to_head_is None = refl
+to_head_is (Some request) = refl
+
+-- a message that was signed is an input of the same kind
+input_is : (related : Option Message) (input written : List ℕ) (message signed : Message) → IsInputMessage (reading_for related) input message → Spells (answers_head related) signed written
+    → signed.head.start ≡ message.head.start → IsTrue (list_all is_byte written) → IsInputMessage (reading_for related) written signed
+input_is related input written message signed is spells start bytes = record {
+  are_bytes = bytes;
+  within = let short : length written ≤ MAX_INPUT_BYTES = rw spells.text spells.is.short in short;
+  whole = record {
+    expected = rw start is.whole.expected;
+    spells = subst (λ (to_head : Bool). Spells to_head signed written) (sym (to_head_is related)) spells;
+  };
+}
+
+-- the one label has one verdict
+pub one_verdict : (conf : Configuration) (moment : ℕ) (context : MessageContext) (label : List ℕ) (verdicts : List Verdict) → AreVerdicts conf moment context (label ∷ []) verdicts
+    → (verdict : Verdict) × (verdicts ≡ verdict ∷ []) × IsVerdict (verification_for conf moment context label) verdict
+one_verdict conf moment context label [] are = absurd are
+one_verdict conf moment context label (verdict ∷ []) are = (verdict, refl, are.0)
+one_verdict conf moment context label (verdict ∷ other ∷ more) are = absurd are.1
+
+ok_or_policy : (v : Verification) (keyid : List ℕ) (verdict : Verdict) → IsRightlySigned v keyid → IsVerdict v verdict → IsOkOrPolicy verdict
+ok_or_policy v keyid (Accepted other) signed is = tt
+ok_or_policy v keyid (Failing rule place) signed is = elim (cases_Bool (is_rule_of_signing rule)) [
+  | inr policy ↦ policy
+  | inl own ↦ absurd (holds_rules_of_signing v keyid rule place signed own is.holds)
+]
+
+-- what comes after the value that a layer has
+pub then_of : {V C : Type 0} (Reads : V → Type 0) (Causes : C → Type 0) (refusal_of : C → Refusal) (Then : V → Outcome → Type 0) → IsDecisive Reads Causes → (value : V) → Reads value → (outcome : Outcome)
+    → ReadsThen Reads Causes refusal_of Then outcome → Then value outcome
+then_of {V} Reads Causes refusal_of Then d value reads outcome (inl read) = subst (λ (v : V). Then v outcome) (d.value read.0 value read.1 reads) read.2
+then_of Reads Causes refusal_of Then d value reads outcome (inr cause) = absurd (d.either value cause.0 reads cause.1)
+
+-- what `verify` comes to over a message that is read
+pub verdicts_of : (words : VerifyWords) (found : Found) (input : List ℕ) (outcome : Outcome) (conf : Configuration) (related : Option Message) (message : Message)
+    → IsConfigured (Some words.conf) (found ConfFile) conf → IsRequested words.request (found RequestFile) related → IsInputMessage (reading_for related) input message
+    → ReportsCommand (Verify words) found input outcome → ReportsVerdicts words.label words.now conf (context_for conf message related) outcome
+verdicts_of words found input outcome conf related message configured requested is reports =
+    let names = name_of (Verify words) in
+    let Then : Answers = λ conf wishes script. ReportsVerdicts words.label words.now conf in
+    let tables = then_of _ _ (λ refusal. Of OfConf refusal) (λ c. ReportsTables Nothing Then c names found input) (conf_decided (Some words.conf) (found ConfFile)) conf configured outcome reports in
+    let request = then_of _ _ (λ refusal. Of OfConf refusal) (λ (_ : ⊤). ReportsRequest Then conf names found input) (tables_decided Nothing conf) tt tt outcome tables in
+    let wishes = then_of _ _ (λ refusal. Of OfRequest refusal) (λ r. ReportsWishes Then conf r names found input) (request_decided words.request (found RequestFile)) related requested outcome request in
+    let script = then_of _ _ (λ refusal. Of OfWanted refusal) (λ w. ReportsScript Then conf related w names found input) (wanted_decided None (found WantedFile)) None refl outcome wishes in
+    let over = then_of _ _ (λ refusal. Of OfScript refusal) (λ s. ReportsMessage (Then conf None s) conf related input) (script_decided None (found ScriptFile)) [] refl outcome script in
+    then_of _ _ (λ refusal. Of OfInput refusal) (λ m. ReportsVerdicts words.label words.now conf (context_for conf m related)) (input_decided (reading_for related) input) message is outcome over
+
+pub verify_parts : (arguments : List (List ℕ)) (words : VerifyWords) (found : Found) (input : List ℕ) (outcome : Outcome) → IsCommand arguments (Verify words) → Reports arguments found input outcome
+    → ReportsCommand (Verify words) found input outcome
+verify_parts arguments words found input outcome is (inr cause) = absurd (cause.1 (Verify words) is)
+verify_parts arguments words found input outcome is (inl (command, spells, reports)) =
+    subst (λ (c : CommandLine). ReportsCommand c found input outcome) (one_command arguments command (Verify words) spells is) reports
+
+-- the label's verdict is what comes of it
+pub label_verdict : (asked : Option (List ℕ)) (moment : ℕ) (conf : Configuration) (context : MessageContext) (outcome : Outcome) (label : List ℕ) → asked ≡ Some label
+    → ReportsVerdicts asked moment conf context outcome
+    → (verdict : Verdict) × IsVerdict (verification_for conf moment context label) verdict × (outcome ≡ verdicts_outcome (label ∷ []) (verdict ∷ []))
+label_verdict None moment conf context outcome label is reports = absurd (cc is)
+label_verdict (Some word) moment conf context outcome label is reports =
+    let same : word ≡ label = cc is in
+    let labels : reports.labels ≡ label ∷ [] = reports.asked ∙ ap (λ (l : List ℕ). l ∷ []) same in
+    let one = one_verdict conf moment context label reports.verdicts (subst (λ (ls : List (List ℕ)). AreVerdicts conf moment context ls reports.verdicts) labels reports.are) in (
+      one.0,
+      one.2,
+      reports.outcome_is ∙ (ap (λ (ls : List (List ℕ)). verdicts_outcome ls reports.verdicts) labels ∙ ap (λ (vs : List Verdict). verdicts_outcome (label ∷ []) vs) one.1),
+    )
+
+-- ---- both
+
+module _ (signed : SignWords) (found : Found) (input written : List ℕ) (timely : signed.now ≤ MAX_MOMENT) (characters : IfSome signed.nonce (λ text. IsTrue (list_all is_string_byte text)))
+    (parts : IsSigned signed found input written) where
+  valid : IsValid parts.conf
+  valid = valid_where_configured (Some signed.conf) (found ConfFile) parts.conf parts.configured
+
+  spelled : Spells (answers_head parts.related) parts.message input
+  spelled = spelled_input parts.related input parts.message parts.is
+
+  written_message : (message : Message) × Spells (answers_head parts.related) message written × (message.head.start ≡ parts.message.head.start)
+  written_message = message_where_signed signed.nonce signed.now parts.conf parts.wishes (context_for parts.conf parts.message parts.related) input written valid timely characters spelled parts.reports
+
+  last_label : (label : List ℕ) → SignsLast signed found label → IsLastLabel parts.conf parts.wishes label
+  last_label label last =
+      let conf : last.0 ≡ parts.conf = (conf_decided (Some signed.conf) (found ConfFile)).value last.0 parts.conf last.2 parts.configured in
+      let wishes : last.1 ≡ parts.wishes = (wanted_decided signed.wanted (found WantedFile)).value last.1 parts.wishes last.3 parts.wanted in
+      subst (λ (c : Configuration). IsLastLabel c parts.wishes label) conf (subst (λ (w : Option Message). IsLastLabel last.0 w label) wishes last.4)
+
+  rightly : (label : List ℕ) → SignsLast signed found label
+      → (keyid : List ℕ) × IsRightlySigned (verification_for parts.conf signed.now (context_for parts.conf written_message.0 parts.related) label) keyid
+  rightly label last =
+      right_where_signed signed.nonce signed.now parts.conf parts.wishes (context_for parts.conf parts.message parts.related) input written label written_message.0 valid timely characters spelled parts.reports
+      (last_label label last) written_message.1
+
+  accepted : (verified : VerifyWords) (label : List ℕ) (outcome : Outcome) → VerifiesSigned signed verified label → SignsLast signed found label → IsTrue (list_all is_byte written)
+      → ReportsCommand (Verify verified) found written outcome → (verdict : Verdict) × IsOkOrPolicy verdict × (outcome ≡ verdicts_outcome (label ∷ []) (verdict ∷ []))
+  accepted verified label outcome same last bytes reports =
+      let is = input_is parts.related input written parts.message written_message.0 parts.is written_message.1 written_message.2 bytes in
+      let verdicts = verdicts_of verified found written outcome parts.conf parts.related written_message.0
+      (subst (λ (name : List ℕ). IsConfigured (Some name) (found ConfFile) parts.conf) (sym same.conf) parts.configured)
+      (subst (λ (name : Option (List ℕ)). IsRequested name (found RequestFile) parts.related) (sym same.request) parts.requested) is reports in
+      let one = label_verdict verified.label verified.now parts.conf (context_for parts.conf written_message.0 parts.related) outcome label same.label_is verdicts in
+      let right = rightly label last in
+      let judged = subst (λ (n : ℕ). IsVerdict (verification_for parts.conf n (context_for parts.conf written_message.0 parts.related) label) one.0) same.now one.1 in
+      (one.0, ok_or_policy (verification_for parts.conf signed.now (context_for parts.conf written_message.0 parts.related) label) right.0 one.0 right.1 judged, one.2)
+
+pub accepted_where_signed : IsAcceptedWhereSigned
+accepted_where_signed signing verifying signed verified label found input written outcome is also same last wrote bytes reports =
+    let parts = signed_parts signing signed found input written is wrote in
+    accepted signed found input written (signs_timely signing signed is) (signs_characters signing signed is) parts verified label outcome same last bytes
+    (verify_parts verifying verified found written outcome also reports)

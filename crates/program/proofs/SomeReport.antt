@@ -1,0 +1,209 @@
+-- Arguments, what was found and an input have some outcome, and one of status 0 or 1 where the
+-- command has all that it needs.
+use Rattle.std.proofs.Common.{◌≡◌, ◌⊎◌, ◌+◌, inl, inr, ℕ, Bool, true, false, List, [], ◌∷◌, Option, Some, None, refl}
+use Rattle.std.specs.Prelude.{⊤, IsTrue, IsSome}
+use Rattle.std.specs.List.{list_all}
+use Rattle.sfv_text.specs.Classes.{is_byte}
+use Rattle.command_line.specs.Command.{CommandLine, Help, Version, Base, Verify, Sign, Rewrite, Audit, Sample, IsCommand, NoCommand}
+use Rattle.command_line.proofs.CommandOrNone.{command_or_none}
+use Rattle.component_ids.specs.declared.params.SigParams.{SigParams}
+use Rattle.component_values.specs.Context.{MessageContext, answers_head, context_with}
+use Rattle.conf.specs.Configuration.{Configuration}
+use Rattle.sig_base.specs.SignatureBase.{signature_base}
+use Rattle.verdicts.specs.declared.outcome.Verdict.{Verdict}
+use Rattle.recording.specs.Items.{PlacedItem}
+use Rattle.hop_audit.specs.Lines.{finds_fault}
+use Rattle.hop_audit.specs.declared.line.AuditLine.{AuditLine}
+use Rattle.commands.specs.Audit.{IsRecordingText, IsChainRefused, ReportsAudit, audit_outcome}
+use Rattle.commands.specs.Base.{ReportsValues, ReportsBase}
+use Rattle.verdicts.specs.Contexts.{context_for}
+use Rattle.commands.specs.Configured.{IsConfigured}
+use Rattle.commands.specs.Files.{FileNames, Found, FileRole, Conf as ConfFile, Request as RequestFile, Wanted as WantedFile, Script as ScriptFile}
+use Rattle.commands.specs.Layers.{ReadsThen, HasAnswer}
+use Rattle.msg_body.specs.WholeTexts.{reading_for}
+use Rattle.commands.specs.MessageFiles.{IsOfBytes}
+use Rattle.commands.specs.Rewrite.{IsTaken, ReportsSteps, ReportsRewriting}
+use Rattle.commands.specs.Sign.{ReportsEach, ReportsSigning}
+use Rattle.commands.specs.Tables.{HasTables}
+use Rattle.commands.specs.declared.tables.Needs.{Needs}
+use Rattle.commands.specs.declared.tables.Needs.TheVariants.{Nothing, SignTable}
+use Rattle.msg_body.specs.Messages.{Message, IsMessage, message_text}
+use Rattle.settings.specs.declared.sign_conf.SignConf.{SignConf}
+use Rattle.rewrite_script.specs.Lines.{is_writable}
+use Rattle.rewrite_script.specs.declared.rewrite.Rewrite.{Rewrite as Rewriting}
+use Rattle.rewrites.specs.Steps.{Steps}
+use Rattle.signing.specs.declared.spec.SignSpec.{SignSpec}
+use Rattle.commands.specs.Verify.{ReportsVerdicts, verdicts_outcome}
+use Rattle.verdicts.specs.Verdicts.{is_accepted}
+use Rattle.commands.specs.declared.help.TheConstants.{HELP_TEXT, VERSION_TEXT}
+use Rattle.commands.specs.declared.outcome.Outcome.{Outcome}
+use Rattle.commands.specs.declared.outcome.Outcome.TheVariants.{Done, Refused}
+use Rattle.refusals.specs.declared.refusal.Refusal.{Refusal}
+use Rattle.program.specs.Laws.{HasSomeReport, IsBaseDone, CanSignEach, IsSignDone, IsRewriteDone, IsServed, HasAll, IsAnswered, IsComplete}
+use Rattle.program.specs.Commands.{name_of}
+use Rattle.program.specs.Report.{Answers, ReportsCommand, ReportsFiles}
+use Rattle.program.proofs.CommandLaws.{conf_answer, tables_answer, request_answer, wanted_answer, script_answer, input_answer, params_answer, values_answer, verdicts_answer, signing_answer, rewriting_answer, auditing_answer, audit_answer, sampling_answer, writable_where_scripted, valid_where_configured}
+use Rattle.program.proofs.Sources.{spelled_input}
+
+-- some outcome
+abbrev HasSome : (Outcome → Type 0) → Type 0
+HasSome P = (outcome : Outcome) × P outcome
+
+some_of_layers : {V C : Type 0} (Reads : V → Type 0) (Causes : C → Type 0) (refusal_of : C → Refusal) (Then : V → Outcome → Type 0)
+    → HasAnswer Reads Causes → ((v : V) → Reads v → HasSome (Then v)) → HasSome (ReadsThen Reads Causes refusal_of Then)
+some_of_layers Reads Causes refusal_of Then (inl read) then = let next = then read.0 read.1 in (next.0, inl (read.0, read.1, next.1))
+some_of_layers Reads Causes refusal_of Then (inr cause) then = (Refused (refusal_of cause.0), inr (cause.0, cause.1, refl))
+
+some_of_values : (context : MessageContext) (sig : SigParams) → HasSome (ReportsValues context sig)
+some_of_values context sig = some_of_layers _ _ _ _ (values_answer context sig.ids) (λ values _. (Done (signature_base sig values), refl))
+
+some_of_base : (params : List ℕ) (conf : Configuration) (context : MessageContext) → HasSome (ReportsBase params context)
+some_of_base params conf context = some_of_layers _ _ _ _ (params_answer params) (λ sig _. some_of_values context sig)
+
+-- the files are of bytes
+abbrev AreOfBytes : Found → Type 0
+AreOfBytes found = (role : FileRole) → IsOfBytes (found role)
+
+-- a command over a configuration has some outcome, where it was found under this name and has what is needed
+abbrev HasSomeAnswer : Needs → Answers → Option (List ℕ) → Option (List ℕ) → Type 0
+HasSomeAnswer needs Then name text =
+    (conf : Configuration) → IsConfigured name text conf → HasTables needs conf → (wishes : Option Message) (script : List Rewriting) → IsTrue (list_all is_writable script)
+    → (context : MessageContext) → IsMessage (answers_head context.related) context.message → HasSome (Then conf wishes script context)
+
+some_of_files : (needs : Needs) (Then : Answers) (names : FileNames) (found : Found) (input : List ℕ) → HasSomeAnswer needs Then (names ConfFile) (found ConfFile) → AreOfBytes found
+    → IsTrue (list_all is_byte input) → HasSome (ReportsFiles needs Then names found input)
+some_of_files needs Then names found input some files bytes =
+    some_of_layers _ _ _ _ (conf_answer (names ConfFile) (found ConfFile)) (λ conf configured.
+    some_of_layers _ _ _ _ (tables_answer needs conf) (λ _ has.
+    some_of_layers _ _ _ _ (request_answer (names RequestFile) (found RequestFile) (files RequestFile)) (λ related _.
+    some_of_layers _ _ _ _ (wanted_answer (names WantedFile) (found WantedFile) (files WantedFile)) (λ wishes _.
+    some_of_layers _ _ _ _ (script_answer (names ScriptFile) (found ScriptFile)) (λ script scripted.
+    some_of_layers _ _ _ _ (input_answer (reading_for related) input bytes) (λ message is.
+    some conf configured has wishes script (writable_where_scripted (names ScriptFile) (found ScriptFile) script scripted) (context_for conf message related) (spelled_input related input message is).is))))))
+
+some_sign : (conf : Configuration) → IsSome conf.sign → (sign : SignConf) × (conf.sign ≡ Some sign)
+some_sign conf has = of_option conf.sign has where
+  of_option : (o : Option SignConf) → IsSome o → (sign : SignConf) × (o ≡ Some sign)
+  of_option (Some sign) is = (sign, refl)
+  of_option None is = absurd cc
+
+some_of_signing : (nonce : Option (List ℕ)) (now : ℕ) (name text : Option (List ℕ)) → HasSomeAnswer SignTable (λ conf wishes script. ReportsSigning nonce now conf wishes) name text
+some_of_signing nonce now name text conf configured has wishes script writable context is =
+    let sign = some_sign conf has in
+    signing_answer nonce now conf wishes context sign.0 sign.1 ((valid_where_configured name text conf configured).sign sign.0 sign.1).keyid
+
+some_of_command : (command : CommandLine) (found : Found) (input : List ℕ) → AreOfBytes found → IsTrue (list_all is_byte input) → HasSome (ReportsCommand command found input)
+some_of_command Help found input files bytes = (Done HELP_TEXT.now, refl)
+some_of_command Version found input files bytes = (Done VERSION_TEXT.now, refl)
+some_of_command (Base words) found input files bytes =
+    some_of_files Nothing (λ conf wishes script. ReportsBase words.params) (name_of (Base words)) found input (λ conf _ _ wishes script _ context _. some_of_base words.params conf context) files bytes
+some_of_command (Verify words) found input files bytes =
+    some_of_files Nothing (λ conf wishes script. ReportsVerdicts words.label words.now conf) (name_of (Verify words)) found input
+    (λ conf _ _ wishes script _ context _. verdicts_answer words.label words.now conf context) files bytes
+some_of_command (Sign words) found input files bytes =
+    some_of_files SignTable (λ conf wishes script. ReportsSigning words.nonce words.now conf wishes) (name_of (Sign words)) found input
+    (some_of_signing words.nonce words.now (Some words.conf) (found ConfFile)) files bytes
+some_of_command (Rewrite words) found input files bytes =
+    some_of_files Nothing (λ conf wishes script. ReportsRewriting words.label script) (name_of (Rewrite words)) found input
+    (λ conf _ _ wishes script writable context message. rewriting_answer words.label script context writable message) files bytes
+some_of_command (Audit words) found input files bytes = some_of_layers _ _ _ _ (conf_answer (Some words.conf) (found ConfFile)) (λ conf _. auditing_answer conf input)
+some_of_command (Sample words) found input files bytes = let some = sampling_answer words.seed words.count in (some.0, some.1)
+
+arguments_answer : (arguments : List (List ℕ)) → HasAnswer (IsCommand arguments) (λ (_ : ⊤). NoCommand arguments)
+arguments_answer arguments = elim (command_or_none arguments) [
+  | inl command ↦ inl command
+  | inr none ↦ inr (tt, none)
+]
+
+pub some_report_law : HasSomeReport
+some_report_law arguments found input files bytes = some_of_layers _ _ _ _ (arguments_answer arguments) (λ command _. some_of_command command found input files bytes)
+
+-- ---- where nothing is refused
+
+-- an outcome of status 0 or 1
+abbrev HasAnswered : (Outcome → Type 0) → Type 0
+HasAnswered P = (outcome : Outcome) × P outcome × IsAnswered outcome
+
+files_answered : (needs : Needs) (Then : Answers) (IsDone : Configuration → Option Message → List Rewriting → MessageContext → Type 0)
+    → ((conf : Configuration) (wishes : Option Message) (script : List Rewriting) (context : MessageContext) → IsDone conf wishes script context → HasAnswered (Then conf wishes script context))
+    → (names : FileNames) (found : Found) (input : List ℕ) → IsServed needs names found input IsDone → HasAnswered (ReportsFiles needs Then names found input)
+files_answered needs Then IsDone answered names found input served =
+    let next = answered served.conf served.wishes served.script (context_for served.conf served.message served.related) served.done in (
+      next.0,
+      inl (
+        served.conf,
+        served.configured,
+        inl (tt, served.tables, inl (served.related, served.requested, inl (served.wishes, served.wanted, inl (served.script, served.scripted, inl (served.message, served.is, next.1))))),
+      ),
+      next.2,
+    )
+
+each_answered : (specs : List SignSpec) (context : MessageContext) → CanSignEach context specs → HasAnswered (ReportsEach context specs)
+each_answered [] context can = (Done (message_text context.message), refl, inl refl)
+each_answered (spec ∷ specs) context can =
+    let next = each_answered specs (context_with context can.0) can.2 in
+    (next.0, inl (can.0, can.1, next.1), next.2)
+
+signing_answered : (nonce : Option (List ℕ)) (now : ℕ) (conf : Configuration) (wishes : Option Message) (context : MessageContext) → IsSignDone nonce now conf wishes context
+    → HasAnswered (ReportsSigning nonce now conf wishes context)
+signing_answered own now conf None context done =
+    let next = each_answered (done.0 ∷ []) context done.2 in
+    (next.0, record { spec = done.0; is = done.1; reports = next.1 }, next.2)
+signing_answered own now conf (Some wishes) context done =
+    let next = each_answered done.0 context done.2 in
+    (next.0, inl (done.0, done.1, next.1), next.2)
+
+steps_answered : (script : List Rewriting) (label : Option (List ℕ)) (index : ℕ) (context : MessageContext) (after : Message) → Steps (IsTaken label) context script after
+    → HasAnswered (ReportsSteps label index context script)
+steps_answered [] label index context after are = (Done (message_text context.message), refl, inl refl)
+steps_answered (step ∷ script) label index context after are =
+    let next = steps_answered script label (index + 1) (context_with context are.0) after are.2 in
+    (next.0, inl (are.0, are.1, next.1), next.2)
+
+base_answered : (params : List ℕ) (conf : Configuration) (context : MessageContext) → IsBaseDone params context → HasAnswered (ReportsBase params context)
+base_answered params conf context done =
+    (Done (signature_base done.sig done.values), inl (done.sig, done.reads, inl (done.values, done.have, refl)), inl refl)
+
+lines_answered : (labels : List (List ℕ)) (verdicts : List Verdict) (accepted : Bool) → list_all is_accepted verdicts ≡ accepted → IsAnswered (verdicts_outcome labels verdicts)
+lines_answered labels verdicts true is = rw is (inl refl)
+lines_answered labels verdicts false is = rw is (inr refl)
+
+verdicts_answered : (label : Option (List ℕ)) (now : ℕ) (conf : Configuration) (context : MessageContext) → HasAnswered (ReportsVerdicts label now conf context)
+verdicts_answered label now conf context =
+    let some = verdicts_answer label now conf context in
+    let reports = some.1 in
+    (some.0, reports, rw (reports.outcome_is) (lines_answered reports.labels reports.verdicts (list_all is_accepted reports.verdicts) refl))
+
+report_answered : (lines : List AuditLine) (counts : Bool) → finds_fault lines ≡ counts → IsAnswered (audit_outcome lines)
+report_answered lines true is = rw is (inr refl)
+report_answered lines false is = rw is (inl refl)
+
+audit_answered : (conf : Configuration) (input : List ℕ) (items : List PlacedItem) → IsRecordingText input items → ((refusal : Refusal) → ¬ IsChainRefused items refusal) → HasAnswered (ReportsAudit conf input)
+audit_answered conf input items is none = elim (audit_answer conf input items is) [
+  | inl audit ↦ (audit_outcome audit.0, inl (items, is, inl (audit.0, audit.1, refl)), report_answered audit.0 (finds_fault audit.0) refl)
+  | inr cause ↦ absurd (none cause.0 cause.1)
+]
+
+command_answered : (command : CommandLine) (found : Found) (input : List ℕ) → HasAll command found input → HasAnswered (ReportsCommand command found input)
+command_answered Help found input has = (Done HELP_TEXT.now, refl, inl refl)
+command_answered Version found input has = (Done VERSION_TEXT.now, refl, inl refl)
+command_answered (Base words) found input has =
+    files_answered Nothing (λ conf wishes script. ReportsBase words.params) (λ conf wishes script. IsBaseDone words.params) (λ conf wishes script. base_answered words.params conf) (name_of (Base words)) found input has
+command_answered (Verify words) found input has =
+    files_answered Nothing (λ conf wishes script. ReportsVerdicts words.label words.now conf) (λ conf wishes script context. ⊤) (λ conf wishes script context _. verdicts_answered words.label words.now conf context)
+    (name_of (Verify words)) found input has
+command_answered (Sign words) found input has =
+    files_answered SignTable (λ conf wishes script. ReportsSigning words.nonce words.now conf wishes) (λ conf wishes script. IsSignDone words.nonce words.now conf wishes)
+    (λ conf wishes script. signing_answered words.nonce words.now conf wishes) (name_of (Sign words)) found input has
+command_answered (Rewrite words) found input has =
+    files_answered Nothing (λ conf wishes script. ReportsRewriting words.label script) (λ conf wishes script. IsRewriteDone words.label script)
+    (λ conf wishes script context done. steps_answered script words.label 0 context done.0 done.1) (name_of (Rewrite words)) found input has
+command_answered (Audit words) found input has =
+    let next = audit_answered has.conf input has.items has.recorded has.none in
+    (next.0, inl (has.conf, has.configured, next.1), next.2)
+command_answered (Sample words) found input has = sampling_answer words.seed words.count
+
+pub complete_law : IsComplete
+complete_law arguments command found input is has =
+    let next = command_answered command found input has in
+    (next.0, inl (command, is, next.1), next.2)

@@ -1,0 +1,26 @@
+use Rattle.std.specs.Prelude.{option_map}
+use Rattle.std.proofs.Common.{subst, sym}
+use Rattle.component_values.specs.Context.{MessageContext, context_of, answers_head}
+use Rattle.conf.specs.ConfMeaning.{meaning}
+use Rattle.msg_body.specs.Messages.{Spells}
+use Rattle.msg_body.specs.Views.{message_of}
+use Rattle.commands.specs.Messages.{IsInputMessage}
+use Rattle.msg_body.specs.declared.whole.Reading.{Reading}
+use Rattle.program.proofs.Sources.{after_answer, after_refusal, spelled_input}
+use Rattle.std.proofs.lemmas.Result.{err_from_is_err_and}
+use Rattle.program.proofs.over_message.over_input.Goals as goal
+
+pub returns-in_err-message-clause-after : goal.returns-in_err-message-clause-after
+returns-in_err-message-clause-after g c =
+    let p = err_from_is_err_and c.from_residual.result c.from_residual.ensures.1 in
+    rw (p.1, p.2) (after_refusal c.of_input-reading.result c.args.input.now c.in_err-message.field-0.0 c.requires.short c.in_err-message.ensures.refused)
+
+pub returns-clause-after : goal.returns-clause-after
+returns-clause-after g c = after_answer c.answer.result c.answer.ensures.own
+
+pub answer-requires-clause-spells : goal.answer-requires-clause-spells
+answer-requires-clause-spells g c =
+    let related = option_map (λ view. message_of view.now) c.args.related in
+    let is = subst (λ (r : Reading). IsInputMessage r c.args.input.now (message_of c.in_ok-message.message)) c.of_input-reading.ensures c.in_ok-message.ensures.ok in
+    subst (λ (context : MessageContext). Spells (answers_head context.related) context.message c.args.input.now) (sym c.context_for-context.ensures)
+    (spelled_input related c.args.input.now (message_of c.in_ok-message.message) is)

@@ -1,0 +1,248 @@
+-- Laws of what the program answers.
+use Rattle.std.specs.Prelude.{◌≡◌, ◌⊎◌, ◌↔◌, ⊤, ℕ, IsTrue, IsFalse, List, [], ◌∷◌, Option, Some, None}
+use Rattle.std.specs.List.{list_all, list_any}
+use Rattle.hms_io.specs.declared.status.Status.TheVariants.{Done, NotOk}
+use Rattle.sfv_text.specs.Classes.{is_byte}
+use Rattle.command_line.specs.Command.{CommandLine, Help, Version, Base, Verify, Sign, Rewrite, Audit, Sample, SignWords, VerifyWords, RewriteWords, AuditWords, IsCommand}
+use Rattle.component_ids.specs.declared.params.SigParams.{SigParams}
+use Rattle.component_values.specs.Context.{MessageContext, context_with}
+use Rattle.component_values.specs.Values.{HaveValues}
+use Rattle.msg_body.specs.Messages.{Message}
+use Rattle.conf.specs.Configuration.{Configuration}
+use Rattle.commands.specs.Audit.{IsChainRefused, IsRecordingText, audit_outcome}
+use Rattle.commands.specs.Configured.{IsConfigured}
+use Rattle.verdicts.specs.Contexts.{context_for}
+use Rattle.commands.specs.Covered.{ReadsParams}
+use Rattle.commands.specs.Files.{FileNames, Found, FileRole, Conf as ConfFile, Request as RequestFile, Wanted as WantedFile, Script as ScriptFile}
+use Rattle.commands.specs.Layers.{IsUnrefused}
+use Rattle.commands.specs.Messages.{IsInputMessage}
+use Rattle.msg_body.specs.WholeTexts.{reading_for}
+use Rattle.commands.specs.Outcome.{status_of}
+use Rattle.commands.specs.MessageFiles.{IsRequested, IsWanted, IsOfBytes}
+use Rattle.commands.specs.Rewrite.{IsTaken}
+use Rattle.commands.specs.Scripts.{IsScripted}
+use Rattle.commands.specs.Sign.{AreWishesRefused, IsSignRefused}
+use Rattle.commands.specs.SignedMessages.{IsLastLabel}
+use Rattle.commands.specs.Tables.{HasTables}
+use Rattle.commands.specs.Verify.{verdicts_outcome}
+use Rattle.commands.specs.declared.outcome.Outcome.{Outcome}
+use Rattle.commands.specs.declared.outcome.Outcome.TheVariants.{Done as Written}
+use Rattle.commands.specs.declared.tables.Needs.{Needs}
+use Rattle.commands.specs.declared.tables.Needs.TheVariants.{Nothing, SignTable}
+use Rattle.framing.specs.Framings.{is_request}
+use Rattle.rewrite_script.specs.declared.rewrite.Rewrite.{Rewrite as Rewriting}
+use Rattle.recording.specs.Items.{PlacedItem}
+use Rattle.hop_audit.specs.ChainValues.{Chain}
+use Rattle.hop_audit.specs.Laws.{IsSoundReport}
+use Rattle.hop_audit.specs.Report.{AreItemsOf, IsReport}
+use Rattle.hop_audit.specs.declared.line.AuditLine.{AuditLine}
+use Rattle.refusals.specs.declared.refusal.Refusal.{Refusal}
+use Rattle.rewrites.specs.Laws.{rests_on_conf}
+use Rattle.rewrites.specs.Steps.{Steps}
+use Rattle.signing.specs.Asked.{IsSpecOf}
+use Rattle.signing.specs.Signed.{IsSignedMessage}
+use Rattle.signing.specs.Wishes.{AreWished}
+use Rattle.signing.specs.declared.spec.SignSpec.{SignSpec}
+use Rattle.verdicts.specs.Laws.{is_rule_of_signing}
+use Rattle.verdicts.specs.declared.outcome.Verdict.{Verdict}
+use Rattle.verdicts.specs.declared.outcome.Verdict.TheVariants.{Ok as Accepted, Rule as Failing}
+use Rattle.program.specs.Commands.{name_of}
+use Rattle.program.specs.Report.{Reports}
+
+-- the arguments, what was found and the input have at most one outcome
+abbrev pub HasOneReport : Type 0
+HasOneReport =
+    (arguments : List (List ℕ)) (found : Found) (input : List ℕ) (one other : Outcome) →
+    Reports arguments found input one → Reports arguments found input other → one ≡ other
+
+-- they have some outcome, where the files and the input are of bytes
+abbrev pub HasSomeReport : Type 0
+HasSomeReport =
+    (arguments : List (List ℕ)) (found : Found) (input : List ℕ)
+    → ((role : FileRole) → IsOfBytes (found role)) → IsTrue (list_all is_byte input)
+    → (outcome : Outcome) × Reports arguments found input outcome
+
+-- ---- where nothing is refused
+
+-- PARAMS are read, and each component that they cover has a value
+pub record IsBaseDone (params : List ℕ) (context : MessageContext) : Type 0 where
+  pub sig : SigParams
+  pub reads : ReadsParams params sig
+  pub values : List (List ℕ)
+  pub have : HaveValues context sig.ids values
+
+-- each of these signatures can be made, each over the message that the one before it gave
+abbrev pub CanSignEach : MessageContext → List SignSpec → Type 0
+CanSignEach context [] = ⊤
+CanSignEach context (spec ∷ specs) =
+    (written : Message)
+    × IsUnrefused (IsSignedMessage context spec) (IsSignRefused context spec) written
+    × CanSignEach (context_with context written) specs
+
+-- the signature that the configuration asks for can be made, or each that is wished
+abbrev pub IsSignDone : Option (List ℕ) → ℕ → Configuration → Option Message → MessageContext
+    → Type 0
+IsSignDone own moment conf None context =
+    (spec : SignSpec) × IsSpecOf conf (is_request context.message.head.start) moment own spec
+    × CanSignEach context (spec ∷ [])
+IsSignDone own moment conf (Some wishes) context =
+    (specs : List SignSpec)
+    × IsUnrefused (AreWished conf moment wishes) (AreWishesRefused conf wishes) specs
+    × CanSignEach context specs
+
+-- each step of the script can be taken, each on the message that the one before it gave
+abbrev pub IsRewriteDone : Option (List ℕ) → List Rewriting → MessageContext → Type 0
+IsRewriteDone label script context = (after : Message) × Steps (IsTaken label) context script after
+
+-- the files of these names say a configuration, which has what is needed, a request, a message that
+-- wishes signatures, and a script, or the last three aren't named; the input is a message, which
+-- answers the request; and over all of them the command can be done
+pub record IsServed (needs : Needs) (names : FileNames) (found : Found) (input : List ℕ)
+    (IsDone : Configuration → Option Message → List Rewriting → MessageContext → Type 0)
+    : Type 0 where
+  pub conf : Configuration
+  pub configured : IsConfigured (names ConfFile) (found ConfFile) conf
+  pub tables : HasTables needs conf
+  pub related : Option Message
+  pub requested : IsRequested (names RequestFile) (found RequestFile) related
+  pub wishes : Option Message
+  pub wanted : IsWanted (names WantedFile) (found WantedFile) wishes
+  pub script : List Rewriting
+  pub scripted : IsScripted (names ScriptFile) (found ScriptFile) script
+  pub message : Message
+  pub is : IsInputMessage (reading_for related) input message
+  pub done : IsDone conf wishes script (context_for conf message related)
+
+-- the file of this name says a configuration, and the input is the recording of a chain, which
+-- isn't refused
+pub record IsAuditable (words : AuditWords) (found : Found) (input : List ℕ) : Type 0 where
+  pub conf : Configuration
+  pub configured : IsConfigured (Some words.conf) (found ConfFile) conf
+  pub items : List PlacedItem
+  pub recorded : IsRecordingText input items
+  pub none : (refusal : Refusal) → ¬ IsChainRefused items refusal
+
+-- the command has all that it needs
+abbrev pub HasAll : CommandLine → Found → List ℕ → Type 0
+HasAll Help found input = ⊤
+HasAll Version found input = ⊤
+HasAll (Base words) found input =
+    IsServed Nothing (name_of (Base words)) found input
+    (λ conf wishes script. IsBaseDone words.params)
+HasAll (Verify words) found input =
+    IsServed Nothing (name_of (Verify words)) found input (λ conf wishes script context. ⊤)
+HasAll (Sign words) found input =
+    IsServed SignTable (name_of (Sign words)) found input
+    (λ conf wishes script. IsSignDone words.nonce words.now conf wishes)
+HasAll (Rewrite words) found input =
+    IsServed Nothing (name_of (Rewrite words)) found input
+    (λ conf wishes script. IsRewriteDone words.label script)
+HasAll (Audit words) found input = IsAuditable words found input
+HasAll (Sample words) found input = ⊤
+
+-- the outcome is what was asked for, and no refusal
+abbrev pub IsAnswered : Outcome → Type 0
+IsAnswered outcome = (status_of outcome ≡ Done) ⊎ (status_of outcome ≡ NotOk)
+
+-- a command that has all that it needs is answered
+abbrev pub IsComplete : Type 0
+IsComplete =
+    (arguments : List (List ℕ)) (command : CommandLine) (found : Found) (input : List ℕ)
+    → IsCommand arguments command → HasAll command found input
+    → (outcome : Outcome) × Reports arguments found input outcome × IsAnswered outcome
+
+-- ---- what is signed
+
+-- the verdict is `ok`, or names a rule that isn't one of signing: one by which a key, a moment, a
+-- nonce, a digest or what is covered is judged
+abbrev pub IsOkOrPolicy : Verdict → Type 0
+IsOkOrPolicy (Accepted keyid) = ⊤
+IsOkOrPolicy (Failing rule place) = IsFalse (is_rule_of_signing rule)
+
+-- `verify` is asked for the label, with the configuration, moment and request of `sign`
+pub record VerifiesSigned (signed : SignWords) (verified : VerifyWords) (label : List ℕ)
+    : Type 0 where
+  pub conf : verified.conf ≡ signed.conf
+  pub now : verified.now ≡ signed.now
+  pub request : verified.request ≡ signed.request
+  pub label_is : verified.label ≡ Some label
+
+-- the label is that of the last signature that `sign` makes
+abbrev pub SignsLast : SignWords → Found → List ℕ → Type 0
+SignsLast signed found label =
+    (conf : Configuration) × (wishes : Option Message)
+    × IsConfigured (Some signed.conf) (found ConfFile) conf
+    × IsWanted signed.wanted (found WantedFile) wishes × IsLastLabel conf wishes label
+
+-- What `sign` writes, given to `verify` with the same files at the same moment, is `ok` for the
+-- label of the last signature, or names one of the rules 13 to 26, 33 and 34, which aren't of
+-- signing.
+abbrev pub IsAcceptedWhereSigned : Type 0
+IsAcceptedWhereSigned =
+    (signing verifying : List (List ℕ)) (signed : SignWords) (verified : VerifyWords)
+    (label : List ℕ) (found : Found) (input written : List ℕ) (outcome : Outcome)
+    → IsCommand signing (Sign signed) → IsCommand verifying (Verify verified)
+    → VerifiesSigned signed verified label → SignsLast signed found label
+    → Reports signing found input (Written written) → IsTrue (list_all is_byte written)
+    → Reports verifying found written outcome
+    → (verdict : Verdict) × IsOkOrPolicy verdict
+    × (outcome ≡ verdicts_outcome (label ∷ []) (verdict ∷ []))
+
+-- ---- what is rewritten
+
+-- `verify` is asked for the label of `rewrite`, with the request of `rewrite`
+pub record VerifiesRewritten (rewritten : RewriteWords) (verified : VerifyWords)
+    (label : List ℕ) : Type 0 where
+  pub label_of : rewritten.label ≡ Some label
+  pub label_is : verified.label ≡ Some label
+  pub request : verified.request ≡ rewritten.request
+
+-- a step of the script rests on the configured scheme or kinds of fields
+abbrev pub RestsOnConf : RewriteWords → Found → Type 0
+RestsOnConf words found = (script : List Rewriting)
+    × IsScripted (Some words.script) (found ScriptFile) script
+    × IsTrue (list_any rests_on_conf script)
+
+-- the configurations of both commands have one scheme and the same kinds of fields
+abbrev pub AreReadAlike : RewriteWords → VerifyWords → Found → Found → Type 0
+AreReadAlike rewritten verified found other =
+    (conf next : Configuration) → IsConfigured rewritten.conf (found ConfFile) conf
+    → IsConfigured (Some verified.conf) (other ConfFile) next
+    → (next.scheme ≡ conf.scheme) × (next.types ≡ conf.types)
+
+-- Where `rewrite` is done under a label, `verify` comes to the same for the label over what was
+-- read and over what was written: the same line and status, at each moment and by each
+-- configuration. Where a step rests on the scheme or the kinds of fields, these are the same.
+abbrev pub IsVerdictKept : Type 0
+IsVerdictKept =
+    (rewriting verifying : List (List ℕ)) (rewritten : RewriteWords) (verified : VerifyWords)
+    (label : List ℕ) (found other : Found) (input written : List ℕ) (outcome : Outcome)
+    → IsCommand rewriting (Rewrite rewritten) → IsCommand verifying (Verify verified)
+    → VerifiesRewritten rewritten verified label → other RequestFile ≡ found RequestFile
+    → (RestsOnConf rewritten found → AreReadAlike rewritten verified found other)
+    → Reports rewriting found input (Written written) → IsTrue (list_all is_byte written)
+    → Reports verifying other input outcome ↔ Reports verifying other written outcome
+
+-- ---- what is audited
+
+-- The outcome is the report on the chain that the input records, by this configuration. Where a
+-- line of it says that a label's signature permits a hop, it is kept or lacking.
+pub record IsSoundAudit (conf : Configuration) (input : List ℕ) (outcome : Outcome)
+    : Type 0 where
+  pub items : List PlacedItem
+  pub recorded : IsRecordingText input items
+  pub chain : Chain
+  pub are : AreItemsOf items chain
+  pub lines : List AuditLine
+  pub report : IsReport conf chain lines
+  pub outcome_is : outcome ≡ audit_outcome lines
+  pub sound : IsSoundReport chain lines
+
+-- What `audit` writes is such a report.
+abbrev pub IsKeptWherePermitted : Type 0
+IsKeptWherePermitted =
+    (arguments : List (List ℕ)) (words : AuditWords) (found : Found) (input : List ℕ)
+    (outcome : Outcome) → IsCommand arguments (Audit words)
+    → Reports arguments found input outcome → IsAnswered outcome
+    → (conf : Configuration) × IsConfigured (Some words.conf) (found ConfFile) conf
+    × IsSoundAudit conf input outcome

@@ -1,0 +1,157 @@
+//! The top call: all that the program does.
+
+ghost use Rattle.std.specs.Prelude.{◌≡◌, ◌⊎◌, ◌≤◌, Err, map, string_bytes};
+ghost use Rattle.hms_io.specs.Files.{KeepsFiles};
+ghost use Rattle.command_line.specs.Command.{NoCommand};
+ghost use Rattle.program.specs.Commands.{NamesNoFile, ReadsNoInput, ReadsWhole, AsksForNamed, ReadsFew};
+ghost use Rattle.program.specs.Ends.{HasReport, Ends, CountsFaults, CountsReads};
+ghost use Rattle.program.specs.Meanings.{WritesOneBase, WritesOneChain};
+ghost use Rattle.refusals.specs.declared.refusal.Refusal.TheVariants.{Arguments};
+ghost use Rattle.commands.specs.declared.stop.Stop.TheVariants.{Refused};
+ghost use Rattle.commands.specs.Stops.{IfOutcome};
+ghost use Rattle.program.specs.tools.Parts.{CountsOne};
+
+use crate::over_message::over_files;
+use crate::over_recording::over_recording;
+use command_line::{Command, read_words};
+use commands::{Outcome, Stop, write_help, write_sample, write_version};
+use hms_io::{Failed, Shelf, Sink, Source, Status, put_all};
+use refusals::Refusal;
+use std::alloc::Global;
+
+/// Does what the arguments ask for.
+fn run_command<F: Shelf, S: Source>(
+    alloc: Global,
+    arguments: &[String],
+    shelf: &mut F,
+    source: &mut S,
+) -> Result<Outcome, Stop>
+    ensures report { IfOutcome result (HasReport (map string_bytes arguments.now)
+        (F.files shelf.old) (source.new ≡ source.old) (S.left source.old) (S.left source.new)) }
+    ensures cause { CountsOne (source.new ≡ source.old) (F.faults shelf.old) (F.faults shelf.new)
+        (S.faults source.old) (S.faults source.new) result }
+    ensures shelf_later { F.faults shelf.old ≤ F.faults shelf.new }
+    ensures source_later { S.faults source.old ≤ S.faults source.new }
+    ensures few { ReadsFew (map string_bytes arguments.now)
+        (S.left source.old) (S.left source.new) }
+    ensures ended { S.ended source.old ≡ 0 → S.ended source.new ≤ 1 }
+    ensures asked { AsksForNamed (map string_bytes arguments.now)
+        (F.asked shelf.old) (F.asked shelf.new) }
+    ensures files { KeepsFiles (F.files shelf.old) (F.files shelf.new) }
+    ensures refused { NoCommand (map string_bytes arguments.now)
+        → result ≡ Err (Refused Arguments) }
+    ensures unread { ReadsNoInput (map string_bytes arguments.now) → source.new ≡ source.old }
+    ensures unasked { NamesNoFile (map string_bytes arguments.now) → shelf.new ≡ shelf.old }
+{
+    let Some(command) = read_words(arguments) else {
+        return Err(Stop::Refused(Refusal::Arguments));
+    };
+    match command {
+        Command::Help => Ok(write_help(alloc)?),
+        Command::Version => Ok(write_version(alloc)?),
+        Command::Base(words) => over_files(
+            alloc,
+            &words,
+            words.conf,
+            words.request,
+            None,
+            None,
+            shelf,
+            source,
+        ),
+        Command::Verify(words) => over_files(
+            alloc,
+            &words,
+            Some(words.conf),
+            words.request,
+            None,
+            None,
+            shelf,
+            source,
+        ),
+        Command::Sign(words) => over_files(
+            alloc,
+            &words,
+            Some(words.conf),
+            words.request,
+            words.wanted,
+            None,
+            shelf,
+            source,
+        ),
+        Command::Rewrite(words) => over_files(
+            alloc,
+            &words,
+            words.conf,
+            words.request,
+            None,
+            Some(words.script),
+            shelf,
+            source,
+        ),
+        Command::Audit(words) => over_recording(alloc, &words, shelf, source),
+        Command::Sample(words) => write_sample(alloc, words.seed, words.count),
+    }
+}
+
+/// Does what the arguments ask for, over the files of the shelf and the bytes of the source, and
+/// writes the outcome to the sink: the text that was asked for, or one line that begins `refused `
+/// and ends with LF.
+pub fn run<F: Shelf, S: Source, K: Sink>(
+    alloc: Global,
+    arguments: &[String],
+    shelf: &mut F,
+    source: &mut S,
+    out: &mut K,
+) -> Status
+    // What the sink took is the report of the arguments, the files and the input, by the status,
+    // for each command that writes nothing before it has read all.
+    ensures ends { ReadsWhole (map string_bytes arguments.now)
+        → Ends (map string_bytes arguments.now) (F.files shelf.old)
+        (source.new ≡ source.old) (S.left source.old) (S.left source.new)
+        (K.taken out.old) (K.taken out.new) result }
+
+    // What `base` and `audit` wrote tells what it was made of: equal bases have equal parameters
+    // and values, and what is kept at a hop has one base on both sides of it.
+    ensures base { WritesOneBase (map string_bytes arguments.now) (F.files shelf.old)
+        (S.left source.old) (K.taken out.old) (K.taken out.new) result }
+    ensures audit { WritesOneChain (map string_bytes arguments.now) (F.files shelf.old)
+        (S.left source.old) (K.taken out.old) (K.taken out.new) result }
+
+    // Where the arguments are no command, or one without an input, the source isn't read, and where
+    // they name no file, none is asked for. The files stay as they are.
+    ensures refused { NoCommand (map string_bytes arguments.now) → (result ≡ Status.BadArguments)
+        ⊎ ((result ≡ Status.WriteFault) ⊎ (result ≡ Status.OutOfMemory)) }
+    ensures unread { ReadsNoInput (map string_bytes arguments.now) → source.new ≡ source.old }
+    ensures unasked { NamesNoFile (map string_bytes arguments.now) → shelf.new ≡ shelf.old }
+    ensures files { KeepsFiles (F.files shelf.old) (F.files shelf.new) }
+
+    // At any status at most one byte past the limit is read, the source isn't read after its end,
+    // and at most so many files are asked for as the command names.
+    ensures few { ReadsFew (map string_bytes arguments.now)
+        (S.left source.old) (S.left source.new) }
+    ensures ended { S.ended source.old ≡ 0 → S.ended source.new ≤ 1 }
+    ensures asked { AsksForNamed (map string_bytes arguments.now)
+        (F.asked shelf.old) (F.asked shelf.new) }
+
+    // The counts of faults say when a read or a write failed.
+    ensures reads { CountsReads (source.new ≡ source.old) result
+        (F.faults shelf.old) (F.faults shelf.new) (S.faults source.old) (S.faults source.new) }
+    ensures writes { CountsFaults Status.WriteFault result
+        (K.faults out.old) (K.faults out.new) }
+{
+    let outcome = match run_command(alloc, arguments, shelf, source) {
+        Ok(outcome) => outcome,
+        Err(Stop::Refused(refusal)) => Outcome::Refused(refusal),
+        Err(Stop::ReadFault) => return Status::ReadFault,
+        Err(Stop::Memory) => return Status::OutOfMemory,
+    };
+    let status = outcome.status();
+    let Ok(output) = outcome.into_output(alloc) else {
+        return Status::OutOfMemory;
+    };
+    match put_all(out, output.bytes()) {
+        Ok(()) => status,
+        Err(Failed) => Status::WriteFault,
+    }
+}

@@ -1,0 +1,26 @@
+//! All that the program `hms` does, over any devices: arguments, files, an input and an output.
+//!
+//! `run` reads the arguments, does what they ask for over the files of a shelf and the bytes of a
+//! source, and writes the outcome to a sink. What it promises is what the program promises, and it
+//! is proved once for all devices: those of the operating system, and those in memory that tests
+//! hand in. The laws say what follows from it.
+//!
+//! ```text
+//! let mut shelf = MemShelf::new(alloc, &[])?;
+//! let mut source = MemSource::new(alloc, b"GET / HTTP/1.1\r\nA: 1\r\n\r\n", 7, &[])?;
+//! let mut sink = MemSink::new(alloc, 1_000, 7, &[])?;
+//! run(alloc, arguments, &mut shelf, &mut source, &mut sink) // the status to exit with
+//! ```
+#![tactic(auto)]
+
+mod entry;
+mod laws;
+mod over_message;
+mod over_recording;
+
+pub use entry::run;
+pub use laws::{
+    a_base_has_one_meaning, a_command_that_has_all_is_answered, one_report,
+    what_is_kept_has_one_base, what_is_permitted_is_kept, what_is_rewritten_keeps_its_verdict,
+    what_is_signed_is_accepted,
+};
