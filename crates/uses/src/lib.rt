@@ -1,9 +1,8 @@
-//! The crates below the program as their users call them. Each function is the example of a crate's
-//! documentation, and calls each of its calls that takes memory, with ample memory; but those over
-//! what was read before, as `prepare_in` and `verdict_in`, and those of rewritings, `read_script`
-//! aside, are called by runs of the program alone. Beside them are vectors from outside (RFC 4231,
-//! RFC 9421, RFC 9530, RFC 9651) and what no run of the program shows. There is nothing here but
-//! tests: what a user of the program sees is a case of cases/.
+//! The libraries as their users call them. Each function is the example of a crate's documentation,
+//! and calls those of its calls that take memory, with ample memory; what goes over what was read
+//! before, as `prepare_in`, and rewritings, `read_script` aside, are called by runs alone. Beside
+//! them are vectors from outside (RFC 4231, RFC 9421, RFC 9530, RFC 9651), and runs of `program`
+//! over devices in memory, failing ones among them. What a user sees is a case of cases/.
 #![tactic(auto)]
 
 #[cfg(test)]
@@ -52,6 +51,8 @@ mod scripts;
 mod sign_runs;
 #[cfg(test)]
 mod signings;
+#[cfg(test)]
+mod spans;
 #[cfg(test)]
 mod values;
 #[cfg(test)]
