@@ -5,4 +5,6 @@ pub mod FaultOffset
 pub mod Gives
 pub mod Causes
 pub mod Pieces
+pub mod Fed
+pub mod Displayed
 pub mod tools

@@ -2,3 +2,4 @@ pub mod Languages
 pub mod Walks
 pub mod Determined
 pub mod ByBytes
+pub mod Held

@@ -1,5 +1,8 @@
-//! Classes of bytes, readers of texts from left to right that name the exact offset of a fault, and
-//! the laws of the texts that they read.
+//! Owned texts of bytes, and what takes in a text piece by piece; classes of bytes, readers of
+//! texts from left to right that name the exact offset of a fault, and the laws of the texts that
+//! they read.
+//!
+//! Whatever takes memory answers [`Memory`] where there is none.
 //!
 //! A class of bytes is what the formats of HTTP call DIGIT, ALPHA, VCHAR, tchar and OWS.
 //!
@@ -54,10 +57,22 @@
 //!   `looked_up`).
 #![tactic(auto)]
 
+mod absorb;
 mod class;
+mod fed_text;
+mod memory;
 mod readers;
+mod sequence;
+mod short;
+mod text;
 mod texts;
 
+pub use absorb::Absorb;
 pub use class::{Byte, ByteClass, Class, is_blank, is_tchar};
+pub use fed_text::FedText;
+pub use memory::Memory;
 pub use readers::{Left, read_all, read_byte, read_run, read_word, starts_with};
+pub use sequence::Sequence;
+pub use short::IN_PLACE;
+pub use text::{Text, append_number, append_words};
 pub use texts::is_listed;

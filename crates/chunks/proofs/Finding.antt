@@ -1,31 +1,34 @@
 -- Chunk after chunk, as the search takes them.
-use Rattle.std.proofs.Common.{◌≡◌, ℕ, ◌+◌, ◌-◌, ◌<◌, ◌≤◌, List, [], ◌∷◌, ◌++◌, length, take, Some, Ok, Err, refl, sym, ap, subst, ◌∙◌, append_assoc, arith, codes}
+use Rattle.std.proofs.Common.{◌≡◌, ℕ, suc, ◌+◌, ◌-◌, ◌<◌, ◌≤◌, List, [], ◌∷◌, ◌++◌, length, take, Some, Ok, Err, refl, sym, ap, subst, ◌∙◌, append_assoc, arith, codes}
 use Rattle.std.proofs.lemmas.List.{append-nil, length-append, take_at}
 use Rattle.std.proofs.lemmas.List.Elements.{All-nil, All-cons, All-append}
 use Rattle.std.proofs.lemmas.Grind.{flat_map-append}
 use Rattle.std.specs.List.{All, flat_map}
+use Rattle.byte_grammar.proofs.Laws.{any_next}
 use Rattle.byte_grammar.proofs.Loops.{loop_first, loop_err, loop_more}
 use Rattle.byte_grammar.specs.tools.Walks.{turns_read}
 use Rattle.chunks.specs.declared.limits.TheConstants.{MAX_CONTENT_BYTES}
-use Rattle.chunks.specs.declared.view.ChunkSpan.{ChunkSpan}
+use Rattle.chunks.specs.Views.{ChunkSpan}
 use Rattle.chunks.specs.declared.read.Found.{Found}
 use Rattle.chunks.specs.Chunks.{Chunk, Chunks, IsChunkLine, IsChunk, SpellsChunks, chunk_text, data_of, content_of}
 use Rattle.chunks.specs.Causes.{HasContentOver, IsContentTooLong}
 use Rattle.chunks.specs.Views.{ChunksParts, chunks_of, IsChunksViewOf}
 use Rattle.chunks.specs.tools.ChunkWalk.{line_read, data_read, turn_read}
-use Rattle.chunks.specs.tools.Turns.{span_of, spans_of}
+use Rattle.chunks.specs.tools.Read.{chunks_in, chunks_read}
+use Rattle.chunks.specs.tools.Turns.{spans_of}
 use Rattle.chunks.specs.tools.Judged.{Finding, IsFound, parts_of}
 use Rattle.chunks.proofs.LineLaws.{meets_line, meets_data}
-use Rattle.chunks.proofs.TurnTexts.{meets_turn, chunk_loop}
+use Rattle.chunks.proofs.TurnTexts.{are_turns, chunk_loop, meets_chunks, meets_turn}
 use Rattle.chunks.proofs.TooLong.{turn_err, turn_some, turn_data_err, line_goes, no_turn, next_turn}
-use Rattle.chunks.proofs.Spans.{slice_at, chunks_at, spans_more, spans_follow, spans_lie, line_some}
+use Rattle.chunks.proofs.Spans.{slice_at, chunks_at, spans_follow, line_some}
 
-pub first_found : (bytes : List ℕ) → Finding bytes [] bytes MAX_CONTENT_BYTES
+pub first_found : (bytes : List ℕ) → Finding bytes 0 bytes MAX_CONTENT_BYTES
 first_found bytes = record {
   done = [];
   joined = refl;
   each = All-nil IsChunk;
-  spans_are = refl;
+  count_is = refl;
+  few = omega arith;
   counted = refl;
   so_far = loop_first (turns_read turn_read bytes);
   long = λ t. t;
@@ -48,6 +51,16 @@ module _ (bytes text after : List ℕ) (done : List Chunk) (each : All IsChunk d
       let last = slice_at first_bytes (flat_map chunk_text done) text (codes "\r\n") (length (flat_map chunk_text done)) (length first_bytes - 2) refl refl (omega (arith, first_count)) in
       λ i. record { chunks = chunks i; last = last i }
 
+  -- they are read again
+  read_first : turns_read turn_read first_bytes ≡ Ok (done, [])
+  read_first =
+      let cs : Chunks = record { chunks = done; last = text } in
+      let turns = are_turns cs first_bytes (record { are = record { each = each; last = is }; text = refl }) in
+      ap (turns_read turn_read) (sym (append-nil first_bytes)) ∙ meets_chunks.only first_bytes [] done turns (any_next [])
+
+  chunks_first : chunks_in first_bytes ≡ done
+  chunks_first = ap chunks_read read_first
+
   whole_view : bytes ≡ first_bytes ++ after → length (data_of done) ≤ MAX_CONTENT_BYTES → IsChunksViewOf bytes parts_are (length first_bytes)
   whole_view e short =
       let first : take (length first_bytes) bytes ≡ first_bytes = ap (λ (y : List ℕ). take (length first_bytes) y) e ∙ take_at first_bytes after (length first_bytes) refl in
@@ -68,7 +81,11 @@ module _ (bytes text after : List ℕ) (done : List Chunk) (each : All IsChunk d
         };
       }
 
-module _ {bytes : List ℕ} {spans : List ChunkSpan} {left : List ℕ} {room : ℕ} (f : Finding bytes spans left room) where
+spans_length : (chunks : List Chunk) (from : ℕ) → length (spans_of from chunks) ≡ length chunks
+spans_length [] from = refl
+spans_length (c ∷ chunks) from = ap (λ n. suc n) (spans_length chunks (from + length (chunk_text c)))
+
+module _ {bytes : List ℕ} {count : ℕ} {left : List ℕ} {room : ℕ} (f : Finding bytes count left room) where
   -- how many bytes are done
   pub done_count : length bytes - length left ≡ length (flat_map chunk_text f.done)
   done_count = omega (arith, ap (λ (y : List ℕ). length y) f.joined, length-append (flat_map chunk_text f.done) left)
@@ -110,24 +127,24 @@ module _ {bytes : List ℕ} {spans : List ChunkSpan} {left : List ℕ} {room : �
     }
 
     -- a chunk more
-    pub next_found : (d rest : List ℕ) (span : ChunkSpan) → 0 < size → size ≤ room → data_read size after ≡ Ok (d, rest) → span ≡ span_of (length bytes - length left) (record { line = text; chunk_data = d }) → Finding bytes (spans ++ span ∷ []) rest (room - size)
-    next_found d rest span some fits e is =
+    pub next_found : (d rest : List ℕ) → 0 < size → size ≤ room → data_read size after ≡ Ok (d, rest) → Finding bytes (count + 1) rest (room - size)
+    next_found d rest some fits e =
         let c : Chunk = record { line = text; chunk_data = d } in
         let turn = turn_some left text after d rest size line some e in
         let s = meets_turn.ok left (Some c) rest turn in
         let data_is = (meets_data size).ok after d rest e in
-        let count : length d ≡ size = data_is.2.1 in
-        let place : length bytes - length left ≡ 0 + length (flat_map chunk_text f.done) = omega (arith, done_count) in
+        let sized : length d ≡ size = data_is.2.1 in
         let texts : flat_map chunk_text (f.done ++ c ∷ []) ≡ flat_map chunk_text f.done ++ chunk_text c = flat_map-append chunk_text f.done (c ∷ []) ∙ ap (λ (y : List ℕ). flat_map chunk_text f.done ++ y) (append-nil (chunk_text c)) in
         let contents : length (data_of (f.done ++ c ∷ [])) ≡ length (data_of f.done) + size = omega (arith, ap (λ (y : List ℕ). length y) (flat_map-append (λ (c : Chunk). c.chunk_data) f.done (c ∷ [])), length-append (data_of f.done) (data_of (c ∷ [])), length-append d [], count) in
         record {
           done = f.done ++ c ∷ [];
           joined = cc (f.joined, s.1, s.2.0, texts, append_assoc (flat_map chunk_text f.done) (chunk_text c) rest);
           each = All-append IsChunk f.done (c ∷ []) f.each (All-cons IsChunk c [] s.2.1 (All-nil IsChunk));
-          spans_are = ap (λ (x : ChunkSpan). spans ++ x ∷ []) (is ∙ ap (λ (n : ℕ). span_of n c) place) ∙ ap (λ (x : List ChunkSpan). x ++ span_of (0 + length (flat_map chunk_text f.done)) c ∷ []) f.spans_are ∙ sym (spans_more f.done c 0);
+          count_is = omega (arith, f.count_is, length-append f.done (c ∷ []));
+          few = omega (arith, f.few, some, fits);
           counted = omega (arith, contents, f.counted);
           so_far = loop_more turn_read chunk_loop f.done left (turns_read turn_read bytes) f.so_far c rest turn;
-          long = λ t. subst (λ (n : ℕ). HasContentOver (room - n) rest) count (next_turn room left text after rest size c line fits turn (f.long t));
+          long = λ t. subst (λ (n : ℕ). HasContentOver (room - n) rest) sized (next_turn room left text after rest size c line fits turn (f.long t));
         }
 
     pub data_count : (d rest : List ℕ) → data_read size after ≡ Ok (d, rest) → (length d ≡ size) × (length after ≡ size + 2 + length rest)
@@ -136,7 +153,7 @@ module _ {bytes : List ℕ} {spans : List ChunkSpan} {left : List ℕ} {room : �
         (s.2.1, omega (arith, ap (λ (y : List ℕ). length y) s.1, ap (λ (y : List ℕ). length y) s.2.0, length-append s.0 rest, length-append d (codes "\r\n"), s.2.1))
 
     -- the last line
-    pub last_found : (found : Found) → size ≡ 0 → found.spans.items ≡ spans → found.last ≡ length bytes - length left → found.used ≡ length bytes - length after
+    pub last_found : (found : Found) → size ≡ 0 → found.count ≡ count → found.last ≡ length bytes - length left → found.used ≡ length bytes - length after
         → found.content ≡ MAX_CONTENT_BYTES - room → IsFound bytes found
     last_found found none listed at end counted =
         let is : IsChunkLine text 0 = subst (λ (n : ℕ). IsChunkLine text n) none line_parts.1 in
@@ -145,15 +162,20 @@ module _ {bytes : List ℕ} {spans : List ChunkSpan} {left : List ℕ} {room : �
         let whole : bytes ≡ first ++ after = cc (f.joined, line_parts.0, append_assoc (flat_map chunk_text f.done) (text ++ codes "\r\n") after, append_assoc text (codes "\r\n") after) in
         let used_is : length first ≡ found.used = omega (arith, end, line_count, done_count, left_within, size_is) in
         let text_is : first ≡ take found.used bytes = sym (ap (λ (y : List ℕ). take found.used y) whole ∙ take_at first after found.used used_is) in
-        let spans_is : spans_of 0 f.done ≡ found.spans.items = sym (listed ∙ f.spans_are) in
+        let chunks_is : f.done ≡ chunks_in (take found.used bytes) = sym (chunks_first bytes text after f.done f.each is) ∙ ap chunks_in text_is in
+        let spans_is = ap (spans_of 0) chunks_is in
         let last_is : length (flat_map chunk_text f.done) ≡ found.last = omega (arith, at, done_count) in
         let same : parts_are bytes text after f.done f.each is ≡ parts_of bytes found = λ i. record { bytes = text_is i; spans = spans_is i; last = last_is i } in
         let view = whole_view bytes text after f.done f.each is whole (omega (arith, f.counted)) in
         let chunks = chunks_are bytes text after f.done f.each is in
         record {
           view = subst (λ (n : ℕ). IsChunksViewOf bytes (parts_of bytes found) n) used_is (subst (λ (p : ChunksParts). IsChunksViewOf bytes p (length first)) same view);
-          lie = rw (sym spans_is) (spans_lie f.done 0 found.used (omega (arith, used_is, size_is)));
-          counted =
-              let content : length (content_of (chunks_of (parts_of bytes found))) ≡ length (data_of f.done) = ap (λ (p : ChunksParts). length (content_of (chunks_of p))) (sym same) ∙ ap (λ (cs : Chunks). length (content_of cs)) chunks in
-              omega (arith, content, counted, f.counted);
+          read = record {
+            readable = (f.done, [], ap (turns_read turn_read) (sym text_is) ∙ read_first bytes text after f.done f.each is);
+            are = ap (λ (p : ChunksParts). (chunks_of p).chunks) (sym same) ∙ ap (λ (cs : Chunks). cs.chunks) chunks ∙ chunks_is;
+            count_is = listed ∙ f.count_is ∙ sym (spans_length f.done 0) ∙ ap (λ (ss : List ChunkSpan). length ss) spans_is;
+            counted =
+                let content : length (content_of (chunks_of (parts_of bytes found))) ≡ length (data_of f.done) = ap (λ (p : ChunksParts). length (content_of (chunks_of p))) (sym same) ∙ ap (λ (cs : Chunks). length (content_of cs)) chunks in
+                omega (arith, content, counted, f.counted);
+          };
         }

@@ -7,3 +7,4 @@ pub mod ChunkLaws
 pub mod Finding
 pub mod Outcomes
 pub mod Answered
+pub mod NextChunks

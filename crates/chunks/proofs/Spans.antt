@@ -1,11 +1,10 @@
 -- Offsets of chunks, and the chunks that are there.
-use Rattle.std.proofs.Common.{◌≡◌, ℕ, ◌+◌, ◌-◌, ◌<◌, ◌≤◌, true, List, [], ◌∷◌, ◌++◌, length, map, take, drop, refl, sym, ap, ◌∙◌, append_assoc, arith, codes}
+use Rattle.std.proofs.Common.{◌≡◌, ℕ, ◌+◌, ◌-◌, ◌<◌, List, [], ◌∷◌, ◌++◌, length, map, take, drop, refl, sym, ap, ◌∙◌, append_assoc, arith, codes}
 use Rattle.std.proofs.lemmas.List.{length-append, take_at, drop_at}
 use Rattle.std.proofs.lemmas.List.Elements.{All-head, All-tail}
-use Rattle.std.proofs.lemmas.Bool.{le-leb}
-use Rattle.std.specs.List.{All, list_all, flat_map, slice_range}
+use Rattle.std.specs.List.{All, flat_map, slice_range}
 use Rattle.chunks.specs.Chunks.{Chunk, IsChunkLine, IsChunk, chunk_text}
-use Rattle.chunks.specs.Views.{chunk_at, chunks_lie_in, ChunksFollow}
+use Rattle.chunks.specs.Views.{chunk_at, ChunksFollow}
 use Rattle.chunks.specs.tools.Turns.{span_of, spans_of}
 
 -- what is between two offsets
@@ -42,13 +41,6 @@ chunks_at text before more (c ∷ chunks) from e begin =
     let tail = chunks_at text (before ++ chunk_text c) more chunks (from + length (chunk_text c)) next (omega (arith, length-append before (chunk_text c), begin)) in
     λ i. head i ∷ tail i
 
--- one more chunk
-pub spans_more : (chunks : List Chunk) (c : Chunk) (from : ℕ) → spans_of from (chunks ++ c ∷ []) ≡ spans_of from chunks ++ span_of (from + length (flat_map chunk_text chunks)) c ∷ []
-spans_more [] c from = ap (λ (n : ℕ). span_of n c ∷ []) (omega arith)
-spans_more (d ∷ chunks) c from =
-    let count : from + length (chunk_text d) + length (flat_map chunk_text chunks) ≡ from + length (flat_map chunk_text (d ∷ chunks)) = omega (arith, length-append (chunk_text d) (flat_map chunk_text chunks)) in
-    ap (λ (spans : List _). span_of from d ∷ spans) (spans_more chunks c (from + length (chunk_text d)) ∙ ap (λ (n : ℕ). spans_of (from + length (chunk_text d)) chunks ++ span_of n c ∷ []) count)
-
 -- a chunk line isn't empty
 pub line_some : (line : List ℕ) (size : ℕ) → IsChunkLine line size → 0 < length line
 line_some line size is = omega (arith, ap (λ (y : List ℕ). length y) is.joined, length-append is.digits is.extension, is.are_digits.least)
@@ -63,12 +55,3 @@ spans_follow (c ∷ chunks) from to all e =
       omega (arith, is.some),
       rw (sym next) (spans_follow chunks (from + length (chunk_text c)) to (All-tail IsChunk c chunks all) (omega (arith, length-append (chunk_text c) (flat_map chunk_text chunks), e))),
     )
-
-pub spans_lie : (chunks : List Chunk) (from count : ℕ) → from + length (flat_map chunk_text chunks) ≤ count → list_all (chunks_lie_in count) (spans_of from chunks) ≡ true
-spans_lie [] from count le = refl
-spans_lie (c ∷ chunks) from count le =
-    let size = length-append (chunk_text c) (flat_map chunk_text chunks) in
-    let one = le-leb from (from + length c.line) (omega arith) in
-    let two = le-leb (from + length c.line + 2) (from + length c.line + 2 + length c.chunk_data) (omega arith) in
-    let three = le-leb (from + length c.line + 2 + length c.chunk_data) count (omega (arith, text_length c, size, le)) in
-    rw (one, two, three) (spans_lie chunks (from + length (chunk_text c)) count (omega (arith, size, le)))

@@ -1,8 +1,14 @@
 -- What a view of chunks stands for.
-use Rattle.std.specs.Prelude.{◌≡◌, ℕ, ◌+◌, ◌-◌, ◌<◌, ◌≤◌, Bool, ◌&&◌, nat_le, List, [], ◌∷◌, length, map, take}
+use Rattle.std.specs.Prelude.{◌≡◌, ℕ, ◌+◌, ◌-◌, ◌<◌, ◌≤◌, List, [], ◌∷◌, length, map, take}
 use Rattle.std.specs.List.{slice_range}
-use Rattle.chunks.specs.declared.view.ChunkSpan.{ChunkSpan}
 use Rattle.chunks.specs.Chunks.{Chunk, Chunks, SpellsChunks}
+
+-- where a chunk is, by offsets from where the chunks begin: where its line begins, where that ends,
+-- and where its data ends
+pub record ChunkSpan : Type 0 where
+  pub line : ℕ
+  pub line_end : ℕ
+  pub end : ℕ
 
 -- the bytes that spell chunks, where the chunks are in them, and where the last line begins
 pub record ChunksParts : Type 0 where
@@ -23,12 +29,6 @@ chunks_of parts = record {
   chunks = map (chunk_at parts.bytes) parts.spans;
   last = slice_range parts.bytes parts.last (length parts.bytes - 2);
 }
-
--- the offsets are in order, and lie in so many bytes
-abbrev pub chunks_lie_in : ℕ → ChunkSpan → Bool
-chunks_lie_in count span =
-    nat_le span.line span.line_end
-    && (nat_le (span.line_end + 2) span.end && nat_le span.end count)
 
 -- From the one offset to the other chunks follow each other. After a chunk's line is CRLF,
 -- which is two bytes, and after its data too.

@@ -1,3 +1,4 @@
 pub mod ChunkWalk
 pub mod Turns
 pub mod Judged
+pub mod Read

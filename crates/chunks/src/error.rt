@@ -1,14 +1,13 @@
 //! Why chunks aren't read.
 
 use crate::limits::MAX_CONTENT_BYTES;
-use std::alloc::{AllocError, AllocFailed};
 use std::error::Error;
 use std::fmt;
 
 /// Why no chunks were read. Where several hold, the first in this order is answered.
 #[derive(Clone, Copy, Debug, PartialEq, Eq)]
 pub enum ChunkError {
-    /// No memory was found for the offsets of the chunks.
+    /// No memory was found. Chunks are read without memory, so this is never answered.
     Memory,
     /// The chunks whose lines are there have more data by their sizes than content may have
     /// (RFC 9112 section 7.1 asks to guard against such sizes; the limit is `MAX_CONTENT_BYTES`).
@@ -35,25 +34,3 @@ impl fmt::Display for ChunkError {
 }
 
 impl Error for ChunkError {}
-
-impl From<AllocError> for ChunkError {
-    ghost use Rattle.std.specs.Prelude.{◌≡◌};
-    ghost use Rattle.chunks.specs.declared.error.ChunkError.TheVariants.{Memory};
-
-    ghost from_gives = { λ _ e. e ≡ Memory };
-
-    fn from(_error: AllocError) -> Self {
-        Self::Memory
-    }
-}
-
-impl<T: Drop> From<AllocFailed<T>> for ChunkError {
-    ghost use Rattle.std.specs.Prelude.{◌≡◌};
-    ghost use Rattle.chunks.specs.declared.error.ChunkError.TheVariants.{Memory};
-
-    ghost from_gives = { λ _ e. e ≡ Memory };
-
-    fn from(_error: AllocFailed<T>) -> Self {
-        Self::Memory
-    }
-}

@@ -16,6 +16,7 @@
 mod classes;
 mod error;
 mod laws;
+mod limit_laws;
 mod limits;
 mod line;
 mod pieces;
@@ -24,7 +25,8 @@ mod view;
 
 pub use error::ChunkError;
 pub use laws::{chunks_have_one_answer, chunks_laws, sizes_have_a_line};
+pub use limit_laws::limits_are_these;
 pub use limits::{MAX_CONTENT_BYTES, MAX_EXTENSION_BYTES, MAX_SIZE_DIGITS};
 pub use pieces::ChunkPieces;
 pub use read::{ChunksRead, read_chunks};
-pub use view::{ChunkSpan, ChunksView};
+pub use view::ChunksView;

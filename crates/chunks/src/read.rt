@@ -11,9 +11,9 @@ ghost use Rattle.chunks.specs.tools.Judged.{IsFound, IsStop, ExplainsChunks};
 use crate::error::ChunkError;
 use crate::limits::MAX_CONTENT_BYTES;
 use crate::line::{read_data, read_line};
-use crate::view::{ChunkSpan, ChunksView};
+use crate::view::ChunksView;
 use byte_grammar::Left;
-use std::alloc::{AllocError, AllocFailed, Global};
+use std::alloc::Global;
 
 /// What the bytes begin with.
 #[derive(Drop)]
@@ -24,10 +24,11 @@ pub enum ChunksRead<'m> {
     Partial,
 }
 
-// Where the chunks are that the bytes begin with.
-#[derive(Drop)]
+// The chunks that the bytes begin with.
+#[derive(Clone, Copy)]
 struct Found {
-    spans: Vec<ChunkSpan>,
+    // How many there are before the last line.
+    count: usize,
     // Where the last line begins, and where its CRLF ends.
     last: usize,
     used: usize,
@@ -38,7 +39,6 @@ struct Found {
 // Why the chunks aren't found.
 #[derive(Clone, Copy)]
 enum Stop {
-    Memory,
     TooLong,
     // So many bytes were left where it stopped.
     Left(usize),
@@ -55,46 +55,23 @@ impl From<Left> for Stop {
     }
 }
 
-impl From<AllocError> for Stop {
-    ghost use Rattle.std.specs.Prelude.{◌≡◌};
-    ghost use Rattle.chunks.specs.declared.read.Stop.TheVariants.{Memory};
-
-    ghost from_gives = { λ _ e. e ≡ Memory };
-
-    fn from(_error: AllocError) -> Self {
-        Self::Memory
-    }
-}
-
-impl<T: Drop> From<AllocFailed<T>> for Stop {
-    ghost use Rattle.std.specs.Prelude.{◌≡◌};
-    ghost use Rattle.chunks.specs.declared.read.Stop.TheVariants.{Memory};
-
-    ghost from_gives = { λ _ e. e ≡ Memory };
-
-    fn from(_error: AllocFailed<T>) -> Self {
-        Self::Memory
-    }
-}
-
 // Finds the chunks that the bytes begin with. A size is compared with the room that is left for
 // content, so no sum of sizes is made that could be too great.
 // Compiled by itself its loop keeps its variables in registers.
 #[inline(never)]
-fn find_chunks(alloc: Global, bytes: &[u8]) -> Result<Found, Stop>
+fn find_chunks(bytes: &[u8]) -> Result<Found, Stop>
     ensures ok { IfOk result (λ found. IsFound bytes.now found) }
     ensures err { IfErr result (λ stop. IsStop bytes.now stop) }
 {
-    let mut spans = Vec::new(alloc);
+    let mut count = 0;
     let mut room = MAX_CONTENT_BYTES;
     let mut left = bytes;
     'chunks: loop {
-        let line = bytes.len() - left.len();
         let (first, after_line) = read_line(left)?;
         if first.is_last() {
             return Ok(Found {
-                spans,
-                last: line,
+                count,
+                last: bytes.len() - left.len(),
                 used: bytes.len() - after_line.len(),
                 content: MAX_CONTENT_BYTES - room,
             });
@@ -104,25 +81,20 @@ fn find_chunks(alloc: Global, bytes: &[u8]) -> Result<Found, Stop>
         }
         let size = first.size as usize;
         let (_, after) = read_data(size, after_line)?;
-        let line_end = line + first.text.len();
-        spans.push(ChunkSpan {
-            line,
-            line_end,
-            end: line_end + 2 + size,
-        })?;
+        count += 1;
         room -= size;
         left = after;
     }
 }
 
 // The answer to bytes, by its cause.
-fn judge<'m>(alloc: Global, bytes: &'m [u8]) -> Result<ChunksRead<'m>, ChunkError>
+fn judge<'m>(bytes: &'m [u8]) -> Result<ChunksRead<'m>, ChunkError>
     ensures { ExplainsChunks bytes.now result }
 {
-    match find_chunks(alloc, bytes) {
+    match find_chunks(bytes) {
         Ok(found) => {
             let chunks = &bytes[..found.used];
-            let view = ChunksView::new(chunks, found.spans, found.last, found.content);
+            let view = ChunksView::new(chunks, found.last, found.count, found.content);
             Ok(ChunksRead::Whole(view, found.used))
         }
         Err(Stop::Left(left)) => {
@@ -132,15 +104,15 @@ fn judge<'m>(alloc: Global, bytes: &'m [u8]) -> Result<ChunksRead<'m>, ChunkErro
             Err(ChunkError::Bad(bytes.len() - left))
         }
         Err(Stop::TooLong) => Err(ChunkError::TooLong),
-        Err(Stop::Memory) => Err(ChunkError::Memory),
     }
 }
 
 /// Reads the chunks that the bytes begin with, up to and with the line of the last one and its CRLF
 /// (RFC 9112 section 7.1).
 ///
-/// `TooLong` is answered as soon as the chunk line is there by whose size content is too long.
-pub fn read_chunks<'m>(alloc: Global, bytes: &'m [u8]) -> Result<ChunksRead<'m>, ChunkError>
+/// No memory is asked for. `TooLong` is answered as soon as the chunk line is there by whose size
+/// content is too long.
+pub fn read_chunks<'m>(_alloc: Global, bytes: &'m [u8]) -> Result<ChunksRead<'m>, ChunkError>
     ensures whole { IfWholeChunks result (λ view used. IsChunksViewOf bytes.now view used) }
     ensures found { (cs : Chunks) (used : ℕ) → SpellsChunks cs used bytes.now
         → IsChunksUnlessMemory result cs used }
@@ -152,5 +124,5 @@ pub fn read_chunks<'m>(alloc: Global, bytes: &'m [u8]) -> Result<ChunksRead<'m>,
     ensures fault { (fault : ChunkError) → fault ≢ ChunkError.Memory
         → AnswersWhere ChunkError.Memory result fault (IsChunksError bytes.now fault) }
 {
-    judge(alloc, bytes)
+    judge(bytes)
 }

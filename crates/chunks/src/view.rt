@@ -1,77 +1,47 @@
 //! The view of chunks.
 
 ghost use Rattle.std.specs.Prelude.{◌≡◌, ◌↔◌, [], length, IsTrue};
-ghost use Rattle.std.specs.List.{list_all};
 ghost use Rattle.chunks.specs.Chunks.{content_of};
-ghost use Rattle.chunks.specs.Views.{ChunksParts, chunks_of, chunks_lie_in};
+ghost use Rattle.chunks.specs.Views.{ChunksParts, chunks_of};
+ghost use Rattle.chunks.specs.tools.Read.{AreRead, parts_in};
 
 use crate::pieces::ChunkPieces;
 use std::marker::Model;
 
-/// Where a chunk is, by offsets from where the chunks begin. After its line and after its data
-/// is CRLF.
-#[derive(Clone, Copy)]
-pub struct ChunkSpan {
-    /// Where its line begins.
-    pub line: usize,
-    /// Where its line ends.
-    pub line_end: usize,
-    /// Where its data ends.
-    pub end: usize,
-}
-
 /// Chunks, borrowed from their bytes. A contract sees them as the bytes and the offsets of the
-/// chunks, of which the chunks that they spell are a function.
+/// chunks, of which the chunks that they spell are a function. The offsets aren't kept: the bytes
+/// are walked again where the content is asked for.
 #[derive(Drop)]
 pub struct ChunksView<'m> {
     bytes: &'m [u8],
-    spans: Vec<ChunkSpan>,
     // Where the last chunk's line begins.
     last: usize,
-    // How many bytes of data the chunks have.
+    // How many chunks there are before it, and how many bytes of data they have.
+    count: usize,
     content: usize,
 }
 
 impl<'m> Model for ChunksView<'m> {
-    ghost use Rattle.std.specs.Prelude.{◌≡◌, length, IsTrue};
-    ghost use Rattle.std.specs.List.{list_all};
-    ghost use Rattle.chunks.specs.Chunks.{content_of};
-    ghost use Rattle.chunks.specs.Views.{ChunksParts, chunks_of, chunks_lie_in};
+    ghost use Rattle.chunks.specs.Views.{ChunksParts};
+    ghost use Rattle.chunks.specs.tools.Read.{AreRead, parts_in};
 
     ghost Value = { ChunksParts };
 
-    ghost view = { λ v. record { bytes = v.bytes.now; spans = v.spans.items; last = v.last } };
+    ghost view = { λ v. parts_in v.bytes.now v.last };
 
-    ghost invariant = { λ v. record {
-      lie : IsTrue (list_all (chunks_lie_in (length v.bytes.now)) v.spans.items);
-      counted : v.content ≡ length (content_of (chunks_of (record {
-        bytes = v.bytes.now;
-        spans = v.spans.items;
-        last = v.last;
-      })));
-    } };
+    ghost invariant = { λ v. AreRead v.bytes.now v.last v.count v.content };
 }
 
 impl<'m> ChunksView<'m> {
-    /// The view of chunks that are at these offsets.
-    pub(crate) fn new(
-        bytes: &'m [u8],
-        spans: Vec<ChunkSpan>,
-        last: usize,
-        content: usize,
-    ) -> ChunksView<'m>
-        requires lie { IsTrue (list_all (chunks_lie_in (length bytes.now)) spans.items) }
-        requires counted { content ≡ length (content_of (chunks_of (record {
-          bytes = bytes.now;
-          spans = spans.items;
-          last = last;
-        }))) }
-        ensures { result ≡ record { bytes = bytes.now; spans = spans.items; last = last } }
+    /// The view of chunks, so many, with so much content.
+    pub(crate) fn new(bytes: &'m [u8], last: usize, count: usize, content: usize) -> ChunksView<'m>
+        requires { AreRead bytes.now last count content }
+        ensures { result ≡ parts_in bytes.now last }
     {
         ChunksView {
             bytes,
-            spans,
             last,
+            count,
             content,
         }
     }
@@ -80,7 +50,7 @@ impl<'m> ChunksView<'m> {
     pub fn chunk_count(&self) -> usize
         ensures { result ≡ length self.now.spans }
     {
-        self.spans.len()
+        self.count
     }
 
     /// How many bytes of content there are.
@@ -98,9 +68,9 @@ impl<'m> ChunksView<'m> {
     }
 
     /// The content: the data of the chunks, in order.
-    pub fn pieces(&self) -> ChunkPieces<'_, 'm>
+    pub fn pieces(&self) -> ChunkPieces<'m>
         ensures { result ≡ (chunks_of self.now).chunks }
     {
-        ChunkPieces::new(self.bytes, &self.spans)
+        ChunkPieces::new(self.bytes)
     }
 }

@@ -7,6 +7,7 @@
 
 mod command;
 mod laws;
+mod limit_laws;
 mod options;
 mod sample_words;
 
@@ -15,6 +16,7 @@ pub use command::{
     read_words,
 };
 pub use laws::{a_sample_is_bounded, arguments_are_a_command_or_none, arguments_have_one_command};
+pub use limit_laws::limits_are_these;
 pub use nonces::MAX_NONCE_BYTES;
 pub use options::MAX_MOMENT_DIGITS;
 pub use sample_words::{MAX_COUNT_DIGITS, MAX_SAMPLE_HOPS, MAX_SEED_DIGITS};

@@ -31,7 +31,7 @@ use Rattle.msg_body.specs.declared.whole.Reading.{Reading}
 use Rattle.refusals.specs.declared.refusal.TheConstants.{MAX_CONF_BYTES, MAX_INPUT_BYTES}
 use Rattle.refusals.specs.declared.file.FileRefusal.{FileRefusal}
 use Rattle.refusals.specs.declared.file.FileRefusal.TheVariants.{Missing, TooLong, Message as NoMessage, Conf}
-use Rattle.refusals.specs.declared.refusal.CommandRefusal.TheVariants.{Syntax, ItemKind, Ids, Lacks}
+use Rattle.refusals.specs.declared.refusal.CommandRefusal.TheVariants.{Syntax, Ids, Lacks}
 use Rattle.commands.proofs.Lacking.{id_there}
 use Rattle.commands.proofs.LowerAnswers.{conf_answer_of, empty_says, inner_or_not, inner_fault, ids_answer, message_answer, values_or_lack, some_labels, some_verdict}
 
@@ -71,7 +71,6 @@ has_message r input bytes = elim (cases_lt MAX_INPUT_BYTES (length input)) [
 params_fault : (params : List ℕ) (e : SfError) → IsSfError ReadsInner params e → ¬ (e ≡ error.Memory) → HasAnswer (ReadsParams params) (AreParamsRefused params)
 params_fault params error.Memory is other = absurd (other refl)
 params_fault params (error.Syntax offset) is other = inr (Syntax offset, is)
-params_fault params (error.ItemKind offset) is other = inr (ItemKind offset, is)
 
 params_of : (params : List ℕ) (list : InnerList) → ReadsInner params list → HasAnswer (ReadsParams params) (AreParamsRefused params)
 params_of params list reads = elim (ids_answer list) [

@@ -2,7 +2,7 @@
 use Rattle.std.proofs.Common.{◌≡◌, ℕ, None, List, [], ◌∷◌, Result, Ok, Err, refl, subst}
 use Rattle.std.specs.Prelude.{IfOk}
 use Rattle.msg_body.specs.Messages.{Message}
-use Rattle.sfv_text.specs.declared.memory.Memory.{Memory}
+use Rattle.byte_grammar.specs.declared.memory.Memory.{Memory}
 use Rattle.signatures.specs.Signatures.{AreLabels}
 use Rattle.commands.specs.Verify.{AreAsked}
 use Rattle.verdicts.specs.Verification.{no_label}

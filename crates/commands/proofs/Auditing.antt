@@ -88,7 +88,7 @@ chain_decided conf items = record {
 }
 
 pub has_audit : HasAudit
-has_audit conf input items is = elim (audit_or_fault conf items is.1.form.are.begin is.1.allowed.short) [
+has_audit conf input items is = elim (audit_or_fault conf items is.spells.form.are.begin is.spells.allowed.short) [
   | inl lines ↦ inl lines
   | inr f ↦ inr (refusal_for f.0, refused_for items f.0 f.1)
 ]
@@ -116,7 +116,7 @@ one_auditing conf input one other (inr a) (inr b) =
     a.2 ∙ (ap (λ (cause : FileRefusal). Refused (Of Input cause)) ((recording_decided input).cause a.0 b.0 a.1 b.1) ∙ sym b.2)
 
 pub some_auditing : HasSomeAuditing
-some_auditing conf input = elim (has_recording input) [
+some_auditing conf input bytes = elim (has_recording input bytes) [
   | inl items ↦ let next = some_of_chain conf input items.0 items.1 in (next.0, inl (items.0, items.1, next.1))
   | inr cause ↦ (Refused (Of Input cause.0), inr (cause.0, cause.1, refl))
 ]

@@ -4,7 +4,6 @@ use Rattle.byte_grammar.specs.FaultOffset.{IsFaultOffset}
 use Rattle.byte_grammar.proofs.OffsetLaws.{one_offset}
 use Rattle.sfv_text.specs.declared.value.InnerList.{InnerList}
 use Rattle.sfv_read.specs.Reads.{ReadsInner}
-use Rattle.sfv_read.specs.Fault.{BeginsItemKind}
 use Rattle.component_ids.proofs.FaultLaws.{one_fault}
 use Rattle.component_ids.specs.Causes.{IsIdFault}
 use Rattle.component_ids.specs.SignatureParams.{list_of}
@@ -24,7 +23,7 @@ use Rattle.msg_body.specs.declared.whole.Reading.{Reading}
 use Rattle.refusals.specs.declared.file.FileRefusal.{FileRefusal}
 use Rattle.refusals.specs.declared.file.FileRefusal.TheVariants.{Missing, TooLong, Message as NoMessage, Conf, Script, Recording, Order, TooManyHops}
 use Rattle.refusals.specs.declared.refusal.CommandRefusal.{CommandRefusal}
-use Rattle.refusals.specs.declared.refusal.CommandRefusal.TheVariants.{Syntax, ItemKind, Ids, Lacks, Sign, Wishes, NotTaken}
+use Rattle.refusals.specs.declared.refusal.CommandRefusal.TheVariants.{Syntax, Ids, Lacks, Sign, Wishes, NotTaken}
 use Rattle.commands.proofs.Lacking.{one_id}
 use Rattle.commands.proofs.LowerLaws.{one_list, no_fault, one_params, one_text, one_message_fault, text_no_fault}
 
@@ -81,29 +80,14 @@ one_id_fault params f g a b =
     let lists : a.list ≡ b.list = one_list params a.list b.list a.reads b.reads in
     one_fault b.list f g (subst (λ (list : InnerList). IsIdFault list f) lists a.is) b.is
 
--- at the offset of a fault an item of another kind begins or not
-one_kind : (params : List ℕ) (i j : ℕ) → IsFaultOffset ReadsInner params i × ¬ BeginsItemKind ReadsInner params i
-    → IsFaultOffset ReadsInner params j × BeginsItemKind ReadsInner params j → ⊥
-one_kind params i j a b =
-    a.1 (subst (λ (k : ℕ). BeginsItemKind ReadsInner params k) (one_offset ReadsInner params j i b.0 a.0) b.1)
-
 params_cause : (params : List ℕ) (c d : CommandRefusal) → AreParamsRefused params c → AreParamsRefused params d → c ≡ d
-params_cause params (Syntax i) (Syntax j) a b = ap Syntax (one_offset ReadsInner params i j a.0 b.0)
-params_cause params (Syntax i) (ItemKind j) a b = absurd (one_kind params i j a b)
-params_cause params (Syntax i) (Ids g) a b = absurd (a.0.none b.list b.reads)
+params_cause params (Syntax i) (Syntax j) a b = ap Syntax (one_offset ReadsInner params i j a b)
+params_cause params (Syntax i) (Ids g) a b = absurd (a.none b.list b.reads)
 params_cause params (Syntax i) (Lacks m k) a b = absurd b
 params_cause params (Syntax i) (Sign g) a b = absurd b
 params_cause params (Syntax i) (Wishes g) a b = absurd b
 params_cause params (Syntax i) (NotTaken g) a b = absurd b
-params_cause params (ItemKind i) (Syntax j) a b = absurd (one_kind params j i b a)
-params_cause params (ItemKind i) (ItemKind j) a b = ap ItemKind (one_offset ReadsInner params i j a.0 b.0)
-params_cause params (ItemKind i) (Ids g) a b = absurd (a.0.none b.list b.reads)
-params_cause params (ItemKind i) (Lacks m k) a b = absurd b
-params_cause params (ItemKind i) (Sign g) a b = absurd b
-params_cause params (ItemKind i) (Wishes g) a b = absurd b
-params_cause params (ItemKind i) (NotTaken g) a b = absurd b
-params_cause params (Ids f) (Syntax j) a b = absurd (b.0.none a.list a.reads)
-params_cause params (Ids f) (ItemKind j) a b = absurd (b.0.none a.list a.reads)
+params_cause params (Ids f) (Syntax j) a b = absurd (b.none a.list a.reads)
 params_cause params (Ids f) (Ids g) a b = ap (λ (h : IdFault). Ids h) (one_id_fault params f g a b)
 params_cause params (Ids f) (Lacks m k) a b = absurd b
 params_cause params (Ids f) (Sign g) a b = absurd b
@@ -115,8 +99,7 @@ params_cause params (Wishes f) d a b = absurd a
 params_cause params (NotTaken f) d a b = absurd a
 
 params_either : (params : List ℕ) (sig : SigParams) (c : CommandRefusal) → ReadsParams params sig → AreParamsRefused params c → ⊥
-params_either params sig (Syntax i) reads c = c.0.none (list_of sig) reads.reads
-params_either params sig (ItemKind i) reads c = c.0.none (list_of sig) reads.reads
+params_either params sig (Syntax i) reads c = c.none (list_of sig) reads.reads
 params_either params sig (Ids f) reads c = no_fault sig c.list f reads.is (one_list params (list_of sig) c.list reads.reads c.reads) c.is
 params_either params sig (Lacks l i) reads c = c
 params_either params sig (Sign f) reads c = c
@@ -134,13 +117,11 @@ params_decided params = record {
 
 values_cause : (context : MessageContext) (ids : List ComponentId) (c d : CommandRefusal) → IsValueLacking context ids c → IsValueLacking context ids d → c ≡ d
 values_cause context ids (Syntax i) d a b = absurd a
-values_cause context ids (ItemKind i) d a b = absurd a
 values_cause context ids (Ids f) d a b = absurd a
 values_cause context ids (Sign f) d a b = absurd a
 values_cause context ids (Wishes f) d a b = absurd a
 values_cause context ids (NotTaken f) d a b = absurd a
 values_cause context ids (Lacks l i) (Syntax j) a b = absurd b
-values_cause context ids (Lacks l i) (ItemKind j) a b = absurd b
 values_cause context ids (Lacks l i) (Ids g) a b = absurd b
 values_cause context ids (Lacks l i) (Sign g) a b = absurd b
 values_cause context ids (Lacks l i) (Wishes g) a b = absurd b
@@ -153,7 +134,6 @@ values_cause context ids (Lacks l i) (Lacks m k) a b =
 values_either : (context : MessageContext) (ids : List ComponentId) (values : List (List ℕ)) (c : CommandRefusal)
     → HaveValues context ids values → IsValueLacking context ids c → ⊥
 values_either context ids values (Syntax i) have c = c
-values_either context ids values (ItemKind i) have c = c
 values_either context ids values (Ids f) have c = c
 values_either context ids values (Sign f) have c = c
 values_either context ids values (Wishes f) have c = c

@@ -21,7 +21,7 @@ use Rattle.commands.specs.Sign.{AreWishesRefused, IsSignRefused, ReportsEach, Re
 use Rattle.commands.specs.declared.outcome.Outcome.{Outcome}
 use Rattle.commands.specs.declared.outcome.Outcome.TheVariants.{Done, Refused}
 use Rattle.refusals.specs.declared.refusal.CommandRefusal.{CommandRefusal}
-use Rattle.refusals.specs.declared.refusal.CommandRefusal.TheVariants.{Syntax, ItemKind, Ids, Lacks, Sign, Wishes, NotTaken}
+use Rattle.refusals.specs.declared.refusal.CommandRefusal.TheVariants.{Syntax, Ids, Lacks, Sign, Wishes, NotTaken}
 use Rattle.refusals.specs.declared.refusal.Refusal.TheVariants.{Command}
 use Rattle.commands.proofs.Lacking.{id_there, one_id}
 use Rattle.commands.proofs.Signing.{fault_of, said, want_fault_of}
@@ -58,19 +58,16 @@ module _ (context : MessageContext) (spec : SignSpec) where
 
   one_refusal : (c d : CommandRefusal) → IsSignRefused context spec c → IsSignRefused context spec d → c ≡ d
   one_refusal (Syntax i) d a b = absurd a
-  one_refusal (ItemKind i) d a b = absurd a
   one_refusal (Ids f) d a b = absurd a
   one_refusal (Wishes f) d a b = absurd a
   one_refusal (NotTaken f) d a b = absurd a
   one_refusal (Lacks l i) (Syntax j) a b = absurd b
-  one_refusal (Lacks l i) (ItemKind j) a b = absurd b
   one_refusal (Lacks l i) (Ids g) a b = absurd b
   one_refusal (Lacks l i) (Wishes g) a b = absurd b
   one_refusal (Lacks l i) (NotTaken g) a b = absurd b
   one_refusal (Lacks l i) (Lacks m k) a b = same_lack l m i k a b
   one_refusal (Lacks l i) (Sign g) a b = absurd (sign_is g i l b a)
   one_refusal (Sign f) (Syntax j) a b = absurd b
-  one_refusal (Sign f) (ItemKind j) a b = absurd b
   one_refusal (Sign f) (Ids g) a b = absurd b
   one_refusal (Sign f) (Wishes g) a b = absurd b
   one_refusal (Sign f) (NotTaken g) a b = absurd b
@@ -107,13 +104,11 @@ some_of_each (spec ∷ specs) context = elim (signed_answer context spec) [
 module _ (conf : Configuration) (moment : ℕ) (wishes : Message) (configured : IsSome conf.sign) where
   one_unmet : (c d : CommandRefusal) → AreWishesRefused conf wishes c → AreWishesRefused conf wishes d → c ≡ d
   one_unmet (Syntax i) d a b = absurd a
-  one_unmet (ItemKind i) d a b = absurd a
   one_unmet (Ids f) d a b = absurd a
   one_unmet (Lacks l i) d a b = absurd a
   one_unmet (Sign f) d a b = absurd a
   one_unmet (NotTaken f) d a b = absurd a
   one_unmet (Wishes f) (Syntax i) a b = absurd b
-  one_unmet (Wishes f) (ItemKind i) a b = absurd b
   one_unmet (Wishes f) (Ids g) a b = absurd b
   one_unmet (Wishes f) (Lacks l i) a b = absurd b
   one_unmet (Wishes f) (Sign g) a b = absurd b

@@ -48,21 +48,21 @@ recording_either input items (Conf f) is c = c
 recording_either input items (Script f) is c = c
 recording_either input items (Order i) is c = c
 recording_either input items (TooManyHops i) is c = c
-recording_either input items (TooLong n) is c = omega (arith, is.0, c.1)
-recording_either input items (Recording f) is c = no_fault_of_recording input items f is.1 c.1
+recording_either input items (TooLong n) is c = let within = is.within in omega (arith, within, c.1)
+recording_either input items (Recording f) is c = no_fault_of_recording input items f is.spells c.1
 
 pub recording_decided : IsRecordingDecided
 recording_decided input = record {
-  value = λ a b is also. one_recording input a b is.1 also.1;
+  value = λ a b is also. one_recording input a b is.spells also.spells;
   cause = recording_cause input;
   either = recording_either input;
 }
 
 pub has_recording : HasRecording
-has_recording input = elim (cases_lt MAX_RECORDING_BYTES (length input)) [
+has_recording input bytes = elim (cases_lt MAX_RECORDING_BYTES (length input)) [
   | inl long ↦ inr (TooLong MAX_RECORDING_BYTES, (refl, long))
   | inr short ↦ elim (recording_or_fault input) [
-    | inl found ↦ inl (found.0, (short, found.1))
+    | inl found ↦ inl (found.0, record { are_bytes = bytes; within = short; spells = found.1 })
     | inr f ↦ inr (Recording f.0, (short, f.1))
   ]
 ]

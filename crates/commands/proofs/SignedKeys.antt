@@ -5,24 +5,19 @@ use Rattle.std.specs.List.{list_all}
 use Rattle.std.proofs.lemmas.Bool.{and_parts, cases_Bool, false≢true}
 use Rattle.std.proofs.lemmas.Slice.Eq.{bytes_eq-Decides}
 use Rattle.sfv_text.specs.Keys.{has_key, value_of}
-use Rattle.sfv_text.specs.Parts.{string_in}
+use Rattle.sfv_text.specs.Parts.{is_string, string_in}
 use Rattle.sfv_text.specs.declared.pair.Pair.{Pair}
 use Rattle.sfv_text.specs.declared.value.BareItem.{BareItem}
-use Rattle.sfv_text.specs.declared.value.BareItem.TheVariants.{Integer, Decimal, Str, Token, Bytes, Bool as Truth}
+use Rattle.sfv_text.specs.declared.value.BareItem.TheVariants.{Str}
 use Rattle.sfv_text.specs.declared.value.InnerList.{InnerList}
 use Rattle.sfv_text.specs.declared.value.Member.{Member}
-use Rattle.component_ids.specs.Table.{has_param, is_string}
+use Rattle.component_ids.specs.Table.{has_param}
 use Rattle.conf.specs.Configuration.{Configuration}
 use Rattle.settings.specs.declared.sign_conf.SignConf.{SignConf}
 use Rattle.signing.specs.Asked.{IsSpecOf, given, moment_item}
 use Rattle.signing.specs.Wishes.{MeetsWish, can_be_met, filled, filled_value, where_missing, wished_keyid, wished_params}
 use Rattle.signing.specs.declared.spec.SignSpec.{SignSpec}
 use Rattle.verdicts.specs.Parameters.{keyid_of}
-use Rattle.verdicts.specs.Rules.{key_in}
-
--- the keyid of what is signed has the key in the configuration
-abbrev pub NamesKey : Configuration → SignSpec → Type 0
-NamesKey conf spec = (keyid : List ℕ) × (keyid_of spec.params ≡ Some keyid) × (key_in conf keyid ≡ Some spec.key)
 
 abbrev keyid : List ℕ
 keyid = codes "keyid"
@@ -41,12 +36,9 @@ asked_is now (Some e) None (Some a) name rest = refl
 asked_is now (Some e) (Some n) None name rest = refl
 asked_is now (Some e) (Some n) (Some a) name rest = refl
 
-pub asked_names_key : (conf : Configuration) (of_request : Bool) (now : ℕ) (nonce : Option (List ℕ)) (spec : SignSpec) → IsSpecOf conf of_request now nonce spec → NamesKey conf spec
-asked_names_key conf of_request now nonce spec is = (
-  is.sign.keyid,
-  ap (λ (params : List (Pair BareItem)). option_and_then string_in (value_of params keyid)) is.params ∙ ap (option_and_then string_in) (asked_is now _ nonce _ is.sign.keyid _),
-  is.key,
-)
+pub asked_names_key : (conf : Configuration) (of_request : Bool) (now : ℕ) (nonce : Option (List ℕ)) (spec : SignSpec) (is : IsSpecOf conf of_request now nonce spec) → keyid_of spec.params ≡ Some is.sign.keyid
+asked_names_key conf of_request now nonce spec is =
+    ap (λ (params : List (Pair BareItem)). option_and_then string_in (value_of params keyid)) is.params ∙ ap (option_and_then string_in) (asked_is now _ nonce _ is.sign.keyid _)
 
 -- ---- what a message wishes
 
@@ -92,11 +84,7 @@ named_by_string after (p ∷ ps) bare can is =
 
 string_is : (bare : BareItem) → is_string bare ≡ true → (text : List ℕ) × (bare ≡ Str text)
 string_is (Str text) is = (text, refl)
-string_is (Integer z) is = absurd (false≢true is)
-string_is (Decimal z) is = absurd (false≢true is)
-string_is (Token t) is = absurd (false≢true is)
-string_is (Bytes b) is = absurd (false≢true is)
-string_is (Truth b) is = absurd (false≢true is)
+string_is bare is = absurd (false≢true is)
 
 -- the configured keyid comes last, where none is wished
 added : (sign : SignConf) (now : ℕ) (ps : List (Pair BareItem)) → has_param ps keyid ≡ false
@@ -127,9 +115,6 @@ wished_is sign now list can = by_value (value_of list.params keyid) refl where
       value_joined filled_params rest bare (value_filled now sign.expires_after list.params ∙ is) in
       rw (value, is, text.1) refl
 
-pub wish_names_key : (conf : Configuration) (now : ℕ) (wish : Pair Member) (spec : SignSpec) → MeetsWish conf now wish spec → NamesKey conf spec
-wish_names_key conf now wish spec is = (
-  wished_keyid is.sign is.list,
-  ap (λ (params : List (Pair BareItem)). option_and_then string_in (value_of params keyid)) is.params ∙ wished_is is.sign now is.list is.can,
-  is.key,
-)
+pub wish_names_key : (conf : Configuration) (now : ℕ) (wish : Pair Member) (spec : SignSpec) (is : MeetsWish conf now wish spec) → keyid_of spec.params ≡ Some (wished_keyid is.sign is.list)
+wish_names_key conf now wish spec is =
+    ap (λ (params : List (Pair BareItem)). option_and_then string_in (value_of params keyid)) is.params ∙ wished_is is.sign now is.list is.can

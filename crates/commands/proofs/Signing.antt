@@ -1,5 +1,5 @@
 -- A signed message, or the refusal for which there is none; and messages with more than one signature.
-use Rattle.std.proofs.Common.{◌≡◌, ◌≢◌, ◌<◌, ◌≤◌, ◌+◌, ℕ, Bool, List, [], ◌∷◌, length, get_or, drop, Option, Result, Ok, Err, refl, sym, ap, subst, ◌∙◌, inl, inr}
+use Rattle.std.proofs.Common.{◌≡◌, ◌≢◌, ◌<◌, ◌≤◌, ◌+◌, ℕ, suc, Bool, List, [], ◌∷◌, length, get_or, drop, Option, Result, Ok, Err, refl, sym, ap, subst, ◌∙◌, inl, inr, arith}
 use Rattle.std.specs.List.{slice_get}
 use Rattle.std.specs.Prelude.{IsTrue}
 use Rattle.std.proofs.lemmas.List.{drop_more, drop_all}
@@ -39,7 +39,7 @@ use Rattle.commands.specs.declared.stop.Stop.{Stop}
 use Rattle.commands.specs.declared.stop.Stop.TheVariants as ends
 use Rattle.commands.specs.tools.Signed.{HasIndexIn, SaysSignFault, IsSignedText, AreSignedSoFar}
 use Rattle.refusals.specs.declared.refusal.CommandRefusal.{CommandRefusal}
-use Rattle.refusals.specs.declared.refusal.CommandRefusal.TheVariants.{Syntax, ItemKind, Ids, Lacks, Sign, Wishes, NotTaken}
+use Rattle.refusals.specs.declared.refusal.CommandRefusal.TheVariants.{Syntax, Ids, Lacks, Sign, Wishes, NotTaken}
 use Rattle.refusals.specs.declared.refusal.Refusal.{Refusal}
 use Rattle.refusals.specs.declared.refusal.Refusal.TheVariants.{Command}
 
@@ -105,7 +105,6 @@ module _ (context : MessageContext) (spec : SignSpec) where
   -- the fault of a refusal
   pub fault_of : (cause : CommandRefusal) → IsSignRefused context spec cause → (f : SignFault) × IsSignFault context spec f
   fault_of (Syntax offset) is = absurd is
-  fault_of (ItemKind offset) is = absurd is
   fault_of (Ids f) is = absurd is
   fault_of (Wishes f) is = absurd is
   fault_of (NotTaken f) is = absurd is
@@ -186,8 +185,12 @@ module _ (context : MessageContext) (message : Message) (bytes : List ℕ) (spel
 -- ---- more than one
 
 module _ (context : MessageContext) (specs : List SignSpec) where
-  pub none_signed : (text : List ℕ) → Spells (answers_head context.related) context.message text → AreSignedSoFar context specs 0 text
-  none_signed text spells = record { message = context.message; spells = spells; others = λ outcome reports. reports }
+  -- the signature at an index of those after the first
+  module _ (first : SignSpec) (others : List SignSpec) (are : specs ≡ first ∷ others) where
+    pub other_is : (count : ℕ) (spec : SignSpec) → spec ≡ get_or others count spec → spec ≡ get_or specs (count + 1) spec
+    other_is count spec is =
+        let next : suc count ≡ count + 1 = omega arith in
+        rw are (subst (λ n. spec ≡ get_or (first ∷ others) n spec) next is)
 
   -- the signature at an index is the next one
   next_is : (count : ℕ) (spec : SignSpec) → count < length specs → spec ≡ get_or specs count spec → drop count specs ≡ spec ∷ drop (count + 1) specs
@@ -245,7 +248,6 @@ module _ (conf : Configuration) (moment : ℕ) (message : Message) (context : Me
   -- the fault of a refusal
   pub want_fault_of : (cause : CommandRefusal) → AreWishesRefused conf message cause → (f : WantFault) × IsWantFault conf message f
   want_fault_of (Syntax offset) is = absurd is
-  want_fault_of (ItemKind offset) is = absurd is
   want_fault_of (Ids f) is = absurd is
   want_fault_of (Lacks lack id) is = absurd is
   want_fault_of (Sign f) is = absurd is

@@ -1,5 +1,7 @@
 -- What `audit` comes to, for a configuration and an input that is a recording.
-use Rattle.std.specs.Prelude.{◌≡◌, ◌<◌, ◌≤◌, ℕ, List, length, if◌then◌else◌}
+use Rattle.std.specs.Prelude.{◌≡◌, ◌<◌, ◌≤◌, ℕ, IsTrue, List, length, if◌then◌else◌}
+use Rattle.std.specs.List.{list_all}
+use Rattle.sfv_text.specs.Classes.{is_byte}
 use Rattle.conf.specs.Configuration.{Configuration}
 use Rattle.rewrite_script.specs.declared.limits.TheConstants.{MAX_SCRIPT_BYTES}
 use Rattle.recording.specs.Causes.{IsRecordingFault}
@@ -21,9 +23,11 @@ use Rattle.commands.specs.Layers.{ReadsThen}
 use Rattle.commands.specs.declared.outcome.Outcome.{Outcome}
 use Rattle.commands.specs.declared.outcome.Outcome.TheVariants.{Done, NotOk}
 
--- the text is within the limit, and is the recording of these items
-abbrev pub IsRecordingText : List ℕ → List PlacedItem → Type 0
-IsRecordingText text items = (length text ≤ MAX_RECORDING_BYTES) × SpellsRecording text items
+-- the text is of bytes, within the limit, and the recording of these items
+pub record IsRecordingText (text : List ℕ) (items : List PlacedItem) : Type 0 where
+  pub are_bytes : IsTrue (list_all is_byte text)
+  pub within : length text ≤ MAX_RECORDING_BYTES
+  pub spells : SpellsRecording text items
 
 -- why the text is refused as one
 abbrev pub IsRecordingRefused : List ℕ → FileRefusal → Type 0

@@ -3,7 +3,6 @@ use Rattle.std.specs.Prelude.{◌≡◌, ℕ, List, IsSomeAnd, slice_get}
 use Rattle.byte_grammar.specs.FaultOffset.{IsFaultOffset}
 use Rattle.sfv_text.specs.declared.value.InnerList.{InnerList}
 use Rattle.sfv_read.specs.Reads.{ReadsInner}
-use Rattle.sfv_read.specs.Fault.{BeginsItemKind}
 use Rattle.component_ids.specs.declared.fault.IdFault.{IdFault}
 use Rattle.component_ids.specs.declared.id.ComponentId.{ComponentId}
 use Rattle.component_ids.specs.declared.params.SigParams.{SigParams}
@@ -16,7 +15,7 @@ use Rattle.commands.specs.Covered.{ReadsParams}
 use Rattle.commands.specs.Layers.{ReadsThen}
 use Rattle.refusals.specs.declared.refusal.Refusal.TheVariants.{Command}
 use Rattle.refusals.specs.declared.refusal.CommandRefusal.{CommandRefusal}
-use Rattle.refusals.specs.declared.refusal.CommandRefusal.TheVariants.{Syntax, ItemKind, Ids, Lacks}
+use Rattle.refusals.specs.declared.refusal.CommandRefusal.TheVariants.{Syntax, Ids, Lacks}
 use Rattle.commands.specs.declared.outcome.Outcome.{Outcome}
 use Rattle.commands.specs.declared.outcome.Outcome.TheVariants.{Done}
 
@@ -28,10 +27,7 @@ pub record HasIdFault (params : List ℕ) (fault : IdFault) : Type 0 where
 
 -- why PARAMS are refused
 abbrev pub AreParamsRefused : List ℕ → CommandRefusal → Type 0
-AreParamsRefused params (Syntax offset) =
-    IsFaultOffset ReadsInner params offset × ¬ BeginsItemKind ReadsInner params offset
-AreParamsRefused params (ItemKind offset) =
-    IsFaultOffset ReadsInner params offset × BeginsItemKind ReadsInner params offset
+AreParamsRefused params (Syntax offset) = IsFaultOffset ReadsInner params offset
 AreParamsRefused params (Ids fault) = HasIdFault params fault
 AreParamsRefused params refusal = ⊥
 

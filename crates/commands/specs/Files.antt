@@ -1,8 +1,10 @@
 -- The files that a command reads, by what they are to it.
-use Rattle.std.specs.Prelude.{◌≡◌, ℕ, List, [], ◌∷◌, length, Option, None, IfSome, is_some}
+use Rattle.std.specs.Prelude.{◌≡◌, ℕ, ◌+◌, List, [], ◌∷◌, length, sum_by, Option, None, IfSome, is_some}
 use Rattle.std.specs.List.{filter}
 use Rattle.std.specs.FinMap as map
 use Rattle.hms_io.specs.Files.{FileMap}
+use Rattle.refusals.specs.declared.refusal.TheConstants.{MAX_CONF_BYTES, MAX_INPUT_BYTES}
+use Rattle.rewrite_script.specs.declared.limits.TheConstants.{MAX_SCRIPT_BYTES}
 
 -- what a file is to a command
 pub data FileRole : Type 0 where
@@ -35,6 +37,20 @@ file_names conf request wanted script role = None
 abbrev pub file_count : FileNames → ℕ
 file_count names =
     length (filter (λ role. is_some (names role)) (Conf ∷ Request ∷ Wanted ∷ Script ∷ Other ∷ []))
+
+-- how many bytes the file of each role has at most
+abbrev pub file_limit : FileRole → ℕ
+file_limit Conf = MAX_CONF_BYTES
+file_limit Request = MAX_INPUT_BYTES
+file_limit Wanted = MAX_INPUT_BYTES
+file_limit Script = MAX_SCRIPT_BYTES
+file_limit Other = MAX_INPUT_BYTES
+
+-- how many bytes are read of the files that have a name: at most one past the limit of each
+abbrev pub file_bytes : FileNames → ℕ
+file_bytes names =
+    sum_by (λ role. file_limit role + 1)
+    (filter (λ role. is_some (names role)) (Conf ∷ Request ∷ Wanted ∷ Script ∷ Other ∷ []))
 
 -- what was found for each role: a text, or none
 abbrev pub Found : Type 0

@@ -171,9 +171,11 @@ HaveValuesOrLack =
     (context : MessageContext) (ids : List ComponentId)
     → HasAnswer (HaveValues context ids) (IsValueLacking context ids)
 
--- an input is a recording, or there is a cause to refuse it
+-- an input of bytes is a recording, or there is a cause to refuse it
 abbrev pub HasRecording : Type 0
-HasRecording = (input : List ℕ) → HasAnswer (IsRecordingText input) (IsRecordingRefused input)
+HasRecording =
+    (input : List ℕ) → IsTrue (list_all is_byte input)
+    → HasAnswer (IsRecordingText input) (IsRecordingRefused input)
 
 -- the items of a recording have a report, or there is a cause to refuse them as a chain
 abbrev pub HasAudit : Type 0
@@ -204,10 +206,11 @@ HasSomeRewritten =
     → IsMessage (answers_head context.related) context.message
     → (outcome : Outcome) × ReportsRewriting label script context outcome
 
--- a configuration and an input have an outcome of `audit`
+-- a configuration and an input of bytes have an outcome of `audit`
 abbrev pub HasSomeAuditing : Type 0
 HasSomeAuditing =
-    (conf : Configuration) (input : List ℕ) → (outcome : Outcome) × ReportsAudit conf input outcome
+    (conf : Configuration) (input : List ℕ) → IsTrue (list_all is_byte input)
+    → (outcome : Outcome) × ReportsAudit conf input outcome
 
 -- they have an outcome of `sample`, which is what was asked for
 abbrev pub HasSomeSampling : Type 0

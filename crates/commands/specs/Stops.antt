@@ -1,7 +1,7 @@
 -- What ends a run before it is done, and for which error of the layers below.
 use Rattle.std.specs.Prelude.{◌≡◌, ℕ, Result, Ok, Err}
 use Rattle.sfv_read.specs.declared.error.SfError.{SfError}
-use Rattle.sfv_read.specs.declared.error.SfError.TheVariants.{Memory as NoErrorMemory, Syntax as BadSyntax, ItemKind as OtherKind}
+use Rattle.sfv_read.specs.declared.error.SfError.TheVariants.{Memory as NoErrorMemory, Syntax as BadSyntax}
 use Rattle.component_ids.specs.declared.fault.IdFault.{IdFault}
 use Rattle.component_ids.specs.declared.fault.IdFault.TheVariants as id
 use Rattle.hms_io.specs.Cause.{Rose}
@@ -18,8 +18,8 @@ use Rattle.rewrite_script.specs.declared.fault.ScriptFault.{ScriptFault}
 use Rattle.rewrite_script.specs.declared.fault.ScriptFault.TheVariants as script
 use Rattle.signing.specs.declared.fault.WantFault.{WantFault}
 use Rattle.signing.specs.declared.fault.WantFault.TheVariants as want
-use Rattle.signatures.specs.declared.label.LabelFault.{LabelFault}
-use Rattle.signatures.specs.declared.label.LabelFault.TheVariants as label
+use Rattle.rewrites.specs.declared.fault.WalkFault.{WalkFault}
+use Rattle.rewrites.specs.declared.fault.WalkFault.TheVariants as walk
 use Rattle.rewrite_script.specs.declared.limits.TheConstants.{MAX_SCRIPT_BYTES}
 use Rattle.recording.specs.declared.fault.RecordingFault.{RecordingFault}
 use Rattle.recording.specs.declared.fault.RecordingFault.TheVariants as recording
@@ -31,8 +31,8 @@ use Rattle.refusals.specs.declared.role.Role.{Role}
 use Rattle.refusals.specs.declared.role.Role.TheVariants as role
 use Rattle.refusals.specs.declared.refusal.Refusal.{Refusal}
 use Rattle.refusals.specs.declared.refusal.Refusal.TheVariants.{Of, Command}
-use Rattle.refusals.specs.declared.refusal.CommandRefusal.TheVariants.{Syntax, ItemKind, Ids, Wishes, NotTaken}
-use Rattle.refusals.specs.declared.refusal.StepRefusal.TheVariants.{LabelUnread}
+use Rattle.refusals.specs.declared.refusal.CommandRefusal.TheVariants.{Syntax, Ids, Wishes, NotTaken}
+use Rattle.refusals.specs.declared.refusal.StepRefusal.TheVariants.{LabelUnread, NotApplicable, NotPermitted}
 use Rattle.commands.specs.declared.outcome.Outcome.{Outcome}
 use Rattle.commands.specs.declared.outcome.Outcome.TheVariants.{Refused as IsRefused}
 use Rattle.commands.specs.declared.stop.Stop.{Stop}
@@ -42,7 +42,6 @@ use Rattle.commands.specs.declared.stop.Stop.TheVariants.{Memory, ReadFault, Ref
 abbrev pub stop_of_error : SfError → Stop
 stop_of_error NoErrorMemory = Memory
 stop_of_error (BadSyntax offset) = Refused (Command (Syntax offset))
-stop_of_error (OtherKind offset) = Refused (Command (ItemKind offset))
 
 -- how a fault of identifiers ends a run: the command is refused, or memory ran out
 abbrev pub stop_of_fault : IdFault → Stop
@@ -85,11 +84,13 @@ abbrev pub stop_of_want : WantFault → Stop
 stop_of_want want.Memory = Memory
 stop_of_want fault = Refused (Command (Wishes fault))
 
--- how a fault of the label whose signature has to permit a step ends a run: the step isn't taken,
--- or memory ran out
-abbrev pub stop_of_label : LabelFault → Stop
-stop_of_label label.Memory = Memory
-stop_of_label fault = Refused (Command (NotTaken LabelUnread))
+-- how a walk over the steps of a script that doesn't come to its end ends a run: a step isn't
+-- taken, or memory ran out
+abbrev pub stop_of_walk : WalkFault → Stop
+stop_of_walk walk.Memory = Memory
+stop_of_walk (walk.Unjudged index) = Refused (Command (NotTaken LabelUnread))
+stop_of_walk (walk.NotApplicable index) = Refused (Command (NotTaken (NotApplicable index)))
+stop_of_walk (walk.NotPermitted index) = Refused (Command (NotTaken (NotPermitted index)))
 
 -- how a fault of a recording ends a run: it is refused, or memory ran out
 abbrev pub stop_of_recording : RecordingFault → Stop

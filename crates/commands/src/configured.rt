@@ -5,6 +5,7 @@ ghost use Rattle.hms_io.specs.Files.{KeepsFiles};
 ghost use Rattle.conf.specs.ConfMeaning.{meaning};
 ghost use Rattle.commands.specs.Configured.{IsConfigured, IsConfRefused};
 ghost use Rattle.commands.specs.Files.{HasFound};
+ghost use Rattle.refusals.specs.declared.refusal.TheConstants.{MAX_CONF_BYTES};
 ghost use Rattle.refusals.specs.declared.refusal.Refusal.TheVariants.{Of};
 ghost use Rattle.refusals.specs.declared.role.Role.TheVariants.{Conf as OfConf};
 ghost use Rattle.commands.specs.Stops.{IfStopped, IsRefusalFor, CountsStop};
@@ -26,6 +27,7 @@ fn read_named<F: Shelf>(alloc: Global, name: &str, shelf: &mut F) -> Result<Conf
     ensures cause { CountsStop (F.faults shelf.old) (F.faults shelf.new) result }
     ensures later { F.faults shelf.old ≤ F.faults shelf.new }
     ensures asked { F.asked shelf.new ≤ F.asked shelf.old + 1 }
+    ensures reached { F.reached shelf.new ≤ F.reached shelf.old + (MAX_CONF_BYTES + 1) }
 {
     let text = match take_file(alloc, shelf, name, MAX_CONF_BYTES) {
         Ok(text) => text,
@@ -51,6 +53,7 @@ pub fn read_configuration<F: Shelf>(
     ensures cause { CountsStop (F.faults shelf.old) (F.faults shelf.new) result }
     ensures later { F.faults shelf.old ≤ F.faults shelf.new }
     ensures asked { F.asked shelf.new ≤ F.asked shelf.old + 1 }
+    ensures reached { F.reached shelf.new ≤ F.reached shelf.old + (MAX_CONF_BYTES + 1) }
     ensures unasked { IfNone name.entry (shelf.new ≡ shelf.old) }
 {
     match name {

@@ -2,7 +2,7 @@
 //! law.
 
 ghost use Rattle.commands.specs.Laws.{IsConfigurationDecided, AreTablesDecided, IsRequestDecided, IsWantedDecided, IsScriptDecided, IsInputDecided, AreParamsDecided, AreValuesDecided, HaveOneOutcome, HasConfiguration, HaveTables, HasRequest, HasWanted, HasScript, HasMessage, HaveParams, HaveValuesOrLack, HaveSomeOutcome, HasOneSigning, HasSomeSigning, IsValidWhereConfigured, HasOneRewritten, HasSomeRewritten, IsWritableWhereScripted, HaveValuesWhereScripted, HasOneAuditing, HasSomeAuditing, HasOneSampling, HasSomeSampling, IsRecordingDecided, IsChainDecided, HasRecording, HasAudit};
-ghost use Rattle.commands.specs.SignedMessages.{IsMessageWhereSigned, IsRightWhereSigned};
+ghost use Rattle.commands.specs.SignedMessages.{IsKeptWhereSigned, IsMessageWhereSigned, IsRightWhereSigned};
 ghost use Rattle.commands.specs.RewrittenMessages.{IsMessageWhereRewritten, HasVerdictWhereRewritten};
 
 /// What a layer reads is at most one value, or there is at most one cause to refuse it, and not
@@ -75,9 +75,11 @@ pub fn what_is_rewritten_keeps_its_verdict()
     ensures verdict { HasVerdictWhereRewritten }
 {}
 
-/// What is signed by a configuration can be verified by it: it is a message, in which the label of
-/// the last signature is signed with the key of its `keyid`.
+/// What is signed by a configuration can be verified by it: it is a message, in which each label
+/// that was signed is signed with the key of its `keyid`. The labels that were there before keep
+/// their signature parameters and tags.
 pub fn what_is_signed_is_rightly_signed()
     ensures message { IsMessageWhereSigned }
     ensures right { IsRightWhereSigned }
+    ensures kept { IsKeptWhereSigned }
 {}

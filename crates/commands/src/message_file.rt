@@ -31,6 +31,7 @@ fn take_named<F: Shelf>(alloc: Global, role: Role, name: &str, shelf: &mut F) ->
     ensures cause { CountsStop (F.faults shelf.old) (F.faults shelf.new) result }
     ensures later { F.faults shelf.old ≤ F.faults shelf.new }
     ensures asked { F.asked shelf.new ≤ F.asked shelf.old + 1 }
+    ensures reached { F.reached shelf.new ≤ F.reached shelf.old + (MAX_INPUT_BYTES + 1) }
 {
     match take_file(alloc, shelf, name, MAX_INPUT_BYTES) {
         Ok(text) => Ok(text),
@@ -58,6 +59,7 @@ pub fn take_message<F: Shelf>(
     ensures cause { CountsStop (F.faults shelf.old) (F.faults shelf.new) result }
     ensures later { F.faults shelf.old ≤ F.faults shelf.new }
     ensures asked { F.asked shelf.new ≤ F.asked shelf.old + 1 }
+    ensures reached { F.reached shelf.new ≤ F.reached shelf.old + (MAX_INPUT_BYTES + 1) }
     ensures unasked { IfNone name.entry (shelf.new ≡ shelf.old) }
 {
     match name {

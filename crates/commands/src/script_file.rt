@@ -5,6 +5,7 @@ ghost use Rattle.hms_io.specs.Files.{KeepsFiles};
 ghost use Rattle.commands.specs.Files.{HasFound};
 ghost use Rattle.commands.specs.Scripts.{IsScripted, IsScriptRefused};
 ghost use Rattle.refusals.specs.declared.refusal.Refusal.TheVariants.{Of};
+ghost use Rattle.rewrite_script.specs.declared.limits.TheConstants.{MAX_SCRIPT_BYTES};
 ghost use Rattle.refusals.specs.declared.role.Role.TheVariants.{Script as OfScript};
 ghost use Rattle.commands.specs.Stops.{IfStopped, IsRefusalFor, CountsStop};
 
@@ -26,6 +27,7 @@ fn read_named_script<F: Shelf>(alloc: Global, name: &str, shelf: &mut F) -> Resu
     ensures cause { CountsStop (F.faults shelf.old) (F.faults shelf.new) result }
     ensures later { F.faults shelf.old ≤ F.faults shelf.new }
     ensures asked { F.asked shelf.new ≤ F.asked shelf.old + 1 }
+    ensures reached { F.reached shelf.new ≤ F.reached shelf.old + (MAX_SCRIPT_BYTES + 1) }
 {
     let text = match take_file(alloc, shelf, name, MAX_SCRIPT_BYTES) {
         Ok(text) => text,
@@ -51,6 +53,7 @@ pub fn read_script_file<F: Shelf>(
     ensures cause { CountsStop (F.faults shelf.old) (F.faults shelf.new) result }
     ensures later { F.faults shelf.old ≤ F.faults shelf.new }
     ensures asked { F.asked shelf.new ≤ F.asked shelf.old + 1 }
+    ensures reached { F.reached shelf.new ≤ F.reached shelf.old + (MAX_SCRIPT_BYTES + 1) }
     ensures unasked { IfNone name.entry (shelf.new ≡ shelf.old) }
 {
     match name {

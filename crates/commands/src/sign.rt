@@ -7,7 +7,7 @@ ghost use Rattle.sfv_text.specs.Range.{is_string_byte};
 ghost use Rattle.msg_body.specs.Messages.{Message, Spells};
 ghost use Rattle.msg_body.specs.Views.{message_of};
 ghost use Rattle.component_ids.specs.Identifiers.{is_id_in_range};
-ghost use Rattle.component_values.specs.Context.{context_of, answers_head, context_with};
+ghost use Rattle.component_values.specs.Context.{HasWholeMessage, context_of, answers_head, context_with};
 ghost use Rattle.conf.specs.ConfMeaning.{meaning};
 ghost use Rattle.nonces.specs.declared.limits.TheConstants.{MAX_MOMENT};
 ghost use Rattle.framing.specs.Framings.{is_request};
@@ -45,19 +45,13 @@ fn stop_for_sign_fault(alloc: Global, spec: &SignSpec, fault: SignFault) -> Stop
     }
 }
 
-/// The message of the context, whose bytes these are, with the signature that is asked for.
-fn signed_text(
-    alloc: Global,
-    bytes: &[u8],
-    context: &Context<'_, '_>,
-    spec: &SignSpec,
-) -> Result<Text, Stop>
+/// The message of the context with the signature that is asked for.
+fn signed_text(alloc: Global, context: &Context<'_, '_>, spec: &SignSpec) -> Result<Text, Stop>
     requires valid { IsValidSpec spec.now }
-    requires spells { Spells (answers_head (context_of context.now).related)
-        (context_of context.now).message bytes.now }
+    requires whole { HasWholeMessage (context_of context.now) }
     ensures { SaysSigned (context_of context.now) spec.now result }
 {
-    match sign(alloc, bytes, context, spec) {
+    match sign(alloc, context, spec) {
         Ok(text) => Ok(text),
         Err(fault) => Err(stop_for_sign_fault(alloc, spec, fault)),
     }
@@ -84,29 +78,26 @@ fn signed_again(
                 scheme: context.scheme,
                 types: context.types,
             };
-            signed_text(alloc, bytes, &context, spec)
+            signed_text(alloc, &context, spec)
         }
         Ok(MessageRead::Partial) => unreachable!(),
         Err(_) => Err(Stop::Memory),
     }
 }
 
-/// The message of the context, whose bytes these are, with each of these signatures in order, each
-/// over the message that the one before it gave.
-fn sign_each(
-    alloc: Global,
-    bytes: &[u8],
-    context: &Context<'_, '_>,
-    specs: &[SignSpec],
-) -> Result<Outcome, Stop>
+/// The message of the context with each of these signatures in order, each over the message that
+/// the one before it gave.
+fn sign_each(alloc: Global, context: &Context<'_, '_>, specs: &[SignSpec]) -> Result<Outcome, Stop>
     requires valid { All IsValidSpec specs.now }
-    requires spells { Spells (answers_head (context_of context.now).related)
-        (context_of context.now).message bytes.now }
+    requires whole { HasWholeMessage (context_of context.now) }
     ensures report { IfOutcome result (ReportsEach (context_of context.now) specs.now) }
     ensures reads_nothing { ReadsNothing result }
 {
-    let mut text = Text::from_bytes(alloc, bytes)?;
-    for spec in specs {
+    let Some((first, others)) = specs.split_first() else {
+        return Ok(Outcome::Done(Text::from_bytes(alloc, context.message.bytes())?));
+    };
+    let mut text = signed_text(alloc, context, first)?;
+    for spec in others {
         text = signed_again(alloc, text.bytes(), context, spec)?;
     }
     Ok(Outcome::Done(text))
@@ -135,48 +126,43 @@ fn asked_spec(
     }
 }
 
-/// The message of the context, whose bytes these are, with the signature that the configuration
-/// asks for. The moment is in seconds since the epoch.
+/// The message of the context with the signature that the configuration asks for. The moment is in
+/// seconds since the epoch.
 pub fn write_signed(
     alloc: Global,
     conf: &Conf,
     now: u64,
     nonce: Option<&str>,
-    bytes: &[u8],
     context: &Context<'_, '_>,
 ) -> Result<Outcome, Stop>
     requires table { IsSome (meaning conf.now).sign }
     requires now { now ≤ MAX_MOMENT }
     requires nonce { IfSome nonce (λ text. IsTrue (list_all is_string_byte text.now)) }
-    requires spells { Spells (answers_head (context_of context.now).related)
-        (context_of context.now).message bytes.now }
+    requires whole { HasWholeMessage (context_of context.now) }
     ensures report { IfOutcome result (ReportsSign (option_map (λ word. word.now) nonce.entry)
         now (meaning conf.now) (context_of context.now)) }
     ensures reads_nothing { ReadsNothing result }
 {
     let spec = asked_spec(alloc, conf, now, nonce, context)?;
-    Ok(Outcome::Done(signed_text(alloc, bytes, context, &spec)?))
+    Ok(Outcome::Done(signed_text(alloc, context, &spec)?))
 }
 
-/// The message of the context, whose bytes these are, with each signature that another message
-/// wishes, in order, each over the message that the one before it gave. The moment is in seconds
-/// since the epoch.
+/// The message of the context with each signature that another message wishes, in order, each over
+/// the message that the one before it gave. The moment is in seconds since the epoch.
 pub fn write_wished(
     alloc: Global,
     conf: &Conf,
     now: u64,
     wishes: &MessageView<'_>,
-    bytes: &[u8],
     context: &Context<'_, '_>,
 ) -> Result<Outcome, Stop>
     requires table { IsSome (meaning conf.now).sign }
     requires now { now ≤ MAX_MOMENT }
-    requires spells { Spells (answers_head (context_of context.now).related)
-        (context_of context.now).message bytes.now }
+    requires whole { HasWholeMessage (context_of context.now) }
     ensures report { IfOutcome result (ReportsWished now (meaning conf.now)
         (message_of wishes.now) (context_of context.now)) }
     ensures reads_nothing { ReadsNothing result }
 {
     let specs = wanted(alloc, wishes, conf, now)?;
-    sign_each(alloc, bytes, context, specs.as_slice())
+    sign_each(alloc, context, specs.as_slice())
 }

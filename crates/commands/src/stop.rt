@@ -1,7 +1,8 @@
 //! What ends a run before it is done.
 
 ghost use Rattle.std.specs.Prelude.{◌≡◌};
-ghost use Rattle.refusals.specs.declared.refusal.Refusal.TheVariants.{Of};
+ghost use Rattle.refusals.specs.declared.refusal.CommandRefusal.TheVariants.{NotTaken};
+ghost use Rattle.refusals.specs.declared.refusal.Refusal.TheVariants.{Command, Of};
 ghost use Rattle.commands.specs.declared.stop.Stop.TheVariants.{Refused};
 ghost use Rattle.commands.specs.Stops.{stop_of_fill, stop_of_file, stop_of_message};
 
@@ -13,9 +14,9 @@ use msg_body::{MessageError, MessageFault};
 use recording::RecordingFault;
 use refusals::{CommandRefusal, FileRefusal, Refusal, Role, StepRefusal};
 use rewrite_script::{MAX_SCRIPT_BYTES, ScriptFault};
+use rewrites::WalkFault;
 use sfv_read::SfError;
 use sfv_text::Memory;
-use signatures::LabelFault;
 use signing::WantFault;
 
 /// What ends a run before it is done.
@@ -35,6 +36,13 @@ impl Stop {
         ensures { result ≡ Refused (Of role refusal) }
     {
         Stop::Refused(Refusal::Of(role, refusal))
+    }
+
+    /// The refusal of a step.
+    fn not_taken(cause: StepRefusal) -> Stop
+        ensures { result ≡ Refused (Command (NotTaken cause)) }
+    {
+        Stop::Refused(Refusal::Command(CommandRefusal::NotTaken(cause)))
     }
 
     /// What keeps the input from being read whole, of which this is the limit.
@@ -94,9 +102,6 @@ impl From<SfError> for Stop {
             SfError::Memory => Stop::Memory,
             SfError::Syntax(offset) => {
                 Stop::Refused(Refusal::Command(CommandRefusal::Syntax(offset)))
-            }
-            SfError::ItemKind(offset) => {
-                Stop::Refused(Refusal::Command(CommandRefusal::ItemKind(offset)))
             }
         }
     }
@@ -203,19 +208,19 @@ impl From<WantFault> for Stop {
     }
 }
 
-/// A fault of the label whose signature has to permit a step.
-impl From<LabelFault> for Stop {
+/// A step of a script that isn't taken, by its index.
+impl From<WalkFault> for Stop {
     ghost use Rattle.std.specs.Prelude.{◌≡◌};
-    ghost use Rattle.commands.specs.Stops.{stop_of_label};
+    ghost use Rattle.commands.specs.Stops.{stop_of_walk};
 
-    ghost from_gives = { λ fault stop. stop ≡ stop_of_label fault };
+    ghost from_gives = { λ fault stop. stop ≡ stop_of_walk fault };
 
-    fn from(fault: LabelFault) -> Stop {
+    fn from(fault: WalkFault) -> Stop {
         match fault {
-            LabelFault::Memory => Stop::Memory,
-            LabelFault::Rule(_, _) => {
-                Stop::Refused(Refusal::Command(CommandRefusal::NotTaken(StepRefusal::LabelUnread)))
-            }
+            WalkFault::Memory => Stop::Memory,
+            WalkFault::Unjudged(_) => Stop::not_taken(StepRefusal::LabelUnread),
+            WalkFault::NotApplicable(index) => Stop::not_taken(StepRefusal::NotApplicable(index)),
+            WalkFault::NotPermitted(index) => Stop::not_taken(StepRefusal::NotPermitted(index)),
         }
     }
 }

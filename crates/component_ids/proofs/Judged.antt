@@ -1,9 +1,10 @@
 -- Each Inner List is signature parameters, or has a fault.
 use Rattle.std.proofs.Common.{◌≡◌, ◌⊎◌, ◌<◌, ◌≤◌, ◌+◌, ℕ, zero, suc, Bool, true, false, Option, Some, None, List, [], ◌∷◌, length, map, take, get_or, refl, sym, subst, arith, inl, inr}
-use Rattle.std.specs.Prelude.{is_none}
+use Rattle.std.specs.Prelude.{is_none, unwrap_or}
 use Rattle.std.specs.List.{list_all, list_any, slice_get}
 use Rattle.std.proofs.lemmas.Bool.{cases_Bool, cases_lt, false≢true, and_parts}
 use Rattle.std.proofs.lemmas.List.{get_or_default, take_all}
+use Rattle.sfv_text.specs.Parts.{string_in}
 use Rattle.sfv_text.specs.declared.pair.Pair.{Pair}
 use Rattle.sfv_text.specs.declared.value.BareItem.{BareItem}
 use Rattle.sfv_text.specs.declared.value.BareItem.TheVariants.{Str}
@@ -16,7 +17,7 @@ use Rattle.component_ids.specs.declared.id.ComponentId.{ComponentId}
 use Rattle.component_ids.specs.declared.params.SigParams.{SigParams}
 use Rattle.component_ids.specs.declared.params.TheConstants.{MAX_COMPONENTS}
 use Rattle.component_ids.specs.Reasons.{reason_of, reason_against}
-use Rattle.component_ids.specs.Identifiers.{item_of, id_of, string_of, is_identifier, AreDistinct}
+use Rattle.component_ids.specs.Identifiers.{item_of, id_of, is_identifier, AreDistinct}
 use Rattle.component_ids.specs.SignatureParams.{is_typed, IsParamsOf}
 use Rattle.component_ids.specs.Causes.{IsFirstBadComponent, IsFirstRepeated, IsFirstIllTyped, IsIdFault}
 use Rattle.component_ids.specs.tools.Reads.{AreIdentifiers}
@@ -79,8 +80,8 @@ typed_or_not params = elim (first_failed is_typed params) [
 
 -- ---- the signature parameters of a list
 
-item_back : (bare : BareItem) (params : List (Pair BareItem)) → is_none (reason_against bare params) ≡ true
-    → item_of (record { name = string_of bare; params = params }) ≡ record { bare = bare; params = params }
+item_back : (bare : BareItem) (params : List (Pair BareItem)) → is_none (reason_against (string_in bare) params) ≡ true
+    → item_of (record { name = unwrap_or (string_in bare) []; params = params }) ≡ record { bare = bare; params = params }
 item_back (Str name) params h = refl
 item_back bare params h = absurd (false≢true h)
 

@@ -4,7 +4,7 @@ use Rattle.std.specs.Fmt.{decimal}
 use Rattle.std.specs.List.{find, list_all}
 use Rattle.std.specs.Str.{byte}
 use Rattle.byte_grammar.specs.Causes.{IsFirst}
-use Rattle.sfv_text.specs.Displayed.{displayed}
+use Rattle.byte_grammar.specs.Displayed.{displayed}
 use Rattle.sfv_text.specs.declared.pair.Pair.{Pair}
 use Rattle.sfv_text.specs.declared.value.BareItem.{BareItem}
 use Rattle.sfv_text.specs.declared.value.Item.{Item}

@@ -1,5 +1,6 @@
 -- Component identifiers (RFC 9421 section 2).
-use Rattle.std.specs.Prelude.{◌≡◌, ◌↔◌, ℕ, Bool, is_none, List, [], AllPairs, Contains}
+use Rattle.std.specs.Prelude.{◌≡◌, ◌↔◌, ℕ, Bool, is_none, unwrap_or, List, [], AllPairs, Contains}
+use Rattle.sfv_text.specs.Parts.{string_in}
 use Rattle.sfv_text.specs.Range.{is_item_in_range}
 use Rattle.sfv_text.specs.Strict.{item_text}
 use Rattle.sfv_text.specs.declared.pair.Pair.{Pair}
@@ -17,15 +18,10 @@ item_of id = record { bare = Str id.name; params = id.params }
 abbrev pub is_identifier : Item → Bool
 is_identifier item = is_none (reason_of item)
 
--- the characters of a String; of another bare item none
-abbrev pub string_of : BareItem → List ℕ
-string_of (Str text) = text
-string_of bare = []
-
 -- the identifier that an item stands for, where it is one: of an item that is no String the name
 -- is empty, and no definition takes it for an identifier
 abbrev pub id_of : Item → ComponentId
-id_of item = record { name = string_of item.bare; params = item.params }
+id_of item = record { name = unwrap_or (string_in item.bare) []; params = item.params }
 
 -- the names agree, and the same parameters with the same values are there, in whatever order
 -- (section 2)

@@ -1,9 +1,9 @@
 -- Why an item is no component identifier (RFC 9421 section 2).
-use Rattle.std.specs.Prelude.{ℕ, Bool, false, not, Option, Some, List, [], ◌∷◌, codes}
+use Rattle.std.specs.Prelude.{ℕ, Bool, false, not, Option, Some, None, List, [], ◌∷◌, codes}
 use Rattle.std.specs.List.{find, list_any}
+use Rattle.sfv_text.specs.Parts.{string_in}
 use Rattle.sfv_text.specs.declared.pair.Pair.{Pair}
 use Rattle.sfv_text.specs.declared.value.BareItem.{BareItem}
-use Rattle.sfv_text.specs.declared.value.BareItem.TheVariants.{Str}
 use Rattle.sfv_text.specs.declared.value.Item.{Item}
 use Rattle.component_ids.specs.declared.fault.BadReason.{BadReason}
 use Rattle.component_ids.specs.declared.fault.BadReason.TheVariants.{NotAString, Name, ParameterUnknown, ParameterType, ParametersClash, NameMissing}
@@ -22,14 +22,14 @@ applies name params NameMissing = not (has_needed name params)
 abbrev pub reasons : List BadReason
 reasons = Name ∷ ParameterUnknown ∷ ParameterType ∷ ParametersClash ∷ NameMissing ∷ []
 
--- the least reason against a bare item with these parameters
-abbrev pub reason_against : BareItem → List (Pair BareItem) → Option BadReason
-reason_against (Str name) params = find (applies name params) reasons
-reason_against bare params = Some NotAString
+-- the least reason against a String of that name, or what is none, with these parameters
+abbrev pub reason_against : Option (List ℕ) → List (Pair BareItem) → Option BadReason
+reason_against (Some name) params = find (applies name params) reasons
+reason_against None params = Some NotAString
 
 -- the least reason for which the item is no identifier
 abbrev pub reason_of : Item → Option BadReason
-reason_of item = reason_against item.bare item.params
+reason_of item = reason_against (string_in item.bare) item.params
 
 -- the word of a reason
 abbrev pub word_of : BadReason → List ℕ

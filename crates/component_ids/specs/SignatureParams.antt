@@ -1,6 +1,7 @@
 -- Signature parameters (RFC 9421 section 2.3).
 use Rattle.std.specs.Prelude.{◌≡◌, ◌≤◌, ℕ, Bool, true, IsTrue, ◌&&◌, List, [], ◌∷◌, length, map, codes, if◌then◌else◌}
 use Rattle.std.specs.List.{list_all}
+use Rattle.sfv_text.specs.Parts.{is_integer, is_string}
 use Rattle.sfv_text.specs.Range.{are_params_in_range}
 use Rattle.sfv_text.specs.Strict.{inner_text}
 use Rattle.sfv_text.specs.declared.pair.Pair.{Pair}
@@ -8,7 +9,7 @@ use Rattle.sfv_text.specs.declared.value.BareItem.{BareItem}
 use Rattle.sfv_text.specs.declared.value.InnerList.{InnerList}
 use Rattle.component_ids.specs.declared.params.SigParams.{SigParams}
 use Rattle.component_ids.specs.declared.params.TheConstants.{MAX_COMPONENTS}
-use Rattle.component_ids.specs.Table.{is_integer, is_string, is_listed}
+use Rattle.component_ids.specs.Table.{is_listed}
 use Rattle.component_ids.specs.Identifiers.{item_of, is_identifier, is_id_in_range, AreDistinct}
 
 -- the parameters that are Strings

@@ -1,31 +1,13 @@
 -- The names of components and the parameters that go with them (RFC 9421 sections 2 to 2.4).
-use Rattle.std.specs.Prelude.{ℕ, Bool, true, false, ◌&&◌, ◌||◌, not, Option, Some, None, is_some, unwrap_or, List, [], ◌∷◌, length, nat_lt, codes, if◌then◌else◌}
+use Rattle.std.specs.Prelude.{ℕ, Bool, ◌&&◌, ◌||◌, not, Option, Some, None, is_some, unwrap_or, List, [], ◌∷◌, length, nat_lt, codes, if◌then◌else◌}
 use Rattle.std.specs.Char.{is_ascii_uppercase}
 use Rattle.std.specs.List.{list_all, list_any}
 use Rattle.std.specs.Str.{bytes_eq}
 use Rattle.sfv_text.specs.Keys.{value_of}
+use Rattle.sfv_text.specs.Parts.{is_string, is_true}
 use Rattle.byte_grammar.specs.Classes.{is_tchar}
 use Rattle.sfv_text.specs.declared.pair.Pair.{Pair}
 use Rattle.sfv_text.specs.declared.value.BareItem.{BareItem}
-use Rattle.sfv_text.specs.declared.value.BareItem.TheVariants.{Integer, Str, Bool as Boolean}
-
--- ---- values
-
--- the value of a parameter is an Integer (RFC 9651 section 3.3.1)
-abbrev pub is_integer : BareItem → Bool
-is_integer (Integer z) = true
-is_integer bare = false
-
--- the value of a parameter is a String (RFC 9651 section 3.3.3)
-abbrev pub is_string : BareItem → Bool
-is_string (Str text) = true
-is_string bare = false
-
--- the value of a parameter is Boolean true, which is written as the key alone (RFC 9651 section
--- 3.1.2)
-abbrev pub is_true : BareItem → Bool
-is_true (Boolean b) = b
-is_true bare = false
 
 -- ---- the table of names
 

@@ -71,10 +71,10 @@ fn is_typed(param: &Pair<BareItem>) -> bool
 {
     let key = param.key.bytes();
     if key == b"created".as_slice() || key == b"expires".as_slice() {
-        return matches!(param.value, BareItem::Integer(_));
+        return param.value.is_integer();
     }
     if is_string_key(key) {
-        return matches!(param.value, BareItem::Str(_));
+        return param.value.is_string();
     }
     true
 }

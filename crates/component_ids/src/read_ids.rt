@@ -10,7 +10,7 @@ use crate::id::{ComponentId, Ids};
 use crate::params::MAX_COMPONENTS;
 use crate::same::first_repeated;
 use crate::table::reason_against_name;
-use sfv_text::{BareItem, Item};
+use sfv_text::Item;
 use std::alloc::Global;
 
 /// Why an item isn't read.
@@ -36,7 +36,7 @@ fn read_id(alloc: Global, item: &Item) -> Result<ComponentId, ItemFault>
     ensures allowed { IfOk result (λ id. IsTrue (is_identifier item.now)) }
     ensures fault { IfErr result (λ fault. IsItemFault item.now fault) }
 {
-    let BareItem::Str(name) = &item.bare else {
+    let Some(name) = item.bare.as_string() else {
         return Err(ItemFault::Bad(BadReason::NotAString));
     };
     if let Some(reason) = reason_against_name(name.bytes(), &item.params) {

@@ -2,7 +2,7 @@
 
 ghost use Rattle.std.specs.Prelude.{◌≡◌, ◌||◌, not, IfNone, Some, None, option_map, codes};
 ghost use Rattle.std.specs.List.{find, list_all, list_any};
-ghost use Rattle.component_ids.specs.Table.{is_true, is_string, is_listed, is_name_byte, is_field_name, request_names, keys_of, has_value_type, has_param, have_clash, has_needed};
+ghost use Rattle.component_ids.specs.Table.{is_listed, is_name_byte, is_field_name, request_names, keys_of, has_value_type, has_param, have_clash, has_needed};
 ghost use Rattle.component_ids.specs.Reasons.{applies, reasons};
 ghost use Rattle.component_ids.specs.tools.Rows.{row_keys};
 
@@ -110,9 +110,9 @@ fn has_value_type(param: &Pair<BareItem>) -> bool
     ensures { result ≡ has_value_type param.now }
 {
     if is_listed(&STRING_KEYS, param.key.bytes()) {
-        matches!(param.value, BareItem::Str(_))
+        param.value.is_string()
     } else {
-        matches!(param.value, BareItem::Bool(true))
+        param.value.is_true()
     }
 }
 

@@ -3,11 +3,12 @@ use Rattle.std.proofs.Common.{◌≡◌, ◌⊎◌, ℕ, Bool, true, false, ◌&
 use Rattle.std.specs.List.{list_all, list_any}
 use Rattle.std.proofs.lemmas.Bool.{and_from, and_parts, cases_Bool, false≢true}
 use Rattle.sfv_text.specs.Keys.{has_key, value_of}
+use Rattle.sfv_text.specs.Parts.{is_string}
 use Rattle.sfv_text.specs.Range.{is_dict_in_range, is_item_in_range, is_list_in_range}
 use Rattle.sfv_text.specs.Strict.{dict_text, item_text, list_text}
 use Rattle.sfv_text.specs.declared.pair.Pair.{Pair}
 use Rattle.sfv_text.specs.declared.value.BareItem.{BareItem}
-use Rattle.sfv_text.specs.declared.value.BareItem.TheVariants.{Integer, Decimal, Str, Token, Bytes, Bool as Boolean}
+use Rattle.sfv_text.specs.declared.value.BareItem.TheVariants.{Str}
 use Rattle.sfv_text.specs.declared.value.Member.{Member}
 use Rattle.sfv_read.specs.Laws.{ReadsBack, ReadsOnly}
 use Rattle.sfv_read.specs.Reads.{ReadsItem, ReadsList, ReadsDict}
@@ -15,7 +16,7 @@ use Rattle.sfv_read.proofs.InRange.{item_read_in_range, list_read_in_range, dict
 use Rattle.sfv_read.proofs.StrictReads.{item_text_reads, list_text_reads, dict_text_reads}
 use Rattle.msg_head.specs.Lines.{FieldLine}
 use Rattle.msg_head.specs.Values.{combined_value}
-use Rattle.component_ids.specs.Table.{goes_with, has_param, has_value_type, have_clash, is_name, is_string}
+use Rattle.component_ids.specs.Table.{goes_with, has_param, has_value_type, have_clash, is_name}
 use Rattle.component_ids.specs.declared.types.FieldKind.{FieldKind}
 use Rattle.component_ids.specs.declared.types.FieldKind.TheVariants as kind
 use Rattle.component_values.specs.Forms.{Form, form_of}
@@ -82,11 +83,7 @@ form_of_reading params typed unwrapped asked = by (value_of params (codes "key")
   where
     by_value : (value : BareItem) → value_of params (codes "key") ≡ Some value → is_string value ≡ true → IsOfReading (form_of params)
     by_value (Str key) is typed = inl (key, rw (unwrapped, is) refl)
-    by_value (Integer z) is typed = absurd cc
-    by_value (Decimal z) is typed = absurd cc
-    by_value (Token t) is typed = absurd cc
-    by_value (Bytes b) is typed = absurd cc
-    by_value (Boolean b) is typed = absurd cc
+    by_value value is typed = absurd (false≢true typed)
 
     by_strict : (sf : Bool) → has_param params (codes "sf") ≡ sf → value_of params (codes "key") ≡ None → IsOfReading (form_of params)
     by_strict true sf is = inr (rw (unwrapped, is, sf) refl)

@@ -1,24 +1,27 @@
 -- The ends of strict texts.
-use Rattle.std.proofs.Common.{◌≡◌, ◌≤◌, ℕ, Bool, true, false, not, List, [], ◌∷◌, ◌++◌, length, Some, None, codes, refl, sym, ap, subst, ◌∙◌, append_assoc, arith, inl, inr}
+use Rattle.std.proofs.Common.{◌≡◌, ◌≤◌, ℕ, Bool, true, false, not, eqb, List, [], ◌∷◌, ◌++◌, length, Some, None, codes, refl, sym, ap, subst, ◌∙◌, append_assoc, arith, inl, inr}
 use Rattle.std.specs.Prelude.{reverse}
 use Rattle.std.specs.List.{list_all, flat_map, join_by}
 use Rattle.std.specs.Str.{byte}
-use Rattle.std.proofs.lemmas.Bool.{and_parts, and_from, not-true}
+use Rattle.std.proofs.lemmas.Bool.{and_parts, and_from, cases_Bool, eqb-true, not-true, or_cases}
 use Rattle.std.proofs.lemmas.Bool.Decides.{nat_tests}
 use Rattle.std.proofs.lemmas.List.{append-nil, reverse-append}
-use Rattle.byte_grammar.specs.Classes.{is_blank, is_digit}
+use Rattle.byte_grammar.specs.Classes.{is_blank}
 use Rattle.byte_grammar.specs.Language.{starts_in}
+use Rattle.byte_grammar.proofs.ChoiceLaws.{Starts}
 use Rattle.sfv_text.specs.Keys.{have_distinct_keys}
-use Rattle.sfv_text.specs.Range.{is_dict_member_in_range, is_item_in_range, is_member_in_range, is_list_in_range, is_dict_in_range, is_token_first, is_key, is_key_first, is_key_rest, is_bare_in_range, are_params_in_range}
-use Rattle.sfv_text.specs.Strict.{bare_text, bytes_text, decimal_text, dict_item_text, dict_member_text, dict_text, dict_value_text, inner_text, integer_text, item_text, list_text, member_text, params_text, string_text}
+use Rattle.sfv_text.specs.Range.{is_dict_member_in_range, is_item_in_range, is_member_in_range, is_list_in_range, is_dict_in_range, is_key, is_key_first, is_key_rest, is_bare_in_range, are_params_in_range}
+use Rattle.sfv_text.specs.Strict.{bare_text, dict_item_text, dict_member_text, dict_text, dict_value_text, inner_text, item_text, list_text, member_text, params_text}
 use Rattle.sfv_text.specs.declared.pair.Pair.{Pair}
 use Rattle.sfv_text.specs.declared.value.BareItem.{BareItem}
-use Rattle.sfv_text.specs.declared.value.BareItem.TheVariants.{Integer, Decimal, Str, Token, Bytes, Bool as Boolean}
+use Rattle.sfv_text.specs.declared.value.BareItem.TheVariants.{Bool as Boolean}
 use Rattle.sfv_text.specs.declared.value.Item.{Item}
 use Rattle.sfv_text.specs.declared.value.Member.{Member}
 use Rattle.sfv_text.specs.declared.value.Member.TheVariants.{Item as ItemMember, InnerList as InnerMember}
 use Rattle.sfv_read.specs.BareItem.{IsBareItem}
-use Rattle.sfv_read.specs.Class.{is_minus}
+use Rattle.sfv_read.specs.declared.bare.BareKind.{BareKind}
+use Rattle.sfv_read.specs.tools.BareWalk.{kind_of_bare_item}
+use Rattle.sfv_read.proofs.BareItems.{bare_starts, none_some}
 use Rattle.sfv_read.proofs.InRange.{item_read_in_range, list_read_in_range, dict_read_in_range}
 use Rattle.sfv_read.proofs.MoreMembers.{strict_ends}
 use Rattle.sfv_read.proofs.StrictReads.{bare_reads}
@@ -81,39 +84,25 @@ module _ {X : Type 0} (f : X → List ℕ) (test : X → Bool) (begins : (x : X)
 
 -- ---- bare items
 
-class_begins : (class : ℕ → Bool) → ((c : ℕ) → class c ≡ true → is_solid c ≡ true) → (text : List ℕ) → list_all class text ≡ true → 1 ≤ length text → Begins text
-class_begins class solid [] all some = absurd (omega (arith, some))
-class_begins class solid (c ∷ text) all some = solid c (and_parts (class c) (list_all class text) all).0
-
-minus_solid : (c : ℕ) → is_minus c ≡ true → is_solid c ≡ true
-minus_solid c is = grind (arith, nat_tests)
-
-digit_solid : (c : ℕ) → is_digit c ≡ true → is_solid c ≡ true
-digit_solid c is = grind (arith, nat_tests)
-
-token_solid : (c : ℕ) → is_token_first c ≡ true → is_solid c ≡ true
-token_solid c is = grind (arith, nat_tests)
-
 key_solid : (c : ℕ) → is_key_first c ≡ true → is_solid c ≡ true
 key_solid c is = grind (arith, nat_tests)
 
-signed_begins : (sign digits more : List ℕ) → list_all is_minus sign ≡ true → list_all is_digit digits ≡ true → 1 ≤ length digits → Begins (sign ++ (digits ++ more))
-signed_begins [] digits more minus all some = begins_before digits more (class_begins is_digit digit_solid digits all some)
-signed_begins (c ∷ sign) digits more minus all some = minus_solid c (and_parts (is_minus c) (list_all is_minus sign) minus).0
+-- no bare item begins with a blank
+kind_solid : (kind : BareKind) (c : ℕ) → kind_of_bare_item c ≡ Some kind → is_solid c ≡ true
+kind_solid kind c is = elim (cases_Bool (is_blank c)) [
+  | inr solid ↦ rw solid refl
+  | inl blank ↦ elim (or_cases (eqb c 32) (eqb c 9) blank) [
+    | inl space ↦ absurd (none_some kind (ap kind_of_bare_item (sym (eqb-true c 32 space)) ∙ is))
+    | inr tab ↦ absurd (none_some kind (ap kind_of_bare_item (sym (eqb-true c 9 tab)) ∙ is))
+  ]
+]
 
 bare_begins : (text : List ℕ) (bare : BareItem) → IsBareItem text bare → Begins text
-bare_begins text (Integer z) h =
-    subst Begins (ap (λ (digits : List ℕ). h.sign ++ digits) (append-nil h.digits) ∙ sym h.joined) (signed_begins h.sign h.digits [] h.minus.passes h.whole.passes h.whole.least)
-bare_begins text (Decimal z) h = subst Begins (sym h.joined) (signed_begins h.sign h.digits (byte "." ∷ h.part) h.minus.passes h.whole.passes h.whole.least)
-bare_begins text (Str s) h = ap (starts_in is_solid) h.joined
-bare_begins text (Token []) h = absurd h
-bare_begins text (Token (c ∷ t)) h = ap (starts_in is_solid) h.0 ∙ token_solid c h.1
-bare_begins text (Bytes b) h = elim h.joined [
-  | inl is ↦ ap (starts_in is_solid) is
-  | inr is ↦ ap (starts_in is_solid) is
-]
-bare_begins text (Boolean false) h = ap (starts_in is_solid) h
-bare_begins text (Boolean true) h = ap (starts_in is_solid) h
+bare_begins text bare h = by text (bare_starts is_solid kind_solid text bare h)
+  where
+    by : (t : List ℕ) → Starts is_solid t → Begins t
+    by [] is = absurd is
+    by (c ∷ t) is = is
 
 -- ---- Items and Inner Lists
 
@@ -132,13 +121,8 @@ ends_under_key member is = (strict_ends (record { key = codes "a"; value = membe
 
 bare_ends : (bare : BareItem) (params : List (Pair BareItem)) → Begins (bare_text bare ++ params_text params) → starts_in is_blank (reverse (codes "a" ++ dict_item_text bare params)) ≡ false
     → Ends (bare_text bare ++ params_text params)
-bare_ends (Integer z) params begins is = ends_alone (codes "a=") (integer_text z ++ params_text params) begins is
-bare_ends (Decimal z) params begins is = ends_alone (codes "a=") (decimal_text z ++ params_text params) begins is
-bare_ends (Str s) params begins is = ends_alone (codes "a=") (string_text s ++ params_text params) begins is
-bare_ends (Token t) params begins is = ends_alone (codes "a=") (t ++ params_text params) begins is
-bare_ends (Bytes b) params begins is = ends_alone (codes "a=") (bytes_text b ++ params_text params) begins is
-bare_ends (Boolean false) params begins is = ends_alone (codes "a=") (codes "?0" ++ params_text params) begins is
 bare_ends (Boolean true) params begins is = ends_anew (codes "?1") (codes "a") (params_text params) refl is
+bare_ends bare params begins is = ends_alone (codes "a=") (bare_text bare ++ params_text params) begins is
 
 member_ends : (member : Member) → is_member_in_range member ≡ true → Ends (member_text member)
 member_ends (ItemMember item) is = bare_ends item.bare item.params (item_begins item is) (ends_under_key (ItemMember item) is)

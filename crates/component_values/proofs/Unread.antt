@@ -10,7 +10,7 @@ use Rattle.sfv_text.specs.declared.pair.Pair.{Pair}
 use Rattle.sfv_text.specs.declared.value.Member.{Member}
 use Rattle.sfv_read.specs.Fault.{IsRead}
 use Rattle.sfv_read.specs.declared.error.SfError.{SfError}
-use Rattle.sfv_read.specs.declared.error.SfError.TheVariants.{Memory, Syntax, ItemKind}
+use Rattle.sfv_read.specs.declared.error.SfError.TheVariants.{Memory, Syntax}
 use Rattle.sfv_text.specs.Range.{is_dict_member_in_range, is_key, is_member_in_range}
 use Rattle.sfv_read.specs.Reads.{ReadsDict}
 use Rattle.sfv_read.proofs.InRange.{dict_read_in_range}
@@ -27,7 +27,6 @@ pub unread : {V : Type 0} (Reads : List ℕ → V → Type 0) (strict : V → Li
     → ((v : V) → Reads text v → IsRead (failed {V = V} error) v) → AnswersRow (StrictRow Reads strict text) (Err (no_value_of error))
 unread Reads strict text Memory none = tt
 unread Reads strict text (Syntax offset) none = (refl, none)
-unread Reads strict text (ItemKind offset) none = (refl, none)
 
 -- a text that reads as no Dictionary has no member
 pub no_dict : (key text : List ℕ) (lack : Lack) → DictRow text (Err lack) → MemberRow key text (Err lack)

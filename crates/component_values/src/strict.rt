@@ -113,7 +113,6 @@ fn dict_of(alloc: Global, text: &[u8]) -> Result<Result<Dict, Lack>, Memory>
         Ok(dict) => Ok(Ok(dict)),
         Err(SfError::Memory) => Err(Memory),
         Err(SfError::Syntax(_)) => Ok(Err(Lack::Unreadable)),
-        Err(SfError::ItemKind(_)) => Ok(Err(Lack::Unreadable)),
     }
 }
 

@@ -3,7 +3,7 @@ use Rattle.std.specs.Prelude.{ℕ, Option, Some, None, IsTrue, List, ◌∷◌, 
 use Rattle.std.specs.Fmt.{decimal}
 use Rattle.std.specs.Str.{byte}
 use Rattle.byte_grammar.specs.Causes.{IsFirst}
-use Rattle.sfv_text.specs.Displayed.{displayed}
+use Rattle.byte_grammar.specs.Displayed.{displayed}
 use Rattle.component_ids.specs.declared.id.ComponentId.{ComponentId}
 use Rattle.toml.specs.Data.{Data, Members, string, table, get_member}
 use Rattle.conf.specs.declared.fault.ConfFault.{ConfFault}

@@ -4,7 +4,7 @@ use Rattle.std.specs.Prelude.{IsTrue, IfOk}
 use Rattle.std.specs.List.{list_all}
 use Rattle.std.proofs.lemmas.Bool.{lt-ltb}
 use Rattle.sfv_text.specs.Range.{is_byte}
-use Rattle.sfv_text.specs.declared.memory.Memory.{Memory}
+use Rattle.byte_grammar.specs.declared.memory.Memory.{Memory}
 
 all_bytes : (text : List ℕ) → ((i : ℕ) → slice_index text i < 256) → list_all is_byte text ≡ true
 all_bytes [] below = refl

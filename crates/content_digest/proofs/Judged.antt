@@ -28,7 +28,6 @@ pub unread : (text content : List ℕ) (error : SfError) → ((dict : List (Pair
     → ExplainsDigest text content (Err (fault_of error))
 unread text content sf.Memory none = tt
 unread text content (sf.Syntax offset) none = is_malformed text content (inl (λ dict reads. none dict reads))
-unread text content (sf.ItemKind offset) none = is_malformed text content (inl (λ dict reads. none dict reads))
 
 -- the members are judged
 pub members_explain : (text content : List ℕ) (dict : List (Pair Member)) (result : Result ⊤ DigestFault) → ReadsDict text dict → list_all is_sound dict ≡ true

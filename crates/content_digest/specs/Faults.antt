@@ -19,7 +19,6 @@ use Rattle.content_digest.specs.Digests.{is_known, is_sound, agrees}
 abbrev pub fault_of : SfError → DigestFault
 fault_of sf.Memory = Memory
 fault_of (sf.Syntax offset) = Malformed
-fault_of (sf.ItemKind offset) = Malformed
 
 -- the word that output has for it
 abbrev pub fault_text : DigestFault → List ℕ

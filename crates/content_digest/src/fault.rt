@@ -71,7 +71,6 @@ impl From<SfError> for DigestFault {
         match error {
             SfError::Memory => DigestFault::Memory,
             SfError::Syntax(_) => DigestFault::Malformed,
-            SfError::ItemKind(_) => DigestFault::Malformed,
         }
     }
 }

@@ -11,7 +11,6 @@ use Rattle.derived_values.specs.declared.lack.NoValue.TheVariants.{Memory, Lacks
 abbrev pub no_value_of : SfError → NoValue
 no_value_of sf.Memory = Memory
 no_value_of (sf.Syntax offset) = Lacks Unreadable
-no_value_of (sf.ItemKind offset) = Lacks Unreadable
 
 -- the answer is what the row says, unless memory ran out
 abbrev pub AnswersRow : (Result (List ℕ) Lack → Type 0) → Result (List ℕ) NoValue → Type 0

@@ -85,7 +85,6 @@ impl From<SfError> for NoValue {
         match error {
             SfError::Memory => NoValue::Memory,
             SfError::Syntax(_) => NoValue::Lacks(Lack::Unreadable),
-            SfError::ItemKind(_) => NoValue::Lacks(Lack::Unreadable),
         }
     }
 }

@@ -1,9 +1,11 @@
--- Files under names, what a fetch gives of them, and how they are taken whole.
-use Rattle.std.specs.Prelude.{◌≡◌, ℕ, ◌<◌, List, length, take, min, ⊤, Option, Some, None, IfSome, MatchOption, Result, MatchResult}
+-- Files under names, and how they are taken whole.
+use Rattle.std.specs.Prelude.{◌≡◌, ℕ, ◌<◌, List, length, Option, Some, None, IfSome, MatchOption}
 use Rattle.std.specs.Ordering.{nat_cmp}
 use Rattle.std.specs.Cmp.Lexicographic.{slice_cmp}
 use Rattle.std.specs.FinMap as map
 use Rattle.hms_io.specs.Cause.{Rose}
+use Rattle.hms_io.specs.declared.read_write.FillError.{FillError}
+use Rattle.hms_io.specs.declared.read_write.FillError.TheVariants as fill
 use Rattle.hms_io.specs.declared.whole_file.FileError.{FileError}
 use Rattle.hms_io.specs.declared.whole_file.FileError.TheVariants.{Memory, Failed, TooLong, Missing}
 
@@ -11,20 +13,9 @@ use Rattle.hms_io.specs.declared.whole_file.FileError.TheVariants.{Memory, Faile
 abbrev pub FileMap : Type 0
 FileMap = map.FinMap (slice_cmp nat_cmp) (List ℕ)
 
--- the first bytes of the file are in the piece, as many as fit, and a missing file gives None
-abbrev pub GivesFile : Option (List ℕ) → List ℕ → Option ℕ → Type 0
-GivesFile None piece None = ⊤
-GivesFile (Some file) piece (Some n) =
-    (n ≡ min (length file) (length piece)) × (take n piece ≡ take n file)
-GivesFile None piece (Some n) = ⊥
-GivesFile (Some file) piece None = ⊥
-
--- known files stay, and an answer gives the named one
-abbrev pub Fetches : {E : Type 0} → Option FileMap → Option FileMap → List ℕ
-    → Result (Option ℕ) E → List ℕ → Type 0
-Fetches None now name result piece = ⊤
-Fetches (Some files) now name result piece =
-    (now ≡ Some files) × MatchResult result (GivesFile (map.get files name) piece) (λ _. ⊤)
+-- where the files are known, the answer is the named one, and None where none has the name
+abbrev pub GivesFile : Option FileMap → List ℕ → Option (List ℕ) → Type 0
+GivesFile known name found = IfSome known (λ files. map.get files name ≡ found)
 
 -- known files stay
 abbrev pub KeepsFiles : Option FileMap → Option FileMap → Type 0
@@ -49,3 +40,9 @@ HasFileCause before now Failed = Rose before now
 HasFileCause before now Memory = now ≡ before
 HasFileCause before now TooLong = now ≡ before
 HasFileCause before now Missing = now ≡ before
+
+-- why a file isn't taken, where it isn't read whole
+abbrev pub file_error_of : FillError → FileError
+file_error_of fill.Memory = Memory
+file_error_of fill.Failed = Failed
+file_error_of fill.TooLong = TooLong

@@ -6,6 +6,8 @@ use Rattle.hms_io.specs.Files.{FileMap}
 -- a source in memory: the bytes that it has left, how many it gives at once, its calls
 pub record MemorySource : Type 0 where
   pub left : List ℕ
+  -- how many bytes it gave
+  pub given : ℕ
   -- how many calls were made from the one on that reported the end, at most 2^64 - 1
   pub ended : ℕ
   -- the most bytes that one call gives
@@ -25,7 +27,9 @@ pub record MemorySink : Type 0 where
 abbrev pub is_full : MemorySink → Bool
 is_full sink = length sink.taken == sink.room
 
--- a shelf in memory: its files by their names, and its calls
+-- a shelf in memory: its files by their names, the bytes given, and its calls
 pub record MemoryShelf : Type 0 where
   pub files : FileMap
+  -- how many bytes of files it gave, at most 2^64 - 1
+  pub reached : ℕ
   pub calls : CallLog

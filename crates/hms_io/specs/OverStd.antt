@@ -6,6 +6,8 @@ use Rattle.std.specs.Option.{option_map}
 pub record ReaderSource : Type 0 where
   -- the bytes that the reader has left, where they are known
   pub left : Option (List ℕ)
+  -- how many bytes the reader gave, at most 2^64 - 1
+  pub given : ℕ
   -- how many calls were made from the one on that reported the end, at most 2^64 - 1
   pub ended : ℕ
   pub faults : ℕ
@@ -18,10 +20,12 @@ pub record WriterSink : Type 0 where
   pub unflushed : ℕ
   pub faults : ℕ
 
--- a shelf over the files of a folder, of which nothing is known but how often it was asked
+-- a shelf over the files of a folder, of which nothing is known but what was asked and read
 pub record FolderShelf : Type 0 where
   -- how many files were asked for, at most 2^64 - 1
   pub asked : ℕ
+  -- how many bytes of them were read, at most 2^64 - 1
+  pub reached : ℕ
   pub faults : ℕ
 
 -- known bytes without the last n: those of a writer without the bytes whose flush failed

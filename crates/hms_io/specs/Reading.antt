@@ -1,6 +1,6 @@
--- What reading does to the bytes that a source has left, where they are known, and to the count of
--- the calls from its end on.
-use Rattle.std.specs.Prelude.{◌≡◌, ℕ, ◌==◌, ◌≤◌, nat_lt, Bool, false, ◌&&◌, ◌||◌, if◌then◌else◌, List, [], length, drop, Option, Some, IfSome, Result, Ok, Err}
+-- What reading does to the bytes that a source has left, where they are known, and to the counts of
+-- what it gave and of the calls from its end on.
+use Rattle.std.specs.Prelude.{◌≡◌, ℕ, ◌+◌, ◌-◌, ◌^◌, min, ◌==◌, ◌≤◌, nat_lt, Bool, false, ◌&&◌, ◌||◌, if◌then◌else◌, List, [], length, drop, Option, Some, IfSome, Result, Ok, Err}
 use Rattle.hms_io.specs.Cause.{one_more}
 
 -- the text is all that was left, and nothing is left now
@@ -10,6 +10,11 @@ GivesAll before now text = IfSome before (λ all. (text ≡ all) × (now ≡ Som
 -- just the first n bytes are gone
 abbrev pub LosesPrefix : Option (List ℕ) → Option (List ℕ) → ℕ → Type 0
 LosesPrefix before now n = IfSome before (λ all. (n ≤ length all) × (now ≡ Some (drop n all)))
+
+-- the count of the bytes that were given, after one more call. It stops at 2^64 - 1.
+abbrev pub given_after : {E : Type 0} → ℕ → Result ℕ E → ℕ
+given_after given (Ok count) = min (given + count) (2 ^ 64 - 1)
+given_after given (Err error) = given
 
 -- the answer for the piece reports the end: 0, where the piece isn't empty
 abbrev pub reports_end : {E : Type 0} → Result ℕ E → List ℕ → Bool

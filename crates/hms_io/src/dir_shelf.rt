@@ -1,13 +1,16 @@
 //! A shelf over the files of the runtime.
 
-ghost use Rattle.std.specs.Prelude.{◌≡◌, ◌≢◌, ◌<◌, ◌≤◌, length, take, None, Some, Ok, IfOk, IfErr, IfSome, IfNone, OnErr, OnOk, IsSome, IsErr};
-ghost use Rattle.std.specs.Io.KnownBytes.{Consumes, IsAtEnd};
+ghost use Rattle.std.specs.Prelude.{◌≡◌, ◌≢◌, ◌+◌, ◌<◌, ◌≤◌, length, None, Some, Ok, Err, IfOk, IfErr, IfSome, OnOk, IsSome, IsErrOf, MatchResult};
 ghost use Rattle.std.specs.IoError.{error_kind};
-ghost use Rattle.hms_io.specs.Cause.{HasCause, one_more};
-ghost use Rattle.hms_io.specs.Files.{Fetches, GivesFile};
+ghost use Rattle.hms_io.specs.Cause.{HasFillCause, one_more};
+ghost use Rattle.hms_io.specs.Files.{GivesFile, HasLongerFile, KeepsFiles};
 
-use crate::faults::{Failed, Faults};
+use crate::faults::Faults;
+use crate::read_write::{FillError, MAX_LIMIT, fill};
 use crate::shelf::Shelf;
+use crate::std_source::StdSource;
+use sfv_text::Text;
+use std::alloc::Global;
 use std::io::{ErrorKind, Read};
 use std::marker::Model;
 use std::rt::Files;
@@ -19,6 +22,7 @@ use std::{fs, io};
 pub struct DirShelf<'a, R> {
     rt: &'a R,
     asked: u64,
+    reached: u64,
     faults: Faults,
 }
 
@@ -27,59 +31,61 @@ impl<'a, R> Model for DirShelf<'a, R> {
 
     ghost Value = { FolderShelf };
 
-    ghost view = { λ s. record { asked = s.asked; faults = s.faults } };
+    ghost view = { λ s. record { asked = s.asked; reached = s.reached; faults = s.faults } };
 }
 
 impl<'a, R: Files> DirShelf<'a, R> {
     /// The files of this runtime.
     pub fn new(rt: &'a R) -> DirShelf<'a, R>
-        ensures { result ≡ record { asked = 0; faults = 0 } }
+        ensures { result ≡ record { asked = 0; reached = 0; faults = 0 } }
     {
         DirShelf {
             rt,
             asked: 0,
+            reached: 0,
             faults: Faults::new(),
         }
     }
-}
 
-// Reads until the piece is full or the reader ends, and gives the number of bytes.
-fn read_prefix<R: Read>(reader: &mut R, into: &mut [u8]) -> io::Result<usize>
-    ensures bound { IfOk result (λ n. n ≤ length into.new) }
-    ensures bytes { IfOk result (λ n.
-        Consumes (R.remaining reader.old) (R.remaining reader.new) (take n into.new)) }
-    ensures end { IfOk result (λ n. n < length into.new → IsAtEnd (R.remaining reader.new)) }
-{
-    let mut at = 0;
-    'reads: while at < into.len() {
-        let count = reader.read(&mut into[at..])?;
-        if count == 0 {
-            return Ok(at);
+    // Gives what was opened, whole. What isn't found is no fault.
+    fn take<F: Read + Drop>(
+        &mut self,
+        alloc: Global,
+        opened: io::Result<F>,
+        limit: usize,
+    ) -> Result<Option<Text>, FillError>
+        requires { limit ≤ MAX_LIMIT }
+        ensures file { IfOk opened (λ file. IfSome (F.remaining file) (λ bytes.
+            IfOk result (λ found. found ≡ Some bytes))) }
+        ensures within { IfOk result (λ found. IfSome found (λ text. length text ≤ limit)) }
+        ensures too_long { IsErrOf result FillError.TooLong →
+            IfOk opened (λ file. IfSome (F.remaining file) (λ bytes. limit < length bytes)) }
+        ensures found { OnOk opened (IfOk result IsSome) }
+        ensures not_found { IfErr opened (λ error. error_kind error ≡ ErrorKind.NotFound
+            → result ≡ Ok None) }
+        ensures refused { IfErr opened (λ error. error_kind error ≢ ErrorKind.NotFound
+            → result ≡ Err FillError.Failed) }
+        ensures later { self.old.faults ≤ self.new.faults }
+        ensures cause { MatchResult result (λ _. self.new.faults ≡ self.old.faults)
+            (HasFillCause self.old.faults self.new.faults) }
+        ensures counts_one { IsErrOf result FillError.Failed →
+            self.new.faults ≡ one_more self.old.faults }
+        ensures asked { self.new.asked ≡ self.old.asked }
+        ensures reached { self.new.reached ≤ self.old.reached + (limit + 1) }
+    {
+        let file = match opened {
+            Ok(file) => file,
+            Err(error) if error.kind() == ErrorKind::NotFound => return Ok(None),
+            Err(_) => return Err(FillError::from(self.faults.count_fault())),
+        };
+        let mut source = StdSource::new(file);
+        let answer = fill(alloc, &mut source, limit);
+        self.reached = self.reached.saturating_add(source.given());
+        match answer {
+            Ok(text) => Ok(Some(text)),
+            Err(FillError::Failed) => Err(FillError::from(self.faults.count_fault())),
+            Err(error) => Err(error),
         }
-        at += count;
-    }
-    Ok(at)
-}
-
-// Gives the first bytes of what was opened. What isn't found is no fault.
-pub(crate) fn give_file<F: Read + Drop>(
-    opened: io::Result<F>,
-    into: &mut [u8],
-) -> io::Result<Option<usize>>
-    ensures bound { IfOk result (λ found. IfSome found (λ n. n ≤ length into.new)) }
-    ensures file { IfOk opened (λ file. IfSome (F.remaining file) (λ bytes.
-        IfOk result (GivesFile (Some bytes) into.new))) }
-    ensures found { OnOk opened (IfOk result IsSome) }
-    ensures not_found { IfErr opened (λ error. error_kind error ≡ ErrorKind.NotFound
-        → result ≡ Ok None) }
-    ensures refused { IfErr opened (λ error. error_kind error ≢ ErrorKind.NotFound
-        → IsErr result) }
-    ensures missing { IfOk result (λ found. IfNone found (into.new ≡ into.old)) }
-{
-    match opened {
-        Ok(mut file) => Ok(Some(read_prefix(&mut file, into)?)),
-        Err(error) if error.kind() == ErrorKind::NotFound => Ok(None),
-        Err(error) => Err(error),
     }
 }
 
@@ -92,15 +98,25 @@ impl<'a, R: Files> Shelf for DirShelf<'a, R> {
 
     ghost asked = { λ s. s.asked };
 
-    fn fetch(&mut self, name: &str, into: &mut [u8]) -> Result<Option<usize>, Failed>
-        ensures bound { IfOk result (λ found. IfSome found (λ n. n ≤ length into.new)) }
-        ensures missing { IfOk result (λ found. IfNone found (into.new ≡ into.old)) }
-        ensures files { Fetches None None name.now result into.new }
-        ensures cause { HasCause self.old.faults self.new.faults result }
+    ghost reached = { λ s. s.reached };
+
+    fn fetch(&mut self, alloc: Global, name: &str, limit: usize) -> Result<Option<Text>, FillError>
+        requires { limit ≤ MAX_LIMIT }
+        ensures whole { IfOk result (GivesFile None name.now) }
+        ensures within { IfOk result (λ found. IfSome found (λ text. length text ≤ limit)) }
+        ensures too_long { IsErrOf result FillError.TooLong →
+            HasLongerFile None name.now limit }
+        ensures same_files { KeepsFiles None None }
+        ensures later { self.old.faults ≤ self.new.faults }
+        ensures cause { MatchResult result (λ _. self.new.faults ≡ self.old.faults)
+            (HasFillCause self.old.faults self.new.faults) }
         ensures asked { self.new.asked ≡ one_more self.old.asked }
-        ensures counts_one { OnErr result (self.new.faults ≡ one_more self.old.faults) }
+        ensures reached { self.new.reached ≤ self.old.reached + (limit + 1) }
+        ensures counts_one { IsErrOf result FillError.Failed →
+            self.new.faults ≡ one_more self.old.faults }
     {
         self.asked = self.asked.saturating_add(1);
-        self.faults.check(give_file(fs::open(self.rt, name), into))
+        let opened = fs::open(self.rt, name);
+        self.take(alloc, opened, limit)
     }
 }

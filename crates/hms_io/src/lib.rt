@@ -14,6 +14,7 @@ mod calls;
 mod dir_shelf;
 mod end;
 mod faults;
+mod limit_laws;
 mod mem_shelf;
 mod mem_sink;
 mod mem_source;
@@ -28,6 +29,7 @@ mod whole_file;
 
 pub use dir_shelf::DirShelf;
 pub use faults::Failed;
+pub use limit_laws::limits_are_these;
 pub use mem_shelf::MemShelf;
 pub use mem_sink::MemSink;
 pub use mem_source::MemSource;

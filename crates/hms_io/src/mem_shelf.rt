@@ -1,13 +1,13 @@
 //! A shelf in memory.
 
-ghost use Rattle.std.specs.Prelude.{◌≡◌, ◌≤◌, length, drop, None, Some, IfOk, IfSome, IfNone, OnOk, OnErr, MatchOption, is_err};
+ghost use Rattle.std.specs.Prelude.{◌≡◌, ◌+◌, ◌≤◌, length, None, Some, Err, IfOk, IfSome, OnOk, OnErr, IsErrOf, IsTrue, MatchOption, MatchResult};
 ghost use Rattle.std.specs.FinMap as map;
 ghost use Rattle.hms_io.specs.Calls.{fails_next};
-ghost use Rattle.hms_io.specs.Cause.{HasCause, one_more};
-ghost use Rattle.hms_io.specs.Files.{Fetches};
+ghost use Rattle.hms_io.specs.Cause.{HasFillCause, one_more};
+ghost use Rattle.hms_io.specs.Files.{GivesFile, HasLongerFile, KeepsFiles};
 
 use crate::calls::Calls;
-use crate::faults::Failed;
+use crate::read_write::{FillError, MAX_LIMIT};
 use crate::shelf::Shelf;
 use sfv_text::{Memory, Text};
 use std::alloc::Global;
@@ -21,6 +21,7 @@ pub struct MemShelf {
     // Names and files, the newest first, so the first of a name is the one that counts.
     log: VecDeque<(Text, Text)>,
     alloc: Global,
+    reached: u64,
     calls: Calls,
 }
 
@@ -33,7 +34,11 @@ impl Model for MemShelf {
 
     ghost coded = { shelf_code };
 
-    ghost view = { λ s. record { files = map.from_entries s.log.items; calls = s.calls } };
+    ghost view = { λ s. record {
+      files = map.from_entries s.log.items;
+      reached = s.reached;
+      calls = s.calls;
+    } };
 }
 
 impl MemShelf {
@@ -41,6 +46,7 @@ impl MemShelf {
     pub fn new(alloc: Global, fails: &[u64]) -> Result<MemShelf, Memory>
         ensures { IfOk result (λ s. s ≡ record {
           files = map.empty;
+          reached = 0;
           calls = record { fails = fails.now; made = 0; faults = 0 };
         }) }
     {
@@ -48,6 +54,7 @@ impl MemShelf {
         Ok(MemShelf {
             log: VecDeque::new(alloc),
             alloc,
+            reached: 0,
             calls,
         })
     }
@@ -87,29 +94,36 @@ impl Shelf for MemShelf {
 
     ghost asked = { λ s. s.calls.made };
 
-    fn fetch(&mut self, name: &str, into: &mut [u8]) -> Result<Option<usize>, Failed>
-        ensures bound { IfOk result (λ found. IfSome found (λ n. n ≤ length into.new)) }
-        ensures missing { IfOk result (λ found. IfNone found (into.new ≡ into.old)) }
-        ensures files { Fetches (Some self.old.files) (Some self.new.files) name.now result
-            into.new }
-        ensures cause { HasCause self.old.calls.faults self.new.calls.faults result }
-        ensures asked { self.new.calls.made ≡ one_more self.old.calls.made }
+    ghost reached = { λ s. s.reached };
 
-        // It fails at the given calls alone, and leaves what it doesn't fill.
-        ensures fails { is_err result ≡ fails_next self.old.calls }
-        ensures counts_one { OnErr result (self.new.calls.faults ≡ one_more self.old.calls.faults) }
+    fn fetch(&mut self, alloc: Global, name: &str, limit: usize) -> Result<Option<Text>, FillError>
+        requires { limit ≤ MAX_LIMIT }
+        ensures whole { IfOk result (GivesFile (Some self.old.files) name.now) }
+        ensures within { IfOk result (λ found. IfSome found (λ text. length text ≤ limit)) }
+        ensures too_long { IsErrOf result FillError.TooLong →
+            HasLongerFile (Some self.old.files) name.now limit }
+        ensures same_files { KeepsFiles (Some self.old.files) (Some self.new.files) }
+        ensures later { self.old.calls.faults ≤ self.new.calls.faults }
+        ensures cause { MatchResult result (λ _. self.new.calls.faults ≡ self.old.calls.faults)
+            (HasFillCause self.old.calls.faults self.new.calls.faults) }
+        ensures asked { self.new.calls.made ≡ one_more self.old.calls.made }
+        ensures reached { self.new.reached ≤ self.old.reached + (limit + 1) }
+
+        // It fails at the given calls alone.
+        ensures fails { IsTrue (fails_next self.old.calls) → result ≡ Err FillError.Failed }
+        ensures only { IsErrOf result FillError.Failed → IsTrue (fails_next self.old.calls) }
+        ensures counts_one { IsErrOf result FillError.Failed →
+            self.new.calls.faults ≡ one_more self.old.calls.faults }
         ensures same_fails { self.new.calls.fails ≡ self.old.calls.fails }
-        ensures rest { IfOk result (λ found. IfSome found (λ n.
-            drop n into.new ≡ drop n into.old)) }
-        ensures unchanged { OnErr result (into.new ≡ into.old) }
     {
         self.calls.next()?;
         match self.find(name) {
             None => Ok(None),
+            Some(file) if file.len() > limit => Err(FillError::TooLong),
             Some(file) => {
-                let amount = file.len().min(into.len());
-                into[..amount].copy_from_slice(&file[..amount]);
-                Ok(Some(amount))
+                let text = Text::from_bytes(alloc, file)?;
+                self.reached = self.reached.saturating_add(text.bytes().len() as u64);
+                Ok(Some(text))
             }
         }
     }

@@ -5,7 +5,7 @@ ghost use Rattle.std.specs.Io.{ReadsAtMost};
 ghost use Rattle.std.specs.Io.KnownBytes.{ReadConsumes};
 ghost use Rattle.hms_io.specs.Calls.{fails_next};
 ghost use Rattle.hms_io.specs.Cause.{HasCause, one_more};
-ghost use Rattle.hms_io.specs.Reading.{calls_from_end, reports_end};
+ghost use Rattle.hms_io.specs.Reading.{calls_from_end, given_after, reports_end};
 
 use crate::calls::Calls;
 use crate::end::EndCount;
@@ -34,6 +34,7 @@ impl Model for MemSource {
 
     ghost view = { λ s. record {
       left = drop s.at s.bytes.items;
+      given = s.at;
       ended = s.ended;
       piece = s.piece;
       calls = s.calls;
@@ -54,6 +55,7 @@ impl MemSource {
         requires { 1 ≤ piece }
         ensures { IfOk result (λ s. s ≡ record {
           left = bytes.now;
+          given = 0;
           ended = 0;
           piece = piece;
           calls = record { fails = fails.now; made = 0; faults = 0 };
@@ -76,6 +78,8 @@ impl Source for MemSource {
 
     ghost left = { λ s. Some s.left };
 
+    ghost given = { λ s. s.given };
+
     ghost faults = { λ s. s.calls.faults };
 
     ghost ended = { λ s. s.ended };
@@ -83,6 +87,7 @@ impl Source for MemSource {
     fn read(&mut self, into: &mut [u8]) -> Result<usize, Failed>
         ensures bound { ReadsAtMost result into.new }
         ensures bytes { ReadConsumes (Some self.old.left) (Some self.new.left) result into.new }
+        ensures given { self.new.given ≡ given_after self.old.given result }
         ensures cause { HasCause self.old.calls.faults self.new.calls.faults result }
         ensures ended { self.new.ended ≡
             calls_from_end self.old.ended (reports_end result into.new) }

@@ -82,6 +82,7 @@ pub fn fill<S: Source>(alloc: Global, source: &mut S, limit: usize) -> Result<Te
         LosesPrefix (S.left source.old) (S.left source.new) (limit + 1) }
     ensures prefix { OnErr result
         ((n : ℕ) × (n ≤ limit + 1) × LosesPrefix (S.left source.old) (S.left source.new) n) }
+    ensures few { S.given source.new ≤ S.given source.old + (limit + 1) }
     ensures needed { IsErrOf result FillError.Memory →
         IfSome (S.left source.old) (λ all. 1 ≤ length all) }
     ensures later { S.faults source.old ≤ S.faults source.new }

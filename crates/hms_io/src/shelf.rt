@@ -1,10 +1,12 @@
 //! What keeps files under names.
 
-ghost use Rattle.std.specs.Prelude.{◌≡◌, ◌≤◌, ℕ, Option, length, IfOk, IfSome, IfNone};
-ghost use Rattle.hms_io.specs.Cause.{HasCause, one_more};
-ghost use Rattle.hms_io.specs.Files.{FileMap, Fetches};
+ghost use Rattle.std.specs.Prelude.{◌≡◌, ◌+◌, ◌≤◌, ℕ, Option, length, IfOk, IfSome, IsErrOf, MatchResult};
+ghost use Rattle.hms_io.specs.Cause.{HasFillCause, one_more};
+ghost use Rattle.hms_io.specs.Files.{FileMap, GivesFile, HasLongerFile, KeepsFiles};
 
-use crate::faults::Failed;
+use crate::read_write::{FillError, MAX_LIMIT};
+use sfv_text::Text;
+use std::alloc::Global;
 
 /// What keeps files under names. Its count of faults is as that of a [`Source`](crate::Source), and
 /// the files may be unknown.
@@ -18,13 +20,21 @@ pub trait Shelf {
     // How many files were asked for, up to 2^64 - 1.
     ghost asked: { Self → ℕ };
 
-    /// Gives the first bytes of the named file, as many as fit, and answers how many. It answers
-    /// `None` where there is no such file, which is no fault. The files stay as they are. A failed
-    /// call may have changed the piece.
-    fn fetch(&mut self, name: &str, into: &mut [u8]) -> Result<Option<usize>, Failed>
-        ensures bound { IfOk result (λ found. IfSome found (λ n. n ≤ length into.new)) }
-        ensures missing { IfOk result (λ found. IfNone found (into.new ≡ into.old)) }
-        ensures files { Fetches (files self.old) (files self.new) name.now result into.new }
-        ensures cause { HasCause (faults self.old) (faults self.new) result }
-        ensures asked { asked self.new ≡ one_more (asked self.old) };
+    // How many bytes of files were read, up to 2^64 - 1.
+    ghost reached: { Self → ℕ };
+
+    /// Gives the named file whole, or `None` where there is no such file, which is no fault. At
+    /// most `limit + 1` bytes are read of it. The files stay as they are.
+    fn fetch(&mut self, alloc: Global, name: &str, limit: usize) -> Result<Option<Text>, FillError>
+        requires { limit ≤ MAX_LIMIT }
+        ensures whole { IfOk result (GivesFile (files self.old) name.now) }
+        ensures within { IfOk result (λ found. IfSome found (λ text. length text ≤ limit)) }
+        ensures too_long { IsErrOf result FillError.TooLong →
+            HasLongerFile (files self.old) name.now limit }
+        ensures same_files { KeepsFiles (files self.old) (files self.new) }
+        ensures later { faults self.old ≤ faults self.new }
+        ensures cause { MatchResult result (λ _. faults self.new ≡ faults self.old)
+            (HasFillCause (faults self.old) (faults self.new)) }
+        ensures asked { asked self.new ≡ one_more (asked self.old) }
+        ensures reached { reached self.new ≤ reached self.old + (limit + 1) };
 }

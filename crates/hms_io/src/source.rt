@@ -4,7 +4,7 @@ ghost use Rattle.std.specs.Prelude.{◌≡◌, ℕ, List, Option};
 ghost use Rattle.std.specs.Io.{ReadsAtMost};
 ghost use Rattle.std.specs.Io.KnownBytes.{ReadConsumes};
 ghost use Rattle.hms_io.specs.Cause.{HasCause};
-ghost use Rattle.hms_io.specs.Reading.{calls_from_end, reports_end};
+ghost use Rattle.hms_io.specs.Reading.{calls_from_end, given_after, reports_end};
 
 use crate::faults::Failed;
 
@@ -17,6 +17,9 @@ pub trait Source {
     // The bytes left, where they are known.
     ghost left: { Self → Option (List ℕ) };
 
+    // How many bytes were given, up to 2^64 - 1.
+    ghost given: { Self → ℕ };
+
     // How many faults were counted.
     ghost faults: { Self → ℕ };
 
@@ -28,6 +31,7 @@ pub trait Source {
     fn read(&mut self, into: &mut [u8]) -> Result<usize, Failed>
         ensures bound { ReadsAtMost result into.new }
         ensures bytes { ReadConsumes (left self.old) (left self.new) result into.new }
+        ensures given { given self.new ≡ given_after (given self.old) result }
         ensures cause { HasCause (faults self.old) (faults self.new) result }
         ensures ended { ended self.new ≡
             calls_from_end (ended self.old) (reports_end result into.new) };

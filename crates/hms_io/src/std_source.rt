@@ -4,7 +4,7 @@ ghost use Rattle.std.specs.Prelude.{◌≡◌, OnErr};
 ghost use Rattle.std.specs.Io.{ReadsAtMost};
 ghost use Rattle.std.specs.Io.KnownBytes.{ReadConsumes};
 ghost use Rattle.hms_io.specs.Cause.{HasCause, one_more};
-ghost use Rattle.hms_io.specs.Reading.{calls_from_end, reports_end};
+ghost use Rattle.hms_io.specs.Reading.{calls_from_end, given_after, reports_end};
 
 use crate::end::EndCount;
 use crate::faults::{Failed, Faults};
@@ -17,6 +17,7 @@ use std::marker::Model;
 #[derive(Drop)]
 pub struct StdSource<R: Read> {
     reader: R,
+    given: u64,
     ended: EndCount,
     faults: Faults,
 }
@@ -28,6 +29,7 @@ impl<R: Read> Model for StdSource<R> {
 
     ghost view = { λ s. record {
       left = R.remaining s.reader;
+      given = s.given;
       ended = s.ended;
       faults = s.faults;
     } };
@@ -36,13 +38,26 @@ impl<R: Read> Model for StdSource<R> {
 impl<R: Read> StdSource<R> {
     /// A source of what the reader gives.
     pub fn new(reader: R) -> StdSource<R>
-        ensures { result ≡ record { left = R.remaining reader; ended = 0; faults = 0 } }
+        ensures { result ≡ record {
+          left = R.remaining reader;
+          given = 0;
+          ended = 0;
+          faults = 0;
+        } }
     {
         StdSource {
             reader,
+            given: 0,
             ended: EndCount::new(),
             faults: Faults::new(),
         }
+    }
+
+    // How many bytes the reader gave, at most 2^64 - 1.
+    pub(crate) fn given(&self) -> u64
+        ensures { result ≡ self.now.given }
+    {
+        self.given
     }
 }
 
@@ -59,6 +74,8 @@ fn is_end(answer: &Result<usize, Failed>, piece: &[u8]) -> bool
 impl<R: Read> Source for StdSource<R> {
     ghost left = { λ s. s.left };
 
+    ghost given = { λ s. s.given };
+
     ghost faults = { λ s. s.faults };
 
     ghost ended = { λ s. s.ended };
@@ -66,6 +83,7 @@ impl<R: Read> Source for StdSource<R> {
     fn read(&mut self, into: &mut [u8]) -> Result<usize, Failed>
         ensures bound { ReadsAtMost result into.new }
         ensures bytes { ReadConsumes self.old.left self.new.left result into.new }
+        ensures given { self.new.given ≡ given_after self.old.given result }
         ensures cause { HasCause self.old.faults self.new.faults result }
         ensures ended { self.new.ended ≡
             calls_from_end self.old.ended (reports_end result into.new) }
@@ -73,6 +91,9 @@ impl<R: Read> Source for StdSource<R> {
     {
         let answer = self.faults.check(self.reader.read(into));
         self.ended.count_call(is_end(&answer, into));
+        if let Ok(count) = &answer {
+            self.given = self.given.saturating_add(*count as u64);
+        }
         answer
     }
 }

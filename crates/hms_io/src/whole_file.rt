@@ -1,12 +1,11 @@
 //! Whole files of a shelf.
 
-ghost use Rattle.std.specs.Prelude.{◌≡◌, ◌+◌, ◌≤◌, length, vec_len, IfOk, IsErrOf, MatchResult};
+ghost use Rattle.std.specs.Prelude.{◌≡◌, ◌+◌, ◌≤◌, length, IfOk, IsErrOf, MatchResult};
 ghost use Rattle.hms_io.specs.Files.{HasFile, HasFileCause, HasLongerFile, HasNoFile, KeepsFiles};
 
-use crate::faults::Failed;
-use crate::read_write::MAX_LIMIT;
+use crate::read_write::{FillError, MAX_LIMIT};
 use crate::shelf::Shelf;
-use sfv_text::{Memory, Text};
+use sfv_text::Text;
 use std::alloc::Global;
 use std::error::Error;
 use std::fmt;
@@ -14,7 +13,7 @@ use std::fmt;
 /// Why a file isn't taken.
 #[derive(Clone, Copy, Debug, PartialEq, Eq)]
 pub enum FileError {
-    /// Out of memory, for the file or for `limit + 1` bytes.
+    /// Out of memory.
     Memory,
     /// The fetch failed.
     Failed,
@@ -42,36 +41,22 @@ impl fmt::Display for FileError {
 
 impl Error for FileError {}
 
-impl From<Memory> for FileError {
+impl From<FillError> for FileError {
     ghost use Rattle.std.specs.Prelude.{◌≡◌};
-    ghost use Rattle.hms_io.specs.declared.whole_file.FileError.TheVariants.{Memory as OutOfMemory};
+    ghost use Rattle.hms_io.specs.Files.{file_error_of};
 
-    ghost from_gives = { λ _ e. e ≡ OutOfMemory };
+    ghost from_gives = { λ error e. e ≡ file_error_of error };
 
-    fn from(_memory: Memory) -> FileError {
-        FileError::Memory
+    fn from(error: FillError) -> FileError {
+        match error {
+            FillError::Memory => FileError::Memory,
+            FillError::Failed => FileError::Failed,
+            FillError::TooLong => FileError::TooLong,
+        }
     }
 }
 
-impl From<Failed> for FileError {
-    ghost use Rattle.std.specs.Prelude.{◌≡◌};
-    ghost use Rattle.hms_io.specs.declared.whole_file.FileError.TheVariants.{Failed as FetchFailed};
-
-    ghost from_gives = { λ _ e. e ≡ FetchFailed };
-
-    fn from(_failed: Failed) -> FileError {
-        FileError::Failed
-    }
-}
-
-// So many zero bytes.
-fn zeros(alloc: Global, count: usize) -> Result<Vec<u8>, Memory>
-    ensures { IfOk result (λ bytes. vec_len bytes ≡ count) }
-{
-    Ok(vec![in alloc; 0; count]?)
-}
-
-/// Takes the named file whole, by one fetch that asks for `limit + 1` bytes.
+/// Takes the named file whole, by one fetch.
 pub fn take_file<F: Shelf>(
     alloc: Global,
     shelf: &mut F,
@@ -87,13 +72,12 @@ pub fn take_file<F: Shelf>(
     ensures same_files { KeepsFiles (F.files shelf.old) (F.files shelf.new) }
     ensures later { F.faults shelf.old ≤ F.faults shelf.new }
     ensures asked { F.asked shelf.new ≤ F.asked shelf.old + 1 }
+    ensures reached { F.reached shelf.new ≤ F.reached shelf.old + (limit + 1) }
     ensures cause { MatchResult result (λ _. F.faults shelf.new ≡ F.faults shelf.old)
         (HasFileCause (F.faults shelf.old) (F.faults shelf.new)) }
 {
-    let mut piece = zeros(alloc, limit + 1)?;
-    match shelf.fetch(name, piece.as_mut_slice())? {
+    match shelf.fetch(alloc, name, limit)? {
+        Some(text) => Ok(text),
         None => Err(FileError::Missing),
-        Some(count) if count > limit => Err(FileError::TooLong),
-        Some(count) => Ok(Text::from_bytes(alloc, &piece[..count])?),
     }
 }

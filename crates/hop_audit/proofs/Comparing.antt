@@ -18,7 +18,7 @@ use Rattle.signatures.specs.Signatures.{HasSignature}
 use Rattle.signatures.specs.declared.place.Place.{Place}
 use Rattle.signatures.specs.declared.rule.Rule.{Rule}
 use Rattle.signatures.proofs.Reading.{has_no_failure_where_read, has_one_signature}
-use Rattle.sfv_text.specs.declared.memory.Memory.{Memory}
+use Rattle.byte_grammar.specs.declared.memory.Memory.{Memory}
 use Rattle.hop_audit.specs.declared.comparison.Comparison.{Comparison}
 use Rattle.hop_audit.specs.declared.line.Fate.{Fate}
 use Rattle.hop_audit.specs.declared.line.Fate.TheVariants.{Dropped, Changed, Lacking, Kept}

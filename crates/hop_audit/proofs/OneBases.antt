@@ -1,11 +1,10 @@
 -- A signature's base over two messages: what it tells of its components, and of its tag.
-use Rattle.std.proofs.Common.{◌≡◌, ℕ, zero, suc, ◌+◌, Bool, true, ◌&&◌, ◌==◌, not, Option, Some, None, unwrap_or, List, [], ◌∷◌, ◌++◌, codes, length, refl, sym, ap, subst, ◌∙◌, arith}
+use Rattle.std.proofs.Common.{◌≡◌, ◌⊎◌, inl, inr, ℕ, zero, suc, ◌+◌, Bool, true, ◌&&◌, Option, Some, None, unwrap_or, List, [], ◌∷◌, ◌++◌, codes, length, refl, sym, ap, subst, ◌∙◌, arith}
 use Rattle.std.specs.Prelude.{IfSome, slice_get, ◌↔◌}
 use Rattle.std.specs.List.{All, AllZip, flat_map, list_all}
 use Rattle.std.proofs.lemmas.Bool.{and_from, and_parts}
-use Rattle.std.proofs.lemmas.Bool.Decides.{nat_tests}
 use Rattle.std.proofs.lemmas.List.Elements.{All-cons, All-head, All-nil, All-tail}
-use Rattle.byte_grammar.proofs.ListLaws.{all_implied, all_parts}
+use Rattle.byte_grammar.proofs.ListLaws.{all_parts}
 use Rattle.sfv_text.specs.Classes.{is_byte}
 use Rattle.msg_body.specs.Messages.{Message}
 use Rattle.msg_body.specs.WholeTexts.{IsWhole}
@@ -13,20 +12,20 @@ use Rattle.msg_body.specs.declared.whole.Reading.{Reading}
 use Rattle.component_ids.specs.declared.id.ComponentId.{ComponentId}
 use Rattle.component_ids.specs.declared.params.SigParams.{SigParams}
 use Rattle.component_values.specs.Context.{MessageContext, context_with}
-use Rattle.component_values.specs.Laws.{HasMessages, IsSpelled, is_value_byte}
+use Rattle.component_values.specs.Laws.{HasMessages, IsSpelled}
 use Rattle.component_values.specs.Values.{HaveValues}
-use Rattle.component_values.proofs.CleanLaws.{has_clean_values}
-use Rattle.component_values.proofs.FirstLacks.{have_length}
-use Rattle.sig_base.specs.Laws.{HaveLines, is_one_line}
 use Rattle.sig_base.specs.SignatureBase.{signature_base}
 use Rattle.sig_base.proofs.Readings.{one_reading}
-use Rattle.hmac_sha256.specs.Hmac.{hmac}
 use Rattle.signatures.specs.Signatures.{HasSignature}
-use Rattle.signatures.proofs.InRange.{is_signature_in_range}
 use Rattle.signatures.proofs.Reading.{has_one_signature}
+use Rattle.settings.specs.Configuration.{Configuration}
+use Rattle.rewrites.specs.Laws.{verification_over}
 use Rattle.verdicts.specs.Contexts.{context_for}
+use Rattle.verdicts.specs.Laws.{Agree, HaveOneTag, IsTagOfTwo, base_of}
 use Rattle.verdicts.specs.Parameters.{keyid_of}
 use Rattle.verdicts.specs.Rules.{key_in}
+use Rattle.verdicts.specs.Verdicts.{Accepts}
+use Rattle.verdicts.proofs.OneTags.{all_lines, have_base, one_tag_agrees}
 use Rattle.verdicts.specs.declared.outcome.Verdict.TheVariants.{Ok as Accepted}
 use Rattle.recording.specs.Items.{Body, PlacedItem, body_text, kind_word, moment, number_line, script, stored}
 use Rattle.recording.specs.Recordings.{SpellsRecording, bodies, items_text}
@@ -36,36 +35,11 @@ use Rattle.hop_audit.specs.declared.line.Fate.{Fate}
 use Rattle.hop_audit.specs.declared.line.Fate.TheVariants.{Changed, Kept}
 use Rattle.hop_audit.specs.Fates.{HasKept, IsFate}
 use Rattle.hop_audit.specs.Hops.{PlacedHop, places_from}
-use Rattle.hop_audit.specs.Laws.{HasSameBase, IsKeptWithItsBase, IsKeptWithItsBaseAtHops, TellsWhatChanged, TellsWhatChangedAtHops}
+use Rattle.hop_audit.specs.Laws.{HasSameBase, HasTwoBases, IsAccepted, IsKeptWithItsBase, IsKeptWithItsBaseAtHops, TellsWhatChanged, TellsWhatChangedAtHops}
 use Rattle.hop_audit.specs.Report.{AreItemsOf, places_of}
 use Rattle.hop_audit.proofs.Fates.{has_one_fate}
 use Rattle.hop_audit.proofs.Reports.{label_line_is, some_is}
 use Rattle.hop_audit.proofs.SameVerdicts.{Says, between, says_at, stages_from}
-
--- ---- values have no LF
-
-no_line_end : (c : ℕ) → is_value_byte c ≡ true → not (c == 10) ≡ true
-no_line_end c is = grind (arith, nat_tests)
-
-one_line : (value : List ℕ) → list_all is_value_byte value ≡ true → is_one_line value ≡ true
-one_line value clean = all_implied is_value_byte (λ c. not (c == 10)) no_line_end value clean
-
--- values of components have no LF
-pub all_lines : (context : MessageContext) (ids : List ComponentId) (values : List (List ℕ)) → HasMessages context → HaveValues context ids values → list_all is_one_line values ≡ true
-all_lines context [] [] spelled have = refl
-all_lines context (id ∷ ids) (value ∷ values) spelled have =
-    and_from (is_one_line value) (list_all is_one_line values) (one_line value (has_clean_values context id value spelled have.0)) (all_lines context ids values spelled have.1)
-all_lines context [] (value ∷ values) spelled have = absurd have
-all_lines context (id ∷ ids) [] spelled have = absurd have
-
--- so a signature's base is made of lines
-have_lines : (context : MessageContext) (message : Message) (label : List ℕ) (params : SigParams) (tag : List ℕ) (values : List (List ℕ)) → HasMessages context
-    → HasSignature message label params tag → HaveValues context params.ids values → HaveLines params values
-have_lines context message label params tag values spelled has have = record {
-  in_range = is_signature_in_range message label params tag has;
-  each = have_length context params.ids values have;
-  lines = all_lines context params.ids values spelled have;
-}
 
 -- ---- components with one value over both messages
 
@@ -101,8 +75,8 @@ module _ (context : MessageContext) (other : Message) where
     base_kept has =
         let before = has.1.1 in
         let after = has.1.2 in
-        let same = (one_reading params params before.0 after.0 (have_lines context other label params tag before.0 spelled has.0 before.1)
-        (have_lines moved other label params tag after.0 (over_other spelled also) has.0 after.1)).0 (sym before.2 ∙ after.2) in
+        let same = (one_reading params params before.0 after.0 (have_base context other label params tag before.0 has.0 before.1) (all_lines context params.ids before.0 spelled before.1)
+        (have_base moved other label params tag after.0 has.0 after.1)).0 (sym before.2 ∙ after.2) in
         (has.0, all_kept params.ids before.0 before.1 (subst (λ (v : List (List ℕ)). HaveValues moved params.ids v) (sym same.1) after.1))
 
 pub is_kept_with_its_base : IsKeptWithItsBase
@@ -114,31 +88,62 @@ is_kept_with_its_base context other label params tag spelled also =
 not_both : (id : ComponentId) → ¬ (Kept ≡ Changed id)
 not_both id same = absurd cc
 
+-- both accepted labels have the signature, and so the same values where they agree
+module _ (conf : Configuration) (context : MessageContext) (other : Message) (label : List ℕ) (params : SigParams) (tag keyid another : List ℕ) (id : ComponentId) (spelled : HasMessages context) (also : IsSpelled other)
+    (has : HasSignature context.message label params tag) (fate : IsFate context other label params tag (Changed id)) (accepted : IsAccepted conf context label keyid)
+    (again : IsAccepted conf (context_with context other) label another) where
+  abbrev a : Accepts (verification_over context label conf accepted.0 accepted.1) keyid
+  a = accepted.2
+
+  abbrev b : Accepts (verification_over (context_with context other) label conf again.0 again.1) another
+  b = again.2
+
+  first : (a.params ≡ params) × (a.tag ≡ tag)
+  first = has_one_signature context.message label a.params params a.tag tag a.signature has
+
+  second : (b.params ≡ params) × (b.tag ≡ tag)
+  second = has_one_signature other label b.params params b.tag tag b.signature fate.0
+
+  have : HaveValues context params.ids a.values
+  have = subst (λ (p : SigParams). HaveValues context p.ids a.values) first.0 a.have
+
+  have_after : HaveValues (context_with context other) params.ids b.values
+  have_after = subst (λ (p : SigParams). HaveValues (context_with context other) p.ids b.values) second.0 b.have
+
+  names : keyid ≡ another
+  names = some_is (sym a.keyid_is ∙ (ap keyid_of (first.0 ∙ sym second.0) ∙ b.keyid_is))
+
+  one_tag : HaveOneTag a b
+  one_tag = record {
+    message = spelled;
+    other_message = over_other context other spelled also;
+    tag = first.1 ∙ sym second.1;
+    key = some_is (sym a.key_is ∙ (ap (key_in conf) names ∙ b.key_is));
+  }
+
+  agree_not : ¬ Agree a b
+  agree_not agree =
+      let base = signature_base params a.values in
+      let same : base ≡ signature_base params b.values = ap (signature_base params) agree.1 in
+      not_both id (has_one_fate context other label params tag Kept (Changed id)
+      (base_kept context other label params tag spelled also (fate.0, (base, (a.values, have, refl), (b.values, have_after, same)))) fate)
+
+  two_bases : Agree a b ⊎ IsTagOfTwo a.key a.tag (base_of a) (base_of b) → HasTwoBases conf keyid context other params tag
+  two_bases (inl agree) = absurd (agree_not agree)
+  two_bases (inr two) = record {
+    base = base_of a;
+    base_is = (a.values, have, ap (λ (p : SigParams). signature_base p a.values) first.0);
+    changed = base_of b;
+    changed_is = (b.values, have_after, ap (λ (p : SigParams). signature_base p b.values) second.0);
+    key = a.key;
+    key_is = a.key_is;
+    two = subst (λ (t : List ℕ). IsTagOfTwo a.key t (base_of a) (base_of b)) first.1 two;
+  }
+
 pub tells_what_changed : TellsWhatChanged
 tells_what_changed conf context other label params tag keyid another id spelled also has fate accepted again =
-    let a = accepted.2 in
-    let b = again.2 in
-    let first = has_one_signature context.message label a.params params a.tag tag a.signature has in
-    let second = has_one_signature other label b.params params b.tag tag b.signature fate.0 in
-    let have : HaveValues context params.ids a.values = subst (λ (p : SigParams). HaveValues context p.ids a.values) first.0 a.have in
-    let have_after : HaveValues (context_with context other) params.ids b.values = subst (λ (p : SigParams). HaveValues (context_with context other) p.ids b.values) second.0 b.have in
-    let mac : tag ≡ hmac a.key (signature_base params a.values) = sym first.1 ∙ (a.mac ∙ ap (λ (p : SigParams). hmac a.key (signature_base p a.values)) first.0) in
-    let mac_after : tag ≡ hmac b.key (signature_base params b.values) = sym second.1 ∙ (b.mac ∙ ap (λ (p : SigParams). hmac b.key (signature_base p b.values)) second.0) in
-    let names : keyid ≡ another = some_is (sym a.keyid_is ∙ (ap keyid_of (first.0 ∙ sym second.0) ∙ b.keyid_is)) in
-    let keys : a.key ≡ b.key = some_is (sym a.key_is ∙ (ap (key_in conf) names ∙ b.key_is)) in
-    record {
-      base = signature_base params a.values;
-      base_is = (a.values, have, refl);
-      changed = signature_base params b.values;
-      changed_is = (b.values, have_after, refl);
-      differ = λ same.
-          not_both id (has_one_fate context other label params tag Kept (Changed id)
-          (base_kept context other label params tag spelled also (fate.0, (signature_base params a.values, (a.values, have, refl), (b.values, have_after, same)))) fate);
-      key = a.key;
-      key_is = a.key_is;
-      mac = mac;
-      same = sym mac ∙ (mac_after ∙ ap (λ (k : List ℕ). hmac k (signature_base params b.values)) (sym keys));
-    }
+    two_bases conf context other label params tag keyid another id spelled also has fate accepted again
+    (one_tag_agrees _ _ keyid another accepted.2 again.2 (one_tag conf context other label params tag keyid another id spelled also has fate accepted again))
 
 -- ---- the messages of a recording
 

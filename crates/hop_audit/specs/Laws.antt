@@ -6,7 +6,6 @@ use Rattle.component_ids.specs.declared.id.ComponentId.{ComponentId}
 use Rattle.component_ids.specs.declared.params.SigParams.{SigParams}
 use Rattle.component_values.specs.Context.{MessageContext, context_with}
 use Rattle.component_values.specs.Laws.{HasMessages, IsSpelled}
-use Rattle.hmac_sha256.specs.Hmac.{hmac}
 use Rattle.nonces.specs.Books.{Book}
 use Rattle.settings.specs.Configuration.{Configuration}
 use Rattle.signatures.specs.Signatures.{HasSignature}
@@ -14,6 +13,7 @@ use Rattle.rewrite_script.specs.Lines.{is_writable}
 use Rattle.rewrite_script.specs.Scripts.{HaveValues}
 use Rattle.rewrite_script.specs.declared.rewrite.Rewrite.{Rewrite}
 use Rattle.rewrites.specs.Laws.{IsBaseOf, verification_over}
+use Rattle.verdicts.specs.Laws.{IsTagOfTwo}
 use Rattle.verdicts.specs.Rules.{key_in}
 use Rattle.verdicts.specs.Verdicts.{IsVerdict}
 use Rattle.verdicts.specs.declared.outcome.Verdict.{Verdict}
@@ -146,19 +146,17 @@ abbrev pub IsAccepted : Configuration → MessageContext → List ℕ → List �
 IsAccepted conf context label keyid = (now : ℕ) × (seen : Option Book)
     × IsVerdict (verification_over context label conf now seen) (Accepted keyid)
 
--- The signature's bases over both messages are two texts, and the tag is the HMAC of both under the
--- key that is configured for this `keyid`.
-pub record IsTagOfTwo (conf : Configuration) (keyid : List ℕ) (context : MessageContext)
+-- The tag is the HMAC of the signature's bases over both messages under the key that is configured
+-- for this `keyid`, and they are two texts.
+pub record HasTwoBases (conf : Configuration) (keyid : List ℕ) (context : MessageContext)
     (other : Message) (params : SigParams) (tag : List ℕ) : Type 0 where
   pub base : List ℕ
   pub base_is : IsBaseOf context params base
   pub changed : List ℕ
   pub changed_is : IsBaseOf (context_with context other) params changed
-  pub differ : ¬ (base ≡ changed)
   pub key : List ℕ
   pub key_is : key_in conf keyid ≡ Some key
-  pub mac : tag ≡ hmac key base
-  pub same : hmac key base ≡ hmac key changed
+  pub two : IsTagOfTwo key tag base changed
 
 -- Where a component of a signature has changed and the signature is accepted in both messages, two
 -- texts have one HMAC: its bases differ, since a base has one reading (RFC 9421 section 7.5.5).
@@ -170,7 +168,7 @@ TellsWhatChanged = (conf : Configuration) (context : MessageContext) (other : Me
     → IsFate context other label params tag (Changed id)
     → IsAccepted conf context label keyid
     → IsAccepted conf (context_with context other) label another
-    → IsTagOfTwo conf keyid context other params tag
+    → HasTwoBases conf keyid context other params tag
 
 -- The report says that the label is accepted in the message of this index and in the next, and that
 -- this component of its signature has changed between them.
@@ -188,7 +186,7 @@ abbrev pub HasTagOfTwo : Configuration → Chain → ℕ → List ℕ → List �
 HasTagOfTwo conf chain index label keyid =
     (hop : PlacedHop) × (params : SigParams) × (tag : List ℕ)
     × (slice_get (places_of chain) index ≡ Some hop) × HasSignature hop.before label params tag
-    × IsTagOfTwo conf keyid (context_for conf hop.before chain.related) hop.after params tag
+    × HasTwoBases conf keyid (context_for conf hop.before chain.related) hop.after params tag
 
 -- Where the report on a recording says so, it is so.
 abbrev pub TellsWhatChangedAtHops : Type 0

@@ -51,7 +51,6 @@ impl Answer {
         }
     }
 
-    /// Whether it is a lack.
     pub(crate) fn is_lack(&self) -> bool
         ensures { result ≡ is_err (answer_of self.now) }
     {

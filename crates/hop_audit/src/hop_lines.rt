@@ -81,7 +81,6 @@ fn explanation(walked: &Walked, bytes: &[u8]) -> (bool, Option<usize>)
     }
 }
 
-/// The line of a label.
 fn label_line(
     alloc: Global,
     index: usize,
@@ -115,7 +114,6 @@ fn label_line(
     })
 }
 
-/// Adds the line of each label.
 fn add_label_lines(
     alloc: Global,
     index: usize,

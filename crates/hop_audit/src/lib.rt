@@ -17,6 +17,7 @@ mod comparison;
 mod fault;
 mod hop_lines;
 mod laws;
+mod limit_laws;
 mod limits;
 mod line;
 mod line_text;
@@ -32,6 +33,7 @@ pub use laws::{
     a_signature_has_one_fate, items_are_a_chain_or_not, items_have_one_audit,
     what_is_permitted_is_kept,
 };
+pub use limit_laws::limits_are_these;
 pub use limits::MAX_HOPS;
 pub use line::{AuditLine, AuditReport, Fate};
 pub use line_text::{append_report, finds_fault};

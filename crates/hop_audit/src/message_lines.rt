@@ -21,7 +21,6 @@ use std::marker::Brand;
 use std::sync::ledger::{Blank, Ledger};
 use verdicts::{LabelReadings, Verification, verdict_in};
 
-/// Adds the line of the label.
 fn add_line<L: Ledger>(
     alloc: Global,
     index: usize,

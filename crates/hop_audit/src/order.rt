@@ -15,7 +15,6 @@ use std::alloc::Global;
 /// What the messages of a chain are.
 #[derive(Clone, Copy)]
 pub(crate) enum Subject<'r> {
-    /// Requests.
     Requests,
     /// Responses, and the request that they answer, where it is recorded.
     Responses(Option<&'r [u8]>),
@@ -68,7 +67,6 @@ impl<'i, 'r> Items<'i, 'r> {
         }
     }
 
-    /// The moment that the next item is.
     fn moment(&mut self) -> Option<u64>
         ensures some { IfSome result (λ seconds. Takes (moment seconds) self.old self.new) }
         ensures none { IfNone result (TakesNone IsMoment self.old self.new) }
@@ -82,7 +80,6 @@ impl<'i, 'r> Items<'i, 'r> {
         }
     }
 
-    /// The script that the next item is.
     fn script(&mut self) -> Option<&'r [u8]>
         ensures some { IfSome result (λ text. Takes (stored script text.now) self.old self.new) }
         ensures none { IfNone result (TakesNone (HasKind script) self.old self.new) }
@@ -172,7 +169,6 @@ impl<'i, 'r> Items<'i, 'r> {
     }
 }
 
-/// The role of the messages.
 pub(crate) fn role_of(subject: Subject<'_>) -> Role
     ensures { result ≡ role_of (subject_meant subject.entry) }
 {

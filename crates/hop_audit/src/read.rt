@@ -13,7 +13,6 @@ use recording::Role;
 use rewrite_script::{MAX_SCRIPT_BYTES, Script, ScriptFault, read_script};
 use std::alloc::Global;
 
-/// How the message of a role is read.
 pub(crate) fn reading_of(related: Option<&MessageView<'_>>, role: Role) -> Reading
     ensures { result ≡ reading_of (option_map (λ request. message_of request.now) related.entry)
         role }
@@ -30,7 +29,6 @@ pub(crate) fn reading_of(related: Option<&MessageView<'_>>, role: Role) -> Readi
     }
 }
 
-/// The message of the item with this index.
 pub(crate) fn item_message<'r>(
     alloc: Global,
     item: usize,
@@ -47,7 +45,6 @@ pub(crate) fn item_message<'r>(
     }
 }
 
-/// Why the item with this index is no script.
 fn script_fault(item: usize, fault: ScriptFault) -> ChainFault
     ensures { result ≡ script_fault item fault }
 {
@@ -57,7 +54,6 @@ fn script_fault(item: usize, fault: ScriptFault) -> ChainFault
     }
 }
 
-/// The script of the item with this index.
 pub(crate) fn item_script(alloc: Global, item: usize, text: &[u8]) -> Result<Script, ChainFault>
     ensures { SaysScript item text.now result }
 {

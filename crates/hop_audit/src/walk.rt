@@ -74,7 +74,7 @@ fn stepped(
     requires marks { HoldSignatures (context_of context.now).message marks.old }
     ensures { IfOk result (SaysStepped (context_of context.now) step.now marks.old marks.new) }
 {
-    let text = match apply(alloc, bytes, context, step) {
+    let text = match apply(alloc, context, step) {
         Ok(text) => text,
         Err(ApplyFault::NotApplicable) => return Ok(None),
         Err(ApplyFault::Memory) => return Err(Memory),

@@ -19,7 +19,7 @@ use Rattle.line_rewrites.specs.LineLists.{line_of}
 use Rattle.line_rewrites.specs.declared.fault.ApplyFault.{ApplyFault}
 use Rattle.line_rewrites.specs.declared.fault.ApplyFault.TheVariants.{Memory, NotApplicable}
 use Rattle.line_rewrites.specs.tools.Computed.{changed, changed_side, rewritten}
-use Rattle.line_rewrites.specs.Sized.{SpellsSized}
+use Rattle.line_rewrites.specs.Sized.{HasNoSized, SpellsLineStep, SpellsSized}
 use Rattle.line_rewrites.specs.tools.Judged.{ExplainsStep, Makes}
 use Rattle.line_rewrites.specs.Sides.{has_side, has_trailers, side_parts, text_with}
 use Rattle.line_rewrites.proofs.Changes.{change_is}
@@ -146,19 +146,39 @@ fault_is context step (Ok text) is = record { only = λ e. absurd cc; there = λ
 fault_is context step (Err NotApplicable) is = record { only = λ _. is; there = λ _. inl refl }
 fault_is context step (Err Memory) is = record { only = λ e. absurd cc; there = λ _. inr refl }
 
--- the answers to the bytes that are made, judged by these copies of what decides
+-- the text that is made tells what the step gives
+pub tells_step : (context : MessageContext) (step : LineRewrite) (result : Result (List ℕ) ApplyFault) → IsMessage (answers_head context.related) context.message → is_line_writable step ≡ true
+    → Makes (rewritten context.message step) result → IfOk result (SpellsLineStep context step)
+tells_step context step (Ok text) is writable made = λ after. (
+  λ gives.
+      let m = step_made context step after gives in
+      let same : m.0 ≡ text = (let e = sym m.1 ∙ made in cc) in
+      subst (λ t. SpellsSized (answers_head context.related) t (length (message_content context.message)) after) same m.2,
+  λ spelled. result_is context step text after is writable made spelled,
+)
+tells_step context step (Err fault) is writable made = tt
+
+pub none_made : (context : MessageContext) (step : LineRewrite) (result : Result (List ℕ) ApplyFault) → Makes (rewritten context.message step) result → result ≡ Err NotApplicable → HasNoLineStep context step
+none_made context step (Ok text) made e = absurd cc
+none_made context step (Err NotApplicable) made e = not_made context step made
+none_made context step (Err Memory) made e = absurd cc
+
+-- the answers to that text, judged by these copies of what decides
 pub spelled_is : (context : MessageContext) (step : LineRewrite) (text bytes : List ℕ) (to_head : Bool) (count : ℕ) → to_head ≡ answers_head context.related → bytes ≡ text → count ≡ length (message_content context.message)
-    → IsMessage (answers_head context.related) context.message → is_line_writable step ≡ true → rewritten context.message step ≡ Some text → (message : Message) × SpellsSized to_head bytes count message → RewritesLines context step text
-spelled_is context step text bytes to_head count heads same sizes is writable made spelled =
+    → SpellsLineStep context step text → (message : Message) × SpellsSized to_head bytes count message → RewritesLines context step text
+spelled_is context step text bytes to_head count heads same sizes tells spelled =
     let here = rw (heads, same, sizes) at spelled.1 in
-    (spelled.0, result_is context step text spelled.0 is writable made here, here.spells.text)
+    (spelled.0, (tells spelled.0).1 here, here.spells.text)
 
 pub unspelled_is : (context : MessageContext) (step : LineRewrite) (text bytes : List ℕ) (to_head : Bool) (count : ℕ) → to_head ≡ answers_head context.related → bytes ≡ text → count ≡ length (message_content context.message)
-    → rewritten context.message step ≡ Some text → ((message : Message) → ¬ SpellsSized to_head bytes count message) → HasNoLineStep context step
-unspelled_is context step text bytes to_head count heads same sizes made none = not_spelled context step text made (rw (heads, same, sizes) at none)
+    → SpellsLineStep context step text → HasNoSized to_head bytes count → HasNoLineStep context step
+unspelled_is context step text bytes to_head count heads same sizes tells none = λ after gives. (rw (heads, same, sizes) at none) after ((tells after).0 gives)
 
-pub made_fault : (context : MessageContext) (step : LineRewrite) (fault : ApplyFault) → Makes (rewritten context.message step) (Err fault) → ExplainsStep context step (Err fault)
-made_fault context step NotApplicable none = not_made context step none
+abbrev pub IsRefused : Result (List ℕ) ApplyFault → Type 0
+IsRefused result = result ≡ Err NotApplicable
+
+pub made_fault : (context : MessageContext) (step : LineRewrite) (fault : ApplyFault) → (IsRefused (Err fault) → HasNoLineStep context step) → ExplainsStep context step (Err fault)
+made_fault context step NotApplicable none = none refl
 made_fault context step Memory none = tt
 
 -- the text that is answered is a message's

@@ -1,8 +1,9 @@
 -- What is read of a text, and how many bytes its content has.
-use Rattle.std.proofs.Common.{◌≡◌, ◌≢◌, ℕ, ◌==◌, ◌&&◌, Bool, true, false, IsTrue, IfOk, List, length, take, Result, Ok, Err, refl, sym, subst, ap, ◌∙◌, arith}
+use Rattle.std.proofs.Common.{◌≡◌, ◌≢◌, ℕ, ◌==◌, ◌&&◌, Bool, true, false, IsTrue, List, length, take, Result, Ok, Err, inl, inr, refl, sym, subst, ap, ◌∙◌, arith}
 use Rattle.std.proofs.lemmas.Bool.{and_parts, and_from, eqb-true, false≢true}
 use Rattle.std.proofs.lemmas.Bool.Decides.{Decides-eqb}
 use Rattle.std.proofs.Math.Seq.{take-length}
+use Rattle.byte_grammar.specs.Causes.{AnswersWhere}
 use Rattle.msg_body.specs.declared.error.MessageError.{MessageError}
 use Rattle.msg_body.specs.declared.error.MessageError.TheVariants.{Memory}
 use Rattle.msg_body.specs.declared.expect.Expect.TheVariants.{Any}
@@ -11,7 +12,9 @@ use Rattle.msg_body.specs.declared.read.MessageRead.TheVariants.{Whole, Partial}
 use Rattle.msg_body.specs.Messages.{Message, Spells, SpellsMessage, is_expected}
 use Rattle.msg_body.specs.Outcome.{IsMessageUnlessMemory}
 use Rattle.msg_body.specs.Views.{IsMessageViewOf, MessageParts, message_content, message_of}
-use Rattle.line_rewrites.specs.Sized.{SpellsSized}
+use Rattle.line_rewrites.specs.Sized.{HasNoSized, SpellsSized}
+use Rattle.line_rewrites.specs.declared.fault.ApplyFault.{ApplyFault}
+use Rattle.line_rewrites.specs.declared.fault.ApplyFault.TheVariants.{Memory as OutOfMemory, NotApplicable}
 
 abbrev pub is_sized : List ℕ → ℕ → MessageParts → ℕ → Bool
 is_sized text count view used = (used == length text) && (length (message_content (message_of view)) == count)
@@ -32,16 +35,14 @@ found_whole : (to_head : Bool) (text : List ℕ) (count : ℕ) (result : Result 
 found_whole to_head text count result finds message spelled = finds message (length text) (whole_spelled to_head message text spelled.spells) refl
 
 pub is_read : (to_head : Bool) (text : List ℕ) (count : ℕ) (view : MessageParts) (used : ℕ) (b : Bool) → IsMessageViewOf Any to_head text view used → b ≡ is_sized text count view used → b ≡ true
-    → (message : Message) × SpellsSized to_head text count message
+    → SpellsSized to_head text count (message_of view)
 is_read to_head text count view used b is same passes =
     let both = and_parts (used == length text) (length (message_content (message_of view)) == count) (sym same ∙ passes) in
-    let whole : take used text ≡ text = ap (λ n. take n text) (eqb-true used (length text) both.0) ∙ take-length text in (
-      message_of view,
-      record {
-        spells = subst (λ (t : List ℕ). Spells to_head (message_of view) t) whole is.spells.spells;
-        sized = eqb-true (length (message_content (message_of view))) count both.1;
-      },
-    )
+    let whole : take used text ≡ text = ap (λ n. take n text) (eqb-true used (length text) both.0) ∙ take-length text in
+    record {
+      spells = subst (λ (t : List ℕ). Spells to_head (message_of view) t) whole is.spells.spells;
+      sized = eqb-true (length (message_content (message_of view))) count both.1;
+    }
 
 pub is_not_read : (to_head : Bool) (text : List ℕ) (count : ℕ) (result : Result MessageRead MessageError) (view : MessageParts) (used : ℕ) (b : Bool) → Finds to_head text result → result ≡ Ok (Whole view used)
     → b ≡ is_sized text count view used → b ≡ false → (message : Message) → ¬ SpellsSized to_head text count message
@@ -60,7 +61,14 @@ pub none_refused : (to_head : Bool) (text : List ℕ) (count : ℕ) (result : Re
 none_refused to_head text count result error finds is other message spelled =
     other (subst (λ (r : Result MessageRead MessageError). IsMessageUnlessMemory r message (length text)) is (found_whole to_head text count result finds message spelled))
 
-pub all_refused : {M : Type 0} (to_head : Bool) (text : List ℕ) (count : ℕ) (result : Result MessageRead MessageError) (error : MessageError) (answer : Result Bool M) → Finds to_head text result → result ≡ Err error
-    → IfOk answer (λ is. (is ≡ false) × (error ≢ Memory)) → IfOk answer (λ is. is ≡ false → (message : Message) → ¬ SpellsSized to_head text count message)
-all_refused to_head text count result error (Ok b) finds is told = λ _. none_refused to_head text count result error finds is told.1
-all_refused to_head text count result error (Err m) finds is told = tt
+-- ---- what is answered
+
+pub whole_answers : (to_head : Bool) (text : List ℕ) (count : ℕ) (view : MessageParts) → SpellsSized to_head text count (message_of view) → AnswersWhere {T = MessageParts} OutOfMemory (Ok view) NotApplicable (HasNoSized to_head text count)
+whole_answers to_head text count view spelled = record { only = λ e. absurd cc; there = λ none. absurd (none (message_of view) spelled) }
+
+pub none_answers : (to_head : Bool) (text : List ℕ) (count : ℕ) → HasNoSized to_head text count → AnswersWhere {T = MessageParts} OutOfMemory (Err NotApplicable) NotApplicable (HasNoSized to_head text count)
+none_answers to_head text count none = record { only = λ _. none; there = λ _. inl refl }
+
+pub fault_answers : (to_head : Bool) (text : List ℕ) (count : ℕ) (fault : ApplyFault) → (fault ≡ NotApplicable → HasNoSized to_head text count) → AnswersWhere {T = MessageParts} OutOfMemory (Err fault) NotApplicable (HasNoSized to_head text count)
+fault_answers to_head text count NotApplicable none = none_answers to_head text count (none refl)
+fault_answers to_head text count OutOfMemory none = record { only = λ e. absurd cc; there = λ _. inr refl }

@@ -1,5 +1,5 @@
 -- The bytes of a side, cut at its lines.
-use Rattle.std.proofs.Common.{◌≡◌, ◌≤◌, ◌<◌, ◌+◌, ◌-◌, ◌||◌, ℕ, Bool, true, false, List, [], ◌∷◌, ◌++◌, length, take, drop, Some, zero, suc, refl, sym, ap, ◌∙◌, append_assoc, append-nil, arith}
+use Rattle.std.proofs.Common.{◌≡◌, ◌≤◌, ◌<◌, ◌+◌, ◌-◌, ◌||◌, ℕ, Bool, true, false, List, [], ◌∷◌, ◌++◌, length, take, drop, codes, Some, zero, suc, refl, sym, ap, ◌∙◌, append_assoc, append-nil, arith}
 use Rattle.std.specs.List.{slice_get}
 use Rattle.std.proofs.lemmas.List.{drop-drop, length-append, take-append-drop}
 use Rattle.std.proofs.lemmas.List.Folds.{list_any-append}
@@ -9,9 +9,14 @@ use Rattle.msg_head.specs.Names.{has_name}
 use Rattle.msg_head.specs.Values.{is_there}
 use Rattle.msg_head.specs.declared.error.Side.{Side}
 use Rattle.msg_head.specs.declared.error.Side.TheVariants.{Header, Trailer}
-use Rattle.msg_body.specs.Messages.{Message}
-use Rattle.msg_body.specs.Views.{lines_on}
-use Rattle.line_rewrites.specs.Sides.{SideParts, lines_text, side_parts, text_with}
+use Rattle.chunks.specs.Chunks.{chunks_text}
+use Rattle.msg_head.specs.Heads.{head_text}
+use Rattle.msg_head.specs.Starts.{start_text}
+use Rattle.msg_head.specs.Trailers.{trailer_text}
+use Rattle.msg_body.specs.Bodies.{Body, body_text, chunked, plain, trailers_in}
+use Rattle.msg_body.specs.Messages.{Message, message_text}
+use Rattle.msg_body.specs.Views.{body_before, lines_on, lines_start}
+use Rattle.line_rewrites.specs.Sides.{SideParts, body_after, lines_text, side_parts, text_with}
 use Rattle.line_rewrites.specs.tools.Computed.{lines_between, moved_backward, moved_forward}
 use Rattle.line_rewrites.proofs.Lengths.{lines_joined}
 
@@ -20,9 +25,24 @@ pub side_lines : (side : Side) (message : Message) → lines_on side message ≡
 side_lines Header message = refl
 side_lines Trailer message = refl
 
+-- the message's bytes are those of the side's parts
+pub side_text : (side : Side) (message : Message) → message_text message ≡ text_with (side_parts side message) (side_parts side message).lines
+side_text Header message =
+    append_assoc (start_text message.head.start) (lines_text message.head.lines ++ codes "\r\n") (body_text message.body)
+    ∙ ap (λ t. start_text message.head.start ++ t) (append_assoc (lines_text message.head.lines) (codes "\r\n") (body_text message.body))
+side_text Trailer message = by message.body
+  where
+    by : (body : Body) → head_text message.head ++ body_text body ≡ (head_text message.head ++ body_before body) ++ (lines_text (trailers_in body) ++ body_after body)
+    by (plain content) = sym (append-nil (head_text message.head ++ content))
+    by (chunked chunks trailers) = sym (append_assoc (head_text message.head) (chunks_text chunks) (trailer_text trailers))
+
 -- the offset of the line of the index
 abbrev pub offset : SideParts → ℕ → ℕ
 offset parts i = length parts.before + length (lines_text (take i parts.lines))
+
+pub line_start : (side : Side) (message : Message) (i : ℕ) → lines_start side message + length (lines_text (take i (lines_on side message))) ≡ offset (side_parts side message) i
+line_start Header message i = refl
+line_start Trailer message i = ap (λ n. n + length (lines_text (take i (lines_on Trailer message)))) (sym (length-append (head_text message.head) (body_before message.body)))
 
 -- before that offset, and from it on
 abbrev pub front : SideParts → ℕ → List ℕ

@@ -6,6 +6,7 @@ pub mod Sound
 pub mod Steps
 pub mod Covered
 pub mod Permitted
+pub mod Conditions
 pub mod SameFor
 pub mod Decisions
 pub mod Laws

@@ -1,16 +1,14 @@
 -- The bytes of a message, by the field lines of a side (RFC 9112 sections 2.1 and 7.1.2).
-use Rattle.std.specs.Prelude.{◌≡◌, ℕ, ◌≤◌, Bool, true, false, List, [], ◌++◌, length, codes}
+use Rattle.std.specs.Prelude.{ℕ, Bool, true, List, [], ◌++◌, codes}
 use Rattle.std.specs.List.{flat_map}
 use Rattle.msg_head.specs.declared.error.Side.{Side}
 use Rattle.msg_head.specs.declared.error.Side.TheVariants.{Header, Trailer}
-use Rattle.msg_head.specs.declared.limits.TheConstants.{MAX_HEAD_BYTES}
 use Rattle.msg_head.specs.Heads.{head_text}
 use Rattle.msg_head.specs.Lines.{FieldLine, line_text}
 use Rattle.msg_head.specs.Starts.{start_text}
-use Rattle.chunks.specs.Chunks.{chunks_text}
 use Rattle.msg_body.specs.Bodies.{Body, plain, chunked, body_text, trailers_in}
-use Rattle.msg_body.specs.declared.limits.TheConstants.{MAX_MESSAGE_BYTES}
 use Rattle.msg_body.specs.Messages.{Message}
+pub use Rattle.msg_body.specs.Views.{body_before, has_trailers}
 
 -- the bytes before the lines of the side, the lines, and the bytes after them
 pub record SideParts : Type 0 where
@@ -25,11 +23,6 @@ lines_text lines = flat_map line_text lines
 -- all bytes of the parts, these lines in place of their own
 abbrev pub text_with : SideParts → List FieldLine → List ℕ
 text_with parts lines = parts.before ++ (lines_text lines ++ parts.after)
-
--- the bytes of the body before its trailer section
-abbrev pub body_before : Body → List ℕ
-body_before (plain content) = content
-body_before (chunked chunks trailers) = chunks_text chunks
 
 -- the bytes of the body after the lines of its trailer section
 abbrev pub body_after : Body → List ℕ
@@ -49,19 +42,7 @@ side_parts Trailer message = record {
   after = body_after message.body;
 }
 
--- content that isn't in chunks has no trailer section
-abbrev pub has_trailers : Body → Bool
-has_trailers (plain content) = false
-has_trailers (chunked chunks trailers) = true
-
 -- the message has the side
 abbrev pub has_side : Side → Message → Bool
 has_side Header message = true
 has_side Trailer message = has_trailers message.body
-
--- the bytes are those of the parts, and the lines begin there
-pub record AreSideBytes (parts : SideParts) (bytes : List ℕ) (start : ℕ) : Type 0 where
-  pub text : bytes ≡ text_with parts parts.lines
-  pub begin : start ≡ length parts.before
-  pub short : length (lines_text parts.lines) ≤ MAX_HEAD_BYTES
-  pub size : length bytes ≤ MAX_MESSAGE_BYTES

@@ -2,8 +2,9 @@
 //! a signature (RFC 9421 section 1.1).
 //!
 //! ```text
-//! let text = rewrite_lines(alloc, bytes, &context, &step)?;    // or it isn't applicable
-//! permits_lines(context.message, &step, &label_read.params)    // the label's base stays
+//! let text = rewrite_lines(alloc, &context, &step)?;           // or it isn't applicable
+//! let condition = line_condition(context.message, &step);      // once for all labels
+//! condition.is_met(&label_read.params)                         // the label's base stays
 //! ```
 #![tactic(auto)]
 
@@ -24,7 +25,7 @@ pub use laws::{
     a_line_step_gives_one_message, a_line_step_is_permitted_or_not, a_text_has_one_sound_message,
 };
 pub use line::append_text_line;
-pub use permit::permits_lines;
+pub use permit::{LineCondition, line_condition};
 pub use sides::SideLines;
-pub use sized::is_sized_message;
-pub use step::rewrite_lines;
+pub use sized::{is_sized_message, sized_message};
+pub use step::{make_lines, rewrite_lines};

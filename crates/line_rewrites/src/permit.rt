@@ -1,15 +1,17 @@
-//! Whether a signature permits a step.
+//! Which signatures permit a step.
 
-ghost use Rattle.std.specs.Prelude.{◌≡◌, ℕ, List, ◌↔◌, IsTrue};
+ghost use Rattle.std.specs.Prelude.{◌≡◌, ◌↔◌, IsTrue};
+ghost use Rattle.component_ids.specs.declared.params.SigParams.{SigParams};
 ghost use Rattle.component_values.specs.Context.{MessageContext};
 ghost use Rattle.component_ids.specs.Table.{is_listed};
 ghost use Rattle.msg_body.specs.Views.{message_of, lines_on};
 ghost use Rattle.msg_head.specs.Values.{has_bytes, value};
 ghost use Rattle.msg_head.specs.Views.{field_line_of};
 ghost use Rattle.field_values.specs.SameFields.{name_of};
+ghost use Rattle.line_rewrites.specs.Conditions.{IsLineCondition, IsMetBy};
 ghost use Rattle.line_rewrites.specs.LineLists.{PassesOtherNames};
 ghost use Rattle.line_rewrites.specs.tools.Permitted.{OfLineOn};
-ghost use Rattle.line_rewrites.specs.Permitted.{PermitsLines, MayChangeNumber, MayChangeValue, HasValue, counted_names, kept_names};
+ghost use Rattle.line_rewrites.specs.Permitted.{MayChangeNumber, MayChangeValue, HasValue, counted_names, kept_names};
 ghost use Rattle.line_rewrites.specs.RawValues.{IsBeforeLoneSpace, IsLoneSpace};
 
 use crate::covered::{covers_field, covers_lines};
@@ -37,20 +39,75 @@ fn is_kept(line: LineView<'_>) -> bool
     line.is_named(b"signature") || line.is_named(b"signature-input") || is_counted(line)
 }
 
-/// Whether lines of the name may be joined and split.
-fn may_change_number(side: Side, line: LineView<'_>, params: &SigParams) -> bool
-    ensures { IsTrue result
-        ↔ MayChangeNumber side (name_of (field_line_of line.entry)) params.now }
-{
-    !is_counted(line) && !covers_lines(side, line, params)
+/// What a step on field lines asks of a signature that is to stay, where all is judged that rests
+/// on no signature.
+#[derive(Clone, Copy)]
+pub enum LineCondition<'s> {
+    /// Nothing.
+    Always,
+    /// No signature is sure to stay.
+    Never,
+    /// It doesn't cover the field of this name, in any case, on the side.
+    FieldUncovered { side: Side, name: &'s [u8] },
+    /// It doesn't cover that field line by line (RFC 9421 section 2.1.3).
+    LinesUncovered { side: Side, name: &'s [u8] },
 }
 
-/// Whether lines of the name may come and go.
-fn may_change_value(side: Side, line: LineView<'_>, params: &SigParams) -> bool
-    ensures { IsTrue result
-        ↔ MayChangeValue side (name_of (field_line_of line.entry)) params.now }
+impl LineCondition<'_> {
+    /// Whether a signature of these parameters meets it.
+    pub fn is_met(&self, params: &SigParams) -> bool
+        ensures { IsTrue result ↔ IsMetBy params.now self.now }
+    {
+        match *self {
+            LineCondition::Always => true,
+            LineCondition::Never => false,
+            LineCondition::FieldUncovered { side, name } => {
+                !covers_field(side, LineView { name, raw: b"" }, params)
+            }
+            LineCondition::LinesUncovered { side, name } => {
+                !covers_lines(side, LineView { name, raw: b"" }, params)
+            }
+        }
+    }
+}
+
+/// Nothing is asked, where that holds.
+fn always_where(holds: bool) -> LineCondition<'static>
+    ensures { (params : SigParams) → IsMetBy params result ↔ IsTrue holds }
 {
-    !is_kept(line) && !covers_field(side, line, params)
+    if holds {
+        LineCondition::Always
+    } else {
+        LineCondition::Never
+    }
+}
+
+/// When lines of the name may be joined and split.
+fn number_condition(side: Side, line: LineView<'_>) -> LineCondition<'_>
+    ensures { (params : SigParams) → IsMetBy params result
+        ↔ MayChangeNumber side (name_of (field_line_of line.entry)) params }
+{
+    if is_counted(line) {
+        return LineCondition::Never;
+    }
+    LineCondition::LinesUncovered {
+        side,
+        name: line.name,
+    }
+}
+
+/// When lines of the name may come and go.
+fn value_condition(side: Side, line: LineView<'_>) -> LineCondition<'_>
+    ensures { (params : SigParams) → IsMetBy params result
+        ↔ MayChangeValue side (name_of (field_line_of line.entry)) params }
+{
+    if is_kept(line) {
+        return LineCondition::Never;
+    }
+    LineCondition::FieldUncovered {
+        side,
+        name: line.name,
+    }
 }
 
 /// Whether the line has a value, and not the empty one.
@@ -75,43 +132,46 @@ fn permits_fold(message: &MessageView<'_>, side: Side, index: usize, at: usize) 
     }
 }
 
-fn permits_join(
-    message: &MessageView<'_>,
+fn join_condition<'m>(
+    message: &MessageView<'m>,
     side: Side,
     index: usize,
     later: usize,
-    params: &SigParams,
-) -> bool
-    ensures { IsTrue result ↔ (OfLineOn (lines_on side (message_of message.now)) index
-        (λ line. MayChangeNumber side (name_of line) params.now)
+) -> LineCondition<'m>
+    ensures { (params : SigParams) → IsMetBy params result
+        ↔ (OfLineOn (lines_on side (message_of message.now)) index
+        (λ line. MayChangeNumber side (name_of line) params)
         × OfLineOn (lines_on side (message_of message.now)) later HasValue) }
 {
     let Some(line) = line_at(message, side, index) else {
-        return false;
+        return LineCondition::Never;
     };
     let Some(other) = line_at(message, side, later) else {
-        return false;
+        return LineCondition::Never;
     };
-    may_change_number(side, line, params) && has_value(other)
+    if !has_value(other) {
+        return LineCondition::Never;
+    }
+    number_condition(side, line)
 }
 
-fn permits_split(
-    message: &MessageView<'_>,
+fn split_condition<'m>(
+    message: &MessageView<'m>,
     side: Side,
     index: usize,
     at: usize,
-    params: &SigParams,
-) -> bool
-    ensures { IsTrue result ↔ OfLineOn (lines_on side (message_of message.now)) index
-        (λ line. MayChangeNumber side (name_of line) params.now
-        × IsBeforeLoneSpace at line.raw) }
+) -> LineCondition<'m>
+    ensures { (params : SigParams) → IsMetBy params result
+        ↔ OfLineOn (lines_on side (message_of message.now)) index
+        (λ line. MayChangeNumber side (name_of line) params × IsBeforeLoneSpace at line.raw) }
 {
-    match line_at(message, side, index) {
-        Some(line) => {
-            may_change_number(side, line, params) && is_before_lone_space(line.raw, at)
-        }
-        None => false,
+    let Some(line) = line_at(message, side, index) else {
+        return LineCondition::Never;
+    };
+    if !is_before_lone_space(line.raw, at) {
+        return LineCondition::Never;
     }
+    number_condition(side, line)
 }
 
 fn permits_move(message: &MessageView<'_>, side: Side, index: usize, to: usize) -> bool
@@ -130,52 +190,49 @@ fn permits_move(message: &MessageView<'_>, side: Side, index: usize, to: usize) 
     }
 }
 
-fn permits_remove(message: &MessageView<'_>, side: Side, index: usize, params: &SigParams) -> bool
-    ensures { IsTrue result ↔ OfLineOn (lines_on side (message_of message.now)) index
-        (λ line. MayChangeValue side (name_of line) params.now) }
+fn remove_condition<'m>(message: &MessageView<'m>, side: Side, index: usize) -> LineCondition<'m>
+    ensures { (params : SigParams) → IsMetBy params result
+        ↔ OfLineOn (lines_on side (message_of message.now)) index
+        (λ line. MayChangeValue side (name_of line) params) }
 {
     match line_at(message, side, index) {
-        Some(line) => may_change_value(side, line, params),
-        None => false,
+        Some(line) => value_condition(side, line),
+        None => LineCondition::Never,
     }
 }
 
-/// Whether the signature of these parameters permits the step. Whether it is applicable isn't
-/// asked.
-pub fn permits_lines(message: &MessageView<'_>, step: &LineRewrite, params: &SigParams) -> bool
-    ensures { (context : MessageContext) (label : List ℕ)
-        → context.message ≡ message_of message.now
-        → IsTrue result ↔ PermitsLines context step.now label params.now }
+/// What the step asks of a signature of the message. Whether it is applicable isn't asked.
+pub fn line_condition<'s>(message: &MessageView<'s>, step: &'s LineRewrite) -> LineCondition<'s>
+    ensures { (context : MessageContext) → context.message ≡ message_of message.now
+        → IsLineCondition context step.now result }
 {
     match step {
-        LineRewrite::Pad { .. } => true,
-        LineRewrite::Unfold { .. } => true,
-        LineRewrite::Case { .. } => true,
+        LineRewrite::Pad { .. } => LineCondition::Always,
+        LineRewrite::Unfold { .. } => LineCondition::Always,
+        LineRewrite::Case { .. } => LineCondition::Always,
         LineRewrite::Fold {
             side,
             index,
             at,
             ..
-        } => permits_fold(message, *side, *index, *at),
-        LineRewrite::Join { side, index, later } => {
-            permits_join(message, *side, *index, *later, params)
+        } => always_where(permits_fold(message, *side, *index, *at)),
+        LineRewrite::Join { side, index, later } => join_condition(message, *side, *index, *later),
+        LineRewrite::Split { side, index, at } => split_condition(message, *side, *index, *at),
+        LineRewrite::Move { side, index, to } => {
+            always_where(permits_move(message, *side, *index, *to))
         }
-        LineRewrite::Split { side, index, at } => permits_split(
-            message, *side, *index, *at, params,
-        ),
-        LineRewrite::Move { side, index, to } => permits_move(message, *side, *index, *to),
         LineRewrite::Add {
             side,
             name,
             text,
             ..
-        } => {
-            let line = LineView {
+        } => value_condition(
+            *side,
+            LineView {
                 name: name.bytes(),
                 raw: text.bytes(),
-            };
-            may_change_value(*side, line, params)
-        }
-        LineRewrite::Remove { side, index } => permits_remove(message, *side, *index, params),
+            },
+        ),
+        LineRewrite::Remove { side, index } => remove_condition(message, *side, *index),
     }
 }

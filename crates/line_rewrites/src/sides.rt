@@ -1,68 +1,14 @@
 //! Where the field lines of a side are in the bytes of their message.
 
-ghost use Rattle.std.specs.Prelude.{◌≡◌, ◌+◌, ◌-◌, ◌≤◌, ◌<◌, ◌++◌, Bool, length, take, drop, IsTrue, IsFalse, IfSome, ◌^◌, MatchOption, option_map, slice_get};
+ghost use Rattle.std.specs.Prelude.{◌≡◌, ◌+◌, ◌-◌, ◌≤◌, ◌<◌, length, take, drop, IfSome, ◌^◌, option_map, slice_get};
 ghost use Rattle.std.specs.Str.{bytes_eq, str_to_ascii_lowercase};
-ghost use Rattle.msg_head.specs.Lines.{line_text};
-ghost use Rattle.msg_head.specs.Starts.{start_text};
 ghost use Rattle.msg_head.specs.Values.{is_there};
-ghost use Rattle.msg_head.specs.Views.{field_line_of, start_line_of};
-ghost use Rattle.msg_head.specs.declared.limits.TheConstants.{MAX_HEAD_BYTES};
-ghost use Rattle.msg_body.specs.Messages.{Spells};
+ghost use Rattle.msg_head.specs.Views.{field_line_of};
 ghost use Rattle.msg_body.specs.Views.{message_of, lines_on};
-ghost use Rattle.line_rewrites.specs.Sides.{lines_text, has_side, side_parts};
 
-use framing::Framing;
 use msg_body::MessageView;
-use msg_head::{LineView, Side, Start};
+use msg_head::{LineView, Side};
 use std::marker::Model;
-
-/// How many bytes the start line has, its CRLF included.
-#[tactic(auto, using(crate::proofs::Lengths::request_length, crate::proofs::Lengths::status_length, crate::proofs::Lengths::reason_length))]
-fn start_len(start: Start<'_>) -> usize
-    requires { length (start_text (start_line_of start)) ≤ MAX_HEAD_BYTES }
-    ensures { result ≡ length (start_text (start_line_of start.entry)) }
-{
-    match start {
-        Start::Request {
-            method,
-            target,
-            version,
-        } => method.len() + target.len() + version.len() + 4,
-        Start::Status {
-            version,
-            code,
-            reason: None,
-        } => version.len() + code.len() + 3,
-        Start::Status {
-            version,
-            code,
-            reason: Some(reason),
-        } => version.len() + code.len() + reason.len() + 4,
-    }
-}
-
-/// How many bytes a field line has, its CRLF included.
-#[tactic(auto, using(crate::proofs::Lengths::line_length))]
-fn line_len(line: LineView<'_>) -> usize
-    requires { length (line_text (field_line_of line)) ≤ MAX_HEAD_BYTES }
-    ensures { result ≡ length (line_text (field_line_of line.entry)) }
-{
-    line.name.len() + line.raw.len() + 3
-}
-
-/// How many bytes the first lines of the side have, so many.
-fn lines_len(message: &MessageView<'_>, side: Side, count: usize) -> usize
-    requires count { count ≤ length (lines_on side (message_of message.now)) }
-    requires short { length (lines_text (lines_on side (message_of message.now)))
-        ≤ MAX_HEAD_BYTES }
-    ensures { result ≡ length (lines_text (take count (lines_on side (message_of message.now)))) }
-{
-    let mut len = 0;
-    for index in 0..count {
-        len += line_len(message.line(side, index));
-    }
-    len
-}
 
 /// The line with that index on the side.
 pub(crate) fn line_at<'m>(
@@ -131,66 +77,39 @@ fn bytes_from(bytes: &[u8], offset: usize) -> &[u8]
 /// A side of a message, in the message's bytes. A contract sees it as the bytes before the lines,
 /// the lines, and the bytes after them.
 #[derive(Drop)]
-pub struct SideLines<'a, 'm, 'b> {
+pub struct SideLines<'a, 'm> {
     message: &'a MessageView<'m>,
     side: Side,
-    bytes: &'b [u8],
-    // The offset of the first line, or of what comes after the lines where there are none.
-    start: usize,
 }
 
-impl<'a, 'm, 'b> Model for SideLines<'a, 'm, 'b> {
+impl<'a, 'm> Model for SideLines<'a, 'm> {
     ghost use Rattle.msg_body.specs.Views.{message_of};
-    ghost use Rattle.line_rewrites.specs.Sides.{SideParts, AreSideBytes, side_parts};
+    ghost use Rattle.line_rewrites.specs.Sides.{SideParts, side_parts};
 
     ghost Value = { SideParts };
 
     ghost view = { λ s. side_parts s.side (message_of s.message.now) };
-
-    ghost invariant = { λ s.
-        AreSideBytes (side_parts s.side (message_of s.message.now)) s.bytes.now s.start };
 }
 
-impl<'a, 'm, 'b> SideLines<'a, 'm, 'b> {
-    ghost use Rattle.std.specs.Prelude.{◌≡◌, ◌+◌, ◌-◌, ◌≤◌, ◌<◌, ◌^◌, IfSome, ◌++◌, Bool, length, take, drop, IsTrue, IsFalse, MatchOption, option_map, slice_get};
+impl<'a, 'm> SideLines<'a, 'm> {
+    ghost use Rattle.std.specs.Prelude.{◌≡◌, ◌+◌, ◌-◌, ◌≤◌, ◌<◌, ◌^◌, IfSome, ◌++◌, length, take, drop, IsTrue, IsFalse, MatchOption, option_map, slice_get};
     ghost use Rattle.std.specs.Str.{str_to_ascii_lowercase};
     ghost use Rattle.msg_head.specs.Values.{is_there};
     ghost use Rattle.msg_head.specs.Views.{field_line_of};
-    ghost use Rattle.msg_body.specs.Messages.{Spells};
     ghost use Rattle.msg_body.specs.Views.{message_of};
     ghost use Rattle.line_rewrites.specs.Sides.{lines_text, has_side, side_parts};
 
-    /// The side of the message, whose bytes these are. None where it is the trailer section's, and
-    /// the content isn't in chunks.
-    pub fn of(
-        message: &'a MessageView<'m>,
-        bytes: &'b [u8],
-        side: Side,
-    ) -> Option<SideLines<'a, 'm, 'b>>
-        requires { (to_head : Bool) × Spells to_head (message_of message.now) bytes.now }
+    /// The side of the message. None where it is the trailer section's, and the content isn't in
+    /// chunks.
+    pub fn of(message: &'a MessageView<'m>, side: Side) -> Option<SideLines<'a, 'm>>
         ensures { MatchOption result (IsFalse (has_side side (message_of message.now)))
             (λ lines. IsTrue (has_side side (message_of message.now))
             × (lines ≡ side_parts side (message_of message.now))) }
     {
-        if side == Side::Header {
-            let start = start_len(message.start());
-            return Some(SideLines {
-                message,
-                side,
-                bytes,
-                start,
-            });
-        }
-        if message.framing() != Framing::Chunked {
+        if side == Side::Trailer && !message.has_trailers() {
             return None;
         }
-        let start = bytes.len() - (lines_len(message, side, message.line_count(side)) + 2);
-        Some(SideLines {
-            message,
-            side,
-            bytes,
-            start,
-        })
+        Some(SideLines { message, side })
     }
 
     /// How many lines there are.
@@ -224,32 +143,35 @@ impl<'a, 'm, 'b> SideLines<'a, 'm, 'b> {
         ensures { result
             ≡ length self.now.before + length (lines_text (take index self.now.lines)) }
     {
-        self.start + lines_len(self.message, self.side, index)
+        self.message.line_offset(self.side, index)
     }
 
     /// The bytes before the line.
-    pub fn before(&self, index: usize) -> &'b [u8]
+    pub fn before(&self, index: usize) -> &'m [u8]
         requires { index ≤ length self.now.lines }
         ensures { result.now ≡ self.now.before ++ lines_text (take index self.now.lines) }
     {
-        bytes_before(self.bytes, self.offset(index))
+        bytes_before(self.message.bytes(), self.offset(index))
     }
 
     /// The bytes from the one line up to the other.
-    pub fn between(&self, from: usize, to: usize) -> &'b [u8]
+    pub fn between(&self, from: usize, to: usize) -> &'m [u8]
         requires order { from ≤ to }
         requires within { to ≤ length self.now.lines }
         ensures { result.now ≡ lines_text (take (to - from) (drop from self.now.lines)) }
     {
         let start = self.offset(from);
-        bytes_before(bytes_from(self.bytes, start), self.offset(to) - start)
+        bytes_before(
+            bytes_from(self.message.bytes(), start),
+            self.offset(to) - start,
+        )
     }
 
     /// The bytes from the line on.
-    pub fn rest_from(&self, index: usize) -> &'b [u8]
+    pub fn rest_from(&self, index: usize) -> &'m [u8]
         requires { index ≤ length self.now.lines }
         ensures { result.now ≡ lines_text (drop index self.now.lines) ++ self.now.after }
     {
-        bytes_from(self.bytes, self.offset(index))
+        bytes_from(self.message.bytes(), self.offset(index))
     }
 }

@@ -1,11 +1,13 @@
-//! Whether a text is that of a message with so much content.
+//! Texts of messages with so much content.
 
-ghost use Rattle.std.specs.Prelude.{◌≡◌, ◌≢◌, ◌==◌, ◌&&◌, false, length, IsTrue, IsFalse, IfOk};
+ghost use Rattle.std.specs.Prelude.{◌≡◌, ◌≢◌, ◌==◌, ◌&&◌, length, IsTrue, IsFalse, IfOk};
+ghost use Rattle.byte_grammar.specs.Causes.{AnswersWhere};
 ghost use Rattle.msg_body.specs.Messages.{Message};
 ghost use Rattle.msg_body.specs.Views.{message_content, message_of};
 ghost use Rattle.msg_body.specs.declared.error.MessageError.{MessageError};
-ghost use Rattle.line_rewrites.specs.Sized.{SpellsSized};
+ghost use Rattle.line_rewrites.specs.Sized.{SpellsSized, HasNoSized};
 
+use crate::fault::ApplyFault;
 use msg_body::{Expect, MAX_MESSAGE_BYTES, MessageError, MessageRead, MessageView, read_message};
 use sfv_text::Memory;
 use std::alloc::Global;
@@ -19,12 +21,39 @@ fn is_sized(message: &MessageView<'_>, used: usize, len: usize, count: usize) ->
 }
 
 /// What is answered where no message is read.
-fn unless_memory(error: MessageError) -> Result<bool, Memory>
-    ensures { IfOk result (λ is. (is ≡ false) × (error ≢ MessageError.Memory)) }
+fn fault_of(error: MessageError) -> ApplyFault
+    ensures { result ≡ ApplyFault.NotApplicable → error ≢ MessageError.Memory }
 {
     match error {
-        MessageError::Memory => Err(Memory),
-        _ => Ok(false),
+        MessageError::Memory => ApplyFault::Memory,
+        _ => ApplyFault::NotApplicable,
+    }
+}
+
+/// Reads the text as that of a message whose content has so many bytes.
+pub fn sized_message<'m>(
+    alloc: Global,
+    text: &'m [u8],
+    to_head: bool,
+    count: usize,
+) -> Result<MessageView<'m>, ApplyFault>
+    ensures ok { IfOk result (λ view. SpellsSized to_head text.now count (message_of view)) }
+    ensures fault { AnswersWhere ApplyFault.Memory result ApplyFault.NotApplicable
+        (HasNoSized to_head text.now count) }
+{
+    if text.len() > MAX_MESSAGE_BYTES {
+        return Err(ApplyFault::NotApplicable);
+    }
+    match read_message(alloc, text, Expect::Any, to_head) {
+        Ok(MessageRead::Whole(message, used)) => {
+            if is_sized(&message, used, text.len(), count) {
+                Ok(message)
+            } else {
+                Err(ApplyFault::NotApplicable)
+            }
+        }
+        Ok(MessageRead::Partial) => Err(ApplyFault::NotApplicable),
+        Err(error) => Err(fault_of(error)),
     }
 }
 
@@ -40,12 +69,9 @@ pub fn is_sized_message(
     ensures no { IfOk result (λ is. IsFalse is → (message : Message)
         → ¬ SpellsSized to_head text.now count message) }
 {
-    if text.len() > MAX_MESSAGE_BYTES {
-        return Ok(false);
-    }
-    match read_message(alloc, text, Expect::Any, to_head) {
-        Ok(MessageRead::Whole(message, used)) => Ok(is_sized(&message, used, text.len(), count)),
-        Ok(MessageRead::Partial) => Ok(false),
-        Err(error) => unless_memory(error),
+    match sized_message(alloc, text, to_head, count) {
+        Ok(_) => Ok(true),
+        Err(ApplyFault::NotApplicable) => Ok(false),
+        Err(ApplyFault::Memory) => Err(Memory),
     }
 }

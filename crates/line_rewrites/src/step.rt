@@ -1,10 +1,11 @@
 //! The message that a step gives.
 
-ghost use Rattle.std.specs.Prelude.{◌≡◌, IsTrue, IfOk};
+ghost use Rattle.std.specs.Prelude.{◌≡◌, IsTrue, IfOk, Err};
 ghost use Rattle.byte_grammar.specs.Causes.{AnswersWhere};
-ghost use Rattle.component_values.specs.Context.{context_of, answers_head};
+ghost use Rattle.component_values.specs.Context.{HasWholeMessage, context_of, answers_head};
 ghost use Rattle.msg_body.specs.Messages.{Message, Spells};
 ghost use Rattle.rewrite_script.specs.Lines.{is_line_writable};
+ghost use Rattle.line_rewrites.specs.Sized.{SpellsLineStep};
 ghost use Rattle.line_rewrites.specs.Steps.{HasNoLineStep, RewritesLines};
 ghost use Rattle.line_rewrites.specs.tools.Judged.{ExplainsStep};
 
@@ -16,19 +17,30 @@ use rewrite_script::LineRewrite;
 use sfv_text::{Memory, Text};
 use std::alloc::Global;
 
-// The answer to a step, by its cause.
-fn judge(
+/// The text that the step writes. It isn't read: the message that it spells, with as much content
+/// as that of the context has, is what the step gives, and where it spells none the step isn't
+/// applicable.
+pub fn make_lines(
     alloc: Global,
-    bytes: &[u8],
     context: &Context<'_, '_>,
     step: &LineRewrite,
 ) -> Result<Text, ApplyFault>
     requires writable { IsTrue (is_line_writable step.now) }
-    requires spells { Spells (answers_head (context_of context.now).related)
-        (context_of context.now).message bytes.now }
+    requires whole { HasWholeMessage (context_of context.now) }
+    ensures ok { IfOk result (SpellsLineStep (context_of context.now) step.now) }
+    ensures fault { result ≡ Err ApplyFault.NotApplicable
+        → HasNoLineStep (context_of context.now) step.now }
+{
+    rewritten(alloc, context.message, step)
+}
+
+// The answer to a step, by its cause.
+fn judge(alloc: Global, context: &Context<'_, '_>, step: &LineRewrite) -> Result<Text, ApplyFault>
+    requires writable { IsTrue (is_line_writable step.now) }
+    requires whole { HasWholeMessage (context_of context.now) }
     ensures { ExplainsStep (context_of context.now) step.now result }
 {
-    let text = match rewritten(alloc, bytes, context.message, step) {
+    let text = match make_lines(alloc, context, step) {
         Ok(text) => text,
         Err(fault) => return Err(fault),
     };
@@ -40,21 +52,19 @@ fn judge(
     }
 }
 
-/// The message of the context, whose bytes these are, after the step.
+/// The message of the context after the step.
 pub fn rewrite_lines(
     alloc: Global,
-    bytes: &[u8],
     context: &Context<'_, '_>,
     step: &LineRewrite,
 ) -> Result<Text, ApplyFault>
     requires writable { IsTrue (is_line_writable step.now) }
-    requires spells { Spells (answers_head (context_of context.now).related)
-        (context_of context.now).message bytes.now }
+    requires whole { HasWholeMessage (context_of context.now) }
     ensures ok { IfOk result (RewritesLines (context_of context.now) step.now) }
     ensures spells { IfOk result (λ text. (after : Message)
         × Spells (answers_head (context_of context.now).related) after text) }
     ensures fault { AnswersWhere ApplyFault.Memory result ApplyFault.NotApplicable
         (HasNoLineStep (context_of context.now) step.now) }
 {
-    judge(alloc, bytes, context, step)
+    judge(alloc, context, step)
 }

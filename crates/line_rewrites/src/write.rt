@@ -1,8 +1,7 @@
 //! The bytes of a message with the lines that a step makes.
 
-ghost use Rattle.std.specs.Prelude.{◌≡◌, ◌+◌, ◌^◌, ◌<◌, ◌≤◌, ◌++◌, Bool, Some, OnOk, length, option_map, slice_get};
+ghost use Rattle.std.specs.Prelude.{◌≡◌, ◌+◌, ◌^◌, ◌<◌, ◌≤◌, ◌++◌, Some, OnOk, length, option_map, slice_get};
 ghost use Rattle.msg_head.specs.Lines.{FieldLine};
-ghost use Rattle.msg_body.specs.Messages.{Spells};
 ghost use Rattle.msg_body.specs.Views.{message_of};
 ghost use Rattle.line_rewrites.specs.LineLists.{line_of};
 ghost use Rattle.line_rewrites.specs.tools.Computed.{replaced_at, joined_at, split_at, moved_at, moved_backward, moved_forward, added, removed, changed_side, changed_text, rewritten};
@@ -21,7 +20,7 @@ use std::alloc::Global;
 
 /// The line becomes another.
 fn write_replaced(
-    lines: &SideLines<'_, '_, '_>,
+    lines: &SideLines<'_, '_>,
     index: usize,
     step: &LineRewrite,
     text: &mut Text,
@@ -44,7 +43,7 @@ fn write_replaced(
 
 /// The line and a later one become one.
 fn write_joined(
-    lines: &SideLines<'_, '_, '_>,
+    lines: &SideLines<'_, '_>,
     index: usize,
     later: usize,
     text: &mut Text,
@@ -74,7 +73,7 @@ fn write_joined(
 
 /// The line becomes two at the comma.
 fn write_split(
-    lines: &SideLines<'_, '_, '_>,
+    lines: &SideLines<'_, '_>,
     index: usize,
     at: usize,
     text: &mut Text,
@@ -98,7 +97,7 @@ fn write_split(
 
 /// The line comes to an index that isn't before its own.
 fn write_forward(
-    lines: &SideLines<'_, '_, '_>,
+    lines: &SideLines<'_, '_>,
     index: usize,
     to: usize,
     text: &mut Text,
@@ -119,7 +118,7 @@ fn write_forward(
 
 /// The line comes to an index before its own.
 fn write_backward(
-    lines: &SideLines<'_, '_, '_>,
+    lines: &SideLines<'_, '_>,
     index: usize,
     to: usize,
     text: &mut Text,
@@ -140,7 +139,7 @@ fn write_backward(
 
 /// The line comes to the other index.
 fn write_moved(
-    lines: &SideLines<'_, '_, '_>,
+    lines: &SideLines<'_, '_>,
     index: usize,
     to: usize,
     text: &mut Text,
@@ -165,7 +164,7 @@ fn write_moved(
 
 /// A line is put in.
 fn write_added(
-    lines: &SideLines<'_, '_, '_>,
+    lines: &SideLines<'_, '_>,
     index: usize,
     name: &[u8],
     line: &[u8],
@@ -184,11 +183,7 @@ fn write_added(
 }
 
 /// The line goes.
-fn write_removed(
-    lines: &SideLines<'_, '_, '_>,
-    index: usize,
-    text: &mut Text,
-) -> Result<(), ApplyFault>
+fn write_removed(lines: &SideLines<'_, '_>, index: usize, text: &mut Text) -> Result<(), ApplyFault>
     ensures { Adds (option_map (text_with lines.now) (removed index lines.now.lines))
         text.old text.new result }
 {
@@ -201,11 +196,7 @@ fn write_removed(
 }
 
 /// Adds the bytes of the message, with the lines that the step makes of those of the side.
-fn write(
-    lines: &SideLines<'_, '_, '_>,
-    step: &LineRewrite,
-    text: &mut Text,
-) -> Result<(), ApplyFault>
+fn write(lines: &SideLines<'_, '_>, step: &LineRewrite, text: &mut Text) -> Result<(), ApplyFault>
     ensures { Adds (changed_text lines.now step.now) text.old text.new result }
 {
     match step {
@@ -244,7 +235,7 @@ fn side_of(step: &LineRewrite) -> Side
 }
 
 /// How many bytes the step adds at most.
-fn growth(step: &LineRewrite, lines: &SideLines<'_, '_, '_>) -> usize {
+fn growth(step: &LineRewrite, lines: &SideLines<'_, '_>) -> usize {
     match step {
         LineRewrite::Pad { before, after, .. } => before
             .bytes()
@@ -265,21 +256,19 @@ fn growth(step: &LineRewrite, lines: &SideLines<'_, '_, '_>) -> usize {
     }
 }
 
-/// The bytes of the message, whose bytes these are, with the lines that the step makes of those of
-/// its side. Whether they are a message isn't asked.
+/// The bytes of the message with the lines that the step makes of those of its side. Whether they
+/// are a message isn't asked.
 pub(crate) fn rewritten(
     alloc: Global,
-    bytes: &[u8],
     message: &MessageView<'_>,
     step: &LineRewrite,
 ) -> Result<Text, ApplyFault>
-    requires { (to_head : Bool) × Spells to_head (message_of message.now) bytes.now }
     ensures { Makes (rewritten (message_of message.now) step.now) result }
 {
-    let Some(lines) = SideLines::of(message, bytes, side_of(step)) else {
+    let Some(lines) = SideLines::of(message, side_of(step)) else {
         return Err(ApplyFault::NotApplicable);
     };
-    let room = bytes.len().saturating_add(growth(step, &lines));
+    let room = message.bytes().len().saturating_add(growth(step, &lines));
     let mut text = Text::with_capacity(alloc, room)?;
     write(&lines, step, &mut text)?;
     Ok(text)

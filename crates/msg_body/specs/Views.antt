@@ -1,10 +1,13 @@
 -- What the view of a message stands for.
-use Rattle.std.specs.Prelude.{◌≡◌, ⊤, ℕ, Bool, IsTrue, List, [], ◌++◌, take, drop}
+use Rattle.std.specs.Prelude.{◌≡◌, ⊤, ℕ, ◌+◌, Bool, true, false, IsTrue, List, ◌++◌, length, take, drop}
 use Rattle.msg_head.specs.declared.error.Side.{Side}
 use Rattle.msg_head.specs.declared.error.Side.TheVariants.{Header, Trailer}
+use Rattle.msg_head.specs.Heads.{head_text}
 use Rattle.msg_head.specs.Lines.{FieldLine}
+use Rattle.msg_head.specs.Starts.{start_text}
 use Rattle.msg_head.specs.Views.{View, IsViewOf, head_of}
 use Rattle.msg_head.specs.TrailerViews.{TrailerParts, TrailerFills, trailer_lines_of}
+use Rattle.chunks.specs.Chunks.{chunks_text}
 use Rattle.chunks.specs.Views.{ChunksParts, ChunksFill, chunks_of}
 use Rattle.framing.specs.declared.kind.Framing.{Framing}
 use Rattle.msg_body.specs.declared.expect.Expect.{Expect}
@@ -49,6 +52,22 @@ message_of parts = record {
 abbrev pub lines_on : Side → Message → List FieldLine
 lines_on Header message = message.head.lines
 lines_on Trailer message = trailers_in message.body
+
+-- the bytes of the body before the trailer section
+abbrev pub body_before : Body → List ℕ
+body_before (plain content) = content
+body_before (chunked chunks trailers) = chunks_text chunks
+
+-- content that isn't in chunks has no trailer section
+abbrev pub has_trailers : Body → Bool
+has_trailers (plain content) = false
+has_trailers (chunked chunks trailers) = true
+
+-- How many bytes are before the first field line of the side, or before what comes in its place:
+-- the start line, or all before the trailer section.
+abbrev pub lines_start : Side → Message → ℕ
+lines_start Header message = length (start_text message.head.start)
+lines_start Trailer message = length (head_text message.head) + length (body_before message.body)
 
 -- the message's content, chunks taken off
 abbrev pub message_content : Message → List ℕ

@@ -5,14 +5,14 @@ use chunks::ChunkPieces;
 
 /// The pieces of a message's content that are left (RFC 9112 section 7.1).
 #[derive(Drop)]
-pub enum ContentPieces<'a, 'm> {
+pub enum ContentPieces<'m> {
     /// Content in one piece, where it has not come yet.
     Plain(Option<&'m [u8]>),
     /// The data of chunks.
-    Chunked(ChunkPieces<'a, 'm>),
+    Chunked(ChunkPieces<'m>),
 }
 
-impl<'a, 'm> Iterator for ContentPieces<'a, 'm> {
+impl<'m> Iterator for ContentPieces<'m> {
     ghost use Rattle.std.specs.Iterator.{at_most};
     ghost use Rattle.byte_grammar.specs.Pieces.{YieldsPiece};
     ghost use Rattle.msg_body.specs.Content.{content_left, content_bound};
@@ -31,14 +31,14 @@ impl<'a, 'm> Iterator for ContentPieces<'a, 'm> {
     }
 }
 
-impl<'a, 'm> ContentPieces<'a, 'm> {
+impl<'m> ContentPieces<'m> {
     ghost use Rattle.std.specs.Prelude.{◌≡◌};
     ghost use Rattle.msg_body.specs.Bodies.{content_in};
     ghost use Rattle.msg_body.specs.Views.{body_of};
     ghost use Rattle.msg_body.specs.Content.{body_parts, content_left};
 
     /// All pieces of the body's content.
-    pub(crate) fn new(body: &'a BodyView<'m>) -> ContentPieces<'a, 'm>
+    pub(crate) fn new(body: &BodyView<'m>) -> ContentPieces<'m>
         ensures { content_left result ≡ content_in (body_of (body_parts body.now)) }
     {
         match body {

@@ -65,7 +65,9 @@ fn judge<'m>(
         HeadRead::Whole(head, start) => {
             match judge_rest(alloc, bytes, &head, start, expect, to_head) {
                 Ok((framing, BodyRead::Whole(body, count))) => {
-                    Ok(MessageRead::Whole(MessageView::new(head, framing, body), start + count))
+                    let used = start + count;
+                    let message = MessageView::new(&bytes[..used], head, framing, body);
+                    Ok(MessageRead::Whole(message, used))
                 }
                 Ok((_, BodyRead::Partial)) => Ok(MessageRead::Partial),
                 Err(error) => Err(error),

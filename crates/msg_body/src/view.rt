@@ -1,9 +1,13 @@
 //! The view of a message.
 
-ghost use Rattle.std.specs.Prelude.{◌≡◌, ◌<◌, length, filter, slice_get, Some};
+ghost use Rattle.std.specs.Prelude.{◌≡◌, ◌+◌, ◌<◌, ◌≤◌, length, filter, take, slice_get, Some};
+ghost use Rattle.std.specs.List.{flat_map};
+ghost use Rattle.msg_head.specs.Heads.{head_text};
+ghost use Rattle.msg_head.specs.Lines.{line_text};
 ghost use Rattle.msg_head.specs.Names.{has_name};
 ghost use Rattle.msg_head.specs.Views.{field_line_of, start_line_of};
-ghost use Rattle.msg_body.specs.Views.{message_of, lines_on, message_content};
+ghost use Rattle.msg_body.specs.Messages.{message_text};
+ghost use Rattle.msg_body.specs.Views.{message_of, has_trailers, lines_on, lines_start, message_content};
 ghost use Rattle.msg_body.specs.Content.{body_parts, content_left};
 
 use crate::body::BodyView;
@@ -13,16 +17,19 @@ use msg_head::{HeadView, LineView, NamedFieldLines, Side, Start};
 use std::marker::Model;
 
 /// A message, borrowed from its bytes. A contract sees it as the views of its head and its body and
-/// its framing, of which the message that it spells is a function.
+/// its framing, of which the message that it spells is a function. The bytes are its text.
 #[derive(Drop)]
 pub struct MessageView<'m> {
+    bytes: &'m [u8],
     head: HeadView<'m>,
     framing: Framing,
     body: BodyView<'m>,
 }
 
 impl<'m> Model for MessageView<'m> {
-    ghost use Rattle.msg_body.specs.Views.{MessageParts};
+    ghost use Rattle.std.specs.Prelude.{◌≡◌};
+    ghost use Rattle.msg_body.specs.Messages.{message_text};
+    ghost use Rattle.msg_body.specs.Views.{MessageParts, message_of};
     ghost use Rattle.msg_body.specs.Content.{body_parts};
 
     ghost Value = { MessageParts };
@@ -32,11 +39,27 @@ impl<'m> Model for MessageView<'m> {
       framing = m.framing;
       body = body_parts m.body;
     } };
+
+    ghost invariant = { λ m. m.bytes.now ≡ message_text (message_of (record {
+      head = m.head;
+      framing = m.framing;
+      body = body_parts m.body;
+    })) };
 }
 
 impl<'m> MessageView<'m> {
-    /// The view of a message of these parts.
-    pub(crate) fn new(head: HeadView<'m>, framing: Framing, body: BodyView<'m>) -> MessageView<'m>
+    /// The view of a message of these bytes and parts.
+    pub(crate) fn new(
+        bytes: &'m [u8],
+        head: HeadView<'m>,
+        framing: Framing,
+        body: BodyView<'m>,
+    ) -> MessageView<'m>
+        requires { bytes.now ≡ message_text (message_of (record {
+          head = head;
+          framing = framing;
+          body = body_parts body;
+        })) }
         ensures { result ≡ record {
           head = head.entry;
           framing = framing;
@@ -44,10 +67,25 @@ impl<'m> MessageView<'m> {
         } }
     {
         MessageView {
+            bytes,
             head,
             framing,
             body,
         }
+    }
+
+    /// The bytes of the message, which are its text.
+    pub fn bytes(&self) -> &'m [u8]
+        ensures { result.now ≡ message_text (message_of self.now) }
+    {
+        self.bytes
+    }
+
+    /// How many bytes the head has, the empty line at its end included.
+    pub fn head_len(&self) -> usize
+        ensures { result ≡ length (head_text (message_of self.now).head) }
+    {
+        self.head.bytes().len()
     }
 
     /// The start line.
@@ -62,6 +100,14 @@ impl<'m> MessageView<'m> {
         ensures { result ≡ self.now.framing }
     {
         self.framing
+    }
+
+    /// Whether the content is in chunks, so that a trailer section comes after it (RFC 9112 section
+    /// 7.1.2).
+    pub fn has_trailers(&self) -> bool
+        ensures { result ≡ has_trailers (message_of self.now).body }
+    {
+        matches!(self.body, BodyView::Chunked(_, _))
     }
 
     /// How many field lines the side has.
@@ -92,6 +138,25 @@ impl<'m> MessageView<'m> {
         }
     }
 
+    /// The offset of the field line with that index on the side, or of what comes after the field
+    /// lines where the index is their count. A message without a trailer section has no field lines
+    /// there, and ends there.
+    pub fn line_offset(&self, side: Side, index: usize) -> usize
+        requires { index ≤ length (lines_on side (message_of self.now)) }
+        ensures { result ≡ lines_start side (message_of self.now)
+            + length (flat_map line_text (take index (lines_on side (message_of self.now)))) }
+    {
+        match side {
+            Side::Header => self.head.line_offset(index),
+            Side::Trailer => match &self.body {
+                BodyView::Plain(_) => self.bytes.len(),
+                BodyView::Chunked(_, trailer) => {
+                    self.bytes.len() - trailer.bytes().len() + trailer.line_offset(index)
+                }
+            },
+        }
+    }
+
     /// The field lines of the side that have the name, which is in lower case, in order.
     pub fn lines_named(&self, side: Side, name: &[u8]) -> NamedFieldLines<'_, 'm>
         ensures { result ≡ filter (has_name name.now) (lines_on side (message_of self.now)) }
@@ -116,7 +181,7 @@ impl<'m> MessageView<'m> {
     }
 
     /// The pieces of the content, in order, borrowed from the message's bytes.
-    pub fn content_pieces(&self) -> ContentPieces<'_, 'm>
+    pub fn content_pieces(&self) -> ContentPieces<'m>
         ensures { content_left result ≡ message_content (message_of self.now) }
     {
         ContentPieces::new(&self.body)

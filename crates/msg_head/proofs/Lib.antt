@@ -31,3 +31,4 @@ pub mod FirstPlaces
 mod TextLaws
 mod Unfolded
 pub mod MoreLines
+pub mod Offsets

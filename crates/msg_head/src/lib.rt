@@ -20,6 +20,7 @@ mod blanks;
 mod error;
 mod head;
 mod laws;
+mod limit_laws;
 mod limits;
 mod line;
 mod name;
@@ -38,6 +39,7 @@ pub use head::{HeadRead, read_head};
 pub use laws::{
     further_line_laws, head_laws, heads_have_one_answer, trailers_have_one_answer, value_laws,
 };
+pub use limit_laws::limits_are_these;
 pub use limits::{MAX_HEAD_BYTES, MAX_HEAD_LINES};
 pub use line::LineView;
 pub use line_index::LineSpan;

@@ -26,10 +26,11 @@ impl<'m> Model for SectionLines<'m> {
 }
 
 impl<'m> SectionLines<'m> {
-    ghost use Rattle.std.specs.Prelude.{◌≡◌, ◌<◌, length, filter, slice_get, Some, IsTrue, IfOk};
-    ghost use Rattle.std.specs.List.{list_all};
+    ghost use Rattle.std.specs.Prelude.{◌≡◌, ℕ, ◌+◌, ◌<◌, ◌≤◌, length, filter, take, slice_get, Some, IsTrue, IfOk};
+    ghost use Rattle.std.specs.List.{list_all, flat_map};
+    ghost use Rattle.msg_head.specs.Lines.{line_text};
     ghost use Rattle.msg_head.specs.Names.{has_name};
-    ghost use Rattle.msg_head.specs.Views.{lies_in, field_line_of};
+    ghost use Rattle.msg_head.specs.Views.{lies_in, field_line_of, FollowEachOther};
     ghost use Rattle.msg_head.specs.TrailerViews.{trailer_lines_of};
 
     /// The field lines that are at these offsets.
@@ -47,6 +48,14 @@ impl<'m> SectionLines<'m> {
         Ok(SectionLines { lines })
     }
 
+    /// The bytes.
+    pub(crate) fn bytes(&self) -> &'m [u8]
+        ensures bytes { result.now ≡ self.now.bytes }
+        ensures inside { IsTrue (list_all (lies_in (length self.now.bytes)) self.now.spans) }
+    {
+        self.lines.bytes()
+    }
+
     /// How many field lines there are.
     pub(crate) fn count(&self) -> usize
         ensures { result ≡ length self.now.spans }
@@ -60,6 +69,21 @@ impl<'m> SectionLines<'m> {
         ensures { slice_get (trailer_lines_of self.now) index ≡ Some (field_line_of result) }
     {
         line_at(self.lines.bytes(), self.lines.span(index))
+    }
+
+    /// The offset of the field line with that index, or of the empty line where it is their count.
+    pub(crate) fn line_offset(&self, index: usize) -> usize
+        requires within { index ≤ length self.now.spans }
+        requires ends { 2 ≤ length self.now.bytes }
+        ensures { (from end : ℕ) → FollowEachOther from self.now.spans end
+            → length self.now.bytes ≡ end + 2
+            → result ≡ from + length (flat_map line_text (take index (trailer_lines_of self.now))) }
+    {
+        if index < self.lines.len() {
+            self.lines.span(index).name
+        } else {
+            self.lines.bytes().len() - 2
+        }
     }
 
     /// The field lines that have the name, which is in lower case, in order.

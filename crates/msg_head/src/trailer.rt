@@ -38,8 +38,11 @@ impl<'m> Model for TrailerView<'m> {
 }
 
 impl<'m> TrailerView<'m> {
-    ghost use Rattle.std.specs.Prelude.{◌≡◌, ◌<◌, length, filter, slice_get, Some};
+    ghost use Rattle.std.specs.Prelude.{◌≡◌, ◌<◌, ◌≤◌, length, filter, take, slice_get, Some};
+    ghost use Rattle.std.specs.List.{flat_map};
+    ghost use Rattle.msg_head.specs.Lines.{line_text};
     ghost use Rattle.msg_head.specs.Names.{has_name};
+    ghost use Rattle.msg_head.specs.Trailers.{trailer_text};
     ghost use Rattle.msg_head.specs.Views.{field_line_of};
     ghost use Rattle.msg_head.specs.TrailerViews.{TrailerFills, trailer_lines_of};
 
@@ -49,6 +52,14 @@ impl<'m> TrailerView<'m> {
         ensures { result ≡ section.entry }
     {
         TrailerView { section }
+    }
+
+    /// The bytes of the section, which are its text, the empty line at its end included.
+    pub fn bytes(&self) -> &'m [u8]
+        ensures bytes { result.now ≡ self.now.bytes }
+        ensures len { length result.now ≡ length (trailer_text (trailer_lines_of self.now)) }
+    {
+        self.section.bytes()
     }
 
     /// How many field lines there are.
@@ -65,6 +76,14 @@ impl<'m> TrailerView<'m> {
         ensures { slice_get (trailer_lines_of self.now) index ≡ Some (field_line_of result) }
     {
         self.section.line(index)
+    }
+
+    /// The offset of the field line with that index, or of the empty line where it is their count.
+    pub fn line_offset(&self, index: usize) -> usize
+        requires { index ≤ length self.now.spans }
+        ensures { result ≡ length (flat_map line_text (take index (trailer_lines_of self.now))) }
+    {
+        self.section.line_offset(index)
     }
 
     /// The field lines that have the name, which is in lower case, in order, found by halving.

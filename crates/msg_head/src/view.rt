@@ -1,8 +1,12 @@
 //! The view of a head.
 
-ghost use Rattle.std.specs.Prelude.{◌≡◌, ◌<◌, length, filter, slice_get, Some};
+ghost use Rattle.std.specs.Prelude.{◌≡◌, ◌+◌, ◌<◌, ◌≤◌, length, filter, take, slice_get, Some};
+ghost use Rattle.std.specs.List.{flat_map};
+ghost use Rattle.msg_head.specs.Heads.{head_text};
+ghost use Rattle.msg_head.specs.Lines.{line_text};
 ghost use Rattle.msg_head.specs.Names.{has_name};
-ghost use Rattle.msg_head.specs.Views.{View, Fills, lines_of, field_line_of, start_line_of};
+ghost use Rattle.msg_head.specs.Starts.{start_text};
+ghost use Rattle.msg_head.specs.Views.{View, Fills, head_of, lines_of, field_line_of, start_line_of};
 
 use crate::line::LineView;
 use crate::named_lines::NamedFieldLines;
@@ -53,6 +57,14 @@ impl<'m> HeadView<'m> {
         HeadView { start, section }
     }
 
+    /// The bytes of the head, which are its text, the empty line at its end included.
+    pub fn bytes(&self) -> &'m [u8]
+        ensures bytes { result.now ≡ self.now.bytes }
+        ensures len { length result.now ≡ length (head_text (head_of self.now)) }
+    {
+        self.section.bytes()
+    }
+
     /// The start line.
     pub fn start(&self) -> Start<'m>
         ensures { start_line_of result ≡ self.now.start }
@@ -74,6 +86,15 @@ impl<'m> HeadView<'m> {
         ensures { slice_get (lines_of self.now) index ≡ Some (field_line_of result) }
     {
         self.section.line(index)
+    }
+
+    /// The offset of the field line with that index, or of the empty line where it is their count.
+    pub fn line_offset(&self, index: usize) -> usize
+        requires { index ≤ length self.now.spans }
+        ensures { result ≡ length (start_text self.now.start)
+            + length (flat_map line_text (take index (lines_of self.now))) }
+    {
+        self.section.line_offset(index)
     }
 
     /// The field lines that have the name, which is in lower case, in order, found by halving.

@@ -1,5 +1,5 @@
 -- Whether two queries have the same of the parameters that are covered.
-use Rattle.std.proofs.Common.{◌≡◌, ◌↔◌, ℕ, Bool, true, false, IsTrue, Option, Some, None, Result, Ok, Err, IfOk, List, [], ◌∷◌, codes, unwrap_or, refl, sym, ap, subst, ◌∙◌, inl, inr}
+use Rattle.std.proofs.Common.{◌≡◌, ◌↔◌, ℕ, Bool, true, false, IsTrue, IsFalse, Option, Some, None, List, [], ◌∷◌, unwrap_or, refl, sym, ap, subst, ◌∙◌, inl, inr}
 use Rattle.std.specs.List.{All, list_any}
 use Rattle.std.proofs.lemmas.Bool.{cases_Bool, false≢true}
 use Rattle.std.proofs.lemmas.List.Elements.{All-nil, All-cons, All-head, All-tail, All-weaker}
@@ -9,26 +9,23 @@ use Rattle.component_ids.specs.declared.params.SigParams.{SigParams}
 use Rattle.targets.specs.Query.{matches}
 use Rattle.targets.specs.Targets.{TargetParts, query_of}
 use Rattle.derived_values.specs.Derived.{param_name}
+use Rattle.permissions.specs.Conditions.{KeepsParamIn, query_param_names}
 use Rattle.permissions.specs.Covered.{covers_one_of, is_own_of}
 use Rattle.permissions.specs.Permitted.{HasSameMatches, HaveSameParam, KeepsParam, MayChangeQuery, whole_query_names}
 use Rattle.permissions.specs.Targets.{OfTarget, query_in}
-use Rattle.permissions.specs.tools.Requests.{HasQuery, KeepsParamIn}
+use Rattle.permissions.specs.tools.Requests.{HasQuery}
 use Rattle.permissions.proofs.TargetPermitRequests.{of_target_or_not, of_the_target}
 use Rattle.permissions.proofs.TargetPermitTests.{HoldsOrNot, all_or_not, false_or_not, implied_or_not, texts_or_not, true_or_not}
-
-abbrev pub param_names : List (List ℕ)
-param_names = codes "@query-param" ∷ []
 
 -- ---- one component
 
 -- of a parameter of the query, both queries have the same values, or not
-pub kept_by_values : {E : Type 0} (result : Result Bool E) (query other name : List ℕ) (id : ComponentId) → name ≡ param_name id.params → IsTrue (is_own_of param_names id)
-    → IfOk result (λ same. IsTrue same ↔ (matches other name ≡ matches query name)) → IfOk result (λ keeps. IsTrue keeps ↔ KeepsParamIn query other id)
-kept_by_values (Ok same) query other name id name_is own is = (
-  λ yes _. subst (λ (n : List ℕ). matches other n ≡ matches query n) name_is (is.0 yes),
-  λ keeps. is.1 (subst (λ (n : List ℕ). matches other n ≡ matches query n) (sym name_is) (keeps own)),
+pub kept_by_values : (same : Bool) (query other name : List ℕ) (id : ComponentId) → name ≡ param_name id.params → IsTrue (is_own_of query_param_names id)
+    → IsTrue same ↔ (matches query name ≡ matches other name) → IsTrue same ↔ KeepsParamIn query other id
+kept_by_values same query other name id name_is own is = (
+  λ yes _. subst (λ (n : List ℕ). matches other n ≡ matches query n) name_is (sym (is.0 yes)),
+  λ keeps. is.1 (subst (λ (n : List ℕ). matches query n ≡ matches other n) (sym name_is) (sym (keeps own))),
 )
-kept_by_values (Err e) query other name id name_is own is = tt
 
 -- ---- one query
 
@@ -65,27 +62,52 @@ all_by_query message text query ids has = (
 
 -- ---- no parameter is covered
 
-pub none_covered : (message : Message) (text : Option (List ℕ)) (ids : List ComponentId) → list_any (is_own_of param_names) ids ≡ false → All (KeepsParam message text) ids
+pub none_covered : (message : Message) (text : Option (List ℕ)) (ids : List ComponentId) → list_any (is_own_of query_param_names) ids ≡ false → All (KeepsParam message text) ids
 none_covered message text [] none = All-nil (KeepsParam message text)
-none_covered message text (id ∷ ids) none = elim (cases_Bool (is_own_of param_names id)) [
+none_covered message text (id ∷ ids) none = elim (cases_Bool (is_own_of query_param_names id)) [
   | inl is ↦ absurd (false≢true (sym none ∙ rw is refl))
   | inr is ↦
-      let rest : list_any (is_own_of param_names) ids ≡ false = sym (rw is refl) ∙ none in
+      let rest : list_any (is_own_of query_param_names) ids ≡ false = sym (rw is refl) ∙ none in
       All-cons (KeepsParam message text) id ids (λ own. absurd (false≢true (sym is ∙ own))) (none_covered message text ids rest)
 ]
 
 -- a parameter is covered, and there is no query to draw it from
-pub some_covered : (message : Message) (text : Option (List ℕ)) (ids : List ComponentId) → list_any (is_own_of param_names) ids ≡ true
+pub some_covered : (message : Message) (text : Option (List ℕ)) (ids : List ComponentId) → list_any (is_own_of query_param_names) ids ≡ true
     → ((query : List ℕ) → ¬ HasQuery message query) → ¬ All (KeepsParam message text) ids
 some_covered message text [] some none all = false≢true some
-some_covered message text (id ∷ ids) some none all = elim (cases_Bool (is_own_of param_names id)) [
+some_covered message text (id ∷ ids) some none all = elim (cases_Bool (is_own_of query_param_names id)) [
   | inl is ↦
       let of = All-head (KeepsParam message text) id ids all is in
       none (unwrap_or of.3.query []) (of.0, of.1, of.2, (of.3.query, of.3.query_is, refl))
   | inr is ↦
-      let rest : list_any (is_own_of param_names) ids ≡ true = sym (rw is refl) ∙ some in
+      let rest : list_any (is_own_of query_param_names) ids ≡ true = sym (rw is refl) ∙ some in
       some_covered message text ids rest none (All-tail (KeepsParam message text) id ids all)
 ]
+
+-- ---- what is asked
+
+-- the message has the query, and both queries keep each parameter
+pub kept_where_same : (message : Message) (text : Option (List ℕ)) (query : List ℕ) (params : SigParams) → HasQuery message query
+    → (IsFalse (covers_one_of whole_query_names params) × All (KeepsParamIn query (query_in text)) params.ids) ↔ MayChangeQuery message text params
+kept_where_same message text query params has =
+    let same = all_by_query message text query params.ids has in (
+      λ met. record { covered = met.0; each = same.0 met.1 },
+      λ may. (may.covered, same.1 may.each),
+    )
+
+-- there is no query: then no parameter of it may be covered
+pub kept_where_none : (message : Message) (text : Option (List ℕ)) (params : SigParams) → ((query : List ℕ) → ¬ HasQuery message query)
+    → (IsFalse (covers_one_of whole_query_names params) × IsFalse (covers_one_of query_param_names params)) ↔ MayChangeQuery message text params
+kept_where_none message text params none = (
+  λ met. record { covered = met.0; each = none_covered message text params.ids met.1 },
+  λ may. (may.covered, by may.each),
+)
+  where
+    by : All (KeepsParam message text) params.ids → covers_one_of query_param_names params ≡ false
+    by each = elim (cases_Bool (covers_one_of query_param_names params)) [
+      | inl some ↦ absurd (some_covered message text params.ids some none each)
+      | inr free ↦ free
+    ]
 
 -- ---- decisions
 
@@ -115,7 +137,7 @@ same_or_not text id parts = by (query_of parts) refl
 
 keeps_or_not : (message : Message) (text : Option (List ℕ)) (id : ComponentId) → HoldsOrNot (KeepsParam message text id)
 keeps_or_not message text id =
-    implied_or_not (IsTrue (is_own_of param_names id)) (OfTarget message (λ line parts. HasSameMatches text id parts)) (true_or_not (is_own_of param_names id))
+    implied_or_not (IsTrue (is_own_of query_param_names id)) (OfTarget message (λ line parts. HasSameMatches text id parts)) (true_or_not (is_own_of query_param_names id))
     (of_target_or_not message (λ line parts. HasSameMatches text id parts) (λ line parts has. same_or_not text id parts))
 
 pub may_change_or_not : (message : Message) (text : Option (List ℕ)) (params : SigParams) → HoldsOrNot (MayChangeQuery message text params)

@@ -1,18 +1,21 @@
-//! Whether a signature permits another form of fields: of those that frame, of signatures, and of
+//! Which signatures permit another form of fields: of those that frame, of signatures, and of
 //! structured fields.
 
-ghost use Rattle.std.specs.Prelude.{◌≡◌, ◌↔◌, IsTrue, IsFalse, IfOk};
+ghost use Rattle.std.specs.Prelude.{◌≡◌, ◌↔◌, IsTrue, IsFalse, IfOk, codes};
 ghost use Rattle.std.specs.List.{list_any};
 ghost use Rattle.std.specs.Str.{str_to_ascii_lowercase};
 ghost use Rattle.component_ids.specs.Table.{is_listed};
+ghost use Rattle.component_ids.specs.declared.params.SigParams.{SigParams};
 ghost use Rattle.msg_body.specs.Views.{message_of};
 ghost use Rattle.msg_head.specs.declared.error.Side.TheVariants.{Header};
 ghost use Rattle.line_rewrites.specs.Covered.{covers_field};
 ghost use Rattle.line_rewrites.specs.Permitted.{counted_names};
+ghost use Rattle.permissions.specs.Conditions.{IsMetBy};
 ghost use Rattle.permissions.specs.Covered.{covers_unread, rests_on_label};
 ghost use Rattle.permissions.specs.Permitted.{LacksLabel, MayAddLabel, MayFrameAnew};
 
-use crate::covered::{covers_unread, rests_on_label};
+use crate::condition::WholeCondition;
+use crate::covered::rests_on_label;
 use byte_grammar::is_listed;
 use component_ids::SigParams;
 use line_rewrites::covers_field;
@@ -33,11 +36,18 @@ fn covers_header(name: &[u8], params: &SigParams) -> bool
     covers_field(Side::Header, LineView { name, raw: b"" }, params)
 }
 
-/// Whether content may be sent in another way: no field that frames is covered.
-pub(crate) fn permits_framing(params: &SigParams) -> bool
+/// Whether no field that frames is covered: content may be sent in another way.
+pub(crate) fn is_framing_uncovered(params: &SigParams) -> bool
     ensures { IsTrue result ↔ MayFrameAnew params.now }
 {
     !covers_header(b"content-length", params) && !covers_header(b"transfer-encoding", params)
+}
+
+/// Whether `Host` isn't covered.
+pub(crate) fn is_host_uncovered(params: &SigParams) -> bool
+    ensures { IsTrue result ↔ IsFalse (covers_field Header (codes "host") params.now) }
+{
+    !covers_header(b"host", params)
 }
 
 /// Whether the header has the field, and it reads as a Dictionary without the label.
@@ -58,29 +68,28 @@ fn lacks_label(
 }
 
 /// Whether a component rests on the lines of the label's signature.
-fn rests_on(label: &[u8], params: &SigParams) -> bool
+pub(crate) fn rests_on(label: &[u8], params: &SigParams) -> bool
     ensures { result ≡ list_any (rests_on_label label.now) params.now.ids }
 {
     params.ids.iter().any(|id| rests_on_label(label, id))
 }
 
-/// Whether a signature of these parameters permits a further label.
-pub(crate) fn permits_label(
+/// What a further label asks: the message has no such label yet.
+pub(crate) fn label_condition<'s>(
     alloc: Global,
     message: &MessageView<'_>,
-    label: &[u8],
-    params: &SigParams,
-) -> Result<bool, Memory>
-    ensures { IfOk result (λ permitted.
-        IsTrue permitted ↔ MayAddLabel (message_of message.now) label.now params.now) }
+    label: &'s [u8],
+) -> Result<WholeCondition<'s>, Memory>
+    ensures { IfOk result (λ condition. (params : SigParams) → IsMetBy params condition
+        ↔ MayAddLabel (message_of message.now) label.now params) }
 {
-    if rests_on(label, params) {
-        return Ok(false);
-    }
     if !lacks_label(alloc, message, b"signature-input", label)? {
-        return Ok(false);
+        return Ok(WholeCondition::Never);
     }
-    lacks_label(alloc, message, b"signature", label)
+    if !lacks_label(alloc, message, b"signature", label)? {
+        return Ok(WholeCondition::Never);
+    }
+    Ok(WholeCondition::LabelUncovered { label })
 }
 
 /// Whether the number of lines of the name counts, whatever is covered.
@@ -90,11 +99,15 @@ fn is_counted(name: &[u8]) -> bool
     is_listed(&COUNTED_NAMES, name)
 }
 
-/// Whether a signature of these parameters permits the strict text of the field on the side (RFC
-/// 9421 section 2.1.1).
-pub(crate) fn permits_strict_form(side: Side, name: &[u8], params: &SigParams) -> bool
-    ensures { IsTrue result ↔ (IsFalse (is_listed counted_names name.now)
-        × IsFalse (covers_unread side name.now params.now)) }
+/// What the strict text of the field on the side asks (RFC 9421 section 2.1.1).
+pub(crate) fn strict_condition(side: Side, name: &[u8]) -> WholeCondition<'_>
+    ensures { (params : SigParams) → IsMetBy params result
+        ↔ (IsFalse (is_listed counted_names name.now)
+        × IsFalse (covers_unread side name.now params)) }
 {
-    !is_counted(name) && !covers_unread(side, name, params)
+    if is_counted(name) {
+        WholeCondition::Never
+    } else {
+        WholeCondition::UnreadUncovered { side, name }
+    }
 }

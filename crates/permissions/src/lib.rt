@@ -2,10 +2,12 @@
 //! 9421 section 1.1).
 //!
 //! ```text
-//! permits_whole(alloc, &context, &step, &label_read.params)?   // the label's base stays
+//! let condition = whole_condition(alloc, &context, &step)?;   // once for all labels
+//! condition.is_met(&label_read.params)                        // the label's base stays
 //! ```
 #![tactic(auto)]
 
+mod condition;
 mod covered;
 mod field;
 mod laws;
@@ -13,6 +15,7 @@ mod permit;
 mod request;
 mod target;
 
+pub use condition::WholeCondition;
 pub use laws::a_whole_rewriting_is_permitted_or_not;
-pub use permit::permits_whole;
+pub use permit::whole_condition;
 pub use request::{TargetLine, scheme_text, target_line};

@@ -1,30 +1,33 @@
-//! Whether a signature permits another target of a request, and another `Host`.
+//! Which signatures permit another target of a request, and another `Host`.
 
 ghost use Rattle.std.specs.Prelude.{◌≡◌, ◌↔◌, ℕ, List, IsTrue, IsFalse, IfOk, IfSome, IfNone};
 ghost use Rattle.std.specs.List.{All, list_all};
 ghost use Rattle.std.specs.Str.{str_to_ascii_lowercase};
 ghost use Rattle.byte_grammar.specs.Classes.{is_visible};
+ghost use Rattle.component_ids.specs.declared.params.SigParams.{SigParams};
 ghost use Rattle.component_values.specs.Context.{context_of};
 ghost use Rattle.derived_values.specs.Derived.{param_name, scheme_text};
 ghost use Rattle.msg_body.specs.Views.{message_of};
 ghost use Rattle.msg_head.specs.Starts.{RequestLine};
-ghost use Rattle.rewrite_script.specs.declared.rewrite.WholeRewrite.TheVariants.{Host, Origin, Query};
+ghost use Rattle.rewrite_script.specs.declared.rewrite.WholeRewrite.TheVariants.{Host, Origin};
 ghost use Rattle.targets.specs.Targets.{TargetParts};
 ghost use Rattle.targets.specs.Views.{authority_parts, parts_of};
-ghost use Rattle.permissions.specs.Permitted.{HasOneHost, IsSameHost, MayChangeTarget, NamesHost, PermitsWhole};
+ghost use Rattle.permissions.specs.Conditions.{IsMetBy, KeepsParamIn, query_param_names};
+ghost use Rattle.permissions.specs.Covered.{covers_one_of};
+ghost use Rattle.permissions.specs.Permitted.{HasOneHost, IsSameHost, MayChangeQuery, MayChangeTarget, NamesHost, PermitsWhole, whole_query_names};
 ghost use Rattle.permissions.specs.Targets.{AreOneAuthority, HasTarget, OfTarget, query_in};
-ghost use Rattle.permissions.specs.tools.Requests.{HasQuery, HaveOneValue, KeepsParamIn, NamesOwn, scheme_in};
+ghost use Rattle.permissions.specs.tools.Requests.{HasQuery, HaveOneValue, NamesOwn, scheme_in};
 
+use crate::condition::WholeCondition;
 use crate::covered::{covers_one_of, is_own_of};
 use crate::request::{scheme_text, target_line};
 use component_ids::{ComponentId, SigParams};
 use component_values::Context;
-use line_rewrites::covers_field;
 use msg_body::MessageView;
 use msg_head::{LineView, Side};
 use sfv_text::{Memory, Params, Text};
 use std::alloc::Global;
-use targets::{Authority, QueryParams, Target, authority_of, have_same_values_in, query_of};
+use targets::{Authority, ComparedQueries, Target, authority_of, query_of};
 
 // ---- requests
 
@@ -83,9 +86,8 @@ fn are_one_authority(scheme: &[u8], one: &[u8], other: &[u8]) -> bool
 
 // ---- another form of the target
 
-/// Whether a signature of these parameters permits the rewriting `absolute`: the target as it is
-/// sent isn't covered (RFC 9421 section 2.2.5).
-pub(crate) fn permits_absolute(params: &SigParams) -> bool
+/// Whether the target as it is sent isn't covered (RFC 9421 section 2.2.5).
+pub(crate) fn is_target_uncovered(params: &SigParams) -> bool
     ensures { IsTrue result ↔ MayChangeTarget params.now }
 {
     !covers_one_of(&[b"@request-target"], params)
@@ -119,12 +121,16 @@ fn names_host(context: &Context<'_, '_>) -> bool
     }
 }
 
-/// Whether a signature of these parameters permits the rewriting `origin`: besides, what the target
-/// names is what the message has without it.
-pub(crate) fn permits_origin(context: &Context<'_, '_>, params: &SigParams) -> bool
-    ensures { IsTrue result ↔ PermitsWhole (context_of context.now) Origin params.now }
+/// What the rewriting `origin` asks: what the target names is what the message has without it.
+pub(crate) fn origin_condition(context: &Context<'_, '_>) -> WholeCondition<'static>
+    ensures { (params : SigParams) → IsMetBy params result
+        ↔ PermitsWhole (context_of context.now) Origin params }
 {
-    permits_absolute(params) && names_host(context)
+    if names_host(context) {
+        WholeCondition::TargetUncovered
+    } else {
+        WholeCondition::Never
+    }
 }
 
 // ---- another `Host`
@@ -157,17 +163,20 @@ fn is_same_host(context: &Context<'_, '_>, line: LineView<'_>) -> bool
     }
 }
 
-/// Whether a signature of these parameters permits the rewriting `host` to this text: `Host` isn't
-/// covered, and `@authority` stays (RFC 9421 section 2.2.3).
-pub(crate) fn permits_host(context: &Context<'_, '_>, text: &[u8], params: &SigParams) -> bool
-    ensures { IsTrue result
-        ↔ PermitsWhole (context_of context.now) (Host text.now) params.now }
+/// What the rewriting `host` to this text asks: `@authority` stays (RFC 9421 section 2.2.3).
+pub(crate) fn host_condition(context: &Context<'_, '_>, text: &[u8]) -> WholeCondition<'static>
+    ensures { (params : SigParams) → IsMetBy params result
+        ↔ PermitsWhole (context_of context.now) (Host text.now) params }
 {
     let line = LineView {
         name: b"host",
         raw: text,
     };
-    !covers_field(Side::Header, line, params) && is_same_host(context, line)
+    if is_same_host(context, line) {
+        WholeCondition::HostUncovered
+    } else {
+        WholeCondition::Never
+    }
 }
 
 // ---- another query
@@ -207,73 +216,55 @@ fn param_name(params: &Params) -> &[u8]
 }
 
 /// Whether the component is no parameter of the query, or both queries have the same values of it.
-fn keeps_param(
-    alloc: Global,
-    params: &QueryParams,
-    others: &QueryParams,
-    id: &ComponentId,
-) -> Result<bool, Memory>
-    ensures { IfOk result (λ keeps. IsTrue keeps ↔ KeepsParamIn params.now others.now id.now) }
+fn keeps_param(queries: &ComparedQueries, id: &ComponentId) -> bool
+    ensures { IsTrue result ↔ KeepsParamIn queries.now.query queries.now.other id.now }
 {
-    if !is_own_of(&[b"@query-param"], id) {
-        return Ok(true);
-    }
-    have_same_values_in(alloc, others, params, param_name(&id.params))
+    !is_own_of(&[b"@query-param"], id) || queries.have_same_values(param_name(&id.params))
 }
 
 /// The same of each component that is a parameter of the query.
-fn keeps_each(
-    alloc: Global,
-    params: &QueryParams,
-    others: &QueryParams,
-    ids: &[ComponentId],
-) -> Result<bool, Memory>
-    ensures { IfOk result (λ keeps. IsTrue keeps
-        ↔ All (KeepsParamIn params.now others.now) ids.now) }
+fn keeps_each(queries: &ComparedQueries, ids: &[ComponentId]) -> bool
+    ensures { IsTrue result ↔ All (KeepsParamIn queries.now.query queries.now.other) ids.now }
 {
     for id in ids {
-        if !keeps_param(alloc, params, others, id)? {
-            return Ok(false);
+        if !keeps_param(queries, id) {
+            return false;
         }
     }
-    Ok(true)
+    true
 }
 
-/// Whether both queries have the same values of each component that is a parameter of the query.
-fn keeps_params(
-    alloc: Global,
-    query: &[u8],
-    other: &[u8],
-    ids: &[ComponentId],
-) -> Result<bool, Memory>
-    ensures { IfOk result (λ keeps. IsTrue keeps
-        ↔ All (KeepsParamIn query.now other.now) ids.now) }
+/// Whether neither the query is covered whole, nor a parameter of it.
+pub(crate) fn is_query_uncovered(params: &SigParams) -> bool
+    ensures { IsTrue result ↔ (IsFalse (covers_one_of whole_query_names params.now)
+        × IsFalse (covers_one_of query_param_names params.now)) }
 {
-    let params = QueryParams::of(alloc, query)?;
-    let others = QueryParams::of(alloc, other)?;
-    keeps_each(alloc, &params, &others, ids)
+    !covers_one_of(&WHOLE_QUERY_NAMES, params) && !covers_one_of(&[b"@query-param"], params)
 }
 
-/// Whether a signature of these parameters permits the rewriting `query` to this text: the query
-/// isn't covered whole, and of each parameter that is covered the values stay (RFC 9421 section
-/// 2.2.8). Each query is read once.
-pub(crate) fn permits_query(
+/// Whether the query isn't covered whole, and both queries have the same values of each parameter
+/// that is covered (RFC 9421 section 2.2.8).
+pub(crate) fn is_query_kept(queries: &ComparedQueries, params: &SigParams) -> bool
+    ensures { IsTrue result ↔ (IsFalse (covers_one_of whole_query_names params.now)
+        × All (KeepsParamIn queries.now.query queries.now.other) params.now.ids) }
+{
+    !covers_one_of(&WHOLE_QUERY_NAMES, params) && keeps_each(queries, params.ids.as_slice())
+}
+
+/// What the rewriting `query` to this text asks. Each query is read once.
+pub(crate) fn query_condition(
     alloc: Global,
-    context: &Context<'_, '_>,
+    message: &MessageView<'_>,
     text: &Option<Text>,
-    params: &SigParams,
-) -> Result<bool, Memory>
-    ensures { IfOk result (λ permitted. IsTrue permitted
-        ↔ PermitsWhole (context_of context.now) (Query text.now) params.now) }
+) -> Result<WholeCondition<'static>, Memory>
+    ensures { IfOk result (λ condition. (params : SigParams) → IsMetBy params condition
+        ↔ MayChangeQuery (message_of message.now) text.now params) }
 {
-    if covers_one_of(&WHOLE_QUERY_NAMES, params) {
-        return Ok(false);
-    }
-    if !covers_one_of(&[b"@query-param"], params) {
-        return Ok(true);
-    }
-    match request_query(context.message) {
-        Some(query) => keeps_params(alloc, query, query_in(text), params.ids.as_slice()),
-        None => Ok(false),
+    match request_query(message) {
+        Some(query) => {
+            let queries = ComparedQueries::of(alloc, query, query_in(text))?;
+            Ok(WholeCondition::QueryKept { queries })
+        }
+        None => Ok(WholeCondition::QueryUncovered),
     }
 }

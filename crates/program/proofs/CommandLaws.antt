@@ -15,7 +15,7 @@ use Rattle.commands.specs.Laws.{IsConfigurationDecided, AreTablesDecided, IsRequ
 use Rattle.hop_audit.proofs.SameVerdicts as reports
 use Rattle.hop_audit.specs.Laws.{KeepsWhatIsPermitted}
 use Rattle.commands.specs.RewrittenMessages.{IsMessageWhereRewritten, HasVerdictWhereRewritten}
-use Rattle.commands.specs.SignedMessages.{IsMessageWhereSigned, IsRightWhereSigned}
+use Rattle.commands.specs.SignedMessages.{IsKeptWhereSigned, IsMessageWhereSigned, IsRightWhereSigned}
 
 pub conf_decided : IsConfigurationDecided
 conf_decided = configured.conf_decided
@@ -79,6 +79,9 @@ message_where_signed = signed.message_where_signed
 
 pub right_where_signed : IsRightWhereSigned
 right_where_signed = signed.right_where_signed
+
+pub kept_where_signed : IsKeptWhereSigned
+kept_where_signed = signed.kept_where_signed
 
 pub script_decided : IsScriptDecided
 script_decided = scripts.script_decided

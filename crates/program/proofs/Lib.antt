@@ -7,6 +7,7 @@ pub mod SomeReport
 pub mod Sources
 mod AuditedInputs
 mod Meanings
+mod OneLines
 mod RewrittenInputs
 mod Sampled
 mod SignedInputs

@@ -1,42 +1,41 @@
 -- What `base` and `audit` write tells what it was made of.
-use Rattle.std.proofs.Common.{◌≡◌, ◌⊎◌, ◌∙◌, inl, inr, ℕ, Bool, true, false, Option, Some, None, List, refl, sym, ap, subst}
+use Rattle.std.proofs.Common.{◌≡◌, ◌⊎◌, ◌∙◌, inl, inr, arith, ℕ, zero, suc, Bool, true, false, Option, Some, None, List, [], ◌∷◌, refl, sym, ap, subst}
 use Rattle.std.specs.Prelude.{IfSome, IsTrue, ◌↔◌}
 use Rattle.std.specs.Io.KnownBytes.{Appends}
-use Rattle.std.specs.List.{list_all}
+use Rattle.std.specs.List.{Contains, list_all, zip}
 use Rattle.hms_io.specs.Files.{FileMap}
 use Rattle.hms_io.specs.declared.status.Status.{Status}
 use Rattle.hms_io.specs.declared.status.Status.TheVariants.{Done, NotOk}
-use Rattle.sfv_text.specs.Classes.{is_byte}
-use Rattle.sfv_read.proofs.InRange.{inner_read_in_range}
-use Rattle.command_line.specs.Command.{CommandLine, Help, Version, Base, Verify, Sign, Rewrite, Audit, Sample, BaseWords, AuditWords, IsCommand}
+use Rattle.command_line.specs.Command.{CommandLine, Help, Version, Base, Verify, Sign, Rewrite, Audit, Sample, BaseWords, VerifyWords, AuditWords, IsCommand}
 use Rattle.command_line.proofs.CommandLaws.{one_command}
 use Rattle.msg_body.specs.Messages.{Message}
 use Rattle.msg_body.specs.WholeTexts.{one_request, reading_for}
-use Rattle.component_ids.specs.SignatureParams.{are_sig_params_in_range, list_of}
 use Rattle.component_ids.specs.declared.params.SigParams.{SigParams}
-use Rattle.component_ids.proofs.AnswerLaws.{in_range_of_list}
 use Rattle.component_values.specs.Context.{MessageContext}
 use Rattle.component_values.specs.Laws.{HasMessages, IsSpelled}
 use Rattle.component_values.specs.Values.{HaveValues}
 use Rattle.component_values.proofs.FirstLacks.{have_length}
-use Rattle.sig_base.specs.Laws.{HaveLines}
+use Rattle.sig_base.specs.Laws.{HaveBase}
 use Rattle.sig_base.specs.SignatureBase.{signature_base}
 use Rattle.sig_base.proofs.Readings.{one_reading}
 use Rattle.conf.specs.Configuration.{Configuration}
 use Rattle.verdicts.specs.Contexts.{context_for}
-use Rattle.recording.specs.Items.{PlacedItem}
+use Rattle.verdicts.specs.Verdicts.{Accepts, IsVerdict, is_accepted}
+use Rattle.verdicts.specs.Verification.{Verification, verification_for}
+use Rattle.verdicts.specs.declared.outcome.Verdict.{Verdict}
+use Rattle.verdicts.specs.declared.outcome.Verdict.TheVariants.{Ok as Accepted}
+use Rattle.verdicts.proofs.OneTags.{all_lines, one_tag_agrees}
 use Rattle.hop_audit.specs.Lines.{finds_fault, report_text}
 use Rattle.hop_audit.specs.declared.line.AuditLine.{AuditLine}
-use Rattle.hop_audit.proofs.OneBases.{all_lines, is_kept_with_its_base_at_hops, tells_what_changed_at_hops}
+use Rattle.hop_audit.proofs.OneBases.{is_kept_with_its_base_at_hops, tells_what_changed_at_hops}
 use Rattle.commands.specs.Audit.{ReportsAudit, audit_outcome}
-use Rattle.commands.specs.Base.{ReportsBase}
 use Rattle.commands.specs.Configured.{IsConfigured}
 use Rattle.commands.specs.Covered.{ReadsParams}
 use Rattle.commands.specs.Files.{Found, Conf as ConfFile, Request as RequestFile}
-use Rattle.commands.specs.Layers.{ReadsFound}
-use Rattle.commands.specs.MessageFiles.{IsMessageFile, IsRequested}
+use Rattle.commands.specs.MessageFiles.{IsRequested}
 use Rattle.commands.specs.Messages.{IsInputMessage}
 use Rattle.commands.specs.Outcome.{output_of, status_of}
+use Rattle.commands.specs.Verify.{AreVerdicts, verdict_lines, verdicts_outcome}
 use Rattle.commands.specs.declared.outcome.Outcome.{Outcome}
 use Rattle.commands.specs.declared.outcome.Outcome.TheVariants.{Done as Written, NotOk as Counted, Refused}
 use Rattle.refusals.specs.Laws.{IsOfRefusal}
@@ -44,8 +43,11 @@ use Rattle.refusals.specs.declared.refusal.Refusal.{Refusal}
 use Rattle.refusals.proofs.Statuses.{status_of_refusal}
 use Rattle.program.specs.Commands.{AreFoundFor, ReadsWhole, input_use, is_whole}
 use Rattle.program.specs.Ends.{Ends, HasReport}
-use Rattle.program.specs.Meanings.{HasOneBase, HasOneChain, HasWritten, TellsOneBase, TellsOneChain, WritesOneBase, WritesOneChain}
+use Rattle.program.specs.Meanings.{HasOneBase, HasOneChain, HasOneMeaning, HasWritten, HaveOneMeaning, RunsAgreeWhereOneTag, TellsOneBase, TellsOneChain, TellsVerdicts, WritesOneBase, WritesOneChain, WritesSigned, WritesVerdicts}
 use Rattle.program.specs.Report.{Reports, ReportsCommand}
+use Rattle.program.proofs.CommandLaws.{keeps_what_is_permitted}
+use Rattle.program.proofs.OneLines.{params_in_range}
+use Rattle.program.proofs.SignedInputs.{has_signed}
 
 -- ---- a base
 
@@ -61,20 +63,15 @@ request_spelled (Some name) None (Some request) is = absurd is
 request_spelled (Some name) (Some text) (Some request) is =
     record { to_head = one_request.to_head; text = text; are_bytes = is.are_bytes; spells = is.whole.spells }
 
-params_in_range : (text : List ℕ) (params : SigParams) → ReadsParams text params → are_sig_params_in_range params ≡ true
-params_in_range text params reads = in_range_of_list params ∙ inner_read_in_range text (list_of params) reads.reads
-
 one_base : (text : List ℕ) (params : SigParams) (context : MessageContext) (values : List (List ℕ)) → ReadsParams text params → HasMessages context → HaveValues context params.ids values
-    → (output : List ℕ) → output ≡ signature_base params values → (others : SigParams) (also : List (List ℕ)) → HaveLines others also
+    → (output : List ℕ) → output ≡ signature_base params values → (others : SigParams) (also : List (List ℕ)) → HaveBase others also
     → (output ≡ signature_base others also) ↔ ((others ≡ params) × (also ≡ values))
-one_base text params context values reads spelled have output is others also lines =
-    let own : HaveLines params values = record {
-      in_range = params_in_range text params reads;
-      each = have_length context params.ids values have;
-      lines = all_lines context params.ids values spelled have;
-    } in
-    let both = one_reading others params also values lines own in
-    (λ same. both.0 (sym same ∙ is), λ same. is ∙ sym (both.1 same))
+one_base text params context values reads spelled have output is others also base =
+    let own : HaveBase params values = record { in_range = params_in_range text params reads; each = have_length context params.ids values have } in
+    let both = one_reading params others values also own (all_lines context params.ids values spelled have) base in (
+      λ same. let read = both.0 (sym is ∙ same) in (sym read.0, sym read.1),
+      λ same. is ∙ both.1 (sym same.0, sym same.1),
+    )
 
 base_told : (words : BaseWords) (found : Found) (input output : List ℕ) → ReportsCommand (Base words) found input (Written output) → TellsOneBase words found input output
 base_told words found input output (inr cause) = absurd (cc cause.2)
@@ -133,10 +130,11 @@ chain_told words found input outcome conf configured (inl (items, is, inl (lines
   lines = lines;
   report = audit.2;
   written = ap output_of same ∙ report_written lines (finds_fault lines) refl;
-  kept = λ index label permitted fate bytes line.
-      is_kept_with_its_base_at_hops conf input items audit.0 lines index label permitted fate bytes is.1 audit.1 audit.2 line;
-  changed = λ index label id keyid bytes accepts.
-      tells_what_changed_at_hops conf input items audit.0 lines index label id keyid bytes is.1 audit.1 audit.2 accepts;
+  kept = λ index label permitted fate line.
+      is_kept_with_its_base_at_hops conf input items audit.0 lines index label permitted fate is.are_bytes is.spells audit.1 audit.2 line;
+  changed = λ index label id keyid accepts.
+      tells_what_changed_at_hops conf input items audit.0 lines index label id keyid is.are_bytes is.spells audit.1 audit.2 accepts;
+  sound = keeps_what_is_permitted conf items audit.0 lines audit.1 audit.2;
 }
 
 audit_told : (words : AuditWords) (found : Found) (input : List ℕ) (outcome : Outcome) → ReportsCommand (Audit words) found input outcome
@@ -148,6 +146,65 @@ pub has_one_chain : HasOneChain
 has_one_chain arguments words found input outcome is (inr cause) answered = absurd (no_refusal _ outcome cause.2 answered)
 has_one_chain arguments words found input outcome is (inl (command, spells, reports)) answered =
     audit_told words found input outcome (subst (λ (c : CommandLine). ReportsCommand c found input outcome) (one_command arguments command (Audit words) spells is) reports) answered
+
+-- ---- verdicts
+
+-- a label whose verdict is `ok` is accepted
+accepted_at : (conf : Configuration) (moment : ℕ) (context : MessageContext) (labels : List (List ℕ)) (verdicts : List Verdict) → AreVerdicts conf moment context labels verdicts → (label keyid : List ℕ)
+    → Contains (zip labels verdicts) (label, Accepted keyid) → Accepts (verification_for conf moment context label) keyid
+accepted_at conf moment context [] [] are label keyid there = absurd (let below = there.1 in omega (arith, below))
+accepted_at conf moment context [] (v ∷ vs) are label keyid there = absurd are
+accepted_at conf moment context (l ∷ ls) [] are label keyid there = absurd are
+accepted_at conf moment context (l ∷ ls) (v ∷ vs) are label keyid (zero, below, same) =
+    let label_is : l ≡ label = ap (λ (line : List ℕ × Verdict). line.0) same in
+    let verdict_is : v ≡ Accepted keyid = ap (λ (line : List ℕ × Verdict). line.1) same in
+    subst (λ (t : List ℕ). IsVerdict (verification_for conf moment context t) (Accepted keyid)) label_is (subst (λ (w : Verdict). IsVerdict (verification_for conf moment context l) w) verdict_is are.0)
+accepted_at conf moment context (l ∷ ls) (v ∷ vs) are label keyid (suc k, below, same) = accepted_at conf moment context ls vs are.1 label keyid (k, omega (arith, below), same)
+
+one_meaning : (v : Verification) (keyid : List ℕ) → Accepts v keyid → HasMessages v.context → HasOneMeaning v keyid
+one_meaning v keyid accepts spelled = record {
+  accepts = accepts;
+  messages = spelled;
+  one = λ w another other also tag key. one_tag_agrees v w keyid another accepts other (record { message = spelled; other_message = also; tag = tag; key = key });
+}
+
+lines_written : (labels : List (List ℕ)) (verdicts : List Verdict) (all : Bool) → list_all is_accepted verdicts ≡ all → output_of (verdicts_outcome labels verdicts) ≡ verdict_lines labels verdicts
+lines_written labels verdicts true is = rw is refl
+lines_written labels verdicts false is = rw is refl
+
+verdicts_told : (words : VerifyWords) (found : Found) (input : List ℕ) (outcome : Outcome) → ReportsCommand (Verify words) found input outcome → (status_of outcome ≡ Done) ⊎ (status_of outcome ≡ NotOk)
+    → TellsVerdicts words found input (output_of outcome)
+verdicts_told words found input outcome (inr cause) answered = absurd (no_refusal _ outcome cause.2 answered)
+verdicts_told words found input outcome (inl (conf, configured, inr cause)) answered = absurd (no_refusal _ outcome cause.2 answered)
+verdicts_told words found input outcome (inl (conf, configured, inl (_, tables, inr cause))) answered = absurd (no_refusal _ outcome cause.2 answered)
+verdicts_told words found input outcome (inl (conf, configured, inl (_, tables, inl (related, requested, inr cause)))) answered = absurd (no_refusal _ outcome cause.2 answered)
+verdicts_told words found input outcome (inl (conf, configured, inl (_, tables, inl (related, requested, inl (wishes, wanted, inr cause))))) answered = absurd (no_refusal _ outcome cause.2 answered)
+verdicts_told words found input outcome (inl (conf, configured, inl (_, tables, inl (related, requested, inl (wishes, wanted, inl (script, scripted, inr cause)))))) answered = absurd (no_refusal _ outcome cause.2 answered)
+verdicts_told words found input outcome (inl (conf, configured, inl (_, tables, inl (related, requested, inl (wishes, wanted, inl (script, scripted, inl (message, is, reports))))))) answered = record {
+  conf = conf;
+  configured = configured;
+  related = related;
+  requested = requested;
+  message = message;
+  is = is;
+  labels = reports.labels;
+  asked = reports.asked;
+  verdicts = reports.verdicts;
+  written = ap output_of reports.outcome_is ∙ lines_written reports.labels reports.verdicts (list_all is_accepted reports.verdicts) refl;
+  ok = λ label keyid there.
+      one_meaning (verification_for conf words.now (context_for conf message related) label) keyid (accepted_at conf words.now (context_for conf message related) reports.labels reports.verdicts reports.are label keyid there)
+      (record { message = input_spelled related input message is; related = request_spelled words.request (found RequestFile) related requested });
+}
+
+pub have_one_meaning : HaveOneMeaning
+have_one_meaning arguments words found input outcome is (inr cause) answered = absurd (no_refusal _ outcome cause.2 answered)
+have_one_meaning arguments words found input outcome is (inl (command, spells, reports)) answered =
+    verdicts_told words found input outcome (subst (λ (c : CommandLine). ReportsCommand c found input outcome) (one_command arguments command (Verify words) spells is) reports) answered
+
+pub runs_agree : RunsAgreeWhereOneTag
+runs_agree words other_words found other_found input other_input output other_output one other label other_label keyid other_keyid ok also tag key =
+    let second = other.ok other_label other_keyid also in
+    (one.ok label keyid ok).one _ other_keyid second.accepts second.messages tag key
 
 -- ---- of a run
 
@@ -186,6 +243,38 @@ module _ (arguments : List (List ℕ)) (shelf : Option FileMap) (Same : Type 0) 
         tells = has_one_base arguments words report.found report.holds.input (output_of end.0) is
             (subst (λ (o : Outcome). Reports arguments report.found report.holds.input o) (written_is end.0 end.2) report.holds.reports);
       }
+
+  pub writes_signed : (status ≡ Done → Ends arguments shelf Same before left taken now Done) → WritesSigned arguments shelf before taken now status
+  writes_signed ends words is done =
+      let end = ends done in
+      let report = end.1 in
+      record {
+        found = report.found;
+        files = report.files;
+        input = report.holds.input;
+        known = report.holds.known;
+        output = output_of end.0;
+        appended = end.3;
+        tells = has_signed arguments words report.found report.holds.input (output_of end.0) is
+            (subst (λ (o : Outcome). Reports arguments report.found report.holds.input o) (written_is end.0 end.2) report.holds.reports);
+      }
+
+  verdicts_written : (words : VerifyWords) → IsCommand arguments (Verify words) → (outcome : Outcome) → HasReport arguments shelf Same before left outcome
+      → (status_of outcome ≡ Done) ⊎ (status_of outcome ≡ NotOk) → Appends taken now (output_of outcome) → HasWritten (TellsVerdicts words) (AreFoundFor arguments shelf) before taken now
+  verdicts_written words is outcome report answered appended = record {
+    found = report.found;
+    files = report.files;
+    input = report.holds.input;
+    known = report.holds.known;
+    output = output_of outcome;
+    appended = appended;
+    tells = have_one_meaning arguments words report.found report.holds.input outcome is report.holds.reports answered;
+  }
+
+  pub writes_verdicts : (status ≡ Done → Ends arguments shelf Same before left taken now Done) → (status ≡ NotOk → Ends arguments shelf Same before left taken now NotOk)
+      → WritesVerdicts arguments shelf before taken now status
+  writes_verdicts ends counted words is (inl done) = let end = ends done in verdicts_written words is end.0 end.1 (inl end.2) end.3
+  writes_verdicts ends counted words is (inr failed) = let end = counted failed in verdicts_written words is end.0 end.1 (inr end.2) end.3
 
   chain_written : (words : AuditWords) → IsCommand arguments (Audit words) → (outcome : Outcome) → HasReport arguments shelf Same before left outcome
       → (status_of outcome ≡ Done) ⊎ (status_of outcome ≡ NotOk) → Appends taken now (output_of outcome) → HasWritten (TellsOneChain words) (AreFoundFor arguments shelf) before taken now

@@ -5,16 +5,16 @@ use Rattle.std.specs.List.{list_all}
 use Rattle.std.proofs.lemmas.Bool.{false≢true}
 use Rattle.std.specs.FinMap as map
 use Rattle.std.specs.Io.KnownBytes.{Appends}
+use Rattle.sfv_text.specs.Classes.{is_byte}
 use Rattle.hms_io.specs.Files.{FileMap, KeepsFiles}
 use Rattle.hms_io.specs.declared.status.Status.{Status}
 use Rattle.hms_io.specs.declared.status.Status.TheVariants.{Done as Success, NotOk as Failure, BadArguments, BadInput, ReadFault, WriteFault, OutOfMemory, BadConf, LimitPassed, FileMissing}
 use Rattle.command_line.specs.Command.{CommandLine, IsCommand, NoCommand}
 use Rattle.conf.specs.Configuration.{Configuration}
-use Rattle.component_values.specs.Context.{MessageContext}
 use Rattle.msg_body.specs.Messages.{Message}
 use Rattle.msg_body.specs.Views.{MessageParts, message_of}
 use Rattle.commands.specs.Configured.{IsConfigured, IsConfRefused}
-use Rattle.commands.specs.Files.{FileRole, Conf, Request, Wanted, Script, Other, Found, IsFound, AreFound, HasFound, FileNames, file_names, file_count}
+use Rattle.commands.specs.Files.{FileRole, Conf, Request, Wanted, Script, Other, Found, IsFound, AreFound, HasFound, FileNames, file_names, file_bytes, file_count}
 use Rattle.commands.specs.Layers.{ReadsFound, IsFileRefused}
 use Rattle.commands.specs.Messages.{IsInputMessage, IsInputRefused}
 use Rattle.msg_body.specs.WholeTexts.{any_message, one_request}
@@ -35,7 +35,8 @@ use Rattle.program.specs.Ends.{HasInput, HasOutcome, Leaves, HasReport, AppendsP
 use Rattle.program.specs.Report.{Answers, ReportsMessage, ReportsScript, ReportsWishes, ReportsRequest, ReportsFiles, ReportsCommand}
 use Rattle.refusals.specs.declared.refusal.Refusal.{Refusal}
 use Rattle.refusals.specs.declared.file.FileRefusal.{FileRefusal}
-use Rattle.refusals.specs.declared.refusal.TheConstants.{MAX_INPUT_BYTES}
+use Rattle.refusals.specs.declared.refusal.TheConstants.{MAX_CONF_BYTES, MAX_INPUT_BYTES}
+use Rattle.rewrite_script.specs.declared.limits.TheConstants.{MAX_SCRIPT_BYTES}
 use Rattle.refusals.specs.declared.role.Role.{Role}
 use Rattle.refusals.specs.declared.role.Role.TheVariants.{Conf as OfConf, Request as OfRequest, Wanted as OfWanted, Script as OfScript}
 use Rattle.refusals.specs.declared.refusal.Refusal.TheVariants.{Arguments, Of}
@@ -392,85 +393,128 @@ pub keeps_both : (before middle now : Option FileMap) → KeepsFiles before midd
 keeps_both None middle now keeps also = tt
 keeps_both (Some files) middle now keeps also = subst (λ (shelf : Option FileMap). KeepsFiles shelf now) keeps also
 
--- ---- how many files are asked for, where none is that isn't named
+-- ---- how many files, and how many bytes of them, are asked for, where none is that isn't named
 
-abbrev count_of : {X : Type 0} → Option X → ℕ
-count_of None = 0
-count_of (Some x) = 1
+-- what a named file adds, and nothing where none is named
+abbrev pub weighed : {X : Type 0} → ℕ → Option X → ℕ
+weighed weight None = 0
+weighed weight (Some x) = weight
 
-files_counted : {X : Type 0} (f : X → List ℕ) (conf request wanted script : Option X)
-    → file_count (file_names (option_map f conf) (option_map f request) (option_map f wanted) (option_map f script)) ≡ count_of conf + (count_of request + (count_of wanted + count_of script))
-files_counted f None None None None = refl
-files_counted f None None None (Some s) = refl
-files_counted f None None (Some z) None = refl
-files_counted f None None (Some z) (Some s) = refl
-files_counted f None (Some y) None None = refl
-files_counted f None (Some y) None (Some s) = refl
-files_counted f None (Some y) (Some z) None = refl
-files_counted f None (Some y) (Some z) (Some s) = refl
-files_counted f (Some x) None None None = refl
-files_counted f (Some x) None None (Some s) = refl
-files_counted f (Some x) None (Some z) None = refl
-files_counted f (Some x) None (Some z) (Some s) = refl
-files_counted f (Some x) (Some y) None None = refl
-files_counted f (Some x) (Some y) None (Some s) = refl
-files_counted f (Some x) (Some y) (Some z) None = refl
-files_counted f (Some x) (Some y) (Some z) (Some s) = refl
+-- a sum over the files that have a name
+pub record Total : Type 0 where
+  pub conf : ℕ
+  pub request : ℕ
+  pub wanted : ℕ
+  pub script : ℕ
+  pub total : FileNames → ℕ
+  pub is : (a b c d : Option (List ℕ)) → total (file_names a b c d) ≡ weighed conf a + (weighed request b + (weighed wanted c + weighed script d))
 
-one_counted : {X S : Type 0} (asked : S → ℕ) (name : Option X) (before now : S) → IfNone name (now ≡ before) → asked now ≤ asked before + 1 → asked now ≤ asked before + count_of name
-one_counted asked None before now same one = omega (arith, ap asked same)
-one_counted asked (Some x) before now same one = one
+pub files_counted : (a b c d : Option (List ℕ)) → file_count (file_names a b c d) ≡ weighed 1 a + (weighed 1 b + (weighed 1 c + weighed 1 d))
+files_counted None None None None = refl
+files_counted None None None (Some s) = refl
+files_counted None None (Some z) None = refl
+files_counted None None (Some z) (Some s) = refl
+files_counted None (Some y) None None = refl
+files_counted None (Some y) None (Some s) = refl
+files_counted None (Some y) (Some z) None = refl
+files_counted None (Some y) (Some z) (Some s) = refl
+files_counted (Some x) None None None = refl
+files_counted (Some x) None None (Some s) = refl
+files_counted (Some x) None (Some z) None = refl
+files_counted (Some x) None (Some z) (Some s) = refl
+files_counted (Some x) (Some y) None None = refl
+files_counted (Some x) (Some y) None (Some s) = refl
+files_counted (Some x) (Some y) (Some z) None = refl
+files_counted (Some x) (Some y) (Some z) (Some s) = refl
+
+pub files_measured : (a b c d : Option (List ℕ))
+    → file_bytes (file_names a b c d) ≡ weighed (MAX_CONF_BYTES + 1) a + (weighed (MAX_INPUT_BYTES + 1) b + (weighed (MAX_INPUT_BYTES + 1) c + weighed (MAX_SCRIPT_BYTES + 1) d))
+files_measured None None None None = refl
+files_measured None None None (Some s) = refl
+files_measured None None (Some z) None = refl
+files_measured None None (Some z) (Some s) = refl
+files_measured None (Some y) None None = refl
+files_measured None (Some y) None (Some s) = refl
+files_measured None (Some y) (Some z) None = refl
+files_measured None (Some y) (Some z) (Some s) = refl
+files_measured (Some x) None None None = refl
+files_measured (Some x) None None (Some s) = refl
+files_measured (Some x) None (Some z) None = refl
+files_measured (Some x) None (Some z) (Some s) = refl
+files_measured (Some x) (Some y) None None = refl
+files_measured (Some x) (Some y) None (Some s) = refl
+files_measured (Some x) (Some y) (Some z) None = refl
+files_measured (Some x) (Some y) (Some z) (Some s) = refl
+
+-- how many files they are
+abbrev pub counted : Total
+counted = record { conf = 1; request = 1; wanted = 1; script = 1; total = file_count; is = files_counted }
+
+-- how many bytes are read of them at most
+abbrev pub measured : Total
+measured = record {
+  conf = MAX_CONF_BYTES + 1;
+  request = MAX_INPUT_BYTES + 1;
+  wanted = MAX_INPUT_BYTES + 1;
+  script = MAX_SCRIPT_BYTES + 1;
+  total = file_bytes;
+  is = files_measured;
+}
+
+one_counted : {X S : Type 0} (asked : S → ℕ) (f : X → List ℕ) (weight : ℕ) (name : Option X) (before now : S) → IfNone name (now ≡ before) → asked now ≤ asked before + weight
+    → asked now ≤ asked before + weighed weight (option_map f name)
+one_counted asked f weight None before now same one = omega (arith, ap asked same)
+one_counted asked f weight (Some x) before now same one = one
 
 -- of a message that wishes signatures, and of the script that is asked for after it
-pub wishes_asked : {X S : Type 0} (asked : S → ℕ) (f : X → List ℕ) (wanted script : Option X) (before middle now : S)
-    → IfNone wanted (middle ≡ before) → asked middle ≤ asked before + 1 → IfNone script (now ≡ middle) → asked now ≤ asked middle + 1
-    → asked now ≤ asked before + file_count (file_names None None (option_map f wanted) (option_map f script))
-wishes_asked {X} asked f wanted script before middle now same one also other =
-    let first = one_counted asked wanted before middle same one in
-    let second = one_counted asked script middle now also other in
-    let none : Option X = None in
-    omega (arith, first, second, files_counted f none none wanted script)
+pub wishes_asked : {X S : Type 0} (sums : Total) (asked : S → ℕ) (f : X → List ℕ) (wanted script : Option X) (before middle now : S)
+    → IfNone wanted (middle ≡ before) → asked middle ≤ asked before + sums.wanted → IfNone script (now ≡ middle) → asked now ≤ asked middle + sums.script
+    → asked now ≤ asked before + sums.total (file_names None None (option_map f wanted) (option_map f script))
+wishes_asked sums asked f wanted script before middle now same one also other =
+    let first = one_counted asked f sums.wanted wanted before middle same one in
+    let second = one_counted asked f sums.script script middle now also other in
+    omega (arith, first, second, sums.is None None (option_map f wanted) (option_map f script))
 
 -- where nothing comes after it
-pub wishes_asked_alone : {X S : Type 0} (asked : S → ℕ) (f : X → List ℕ) (wanted script : Option X) (before now : S) → IfNone wanted (now ≡ before) → asked now ≤ asked before + 1
-    → asked now ≤ asked before + file_count (file_names None None (option_map f wanted) (option_map f script))
-wishes_asked_alone {X} asked f wanted script before now same one =
-    let first = one_counted asked wanted before now same one in
-    let none : Option X = None in
-    omega (arith, first, files_counted f none none wanted script)
+pub wishes_asked_alone : {X S : Type 0} (sums : Total) (asked : S → ℕ) (f : X → List ℕ) (wanted script : Option X) (before now : S) → IfNone wanted (now ≡ before) → asked now ≤ asked before + sums.wanted
+    → asked now ≤ asked before + sums.total (file_names None None (option_map f wanted) (option_map f script))
+wishes_asked_alone sums asked f wanted script before now same one =
+    omega (arith, one_counted asked f sums.wanted wanted before now same one, sums.is None None (option_map f wanted) (option_map f script))
 
 -- of a request, and of what is asked for after it
-pub request_asked : {X S : Type 0} (asked : S → ℕ) (f : X → List ℕ) (request wanted script : Option X) (before middle now : S)
-    → IfNone request (middle ≡ before) → asked middle ≤ asked before + 1 → asked now ≤ asked middle + file_count (file_names None None (option_map f wanted) (option_map f script))
-    → asked now ≤ asked before + file_count (file_names None (option_map f request) (option_map f wanted) (option_map f script))
-request_asked {X} asked f request wanted script before middle now same one others =
-    let first = one_counted asked request before middle same one in
-    let none : Option X = None in
-    omega (arith, first, others, files_counted f none none wanted script, files_counted f none request wanted script)
+pub request_asked : {X S : Type 0} (sums : Total) (asked : S → ℕ) (f : X → List ℕ) (request wanted script : Option X) (before middle now : S)
+    → IfNone request (middle ≡ before) → asked middle ≤ asked before + sums.request → asked now ≤ asked middle + sums.total (file_names None None (option_map f wanted) (option_map f script))
+    → asked now ≤ asked before + sums.total (file_names None (option_map f request) (option_map f wanted) (option_map f script))
+request_asked sums asked f request wanted script before middle now same one others =
+    let first = one_counted asked f sums.request request before middle same one in
+    let later = sums.is None None (option_map f wanted) (option_map f script) in
+    omega (arith, first, others, later, sums.is None (option_map f request) (option_map f wanted) (option_map f script))
 
 -- where nothing comes after it
-pub request_asked_alone : {X S : Type 0} (asked : S → ℕ) (f : X → List ℕ) (request wanted script : Option X) (before now : S) → IfNone request (now ≡ before) → asked now ≤ asked before + 1
-    → asked now ≤ asked before + file_count (file_names None (option_map f request) (option_map f wanted) (option_map f script))
-request_asked_alone {X} asked f request wanted script before now same one =
-    let first = one_counted asked request before now same one in
-    let none : Option X = None in
-    omega (arith, first, files_counted f none request wanted script)
+pub request_asked_alone : {X S : Type 0} (sums : Total) (asked : S → ℕ) (f : X → List ℕ) (request wanted script : Option X) (before now : S) → IfNone request (now ≡ before)
+    → asked now ≤ asked before + sums.request
+    → asked now ≤ asked before + sums.total (file_names None (option_map f request) (option_map f wanted) (option_map f script))
+request_asked_alone sums asked f request wanted script before now same one =
+    let first = one_counted asked f sums.request request before now same one in
+    omega (arith, first, sums.is None (option_map f request) (option_map f wanted) (option_map f script))
 
 -- of a configuration, and of what is asked for after it
-pub conf_asked : {X S : Type 0} (asked : S → ℕ) (f : X → List ℕ) (conf request wanted script : Option X) (before middle now : S)
-    → IfNone conf (middle ≡ before) → asked middle ≤ asked before + 1 → asked now ≤ asked middle + file_count (file_names None (option_map f request) (option_map f wanted) (option_map f script))
-    → asked now ≤ asked before + file_count (file_names (option_map f conf) (option_map f request) (option_map f wanted) (option_map f script))
-conf_asked {X} asked f conf request wanted script before middle now same one others =
-    let first = one_counted asked conf before middle same one in
-    let none : Option X = None in
-    omega (arith, first, others, files_counted f none request wanted script, files_counted f conf request wanted script)
+pub conf_asked : {X S : Type 0} (sums : Total) (asked : S → ℕ) (f : X → List ℕ) (conf request wanted script : Option X) (before middle now : S)
+    → IfNone conf (middle ≡ before) → asked middle ≤ asked before + sums.conf
+    → asked now ≤ asked middle + sums.total (file_names None (option_map f request) (option_map f wanted) (option_map f script))
+    → asked now ≤ asked before + sums.total (file_names (option_map f conf) (option_map f request) (option_map f wanted) (option_map f script))
+conf_asked sums asked f conf request wanted script before middle now same one others =
+    let first = one_counted asked f sums.conf conf before middle same one in
+    let later = sums.is None (option_map f request) (option_map f wanted) (option_map f script) in
+    omega (arith, first, others, later, sums.is (option_map f conf) (option_map f request) (option_map f wanted) (option_map f script))
 
 -- where nothing comes after it
-pub conf_asked_alone : {X S : Type 0} (asked : S → ℕ) (f : X → List ℕ) (conf request wanted script : Option X) (before now : S) → IfNone conf (now ≡ before) → asked now ≤ asked before + 1
-    → asked now ≤ asked before + file_count (file_names (option_map f conf) (option_map f request) (option_map f wanted) (option_map f script))
-conf_asked_alone asked f conf request wanted script before now same one =
-    let first = one_counted asked conf before now same one in
-    omega (arith, first, files_counted f conf request wanted script)
+pub conf_asked_alone : {X S : Type 0} (sums : Total) (asked : S → ℕ) (f : X → List ℕ) (conf request wanted script : Option X) (before now : S) → IfNone conf (now ≡ before)
+    → asked now ≤ asked before + sums.conf
+    → asked now ≤ asked before + sums.total (file_names (option_map f conf) (option_map f request) (option_map f wanted) (option_map f script))
+conf_asked_alone sums asked f conf request wanted script before now same one =
+    let first = one_counted asked f sums.conf conf before now same one in
+    omega (arith, first, sums.is (option_map f conf) (option_map f request) (option_map f wanted) (option_map f script))
 
 -- ---- nothing is asked for where no file is named
 
@@ -538,19 +582,19 @@ is_whole OutOfMemory = false
 is_whole status = true
 
 whole_ends : (arguments : List (List ℕ)) (shelf : Option FileMap) (Same : Type 0) (before left taken now : Option (List ℕ)) (outcome : Outcome) (status : Status) → is_whole status ≡ true
-    → HasReport arguments shelf Same before left outcome → status_of outcome ≡ status → Appends taken now (output_of outcome)
+    → HasReport arguments shelf Same before left outcome → status_of outcome ≡ status → Appends taken now (output_of outcome) → list_all is_byte (output_of outcome) ≡ true
     → Ends arguments shelf Same before left taken now status
 unfolding is_whole
-whole_ends arguments shelf Same before left taken now outcome Success is has same all = (outcome, has, same, all)
-whole_ends arguments shelf Same before left taken now outcome Failure is has same all = (outcome, has, same, all)
-whole_ends arguments shelf Same before left taken now outcome BadArguments is has same all = (outcome, has, same, all)
-whole_ends arguments shelf Same before left taken now outcome BadInput is has same all = (outcome, has, same, all)
-whole_ends arguments shelf Same before left taken now outcome ReadFault is has same all = absurd cc
-whole_ends arguments shelf Same before left taken now outcome WriteFault is has same all = absurd cc
-whole_ends arguments shelf Same before left taken now outcome OutOfMemory is has same all = absurd cc
-whole_ends arguments shelf Same before left taken now outcome BadConf is has same all = (outcome, has, same, all)
-whole_ends arguments shelf Same before left taken now outcome LimitPassed is has same all = (outcome, has, same, all)
-whole_ends arguments shelf Same before left taken now outcome FileMissing is has same all = (outcome, has, same, all)
+whole_ends arguments shelf Same before left taken now outcome Success is has same all bytes = (outcome, has, same, all, bytes)
+whole_ends arguments shelf Same before left taken now outcome Failure is has same all bytes = (outcome, has, same, all, bytes)
+whole_ends arguments shelf Same before left taken now outcome BadArguments is has same all bytes = (outcome, has, same, all, bytes)
+whole_ends arguments shelf Same before left taken now outcome BadInput is has same all bytes = (outcome, has, same, all, bytes)
+whole_ends arguments shelf Same before left taken now outcome ReadFault is has same all bytes = absurd cc
+whole_ends arguments shelf Same before left taken now outcome WriteFault is has same all bytes = absurd cc
+whole_ends arguments shelf Same before left taken now outcome OutOfMemory is has same all bytes = absurd cc
+whole_ends arguments shelf Same before left taken now outcome BadConf is has same all bytes = (outcome, has, same, all, bytes)
+whole_ends arguments shelf Same before left taken now outcome LimitPassed is has same all bytes = (outcome, has, same, all, bytes)
+whole_ends arguments shelf Same before left taken now outcome FileMissing is has same all bytes = (outcome, has, same, all, bytes)
 
 whole_refusal : (status : Status) → IsOfRefusal status → is_whole status ≡ true
 unfolding is_whole
@@ -574,18 +618,18 @@ whole_status (Refused refusal) = whole_refusal (refusal_status refusal) (status_
 
 -- an outcome that was written whole ends the run with its status
 pub written_outcome : (arguments : List (List ℕ)) (shelf : Option FileMap) (Same : Type 0) (before left taken now : Option (List ℕ)) (outcome : Outcome) (status : Status) (output : List ℕ)
-    → HasReport arguments shelf Same before left outcome → status ≡ status_of outcome → output ≡ output_of outcome → Appends taken now output
+    → HasReport arguments shelf Same before left outcome → status ≡ status_of outcome → output ≡ output_of outcome → Appends taken now output → list_all is_byte output ≡ true
     → Ends arguments shelf Same before left taken now status
-written_outcome arguments shelf Same before left taken now outcome status output has s o all =
+written_outcome arguments shelf Same before left taken now outcome status output has s o all bytes =
     whole_ends arguments shelf Same before left taken now outcome status (subst (λ (st : Status). is_whole st ≡ true) (sym s) (whole_status outcome)) has (sym s)
-    (subst (λ (text : List ℕ). Appends taken now text) o all)
+    (subst (λ (text : List ℕ). Appends taken now text) o all) (subst (λ (text : List ℕ). list_all is_byte text ≡ true) o bytes)
 
 -- an outcome of which only a prefix was written
 pub failed_outcome : (arguments : List (List ℕ)) (shelf : Option FileMap) (Same : Type 0) (before left taken now : Option (List ℕ)) (outcome : Outcome) (output : List ℕ)
-    → HasReport arguments shelf Same before left outcome → output ≡ output_of outcome → AppendsPrefix taken now output
+    → HasReport arguments shelf Same before left outcome → output ≡ output_of outcome → AppendsPrefix taken now output → list_all is_byte output ≡ true
     → Ends arguments shelf Same before left taken now WriteFault
-failed_outcome arguments shelf Same before left taken now outcome output has o prefix =
-    (outcome, has, subst (λ (text : List ℕ). AppendsPrefix taken now text) o prefix)
+failed_outcome arguments shelf Same before left taken now outcome output has o prefix bytes =
+    (outcome, has, subst (λ (text : List ℕ). AppendsPrefix taken now text) o prefix, subst (λ (text : List ℕ). list_all is_byte text ≡ true) o bytes)
 
 -- ---- the counts of faults, where an outcome was written whole
 

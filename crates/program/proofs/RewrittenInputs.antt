@@ -1,8 +1,7 @@
 -- What `rewrite` writes under a label has the verdict on it that the message had that was read.
-use Rattle.std.proofs.Common.{◌≡◌, ◌≤◌, ℕ, Bool, Option, Some, None, List, [], ◌∷◌, length, refl, sym, ap, subst, ◌∙◌, inl, inr}
-use Rattle.std.specs.Prelude.{⊤, ◌↔◌, IsTrue, not}
-use Rattle.std.specs.List.{list_all, list_any}
-use Rattle.sfv_text.specs.Classes.{is_byte}
+use Rattle.std.proofs.Common.{◌≡◌, ◌≤◌, ℕ, Bool, Option, Some, None, List, [], ◌∷◌, length, refl, sym, subst, inl, inr}
+use Rattle.std.specs.Prelude.{⊤, IsTrue, not}
+use Rattle.std.specs.List.{list_any}
 use Rattle.command_line.specs.Command.{CommandLine, Rewrite, Verify, RewriteWords, VerifyWords, IsCommand}
 use Rattle.command_line.proofs.CommandLaws.{one_command}
 use Rattle.framing.specs.Framings.{is_request}
@@ -11,33 +10,33 @@ use Rattle.component_values.specs.Context.{MessageContext, answers_head}
 use Rattle.conf.specs.Configuration.{Configuration}
 use Rattle.rewrite_script.specs.declared.rewrite.Rewrite.{Rewrite as Rewriting}
 use Rattle.permissions.specs.Laws.{IsReadAs}
-use Rattle.rewrites.specs.Laws.{HasSameVerdict, rests_on_conf}
+use Rattle.rewrites.specs.Laws.{rests_on_conf}
 use Rattle.verdicts.specs.Verdicts.{IsVerdict}
 use Rattle.verdicts.specs.declared.outcome.Verdict.{Verdict}
 use Rattle.commands.specs.Configured.{IsConfigured}
 use Rattle.verdicts.specs.Contexts.{context_for}
-use Rattle.commands.specs.Files.{Found, Conf as ConfFile, Request as RequestFile, Wanted as WantedFile, Script as ScriptFile}
+use Rattle.commands.specs.Files.{Found, Conf as ConfFile, Request as RequestFile, Script as ScriptFile}
 use Rattle.commands.specs.Layers.{ReadsThen}
 use Rattle.commands.specs.Messages.{IsInputMessage}
-use Rattle.msg_body.specs.WholeTexts.{reading_for}
+use Rattle.msg_body.specs.WholeTexts.{IsWhole, reading_for}
 use Rattle.commands.specs.MessageFiles.{IsRequested}
 use Rattle.commands.specs.Rewrite.{ReportsRewriting}
 use Rattle.commands.specs.Scripts.{IsScripted}
-use Rattle.commands.specs.Verify.{AreVerdicts, ReportsVerdicts, verdicts_outcome}
+use Rattle.commands.specs.Verify.{ReportsVerdicts}
 use Rattle.verdicts.specs.Verification.{verification_for}
 use Rattle.commands.specs.declared.outcome.Outcome.{Outcome}
 use Rattle.commands.specs.declared.outcome.Outcome.TheVariants.{Done}
 use Rattle.commands.specs.declared.tables.Needs.TheVariants.{Nothing}
 use Rattle.refusals.specs.declared.refusal.Refusal.{Refusal}
-use Rattle.refusals.specs.declared.refusal.Refusal.TheVariants.{Arguments, Of}
+use Rattle.refusals.specs.declared.refusal.Refusal.TheVariants.{Of}
 use Rattle.refusals.specs.declared.refusal.TheConstants.{MAX_INPUT_BYTES}
-use Rattle.refusals.specs.declared.role.Role.TheVariants.{Conf as OfConf, Request as OfRequest, Wanted as OfWanted, Script as OfScript, Input as OfInput}
+use Rattle.refusals.specs.declared.role.Role.TheVariants.{Conf as OfConf, Request as OfRequest, Wanted as OfWanted, Script as OfScript}
 use Rattle.program.specs.Commands.{name_of}
-use Rattle.program.specs.Laws.{IsVerdictKept, VerifiesRewritten}
+use Rattle.program.specs.Laws.{IsVerdictKept}
 use Rattle.program.specs.Report.{Answers, Reports, ReportsCommand, ReportsMessage, ReportsRequest, ReportsScript, ReportsTables, ReportsWishes}
 use Rattle.program.proofs.Sources.{spelled_input}
-use Rattle.program.proofs.SignedInputs.{label_verdict, then_of, to_head_is}
-use Rattle.program.proofs.CommandLaws.{request_decided, input_decided, message_where_rewritten, values_where_scripted, verdict_where_rewritten, writable_where_scripted}
+use Rattle.program.proofs.SignedInputs.{label_verdict, read_as, short_of, to_head_is}
+use Rattle.program.proofs.CommandLaws.{request_decided, message_where_rewritten, values_where_scripted, verdict_where_rewritten, writable_where_scripted}
 
 -- ---- what `rewrite` read
 
@@ -80,16 +79,12 @@ rewritten_parts arguments words found input written is (inl (command, spells, re
 
 -- ---- what `verify` reads
 
--- what was written is an input of the same kind
-input_is : (related : Option Message) (input written : List ℕ) (message after : Message) → IsInputMessage (reading_for related) input message → Spells (answers_head related) after written
-    → is_request after.head.start ≡ is_request message.head.start → IsTrue (list_all is_byte written) → IsInputMessage (reading_for related) written after
-input_is related input written message after is spells kind bytes = record {
-  are_bytes = bytes;
-  within = let short : length written ≤ MAX_INPUT_BYTES = rw spells.text spells.is.short in short;
-  whole = record {
-    expected = expected related is.whole.expected;
-    spells = subst (λ (to_head : Bool). Spells to_head after written) (sym (to_head_is related)) spells;
-  };
+-- what was written is a message of the same kind
+whole_is : (related : Option Message) (input written : List ℕ) (message after : Message) → IsInputMessage (reading_for related) input message → Spells (answers_head related) after written
+    → is_request after.head.start ≡ is_request message.head.start → IsWhole (reading_for related) written after
+whole_is related input written message after is spells kind = record {
+  expected = expected related is.whole.expected;
+  spells = subst (λ (to_head : Bool). Spells to_head after written) (sym (to_head_is related)) spells;
 } where
   expected : (r : Option Message) → IsTrue (is_expected (reading_for r).expect message.head.start) → IsTrue (is_expected (reading_for r).expect after.head.start)
   expected None was = refl
@@ -113,7 +108,7 @@ more_of Reads Causes refusal_of Then Other outcome more (inl read) = inl (read.0
 more_of Reads Causes refusal_of Then Other outcome more (inr cause) = inr cause
 
 module _ (verified : VerifyWords) (label : List ℕ) (asked : verified.label ≡ Some label) (found : Found) (related : Option Message) (requested : IsRequested verified.request (found RequestFile) related)
-    (input other : List ℕ) (message after : Message) (is : IsInputMessage (reading_for related) input message) (also : IsInputMessage (reading_for related) other after)
+    (input other : List ℕ) (message after : Message) (short : length input ≤ MAX_INPUT_BYTES) (whole : IsWhole (reading_for related) input message) (also : IsInputMessage (reading_for related) other after)
     (same : (conf : Configuration) → IsConfigured (Some verified.conf) (found ConfFile) conf → (verdict : Verdict) → IsVerdict (verification_for conf verified.now (context_for conf message related) label) verdict
     → IsVerdict (verification_for conf verified.now (context_for conf after related) label) verdict) where
   Then : Answers
@@ -123,7 +118,7 @@ module _ (verified : VerifyWords) (label : List ℕ) (asked : verified.label ≡
       → ReportsMessage (Then conf wishes script) conf related input outcome → ReportsMessage (Then conf wishes script) conf related other outcome
   unfolding Then
   message_same conf configured wishes script outcome reports =
-      let verdicts = then_of _ _ (λ refusal. Of OfInput refusal) (λ m. ReportsVerdicts verified.label verified.now conf (context_for conf m related)) (input_decided (reading_for related) input) message is outcome reports in
+      let verdicts = (read_as (λ m. ReportsVerdicts verified.label verified.now conf (context_for conf m related)) (reading_for related) input message outcome short whole reports).1 in
       inl (after, also, verdicts_same verified conf label (context_for conf message related) (context_for conf after related) outcome asked (same conf configured) verdicts)
 
   script_same : (conf : Configuration) → IsConfigured (Some verified.conf) (found ConfFile) conf → (wishes : Option Message) (outcome : Outcome) → ReportsScript Then conf related wishes (name_of (Verify verified)) found input outcome
@@ -165,7 +160,7 @@ module _ (verified : VerifyWords) (label : List ℕ) (asked : verified.label ≡
       )
 
 pub verdict_kept : IsVerdictKept
-verdict_kept rewriting verifying rewritten verified label found other input written outcome is also same request alike wrote bytes =
+verdict_kept rewriting verifying rewritten verified label found other input written outcome is also same request alike wrote =
     let parts = rewritten_parts rewriting rewritten found input written is wrote in
     let context = context_for parts.conf parts.message parts.related in
     let spelled = spelled_input parts.related input parts.message parts.is in
@@ -182,9 +177,11 @@ verdict_kept rewriting verifying rewritten verified label found other input writ
     let requested : IsRequested verified.request (other RequestFile) parts.related =
     subst (λ (text : Option (List ℕ)). IsRequested verified.request text parts.related) (sym request)
     (subst (λ (name : Option (List ℕ)). IsRequested name (found RequestFile) parts.related) (sym same.request) parts.requested) in
-    let then = input_is parts.related input written parts.message end.0 parts.is end.1 end.2 bytes in (
-      reports_same verified label same.label_is other parts.related requested input written parts.message end.0 parts.is then
-          (λ conf configured verdict. (kept conf configured conf verified.now None verdict).0) verifying outcome also,
-      reports_same verified label same.label_is other parts.related requested written input end.0 parts.message then parts.is
+    let whole = whole_is parts.related input written parts.message end.0 parts.is end.1 end.2 in
+    let short = short_of (answers_head parts.related) end.0 written end.1 in (
+      reports_same verified label same.label_is other parts.related requested written input end.0 parts.message short whole parts.is
           (λ conf configured verdict. (kept conf configured conf verified.now None verdict).1) verifying outcome also,
+      λ bytes.
+          reports_same verified label same.label_is other parts.related requested input written parts.message end.0 parts.is.within parts.is.whole (record { are_bytes = bytes; within = short; whole = whole })
+          (λ conf configured verdict. (kept conf configured conf verified.now None verdict).0) verifying outcome also,
     )

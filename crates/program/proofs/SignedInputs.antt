@@ -1,10 +1,9 @@
 -- What `sign` writes is accepted by `verify`, or fails a rule of the policy.
-use Rattle.std.proofs.Common.{◌≡◌, ◌<◌, ◌≤◌, ◌^◌, ℕ, Bool, true, false, ◌&&◌, nat_lt, nat_le, Option, Some, None, List, [], ◌∷◌, codes, length, refl, sym, ap, subst, ◌∙◌, inl, inr, arith}
+use Rattle.std.proofs.Common.{◌≡◌, ◌<◌, ◌≤◌, ◌^◌, ℕ, Bool, true, ◌&&◌, nat_lt, nat_le, Option, Some, None, List, [], ◌∷◌, codes, length, refl, sym, ap, subst, ◌∙◌, inl, inr, arith}
 use Rattle.std.specs.Prelude.{⊤, IfSome, IsSomeAnd, IsTrue}
 use Rattle.std.specs.List.{list_all}
 use Rattle.std.specs.Str.Parse.{digits_value}
 use Rattle.std.proofs.lemmas.Bool.{and_parts, cases_Bool}
-use Rattle.sfv_text.specs.Classes.{is_byte}
 use Rattle.sfv_text.specs.Keys.{value_of}
 use Rattle.sfv_text.specs.Range.{is_string_byte}
 use Rattle.command_line.specs.Command.{CommandLine, Sign, Verify, SignWords, VerifyWords, IsCommand, SpellsSign}
@@ -13,12 +12,12 @@ use Rattle.command_line.proofs.CommandLaws.{one_command}
 use Rattle.command_line.proofs.Moments.{is_below}
 use Rattle.command_line.proofs.OptionLists.{value_had, word_had}
 use Rattle.nonces.specs.declared.limits.TheConstants.{MAX_MOMENT, MAX_NONCE_BYTES}
-use Rattle.msg_body.specs.Messages.{Message, Spells, is_expected}
+use Rattle.msg_body.specs.Messages.{Message, Spells}
 use Rattle.component_values.specs.Context.{MessageContext, answers_head}
+use Rattle.component_values.specs.Values.{HaveValues}
 use Rattle.conf.specs.Configuration.{Configuration}
-use Rattle.signatures.specs.declared.place.Place.{Place}
-use Rattle.signatures.specs.declared.rule.Rule.{Rule}
 use Rattle.verdicts.specs.Laws.{IsRightlySigned, is_rule_of_signing}
+use Rattle.verdicts.specs.Rules.{key_in}
 use Rattle.verdicts.specs.Verdicts.{IsVerdict}
 use Rattle.verdicts.specs.Verification.{Verification}
 use Rattle.verdicts.specs.declared.outcome.Verdict.{Verdict}
@@ -29,29 +28,35 @@ use Rattle.verdicts.specs.Contexts.{context_for}
 use Rattle.commands.specs.Files.{Found, Conf as ConfFile, Request as RequestFile, Wanted as WantedFile, Script as ScriptFile}
 use Rattle.settings.specs.Valid.{IsValid}
 use Rattle.commands.specs.Layers.{ReadsThen, IsDecisive}
-use Rattle.commands.specs.Messages.{IsInputMessage}
-use Rattle.msg_body.specs.WholeTexts.{reading_for}
+use Rattle.commands.specs.Messages.{IsInputMessage, IsInputRefused}
+use Rattle.msg_body.proofs.OneMessages.{one_message_law}
+use Rattle.msg_body.proofs.WholeTexts.{no_fault_of_whole}
+use Rattle.msg_body.specs.WholeTexts.{IsWhole, reading_for}
+use Rattle.msg_body.specs.declared.whole.Reading.{Reading}
 use Rattle.commands.specs.MessageFiles.{IsRequested, IsWanted}
 use Rattle.commands.specs.Sign.{ReportsSigning}
-use Rattle.commands.specs.SignedMessages.{IsLastLabel}
+use Rattle.commands.specs.SignedMessages.{SignsAs}
 use Rattle.commands.specs.Verify.{AreVerdicts, ReportsVerdicts, verdicts_outcome}
 use Rattle.verdicts.specs.Verification.{verification_for}
 use Rattle.commands.specs.declared.outcome.Outcome.{Outcome}
 use Rattle.commands.specs.declared.outcome.Outcome.TheVariants.{Done}
 use Rattle.commands.specs.declared.tables.Needs.TheVariants.{Nothing}
+use Rattle.refusals.specs.declared.file.FileRefusal.{FileRefusal}
+use Rattle.refusals.specs.declared.file.FileRefusal.TheVariants.{Missing, TooLong, Message as NoMessage, Conf as NoConf, Script as NoScript, Recording as NoRecording, Order, TooManyHops}
 use Rattle.refusals.specs.declared.refusal.Refusal.{Refusal}
 use Rattle.refusals.specs.declared.refusal.Refusal.TheVariants.{Of}
-use Rattle.refusals.specs.declared.role.Role.TheVariants.{Conf as OfConf, Request as OfRequest, Wanted as OfWanted, Script as OfScript, Input as OfInput}
+use Rattle.refusals.specs.declared.role.Role.TheVariants.{Conf as OfConf, Request as OfRequest, Wanted as OfWanted, Script as OfScript}
 use Rattle.refusals.specs.declared.refusal.TheConstants.{MAX_INPUT_BYTES}
 use Rattle.program.specs.Commands.{name_of}
-use Rattle.program.specs.Laws.{IsAcceptedWhereSigned, IsOkOrPolicy, SignsLast, VerifiesSigned}
-use Rattle.program.specs.Report.{Answers, Reports, ReportsCommand, ReportsMessage, ReportsRequest, ReportsScript, ReportsTables, ReportsWishes}
+use Rattle.program.specs.Laws.{IsAcceptedWhereSigned, IsOkOrPolicy, KnowsSigner, VerifiesSigned}
+use Rattle.program.specs.Meanings.{HasSigned, TellsSigned}
+use Rattle.program.specs.Report.{Answers, Reports, ReportsCommand, ReportsInput, ReportsMessage, ReportsRequest, ReportsScript, ReportsTables, ReportsWishes}
 use Rattle.program.proofs.Sources.{spelled_input}
-use Rattle.program.proofs.CommandLaws.{conf_decided, tables_decided, request_decided, wanted_decided, script_decided, input_decided, valid_where_configured, message_where_signed, right_where_signed}
+use Rattle.program.proofs.CommandLaws.{conf_decided, tables_decided, request_decided, wanted_decided, script_decided, valid_where_configured, kept_where_signed, message_where_signed, right_where_signed}
 
 -- ---- the words of `sign`
 
-signs_timely : (arguments : List (List ℕ)) (words : SignWords) → SpellsSign arguments words → words.now ≤ MAX_MOMENT
+pub signs_timely : (arguments : List (List ℕ)) (words : SignWords) → SpellsSign arguments words → words.now ≤ MAX_MOMENT
 signs_timely arguments words spells = of_option (value_of spells.options (codes "--now")) refl spells.now_is where
   of_option : (o : Option (List ℕ)) → value_of spells.options (codes "--now") ≡ o → IsSomeAnd o (λ digits. words.now ≡ digits_value 10 digits) → words.now ≤ MAX_MOMENT
   of_option None there is = absurd is
@@ -60,7 +65,7 @@ signs_timely arguments words spells = of_option (value_of spells.options (codes 
       let below : digits_value 10 digits < 10 ^ 15 = is_below digits moment in
       omega (arith, is, below)
 
-signs_characters : (arguments : List (List ℕ)) (words : SignWords) → SpellsSign arguments words → IfSome words.nonce (λ text. IsTrue (list_all is_string_byte text))
+pub signs_characters : (arguments : List (List ℕ)) (words : SignWords) → SpellsSign arguments words → IfSome words.nonce (λ text. IsTrue (list_all is_string_byte text))
 signs_characters arguments words spells = of_option words.nonce (word_had (codes "--nonce") spells.options words.nonce spells.are.had spells.nonce_is) where
   of_option : (o : Option (List ℕ)) → IfSome o (λ word. may_have (codes "--nonce") word ≡ true) → IfSome o (λ text. IsTrue (list_all is_string_byte text))
   of_option None had = tt
@@ -114,17 +119,34 @@ pub to_head_is : (related : Option Message) → (reading_for related).to_head �
 to_head_is None = refl
 to_head_is (Some request) = refl
 
--- a message that was signed is an input of the same kind
-input_is : (related : Option Message) (input written : List ℕ) (message signed : Message) → IsInputMessage (reading_for related) input message → Spells (answers_head related) signed written
-    → signed.head.start ≡ message.head.start → IsTrue (list_all is_byte written) → IsInputMessage (reading_for related) written signed
-input_is related input written message signed is spells start bytes = record {
-  are_bytes = bytes;
-  within = let short : length written ≤ MAX_INPUT_BYTES = rw spells.text spells.is.short in short;
-  whole = record {
-    expected = rw start is.whole.expected;
-    spells = subst (λ (to_head : Bool). Spells to_head signed written) (sym (to_head_is related)) spells;
-  };
+-- what was written is a message of the same kind, and so isn't refused as an input
+pub not_refused : (reading : Reading) (written : List ℕ) (message : Message) (refusal : FileRefusal) → length written ≤ MAX_INPUT_BYTES → IsWhole reading written message → IsInputRefused reading written refusal → ⊥
+not_refused reading written message Missing short is refused = refused
+not_refused reading written message (NoConf f) short is refused = refused
+not_refused reading written message (NoScript f) short is refused = refused
+not_refused reading written message (NoRecording f) short is refused = refused
+not_refused reading written message (Order i) short is refused = refused
+not_refused reading written message (TooManyHops i) short is refused = refused
+not_refused reading written message (TooLong n) short is refused = omega (arith, short, refused.1)
+not_refused reading written message (NoMessage f) short is refused = no_fault_of_whole reading written message f is refused.1
+
+pub short_of : (to_head : Bool) (message : Message) (written : List ℕ) → Spells to_head message written → length written ≤ MAX_INPUT_BYTES
+short_of to_head message written spells = rw spells.text spells.is.short
+
+whole_is : (related : Option Message) (input written : List ℕ) (message signed : Message) → IsInputMessage (reading_for related) input message → Spells (answers_head related) signed written
+    → signed.head.start ≡ message.head.start → IsWhole (reading_for related) written signed
+whole_is related input written message signed is spells start = record {
+  expected = rw start is.whole.expected;
+  spells = subst (λ (to_head : Bool). Spells to_head signed written) (sym (to_head_is related)) spells;
 }
+
+-- it is of bytes, where something comes of it
+pub read_as : (Then : Message → Outcome → Type 0) (reading : Reading) (written : List ℕ) (message : Message) (outcome : Outcome) → length written ≤ MAX_INPUT_BYTES → IsWhole reading written message
+    → ReportsInput Then reading written outcome → IsInputMessage reading written message × Then message outcome
+read_as Then reading written message outcome short whole (inr (refusal, refused, _)) = absurd (not_refused reading written message refusal short whole refused)
+read_as Then reading written message outcome short whole (inl (other, is, then)) =
+    let one : other ≡ message = one_message_law reading.to_head written other message is.whole.spells whole.spells in
+    (subst (λ (m : Message). IsInputMessage reading written m) one is, subst (λ (m : Message). Then m outcome) one then)
 
 -- the one label has one verdict
 pub one_verdict : (conf : Configuration) (moment : ℕ) (context : MessageContext) (label : List ℕ) (verdicts : List Verdict) → AreVerdicts conf moment context (label ∷ []) verdicts
@@ -147,18 +169,18 @@ then_of {V} Reads Causes refusal_of Then d value reads outcome (inl read) = subs
 then_of Reads Causes refusal_of Then d value reads outcome (inr cause) = absurd (d.either value cause.0 reads cause.1)
 
 -- what `verify` comes to over a message that is read
-pub verdicts_of : (words : VerifyWords) (found : Found) (input : List ℕ) (outcome : Outcome) (conf : Configuration) (related : Option Message) (message : Message)
-    → IsConfigured (Some words.conf) (found ConfFile) conf → IsRequested words.request (found RequestFile) related → IsInputMessage (reading_for related) input message
-    → ReportsCommand (Verify words) found input outcome → ReportsVerdicts words.label words.now conf (context_for conf message related) outcome
-verdicts_of words found input outcome conf related message configured requested is reports =
+pub verdicts_of : (words : VerifyWords) (found : Found) (written : List ℕ) (outcome : Outcome) (conf : Configuration) (related : Option Message) (message : Message)
+    → IsConfigured (Some words.conf) (found ConfFile) conf → IsRequested words.request (found RequestFile) related → length written ≤ MAX_INPUT_BYTES → IsWhole (reading_for related) written message
+    → ReportsCommand (Verify words) found written outcome → ReportsVerdicts words.label words.now conf (context_for conf message related) outcome
+verdicts_of words found written outcome conf related message configured requested short whole reports =
     let names = name_of (Verify words) in
     let Then : Answers = λ conf wishes script. ReportsVerdicts words.label words.now conf in
-    let tables = then_of _ _ (λ refusal. Of OfConf refusal) (λ c. ReportsTables Nothing Then c names found input) (conf_decided (Some words.conf) (found ConfFile)) conf configured outcome reports in
-    let request = then_of _ _ (λ refusal. Of OfConf refusal) (λ (_ : ⊤). ReportsRequest Then conf names found input) (tables_decided Nothing conf) tt tt outcome tables in
-    let wishes = then_of _ _ (λ refusal. Of OfRequest refusal) (λ r. ReportsWishes Then conf r names found input) (request_decided words.request (found RequestFile)) related requested outcome request in
-    let script = then_of _ _ (λ refusal. Of OfWanted refusal) (λ w. ReportsScript Then conf related w names found input) (wanted_decided None (found WantedFile)) None refl outcome wishes in
-    let over = then_of _ _ (λ refusal. Of OfScript refusal) (λ s. ReportsMessage (Then conf None s) conf related input) (script_decided None (found ScriptFile)) [] refl outcome script in
-    then_of _ _ (λ refusal. Of OfInput refusal) (λ m. ReportsVerdicts words.label words.now conf (context_for conf m related)) (input_decided (reading_for related) input) message is outcome over
+    let tables = then_of _ _ (λ refusal. Of OfConf refusal) (λ c. ReportsTables Nothing Then c names found written) (conf_decided (Some words.conf) (found ConfFile)) conf configured outcome reports in
+    let request = then_of _ _ (λ refusal. Of OfConf refusal) (λ (_ : ⊤). ReportsRequest Then conf names found written) (tables_decided Nothing conf) tt tt outcome tables in
+    let wishes = then_of _ _ (λ refusal. Of OfRequest refusal) (λ r. ReportsWishes Then conf r names found written) (request_decided words.request (found RequestFile)) related requested outcome request in
+    let script = then_of _ _ (λ refusal. Of OfWanted refusal) (λ w. ReportsScript Then conf related w names found written) (wanted_decided None (found WantedFile)) None refl outcome wishes in
+    let over = then_of _ _ (λ refusal. Of OfScript refusal) (λ s. ReportsMessage (Then conf None s) conf related written) (script_decided None (found ScriptFile)) [] refl outcome script in
+    (read_as (λ m. ReportsVerdicts words.label words.now conf (context_for conf m related)) (reading_for related) written message outcome short whole over).1
 
 pub verify_parts : (arguments : List (List ℕ)) (words : VerifyWords) (found : Found) (input : List ℕ) (outcome : Outcome) → IsCommand arguments (Verify words) → Reports arguments found input outcome
     → ReportsCommand (Verify words) found input outcome
@@ -193,32 +215,81 @@ module _ (signed : SignWords) (found : Found) (input written : List ℕ) (timely
   written_message : (message : Message) × Spells (answers_head parts.related) message written × (message.head.start ≡ parts.message.head.start)
   written_message = message_where_signed signed.nonce signed.now parts.conf parts.wishes (context_for parts.conf parts.message parts.related) input written valid timely characters spelled parts.reports
 
-  last_label : (label : List ℕ) → SignsLast signed found label → IsLastLabel parts.conf parts.wishes label
-  last_label label last =
-      let conf : last.0 ≡ parts.conf = (conf_decided (Some signed.conf) (found ConfFile)).value last.0 parts.conf last.2 parts.configured in
-      let wishes : last.1 ≡ parts.wishes = (wanted_decided signed.wanted (found WantedFile)).value last.1 parts.wishes last.3 parts.wanted in
-      subst (λ (c : Configuration). IsLastLabel c parts.wishes label) conf (subst (λ (w : Option Message). IsLastLabel last.0 w label) wishes last.4)
+  rightly : (label keyid : List ℕ) → SignsAs parts.conf parts.wishes label keyid → IsRightlySigned (verification_for parts.conf signed.now (context_for parts.conf written_message.0 parts.related) label) keyid
+  rightly label keyid signs =
+      right_where_signed signed.nonce signed.now parts.conf parts.wishes (context_for parts.conf parts.message parts.related) input written label keyid written_message.0 valid timely characters spelled parts.reports
+      signs written_message.1
 
-  rightly : (label : List ℕ) → SignsLast signed found label
-      → (keyid : List ℕ) × IsRightlySigned (verification_for parts.conf signed.now (context_for parts.conf written_message.0 parts.related) label) keyid
-  rightly label last =
-      right_where_signed signed.nonce signed.now parts.conf parts.wishes (context_for parts.conf parts.message parts.related) input written label written_message.0 valid timely characters spelled parts.reports
-      (last_label label last) written_message.1
+  told : TellsSigned signed found input written
+  told = record {
+    conf = parts.conf;
+    configured = parts.configured;
+    related = parts.related;
+    requested = parts.requested;
+    wishes = parts.wishes;
+    wanted = parts.wanted;
+    message = parts.message;
+    is = parts.is;
+    written = written_message.0;
+    spells = written_message.1;
+    kept = λ label params tag.
+        kept_where_signed signed.nonce signed.now parts.conf parts.wishes (context_for parts.conf parts.message parts.related) input written label params tag written_message.0 valid timely characters spelled parts.reports
+        written_message.1;
+    right = rightly;
+  }
 
-  accepted : (verified : VerifyWords) (label : List ℕ) (outcome : Outcome) → VerifiesSigned signed verified label → SignsLast signed found label → IsTrue (list_all is_byte written)
-      → ReportsCommand (Verify verified) found written outcome → (verdict : Verdict) × IsOkOrPolicy verdict × (outcome ≡ verdicts_outcome (label ∷ []) (verdict ∷ []))
-  accepted verified label outcome same last bytes reports =
-      let is = input_is parts.related input written parts.message written_message.0 parts.is written_message.1 written_message.2 bytes in
-      let verdicts = verdicts_of verified found written outcome parts.conf parts.related written_message.0
-      (subst (λ (name : List ℕ). IsConfigured (Some name) (found ConfFile) parts.conf) (sym same.conf) parts.configured)
-      (subst (λ (name : Option (List ℕ)). IsRequested name (found RequestFile) parts.related) (sym same.request) parts.requested) is reports in
-      let one = label_verdict verified.label verified.now parts.conf (context_for parts.conf written_message.0 parts.related) outcome label same.label_is verdicts in
-      let right = rightly label last in
-      let judged = subst (λ (n : ℕ). IsVerdict (verification_for parts.conf n (context_for parts.conf written_message.0 parts.related) label) one.0) same.now one.1 in
-      (one.0, ok_or_policy (verification_for parts.conf signed.now (context_for parts.conf written_message.0 parts.related) label) right.0 one.0 right.1 judged, one.2)
+  -- by a configuration with the same scheme, kinds of fields and key
+  module _ (verified : VerifyWords) (other : Found) (label keyid : List ℕ) (knows : KnowsSigner signed verified found other label keyid) where
+    conf_is : knows.conf ≡ parts.conf
+    conf_is = (conf_decided (Some signed.conf) (found ConfFile)).value knows.conf parts.conf knows.configured parts.configured
+
+    wishes_are : knows.wishes ≡ parts.wishes
+    wishes_are = (wanted_decided signed.wanted (found WantedFile)).value knows.wishes parts.wishes knows.wanted parts.wanted
+
+    signs : SignsAs parts.conf parts.wishes label keyid
+    signs = subst (λ (c : Configuration). SignsAs c parts.wishes label keyid) conf_is (subst (λ (w : Option Message). SignsAs knows.conf w label keyid) wishes_are knows.signs)
+
+    context_is : context_for parts.conf written_message.0 parts.related ≡ context_for knows.next written_message.0 parts.related
+    context_is = λ i. record {
+      message = written_message.0;
+      related = parts.related;
+      scheme = (ap (λ (c : Configuration). c.scheme) (sym conf_is) ∙ sym knows.scheme) i;
+      types = (ap (λ (c : Configuration). c.types) (sym conf_is) ∙ sym knows.types) i;
+    }
+
+    right_by : (moment : ℕ) → IsRightlySigned (verification_for knows.next moment (context_for knows.next written_message.0 parts.related) label) keyid
+    right_by moment =
+        let is = rightly label keyid signs in
+        record {
+          params = is.params;
+          tag = is.tag;
+          signature = is.signature;
+          keyid_is = is.keyid_is;
+          key = is.key;
+          key_is = knows.key ∙ (ap (λ (c : Configuration). key_in c keyid) conf_is ∙ is.key_is);
+          values = is.values;
+          have = subst (λ (c : MessageContext). HaveValues c is.params.ids is.values) context_is is.have;
+          mac = is.mac;
+        }
+
+    accepted : (outcome : Outcome) → VerifiesSigned signed verified label → other RequestFile ≡ found RequestFile → ReportsCommand (Verify verified) other written outcome
+        → (verdict : Verdict) × IsOkOrPolicy verdict × (outcome ≡ verdicts_outcome (label ∷ []) (verdict ∷ []))
+    accepted outcome same request reports =
+        let short = short_of (answers_head parts.related) written_message.0 written written_message.1 in
+        let requested : IsRequested verified.request (other RequestFile) parts.related =
+        subst (λ (text : Option (List ℕ)). IsRequested verified.request text parts.related) (sym request)
+        (subst (λ (name : Option (List ℕ)). IsRequested name (found RequestFile) parts.related) (sym same.request) parts.requested) in
+        let verdicts = verdicts_of verified other written outcome knows.next parts.related written_message.0 knows.next_configured requested short
+        (whole_is parts.related input written parts.message written_message.0 parts.is written_message.1 written_message.2) reports in
+        let one = label_verdict verified.label verified.now knows.next (context_for knows.next written_message.0 parts.related) outcome label same.label_is verdicts in
+        (one.0, ok_or_policy (verification_for knows.next verified.now (context_for knows.next written_message.0 parts.related) label) keyid one.0 (right_by verified.now) one.1, one.2)
+
+pub has_signed : HasSigned
+has_signed arguments words found input output is wrote =
+    told words found input output (signs_timely arguments words is) (signs_characters arguments words is) (signed_parts arguments words found input output is wrote)
 
 pub accepted_where_signed : IsAcceptedWhereSigned
-accepted_where_signed signing verifying signed verified label found input written outcome is also same last wrote bytes reports =
+accepted_where_signed signing verifying signed verified label keyid found other input written outcome is also same request knows wrote reports =
     let parts = signed_parts signing signed found input written is wrote in
-    accepted signed found input written (signs_timely signing signed is) (signs_characters signing signed is) parts verified label outcome same last bytes
-    (verify_parts verifying verified found written outcome also reports)
+    accepted signed found input written (signs_timely signing signed is) (signs_characters signing signed is) parts verified other label keyid knows outcome same request
+    (verify_parts verifying verified other written outcome also reports)

@@ -1,6 +1,6 @@
 -- Arguments, what was found and an input have some outcome, and one of status 0 or 1 where the
 -- command has all that it needs.
-use Rattle.std.proofs.Common.{◌≡◌, ◌⊎◌, ◌+◌, inl, inr, ℕ, Bool, true, false, List, [], ◌∷◌, Option, Some, None, refl}
+use Rattle.std.proofs.Common.{◌≡◌, ◌+◌, inl, inr, ℕ, Bool, true, false, List, [], ◌∷◌, Option, Some, None, refl}
 use Rattle.std.specs.Prelude.{⊤, IsTrue, IsSome}
 use Rattle.std.specs.List.{list_all}
 use Rattle.sfv_text.specs.Classes.{is_byte}
@@ -106,7 +106,7 @@ some_of_command (Sign words) found input files bytes =
 some_of_command (Rewrite words) found input files bytes =
     some_of_files Nothing (λ conf wishes script. ReportsRewriting words.label script) (name_of (Rewrite words)) found input
     (λ conf _ _ wishes script writable context message. rewriting_answer words.label script context writable message) files bytes
-some_of_command (Audit words) found input files bytes = some_of_layers _ _ _ _ (conf_answer (Some words.conf) (found ConfFile)) (λ conf _. auditing_answer conf input)
+some_of_command (Audit words) found input files bytes = some_of_layers _ _ _ _ (conf_answer (Some words.conf) (found ConfFile)) (λ conf _. auditing_answer conf input bytes)
 some_of_command (Sample words) found input files bytes = let some = sampling_answer words.seed words.count in (some.0, some.1)
 
 arguments_answer : (arguments : List (List ℕ)) → HasAnswer (IsCommand arguments) (λ (_ : ⊤). NoCommand arguments)

@@ -3,7 +3,7 @@ use Rattle.std.specs.Prelude.{◌≡◌, ◌+◌, ◌≤◌, ℕ, Bool, true, Is
 use Rattle.hms_io.specs.Files.{FileMap}
 use Rattle.hms_io.specs.Reading.{LosesPrefix}
 use Rattle.command_line.specs.Command.{CommandLine, Help, Version, Base, Verify, Sign, Rewrite, Audit, Sample, IsCommand, conf_of, request_of, wanted_of, script_of}
-use Rattle.commands.specs.Files.{FileRole, FileNames, Found, AreFound, file_names, file_count}
+use Rattle.commands.specs.Files.{FileRole, FileNames, Found, AreFound, file_names, file_count, file_bytes}
 use Rattle.refusals.specs.declared.refusal.TheConstants.{MAX_INPUT_BYTES, MAX_RECORDING_BYTES}
 
 -- the name of the file of each role
@@ -70,6 +70,12 @@ abbrev pub AsksForNamed : List (List ℕ) → ℕ → ℕ → Type 0
 AsksForNamed arguments before now =
     (command : CommandLine) → IsCommand arguments command
     → now ≤ before + file_count (name_of command)
+
+-- at most one byte past the limit of each file that the command names is read
+abbrev pub ReachesNamed : List (List ℕ) → ℕ → ℕ → Type 0
+ReachesNamed arguments before now =
+    (command : CommandLine) → IsCommand arguments command
+    → now ≤ before + file_bytes (name_of command)
 
 -- at most so many bytes are gone as the command may read
 abbrev pub ReadsFew : List (List ℕ) → Option (List ℕ) → Option (List ℕ) → Type 0

@@ -1,6 +1,8 @@
 -- How a run ends: what it has written and what is left of its input, by its status.
-use Rattle.std.specs.Prelude.{◌≡◌, ◌⊎◌, ◌+◌, ◌<◌, ◌≤◌, ℕ, List, [], length, take, Option, Some, IfSome}
+use Rattle.std.specs.Prelude.{◌≡◌, ◌⊎◌, ◌+◌, ◌<◌, ◌≤◌, ℕ, IsTrue, List, [], length, take, Option, Some, IfSome}
 use Rattle.std.specs.Io.KnownBytes.{Appends, Keeps}
+use Rattle.std.specs.List.{list_all}
+use Rattle.sfv_text.specs.Classes.{is_byte}
 use Rattle.hms_io.specs.Cause.{Rose}
 use Rattle.hms_io.specs.Files.{FileMap}
 use Rattle.hms_io.specs.Reading.{LosesPrefix}
@@ -75,17 +77,18 @@ AppendsPrefix before now text = (n : ℕ) × (n < length text) × Appends before
 
 -- What the sink took, by the status, where nothing is written before the outcome is known: nothing,
 -- where a read failed or no memory was found; a proper prefix of the output, where a write failed;
--- and else all of the output.
+-- and else all of the output. An output is of bytes.
 abbrev pub Ends : List (List ℕ) → Option FileMap → Type 0 → Option (List ℕ) → Option (List ℕ)
     → Option (List ℕ) → Option (List ℕ) → Status → Type 0
 Ends arguments shelf Same before left taken now ReadFault = Keeps taken now
 Ends arguments shelf Same before left taken now OutOfMemory = Keeps taken now
 Ends arguments shelf Same before left taken now WriteFault =
     (outcome : Outcome) × HasReport arguments shelf Same before left outcome
-    × AppendsPrefix taken now (output_of outcome)
+    × AppendsPrefix taken now (output_of outcome) × IsTrue (list_all is_byte (output_of outcome))
 Ends arguments shelf Same before left taken now status =
     (outcome : Outcome) × HasReport arguments shelf Same before left outcome
     × (status_of outcome ≡ status) × Appends taken now (output_of outcome)
+    × IsTrue (list_all is_byte (output_of outcome))
 
 -- ---- the counts of faults
 

@@ -1,5 +1,5 @@
 -- Laws of what the program answers.
-use Rattle.std.specs.Prelude.{◌≡◌, ◌⊎◌, ◌↔◌, ⊤, ℕ, IsTrue, IsFalse, List, [], ◌∷◌, Option, Some, None}
+use Rattle.std.specs.Prelude.{◌≡◌, ◌⊎◌, ⊤, ℕ, IsTrue, IsFalse, List, [], ◌∷◌, Option, Some, None}
 use Rattle.std.specs.List.{list_all, list_any}
 use Rattle.hms_io.specs.declared.status.Status.TheVariants.{Done, NotOk}
 use Rattle.sfv_text.specs.Classes.{is_byte}
@@ -22,11 +22,11 @@ use Rattle.commands.specs.MessageFiles.{IsRequested, IsWanted, IsOfBytes}
 use Rattle.commands.specs.Rewrite.{IsTaken}
 use Rattle.commands.specs.Scripts.{IsScripted}
 use Rattle.commands.specs.Sign.{AreWishesRefused, IsSignRefused}
-use Rattle.commands.specs.SignedMessages.{IsLastLabel}
+use Rattle.commands.specs.SignedMessages.{SignsAs}
 use Rattle.commands.specs.Tables.{HasTables}
 use Rattle.commands.specs.Verify.{verdicts_outcome}
 use Rattle.commands.specs.declared.outcome.Outcome.{Outcome}
-use Rattle.commands.specs.declared.outcome.Outcome.TheVariants.{Done as Written}
+use Rattle.commands.specs.declared.outcome.Outcome.TheVariants.{Done as Written, Refused}
 use Rattle.commands.specs.declared.tables.Needs.{Needs}
 use Rattle.commands.specs.declared.tables.Needs.TheVariants.{Nothing, SignTable}
 use Rattle.framing.specs.Framings.{is_request}
@@ -36,6 +36,8 @@ use Rattle.hop_audit.specs.ChainValues.{Chain}
 use Rattle.hop_audit.specs.Laws.{IsSoundReport}
 use Rattle.hop_audit.specs.Report.{AreItemsOf, IsReport}
 use Rattle.hop_audit.specs.declared.line.AuditLine.{AuditLine}
+use Rattle.refusals.specs.Laws.{IsLine}
+use Rattle.refusals.specs.Refusal.{refusal_line}
 use Rattle.refusals.specs.declared.refusal.Refusal.{Refusal}
 use Rattle.rewrites.specs.Laws.{rests_on_conf}
 use Rattle.rewrites.specs.Steps.{Steps}
@@ -44,6 +46,7 @@ use Rattle.signing.specs.Signed.{IsSignedMessage}
 use Rattle.signing.specs.Wishes.{AreWished}
 use Rattle.signing.specs.declared.spec.SignSpec.{SignSpec}
 use Rattle.verdicts.specs.Laws.{is_rule_of_signing}
+use Rattle.verdicts.specs.Rules.{key_in}
 use Rattle.verdicts.specs.declared.outcome.Verdict.{Verdict}
 use Rattle.verdicts.specs.declared.outcome.Verdict.TheVariants.{Ok as Accepted, Rule as Failing}
 use Rattle.program.specs.Commands.{name_of}
@@ -61,6 +64,12 @@ HasSomeReport =
     (arguments : List (List ℕ)) (found : Found) (input : List ℕ)
     → ((role : FileRole) → IsOfBytes (found role)) → IsTrue (list_all is_byte input)
     → (outcome : Outcome) × Reports arguments found input outcome
+
+-- what is refused is written as one line: it has one LF, at its end
+abbrev pub IsLineWhereRefused : Type 0
+IsLineWhereRefused =
+    (arguments : List (List ℕ)) (found : Found) (input : List ℕ) (refusal : Refusal)
+    → Reports arguments found input (Refused refusal) → IsLine (refusal_line refusal)
 
 -- ---- where nothing is refused
 
@@ -159,32 +168,37 @@ abbrev pub IsOkOrPolicy : Verdict → Type 0
 IsOkOrPolicy (Accepted keyid) = ⊤
 IsOkOrPolicy (Failing rule place) = IsFalse (is_rule_of_signing rule)
 
--- `verify` is asked for the label, with the configuration, moment and request of `sign`
+-- `verify` is asked for the label, with the request of `sign`
 pub record VerifiesSigned (signed : SignWords) (verified : VerifyWords) (label : List ℕ)
     : Type 0 where
-  pub conf : verified.conf ≡ signed.conf
-  pub now : verified.now ≡ signed.now
   pub request : verified.request ≡ signed.request
   pub label_is : verified.label ≡ Some label
 
--- the label is that of the last signature that `sign` makes
-abbrev pub SignsLast : SignWords → Found → List ℕ → Type 0
-SignsLast signed found label =
-    (conf : Configuration) × (wishes : Option Message)
-    × IsConfigured (Some signed.conf) (found ConfFile) conf
-    × IsWanted signed.wanted (found WantedFile) wishes × IsLastLabel conf wishes label
+-- `sign` makes a signature of this label by the key of this `keyid`, and the configuration of
+-- `verify` has the same scheme, kinds of fields and key of this `keyid`.
+pub record KnowsSigner (signed : SignWords) (verified : VerifyWords) (found other : Found)
+    (label keyid : List ℕ) : Type 0 where
+  pub conf : Configuration
+  pub configured : IsConfigured (Some signed.conf) (found ConfFile) conf
+  pub wishes : Option Message
+  pub wanted : IsWanted signed.wanted (found WantedFile) wishes
+  pub signs : SignsAs conf wishes label keyid
+  pub next : Configuration
+  pub next_configured : IsConfigured (Some verified.conf) (other ConfFile) next
+  pub scheme : next.scheme ≡ conf.scheme
+  pub types : next.types ≡ conf.types
+  pub key : key_in next keyid ≡ key_in conf keyid
 
--- What `sign` writes, given to `verify` with the same files at the same moment, is `ok` for the
--- label of the last signature, or names one of the rules 13 to 26, 33 and 34, which aren't of
--- signing.
+-- What `sign` writes, given to `verify` with the same request, at any moment, is `ok` for each
+-- label that was signed, or names one of the rules 13 to 26, 33 and 34, which aren't of signing.
 abbrev pub IsAcceptedWhereSigned : Type 0
 IsAcceptedWhereSigned =
     (signing verifying : List (List ℕ)) (signed : SignWords) (verified : VerifyWords)
-    (label : List ℕ) (found : Found) (input written : List ℕ) (outcome : Outcome)
+    (label keyid : List ℕ) (found other : Found) (input written : List ℕ) (outcome : Outcome)
     → IsCommand signing (Sign signed) → IsCommand verifying (Verify verified)
-    → VerifiesSigned signed verified label → SignsLast signed found label
-    → Reports signing found input (Written written) → IsTrue (list_all is_byte written)
-    → Reports verifying found written outcome
+    → VerifiesSigned signed verified label → other RequestFile ≡ found RequestFile
+    → KnowsSigner signed verified found other label keyid
+    → Reports signing found input (Written written) → Reports verifying other written outcome
     → (verdict : Verdict) × IsOkOrPolicy verdict
     × (outcome ≡ verdicts_outcome (label ∷ []) (verdict ∷ []))
 
@@ -212,7 +226,8 @@ AreReadAlike rewritten verified found other =
 
 -- Where `rewrite` is done under a label, `verify` comes to the same for the label over what was
 -- read and over what was written: the same line and status, at each moment and by each
--- configuration. Where a step rests on the scheme or the kinds of fields, these are the same.
+-- configuration. Where a step rests on the scheme or the kinds of fields, these are the same. That
+-- what a run writes is of bytes is a fact of how it ends.
 abbrev pub IsVerdictKept : Type 0
 IsVerdictKept =
     (rewriting verifying : List (List ℕ)) (rewritten : RewriteWords) (verified : VerifyWords)
@@ -220,8 +235,10 @@ IsVerdictKept =
     → IsCommand rewriting (Rewrite rewritten) → IsCommand verifying (Verify verified)
     → VerifiesRewritten rewritten verified label → other RequestFile ≡ found RequestFile
     → (RestsOnConf rewritten found → AreReadAlike rewritten verified found other)
-    → Reports rewriting found input (Written written) → IsTrue (list_all is_byte written)
-    → Reports verifying other input outcome ↔ Reports verifying other written outcome
+    → Reports rewriting found input (Written written)
+    → (Reports verifying other written outcome → Reports verifying other input outcome)
+    × (IsTrue (list_all is_byte written) → Reports verifying other input outcome
+    → Reports verifying other written outcome)
 
 -- ---- what is audited
 

@@ -1,24 +1,31 @@
 -- What the program's output tells of the messages that it was given (RFC 9421 sections 2.5, 3.2).
-use Rattle.std.specs.Prelude.{◌≡◌, ◌⊎◌, ◌↔◌, ℕ, ◌+◌, Bool, IsTrue, List, Option, Some, IfSome}
+use Rattle.std.specs.Prelude.{◌≡◌, ◌⊎◌, ◌↔◌, ℕ, ◌+◌, Bool, List, Option, Some, IfSome}
 use Rattle.std.specs.Io.KnownBytes.{Appends}
-use Rattle.std.specs.List.{Contains, list_all}
+use Rattle.std.specs.List.{Contains, zip}
 use Rattle.hms_io.specs.Files.{FileMap}
 use Rattle.hms_io.specs.declared.status.Status.{Status}
 use Rattle.hms_io.specs.declared.status.Status.TheVariants.{Done, NotOk}
-use Rattle.sfv_text.specs.Classes.{is_byte}
-use Rattle.command_line.specs.Command.{Base, Audit, BaseWords, AuditWords, IsCommand}
-use Rattle.msg_body.specs.Messages.{Message}
+use Rattle.command_line.specs.Command.{Base, Verify, Sign, Audit, BaseWords, VerifyWords, SignWords, AuditWords, IsCommand}
+use Rattle.msg_body.specs.Messages.{Message, Spells}
 use Rattle.msg_body.specs.WholeTexts.{reading_for}
 use Rattle.component_ids.specs.declared.id.ComponentId.{ComponentId}
 use Rattle.component_ids.specs.declared.params.SigParams.{SigParams}
+use Rattle.component_values.specs.Context.{answers_head}
+use Rattle.component_values.specs.Laws.{HasMessages}
 use Rattle.component_values.specs.Values.{HaveValues}
-use Rattle.sig_base.specs.Laws.{HaveLines}
+use Rattle.sig_base.specs.Laws.{HaveBase}
 use Rattle.sig_base.specs.SignatureBase.{signature_base}
 use Rattle.conf.specs.Configuration.{Configuration}
+use Rattle.signatures.specs.Signatures.{HasSignature}
 use Rattle.verdicts.specs.Contexts.{context_for}
+use Rattle.verdicts.specs.Laws.{Agree, IsRightlySigned, IsTagOfTwo, base_of}
+use Rattle.verdicts.specs.Verdicts.{Accepts}
+use Rattle.verdicts.specs.Verification.{Verification, verification_for}
+use Rattle.verdicts.specs.declared.outcome.Verdict.{Verdict}
+use Rattle.verdicts.specs.declared.outcome.Verdict.TheVariants.{Ok as Accepted}
 use Rattle.recording.specs.Items.{PlacedItem}
 use Rattle.hop_audit.specs.ChainValues.{Chain}
-use Rattle.hop_audit.specs.Laws.{AcceptsChange, HasTagOfTwo, IsKeptWithItsBaseAt}
+use Rattle.hop_audit.specs.Laws.{AcceptsChange, HasTagOfTwo, IsKeptWithItsBaseAt, IsSoundReport}
 use Rattle.hop_audit.specs.Lines.{report_text}
 use Rattle.hop_audit.specs.Report.{AreItemsOf, IsReport}
 use Rattle.hop_audit.specs.declared.line.AuditLine.{AuditLine}
@@ -27,10 +34,12 @@ use Rattle.hop_audit.specs.declared.line.Fate.{Fate}
 use Rattle.commands.specs.Audit.{IsRecordingText}
 use Rattle.commands.specs.Configured.{IsConfigured}
 use Rattle.commands.specs.Covered.{ReadsParams}
-use Rattle.commands.specs.Files.{Found, Conf as ConfFile, Request as RequestFile}
-use Rattle.commands.specs.MessageFiles.{IsRequested}
+use Rattle.commands.specs.Files.{Found, Conf as ConfFile, Request as RequestFile, Wanted as WantedFile}
+use Rattle.commands.specs.MessageFiles.{IsRequested, IsWanted}
 use Rattle.commands.specs.Messages.{IsInputMessage}
 use Rattle.commands.specs.Outcome.{output_of, status_of}
+use Rattle.commands.specs.SignedMessages.{SignsAs}
+use Rattle.commands.specs.Verify.{AreAsked, verdict_lines}
 use Rattle.commands.specs.declared.outcome.Outcome.{Outcome}
 use Rattle.commands.specs.declared.outcome.Outcome.TheVariants.{Done as Written}
 use Rattle.program.specs.Commands.{AreFoundFor}
@@ -39,7 +48,7 @@ use Rattle.program.specs.Report.{Reports}
 -- ---- `base`
 
 -- The output is the signature base of the parameters that were asked for and of the values that the
--- components have in the input. No other parameters, and no other values without LF, have it.
+-- components have in the input. No other parameters and no other values have it.
 pub record TellsOneBase (words : BaseWords) (found : Found) (input output : List ℕ)
     : Type 0 where
   pub conf : Configuration
@@ -52,7 +61,7 @@ pub record TellsOneBase (words : BaseWords) (found : Found) (input output : List
   pub reads : ReadsParams words.params params
   pub values : List (List ℕ)
   pub have : HaveValues (context_for conf message related) params.ids values
-  pub one : (others : SigParams) (also : List (List ℕ)) → HaveLines others also
+  pub one : (others : SigParams) (also : List (List ℕ)) → HaveBase others also
       → (output ≡ signature_base others also) ↔ ((others ≡ params) × (also ≡ values))
 
 -- what `base` writes is so
@@ -62,12 +71,107 @@ HasOneBase =
     → IsCommand arguments (Base words) → Reports arguments found input (Written output)
     → TellsOneBase words found input output
 
+-- ---- `verify`
+
+-- The label is accepted. Whatever else is accepted with its tag under its key, of any message, has
+-- the same signature parameters and the same value of each covered component; or the tag is the
+-- HMAC of both signature bases, which differ.
+pub record HasOneMeaning (v : Verification) (keyid : List ℕ) : Type 0 where
+  pub accepts : Accepts v keyid
+  pub messages : HasMessages v.context
+  pub one : (w : Verification) (another : List ℕ) (other : Accepts w another)
+      → HasMessages w.context → accepts.tag ≡ other.tag → accepts.key ≡ other.key
+      → Agree accepts other
+      ⊎ IsTagOfTwo accepts.key accepts.tag (base_of accepts) (base_of other)
+
+-- The output has the line of each label that was asked for, and a label whose line is `ok` has one
+-- meaning.
+pub record TellsVerdicts (words : VerifyWords) (found : Found) (input output : List ℕ)
+    : Type 0 where
+  pub conf : Configuration
+  pub configured : IsConfigured (Some words.conf) (found ConfFile) conf
+  pub related : Option Message
+  pub requested : IsRequested words.request (found RequestFile) related
+  pub message : Message
+  pub is : IsInputMessage (reading_for related) input message
+  pub labels : List (List ℕ)
+  pub asked : AreAsked words.label message labels
+  pub verdicts : List Verdict
+  pub written : output ≡ verdict_lines labels verdicts
+  pub ok : (label keyid : List ℕ) → Contains (zip labels verdicts) (label, Accepted keyid)
+      → HasOneMeaning
+      (verification_for conf words.now (context_for conf message related) label) keyid
+
+-- what `verify` writes is so
+abbrev pub HaveOneMeaning : Type 0
+HaveOneMeaning =
+    (arguments : List (List ℕ)) (words : VerifyWords) (found : Found) (input : List ℕ)
+    (outcome : Outcome) → IsCommand arguments (Verify words)
+    → Reports arguments found input outcome
+    → (status_of outcome ≡ Done) ⊎ (status_of outcome ≡ NotOk)
+    → TellsVerdicts words found input (output_of outcome)
+
+-- Labels that are `ok` in both outputs with one tag under one key have the same signature
+-- parameters and the same value of each covered component, or the tag is the HMAC of two bases.
+abbrev pub AgreeWhereOneTag : {words other_words : VerifyWords} {found other_found : Found}
+    {input other_input output other_output : List ℕ}
+    → TellsVerdicts words found input output
+    → TellsVerdicts other_words other_found other_input other_output → Type 0
+AgreeWhereOneTag one other =
+    (label other_label keyid other_keyid : List ℕ)
+    (ok : Contains (zip one.labels one.verdicts) (label, Accepted keyid))
+    (also : Contains (zip other.labels other.verdicts) (other_label, Accepted other_keyid))
+    → (one.ok label keyid ok).accepts.tag ≡ (other.ok other_label other_keyid also).accepts.tag
+    → (one.ok label keyid ok).accepts.key ≡ (other.ok other_label other_keyid also).accepts.key
+    → Agree (one.ok label keyid ok).accepts (other.ok other_label other_keyid also).accepts
+    ⊎ IsTagOfTwo (one.ok label keyid ok).accepts.key (one.ok label keyid ok).accepts.tag
+    (base_of (one.ok label keyid ok).accepts)
+    (base_of (other.ok other_label other_keyid also).accepts)
+
+-- So it is with any two runs of `verify`.
+abbrev pub RunsAgreeWhereOneTag : Type 0
+RunsAgreeWhereOneTag =
+    (words other_words : VerifyWords) (found other_found : Found)
+    (input other_input output other_output : List ℕ)
+    (one : TellsVerdicts words found input output)
+    (other : TellsVerdicts other_words other_found other_input other_output)
+    → AgreeWhereOneTag one other
+
+-- ---- `sign`
+
+-- The output is a message in which each label that the input had keeps its signature parameters and
+-- its tag, and each label that was signed is rightly signed.
+pub record TellsSigned (words : SignWords) (found : Found) (input output : List ℕ) : Type 0 where
+  pub conf : Configuration
+  pub configured : IsConfigured (Some words.conf) (found ConfFile) conf
+  pub related : Option Message
+  pub requested : IsRequested words.request (found RequestFile) related
+  pub wishes : Option Message
+  pub wanted : IsWanted words.wanted (found WantedFile) wishes
+  pub message : Message
+  pub is : IsInputMessage (reading_for related) input message
+  pub written : Message
+  pub spells : Spells (answers_head related) written output
+  pub kept : (label : List ℕ) (params : SigParams) (tag : List ℕ)
+      → HasSignature message label params tag → HasSignature written label params tag
+  pub right : (label keyid : List ℕ) → SignsAs conf wishes label keyid
+      → IsRightlySigned
+      (verification_for conf words.now (context_for conf written related) label) keyid
+
+-- what `sign` writes is so
+abbrev pub HasSigned : Type 0
+HasSigned =
+    (arguments : List (List ℕ)) (words : SignWords) (found : Found) (input output : List ℕ)
+    → IsCommand arguments (Sign words) → Reports arguments found input (Written output)
+    → TellsSigned words found input output
+
 -- ---- `audit`
 
 -- The output is the report on the chain that the input records. A label's fate is kept exactly
 -- where the message after the hop has the label with the same parameters and tag, and both bases
 -- are the same text. Where a label is accepted before and after a hop and one of its components has
--- changed, two bases have one HMAC.
+-- changed, two bases have one HMAC. A label for which a hop is permitted is kept or lacking, and
+-- where both messages have one moment, its verdict is the same in both.
 pub record TellsOneChain (words : AuditWords) (found : Found) (input output : List ℕ)
     : Type 0 where
   pub conf : Configuration
@@ -80,12 +184,11 @@ pub record TellsOneChain (words : AuditWords) (found : Found) (input output : Li
   pub report : IsReport conf chain lines
   pub written : output ≡ report_text lines
   pub kept : (index : ℕ) (label : List ℕ) (permitted : Bool) (fate : Fate)
-      → IsTrue (list_all is_byte input)
       → Contains lines (LabelLine (index + 1) label permitted fate)
       → IsKeptWithItsBaseAt conf chain index label fate
   pub changed : (index : ℕ) (label : List ℕ) (id : ComponentId) (keyid : List ℕ)
-      → IsTrue (list_all is_byte input) → AcceptsChange lines index label id keyid
-      → HasTagOfTwo conf chain index label keyid
+      → AcceptsChange lines index label id keyid → HasTagOfTwo conf chain index label keyid
+  pub sound : IsSoundReport chain lines
 
 -- what `audit` writes is so
 abbrev pub HasOneChain : Type 0
@@ -116,6 +219,21 @@ abbrev pub WritesOneBase : List (List ℕ) → Option FileMap → Option (List �
 WritesOneBase arguments shelf before taken now status =
     (words : BaseWords) → IsCommand arguments (Base words) → status ≡ Done
     → HasWritten (TellsOneBase words) (AreFoundFor arguments shelf) before taken now
+
+-- where `verify` is done, whether each label is `ok` or not, each that is has one meaning
+abbrev pub WritesVerdicts : List (List ℕ) → Option FileMap → Option (List ℕ) → Option (List ℕ)
+    → Option (List ℕ) → Status → Type 0
+WritesVerdicts arguments shelf before taken now status =
+    (words : VerifyWords) → IsCommand arguments (Verify words)
+    → (status ≡ Done) ⊎ (status ≡ NotOk)
+    → HasWritten (TellsVerdicts words) (AreFoundFor arguments shelf) before taken now
+
+-- where `sign` is done, a signed message was written
+abbrev pub WritesSigned : List (List ℕ) → Option FileMap → Option (List ℕ) → Option (List ℕ)
+    → Option (List ℕ) → Status → Type 0
+WritesSigned arguments shelf before taken now status =
+    (words : SignWords) → IsCommand arguments (Sign words) → status ≡ Done
+    → HasWritten (TellsSigned words) (AreFoundFor arguments shelf) before taken now
 
 -- where `audit` is done, whether a line counts against the chain or none, one chain was told
 abbrev pub WritesOneChain : List (List ℕ) → Option FileMap → Option (List ℕ) → Option (List ℕ)

@@ -1,11 +1,13 @@
 //! The top call: all that the program does.
 
-ghost use Rattle.std.specs.Prelude.{◌≡◌, ◌⊎◌, ◌≤◌, Err, map, string_bytes};
+ghost use Rattle.std.specs.Prelude.{◌≡◌, ◌⊎◌, ◌≤◌, Err, IsTrue, map, string_bytes};
+ghost use Rattle.std.specs.List.{list_all};
+ghost use Rattle.sfv_text.specs.Classes.{is_byte};
 ghost use Rattle.hms_io.specs.Files.{KeepsFiles};
 ghost use Rattle.command_line.specs.Command.{NoCommand};
-ghost use Rattle.program.specs.Commands.{NamesNoFile, ReadsNoInput, ReadsWhole, AsksForNamed, ReadsFew};
+ghost use Rattle.program.specs.Commands.{NamesNoFile, ReadsNoInput, ReadsWhole, AsksForNamed, ReachesNamed, ReadsFew};
 ghost use Rattle.program.specs.Ends.{HasReport, Ends, CountsFaults, CountsReads};
-ghost use Rattle.program.specs.Meanings.{WritesOneBase, WritesOneChain};
+ghost use Rattle.program.specs.Meanings.{WritesOneBase, WritesOneChain, WritesSigned, WritesVerdicts};
 ghost use Rattle.refusals.specs.declared.refusal.Refusal.TheVariants.{Arguments};
 ghost use Rattle.commands.specs.declared.stop.Stop.TheVariants.{Refused};
 ghost use Rattle.commands.specs.Stops.{IfOutcome};
@@ -37,6 +39,8 @@ fn run_command<F: Shelf, S: Source>(
     ensures ended { S.ended source.old ≡ 0 → S.ended source.new ≤ 1 }
     ensures asked { AsksForNamed (map string_bytes arguments.now)
         (F.asked shelf.old) (F.asked shelf.new) }
+    ensures reached { ReachesNamed (map string_bytes arguments.now)
+        (F.reached shelf.old) (F.reached shelf.new) }
     ensures files { KeepsFiles (F.files shelf.old) (F.files shelf.new) }
     ensures refused { NoCommand (map string_bytes arguments.now)
         → result ≡ Err (Refused Arguments) }
@@ -94,6 +98,14 @@ fn run_command<F: Shelf, S: Source>(
     }
 }
 
+/// The same bytes, of which the contract says that they are bytes.
+fn of_bytes(bytes: &[u8]) -> &[u8]
+    ensures same { result.now ≡ bytes.now }
+    ensures are { IsTrue (list_all is_byte bytes.now) }
+{
+    bytes
+}
+
 /// Does what the arguments ask for, over the files of the shelf and the bytes of the source, and
 /// writes the outcome to the sink: the text that was asked for, or one line that begins `refused `
 /// and ends with LF.
@@ -111,9 +123,14 @@ pub fn run<F: Shelf, S: Source, K: Sink>(
         (source.new ≡ source.old) (S.left source.old) (S.left source.new)
         (K.taken out.old) (K.taken out.new) result }
 
-    // What `base` and `audit` wrote tells what it was made of: equal bases have equal parameters
-    // and values, and what is kept at a hop has one base on both sides of it.
+    // What these commands wrote tells what it was made of: equal bases have equal parameters and
+    // values, labels that are accepted with one tag under one key agree, each label that was there
+    // or is signed is there, and what is kept at a hop has one base on both sides of it.
     ensures base { WritesOneBase (map string_bytes arguments.now) (F.files shelf.old)
+        (S.left source.old) (K.taken out.old) (K.taken out.new) result }
+    ensures verify { WritesVerdicts (map string_bytes arguments.now) (F.files shelf.old)
+        (S.left source.old) (K.taken out.old) (K.taken out.new) result }
+    ensures sign { WritesSigned (map string_bytes arguments.now) (F.files shelf.old)
         (S.left source.old) (K.taken out.old) (K.taken out.new) result }
     ensures audit { WritesOneChain (map string_bytes arguments.now) (F.files shelf.old)
         (S.left source.old) (K.taken out.old) (K.taken out.new) result }
@@ -126,13 +143,16 @@ pub fn run<F: Shelf, S: Source, K: Sink>(
     ensures unasked { NamesNoFile (map string_bytes arguments.now) → shelf.new ≡ shelf.old }
     ensures files { KeepsFiles (F.files shelf.old) (F.files shelf.new) }
 
-    // At any status at most one byte past the limit is read, the source isn't read after its end,
-    // and at most so many files are asked for as the command names.
+    // At any status at most one byte past the limit is read, of the input and of each file, the
+    // source isn't read after its end, and at most so many files are asked for as the command
+    // names.
     ensures few { ReadsFew (map string_bytes arguments.now)
         (S.left source.old) (S.left source.new) }
     ensures ended { S.ended source.old ≡ 0 → S.ended source.new ≤ 1 }
     ensures asked { AsksForNamed (map string_bytes arguments.now)
         (F.asked shelf.old) (F.asked shelf.new) }
+    ensures reached { ReachesNamed (map string_bytes arguments.now)
+        (F.reached shelf.old) (F.reached shelf.new) }
 
     // The counts of faults say when a read or a write failed.
     ensures reads { CountsReads (source.new ≡ source.old) result
@@ -150,7 +170,7 @@ pub fn run<F: Shelf, S: Source, K: Sink>(
     let Ok(output) = outcome.into_output(alloc) else {
         return Status::OutOfMemory;
     };
-    match put_all(out, output.bytes()) {
+    match put_all(out, of_bytes(output.bytes())) {
         Ok(()) => status,
         Err(Failed) => Status::WriteFault,
     }

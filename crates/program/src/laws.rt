@@ -1,7 +1,7 @@
 //! Laws of what the program answers. Each function does nothing; its contract is the law.
 
-ghost use Rattle.program.specs.Laws.{HasOneReport, HasSomeReport, IsComplete, IsAcceptedWhereSigned, IsVerdictKept, IsKeptWherePermitted};
-ghost use Rattle.program.specs.Meanings.{HasOneBase, HasOneChain};
+ghost use Rattle.program.specs.Laws.{HasOneReport, HasSomeReport, IsComplete, IsAcceptedWhereSigned, IsVerdictKept, IsKeptWherePermitted, IsLineWhereRefused};
+ghost use Rattle.program.specs.Meanings.{HasOneBase, HasOneChain, HasSigned, HaveOneMeaning, RunsAgreeWhereOneTag};
 
 /// For given arguments, files and input there is one outcome, and so one status and one output. So
 /// each row of the report is exact: its status and its output come there and nowhere else, out of
@@ -11,17 +11,32 @@ pub fn one_report()
     ensures some { HasSomeReport }
 {}
 
+/// What is refused is written as one line, whose one LF is its end.
+pub fn a_refusal_is_one_line()
+    ensures { IsLineWhereRefused }
+{}
+
 /// A command that has a configuration, a message and no fault of its own has an outcome of status 0
 /// or 1.
 pub fn a_command_that_has_all_is_answered()
     ensures { IsComplete }
 {}
 
-/// What `sign` writes, given to `verify` with the same files at the same moment, is `ok` for the
-/// label of the last signature, or names one of the rules 13 to 26, 33 and 34, by which key,
-/// moment, nonce, digest and what is covered are judged.
+/// What `verify` writes says of which labels it is `ok`: each is accepted, and any two messages in
+/// which a label is with one tag under one key have the same signature parameters and the same
+/// value of each covered component; or two texts have one HMAC under that key.
+pub fn one_tag_has_one_meaning()
+    ensures one { HaveOneMeaning }
+    ensures runs { RunsAgreeWhereOneTag }
+{}
+
+/// What `sign` writes keeps the labels that were there, and each label that was signed is rightly
+/// signed. Given to `verify` with the same request, at any moment, it is `ok` for each of these, or
+/// names one of the rules 13 to 26, 33 and 34, by which key, moment, nonce, digest and what is
+/// covered are judged; the configuration has the same scheme, kinds of fields and signing key.
 pub fn what_is_signed_is_accepted()
-    ensures { IsAcceptedWhereSigned }
+    ensures signed { HasSigned }
+    ensures accepted { IsAcceptedWhereSigned }
 {}
 
 /// What `rewrite` writes under a label, given to `verify` with the same request, has the line of

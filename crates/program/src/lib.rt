@@ -20,7 +20,7 @@ mod over_recording;
 
 pub use entry::run;
 pub use laws::{
-    a_base_has_one_meaning, a_command_that_has_all_is_answered, one_report,
-    what_is_kept_has_one_base, what_is_permitted_is_kept, what_is_rewritten_keeps_its_verdict,
-    what_is_signed_is_accepted,
+    a_base_has_one_meaning, a_command_that_has_all_is_answered, a_refusal_is_one_line, one_report,
+    one_tag_has_one_meaning, what_is_kept_has_one_base, what_is_permitted_is_kept,
+    what_is_rewritten_keeps_its_verdict, what_is_signed_is_accepted,
 };

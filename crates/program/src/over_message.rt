@@ -5,13 +5,13 @@
 ghost use Rattle.std.specs.Prelude.{◌≡◌, ◌+◌, ◌≤◌, List, None, IfNone, IsTrue, Option, length, option_map};
 ghost use Rattle.std.specs.List.{list_all};
 ghost use Rattle.hms_io.specs.Files.{KeepsFiles};
-ghost use Rattle.msg_body.specs.Messages.{Spells};
 ghost use Rattle.msg_body.specs.Views.{message_of};
-ghost use Rattle.component_values.specs.Context.{context_of, answers_head};
+ghost use Rattle.component_values.specs.Context.{HasWholeMessage, context_of};
 ghost use Rattle.conf.specs.ConfMeaning.{meaning};
-ghost use Rattle.commands.specs.Files.{AreFound, file_names, file_count};
+ghost use Rattle.commands.specs.Files.{AreFound, file_names, file_bytes, file_count};
 ghost use Rattle.commands.specs.Stops.{IfOutcome, ReadsNothing, CountsStop};
 ghost use Rattle.commands.specs.Tables.{HasTables};
+ghost use Rattle.rewrite_script.specs.declared.limits.TheConstants.{MAX_SCRIPT_BYTES};
 ghost use Rattle.rewrite_script.specs.Lines.{is_writable};
 ghost use Rattle.program.specs.Commands.{LosesAtMost, Whole};
 ghost use Rattle.program.specs.Ends.{HasInput, HasOutcome, Leaves};
@@ -55,21 +55,19 @@ pub trait OverMessage {
     fn needs(&self) -> Needs
         ensures { result ≡ tables self.now };
 
-    /// Does the command over the message of the context, whose bytes these are. It reads nothing.
+    /// Does the command over the message of the context. It reads nothing.
     fn answer(
         &self,
         alloc: Global,
         conf: &Conf,
         wishes: Option<&MessageView<'_>>,
         script: &[Rewrite],
-        bytes: &[u8],
         context: &Context<'_, '_>,
     ) -> Result<Outcome, Stop>
         requires in_range { is_in_range self.now }
         requires tables { HasTables (tables self.now) (meaning conf.now) }
         requires writable { IsTrue (list_all is_writable script.now) }
-        requires spells { Spells (answers_head (context_of context.now).related)
-            (context_of context.now).message bytes.now }
+        requires whole { HasWholeMessage (context_of context.now) }
         ensures report { IfOutcome result (reports self.now (meaning conf.now)
             (option_map (λ view. message_of view.now) wishes.entry) script.now
             (context_of context.now)) }
@@ -98,7 +96,6 @@ impl<'a> OverMessage for BaseWords<'a> {
         _conf: &Conf,
         _wishes: Option<&MessageView<'_>>,
         _script: &[Rewrite],
-        _bytes: &[u8],
         context: &Context<'_, '_>,
     ) -> Result<Outcome, Stop> {
         write_base(alloc, self.params.as_bytes(), context)
@@ -128,7 +125,6 @@ impl<'a> OverMessage for VerifyWords<'a> {
         conf: &Conf,
         _wishes: Option<&MessageView<'_>>,
         _script: &[Rewrite],
-        _bytes: &[u8],
         context: &Context<'_, '_>,
     ) -> Result<Outcome, Stop> {
         Ok(write_verdicts(alloc, conf, self.now, self.label, context)?)
@@ -160,12 +156,11 @@ impl<'a> OverMessage for SignWords<'a> {
         conf: &Conf,
         wishes: Option<&MessageView<'_>>,
         _script: &[Rewrite],
-        bytes: &[u8],
         context: &Context<'_, '_>,
     ) -> Result<Outcome, Stop> {
         match wishes {
-            None => write_signed(alloc, conf, self.now, self.nonce, bytes, context),
-            Some(wishes) => write_wished(alloc, conf, self.now, wishes, bytes, context),
+            None => write_signed(alloc, conf, self.now, self.nonce, context),
+            Some(wishes) => write_wished(alloc, conf, self.now, wishes, context),
         }
     }
 }
@@ -192,10 +187,9 @@ impl<'a> OverMessage for RewriteWords<'a> {
         _conf: &Conf,
         _wishes: Option<&MessageView<'_>>,
         script: &[Rewrite],
-        bytes: &[u8],
         context: &Context<'_, '_>,
     ) -> Result<Outcome, Stop> {
-        write_rewritten(alloc, self.label, script, bytes, context)
+        write_rewritten(alloc, self.label, script, context)
     }
 }
 
@@ -223,7 +217,7 @@ fn over_input<'x, C: OverMessage>(
     let reading = Reading::of_input(related);
     let message = read_input(alloc, reading, Role::Input, input)?;
     let context = context_for(conf, &message, related);
-    command.answer(alloc, conf, wishes, script, input, &context)
+    command.answer(alloc, conf, wishes, script, &context)
 }
 
 /// Does the command over what the source gives: reads it to its end, or one byte past the limit.
@@ -287,6 +281,7 @@ fn over_script<C: OverMessage, F: Shelf, S: Source>(
     ensures few { LosesAtMost (MAX_INPUT_BYTES + 1) (S.left source.old) (S.left source.new) }
     ensures ended { S.ended source.old ≡ 0 → S.ended source.new ≤ 1 }
     ensures asked { F.asked shelf.new ≤ F.asked shelf.old + 1 }
+    ensures reached { F.reached shelf.new ≤ F.reached shelf.old + (MAX_SCRIPT_BYTES + 1) }
     ensures files { KeepsFiles (F.files shelf.old) (F.files shelf.new) }
     ensures unasked { IfNone name.entry (shelf.new ≡ shelf.old) }
 {
@@ -334,6 +329,9 @@ fn over_wishes<C: OverMessage, F: Shelf, S: Source>(
     ensures ended { S.ended source.old ≡ 0 → S.ended source.new ≤ 1 }
     ensures asked { F.asked shelf.new ≤ F.asked shelf.old
         + file_count (file_names None None (option_map (λ word. word.now) name.entry)
+        (option_map (λ word. word.now) script.entry)) }
+    ensures reached { F.reached shelf.new ≤ F.reached shelf.old
+        + file_bytes (file_names None None (option_map (λ word. word.now) name.entry)
         (option_map (λ word. word.now) script.entry)) }
     ensures files { KeepsFiles (F.files shelf.old) (F.files shelf.new) }
     ensures unasked { IfNone name.entry (IfNone script.entry (shelf.new ≡ shelf.old)) }
@@ -384,6 +382,10 @@ fn over_request<C: OverMessage, F: Shelf, S: Source>(
     ensures ended { S.ended source.old ≡ 0 → S.ended source.new ≤ 1 }
     ensures asked { F.asked shelf.new ≤ F.asked shelf.old
         + file_count (file_names None (option_map (λ word. word.now) name.entry)
+        (option_map (λ word. word.now) wanted.entry)
+        (option_map (λ word. word.now) script.entry)) }
+    ensures reached { F.reached shelf.new ≤ F.reached shelf.old
+        + file_bytes (file_names None (option_map (λ word. word.now) name.entry)
         (option_map (λ word. word.now) wanted.entry)
         (option_map (λ word. word.now) script.entry)) }
     ensures files { KeepsFiles (F.files shelf.old) (F.files shelf.new) }
@@ -438,6 +440,11 @@ pub fn over_files<C: OverMessage, F: Shelf, S: Source>(
     ensures ended { S.ended source.old ≡ 0 → S.ended source.new ≤ 1 }
     ensures asked { F.asked shelf.new ≤ F.asked shelf.old
         + file_count (file_names (option_map (λ word. word.now) conf.entry)
+        (option_map (λ word. word.now) request.entry)
+        (option_map (λ word. word.now) wanted.entry)
+        (option_map (λ word. word.now) script.entry)) }
+    ensures reached { F.reached shelf.new ≤ F.reached shelf.old
+        + file_bytes (file_names (option_map (λ word. word.now) conf.entry)
         (option_map (λ word. word.now) request.entry)
         (option_map (λ word. word.now) wanted.entry)
         (option_map (λ word. word.now) script.entry)) }

@@ -7,7 +7,7 @@ ghost use Rattle.conf.specs.ConfMeaning.{meaning};
 ghost use Rattle.commands.specs.Audit.{ReportsAudit};
 ghost use Rattle.commands.specs.Files.{AreFound, file_names};
 ghost use Rattle.commands.specs.Stops.{IfOutcome, CountsStop};
-ghost use Rattle.refusals.specs.declared.refusal.TheConstants.{MAX_RECORDING_BYTES};
+ghost use Rattle.refusals.specs.declared.refusal.TheConstants.{MAX_CONF_BYTES, MAX_RECORDING_BYTES};
 ghost use Rattle.program.specs.Commands.{LosesAtMost, Whole};
 ghost use Rattle.program.specs.Ends.{HasInput, HasOutcome, Leaves};
 ghost use Rattle.program.specs.Report.{ReportsConfigured};
@@ -58,6 +58,7 @@ pub fn over_recording<F: Shelf, S: Source>(
     ensures few { LosesAtMost (MAX_RECORDING_BYTES + 1) (S.left source.old) (S.left source.new) }
     ensures ended { S.ended source.old ≡ 0 → S.ended source.new ≤ 1 }
     ensures asked { F.asked shelf.new ≤ F.asked shelf.old + 1 }
+    ensures reached { F.reached shelf.new ≤ F.reached shelf.old + (MAX_CONF_BYTES + 1) }
     ensures files { KeepsFiles (F.files shelf.old) (F.files shelf.new) }
 {
     let conf = read_configuration(alloc, Some(words.conf), shelf)?;

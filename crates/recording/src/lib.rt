@@ -28,6 +28,7 @@
 mod fault;
 mod item;
 mod laws;
+mod limit_laws;
 mod limits;
 mod number;
 mod read;
@@ -39,5 +40,6 @@ pub use laws::{
     a_text_is_a_recording_or_has_a_fault, the_first_fault_is_that_from_the_left,
     the_rest_is_read_by_itself,
 };
+pub use limit_laws::limits_are_these;
 pub use limits::{MAX_ITEM_BYTES, MAX_NUMBER_DIGITS};
 pub use read::read_recording;

@@ -12,7 +12,7 @@ use Rattle.refusals.specs.declared.file.FileRefusal.{FileRefusal}
 use Rattle.refusals.specs.declared.file.FileRefusal.TheVariants.{Missing, TooLong, Message, Conf, Script, Recording, Order, TooManyHops}
 use Rattle.refusals.specs.declared.refusal.Refusal.TheVariants.{Arguments, Of, Command}
 use Rattle.refusals.specs.declared.refusal.CommandRefusal.{CommandRefusal}
-use Rattle.refusals.specs.declared.refusal.CommandRefusal.TheVariants.{Syntax, ItemKind, Ids, Lacks, Sign, Wishes, NotTaken}
+use Rattle.refusals.specs.declared.refusal.CommandRefusal.TheVariants.{Syntax, Ids, Lacks, Sign, Wishes, NotTaken}
 use Rattle.rewrite_script.specs.declared.fault.ScriptFault.{ScriptFault}
 use Rattle.rewrite_script.specs.declared.fault.ScriptFault.TheVariants as script
 use Rattle.signing.specs.declared.fault.SignFault.{SignFault}
@@ -68,7 +68,6 @@ of_sign (sign.Lacks index lack) = tt
 
 of_command : (refusal : CommandRefusal) → IsOfRefusal (command_status refusal)
 of_command (Syntax offset) = tt
-of_command (ItemKind offset) = tt
 of_command (Ids f) = tt
 of_command (Lacks lack id) = tt
 of_command (Sign f) = of_sign f

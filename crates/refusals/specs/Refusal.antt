@@ -13,7 +13,7 @@ use Rattle.refusals.specs.Texts.{role_text, file_text, file_status}
 use Rattle.refusals.specs.declared.refusal.Refusal.{Refusal}
 use Rattle.refusals.specs.declared.refusal.Refusal.TheVariants.{Arguments, Of, Command}
 use Rattle.refusals.specs.declared.refusal.CommandRefusal.{CommandRefusal}
-use Rattle.refusals.specs.declared.refusal.CommandRefusal.TheVariants.{Syntax, ItemKind, Ids, Lacks, Sign, Wishes, NotTaken}
+use Rattle.refusals.specs.declared.refusal.CommandRefusal.TheVariants.{Syntax, Ids, Lacks, Sign, Wishes, NotTaken}
 use Rattle.refusals.specs.declared.refusal.StepRefusal.{StepRefusal}
 use Rattle.refusals.specs.declared.refusal.StepRefusal.TheVariants.{LabelUnread, NotApplicable, NotPermitted}
 
@@ -27,7 +27,6 @@ step_text (NotPermitted index) = codes "not-permitted " ++ decimal index
 -- the wishes aren't met, or why a step of a script isn't taken
 abbrev pub command_text : CommandRefusal → List ℕ
 command_text (Syntax offset) = codes "params-syntax " ++ decimal offset
-command_text (ItemKind offset) = codes "params-kind " ++ decimal offset
 command_text (Ids fault) = id_fault_text fault
 command_text (Lacks lack id) = lack_word lack ++ byte " " ∷ id
 command_text (Sign fault) = sign_fault_text fault
@@ -52,7 +51,6 @@ sign_status fault = BadInput
 -- the status that a command's own refusal gives
 abbrev pub command_status : CommandRefusal → Status
 command_status (Syntax offset) = BadInput
-command_status (ItemKind offset) = BadInput
 command_status (Ids fault) = BadInput
 command_status (Lacks lack id) = BadInput
 command_status (Sign fault) = sign_status fault

@@ -9,12 +9,14 @@
 
 mod file;
 mod laws;
+mod limit_laws;
 mod refusal;
 mod refusal_text;
 mod role;
 
 pub use file::FileRefusal;
-pub use laws::a_refusal_has_a_status_of_its_own;
+pub use laws::{a_refusal_has_a_status_of_its_own, a_refusal_is_one_line};
+pub use limit_laws::limits_are_these;
 pub use refusal::{
     CommandRefusal, MAX_CONF_BYTES, MAX_INPUT_BYTES, MAX_RECORDING_BYTES, Refusal, StepRefusal,
 };

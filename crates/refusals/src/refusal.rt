@@ -39,8 +39,6 @@ pub enum CommandRefusal {
     /// PARAMS are no Inner List (RFC 9651 section 3.1.1): the longest prefix that begins one has so
     /// many bytes.
     Syntax(usize),
-    /// The same, where a Date or a Display String is in place of an item.
-    ItemKind(usize),
     /// PARAMS are no signature parameters (RFC 9421 section 2.3). The fault is never out of memory.
     Ids(IdFault),
     /// The first covered component without a value, and how it lacks it. The text is that of its
@@ -105,7 +103,6 @@ impl CommandRefusal {
     {
         match self {
             CommandRefusal::Syntax(_) => Status::BadInput,
-            CommandRefusal::ItemKind(_) => Status::BadInput,
             CommandRefusal::Ids(_) => Status::BadInput,
             CommandRefusal::Lacks(_, _) => Status::BadInput,
             CommandRefusal::Sign(fault) => sign_status(*fault),

@@ -67,7 +67,6 @@ fn append_command(alloc: Global, refusal: &CommandRefusal, line: &mut Text) -> R
 {
     match refusal {
         CommandRefusal::Syntax(offset) => append_number(alloc, b"params-syntax ", *offset, line),
-        CommandRefusal::ItemKind(offset) => append_number(alloc, b"params-kind ", *offset, line),
         CommandRefusal::Ids(fault) => append_ids(alloc, fault, line),
         CommandRefusal::Lacks(lack, id) => append_lack(*lack, id, line),
         CommandRefusal::Sign(fault) => append_sign_fault(alloc, *fault, line),

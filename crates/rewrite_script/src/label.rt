@@ -106,7 +106,6 @@ fn reads_as_inner(alloc: Global, text: &[u8]) -> Result<bool, Memory>
         Ok(_) => Ok(true),
         Err(SfError::Memory) => Err(Memory),
         Err(SfError::Syntax(_)) => Ok(false),
-        Err(SfError::ItemKind(_)) => Ok(false),
     }
 }
 

@@ -35,6 +35,7 @@ mod argument;
 mod fault;
 mod label;
 mod laws;
+mod limit_laws;
 mod limits;
 mod line;
 mod print;
@@ -43,6 +44,7 @@ mod script;
 
 pub use fault::ScriptFault;
 pub use laws::{a_line_has_one_rewriting, a_text_is_a_script_or_has_a_fault};
+pub use limit_laws::limits_are_these;
 pub use limits::{MAX_BLANKS, MAX_NUMBER_DIGITS, MAX_SCRIPT_BYTES, MAX_SCRIPT_LINES};
 pub use print::print_script;
 pub use rewrite::{LineRewrite, Rewrite, Script, Sizes, WholeRewrite};

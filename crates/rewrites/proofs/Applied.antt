@@ -1,5 +1,5 @@
--- The message that a rewriting makes is the one that its bytes are, where they are a message's with as much content.
-use Rattle.std.proofs.Common.{◌≡◌, ℕ, Bool, true, Result, Ok, Err, IfOk, List, length, refl, subst, ◌∙◌, inl, inr}
+-- The text that a step makes tells what the step gives: the message that it is a text of, with as much content.
+use Rattle.std.proofs.Common.{◌≡◌, ℕ, true, Result, Ok, Err, IfOk, List, length, refl, sym, subst, inl, inr}
 use Rattle.byte_grammar.specs.Causes.{AnswersWhere}
 use Rattle.msg_body.specs.Messages.{IsMessage, Message, Spells}
 use Rattle.msg_body.specs.Views.{message_content}
@@ -9,52 +9,58 @@ use Rattle.component_values.specs.Context.{MessageContext, answers_head}
 use Rattle.signatures.specs.Signatures.{HasSignature}
 use Rattle.rewrite_script.specs.Lines.{HasValues, is_writable}
 use Rattle.rewrite_script.specs.declared.rewrite.Rewrite.{Rewrite}
-use Rattle.rewrite_script.specs.declared.rewrite.Rewrite.TheVariants.{Lines, Whole}
-use Rattle.rewrite_script.specs.declared.rewrite.LineRewrite.{LineRewrite}
+use Rattle.rewrite_script.specs.declared.rewrite.Rewrite.TheVariants.{Whole}
 use Rattle.rewrite_script.specs.declared.rewrite.WholeRewrite.{WholeRewrite}
 use Rattle.line_rewrites.specs.declared.fault.ApplyFault.{ApplyFault}
 use Rattle.line_rewrites.specs.declared.fault.ApplyFault.TheVariants.{Memory, NotApplicable}
-use Rattle.line_rewrites.specs.Sized.{SpellsSized}
-use Rattle.line_rewrites.specs.Steps.{HasNoLineStep, RewritesLines}
+use Rattle.line_rewrites.specs.Sized.{HasNoSized, SpellsSized}
 use Rattle.rewrites.specs.Laws.{KeepsSignature, KeepsWherePermitted}
 use Rattle.rewrites.specs.Permitted.{Permits}
-use Rattle.rewrites.specs.Steps.{IsNotApplicable, Rewrites, Step}
+use Rattle.rewrites.specs.Steps.{GivesWhole, IsNotApplicable, Makes, Rewrites, SpellsStep, Step}
 use Rattle.rewrites.specs.tools.Judged.{ExplainsStep, IsOffered, Offers}
 use Rattle.rewrites.proofs.WholeKinds.{exact}
 use Rattle.rewrites.proofs.StepLaws.{message_is, spelled_where_message}
 use Rattle.rewrites.proofs.StepKinds.{gives_kind}
 
--- ---- a rewriting of the whole message
+-- ---- the text that a step makes
 
-pub made_fault : (context : MessageContext) (step : WholeRewrite) (fault : ApplyFault) → Offers context step (Err fault) → ExplainsStep context (Whole step) (Err fault)
-made_fault context step NotApplicable none = λ after gives. none after gives.makes gives.message
-made_fault context step Memory none = tt
+module _ (context : MessageContext) (step : WholeRewrite) (text : List ℕ) (offered : IsOffered context step text) where
+  pub offered_spells : SpellsStep context (Whole step) text
+  offered_spells after = (gives_spelled, spelled_gives)
+    where
+      gives_spelled : GivesWhole context step after → SpellsSized (answers_head context.related) text (length (message_content context.message)) after
+      gives_spelled gives =
+          let same = (exact step).one context offered.made after offered.makes gives.makes in
+          let message = subst (λ (m : Message). IsMessage (answers_head context.related) m) (sym same) gives.message in
+          let here = spelled_where_message context step offered.made offered.makes message in
+          subst (λ (m : Message). SpellsSized (answers_head context.related) text (length (message_content context.message)) m) same
+          (subst (λ (t : List ℕ). SpellsSized (answers_head context.related) t (length (message_content context.message)) offered.made) (sym offered.text_is) here)
 
-module _ (context : MessageContext) (step : WholeRewrite) (text bytes : List ℕ) (to_head : Bool) (count : ℕ) (heads : to_head ≡ answers_head context.related) (same : bytes ≡ text)
-    (sizes : count ≡ length (message_content context.message)) (offered : IsOffered context step text) where
-  pub spelled_is : (message : Message) × SpellsSized to_head bytes count message → Rewrites context (Whole step) text
-  spelled_is spelled =
-      let here = rw (heads, same ∙ offered.text_is, sizes) at spelled.1 in
-      let is = message_is context step offered.made offered.makes offered.sound spelled.0 here in (
-        offered.made,
-        record { makes = offered.makes; message = subst (λ (m : Message). IsMessage (answers_head context.related) m) is here.spells.is },
-        offered.text_is,
-      )
+      spelled_gives : SpellsSized (answers_head context.related) text (length (message_content context.message)) after → GivesWhole context step after
+      spelled_gives spelled =
+          let here = subst (λ (t : List ℕ). SpellsSized (answers_head context.related) t (length (message_content context.message)) after) offered.text_is spelled in
+          let is = message_is context step offered.made offered.makes offered.sound after here in
+          record { makes = subst (λ (m : Message). Makes context step m) (sym is) offered.makes; message = spelled.spells.is }
 
-  pub unspelled_is : ((message : Message) → ¬ SpellsSized to_head bytes count message) → IsNotApplicable context (Whole step)
-  unspelled_is unread = λ after gives.
-      let one = (exact step).one context after offered.made gives.makes offered.makes in
-      let message = subst (λ (m : Message). IsMessage (answers_head context.related) m) one gives.message in
-      let here = rw (heads, same ∙ offered.text_is, sizes) at unread in
-      here offered.made (spelled_where_message context step offered.made offered.makes message)
+pub whole_spells : (context : MessageContext) (step : WholeRewrite) (result : Result (List ℕ) ApplyFault) → Offers context step result → IfOk result (SpellsStep context (Whole step))
+whole_spells context step (Ok text) offered = offered_spells context step text offered
+whole_spells context step (Err fault) none = tt
 
--- ---- a rewriting of lines
+pub whole_fault : (context : MessageContext) (step : WholeRewrite) (result : Result (List ℕ) ApplyFault) → Offers context step result → result ≡ Err NotApplicable → IsNotApplicable context (Whole step)
+whole_fault context step result offers is = λ after gives. (rw is at offers) after gives.makes gives.message
 
-pub lines_explained : (context : MessageContext) (step : LineRewrite) (result : Result (List ℕ) ApplyFault) → IfOk result (RewritesLines context step)
-    → AnswersWhere Memory result NotApplicable (HasNoLineStep context step) → ExplainsStep context (Lines step) result
-lines_explained context step (Ok text) made answered = made
-lines_explained context step (Err NotApplicable) made answered = answered.only refl
-lines_explained context step (Err Memory) made answered = tt
+-- ---- the message of the text
+
+module _ (context : MessageContext) (step : Rewrite) (text : List ℕ) (spells : SpellsStep context step text) where
+  pub read_explained : (message : Message) → SpellsSized (answers_head context.related) text (length (message_content context.message)) message → Rewrites context step text
+  read_explained message spelled = (message, (spells message).1 spelled, spelled.spells.text)
+
+  pub unread_explained : HasNoSized (answers_head context.related) text (length (message_content context.message)) → IsNotApplicable context step
+  unread_explained none = λ after gives. none after ((spells after).0 gives)
+
+pub fault_explained : (context : MessageContext) (step : Rewrite) (fault : ApplyFault) → (fault ≡ NotApplicable → IsNotApplicable context step) → ExplainsStep context step (Err fault)
+fault_explained context step NotApplicable none = none refl
+fault_explained context step Memory none = tt
 
 -- ---- what is answered
 

@@ -233,7 +233,6 @@ pub unread : {V : Type 0} (Reads : List ℕ → V → Type 0) (text_of : V → L
     → AnswersStrict (StrictRow Reads text_of text) (Err (fault_of error))
 unread Reads text_of text sf.Memory none = tt
 unread Reads text_of text (sf.Syntax offset) none = λ strict row. none row.0 row.1
-unread Reads text_of text (sf.ItemKind offset) none = λ strict row. none row.0 row.1
 
 -- the answer to the kind of the field
 pub of_kind : (known other : Option FieldKind) (text : List ℕ) (result : Result (List ℕ) ApplyFault) → known ≡ other → AnswersStrict (KindRow other text) result → AnswersStrict (KindRow known text) result

@@ -16,7 +16,7 @@ use Rattle.rewrites.specs.Laws.{IsPermittedStep, KeepsOverSteps, KeepsSignature,
 use Rattle.rewrites.specs.Permitted.{Permits}
 
 -- steps have values where the first ones and the last one have
-values_parts : (done : List Rewrite) (step : Rewrite) → HaveValues (done ++ step ∷ []) → HaveValues done × HasValues step
+pub values_parts : (done : List Rewrite) (step : Rewrite) → HaveValues (done ++ step ∷ []) → HaveValues done × HasValues step
 values_parts [] step values = (tt, values.0)
 values_parts (first ∷ done) step values =
     let rest = values_parts done step values.1 in

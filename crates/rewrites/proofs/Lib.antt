@@ -26,3 +26,4 @@ pub mod StepKinds
 pub mod StepLaws
 pub mod Applied
 pub mod Permitting
+pub mod Walking

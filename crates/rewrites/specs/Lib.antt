@@ -2,7 +2,10 @@ pub mod Lines
 pub mod Content
 pub mod Targets
 pub mod Steps
+pub mod Walks
 pub mod Permitted
+pub mod Conditions
 pub mod Decisions
 pub mod Laws
+pub mod Words
 pub mod tools

@@ -1,19 +1,20 @@
 -- The message that a rewriting gives: a row for each kind. A step that has no such message isn't
 -- applicable.
-use Rattle.std.specs.Prelude.{◌≡◌, List, ℕ, IsTrue}
+use Rattle.std.specs.Prelude.{◌≡◌, ◌↔◌, List, ℕ, IsTrue, length}
 use Rattle.std.specs.List.{FoldsTo}
 use Rattle.msg_head.specs.declared.error.Side.{Side}
 use Rattle.msg_head.specs.declared.error.Side.TheVariants.{Header}
 use Rattle.msg_head.specs.Lines.{FieldLine}
 use Rattle.framing.specs.Framings.{is_request}
 use Rattle.msg_body.specs.Messages.{Message, IsMessage, message_text}
-use Rattle.msg_body.specs.Views.{lines_on}
+use Rattle.msg_body.specs.Views.{lines_on, message_content}
 use Rattle.component_ids.specs.Types.{kind_in}
 use Rattle.component_values.specs.Context.{MessageContext, answers_head, context_with}
 use Rattle.rewrite_script.specs.declared.rewrite.Rewrite.{Rewrite}
 use Rattle.rewrite_script.specs.declared.rewrite.Rewrite.TheVariants.{Lines, Whole}
 use Rattle.rewrite_script.specs.declared.rewrite.WholeRewrite.{WholeRewrite}
 use Rattle.rewrite_script.specs.declared.rewrite.WholeRewrite.TheVariants.{AddLabel, Rechunk, Chunk, Dechunk, Origin, Absolute, Host, Query, Resf}
+use Rattle.line_rewrites.specs.Sized.{SpellsSized}
 use Rattle.line_rewrites.specs.Steps.{LineStep, with_lines_on}
 use Rattle.rewrites.specs.Lines.{IsLabelled, IsOtherHost, IsStrict}
 use Rattle.rewrites.specs.Content.{IsRechunked, IsChunked, IsDechunked}
@@ -64,6 +65,13 @@ IsNotApplicable context step = (after : Message) → ¬ Step context step after
 abbrev pub Rewrites : MessageContext → Rewrite → List ℕ → Type 0
 Rewrites context step text = (after : Message) × Step context step after
     × (text ≡ message_text after)
+
+-- The text tells what the step gives: the message that it is a text of, with as much content as the
+-- context's has. Where it is a text of no such message, the step isn't applicable.
+abbrev pub SpellsStep : MessageContext → Rewrite → List ℕ → Type 0
+SpellsStep context step text = (after : Message) → Step context step after
+    ↔ SpellsSized (answers_head context.related) text (length (message_content context.message))
+    after
 
 -- ---- lists of steps
 

@@ -1,4 +1,5 @@
 pub mod Judged
+pub mod Walked
 pub mod Kinds
 pub mod Retargeted
 pub mod Chunking

@@ -14,12 +14,12 @@ use std::marker::Model;
 
 /// Content that is taken from its pieces bit by bit. A contract sees it as the bytes that are left.
 #[derive(Drop)]
-struct ContentLeft<'a, 'm> {
+struct ContentLeft<'m> {
     piece: &'m [u8],
-    pieces: ContentPieces<'a, 'm>,
+    pieces: ContentPieces<'m>,
 }
 
-impl<'a, 'm> Model for ContentLeft<'a, 'm> {
+impl<'m> Model for ContentLeft<'m> {
     ghost use Rattle.std.specs.Prelude.{ℕ, List, ◌++◌};
     ghost use Rattle.msg_body.specs.Content.{content_left};
 
@@ -28,12 +28,12 @@ impl<'a, 'm> Model for ContentLeft<'a, 'm> {
     ghost view = { λ c. c.piece.now ++ content_left c.pieces };
 }
 
-impl<'a, 'm> ContentLeft<'a, 'm> {
+impl<'m> ContentLeft<'m> {
     ghost use Rattle.std.specs.Prelude.{◌≡◌, ◌≤◌, ◌++◌, OnOk, length, take, drop};
     ghost use Rattle.msg_body.specs.Views.{message_content, message_of};
 
     /// All content of the message.
-    fn of(message: &'a MessageView<'m>) -> ContentLeft<'a, 'm>
+    fn of(message: &MessageView<'m>) -> ContentLeft<'m>
         ensures { result ≡ message_content (message_of message.now) }
     {
         ContentLeft {
@@ -122,11 +122,7 @@ fn append_size(size: usize, text: &mut Text) -> Result<(), Memory>
 }
 
 /// Adds a chunk of the next bytes, so many.
-fn append_chunk(
-    content: &mut ContentLeft<'_, '_>,
-    size: usize,
-    text: &mut Text,
-) -> Result<(), Memory>
+fn append_chunk(content: &mut ContentLeft<'_>, size: usize, text: &mut Text) -> Result<(), Memory>
     requires { size ≤ length content.old }
     ensures text { OnOk result (text.new
         ≡ text.old ++ chunk_text (chunk_of (take size content.old))) }
@@ -155,9 +151,13 @@ pub(crate) fn append_chunks(
 }
 
 /// How many bytes a message takes at most when its content comes in chunks of these sizes.
-pub(crate) fn room_for(bytes: &[u8], sizes: &Sizes) -> usize {
+pub(crate) fn room_for(message: &MessageView<'_>, sizes: &Sizes) -> usize {
     let chunk_lines = sizes.len().saturating_mul(10);
-    bytes.len().saturating_add(chunk_lines).saturating_add(40)
+    message
+        .bytes()
+        .len()
+        .saturating_add(chunk_lines)
+        .saturating_add(40)
 }
 
 /// Adds the message's content as it is.

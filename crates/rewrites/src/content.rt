@@ -4,11 +4,10 @@
 ghost use Rattle.std.specs.Prelude.{◌≡◌, ◌↔◌, ◌+◌, ◌^◌, ◌<◌, ◌≤◌, ◌++◌, Bool, IfSome, MatchOption, OnOk, IsTrue, IsFalse, length, drop};
 ghost use Rattle.std.specs.List.{list_all};
 ghost use Rattle.std.specs.Str.{str_to_ascii_lowercase};
-ghost use Rattle.component_values.specs.Context.{answers_head, context_of};
+ghost use Rattle.component_values.specs.Context.{HasWholeMessage, context_of};
 ghost use Rattle.line_rewrites.specs.Covered.{covers_field};
 ghost use Rattle.line_rewrites.specs.LineLists.{line_of};
 ghost use Rattle.line_rewrites.specs.Sides.{side_parts};
-ghost use Rattle.msg_body.specs.Messages.{Spells};
 ghost use Rattle.msg_body.specs.Views.{lines_on, message_of};
 ghost use Rattle.msg_head.specs.Values.{is_there};
 ghost use Rattle.msg_head.specs.declared.error.Side.TheVariants.{Header};
@@ -64,7 +63,7 @@ fn only_line(message: &MessageView<'_>, name: &[u8]) -> Option<usize>
 }
 
 /// Adds the head.
-fn append_head(lines: &SideLines<'_, '_, '_>, text: &mut Text) -> Result<(), Memory>
+fn append_head(lines: &SideLines<'_, '_>, text: &mut Text) -> Result<(), Memory>
     ensures { OnOk result (text.new ≡ text.old ++ head_in lines.now) }
 {
     text.append(lines.before(lines.count()))?;
@@ -73,7 +72,7 @@ fn append_head(lines: &SideLines<'_, '_, '_>, text: &mut Text) -> Result<(), Mem
 
 /// Adds the head, with a line of this name and this text in place of the line of the index.
 fn append_head_with(
-    lines: &SideLines<'_, '_, '_>,
+    lines: &SideLines<'_, '_>,
     index: usize,
     name: &[u8],
     line: &[u8],
@@ -92,12 +91,11 @@ fn append_head_with(
 
 // ---- messages
 
-/// The side of the header of the message, whose bytes these are.
-fn header_of<'a, 'm, 'b>(message: &'a MessageView<'m>, bytes: &'b [u8]) -> SideLines<'a, 'm, 'b>
-    requires { (to_head : Bool) × Spells to_head (message_of message.now) bytes.now }
+/// The side of the header of the message.
+fn header_of<'a, 'm>(message: &'a MessageView<'m>) -> SideLines<'a, 'm>
     ensures { result ≡ side_parts Header (message_of message.now) }
 {
-    match SideLines::of(message, bytes, Side::Header) {
+    match SideLines::of(message, Side::Header) {
         Some(lines) => lines,
         None => unreachable!(),
     }
@@ -106,7 +104,7 @@ fn header_of<'a, 'm, 'b>(message: &'a MessageView<'m>, bytes: &'b [u8]) -> SideL
 /// Adds the head, with a line of the content's length in place of the line of the index.
 fn append_head_of_length(
     alloc: Global,
-    lines: &SideLines<'_, '_, '_>,
+    lines: &SideLines<'_, '_>,
     index: usize,
     count: usize,
     text: &mut Text,
@@ -118,44 +116,40 @@ fn append_head_of_length(
     append_head_with(lines, index, b"Content-Length", digits.as_bytes(), text)
 }
 
-/// The message of the context, whose bytes these are, its content in chunks of these sizes in place
-/// of its own. Whether that is a message within the limits isn't asked.
+/// The message of the context, its content in chunks of these sizes in place of its own. Whether
+/// that is a message within the limits isn't asked.
 pub(crate) fn rechunked(
     alloc: Global,
-    bytes: &[u8],
     context: &Context<'_, '_>,
     sizes: &Sizes,
 ) -> Result<Text, ApplyFault>
     requires writable { IsTrue (list_all is_number sizes.now) }
-    requires spells { Spells (answers_head (context_of context.now).related)
-        (context_of context.now).message bytes.now }
+    requires whole { HasWholeMessage (context_of context.now) }
     ensures { Offers (context_of context.now) (Rechunk sizes.now) result }
 {
     let message = context.message;
-    let Some(trailers) = SideLines::of(message, bytes, Side::Trailer) else {
+    let Some(trailers) = SideLines::of(message, Side::Trailer) else {
         return Err(ApplyFault::NotApplicable);
     };
     if !are_sizes(sizes, message.content_len()) {
         return Err(ApplyFault::NotApplicable);
     }
-    let mut text = Text::with_capacity(alloc, room_for(bytes, sizes))?;
-    append_head(&header_of(message, bytes), &mut text)?;
+    let mut text = Text::with_capacity(alloc, room_for(message, sizes))?;
+    append_head(&header_of(message), &mut text)?;
     append_chunks(message, sizes, &mut text)?;
     text.append(trailers.rest_from(0))?;
     Ok(text)
 }
 
-/// The message of the context, whose bytes these are, its content in chunks of these sizes. Whether
-/// that is a message within the limits isn't asked.
+/// The message of the context, its content in chunks of these sizes. Whether that is a message
+/// within the limits isn't asked.
 pub(crate) fn chunked(
     alloc: Global,
-    bytes: &[u8],
     context: &Context<'_, '_>,
     sizes: &Sizes,
 ) -> Result<Text, ApplyFault>
     requires writable { IsTrue (list_all is_number sizes.now) }
-    requires spells { Spells (answers_head (context_of context.now).related)
-        (context_of context.now).message bytes.now }
+    requires whole { HasWholeMessage (context_of context.now) }
     ensures { Offers (context_of context.now) (Chunk sizes.now) result }
 {
     let message = context.message;
@@ -168,23 +162,18 @@ pub(crate) fn chunked(
     let Some(index) = only_line(message, b"content-length") else {
         return Err(ApplyFault::NotApplicable);
     };
-    let lines = header_of(message, bytes);
-    let mut text = Text::with_capacity(alloc, room_for(bytes, sizes))?;
+    let lines = header_of(message);
+    let mut text = Text::with_capacity(alloc, room_for(message, sizes))?;
     append_head_with(&lines, index, b"Transfer-Encoding", b"chunked", &mut text)?;
     append_chunks(message, sizes, &mut text)?;
     text.append(b"\r\n")?;
     Ok(text)
 }
 
-/// The message of the context, whose bytes these are, its content as it is. Whether that is a
-/// message within the limits isn't asked.
-pub(crate) fn dechunked(
-    alloc: Global,
-    bytes: &[u8],
-    context: &Context<'_, '_>,
-) -> Result<Text, ApplyFault>
-    requires spells { Spells (answers_head (context_of context.now).related)
-        (context_of context.now).message bytes.now }
+/// The message of the context, its content as it is. Whether that is a message within the limits
+/// isn't asked.
+pub(crate) fn dechunked(alloc: Global, context: &Context<'_, '_>) -> Result<Text, ApplyFault>
+    requires whole { HasWholeMessage (context_of context.now) }
     ensures { Offers (context_of context.now) Dechunk result }
 {
     let message = context.message;
@@ -197,8 +186,8 @@ pub(crate) fn dechunked(
     let Some(index) = only_line(message, b"transfer-encoding") else {
         return Err(ApplyFault::NotApplicable);
     };
-    let lines = header_of(message, bytes);
-    let mut text = Text::with_capacity(alloc, bytes.len())?;
+    let lines = header_of(message);
+    let mut text = Text::with_capacity(alloc, message.bytes().len())?;
     append_head_of_length(alloc, &lines, index, message.content_len(), &mut text)?;
     append_content(message, &mut text)?;
     Ok(text)

@@ -6,9 +6,8 @@ ghost use Rattle.byte_grammar.specs.Classes.{is_line_byte};
 ghost use Rattle.msg_head.specs.Lines.{line_text};
 ghost use Rattle.msg_head.specs.Values.{is_there};
 ghost use Rattle.msg_head.specs.Views.{field_line_of};
-ghost use Rattle.msg_body.specs.Messages.{Spells};
 ghost use Rattle.msg_body.specs.Views.{lines_on, message_of};
-ghost use Rattle.component_values.specs.Context.{answers_head, context_of};
+ghost use Rattle.component_values.specs.Context.{HasWholeMessage, context_of};
 ghost use Rattle.rewrite_script.specs.Lines.{is_lower_name};
 ghost use Rattle.rewrite_script.specs.declared.rewrite.WholeRewrite.TheVariants.{Host, Resf};
 ghost use Rattle.line_rewrites.specs.Sides.{lines_text, text_with};
@@ -56,7 +55,7 @@ pub(crate) fn first_named<'m>(
 
 /// Adds the message's bytes, this text in the line.
 fn append_with_text(
-    lines: &SideLines<'_, '_, '_>,
+    lines: &SideLines<'_, '_>,
     at: LineAt<'_>,
     text: &[u8],
     into: &mut Text,
@@ -74,13 +73,11 @@ fn append_with_text(
 /// The bytes of the message, this text in its one `Host` line (RFC 9110 section 7.2).
 pub(crate) fn with_host(
     alloc: Global,
-    bytes: &[u8],
     context: &Context<'_, '_>,
     text: &[u8],
 ) -> Result<Text, ApplyFault>
     requires writable { IsTrue (list_all is_line_byte text.now) }
-    requires spells { Spells (answers_head (context_of context.now).related)
-        (context_of context.now).message bytes.now }
+    requires whole { HasWholeMessage (context_of context.now) }
     ensures { Offers (context_of context.now) (Host text.now) result }
 {
     let message = context.message;
@@ -90,13 +87,17 @@ pub(crate) fn with_host(
     let Some(host) = first_named(message, Side::Header, b"host") else {
         return Err(ApplyFault::NotApplicable);
     };
-    let Some(lines) = SideLines::of(message, bytes, Side::Header) else {
+    let Some(lines) = SideLines::of(message, Side::Header) else {
         return Err(ApplyFault::NotApplicable);
     };
     if lines.is_between(host.index + 1, lines.count(), host.line) {
         return Err(ApplyFault::NotApplicable);
     }
-    let room = bytes.len().saturating_add(text.len()).saturating_add(1);
+    let room = message
+        .bytes()
+        .len()
+        .saturating_add(text.len())
+        .saturating_add(1);
     let mut rewritten = Text::with_capacity(alloc, room)?;
     append_with_text(&lines, host, text, &mut rewritten)?;
     Ok(rewritten)
@@ -145,28 +146,27 @@ fn append_others(
 /// 9651 section 4.1).
 pub(crate) fn in_strict_form(
     alloc: Global,
-    bytes: &[u8],
     context: &Context<'_, '_>,
     side: Side,
     name: &[u8],
 ) -> Result<Text, ApplyFault>
     requires writable { IsTrue (is_lower_name name.now) }
-    requires spells { Spells (answers_head (context_of context.now).related)
-        (context_of context.now).message bytes.now }
+    requires whole { HasWholeMessage (context_of context.now) }
     ensures { Offers (context_of context.now) (Resf side name.now) result }
 {
     let message = context.message;
     let Some(first) = first_named(message, side, name) else {
         return Err(ApplyFault::NotApplicable);
     };
-    let Some(lines) = SideLines::of(message, bytes, side) else {
+    let Some(lines) = SideLines::of(message, side) else {
         return Err(ApplyFault::NotApplicable);
     };
     let strict = match strict_field(alloc, context, side, name) {
         Ok(strict) => strict,
         Err(fault) => return Err(fault),
     };
-    let room = bytes
+    let room = message
+        .bytes()
         .len()
         .saturating_add(strict.bytes().len())
         .saturating_add(1);

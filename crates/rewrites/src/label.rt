@@ -2,8 +2,7 @@
 
 ghost use Rattle.std.specs.Prelude.{◌≡◌, ◌++◌, codes, IsTrue, OnOk};
 ghost use Rattle.msg_head.specs.Lines.{line_text};
-ghost use Rattle.msg_body.specs.Messages.{Spells};
-ghost use Rattle.component_values.specs.Context.{answers_head, context_of};
+ghost use Rattle.component_values.specs.Context.{HasWholeMessage, context_of};
 ghost use Rattle.rewrite_script.specs.Lines.{is_whole_writable};
 ghost use Rattle.rewrite_script.specs.declared.rewrite.WholeRewrite.TheVariants.{AddLabel};
 ghost use Rattle.line_rewrites.specs.Sides.{text_with};
@@ -50,7 +49,7 @@ fn append_signature_line(label: &[u8], tag: &[u8], into: &mut Text) -> Result<()
 
 /// Adds the message's bytes, the lines of the label's signature after those of the side.
 fn append_labelled(
-    lines: &SideLines<'_, '_, '_>,
+    lines: &SideLines<'_, '_>,
     label: &[u8],
     tag: &[u8],
     params: &[u8],
@@ -79,21 +78,23 @@ fn lines_len(label: &[u8], tag: &[u8], params: &[u8]) -> usize {
 /// section 4).
 pub(crate) fn with_label(
     alloc: Global,
-    bytes: &[u8],
     context: &Context<'_, '_>,
     label: &[u8],
     tag: &[u8],
     params: &[u8],
 ) -> Result<Text, ApplyFault>
     requires writable { IsTrue (is_whole_writable (AddLabel label.now tag.now params.now)) }
-    requires spells { Spells (answers_head (context_of context.now).related)
-        (context_of context.now).message bytes.now }
+    requires whole { HasWholeMessage (context_of context.now) }
     ensures { Offers (context_of context.now) (AddLabel label.now tag.now params.now) result }
 {
-    let Some(lines) = SideLines::of(context.message, bytes, Side::Header) else {
+    let Some(lines) = SideLines::of(context.message, Side::Header) else {
         return Err(ApplyFault::NotApplicable);
     };
-    let room = bytes.len().saturating_add(lines_len(label, tag, params));
+    let room = context
+        .message
+        .bytes()
+        .len()
+        .saturating_add(lines_len(label, tag, params));
     let mut rewritten = Text::with_capacity(alloc, room)?;
     append_labelled(&lines, label, tag, params, &mut rewritten)?;
     Ok(rewritten)

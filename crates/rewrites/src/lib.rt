@@ -2,13 +2,15 @@
 //! 9421 section 1.1).
 //!
 //! ```text
-//! let text = apply(alloc, bytes, &context, &step)?;               // or it isn't applicable
+//! let text = apply(alloc, &context, &step)?;                      // or it isn't applicable
 //! permits(alloc, &context, &step, b"sig1", &label_read.params)?   // the label's base stays
+//! let text = walk(alloc, &context, &steps, &mut watcher)?;        // after all of them
 //! ```
 #![tactic(auto)]
 
 mod chunking;
 mod content;
+mod fault;
 mod fed_text;
 mod field;
 mod label;
@@ -17,12 +19,17 @@ mod permit;
 mod step;
 mod strict;
 mod target;
+mod walks;
+mod watcher;
 mod write;
 
+pub use fault::WalkFault;
 pub use laws::{
     a_step_gives_one_message, a_step_is_permitted_or_not, a_step_rests_on_messages,
     permitted_steps_keep_a_signature,
 };
 pub use line_rewrites::ApplyFault;
-pub use permit::permits;
-pub use step::apply;
+pub use permit::{StepCondition, permits};
+pub use step::{apply, make};
+pub use walks::walk;
+pub use watcher::{Judgement, Watcher};

@@ -1,10 +1,9 @@
 //! The bytes of a message with another request target (RFC 9112 section 3.2).
 
 ghost use Rattle.std.specs.Prelude.{◌≡◌, ◌↔◌, ◌≤◌, ◌++◌, ◌+◌, ℕ, List, option_map, length, IfSome, IfNone, IsTrue, OnOk, codes};
-ghost use Rattle.component_values.specs.Context.{answers_head, context_of};
+ghost use Rattle.component_values.specs.Context.{HasWholeMessage, context_of};
 ghost use Rattle.derived_values.specs.Derived.{scheme_text};
 ghost use Rattle.line_rewrites.specs.Sound.{Fits};
-ghost use Rattle.msg_body.specs.Messages.{Spells};
 ghost use Rattle.msg_body.specs.Views.{message_of};
 ghost use Rattle.msg_head.specs.Starts.{RequestLine, request, request_text};
 ghost use Rattle.msg_head.specs.declared.limits.TheConstants.{MAX_HEAD_BYTES};
@@ -125,13 +124,8 @@ fn origin_target<'m>(target: &Target<'m>) -> Option<NewTarget<'m>>
 
 /// The bytes of the message after `origin`. Whether they are a message within the limits isn't
 /// asked.
-pub(crate) fn in_origin_form(
-    alloc: Global,
-    bytes: &[u8],
-    context: &Context<'_, '_>,
-) -> Result<Text, ApplyFault>
-    requires spells { Spells (answers_head (context_of context.now).related)
-        (context_of context.now).message bytes.now }
+pub(crate) fn in_origin_form(alloc: Global, context: &Context<'_, '_>) -> Result<Text, ApplyFault>
+    requires whole { HasWholeMessage (context_of context.now) }
     ensures { Offers (context_of context.now) Origin result }
 {
     let Some(line) = target_line(context.message) else {
@@ -140,7 +134,7 @@ pub(crate) fn in_origin_form(
     let Some(target) = origin_target(&line.parts) else {
         return Err(ApplyFault::NotApplicable);
     };
-    retargeted(alloc, bytes, &line, target)
+    retargeted(alloc, context.message.bytes(), &line, target)
 }
 
 /// The value of `@authority` (RFC 9421 section 2.2.3).
@@ -160,13 +154,8 @@ fn authority_text(alloc: Global, context: &Context<'_, '_>) -> Result<Text, Appl
 
 /// The bytes of the message after `absolute`. Whether they are a message within the limits isn't
 /// asked.
-pub(crate) fn in_absolute_form(
-    alloc: Global,
-    bytes: &[u8],
-    context: &Context<'_, '_>,
-) -> Result<Text, ApplyFault>
-    requires spells { Spells (answers_head (context_of context.now).related)
-        (context_of context.now).message bytes.now }
+pub(crate) fn in_absolute_form(alloc: Global, context: &Context<'_, '_>) -> Result<Text, ApplyFault>
+    requires whole { HasWholeMessage (context_of context.now) }
     ensures { Offers (context_of context.now) Absolute result }
 {
     let Some(line) = target_line(context.message) else {
@@ -185,7 +174,7 @@ pub(crate) fn in_absolute_form(
         third: authority.bytes(),
         last: line.target,
     };
-    retargeted(alloc, bytes, &line, target)
+    retargeted(alloc, context.message.bytes(), &line, target)
 }
 
 /// What is before the query of the target, which ends in the query and its mark.
@@ -227,13 +216,11 @@ fn query_target<'t>(line: &TargetLine<'t>, text: &'t Option<Text>) -> Option<New
 /// asked.
 pub(crate) fn with_query(
     alloc: Global,
-    bytes: &[u8],
     context: &Context<'_, '_>,
     text: &Option<Text>,
 ) -> Result<Text, ApplyFault>
     requires writable { IsTrue (is_query text.now) }
-    requires spells { Spells (answers_head (context_of context.now).related)
-        (context_of context.now).message bytes.now }
+    requires whole { HasWholeMessage (context_of context.now) }
     ensures { Offers (context_of context.now) (Query text.now) result }
 {
     let Some(line) = target_line(context.message) else {
@@ -242,5 +229,5 @@ pub(crate) fn with_query(
     let Some(target) = query_target(&line, text) else {
         return Err(ApplyFault::NotApplicable);
     };
-    retargeted(alloc, bytes, &line, target)
+    retargeted(alloc, context.message.bytes(), &line, target)
 }

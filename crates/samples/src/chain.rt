@@ -19,7 +19,7 @@ use crate::limits::MOMENT;
 use crate::request::signed_request;
 use crate::script::hop_script;
 use crate::summary::{Summary, summary_of};
-use hop_audit::{AuditReport, audit};
+use hop_audit::{AuditReport, ChainFault, audit};
 use recording::{Item, ItemBody, Recording, Role};
 use rewrite_script::print_script;
 use settings::Conf;
@@ -92,8 +92,11 @@ fn report_on(
     let items = items_of(alloc, first, hops)?;
     match audit(alloc, &items, conf) {
         Ok(lines) => Ok(lines),
-        // items that are a chain have a report, and no fault
-        Err(_) => Err(Memory),
+        Err(fault) => match fault {
+            ChainFault::Memory => Err(Memory),
+            // items that are a chain have a report, and no fault
+            _ => unreachable!(),
+        },
     }
 }
 

@@ -1,16 +1,19 @@
 //! A hop of a sample.
 
 ghost use Rattle.std.specs.Prelude.{◌≡◌, false, IfOk, IsTrue};
-ghost use Rattle.msg_body.specs.Messages.{Message, Spells};
+ghost use Rattle.msg_body.specs.Messages.{IsMessage, Message, Spells};
+ghost use Rattle.msg_body.specs.Views.{message_of};
 ghost use Rattle.std.specs.List.{list_all};
 ghost use Rattle.rewrite_script.specs.Lines.{is_writable};
 ghost use Rattle.settings.specs.ConfMeaning.{meaning};
 ghost use Rattle.samples.specs.Requests.{sample_configuration};
-ghost use Rattle.samples.specs.tools.Made.{LeadsTo, TakesTo};
+ghost use Rattle.samples.specs.tools.Made.{LeadsTo};
 
-use msg_body::{Reading, whole_message};
+use crate::read_fault::only_memory;
+use line_rewrites::sized_message;
+use msg_body::{MessageView, Reading, whole_message};
 use rewrite_script::Rewrite;
-use rewrites::{ApplyFault, apply};
+use rewrites::{ApplyFault, make};
 use settings::Conf;
 use sfv_text::{Memory, Text};
 use std::alloc::Global;
@@ -23,26 +26,30 @@ pub(crate) struct MadeHop {
     pub(crate) message: Text,
 }
 
-/// The message after the step, or the same where it isn't applicable.
-fn stepped<'x>(
+/// The message after the steps. A step that isn't applicable leaves it as it is.
+fn after_steps<'x>(
     alloc: Global,
     conf: &'x Conf,
-    text: &'x Text,
-    step: &Rewrite,
+    message: &'x MessageView<'_>,
+    steps: &[Rewrite],
 ) -> Result<Text, Memory>
     requires conf { meaning conf.now ≡ sample_configuration }
-    requires writable { IsTrue (is_writable step.now) }
-    requires spells { (message : Message) × Spells false message text.now }
-    ensures { (message : Message) → Spells false message text.now
-        → IfOk result (TakesTo message step.now) }
+    requires writable { IsTrue (list_all is_writable steps.now) }
+    requires whole { IsMessage false (message_of message.now) }
+    ensures { IfOk result (LeadsTo (message_of message.now) steps.now) }
 {
-    let Ok(view) = whole_message(alloc, Reading::of_request(), text.bytes()) else {
-        return Err(Memory);
+    let Some((step, later)) = steps.split_first() else {
+        return Text::from_bytes(alloc, message.bytes());
     };
-    let context = context_for(conf, &view, None);
-    match apply(alloc, text.bytes(), &context, step) {
-        Ok(next) => Ok(next),
-        Err(ApplyFault::NotApplicable) => text.copy(alloc),
+    let context = context_for(conf, message, None);
+    let text = match make(alloc, &context, step) {
+        Ok(text) => text,
+        Err(ApplyFault::NotApplicable) => return after_steps(alloc, conf, message, later),
+        Err(ApplyFault::Memory) => return Err(Memory),
+    };
+    match sized_message(alloc, text.bytes(), false, message.content_len()) {
+        Ok(next) => after_steps(alloc, conf, &next, later),
+        Err(ApplyFault::NotApplicable) => after_steps(alloc, conf, message, later),
         Err(ApplyFault::Memory) => Err(Memory),
     }
 }
@@ -60,9 +67,8 @@ pub(crate) fn taken(
     ensures { (message : Message) → Spells false message text.now
         → IfOk result (LeadsTo message script.now) }
 {
-    let mut now = text.copy(alloc)?;
-    for step in script {
-        now = stepped(alloc, conf, &now, step)?;
+    match whole_message(alloc, Reading::of_any(), text.bytes()) {
+        Ok(message) => after_steps(alloc, conf, &message, script),
+        Err(fault) => Err(only_memory(fault)),
     }
-    Ok(now)
 }

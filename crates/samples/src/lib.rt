@@ -15,12 +15,15 @@ mod conf;
 mod draws;
 mod hop;
 mod laws;
+mod limit_laws;
 mod limits;
+mod read_fault;
 mod request;
 mod script;
 mod summary;
 
 pub use chain::sample;
 pub use laws::a_sample_has_one_summary;
+pub use limit_laws::limits_are_these;
 pub use limits::{CONTENT_BYTES, MOMENT, SIGNED_LINES};
 pub use summary::{Summary, append_summary};

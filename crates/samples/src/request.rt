@@ -1,7 +1,6 @@
 //! The request of a sample, unsigned and signed.
 
 ghost use Rattle.std.specs.Prelude.{◌≡◌, ◌<◌, ◌++◌, ℕ, false, IfOk, OnOk};
-ghost use Rattle.msg_body.specs.Messages.{Spells};
 ghost use Rattle.component_values.specs.Context.{context_of};
 ghost use Rattle.settings.specs.ConfMeaning.{meaning};
 ghost use Rattle.samples.specs.Chains.{IsUnsigned, sample_context};
@@ -10,11 +9,12 @@ ghost use Rattle.samples.specs.tools.Made.{SpellsSample};
 
 use crate::conf::sample_spec;
 use crate::limits::CONTENT_BYTES;
+use crate::read_fault::only_memory;
 use component_values::Context;
 use msg_body::{Reading, whole_message};
 use settings::Conf;
 use sfv_text::{Memory, Text};
-use signing::sign;
+use signing::{SignFault, sign};
 use std::alloc::Global;
 use verdicts::context_for;
 
@@ -48,18 +48,21 @@ fn request_text(alloc: Global, seed: u64) -> Result<Text, Memory>
     Ok(text)
 }
 
-/// The message of the context, whose bytes these are, signed.
-fn signed_message(alloc: Global, bytes: &[u8], context: &Context<'_, '_>) -> Result<Text, Memory>
+/// The message of the context, signed.
+fn signed_message(alloc: Global, context: &Context<'_, '_>) -> Result<Text, Memory>
     requires context { context_of context.now ≡ sample_context (context_of context.now).message }
-    requires spells { Spells false (context_of context.now).message bytes.now }
+    requires unsigned { (seed : ℕ) × IsUnsigned seed (context_of context.now).message }
     ensures { (seed : ℕ) → IsUnsigned seed (context_of context.now).message
         → IfOk result (SpellsSample seed) }
 {
     let spec = sample_spec(alloc)?;
-    match sign(alloc, bytes, context, &spec) {
+    match sign(alloc, context, &spec) {
         Ok(signed) => Ok(signed),
-        // nothing keeps the request of a sample from being signed
-        Err(_) => Err(Memory),
+        Err(fault) => match fault {
+            SignFault::Memory => Err(Memory),
+            // nothing keeps the request of a sample from being signed
+            _ => unreachable!(),
+        },
     }
 }
 
@@ -69,11 +72,12 @@ fn signed_text<'x>(alloc: Global, conf: &'x Conf, bytes: &'x [u8]) -> Result<Tex
     requires request { (seed : ℕ) × (bytes.now ≡ request_text seed) }
     ensures { (seed : ℕ) → bytes.now ≡ request_text seed → IfOk result (SpellsSample seed) }
 {
-    let Ok(unsigned) = whole_message(alloc, Reading::of_request(), bytes) else {
-        return Err(Memory);
+    let unsigned = match whole_message(alloc, Reading::of_request(), bytes) {
+        Ok(unsigned) => unsigned,
+        Err(fault) => return Err(only_memory(fault)),
     };
     let context = context_for(conf, &unsigned, None);
-    signed_message(alloc, bytes, &context)
+    signed_message(alloc, &context)
 }
 
 /// The signed request.

@@ -26,7 +26,6 @@ not_id_memory f isnt is = let memory = rw is at isnt in false≢true (sym memory
 pub not_read : (error : SfError) (list : InnerList) → is_sf_memory error ≡ false → ¬ IsRead (Err error) list
 not_read sf_error.Memory list isnt is = false≢true (sym isnt)
 not_read (sf_error.Syntax offset) list isnt is = is
-not_read (sf_error.ItemKind offset) list isnt is = is
 
 pub in_range_of : (ids : List ComponentId) → is_inner_in_range (list_of (params_of ids)) ≡ true → list_all is_id_in_range ids ≡ true
 in_range_of ids ranged =

@@ -16,6 +16,7 @@ mod conf;
 mod covered;
 mod keyid;
 mod keys;
+mod limit_laws;
 mod limits;
 mod policy;
 mod sign_conf;
@@ -25,6 +26,7 @@ pub use conf::Conf;
 pub use covered::read_covered;
 pub use keyid::is_keyid;
 pub use keys::Keys;
+pub use limit_laws::limits_are_these;
 pub use limits::{
     DEFAULT_MAX_AGE, DEFAULT_SKEW, MAX_AGE, MAX_EXPIRES_AFTER, MAX_KEY_BYTES, MAX_SKEW,
 };

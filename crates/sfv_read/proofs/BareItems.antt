@@ -7,19 +7,21 @@ use Rattle.std.proofs.lemmas.List.{append-nil}
 use Rattle.byte_grammar.specs.Language.{IsRun, IsWord}
 use Rattle.byte_grammar.specs.tools.Languages.{Then, Mapped, Among, IsByte}
 use Rattle.byte_grammar.specs.tools.Walks.{Next}
-use Rattle.sfv_read.specs.BareItem.{IsString, IsBoolean, IsBareItem, IsByteSequence}
+use Rattle.sfv_read.specs.BareItem.{IsString, IsBoolean, IsBareItem, IsByteSequence, IsDate, IsDisplayString}
 use Rattle.sfv_read.specs.tools.BareWalk.{kind_of_bare_item, boolean_read, bare_item_by, bare_item_read}
 use Rattle.sfv_text.specs.Range.{is_token_first, is_token_rest}
 use Rattle.byte_grammar.specs.Classes.{is_digit, is_space}
 use Rattle.sfv_read.specs.Class.{is_bit, is_minus, is_dot, is_quote, is_question}
 use Rattle.sfv_text.specs.declared.value.BareItem.{BareItem}
-use Rattle.sfv_text.specs.declared.value.BareItem.TheVariants.{Integer, Decimal, Str, Token, Bytes, Bool as Boolean}
+use Rattle.sfv_text.specs.declared.value.BareItem.TheVariants.{Integer, Decimal, Str, Token, Bytes, Bool as Boolean, Date, Display}
 use Rattle.sfv_read.specs.declared.bare.BareKind.{BareKind}
-use Rattle.sfv_read.specs.declared.bare.BareKind.TheVariants.{Number as NumberKind, String as StringKind, Token as TokenKind, ByteSequence as ByteSequenceKind, Boolean as BooleanKind}
+use Rattle.sfv_read.specs.declared.bare.BareKind.TheVariants.{Number as NumberKind, String as StringKind, Token as TokenKind, ByteSequence as ByteSequenceKind, Boolean as BooleanKind, Date as DateKind, DisplayString as DisplayStringKind}
 use Rattle.byte_grammar.proofs.Laws.{Meets, meets_then, meets_same, meets_map, and_is, any_next}
 use Rattle.byte_grammar.proofs.ChoiceLaws.{Starts, Heads, meets_pick, of_each}
 use Rattle.byte_grammar.proofs.LeafLaws.{meets_byte, meets_word}
 use Rattle.sfv_read.proofs.Numbers.{ends, End, IsNumber, meets_number}
+use Rattle.sfv_read.proofs.Dates.{meets_date}
+use Rattle.sfv_read.proofs.DisplayStrings.{meets_display_string}
 use Rattle.sfv_read.proofs.Strings.{meets_string}
 use Rattle.sfv_read.proofs.Base64Letters.{meets_bytes}
 
@@ -34,12 +36,8 @@ or_right false b e = e
 -- ---- truth
 
 IsTruthItem : List ℕ → BareItem → Type 0
-IsTruthItem x (Integer _) = ⊥
-IsTruthItem x (Decimal _) = ⊥
-IsTruthItem x (Str _) = ⊥
-IsTruthItem x (Token _) = ⊥
-IsTruthItem x (Bytes _) = ⊥
 IsTruthItem x (Boolean b) = IsBoolean x b
+IsTruthItem x other = ⊥
 
 bit_is : (c : ℕ) → is_bit c ≡ true → (x : List ℕ) → x ≡ 63 ∷ c ∷ [] → IsBoolean x (eqb c 49)
 bit_is c is x e = go (eqb c 48) (eqb c 49) refl refl is
@@ -64,11 +62,7 @@ meets_truth =
     from : (x : List ℕ) (v : BareItem) → IsTruthItem x v → Then (IsByte is_question) (λ _. Mapped (λ c. Boolean (eqb c 49)) (IsByte is_bit)) x v
     from x (Boolean true) h = subst (λ (x : List ℕ). Then (IsByte is_question) (λ _. Mapped (λ c. Boolean (eqb c 49)) (IsByte is_bit)) x (Boolean true)) (sym h) (of_bit 49 refl)
     from x (Boolean false) h = subst (λ (x : List ℕ). Then (IsByte is_question) (λ _. Mapped (λ c. Boolean (eqb c 49)) (IsByte is_bit)) x (Boolean false)) (sym h) (of_bit 48 refl)
-    from x (Integer _) h = absurd h
-    from x (Decimal _) h = absurd h
-    from x (Str _) h = absurd h
-    from x (Token _) h = absurd h
-    from x (Bytes _) h = absurd h
+    from x other h = absurd h
 
 -- ---- bare items
 
@@ -78,6 +72,8 @@ BareBy StringKind x v = Mapped (λ s. Str s) IsString x v
 BareBy ByteSequenceKind x v = Mapped (λ s. Bytes s) IsByteSequence x v
 BareBy TokenKind x v = Mapped (λ s. Token s) (IsWord is_token_first is_token_rest) x v
 BareBy BooleanKind x v = IsTruthItem x v
+BareBy DateKind x v = Mapped (λ z. Date z) IsDate x v
+BareBy DisplayStringKind x v = Mapped (λ b. Display b) IsDisplayString x v
 
 bare_meets : (k : BareKind) → Meets (BareBy k) End (bare_item_by k)
 unfolding BareBy
@@ -86,6 +82,8 @@ bare_meets StringKind = meets_map meets_string (λ s. Str s) (λ v c h. refl)
 bare_meets TokenKind = meets_map (meets_word is_token_first is_token_rest 97 refl) (λ s. Token s) (λ v c e. of_each (λ c. not (is_token_rest c)) ends refl c e)
 bare_meets ByteSequenceKind = meets_map meets_bytes (λ s. Bytes s) (λ v c h. refl)
 bare_meets BooleanKind = meets_truth
+bare_meets DateKind = meets_same meets_date (λ x v h. h) (λ x v h. h) (λ v c e. of_each (λ c. not (is_digit c)) ends refl c e)
+bare_meets DisplayStringKind = meets_map meets_display_string (λ b. Display b) (λ v c h. refl)
 
 number_kind : (c : ℕ) → (is_digit c || is_minus c) ≡ true → kind_of_bare_item c ≡ Some NumberKind
 number_kind c is = rw is refl
@@ -113,20 +111,13 @@ signed_starts x (c ∷ sign) digits others hi m d e = subst (λ (y : List ℕ). 
 number_starts : (x : List ℕ) (v : BareItem) → IsNumber x v → Starts (λ c. is_digit c || is_minus c) x
 number_starts x (Integer z) h = signed_starts x h.sign h.digits [] 15 h.minus h.whole (h.joined ∙ ap (λ (y : List ℕ). h.sign ++ y) (sym (append-nil h.digits)))
 number_starts x (Decimal z) h = signed_starts x h.sign h.digits (46 ∷ h.part) 12 h.minus h.whole h.joined
-number_starts x (Str _) h = absurd h
-number_starts x (Token _) h = absurd h
-number_starts x (Bytes _) h = absurd h
-number_starts x (Boolean _) h = absurd h
+number_starts x other h = absurd h
 
 truth_starts : (x : List ℕ) (v : BareItem) → IsTruthItem x v → Starts is_question x
 unfolding IsTruthItem
 truth_starts x (Boolean true) h = subst (λ (y : List ℕ). Starts is_question y) (sym h) refl
 truth_starts x (Boolean false) h = subst (λ (y : List ℕ). Starts is_question y) (sym h) refl
-truth_starts x (Integer _) h = absurd h
-truth_starts x (Decimal _) h = absurd h
-truth_starts x (Str _) h = absurd h
-truth_starts x (Token _) h = absurd h
-truth_starts x (Bytes _) h = absurd h
+truth_starts x other h = absurd h
 
 -- a Byte Sequence begins with a colon
 sequence_heads : (x : List ℕ) {y z : List ℕ} → (x ≡ 58 ∷ y) ⊎ (x ≡ 58 ∷ z) → Heads kind_of_bare_item ByteSequenceKind x
@@ -139,25 +130,22 @@ bare_heads NumberKind x v h = by_starts (λ c. is_digit c || is_minus c) NumberK
 bare_heads StringKind x v h = subst (λ (y : List ℕ). Heads kind_of_bare_item StringKind y) (sym h.1.joined) refl
 bare_heads TokenKind x v h = by_starts is_token_first TokenKind token_kind x (word_starts is_token_first is_token_rest x h.0 h.1)
 bare_heads ByteSequenceKind x v h = sequence_heads x (h.1.joined)
+bare_heads DateKind x v h = subst (λ (y : List ℕ). Heads kind_of_bare_item DateKind y) (sym h.1.joined) refl
+bare_heads DisplayStringKind x v h = subst (λ (y : List ℕ). Heads kind_of_bare_item DisplayStringKind y) (sym h.1.joined) refl
 bare_heads BooleanKind x v h = by_starts is_question BooleanKind (λ c is. ap kind_of_bare_item (eqb-true c 63 is)) x (truth_starts x v h)
 
 to_bare : (k : BareKind) (x : List ℕ) (v : BareItem) → BareBy k x v → IsBareItem x v
 unfolding BareBy IsTruthItem
 to_bare NumberKind x (Integer z) h = h
 to_bare NumberKind x (Decimal z) h = h
-to_bare NumberKind x (Str _) h = absurd h
-to_bare NumberKind x (Token _) h = absurd h
-to_bare NumberKind x (Bytes _) h = absurd h
-to_bare NumberKind x (Boolean _) h = absurd h
+to_bare NumberKind x other h = absurd h
 to_bare StringKind x v h = subst (λ (v : BareItem). IsBareItem x v) h.2 h.1
 to_bare TokenKind x v h = subst (λ (v : BareItem). IsBareItem x v) h.2 h.1
 to_bare ByteSequenceKind x v h = subst (λ (v : BareItem). IsBareItem x v) h.2 h.1
 to_bare BooleanKind x (Boolean b) h = h
-to_bare BooleanKind x (Integer _) h = absurd h
-to_bare BooleanKind x (Decimal _) h = absurd h
-to_bare BooleanKind x (Str _) h = absurd h
-to_bare BooleanKind x (Token _) h = absurd h
-to_bare BooleanKind x (Bytes _) h = absurd h
+to_bare BooleanKind x other h = absurd h
+to_bare DateKind x v h = subst (λ (v : BareItem). IsBareItem x v) h.2 h.1
+to_bare DisplayStringKind x v h = subst (λ (v : BareItem). IsBareItem x v) h.2 h.1
 
 from_bare : (x : List ℕ) (v : BareItem) → IsBareItem x v → Among BareBy x v
 unfolding BareBy IsTruthItem
@@ -167,6 +155,8 @@ from_bare x (Str s) h = (StringKind, (s, h, refl))
 from_bare x (Token s) h = (TokenKind, (s, h, refl))
 from_bare x (Bytes b) h = (ByteSequenceKind, (b, h, refl))
 from_bare x (Boolean b) h = (BooleanKind, h)
+from_bare x (Date z) h = (DateKind, (z, h, refl))
+from_bare x (Display b) h = (DisplayStringKind, (b, h, refl))
 
 pub boolean_some : IsBareItem (63 ∷ 49 ∷ []) (Boolean true)
 boolean_some = refl

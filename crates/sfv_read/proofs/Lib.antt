@@ -16,3 +16,8 @@ pub mod StrictReads
 pub mod MoreMembers
 pub mod SameDicts
 pub mod TextLaws
+pub mod Dates
+pub mod EncodedBytes
+pub mod Utf8Characters
+pub mod DisplayStrings
+pub mod DisplayLoops

@@ -1,5 +1,5 @@
 -- A Dictionary with one more member, and the ends of a member's text.
-use Rattle.std.proofs.Common.{◌≡◌, ◌≤◌, ℕ, Bool, true, false, ◌||◌, eqb, List, [], ◌∷◌, ◌++◌, length, codes, refl, sym, ap, subst, ◌∙◌, append_assoc, arith, inl, inr}
+use Rattle.std.proofs.Common.{◌≡◌, ℤ, ◌≤◌, ℕ, Bool, true, false, ◌||◌, eqb, List, [], ◌∷◌, ◌++◌, length, codes, refl, sym, ap, subst, ◌∙◌, append_assoc, arith, inl, inr}
 use Rattle.std.specs.Prelude.{reverse}
 use Rattle.std.specs.List.{list_all, flat_map}
 use Rattle.std.specs.Str.{byte}
@@ -15,10 +15,10 @@ use Rattle.sfv_text.specs.Range.{is_dict_member_in_range, is_key_first, is_key_r
 use Rattle.sfv_text.specs.Strict.{character_text, dict_member_text}
 use Rattle.sfv_text.specs.declared.pair.Pair.{Pair}
 use Rattle.sfv_text.specs.declared.value.BareItem.{BareItem}
-use Rattle.sfv_text.specs.declared.value.BareItem.TheVariants.{Integer, Decimal, Str, Token, Bytes, Bool as Boolean}
+use Rattle.sfv_text.specs.declared.value.BareItem.TheVariants.{Integer, Decimal, Str, Token, Bytes, Bool as Boolean, Date, Display}
 use Rattle.sfv_text.specs.declared.value.Member.{Member}
 use Rattle.sfv_text.specs.declared.value.Member.TheVariants.{Item as ItemMember, InnerList as InnerMember}
-use Rattle.sfv_read.specs.BareItem.{IsBareItem}
+use Rattle.sfv_read.specs.BareItem.{IsInteger, IsBareItem}
 use Rattle.sfv_read.specs.Item.{IsKey, IsValue, IsParameter, AreParameters, put_pair, distinct_pairs}
 use Rattle.sfv_read.specs.Member.{IsMember, IsDictValue, IsDictMember, IsComma, AreMembers}
 use Rattle.sfv_read.specs.Reads.{ReadsDict}
@@ -115,8 +115,11 @@ module _ (P : ℕ → Bool) (space : P (byte " ") ≡ false) (tab : P (byte "\t"
 ends_key : (text key : List ℕ) → IsKey text key → EndsAnew text
 ends_key text key h = ends_word is_key_rest refl refl is_key_first refl refl text key h
 
+ends_integer : (text : List ℕ) (z : ℤ) → IsInteger text z → EndsAnew text
+ends_integer text z h = ends_same text (h.sign ++ h.digits) h.joined (ends_after h.sign h.digits (ends_in is_digit refl refl h.digits h.whole.passes h.whole.least))
+
 ends_bare : (text : List ℕ) (v : BareItem) → IsBareItem text v → EndsAnew text
-ends_bare text (Integer z) h = ends_same text (h.sign ++ h.digits) h.joined (ends_after h.sign h.digits (ends_in is_digit refl refl h.digits h.whole.passes h.whole.least))
+ends_bare text (Integer z) h = ends_integer text z h
 ends_bare text (Decimal z) h =
     ends_same text (h.sign ++ (h.digits ++ byte "." ∷ h.part)) h.joined
     (ends_after h.sign (h.digits ++ byte "." ∷ h.part) (ends_after h.digits (byte "." ∷ h.part) (ends_after (codes ".") h.part (ends_in is_digit refl refl h.part h.fraction.passes h.fraction.least))))
@@ -128,6 +131,8 @@ ends_bare text (Bytes b) h = elim h.joined [
 ]
 ends_bare text (Boolean false) h = record { front = codes "?"; last = byte "0"; joined = h; no_blank = refl }
 ends_bare text (Boolean true) h = record { front = codes "?"; last = byte "1"; joined = h; no_blank = refl }
+ends_bare text (Date z) h = ends_same text (codes "@" ++ h.number) h.joined (ends_after (codes "@") h.number (ends_integer h.number z h.is_number))
+ends_bare text (Display b) h = record { front = codes "%\"" ++ h.inside; last = byte "\""; joined = h.joined; no_blank = refl }
 
 ends_param : (text : List ℕ) (p : Pair BareItem) → IsParameter text p → EndsAnew text
 ends_param text p h = ends_same text (byte ";" ∷ (h.spaces ++ (h.key ++ h.value))) h.joined (ends_after (codes ";") (h.spaces ++ (h.key ++ h.value)) (ends_after h.spaces (h.key ++ h.value) (ends h.is_value)))

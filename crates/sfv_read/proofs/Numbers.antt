@@ -11,7 +11,7 @@ use Rattle.sfv_read.specs.BareItem.{IsInteger, IsDecimal}
 use Rattle.sfv_read.specs.tools.BareWalk.{number_of, part_read, fraction_read, number_read}
 use Rattle.sfv_read.specs.Class.{is_minus, is_dot}
 use Rattle.sfv_text.specs.declared.value.BareItem.{BareItem}
-use Rattle.sfv_text.specs.declared.value.BareItem.TheVariants.{Integer, Decimal, Str, Token, Bytes, Bool as Boolean}
+use Rattle.sfv_text.specs.declared.value.BareItem.TheVariants.{Integer, Decimal}
 use Rattle.byte_grammar.proofs.Laws.{Meets, meets_then, not_err, ok_is, and_is, next_more, meets_same, meets_map, any_next}
 use Rattle.byte_grammar.proofs.ChoiceLaws.{Starts, meets_optional, apart, starts_next, run_starts, optional_follow}
 use Rattle.byte_grammar.proofs.LeafLaws.{meets_byte, meets_run}
@@ -28,13 +28,13 @@ record IsPart (text v : List ℕ) : Type 0 where
   joined : text ≡ 46 ∷ v
   digits : IsRun is_digit 1 3 v v
 
-run_same : (P : ℕ → Bool) (lo hi : ℕ) (x v : List ℕ) → IsRun P lo hi x v → IsRun P lo hi v v
+pub run_same : (P : ℕ → Bool) (lo hi : ℕ) (x v : List ℕ) → IsRun P lo hi x v → IsRun P lo hi v v
 run_same P lo hi x v h = record { same = refl; passes = h.passes; least = h.least; most = h.most }
 
 run_of : (P : ℕ → Bool) (lo hi : ℕ) (x v : List ℕ) → x ≡ v → IsRun P lo hi v v → IsRun P lo hi x v
 run_of P lo hi x v e h = record { same = e; passes = h.passes; least = h.least; most = h.most }
 
-digit_next : (k : ℕ) → is_digit k ≡ false → (lo hi : ℕ) (x v r : List ℕ) → IsRun is_digit (suc lo) hi x v → Next (λ c. not (eqb c k)) (x ++ r)
+pub digit_next : (k : ℕ) → is_digit k ≡ false → (lo hi : ℕ) (x v r : List ℕ) → IsRun is_digit (suc lo) hi x v → Next (λ c. not (eqb c k)) (x ++ r)
 digit_next k out lo hi x v r h = starts_next is_digit (λ c. not (eqb c k)) (apart is_digit k out) x r (run_starts is_digit lo hi x v h)
 
 meets_part : Meets IsPart (λ _ c. not (is_digit c)) part_read
@@ -105,10 +105,7 @@ meets_fraction digits = go (ltb 12 digits) refl
 abbrev pub IsNumber : List ℕ → BareItem → Type 0
 IsNumber text (Integer z) = IsInteger text z
 IsNumber text (Decimal z) = IsDecimal text z
-IsNumber text (Str _) = ⊥
-IsNumber text (Token _) = ⊥
-IsNumber text (Bytes _) = ⊥
-IsNumber text (Boolean _) = ⊥
+IsNumber text other = ⊥
 
 IsFractional : (sign digits text : List ℕ) → BareItem → Type 0
 IsFractional sign digits text v = Mapped (number_of sign digits) (IsFraction (length digits)) text v
@@ -189,7 +186,4 @@ meets_number =
         more = (Some h.part, (h.whole.most, record { joined = refl; digits = h.fraction }), ap (λ (z : ℤ). Decimal z) (sym h.value));
       };
     }
-    from x (Str _) h = absurd h
-    from x (Token _) h = absurd h
-    from x (Bytes _) h = absurd h
-    from x (Boolean _) h = absurd h
+    from x other h = absurd h

@@ -1,5 +1,5 @@
 -- What a reading of whole texts says of the texts that are read.
-use Rattle.std.proofs.Common.{ℕ, Bool, List, [], ◌∷◌, ◌++◌, take, Option, Result, Ok, Err, refl, sym, subst, ◌∙◌}
+use Rattle.std.proofs.Common.{ℕ, Bool, List, Result, Ok, Err, sym, subst, ◌∙◌}
 use Rattle.std.specs.Prelude.{IfOk, IfErr, IsTrue}
 use Rattle.byte_grammar.specs.tools.Walks.{whole_read, padded_read}
 use Rattle.byte_grammar.specs.Classes.{is_space}
@@ -7,12 +7,10 @@ use Rattle.byte_grammar.specs.FaultOffset.{IsFaultOffset}
 use Rattle.byte_grammar.proofs.Laws.{ok_is}
 use Rattle.byte_grammar.proofs.Whole.{Judges, judges, one_value}
 use Rattle.sfv_read.specs.declared.error.SfError.{SfError}
-use Rattle.sfv_read.specs.declared.error.SfError.TheVariants.{Memory, Syntax, ItemKind}
+use Rattle.sfv_read.specs.declared.error.SfError.TheVariants.{Memory, Syntax}
 use Rattle.sfv_read.specs.Laws.{HasOneValue, HasValueOrNone}
-use Rattle.sfv_read.specs.Fault.{IsRead, IsSfError, BeginsItemKind}
-use Rattle.sfv_read.specs.tools.Answers.{StopsAt, MarksItemKind, Answers}
-use Rattle.sfv_text.specs.declared.value.Member.{Member}
-use Rattle.sfv_text.specs.Keys.{value_of}
+use Rattle.sfv_read.specs.Fault.{IsRead, IsSfError}
+use Rattle.sfv_read.specs.tools.Answers.{StopsAt, Answers}
 use Rattle.sfv_read.specs.Reads.{ReadsItem, ReadsInner, ReadsList, ReadsDict}
 use Rattle.sfv_read.specs.tools.ItemWalk.{item_read}
 use Rattle.sfv_read.specs.tools.InnerWalk.{inner_list_read}
@@ -20,7 +18,7 @@ use Rattle.sfv_read.specs.tools.MemberWalk.{list_read, dict_read}
 use Rattle.sfv_read.proofs.Items.{meets_whole_item}
 use Rattle.sfv_read.proofs.InnerLists.{meets_whole_inner}
 use Rattle.sfv_read.proofs.Members.{meets_list, meets_dict}
-use Rattle.sfv_read.proofs.TextLaws.{decided, same_fault}
+use Rattle.sfv_read.proofs.TextLaws.{decided}
 
 -- what the readings of a text promise of its answer
 pub record Promises {V : Type 0} (L : List ℕ → V → Type 0) (text : List ℕ) (result : Result V SfError) : Type 0 where
@@ -32,21 +30,12 @@ module _ {V : Type 0} {L : List ℕ → V → Type 0} {r : List ℕ → Result V
   offset_at : (text : List ℕ) (offset : ℕ) → StopsAt r text offset → IsFaultOffset L text offset
   offset_at text offset s = subst (λ (p : ℕ). IsFaultOffset L text p) (sym s.count) (j.offset text s.left s.stops)
 
-  marks : (text : List ℕ) (offset : ℕ) → BeginsItemKind L text offset → MarksItemKind r text offset
-  marks text offset b = record { marker = b.marker; item = j.all (take offset text ++ 63 ∷ 49 ∷ []) b.item }
-
-  begins_marked : (text : List ℕ) (offset : ℕ) → MarksItemKind r text offset → BeginsItemKind L text offset
-  begins_marked text offset m = record { marker = m.marker; item = j.begins (take offset text ++ 63 ∷ 49 ∷ []) m.item }
-
   pub promises : (text : List ℕ) (result : Result V SfError) → Answers r text result → Promises L text result
   promises text (Ok v) a = record { ok = j.ok text v a; only = λ w h. ok_is v w (sym a ∙ j.only text w h); fault = tt }
   promises text (Err Memory) a = record { ok = tt; only = λ w h. tt; fault = a }
   promises text (Err (Syntax offset)) a =
-      let p = offset_at text offset a.0 in
-      record { ok = tt; only = p.none; fault = (p, λ b. a.1 (marks text offset b)) }
-  promises text (Err (ItemKind offset)) a =
-      let p = offset_at text offset a.0 in
-      record { ok = tt; only = p.none; fault = (p, begins_marked text offset a.1) }
+      let p = offset_at text offset a in
+      record { ok = tt; only = p.none; fault = p }
 
 -- what is read passes a test that all values pass
 pub passing : {V : Type 0} {L : List ℕ → V → Type 0} (test : V → Bool) → ((text : List ℕ) (v : V) → L text v → IsTrue (test v)) → (text : List ℕ) (result : Result V SfError) → IfOk result (λ v. L text v) → IfOk result (λ v. IsTrue (test v))

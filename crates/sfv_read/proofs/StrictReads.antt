@@ -11,20 +11,21 @@ use Rattle.std.proofs.lemmas.List.Folds.{list_all-append, list_any-append}
 use Rattle.byte_grammar.specs.Language.{IsWord, IsRun, Each, IsFurther, Padded, after_all}
 use Rattle.byte_grammar.proofs.Laws.{and_is}
 use Rattle.sfv_text.specs.declared.value.BareItem.{BareItem}
-use Rattle.sfv_text.specs.declared.value.BareItem.TheVariants.{Integer, Decimal, Str, Token, Bytes, Bool as Boolean}
+use Rattle.sfv_text.specs.declared.value.BareItem.TheVariants.{Integer, Decimal, Str, Token, Bytes, Bool as Boolean, Date, Display}
 use Rattle.sfv_text.specs.declared.value.Item.{Item}
 use Rattle.sfv_text.specs.declared.value.InnerList.{InnerList}
 use Rattle.sfv_text.specs.declared.value.Member.{Member}
 use Rattle.sfv_text.specs.declared.value.Member.TheVariants.{Item as ItemMember, InnerList as InnerMember}
 use Rattle.sfv_text.specs.declared.pair.Pair.{Pair}
 use Rattle.sfv_text.specs.Keys.{has_key, have_distinct_keys, put}
-use Rattle.sfv_text.specs.Range.{is_word, is_token_first, is_token_rest, is_key_first, is_key_rest, is_key, is_number_in_range, is_bare_in_range, is_param_in_range, are_params_in_range, is_item_in_range, is_inner_in_range, is_member_in_range, is_list_in_range, is_dict_member_in_range, is_dict_in_range}
-use Rattle.sfv_text.specs.Strict.{sign_text, integer_text, fraction_text, decimal_text, bare_text, param_value_text, param_text, params_text, item_text, inner_text, member_text, list_text, dict_item_text, dict_value_text, dict_member_text, dict_text}
+use Rattle.sfv_text.specs.Range.{is_byte, is_unencoded, is_word, is_token_first, is_token_rest, is_key_first, is_key_rest, is_key, is_number_in_range, is_bare_in_range, is_param_in_range, are_params_in_range, is_item_in_range, is_inner_in_range, is_member_in_range, is_list_in_range, is_dict_member_in_range, is_dict_in_range}
+use Rattle.sfv_text.specs.Strict.{sign_text, integer_text, fraction_text, decimal_text, encoded_byte, display_byte_text, bare_text, param_value_text, param_text, params_text, item_text, inner_text, member_text, list_text, dict_item_text, dict_value_text, dict_member_text, dict_text}
 use Rattle.sfv_text.proofs.PutLaws.{bytes_eq-sym, distinct_parts, put_new}
+use Rattle.sfv_text.proofs.Utf8Bytes.{utf8_bytes}
 use Rattle.byte_grammar.specs.Classes.{is_digit, is_space}
 use Rattle.sfv_read.specs.Class.{is_minus}
 use Rattle.std.specs.Str.Parse.{digits_value, digits_value_after}
-use Rattle.sfv_read.specs.BareItem.{with_sign, IsInteger, IsDecimal, IsBareItem}
+use Rattle.sfv_read.specs.BareItem.{with_sign, IsInteger, IsDecimal, IsDisplayByte, IsBareItem}
 use Rattle.sfv_read.specs.Item.{IsValue, IsParameter, AreParameters, put_pair, distinct_pairs, IsItem}
 use Rattle.sfv_read.specs.Inner.{AreSpaces, AreItems, IsInner}
 use Rattle.sfv_read.specs.Member.{IsMember, IsDictValue, IsDictMember, IsComma, AreMembers, true_item}
@@ -123,6 +124,20 @@ word_reads : (first others : ℕ → Bool) (word : List ℕ) → is_word first o
 word_reads first others [] h = absurd cc
 word_reads first others (c ∷ cs) h = let both = and_is (first c) (list_all others cs) h in (refl, both.0, both.1)
 
+-- texts one after the other
+each_reads : {V : Type 0} (L : List ℕ → V → Type 0) (f : V → List ℕ) (test : V → Bool) → ((v : V) → test v ≡ true → L (f v) v) → (vs : List V) → list_all test vs ≡ true → Each L (flat_map f vs) vs
+each_reads L f test one [] all = refl
+each_reads L f test one (v ∷ vs) all =
+    let both = and_is (test v) (list_all test vs) all in
+    (f v, flat_map f vs, refl, one v both.0, each_reads L f test one vs both.1)
+
+display_byte_reads : (b : ℕ) → is_byte b ≡ true → IsDisplayByte (display_byte_text b) b
+display_byte_reads b h = go (is_unencoded b) refl
+  where
+    go : (plain : Bool) → is_unencoded b ≡ plain → IsDisplayByte (cond plain (b ∷ []) (encoded_byte b)) b
+    go true e = inl (refl, e)
+    go false e = inr (refl, h)
+
 pub bare_reads : (v : BareItem) → is_bare_in_range v ≡ true → IsBareItem (bare_text v) v
 bare_reads (Integer z) h = integer_reads z h
 bare_reads (Decimal z) h = decimal_reads z h
@@ -130,6 +145,13 @@ bare_reads (Str s) h = record { joined = refl; printable = h }
 bare_reads (Token t) h = word_reads is_token_first is_token_rest t h
 bare_reads (Bytes b) h = record { are_bytes = h; joined = inl refl }
 bare_reads (Boolean b) h = refl
+bare_reads (Date z) h = record { number = integer_text z; joined = refl; is_number = integer_reads z h }
+bare_reads (Display b) h = record {
+  inside = flat_map display_byte_text b;
+  joined = refl;
+  each = each_reads IsDisplayByte display_byte_text is_byte display_byte_reads b (utf8_bytes b h);
+  utf8 = h;
+}
 
 -- ---- parameters
 
@@ -141,18 +163,13 @@ value_reads (Decimal z) h = inl (bare_text (Decimal z), refl, bare_reads (Decima
 value_reads (Str s) h = inl (bare_text (Str s), refl, bare_reads (Str s) h)
 value_reads (Token t) h = inl (bare_text (Token t), refl, bare_reads (Token t) h)
 value_reads (Bytes b) h = inl (bare_text (Bytes b), refl, bare_reads (Bytes b) h)
+value_reads (Date z) h = inl (bare_text (Date z), refl, bare_reads (Date z) h)
+value_reads (Display b) h = inl (bare_text (Display b), refl, bare_reads (Display b) h)
 
 param_reads : (p : Pair BareItem) → is_param_in_range p ≡ true → IsParameter (param_text p) p
 param_reads p h =
     let both = and_is (is_key p.key) (is_bare_in_range p.value) h in
     record { spaces = []; key = p.key; value = param_value_text p.value; joined = refl; are_spaces = refl; is_key = word_reads is_key_first is_key_rest p.key both.0; is_value = value_reads p.value both.1 }
-
--- texts one after the other
-each_reads : {V : Type 0} (L : List ℕ → V → Type 0) (f : V → List ℕ) (test : V → Bool) → ((v : V) → test v ≡ true → L (f v) v) → (vs : List V) → list_all test vs ≡ true → Each L (flat_map f vs) vs
-each_reads L f test one [] all = refl
-each_reads L f test one (v ∷ vs) all =
-    let both = and_is (test v) (list_all test vs) all in
-    (f v, flat_map f vs, refl, one v both.0, each_reads L f test one vs both.1)
 
 or_false : (a b : Bool) → (a || b) ≡ false → (a ≡ false) × (b ≡ false)
 or_false true b h = absurd cc
@@ -236,6 +253,8 @@ dict_item_reads (Decimal z) params h = inl (item_text (item_with (Decimal z) par
 dict_item_reads (Str s) params h = inl (item_text (item_with (Str s) params), refl, item_reads (item_with (Str s) params) h)
 dict_item_reads (Token t) params h = inl (item_text (item_with (Token t) params), refl, item_reads (item_with (Token t) params) h)
 dict_item_reads (Bytes b) params h = inl (item_text (item_with (Bytes b) params), refl, item_reads (item_with (Bytes b) params) h)
+dict_item_reads (Date z) params h = inl (item_text (item_with (Date z) params), refl, item_reads (item_with (Date z) params) h)
+dict_item_reads (Display b) params h = inl (item_text (item_with (Display b) params), refl, item_reads (item_with (Display b) params) h)
 
 dict_value_reads : (v : Member) → is_member_in_range v ≡ true → IsDictValue (dict_value_text v) v
 dict_value_reads (ItemMember item) h = dict_item_reads item.bare item.params h

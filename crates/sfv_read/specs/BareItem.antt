@@ -1,15 +1,15 @@
 -- The texts of bare items (RFC 9651 section 3.3).
 use Rattle.std.specs.Prelude.{◌≡◌, ℕ, ◌-◌, ◌*◌, ◌^◌, ◌⊎◌, Bool, List, [], ◌∷◌, ◌++◌, length, ℤ, pos, neg_ℤ, IsTrue}
-use Rattle.std.specs.Str.{byte}
+use Rattle.std.specs.Str.{byte, is_utf8}
 use Rattle.std.specs.Str.Parse.{digits_value}
 use Rattle.std.specs.List.{list_all}
 use Rattle.base64.specs.Engines.{standard, standard_no_pad}
 use Rattle.base64.specs.GeneralPurpose.{encode_of}
-use Rattle.byte_grammar.specs.Language.{AreBytesOf, IsWord}
+use Rattle.byte_grammar.specs.Language.{AreBytesOf, Each, IsWord}
 use Rattle.sfv_text.specs.declared.value.BareItem.{BareItem}
-use Rattle.sfv_text.specs.declared.value.BareItem.TheVariants.{Integer, Decimal, Str, Token, Bytes, Bool as Boolean}
-use Rattle.sfv_text.specs.Range.{is_byte, is_string_byte, is_token_first, is_token_rest}
-use Rattle.sfv_text.specs.Strict.{string_text, bool_text}
+use Rattle.sfv_text.specs.declared.value.BareItem.TheVariants.{Integer, Decimal, Str, Token, Bytes, Bool as Boolean, Date, Display}
+use Rattle.sfv_text.specs.Range.{is_byte, is_string_byte, is_token_first, is_token_rest, is_unencoded}
+use Rattle.sfv_text.specs.Strict.{string_text, bool_text, encoded_byte}
 use Rattle.byte_grammar.specs.Classes.{is_digit}
 use Rattle.sfv_read.specs.Class.{is_minus}
 
@@ -59,6 +59,25 @@ pub record IsByteSequence (text : List ℕ) (bytes : List ℕ) : Type 0 where
 abbrev pub IsBoolean : List ℕ → Bool → Type 0
 IsBoolean text b = text ≡ bool_text b
 
+-- `@` and an Integer (RFC 9651 section 3.3.7)
+pub record IsDate (text : List ℕ) (z : ℤ) : Type 0 where
+  pub number : List ℕ
+  pub joined : text ≡ byte "@" ∷ number
+  pub is_number : IsInteger number z
+
+-- a byte as it is, where it is printable ASCII but not `%` or `"`, or as `%` and two lower-case
+-- hexadecimal digits (RFC 9651 section 3.3.8)
+abbrev pub IsDisplayByte : List ℕ → ℕ → Type 0
+IsDisplayByte text b = ((text ≡ b ∷ []) × IsTrue (is_unencoded b))
+    ⊎ ((text ≡ encoded_byte b) × IsTrue (is_byte b))
+
+-- bytes between `%"` and `"`, which are UTF-8 (RFC 9651 section 3.3.8)
+pub record IsDisplayString (text : List ℕ) (bytes : List ℕ) : Type 0 where
+  pub inside : List ℕ
+  pub joined : text ≡ byte "%" ∷ byte "\"" ∷ (inside ++ byte "\"" ∷ [])
+  pub each : Each IsDisplayByte inside bytes
+  pub utf8 : IsTrue (is_utf8 bytes)
+
 -- a bare item of each kind that is read
 abbrev pub IsBareItem : List ℕ → BareItem → Type 0
 IsBareItem text (Integer z) = IsInteger text z
@@ -67,3 +86,5 @@ IsBareItem text (Str s) = IsString text s
 IsBareItem text (Token t) = IsToken text t
 IsBareItem text (Bytes b) = IsByteSequence text b
 IsBareItem text (Boolean b) = IsBoolean text b
+IsBareItem text (Date z) = IsDate text z
+IsBareItem text (Display bytes) = IsDisplayString text bytes

@@ -2,9 +2,9 @@
 use Rattle.std.specs.Prelude.{ℕ, Bool, ◌&&◌, ◌||◌, ◌==◌, not}
 use Rattle.std.specs.Str.{byte}
 use Rattle.byte_grammar.specs.Classes.{is_digit, is_alpha}
-use Rattle.sfv_text.specs.Range.{is_string_byte, is_key_first, is_key_rest, is_token_first, is_token_rest}
+use Rattle.sfv_text.specs.Range.{is_string_byte, is_unencoded, is_key_first, is_key_rest, is_token_first, is_token_rest}
 use Rattle.sfv_read.specs.declared.class.SfClass.{SfClass}
-use Rattle.sfv_read.specs.declared.class.SfClass.TheVariants.{Escapable, Unescaped, KeyFirst, KeyRest, TokenFirst, TokenRest, Bit, Base64, Marker}
+use Rattle.sfv_read.specs.declared.class.SfClass.TheVariants.{Escapable, Unescaped, KeyFirst, KeyRest, TokenFirst, TokenRest, Bit, Base64, Unencoded}
 
 -- ---- one byte
 
@@ -52,6 +52,14 @@ is_close c = c == byte ")"
 abbrev pub is_colon : ℕ → Bool
 is_colon c = c == byte ":"
 
+-- `@`, which begins a Date (RFC 9651 section 3.3.7)
+abbrev pub is_at : ℕ → Bool
+is_at c = c == byte "@"
+
+-- `%`, which begins a Display String and each of its encoded bytes (RFC 9651 section 3.3.8)
+abbrev pub is_percent : ℕ → Bool
+is_percent c = c == byte "%"
+
 -- ---- several bytes
 
 -- what a String has after a backslash alone (RFC 9651 section 3.3.3)
@@ -70,10 +78,6 @@ is_bit c = (c == byte "0") || (c == byte "1")
 abbrev pub is_base64 : ℕ → Bool
 is_base64 c = is_alpha c || (is_digit c || ((c == byte "+") || (c == byte "/")))
 
--- `@` or `%`, with which a Date or a Display String begins (RFC 9651 sections 3.3.7 and 3.3.8)
-abbrev pub is_marker : ℕ → Bool
-is_marker c = (c == byte "@") || (c == byte "%")
-
 -- the bytes of a class of structured fields, by its name
 abbrev pub members : SfClass → ℕ → Bool
 members Escapable c = is_escapable c
@@ -84,4 +88,4 @@ members TokenFirst c = is_token_first c
 members TokenRest c = is_token_rest c
 members Bit c = is_bit c
 members Base64 c = is_base64 c
-members Marker c = is_marker c
+members Unencoded c = is_unencoded c

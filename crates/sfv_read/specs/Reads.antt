@@ -1,12 +1,11 @@
 -- The texts of the four kinds of structured field, with spaces at both ends (RFC 9651 sections 3
 -- and 4.2).
-use Rattle.std.specs.Prelude.{◌≡◌, ℕ, List, Option}
+use Rattle.std.specs.Prelude.{◌≡◌, ℕ, List}
 use Rattle.byte_grammar.specs.Language.{Padded}
 use Rattle.sfv_text.specs.declared.value.Item.{Item}
 use Rattle.sfv_text.specs.declared.value.InnerList.{InnerList}
 use Rattle.sfv_text.specs.declared.value.Member.{Member}
 use Rattle.sfv_text.specs.declared.pair.Pair.{Pair}
-use Rattle.sfv_text.specs.Keys.{value_of}
 use Rattle.byte_grammar.specs.Classes.{is_space}
 use Rattle.sfv_read.specs.Item.{IsItem, distinct_pairs}
 use Rattle.sfv_read.specs.Inner.{IsInner}

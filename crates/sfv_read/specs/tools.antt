@@ -1,5 +1,6 @@
 pub mod Answers
 pub mod BareWalk
+pub mod DisplayWalk
 pub mod Gives
 pub mod InnerWalk
 pub mod ItemWalk

@@ -9,8 +9,9 @@ ghost use Rattle.sfv_read.specs.declared.bare.BareKind.{BareKind};
 
 use crate::byte_sequence::read_byte_sequence;
 use crate::class::SfClass;
+use crate::display_string::read_display_string;
 use crate::error::PartError;
-use crate::number::read_number;
+use crate::number::{read_date, read_number};
 use crate::string::read_string;
 use byte_grammar::{Byte, ByteClass, Class, Left, read_byte, read_word};
 use sfv_text::{BareItem, Text};
@@ -25,6 +26,8 @@ pub enum BareKind {
     Token,
     ByteSequence,
     Boolean,
+    Date,
+    DisplayString,
 }
 
 /// Reads a bare item, by its first byte.
@@ -40,10 +43,11 @@ pub fn read_bare_item(alloc: Global, bytes: &[u8]) -> Result<(BareItem, &[u8]), 
         Some(BareKind::Token) => read_token(alloc, bytes),
         Some(BareKind::ByteSequence) => read_bytes_item(alloc, bytes),
         Some(BareKind::Boolean) => Ok(read_boolean(bytes)?),
+        Some(BareKind::Date) => Ok(read_date(bytes)?),
+        Some(BareKind::DisplayString) => read_display_item(alloc, bytes),
     }
 }
 
-/// Reads a String.
 fn read_string_item(alloc: Global, bytes: &[u8]) -> Result<(BareItem, &[u8]), PartError>
     ensures { GivesUnlessMemory (λ x. (x.0, x.1.now)) result
         (bare_item_by BareKind.String bytes.now) }
@@ -52,7 +56,6 @@ fn read_string_item(alloc: Global, bytes: &[u8]) -> Result<(BareItem, &[u8]), Pa
     Ok((BareItem::Str(text), rest))
 }
 
-/// Reads a Token.
 fn read_token(alloc: Global, bytes: &[u8]) -> Result<(BareItem, &[u8]), PartError>
     ensures { GivesUnlessMemory (λ x. (x.0, x.1.now)) result
         (bare_item_by BareKind.Token bytes.now) }
@@ -61,13 +64,20 @@ fn read_token(alloc: Global, bytes: &[u8]) -> Result<(BareItem, &[u8]), PartErro
     Ok((BareItem::Token(Text::from_bytes(alloc, token)?), rest))
 }
 
-/// Reads a Byte Sequence.
 fn read_bytes_item(alloc: Global, bytes: &[u8]) -> Result<(BareItem, &[u8]), PartError>
     ensures { GivesUnlessMemory (λ x. (x.0, x.1.now)) result
         (bare_item_by BareKind.ByteSequence bytes.now) }
 {
     let (text, rest) = read_byte_sequence(alloc, bytes)?;
     Ok((BareItem::Bytes(text), rest))
+}
+
+fn read_display_item(alloc: Global, bytes: &[u8]) -> Result<(BareItem, &[u8]), PartError>
+    ensures { GivesUnlessMemory (λ x. (x.0, x.1.now)) result
+        (bare_item_by BareKind.DisplayString bytes.now) }
+{
+    let (text, rest) = read_display_string(alloc, bytes)?;
+    Ok((BareItem::Display(text), rest))
 }
 
 /// Reads `?1` or `?0`.
@@ -110,6 +120,12 @@ fn kind_of_bare_item(byte: u8) -> Option<BareKind>
     }
     if byte == b'?' {
         return Some(BareKind::Boolean);
+    }
+    if byte == b'@' {
+        return Some(BareKind::Date);
+    }
+    if byte == b'%' {
+        return Some(BareKind::DisplayString);
     }
     None
 }

@@ -51,7 +51,6 @@ fn read_letters_end<'a>(
 /// Up to so many letters are decoded in place, to bytes that a text holds in place.
 const FEW_LETTERS: usize = 48;
 
-/// A text of these bytes.
 fn text_of(alloc: Global, bytes: &[u8]) -> Result<Text, Memory>
     ensures same { IfOk result (λ text. text ≡ bytes.now) }
     ensures bytes { IfOk result IsBytes }
@@ -92,7 +91,6 @@ fn decode(alloc: Global, letters: &[u8]) -> Result<Option<Text>, PartError>
     }
 }
 
-/// Reads the padding, and a colon.
 #[tactic(auto, unfolding(crate::specs::tools::BareWalk::padding_end_read))]
 fn read_padding_end(pads: usize, bytes: &[u8]) -> Result<(&[u8], &[u8]), Left>
     ensures { Gives (λ x. (x.0.now, x.1.now)) result (padding_end_read pads bytes.now) }

@@ -25,8 +25,8 @@ pub enum SfClass {
     Bit,
     /// The base64 alphabet (RFC 4648 section 4).
     Base64,
-    /// What a Date or a Display String begins with.
-    Marker,
+    /// What a Display String has as it is.
+    Unencoded,
 }
 
 impl ByteClass for SfClass {
@@ -42,7 +42,7 @@ impl ByteClass for SfClass {
             SfClass::TokenRest => is_tchar(byte) || byte == b':' || byte == b'/',
             SfClass::Bit => byte == b'0' || byte == b'1',
             SfClass::Base64 => is_base64(byte),
-            SfClass::Marker => byte == b'@' || byte == b'%',
+            SfClass::Unencoded => matches!(byte, b' '..=b'~') && byte != b'%' && byte != b'"',
         }
     }
 }

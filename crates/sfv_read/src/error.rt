@@ -17,9 +17,6 @@ pub enum SfError {
     Memory,
     /// No text that is read goes on so at this offset.
     Syntax(usize),
-    /// `@` or `%` is at this offset, where an item or a parameter's value may begin: a Date or
-    /// a Display String (RFC 9651 sections 3.3.7 and 3.3.8), which aren't read.
-    ItemKind(usize),
 }
 
 impl fmt::Display for SfError {
@@ -32,7 +29,6 @@ impl fmt::Display for SfError {
         match self {
             SfError::Memory => f.write_str("out of memory"),
             SfError::Syntax(offset) => write!(f, "not a structured field from byte {offset} on"),
-            SfError::ItemKind(offset) => write!(f, "a Date or a Display String at byte {offset}"),
         }
     }
 }

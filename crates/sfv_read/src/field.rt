@@ -1,22 +1,20 @@
 //! Whole texts of each kind of structured field.
 
-ghost use Rattle.std.specs.Prelude.{◌≡◌, ◌≤◌, ◌↔◌, ◌++◌, ℕ, List as Listed, Result, length, IfOk, IfErr, IsTrue, codes};
-ghost use Rattle.byte_grammar.specs.tools.Walks.{left, unread, whole_read, padded_read};
+ghost use Rattle.std.specs.Prelude.{◌≤◌, ℕ, List as Listed, Result, length, IfErr};
+ghost use Rattle.byte_grammar.specs.tools.Walks.{left, whole_read, padded_read};
 ghost use Rattle.byte_grammar.specs.Classes.{is_space};
-ghost use Rattle.sfv_read.specs.declared.error.PartError.TheVariants.{Memory};
-ghost use Rattle.sfv_read.specs.tools.Answers.{IsFaultAt, Answers};
+ghost use Rattle.sfv_read.specs.tools.Answers.{Answers};
 ghost use Rattle.sfv_read.specs.tools.Gives.{GivesUnlessMemory, IfMemory};
 ghost use Rattle.sfv_read.specs.tools.ItemWalk.{item_read};
 ghost use Rattle.sfv_read.specs.tools.InnerWalk.{inner_list_read};
 ghost use Rattle.sfv_read.specs.tools.MemberWalk.{list_read, dict_read};
 
-use crate::class::SfClass;
 use crate::error::{PartError, SfError};
 use crate::inner::read_inner_list_text;
 use crate::params::read_item_text;
 use crate::separated::{AsDict, AsList, read_separated};
-use byte_grammar::{Byte, read_all, starts_with};
-use sfv_text::{Dict, InnerList, Item, List, Member, Text};
+use byte_grammar::{Byte, read_all};
+use sfv_text::{Dict, InnerList, Item, List, Member};
 use std::alloc::Global;
 
 /// What a text is read as.
@@ -41,45 +39,12 @@ pub fn read_field<F: Field>(alloc: Global, field: &F, text: &[u8]) -> Result<F::
 {
     match field.read(alloc, text) {
         Ok((value, [])) => Ok(value),
-        Ok((_, rest)) => Err(fault_at(alloc, field, text, text.len() - rest.len())),
+        Ok((_, rest)) => Err(SfError::Syntax(text.len() - rest.len())),
         Err(PartError::Memory) => Err(SfError::Memory),
-        Err(PartError::At(left)) => Err(fault_at(alloc, field, text, text.len() - left)),
+        Err(PartError::At(left)) => Err(SfError::Syntax(text.len() - left)),
     }
 }
 
-/// The fault at the offset where a text can't go on.
-fn fault_at<F: Field>(alloc: Global, field: &F, text: &[u8], offset: usize) -> SfError
-    requires { offset ≤ length text.now }
-    ensures { IsFaultAt (whole_read (F.reading field.now)) text.now offset result }
-{
-    let (prefix, rest) = text.split_at(offset);
-    if !starts_with(SfClass::Marker, rest) {
-        return SfError::Syntax(offset);
-    }
-    match takes_item(alloc, field, prefix) {
-        Ok(true) => SfError::ItemKind(offset),
-        Ok(false) => SfError::Syntax(offset),
-        Err(_) => SfError::Memory,
-    }
-}
-
-/// Whether `?1` could come after the prefix.
-#[tactic(auto, unfolding(byte_grammar::specs::tools::Walks::whole_read))]
-fn takes_item<F: Field>(alloc: Global, field: &F, prefix: &[u8]) -> Result<bool, PartError>
-    ensures ok { IfOk result (λ b. IsTrue b
-        ↔ (unread (whole_read (F.reading field.now) (prefix.now ++ codes "?1")) ≡ 0)) }
-    ensures err { IfErr result (λ e. e ≡ Memory) }
-{
-    let mut probe = Text::from_bytes(alloc, prefix)?;
-    probe.append(b"?1")?;
-    match field.read(alloc, probe.bytes()) {
-        Ok((_, rest)) => Ok(rest.is_empty()),
-        Err(PartError::Memory) => Err(PartError::Memory),
-        Err(PartError::At(left)) => Ok(left == 0),
-    }
-}
-
-/// An Item.
 #[derive(Clone, Copy)]
 pub struct AsItem;
 
@@ -97,7 +62,6 @@ impl Field for AsItem {
     }
 }
 
-/// An Inner List.
 #[derive(Clone, Copy)]
 pub struct AsInnerList;
 

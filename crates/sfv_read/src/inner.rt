@@ -72,7 +72,6 @@ fn read_next_item(alloc: Global, bytes: &[u8]) -> Result<(Option<Item>, &[u8]), 
     }
 }
 
-/// Reads an Item, or the parenthesis.
 #[tactic(auto, unfolding(crate::specs::tools::InnerWalk::item_or_close_read, byte_grammar::specs::tools::Walks::choose_read, byte_grammar::specs::tools::Walks::pick_read))]
 fn read_item_or_close(alloc: Global, bytes: &[u8]) -> Result<(Option<Item>, &[u8]), PartError>
     ensures { GivesUnlessMemory (λ x. (x.0, x.1.now)) result (item_or_close_read bytes.now) }

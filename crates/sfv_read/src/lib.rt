@@ -2,19 +2,20 @@
 //!
 //! A text is read with spaces at both ends. A reader answers the value exactly where the grammar in
 //! `specs/` has the text with that value; else it names the longest prefix of the text that begins
-//! some text that is read. Dates and Display Strings aren't read, and have a fault of their own.
+//! some text that is read.
 //!
 //! ```text
 //! read_item(alloc, b" 1 ")         // the Integer 1
 //! read_dict(alloc, b"a=1, b, a=2") // the members a=2 and b
 //! read_inner(alloc, b"(a b")       // Err(SfError::Syntax(4))
-//! read_list(alloc, b"a, %")        // Err(SfError::ItemKind(3))
+//! read_item(alloc, b"%\"%ff\"")    // Err(SfError::Syntax(4))
 //! ```
 #![tactic(auto)]
 
 mod bare;
 mod byte_sequence;
 mod class;
+mod display_string;
 mod error;
 mod field;
 mod inner;

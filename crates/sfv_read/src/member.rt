@@ -40,7 +40,6 @@ fn read_item_member(alloc: Global, bytes: &[u8]) -> Result<(Member, &[u8]), Part
     Ok((Member::Item(item), rest))
 }
 
-/// Reads a key and its value.
 #[tactic(auto, unfolding(crate::specs::tools::MemberWalk::dict_member_read))]
 pub fn read_pair(alloc: Global, bytes: &[u8]) -> Result<(Pair<Member>, &[u8]), PartError>
     ensures { GivesUnlessMemory (λ x. (x.0, x.1.now)) result (dict_member_read bytes.now) }
@@ -63,7 +62,6 @@ fn read_dict_value(alloc: Global, bytes: &[u8]) -> Result<(Member, &[u8]), PartE
     Ok((Member::Item(Item { bare, params }), rest))
 }
 
-/// Reads `=` and a member.
 #[tactic(auto, unfolding(crate::specs::tools::MemberWalk::equals_member_read))]
 fn read_equals_member(alloc: Global, bytes: &[u8]) -> Result<(Member, &[u8]), PartError>
     ensures { GivesUnlessMemory (λ x. (x.0, x.1.now)) result (equals_member_read bytes.now) }

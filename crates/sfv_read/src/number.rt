@@ -1,4 +1,4 @@
-//! Integers and Decimals (RFC 9651 sections 3.3.1 and 3.3.2).
+//! Integers, Decimals and Dates (RFC 9651 sections 3.3.1, 3.3.2 and 3.3.7).
 
 ghost use Rattle.std.specs.Prelude.{◌≡◌, ◌≤◌, ◌<◌, ◌+◌, ◌-◌, ◌*◌, ◌^◌, ◌++◌, length, option_map, IfOk, IfSome, IsTrue};
 ghost use Rattle.std.specs.List.{list_all};
@@ -7,7 +7,7 @@ ghost use Rattle.byte_grammar.specs.Language.{AreBytesOf};
 ghost use Rattle.byte_grammar.specs.Classes.{is_digit};
 ghost use Rattle.std.specs.Str.Parse.{digits_value, digits_value_after};
 ghost use Rattle.sfv_read.specs.BareItem.{with_sign};
-ghost use Rattle.sfv_read.specs.tools.BareWalk.{fraction_read, part_read, number_read};
+ghost use Rattle.sfv_read.specs.tools.BareWalk.{fraction_read, part_read, number_read, date_read};
 
 use byte_grammar::{Byte, Class, Left, read_byte, read_run, starts_with};
 use sfv_text::BareItem;
@@ -29,6 +29,18 @@ pub fn read_number(bytes: &[u8]) -> Result<(BareItem, &[u8]), Left>
     }
 }
 
+/// Reads `@`, an optional minus and 1 to 15 digits.
+#[tactic(auto, unfolding(crate::specs::tools::BareWalk::date_read), using(crate::proofs::Digits::pow_room))]
+pub fn read_date(bytes: &[u8]) -> Result<(BareItem, &[u8]), Left>
+    ensures { Gives (λ x. (x.0, x.1.now)) result (date_read bytes.now) }
+{
+    let (_, rest) = read_byte(Byte(b'@'), bytes)?;
+    let (sign, rest) = read_run(Byte(b'-'), 0, 1, rest)?;
+    let (digits, rest) = read_run(Class::Digit, 1, 15, rest)?;
+    let seconds = with_sign(sign, number_of(0, digits));
+    Ok((BareItem::Date(seconds), rest))
+}
+
 /// Reads the digits after the point, where a point comes. After more than 12 digits none may.
 #[tactic(auto, unfolding(crate::specs::tools::BareWalk::fraction_read, byte_grammar::specs::tools::Walks::optional_read))]
 fn read_fraction(digits: usize, bytes: &[u8]) -> Result<(Option<&[u8]>, &[u8]), Left>
@@ -47,7 +59,6 @@ fn read_fraction(digits: usize, bytes: &[u8]) -> Result<(Option<&[u8]>, &[u8]), 
     Ok((Some(part), rest))
 }
 
-/// Reads a point and 1 to 3 digits.
 #[tactic(auto, unfolding(crate::specs::tools::BareWalk::part_read))]
 fn read_part(bytes: &[u8]) -> Result<(&[u8], &[u8]), Left>
     ensures gives { Gives (λ x. (x.0.now, x.1.now)) result (part_read bytes.now) }

@@ -87,7 +87,6 @@ fn read_value(alloc: Global, bytes: &[u8]) -> Result<(BareItem, &[u8]), PartErro
     read_equals(alloc, bytes)
 }
 
-/// Reads `=` and a bare item.
 #[tactic(auto, unfolding(crate::specs::tools::ItemWalk::equals_read))]
 fn read_equals(alloc: Global, bytes: &[u8]) -> Result<(BareItem, &[u8]), PartError>
     ensures { GivesUnlessMemory (λ x. (x.0, x.1.now)) result (equals_read bytes.now) }

@@ -35,11 +35,9 @@ pub trait Separated {
             → next_member_read reading bytes ≡ Ok (Some v, rest) → length rest < length bytes }
         ensures loops { IsLoop (next_member_read reading) };
 
-    /// Adds a member.
     fn add(&self, kept: &mut Self::Kept, part: Self::Part) -> Result<(), Memory>
         ensures { OnOk result (kept.new ≡ with_part self.now kept.old part) };
 
-    /// Reads a member.
     fn read_part<'t>(
         &self,
         alloc: Global,
@@ -48,7 +46,6 @@ pub trait Separated {
         ensures { GivesUnlessMemory (λ x. (x.0, x.1.now)) result (reading bytes.now) };
 }
 
-/// A List.
 #[derive(Clone, Copy)]
 pub struct AsList;
 
@@ -80,7 +77,6 @@ impl Separated for AsList {
     }
 }
 
-/// A Dictionary.
 #[derive(Clone, Copy)]
 pub struct AsDict;
 
@@ -174,7 +170,6 @@ fn read_next_member<'t, S: Separated>(
     Ok((Some(part), rest))
 }
 
-/// Reads a comma, blanks and a member.
 #[tactic(auto, unfolding(crate::specs::tools::MemberWalk::further_read))]
 fn read_further<'t, S: Separated>(
     alloc: Global,

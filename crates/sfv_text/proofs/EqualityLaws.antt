@@ -6,7 +6,7 @@ use Rattle.sfv_text.specs.declared.pair.Pair.{Pair}
 use Rattle.std.proofs.lemmas.Bool.Decides.{Decides-int_eq}
 use Rattle.std.proofs.lemmas.Slice.Eq.{bytes_eq-Decides}
 use Rattle.sfv_text.specs.declared.value.BareItem.{BareItem}
-use Rattle.sfv_text.specs.declared.value.BareItem.TheVariants.{Integer, Decimal, Str, Token, Bytes, Bool as Boolean}
+use Rattle.sfv_text.specs.declared.value.BareItem.TheVariants.{Integer, Decimal, Str, Token, Bytes, Bool as Boolean, Date, Display}
 use Rattle.sfv_text.specs.Equality.{is_equal_bare, is_equal_param}
 
 pub bare_equal : (a b : BareItem) → Decides (is_equal_bare a b) (a ≡ b)
@@ -17,6 +17,8 @@ bare_equal (Token a) (Token b) = let d = bytes_eq-Decides a b in ((λ h. ap Toke
 bare_equal (Bytes a) (Bytes b) = let d = bytes_eq-Decides a b in ((λ h. ap Bytes (d.0 h)), (λ e. d.1 cc))
 bare_equal (Boolean true) (Boolean true) = ((λ h. refl), (λ e. refl))
 bare_equal (Boolean false) (Boolean false) = ((λ h. refl), (λ e. refl))
+bare_equal (Date a) (Date b) = let d = Decides-int_eq a b in ((λ h. ap Date (d.0 h)), (λ e. d.1 cc))
+bare_equal (Display a) (Display b) = let d = bytes_eq-Decides a b in ((λ h. ap Display (d.0 h)), (λ e. d.1 cc))
 bare_equal a b = ((λ h. absurd (false≢true h)), (λ e. absurd cc))
 
 pub param_equal : (a b : Pair BareItem) → Decides (is_equal_param a b) (a ≡ b)

@@ -4,5 +4,6 @@ pub mod EscapeLaws
 pub mod Groups
 pub mod Printable
 pub mod PutLaws
+pub mod Utf8Bytes
 pub mod IndexLaws
 pub mod ValueLaws

@@ -1,10 +1,11 @@
 -- The strict text of a value in range has the bytes of a String alone.
 use Rattle.std.proofs.Common.{◌≡◌, ℕ, zero, suc, ◌+◌, ◌*◌, ◌/◌, ◌%◌, ◌^◌, ◌<◌, Bool, true, false, ◌&&◌, ◌||◌, eqb, ℤ, pos, negsuc, List, [], ◌∷◌, ◌++◌, length, replicate, codes, slice_index, if◌then◌else◌, ◌-◌, inl, inr, refl, arith}
 use Rattle.std.specs.Prelude.{unsigned_abs}
-use Rattle.std.specs.Char.{is_ascii_alphabetic, is_ascii_alphanumeric, is_ascii_digit, is_ascii_lowercase}
+use Rattle.std.specs.Char.{is_ascii_alphabetic, is_ascii_alphanumeric, is_ascii_digit, is_ascii_lowercase, digit_char}
 use Rattle.std.specs.Fmt.{decimal}
 use Rattle.std.specs.List.{list_all, flat_map, join_by}
-use Rattle.std.proofs.lemmas.Bool.{and_parts, or_cases, eqb-true, ltb-true, false≢true}
+use Rattle.std.specs.Str.{is_utf8}
+use Rattle.std.proofs.lemmas.Bool.{cases_Bool, and_parts, or_cases, eqb-true, ltb-true, false≢true}
 use Rattle.std.proofs.lemmas.Bool.Decides.{nat_tests}
 use Rattle.std.proofs.lemmas.Fmt.{decimal_by_steps}
 use Rattle.std.proofs.lemmas.List.Folds.{list_all-append}
@@ -14,15 +15,16 @@ use Rattle.base64.specs.GeneralPurpose.{engine_symbols, encode_of}
 use Rattle.base64.specs.Rfc4648.{encode_symbols}
 use Rattle.sfv_text.specs.declared.pair.Pair.{Pair}
 use Rattle.sfv_text.specs.declared.value.BareItem.{BareItem}
-use Rattle.sfv_text.specs.declared.value.BareItem.TheVariants.{Integer, Decimal, Str, Token, Bytes, Bool as Boolean}
+use Rattle.sfv_text.specs.declared.value.BareItem.TheVariants.{Integer, Decimal, Str, Token, Bytes, Bool as Boolean, Date, Display}
 use Rattle.sfv_text.specs.declared.value.Item.{Item}
 use Rattle.sfv_text.specs.declared.value.InnerList.{InnerList}
 use Rattle.sfv_text.specs.declared.value.Member.{Member}
 use Rattle.sfv_text.specs.declared.value.Member.TheVariants.{Item as ItemMember, InnerList as InnerMember}
 use Rattle.sfv_text.specs.Keys.{have_distinct_keys}
 use Rattle.byte_grammar.specs.Classes.{is_one_of, is_tchar}
-use Rattle.sfv_text.specs.Range.{is_string_byte, is_byte, is_token_first, is_token_rest, is_key_first, is_key_rest, is_word, is_sf_token, is_key, is_number_in_range, is_bare_in_range, is_param_in_range, are_params_in_range, is_item_in_range, is_inner_in_range, is_member_in_range, is_list_in_range, is_dict_member_in_range, is_dict_in_range}
-use Rattle.sfv_text.specs.Strict.{sign_text, integer_text, fraction_text, decimal_text, character_text, string_text, bytes_text, bare_text, param_value_text, param_text, params_text, item_text, inner_text, member_text, list_text, dict_item_text, dict_value_text, dict_member_text, dict_text}
+use Rattle.sfv_text.specs.Range.{is_string_byte, is_unencoded, is_byte, is_token_first, is_token_rest, is_key_first, is_key_rest, is_word, is_sf_token, is_key, is_number_in_range, is_bare_in_range, is_param_in_range, are_params_in_range, is_item_in_range, is_inner_in_range, is_member_in_range, is_list_in_range, is_dict_member_in_range, is_dict_in_range}
+use Rattle.sfv_text.specs.Strict.{sign_text, integer_text, fraction_text, decimal_text, character_text, string_text, bytes_text, encoded_byte, display_byte_text, display_text, bare_text, param_value_text, param_text, params_text, item_text, inner_text, member_text, list_text, dict_item_text, dict_value_text, dict_member_text, dict_text}
+use Rattle.sfv_text.proofs.Utf8Bytes.{utf8_bytes}
 
 abbrev pub IsPrintable : List ℕ → Type 0
 IsPrintable text = list_all is_string_byte text ≡ true
@@ -188,6 +190,23 @@ byte_sequence bytes h =
     joined (encode_of standard bytes) (58 ∷ [])
     (joined (encode_symbols (engine_symbols standard) bytes) (replicate ((3 - length bytes % 3) % 3) 61) (symbols bytes h) (padding ((3 - length bytes % 3) % 3))) refl
 
+-- ---- Display Strings
+
+hex : (n : ℕ) → n < 16 → is_string_byte (digit_char n) ≡ true
+hex n h = grind (arith, nat_tests)
+
+encoded : (b : ℕ) → b < 2 ^ 8 → IsPrintable (encoded_byte b)
+encoded b h = rw (hex (b / 16) (omega arith), hex (b % 16) (omega arith)) refl
+
+display_byte : (b : ℕ) → is_byte b ≡ true → IsPrintable (display_byte_text b)
+display_byte b h = elim (cases_Bool (is_unencoded b)) [
+  | inl plain ↦ rw (plain, (and_parts (is_string_byte b) _ plain).0) refl
+  | inr other ↦ rw other (encoded b (ltb-true _ _ h))
+]
+
+display_string : (bytes : List ℕ) → is_utf8 bytes ≡ true → IsPrintable (display_text bytes)
+display_string bytes h = joined (flat_map display_byte_text bytes) (34 ∷ []) (flat display_byte_text is_byte display_byte bytes (utf8_bytes bytes h)) refl
+
 -- ---- bare items and parameters
 
 pub bare_is : (bare : BareItem) → is_bare_in_range bare ≡ true → IsPrintable (bare_text bare)
@@ -198,6 +217,8 @@ bare_is (Token text) h = token text h
 bare_is (Bytes b) h = byte_sequence b h
 bare_is (Boolean true) h = refl
 bare_is (Boolean false) h = refl
+bare_is (Date z) h = integer z h
+bare_is (Display b) h = display_string b h
 
 param_value : (bare : BareItem) → is_bare_in_range bare ≡ true → IsPrintable (param_value_text bare)
 param_value (Integer z) h = bare_is (Integer z) h
@@ -207,6 +228,8 @@ param_value (Token text) h = bare_is (Token text) h
 param_value (Bytes b) h = bare_is (Bytes b) h
 param_value (Boolean true) h = refl
 param_value (Boolean false) h = refl
+param_value (Date z) h = bare_is (Date z) h
+param_value (Display b) h = bare_is (Display b) h
 
 param : (p : Pair BareItem) → is_param_in_range p ≡ true → IsPrintable (param_text p)
 param p h =
@@ -243,6 +266,8 @@ entry_item (Token text) ps h p = joined (bare_text (Token text)) (params_text ps
 entry_item (Bytes b) ps h p = joined (bare_text (Bytes b)) (params_text ps) (bare_is (Bytes b) h) p
 entry_item (Boolean true) ps h p = p
 entry_item (Boolean false) ps h p = joined (bare_text (Boolean false)) (params_text ps) refl p
+entry_item (Date z) ps h p = joined (bare_text (Date z)) (params_text ps) (bare_is (Date z) h) p
+entry_item (Display b) ps h p = joined (bare_text (Display b)) (params_text ps) (bare_is (Display b) h) p
 
 entry_value : (m : Member) → is_member_in_range m ≡ true → IsPrintable (dict_value_text m)
 entry_value (ItemMember item) h =

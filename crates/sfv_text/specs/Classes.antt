@@ -1,5 +1,5 @@
--- The bytes of Strings, Tokens, Byte Sequences and keys (RFC 9651).
-use Rattle.std.specs.Prelude.{ℕ, ◌^◌, Bool, false, ◌&&◌, ◌||◌, ◌==◌, nat_lt, nat_le, List, [], ◌∷◌, codes}
+-- The bytes of Strings, Tokens, Byte Sequences, Display Strings and keys (RFC 9651).
+use Rattle.std.specs.Prelude.{ℕ, ◌^◌, Bool, false, ◌&&◌, ◌||◌, ◌==◌, not, nat_lt, nat_le, List, [], ◌∷◌, codes}
 use Rattle.std.specs.Str.{byte}
 use Rattle.std.specs.Char.{is_ascii_alphabetic, is_ascii_digit, is_ascii_lowercase}
 use Rattle.std.specs.List.{list_all}
@@ -8,6 +8,11 @@ use Rattle.byte_grammar.specs.Classes.{is_one_of, is_tchar}
 -- a String's characters (RFC 9651 section 3.3.3)
 abbrev pub is_string_byte : ℕ → Bool
 is_string_byte c = nat_le (byte " ") c && nat_le c (byte "~")
+
+-- what a Display String has as it is: printable ASCII, but not `%` and `"` (RFC 9651
+-- section 3.3.8)
+abbrev pub is_unencoded : ℕ → Bool
+is_unencoded c = is_string_byte c && (not (c == byte "%") && not (c == byte "\""))
 
 -- the number is one of the 256 bytes
 abbrev pub is_byte : ℕ → Bool

@@ -4,7 +4,7 @@ use Rattle.std.specs.Ordering.{int_eq}
 use Rattle.std.specs.Str.{bytes_eq}
 use Rattle.sfv_text.specs.declared.pair.Pair.{Pair}
 use Rattle.sfv_text.specs.declared.value.BareItem.{BareItem}
-use Rattle.sfv_text.specs.declared.value.BareItem.TheVariants.{Integer, Decimal, Str, Token, Bytes, Bool as Boolean}
+use Rattle.sfv_text.specs.declared.value.BareItem.TheVariants.{Integer, Decimal, Str, Token, Bytes, Bool as Boolean, Date, Display}
 
 -- the type and the value are the same
 abbrev pub is_equal_bare : BareItem → BareItem → Bool
@@ -14,6 +14,8 @@ is_equal_bare (Str a) (Str b) = bytes_eq a b
 is_equal_bare (Token a) (Token b) = bytes_eq a b
 is_equal_bare (Bytes a) (Bytes b) = bytes_eq a b
 is_equal_bare (Boolean a) (Boolean b) = if a then b else not b
+is_equal_bare (Date a) (Date b) = int_eq a b
+is_equal_bare (Display a) (Display b) = bytes_eq a b
 is_equal_bare a b = false
 
 -- the key and the value are the same

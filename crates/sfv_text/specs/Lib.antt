@@ -1,5 +1,4 @@
 pub mod Classes
-pub mod Displayed
 pub mod Equality
 pub mod Keys
 pub mod Laws
@@ -8,4 +7,3 @@ pub mod Range
 pub mod Strict
 pub mod Values
 pub mod tools
-pub mod Fed

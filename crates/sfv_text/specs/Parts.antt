@@ -1,9 +1,24 @@
 -- What bare items and members hold, by their type (RFC 9651 section 3.3).
-use Rattle.std.specs.Prelude.{ℕ, ℤ, Option, Some, None, List}
+use Rattle.std.specs.Prelude.{ℕ, ℤ, Bool, true, false, Option, Some, None, List}
 use Rattle.sfv_text.specs.declared.value.BareItem.{BareItem}
-use Rattle.sfv_text.specs.declared.value.BareItem.TheVariants.{Integer, Str, Bytes}
+use Rattle.sfv_text.specs.declared.value.BareItem.TheVariants.{Integer, Str, Bytes, Bool as Boolean}
 use Rattle.sfv_text.specs.declared.value.Member.{Member}
 use Rattle.sfv_text.specs.declared.value.Member.TheVariants.{Item as ItemMember, InnerList as InnerMember}
+
+-- it is an Integer (RFC 9651 section 3.3.1)
+abbrev pub is_integer : BareItem → Bool
+is_integer (Integer z) = true
+is_integer bare = false
+
+-- it is a String (RFC 9651 section 3.3.3)
+abbrev pub is_string : BareItem → Bool
+is_string (Str text) = true
+is_string bare = false
+
+-- it is Boolean true, which is written as the key alone (RFC 9651 section 3.1.2)
+abbrev pub is_true : BareItem → Bool
+is_true (Boolean b) = b
+is_true bare = false
 
 -- the number of an Integer
 abbrev pub integer_in : BareItem → Option ℤ

@@ -1,19 +1,21 @@
 -- The values that a structured field can hold (RFC 9651 section 3).
 use Rattle.std.specs.Prelude.{ℤ, ◌^◌, Bool, true, ◌&&◌, nat_lt, unsigned_abs, List}
 use Rattle.std.specs.List.{list_all}
-pub use Rattle.sfv_text.specs.Classes.{is_string_byte, is_byte, is_token_first, is_token_rest}
+use Rattle.std.specs.Str.{is_utf8}
+pub use Rattle.sfv_text.specs.Classes.{is_string_byte, is_unencoded, is_byte}
+pub use Rattle.sfv_text.specs.Classes.{is_token_first, is_token_rest}
 pub use Rattle.sfv_text.specs.Classes.{is_key_first, is_key_rest, is_word, is_sf_token, is_key}
 use Rattle.sfv_text.specs.Keys.{have_distinct_keys}
 use Rattle.sfv_text.specs.declared.pair.Pair.{Pair}
 use Rattle.sfv_text.specs.declared.value.BareItem.{BareItem}
-use Rattle.sfv_text.specs.declared.value.BareItem.TheVariants.{Integer, Decimal, Str, Token, Bytes, Bool as Boolean}
+use Rattle.sfv_text.specs.declared.value.BareItem.TheVariants.{Integer, Decimal, Str, Token, Bytes, Bool as Boolean, Date, Display}
 use Rattle.sfv_text.specs.declared.value.Item.{Item}
 use Rattle.sfv_text.specs.declared.value.InnerList.{InnerList}
 use Rattle.sfv_text.specs.declared.value.Member.{Member}
 use Rattle.sfv_text.specs.declared.value.Member.TheVariants.{Item as ItemMember, InnerList as InnerMember}
 
--- an Integer of at most 15 digits, or the thousandths of a Decimal of at most 12 and 3 digits
--- (RFC 9651 sections 3.3.1 and 3.3.2)
+-- an Integer or a Date of at most 15 digits, or the thousandths of a Decimal of at most 12 and 3
+-- digits (RFC 9651 sections 3.3.1, 3.3.2 and 3.3.7)
 abbrev pub is_number_in_range : ℤ → Bool
 is_number_in_range z = nat_lt (unsigned_abs z) (10 ^ 15)
 
@@ -25,6 +27,8 @@ is_bare_in_range (Str text) = list_all is_string_byte text
 is_bare_in_range (Token text) = is_sf_token text
 is_bare_in_range (Bytes bytes) = list_all is_byte bytes
 is_bare_in_range (Boolean b) = true
+is_bare_in_range (Date z) = is_number_in_range z
+is_bare_in_range (Display bytes) = is_utf8 bytes
 
 -- a parameter with a key and a bare item in range (RFC 9651 section 3.1.2)
 abbrev pub is_param_in_range : Pair BareItem → Bool

@@ -1,13 +1,15 @@
 -- The text of a value (RFC 9651 section 4.1).
 use Rattle.std.specs.Prelude.{ℕ, ◌+◌, ◌/◌, ◌%◌, ℤ, pos, negsuc, Bool, true, false, ◌||◌, ◌==◌, unsigned_abs, List, [], ◌∷◌, ◌++◌, codes, if◌then◌else◌}
+use Rattle.std.specs.Char.{digit_char}
 use Rattle.std.specs.Str.{byte}
 use Rattle.std.specs.Fmt.{decimal}
 use Rattle.std.specs.List.{flat_map, join_by}
 use Rattle.base64.specs.Engines.{standard}
 use Rattle.base64.specs.GeneralPurpose.{encode_of}
+use Rattle.sfv_text.specs.Classes.{is_unencoded}
 use Rattle.sfv_text.specs.declared.pair.Pair.{Pair}
 use Rattle.sfv_text.specs.declared.value.BareItem.{BareItem}
-use Rattle.sfv_text.specs.declared.value.BareItem.TheVariants.{Integer, Decimal, Str, Token, Bytes, Bool as Boolean}
+use Rattle.sfv_text.specs.declared.value.BareItem.TheVariants.{Integer, Decimal, Str, Token, Bytes, Bool as Boolean, Date, Display}
 use Rattle.sfv_text.specs.declared.value.Item.{Item}
 use Rattle.sfv_text.specs.declared.value.InnerList.{InnerList}
 use Rattle.sfv_text.specs.declared.value.Member.{Member}
@@ -53,6 +55,24 @@ abbrev pub bool_text : Bool → List ℕ
 bool_text false = codes "?0"
 bool_text true = codes "?1"
 
+-- a Date (section 4.1.10)
+abbrev pub date_text : ℤ → List ℕ
+date_text z = byte "@" ∷ integer_text z
+
+-- a byte as `%` and two lower-case hexadecimal digits (section 4.1.11)
+abbrev pub encoded_byte : ℕ → List ℕ
+encoded_byte b = byte "%" ∷ digit_char (b / 16) ∷ digit_char (b % 16) ∷ []
+
+-- a byte of a Display String; each but printable ASCII is encoded, and so are `%` and `"` (section
+-- 4.1.11)
+abbrev pub display_byte_text : ℕ → List ℕ
+display_byte_text b = if is_unencoded b then b ∷ [] else encoded_byte b
+
+-- a Display String, by the bytes of its UTF-8 (section 4.1.11)
+abbrev pub display_text : List ℕ → List ℕ
+display_text bytes =
+    byte "%" ∷ byte "\"" ∷ (flat_map display_byte_text bytes ++ byte "\"" ∷ [])
+
 -- a bare item, by its kind (section 4.1.3.1)
 abbrev pub bare_text : BareItem → List ℕ
 bare_text (Integer z) = integer_text z
@@ -61,6 +81,8 @@ bare_text (Str text) = string_text text
 bare_text (Token text) = text
 bare_text (Bytes bytes) = bytes_text bytes
 bare_text (Boolean b) = bool_text b
+bare_text (Date z) = date_text z
+bare_text (Display bytes) = display_text bytes
 
 -- ---- parameters (section 4.1.1.2)
 

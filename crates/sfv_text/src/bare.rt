@@ -7,13 +7,13 @@ ghost use Rattle.std.specs.Fmt.{decimal};
 ghost use Rattle.std.specs.List.{flat_map, position};
 ghost use Rattle.base64.specs.Engines.{standard};
 ghost use Rattle.base64.specs.GeneralPurpose.{encode_of};
-ghost use Rattle.sfv_text.specs.Strict.{sign_text, integer_text, fraction_text, decimal_text, character_text, string_text, bytes_text, bool_text, bare_text};
+ghost use Rattle.sfv_text.specs.Strict.{sign_text, integer_text, fraction_text, decimal_text, character_text, string_text, bytes_text, bool_text, date_text, bare_text};
 ghost use Rattle.sfv_text.specs.tools.Escapes.{is_escaped};
 
-use crate::memory::Memory;
-use crate::text::Text;
+use crate::display_string::write_display_string;
 use crate::value::BareItem;
 use base64::engine::general_purpose::STANDARD;
+use byte_grammar::{Memory, Text};
 
 pub(crate) fn write_bare(bare: &BareItem, text: &mut Text) -> Result<(), Memory>
     ensures { OnOk result (text.new ≡ text.old ++ bare_text bare.now) }
@@ -25,6 +25,8 @@ pub(crate) fn write_bare(bare: &BareItem, text: &mut Text) -> Result<(), Memory>
         BareItem::Token(token) => text.append(token.bytes()),
         BareItem::Bytes(bytes) => write_bytes(bytes.bytes(), text),
         BareItem::Bool(value) => write_bool(*value, text),
+        BareItem::Date(seconds) => write_date(*seconds, text),
+        BareItem::Display(bytes) => write_display_string(bytes.bytes(), text),
     }
 }
 
@@ -187,4 +189,11 @@ fn write_bool(value: bool, text: &mut Text) -> Result<(), Memory>
     ensures { OnOk result (text.new ≡ text.old ++ bool_text value) }
 {
     text.append(if value { b"?1" } else { b"?0" })
+}
+
+fn write_date(seconds: i64, text: &mut Text) -> Result<(), Memory>
+    ensures { OnOk result (text.new ≡ text.old ++ date_text seconds) }
+{
+    text.push(b'@')?;
+    write_integer(seconds, text)
 }

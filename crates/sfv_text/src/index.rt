@@ -6,8 +6,8 @@ ghost use Rattle.std.specs.List.{list_any, position};
 ghost use Rattle.sfv_text.specs.Keys.{has_key, have_distinct_keys};
 ghost use Rattle.sfv_text.specs.tools.Index.{ArePlacesOf, Indexes};
 
-use crate::memory::Memory;
 use crate::pair::Pair;
+use byte_grammar::Memory;
 use std::alloc::Global;
 use std::collections::BTreeMap;
 use std::marker::Model;

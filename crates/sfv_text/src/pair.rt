@@ -1,6 +1,6 @@
 //! A key with its value.
 
-use crate::text::Text;
+use byte_grammar::Text;
 
 /// A key and its value: a parameter, or a member of a Dictionary.
 ///

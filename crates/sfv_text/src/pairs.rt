@@ -7,9 +7,8 @@ ghost use Rattle.sfv_text.specs.Keys.{put, has_key, have_distinct_keys, value_of
 ghost use Rattle.sfv_text.specs.tools.Index.{Indexes};
 
 use crate::index::{KeyIndex, index_new, place_of};
-use crate::memory::Memory;
 use crate::pair::Pair;
-use crate::text::Text;
+use byte_grammar::{Memory, Text};
 use std::alloc::Global;
 use std::marker::Model;
 use std::slice::Iter;

@@ -7,10 +7,9 @@ ghost use Rattle.sfv_text.specs.declared.value.BareItem.TheVariants.{Str};
 ghost use Rattle.sfv_text.specs.Strict.{bare_text, param_value_text, params_text, item_text, inner_text, member_text, list_text, dict_item_text, dict_value_text, dict_text};
 
 use crate::bare::{write_bare, write_string};
-use crate::memory::Memory;
 use crate::pair::Pair;
-use crate::text::Text;
 use crate::value::{BareItem, Dict, InnerList, Item, List, Member, Params};
+use byte_grammar::{Memory, Text};
 use std::alloc::Global;
 
 /// Stands between two items of an Inner List.

@@ -2,18 +2,17 @@
 
 ghost use Rattle.std.specs.Prelude.{◌≡◌, ◌≤◌, ◌<◌, ◌++◌, ◌↔◌, ◌⊎◌, length, option_map, option_and_then, IsTrue, IfOk, IfErr, IfSome, OnOk};
 ghost use Rattle.std.specs.List.{list_all};
-ghost use Rattle.sfv_text.specs.declared.short.TheConstants.{IN_PLACE};
+ghost use Rattle.byte_grammar.specs.declared.short.TheConstants.{IN_PLACE};
 ghost use Rattle.sfv_text.specs.Equality.{is_equal_bare, is_equal_param};
 ghost use Rattle.sfv_text.specs.Keys.{value_of};
-ghost use Rattle.sfv_text.specs.Parts.{byte_sequence_in, integer_in, string_in};
+ghost use Rattle.sfv_text.specs.Parts.{byte_sequence_in, bytes_in, integer_in, is_integer, is_string, is_true, string_in};
+ghost use Rattle.sfv_text.specs.declared.value.BareItem.TheVariants.{Str};
 ghost use Rattle.sfv_text.specs.Range.{are_params_in_range, is_string_byte};
 ghost use Rattle.sfv_text.specs.Values.{own_bytes};
 
-use crate::memory::Memory;
 use crate::pair::Pair;
 use crate::pairs::Pairs;
-use crate::sequence::Sequence;
-use crate::text::Text;
+use byte_grammar::{Memory, Sequence, Text};
 use std::alloc::Global;
 
 /// A bare item (RFC 9651 section 3.3).
@@ -36,6 +35,11 @@ pub enum BareItem {
     Bytes(Text),
     /// A Boolean (section 3.3.6).
     Bool(bool),
+    /// A Date, in seconds since 1970-01-01 00:00 UTC without leap seconds, from
+    /// -999,999,999,999,999 to 999,999,999,999,999 (section 3.3.7).
+    Date(i64),
+    /// The UTF-8 of a Display String (section 3.3.8).
+    Display(Text),
 }
 
 impl BareItem {
@@ -51,6 +55,8 @@ impl BareItem {
             BareItem::Token(text) => Ok(BareItem::Token(text.copy(alloc)?)),
             BareItem::Bytes(bytes) => Ok(BareItem::Bytes(bytes.copy(alloc)?)),
             BareItem::Bool(value) => Ok(BareItem::Bool(*value)),
+            BareItem::Date(seconds) => Ok(BareItem::Date(*seconds)),
+            BareItem::Display(bytes) => Ok(BareItem::Display(bytes.copy(alloc)?)),
         }
     }
 
@@ -66,8 +72,62 @@ impl BareItem {
             (BareItem::Token(a), BareItem::Token(b)) => a.bytes() == b.bytes(),
             (BareItem::Bytes(a), BareItem::Bytes(b)) => a.bytes() == b.bytes(),
             (BareItem::Bool(a), BareItem::Bool(b)) => a == b,
+            (BareItem::Date(a), BareItem::Date(b)) => a == b,
+            (BareItem::Display(a), BareItem::Display(b)) => a.bytes() == b.bytes(),
             _ => false,
         }
+    }
+
+    /// The number of an Integer (RFC 9651 section 3.3.1); None for each other bare item.
+    pub fn as_integer(&self) -> Option<i64>
+        ensures { result ≡ integer_in self.now }
+    {
+        match self {
+            BareItem::Integer(number) => Some(*number),
+            _ => None,
+        }
+    }
+
+    /// The characters of a String (RFC 9651 section 3.3.3); None for each other bare item.
+    pub fn as_string(&self) -> Option<&Text>
+        ensures is { option_map (λ text. text.now) result ≡ string_in self.now }
+        ensures whole { IfSome result (λ text. self.now ≡ Str text.now) }
+    {
+        match self {
+            BareItem::Str(text) => Some(text),
+            _ => None,
+        }
+    }
+
+    /// The bytes of a Byte Sequence (RFC 9651 section 3.3.5); None for each other bare item.
+    pub fn as_byte_sequence(&self) -> Option<&Text>
+        ensures { option_map (λ bytes. bytes.now) result ≡ bytes_in self.now }
+    {
+        match self {
+            BareItem::Bytes(bytes) => Some(bytes),
+            _ => None,
+        }
+    }
+
+    /// Whether it is an Integer.
+    pub fn is_integer(&self) -> bool
+        ensures { result ≡ is_integer self.now }
+    {
+        matches!(self, BareItem::Integer(_))
+    }
+
+    /// Whether it is a String.
+    pub fn is_string(&self) -> bool
+        ensures { result ≡ is_string self.now }
+    {
+        matches!(self, BareItem::Str(_))
+    }
+
+    /// Whether it is Boolean true (RFC 9651 section 3.3.6).
+    pub fn is_true(&self) -> bool
+        ensures { result ≡ is_true self.now }
+    {
+        matches!(self, BareItem::Bool(true))
     }
 }
 
@@ -191,10 +251,7 @@ impl Member {
         ensures { option_map (λ bytes. bytes.now) result ≡ byte_sequence_in self.now }
     {
         match self {
-            Member::Item(item) => match &item.bare {
-                BareItem::Bytes(bytes) => Some(bytes),
-                _ => None,
-            },
+            Member::Item(item) => item.bare.as_byte_sequence(),
             Member::InnerList(_) => None,
         }
     }

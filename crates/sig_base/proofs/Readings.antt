@@ -1,5 +1,5 @@
 -- A signature base is read in one way: line by line, and each line by its identifier.
-use Rattle.std.proofs.Common.{◌≡◌, ℕ, Bool, true, ◌&&◌, ◌==◌, not, List, [], ◌∷◌, ◌++◌, codes, length, map, refl, sym, ap, subst, ◌∙◌, append_assoc, inl, inr, arith}
+use Rattle.std.proofs.Common.{◌≡◌, ◌⊎◌, ◌<◌, ℕ, suc, Bool, true, ◌&&◌, ◌==◌, not, List, [], ◌∷◌, ◌++◌, codes, length, map, refl, sym, ap, subst, ◌∙◌, append_assoc, inl, inr, arith}
 use Rattle.std.specs.List.{flat_map, list_all, zip}
 use Rattle.std.proofs.lemmas.Bool.{and_parts, cases_Bool, eqb-true, false≢true}
 use Rattle.std.proofs.lemmas.List.{append_cancel_left}
@@ -27,15 +27,20 @@ is_other c = not (c == 10)
 no_line_end : (c : ℕ) (text : List ℕ) → list_all is_other (c ∷ text) ≡ true → 10 ≡ c → ⊥
 no_line_end c text none same = false≢true (subst (λ (d : ℕ). is_other d ≡ true) (sym same) (and_parts (is_other c) (list_all is_other text) none).0)
 
-split_line : (a b rest more : List ℕ) → list_all is_other a ≡ true → list_all is_other b ≡ true → a ++ (10 ∷ rest) ≡ b ++ (10 ∷ more) → (a ≡ b) × (rest ≡ more)
-split_line [] [] rest more na nb same = let tails : rest ≡ more = cc in (refl, tails)
-split_line [] (c ∷ b) rest more na nb same = let first : 10 ≡ c = cc in absurd (no_line_end c b nb first)
-split_line (c ∷ a) [] rest more na nb same = let first : 10 ≡ c = cc in absurd (no_line_end c a na first)
-split_line (c ∷ a) (d ∷ b) rest more na nb same =
+-- a text that begins with a line, and with other bytes and an LF: the other bytes are the line, or
+-- begin with it
+split_line : (a b rest more : List ℕ) → list_all is_other a ≡ true → a ++ (10 ∷ rest) ≡ b ++ (10 ∷ more)
+    → ((a ≡ b) × (rest ≡ more)) ⊎ ((left : List ℕ) × (rest ≡ left ++ (10 ∷ more)))
+split_line [] [] rest more na same = let tails : rest ≡ more = cc in inl (refl, tails)
+split_line [] (c ∷ b) rest more na same = let tails : rest ≡ b ++ (10 ∷ more) = cc in inr (b, tails)
+split_line (c ∷ a) [] rest more na same = let first : 10 ≡ c = cc in absurd (no_line_end c a na first)
+split_line (c ∷ a) (d ∷ b) rest more na same =
     let first : c ≡ d = cc in
     let tails : a ++ (10 ∷ rest) ≡ b ++ (10 ∷ more) = cc in
-    let others = split_line a b rest more (and_parts (is_other c) (list_all is_other a) na).1 (and_parts (is_other d) (list_all is_other b) nb).1 tails in
-    ((λ i. first i ∷ others.0 i), others.1)
+    elim (split_line a b rest more (and_parts (is_other c) (list_all is_other a) na).1 tails) [
+      | inl both ↦ inl ((λ i. first i ∷ both.0 i), both.1)
+      | inr longer ↦ inr longer
+    ]
 
 -- a text without LF is no line and a rest
 not_a_line : (last line rest : List ℕ) → list_all is_other last ≡ true → last ≡ line ++ (10 ∷ rest) → ⊥
@@ -53,17 +58,32 @@ text_of lines last = flat_map (λ line. line ++ (10 ∷ [])) lines ++ last
 more_text : (line : List ℕ) (lines : List (List ℕ)) (last : List ℕ) → text_of (line ∷ lines) last ≡ line ++ (10 ∷ text_of lines last)
 more_text line lines last = append_assoc (line ++ (10 ∷ [])) (flat_map (λ l. l ++ (10 ∷ [])) lines) last ∙ append_assoc line (10 ∷ []) (text_of lines last)
 
-one_text : (lines others : List (List ℕ)) (last final : List ℕ) → list_all is_one_line lines ≡ true → list_all is_one_line others ≡ true → list_all is_other last ≡ true → list_all is_other final ≡ true
-    → text_of lines last ≡ text_of others final → (lines ≡ others) × (last ≡ final)
-one_text [] [] last final a b c d same = (refl, same)
-one_text [] (m ∷ ms) last final a b c d same = absurd (not_a_line last m (text_of ms final) c (same ∙ more_text m ms final))
-one_text (l ∷ ls) [] last final a b c d same = absurd (not_a_line final l (text_of ls last) d (sym same ∙ more_text l ls last))
-one_text (l ∷ ls) (m ∷ ms) last final a b c d same =
+-- The lines of one text have no LF: the other has as many and the same, or fewer.
+one_text : (lines others : List (List ℕ)) (last final : List ℕ) → list_all is_one_line lines ≡ true → list_all is_other last ≡ true → list_all is_other final ≡ true
+    → text_of lines last ≡ text_of others final → ((lines ≡ others) ⊎ (length others < length lines)) × (last ≡ final)
+one_text [] [] last final a c d same = (inl refl, same)
+one_text [] (m ∷ ms) last final a c d same = absurd (not_a_line last m (text_of ms final) c (same ∙ more_text m ms final))
+one_text (l ∷ ls) [] last final a c d same = absurd (not_a_line final l (text_of ls last) d (sym same ∙ more_text l ls last))
+one_text (l ∷ ls) (m ∷ ms) last final a c d same =
     let p = and_parts (is_one_line l) (list_all is_one_line ls) a in
-    let q = and_parts (is_one_line m) (list_all is_one_line ms) b in
-    let first = split_line l m (text_of ls last) (text_of ms final) p.0 q.0 (sym (more_text l ls last) ∙ (same ∙ more_text m ms final)) in
-    let others = one_text ls ms last final p.1 q.1 c d first.1 in
-    ((λ i. first.0 i ∷ others.0 i), others.1)
+    elim (split_line l m (text_of ls last) (text_of ms final) p.0 (sym (more_text l ls last) ∙ (same ∙ more_text m ms final))) [
+      | inl first ↦
+          let others = one_text ls ms last final p.1 c d first.1 in (
+            elim others.0 [
+              | inl equal ↦ inl (λ i. first.0 i ∷ equal i)
+              | inr fewer ↦ inr (omega (arith, fewer))
+            ],
+            others.1,
+          )
+      | inr longer ↦
+          let others = one_text ls (longer.0 ∷ ms) last final p.1 c d (longer.1 ∙ sym (more_text longer.0 ms final)) in (
+            elim others.0 [
+              | inl equal ↦ inr (let n : length ls ≡ suc (length ms) = ap length equal in omega (arith, n))
+              | inr fewer ↦ inr (omega (arith, fewer))
+            ],
+            others.1,
+          )
+    ]
 
 -- ---- the lines of a base
 
@@ -155,20 +175,31 @@ same_values (id ∷ ids) (v ∷ vs) (o ∷ os) n m same =
     let values = same_values ids vs os (omega (arith, n)) (omega (arith, m)) rest in
     λ i. value i ∷ values i
 
+line_count : (ids : List ComponentId) (values others : List (List ℕ)) → length values ≡ length ids → length others ≡ length ids
+    → length (map line_of (zip ids others)) ≡ length (map line_of (zip ids values))
+line_count [] values others n m = refl
+line_count (id ∷ ids) [] others n m = absurd (omega (arith, n))
+line_count (id ∷ ids) (v ∷ vs) [] n m = absurd (omega (arith, m))
+line_count (id ∷ ids) (v ∷ vs) (o ∷ os) n m = ap suc (line_count ids vs os (omega (arith, n)) (omega (arith, m)))
+
 pub one_reading : HasOneReading
-one_reading params others values also a b = (
+one_reading params others values also a one b = (
   (λ same.
       let lines = one_text (map line_of (zip params.ids values)) (map line_of (zip others.ids also)) (last_of params) (last_of others)
-      (lines_have_none params.ids values (and_parts (list_all is_id_in_range params.ids) (are_params_in_range params.params) a.in_range).0 a.lines)
-      (lines_have_none others.ids also (and_parts (list_all is_id_in_range others.ids) (are_params_in_range others.params) b.in_range).0 b.lines)
+      (lines_have_none params.ids values (and_parts (list_all is_id_in_range params.ids) (are_params_in_range params.params) a.in_range).0 one)
       (last_has_none params a.in_range) (last_has_none others b.in_range)
       (sym (base_is params values) ∙ (same ∙ base_is others also)) in
       let signed = one_params params others a.in_range b.in_range
       (append_cancel_left (codes "\"@signature-params\": ") (sig_params_text params) (sig_params_text others) lines.1) in
-      let ids : params.ids ≡ others.ids = ap (λ (p : SigParams). p.ids) signed in (
+      let ids : params.ids ≡ others.ids = ap (λ (p : SigParams). p.ids) signed in
+      let each : length also ≡ length params.ids = b.each ∙ ap length (sym ids) in
+      let back : map line_of (zip others.ids also) ≡ map line_of (zip params.ids also) = ap (λ (ids : List ComponentId). map line_of (zip ids also)) (sym ids) in (
         signed,
-        same_values params.ids values also a.each (b.each ∙ ap length (sym ids))
-            (lines.0 ∙ ap (λ (ids : List ComponentId). map line_of (zip ids also)) (sym ids)),
+        same_values params.ids values also a.each each
+            (elim lines.0 [
+              | inl equal ↦ equal ∙ back
+              | inr fewer ↦ absurd (let n = line_count params.ids values also a.each each in let m = ap length back in omega (arith, fewer, n, m))
+            ]),
       )),
   (λ both. λ i. signature_base (both.0 i) (both.1 i)),
 )

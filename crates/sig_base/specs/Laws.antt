@@ -10,17 +10,16 @@ use Rattle.sig_base.specs.SignatureBase.{signature_base}
 abbrev pub is_one_line : List ℕ → Bool
 is_one_line text = list_all (λ c. not (c == byte "\n")) text
 
--- signature parameters that can be written, and for each component a value without LF
-pub record HaveLines (params : SigParams) (values : List (List ℕ)) : Type 0 where
+-- the signature parameters can be written, and there is a value for each component
+pub record HaveBase (params : SigParams) (values : List (List ℕ)) : Type 0 where
   pub in_range : IsTrue (are_sig_params_in_range params)
   pub each : length values ≡ length params.ids
-  pub lines : IsTrue (list_all is_one_line values)
 
--- A base has one reading: it is equal to another exactly where the signature parameters are equal,
--- all orders included, and the values are.
+-- A base of values without LF has one reading: it is equal to another exactly where the signature
+-- parameters are equal, all orders included, and the values are. The other's values may have LF.
 abbrev pub HasOneReading : Type 0
 HasOneReading =
     (params others : SigParams) (values also : List (List ℕ))
-    → HaveLines params values → HaveLines others also
+    → HaveBase params values → IsTrue (list_all is_one_line values) → HaveBase others also
     → (signature_base params values ≡ signature_base others also)
     ↔ ((params ≡ others) × (values ≡ also))

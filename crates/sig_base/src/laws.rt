@@ -2,8 +2,8 @@
 
 ghost use Rattle.sig_base.specs.Laws.{HasOneReading};
 
-/// Two signature bases are equal exactly where their signature parameters and their values are: a
-/// base tells what was signed (RFC 9421 section 7.5.5).
+/// A signature base whose values have no LF is equal to another exactly where their signature
+/// parameters and their values are: a base tells what was signed (RFC 9421 section 7.5.5).
 pub fn a_base_has_one_reading()
     ensures { HasOneReading }
 {}

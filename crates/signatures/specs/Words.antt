@@ -2,7 +2,7 @@
 use Rattle.std.specs.Prelude.{ℕ, List, [], ◌++◌, ◌∷◌, codes}
 use Rattle.std.specs.Fmt.{decimal}
 use Rattle.std.specs.Str.{byte}
-use Rattle.sfv_text.specs.Displayed.{displayed}
+use Rattle.byte_grammar.specs.Displayed.{displayed}
 use Rattle.component_ids.specs.Reasons.{word_of}
 use Rattle.content_digest.specs.Algorithms.{key_of}
 use Rattle.signatures.specs.declared.place.DigestReason.{DigestReason}

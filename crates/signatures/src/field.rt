@@ -35,6 +35,5 @@ pub fn read_field(alloc: Global, view: &MessageView<'_>, name: &[u8]) -> Result<
         Ok(dict) => Ok(DictField::Dict(dict)),
         Err(SfError::Memory) => Err(Memory),
         Err(SfError::Syntax(_)) => Ok(DictField::Malformed),
-        Err(SfError::ItemKind(_)) => Ok(DictField::Malformed),
     }
 }

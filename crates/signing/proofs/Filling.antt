@@ -10,10 +10,11 @@ use Rattle.sfv_text.specs.Keys.{has_key, have_distinct_keys, put, with_value}
 use Rattle.sfv_text.specs.declared.pair.Pair.{Pair}
 use Rattle.sfv_text.specs.declared.value.BareItem.{BareItem}
 use Rattle.sfv_text.specs.declared.value.BareItem.TheVariants.{Str}
+use Rattle.sfv_text.specs.Parts.{is_true}
 use Rattle.sfv_text.specs.Range.{is_key, is_bare_in_range, is_param_in_range, are_params_in_range, is_string_byte}
 use Rattle.sfv_text.proofs.PutLaws.{put_distinct, put_new}
 use Rattle.std.proofs.Math.Nat.{min-le_right}
-use Rattle.component_ids.specs.Table.{has_param, is_true}
+use Rattle.component_ids.specs.Table.{has_param}
 use Rattle.component_ids.specs.SignatureParams.{is_typed}
 use Rattle.nonces.specs.declared.limits.TheConstants.{MAX_MOMENT}
 use Rattle.settings.specs.declared.sign_conf.SignConf.{SignConf}

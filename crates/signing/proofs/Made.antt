@@ -1,5 +1,5 @@
 -- The signed message, or the first cause for which there is none.
-use Rattle.std.proofs.Common.{◌≡◌, ◌≢◌, ◌<◌, ◌+◌, lit<, ℕ, true, List, length, Option, Some, None, Result, Ok, Err, refl, sym, ap, ◌∙◌, inl, inr}
+use Rattle.std.proofs.Common.{◌≡◌, ◌≢◌, ◌<◌, ◌+◌, lit<, ℕ, true, List, ◌++◌, length, length-append, Option, Some, None, Result, Ok, Err, refl, sym, ap, ◌∙◌, inl, inr}
 use Rattle.std.specs.Prelude.{IfOk}
 use Rattle.std.specs.List.{list_all}
 use Rattle.sfv_text.specs.Range.{is_byte}
@@ -7,13 +7,14 @@ use Rattle.byte_grammar.specs.Causes.{AnswersWhere}
 use Rattle.byte_grammar.specs.tools.Determined.{AreDetermined}
 use Rattle.byte_grammar.proofs.AnswerLaws.{IsMemoryDecided, NamesFault, answers_where}
 use Rattle.byte_grammar.proofs.CauseLaws.{first_is_one}
+use Rattle.msg_head.specs.Lines.{line_text}
 use Rattle.msg_body.specs.Messages.{Message, message_text}
 use Rattle.component_values.specs.Context.{MessageContext}
 use Rattle.component_values.proofs.FirstLacks.{first_lack_is_one, none_lacks}
 use Rattle.signing.specs.Written.{context_with_digest, digest_lines, signature_lines, signed_message}
 use Rattle.signing.specs.declared.lines.AddedLines.{AddedLines}
 use Rattle.signing.specs.declared.parts.Parts.{Parts}
-use Rattle.signing.specs.tools.Lines.{AreLines}
+use Rattle.signing.specs.tools.Lines.{AreLines, params_line, tag_line}
 use Rattle.signing.specs.tools.Parts.{ArePartsOf}
 use Rattle.signing.specs.Signed.{IsSigned}
 use Rattle.signing.specs.SignCauses.{IsSignCause, IsSignFault, any_tag, limit_passed_by, passed_limit, sign_order}
@@ -22,16 +23,24 @@ use Rattle.signing.specs.declared.fault.SignFault.TheVariants.{Memory, InputMalf
 use Rattle.signing.specs.declared.spec.SignSpec.{SignSpec}
 use Rattle.signing.specs.tools.Judged.{ExplainsSign, ExplainsTag, IsTagOf, IsMade, NoneBelow}
 use Rattle.signing.proofs.DigestBytes.{sha256_bytes}
+use Rattle.signing.proofs.LineTexts.{two_lines}
 use Rattle.signing.proofs.Making.{limit_is}
 use Rattle.signing.proofs.Causes.{first, none_below_7, none_below_8, one_cover}
 
--- what the parts say of the limits
-pub limit_of : (message : Message) (spec : SignSpec) (parts : Parts) (digest sized : AddedLines) (o : Option ℕ) → ArePartsOf message parts → AreLines digest (digest_lines message spec.digest)
-    → AreLines sized (signature_lines spec any_tag)
-    → o ≡ limit_passed_by (length parts.before.now + (length digest.text + length sized.text) + 2) (parts.lines + (digest.count + sized.count))
-    (length parts.before.now + (length digest.text + length sized.text) + length parts.after.now)
+-- what the parts say of the limits, and the lines of a signature with any tag
+pub limit_of : (message : Message) (spec : SignSpec) (parts : Parts) (digest : AddedLines) (params tag : List ℕ) (o : Option ℕ) → ArePartsOf message parts → AreLines digest (digest_lines message spec.digest)
+    → params ≡ line_text (params_line spec) → tag ≡ line_text (tag_line spec.label any_tag)
+    → o ≡ limit_passed_by (length parts.before.now + (length digest.text + (length params + length tag)) + 2) (parts.lines + (digest.count + 2))
+    (length parts.before.now + (length digest.text + (length params + length tag)) + length parts.after.now)
     → passed_limit (signed_message message spec any_tag) ≡ o
-limit_of message spec parts digest sized o are one two is = sym (is ∙ limit_is message parts are (digest_lines message spec.digest) (signature_lines spec any_tag) digest sized one two)
+limit_of message spec parts digest params tag o are lines params_are tag_is is =
+    let both : AddedLines = record { text = params ++ tag; count = 2 } in
+    let two : AreLines both (signature_lines spec any_tag) = record {
+      text = two_lines (params_line spec) (tag_line spec.label any_tag) params (params ++ tag) params_are (ap (λ t. params ++ t) tag_is);
+      count = refl;
+    } in
+    let limit = limit_is message parts are (digest_lines message spec.digest) (signature_lines spec any_tag) digest both lines two in
+    sym (is ∙ (rw (length-append params tag) at limit))
 
 module _ (context : MessageContext) (spec : SignSpec) where
   pub too_long : NoneBelow context spec 6 → (limit : ℕ) → passed_limit (signed_message context.message spec any_tag) ≡ Some limit

@@ -39,3 +39,26 @@ module _ (xs ys : List FieldLine) (name key : List ℕ) (there : is_there ys nam
 
   pub key_field : (params : List (Pair BareItem)) (field : Option FieldKind) (value : List ℕ) → form_of params ≡ form.member key → FieldRow params field xs name (Ok value) → FieldRow params field ys name (Ok value)
   key_field params field value form row = rw there (key_line (is_there xs name) params field value form refl row)
+
+-- a member whose value is asked for is there
+module _ (xs : List FieldLine) (name key : List ℕ) where
+  abbrev IsFound : Type 0
+  IsFound = (dict : List (Pair Member)) × (member : Member) × (is_there xs name ≡ true) × ReadsDict (combined_value xs name) dict × (value_of dict key ≡ Some member)
+
+  found_member : (value : List ℕ) → is_there xs name ≡ true → MemberRow key (combined_value xs name) (Ok value) → IsFound
+  found_member value here row =
+      let found = some_and_parts (λ (member : Member). value ≡ member_text member) (value_of row.0 key) row.2 in
+      (row.0, found.0, here, row.1, found.1)
+
+  found_key : (field : Option FieldKind) (value : List ℕ) → is_there xs name ≡ true → KeyRow field key (combined_value xs name) (Ok value) → IsFound
+  found_key (Some kind.Item) value here row = absurd cc
+  found_key (Some kind.List) value here row = absurd cc
+  found_key (Some kind.Dictionary) value here row = found_member value here row
+  found_key None value here row = found_member value here row
+
+  found_line : (is : Bool) (params : List (Pair BareItem)) (field : Option FieldKind) (value : List ℕ) → form_of params ≡ form.member key → is_there xs name ≡ is → LineRow is params field xs name (Ok value) → IsFound
+  found_line false params field value form here row = absurd cc
+  found_line true params field value form here row = found_key field value here (subst (λ (f : Form). FormRow f field xs name (Ok value)) form row)
+
+  pub found_field : (params : List (Pair BareItem)) (field : Option FieldKind) (value : List ℕ) → form_of params ≡ form.member key → FieldRow params field xs name (Ok value) → IsFound
+  found_field params field value form row = found_line (is_there xs name) params field value form refl row

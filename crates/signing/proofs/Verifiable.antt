@@ -35,19 +35,20 @@ use Rattle.component_values.specs.Forms as form
 use Rattle.component_values.specs.Values.{FieldRow, Has, HaveValues, NameRow, side_of}
 use Rattle.component_values.proofs.LineLaws.{depends_on_its_lines}
 use Rattle.msg_body.specs.Views.{lines_on}
+use Rattle.content_digest.specs.declared.algorithm.Algorithm.{Algorithm}
 use Rattle.hmac_sha256.specs.Hmac.{hmac}
 use Rattle.sig_base.specs.SignatureBase.{signature_base}
 use Rattle.signatures.specs.Signatures.{AreLabels, HasSignature, input_name, signature_name}
-use Rattle.signing.specs.SignCauses.{HasLabel, IsFirstSelfCover, any_tag, covers_itself, is_label_or_none, passed_limit}
+use Rattle.signing.specs.SignCauses.{HasLabel, IsFirstSelfCover, any_tag, covers_itself, covers_signatures, is_label_or_none, passed_limit}
 use Rattle.signing.specs.Signed.{IsVerifiable, SpellsSigned}
 use Rattle.signing.specs.Specs.{IsValidSpec}
-use Rattle.signing.specs.Written.{context_with_digest, digest_lines, signature_lines, signed_message, with_digest}
+use Rattle.signing.specs.Written.{context_with_digest, digest_lines, digest_name, signature_lines, signed_message, with_digest, with_lines}
 use Rattle.signing.specs.declared.fault.SignFault.TheVariants.{InputMalformed, SignatureMalformed, LabelThere, SelfCover, TooLong}
 use Rattle.signing.specs.declared.fault.SignFault.{SignFault}
 use Rattle.signing.specs.declared.spec.SignSpec.{SignSpec}
 use Rattle.signing.specs.tools.Judged.{ExplainsSign, IsMade, NoneBelow}
 use Rattle.signing.proofs.AddedLines.{FrameNothing, digest_are_lines, digest_frame_nothing}
-use Rattle.signing.proofs.MemberValues.{key_field}
+use Rattle.signing.proofs.MemberValues.{found_field, key_field}
 use Rattle.signing.proofs.DigestBytes.{sha256_bytes}
 use Rattle.signing.proofs.Lengthened.{is_lengthened}
 use Rattle.signing.proofs.Making.{within}
@@ -112,6 +113,10 @@ key_named : (label : List ℕ) (o : Option (List ℕ)) → is_label_or_none labe
 key_named label None is = absurd (false≢true (sym is))
 key_named label (Some key) is = (key, refl)
 
+false_of : (a : Bool) → not a ≡ true → a ≡ false
+false_of true is = absurd (false≢true is)
+false_of false is = refl
+
 -- both fields of signatures have field names
 listed_is_field : (name : List ℕ) → is_listed (signature_name ∷ input_name ∷ []) name ≡ true → is_field_name name ≡ true
 listed_is_field name listed = elim (or_cases (bytes_eq name signature_name) (bytes_eq name input_name || false) listed) [
@@ -136,6 +141,25 @@ first_cover label (id ∷ ids) some = elim (cases_Bool (covers_itself label id))
 or_parts : (a b : Bool) → (a || b) ≡ false → (a ≡ false) × (b ≡ false)
 or_parts true b h = absurd cc
 or_parts false b h = (refl, h)
+
+-- what doesn't cover the new signature isn't a whole field of them
+and_false : (a : Bool) → (a && false) ≡ false
+and_false true = refl
+and_false false = refl
+
+one_apart : (label : List ℕ) (id : ComponentId) → covers_itself label id ≡ false → covers_signatures id ≡ false
+one_apart label id is = by_key (member_key id.params) refl
+  where
+    by_key : (key : Option (List ℕ)) → member_key id.params ≡ key → covers_signatures id ≡ false
+    by_key None none = rw none (rw none at is)
+    by_key (Some key) named =
+        rw (named, and_false (not (has_param id.params (codes "tr"))), and_false (not (has_param id.params (codes "req")))) (and_false (is_listed (signature_name ∷ input_name ∷ []) id.name))
+
+pub all_apart : (label : List ℕ) (ids : List ComponentId) → list_any (covers_itself label) ids ≡ false → list_any covers_signatures ids ≡ false
+all_apart label [] none = refl
+all_apart label (id ∷ ids) none =
+    let parts = or_parts (covers_itself label id) (list_any (covers_itself label) ids) none in
+    rw (one_apart label id parts.0, all_apart label ids parts.1) refl
 
 -- ---- the signed message
 
@@ -315,11 +339,82 @@ module _ (context : MessageContext) (spec : SignSpec) (valid : IsValidSpec spec)
       let others = or_parts (covers_itself spec.label id) (list_any (covers_itself spec.label) ids) uncovered in
       (value_kept id text are.0 others.0 have.0, values_kept ids texts are.1 others.1 have.1)
 
+  -- a member of the new label has no value
+  new_member : (id : ComponentId) (value name : List ℕ) (other : is_there (digest_lines context.message spec.digest) name ≡ false) (member : Pair Member)
+      (takes : TakesMember (context.message.head.lines ++ digest_lines context.message spec.digest) ((context.message.head.lines ++ digest_lines context.message spec.digest) ++ signature_lines spec tag) name member)
+      → ¬ HasLabel context.message name spec.label → form_of id.params ≡ form.member spec.label
+      → FieldRow id.params (kind_in context.types id.name) (with_digest context.message spec.digest).head.lines name (Ok value) → ⊥
+  new_member id value name other member takes free form row =
+      let found = found_field (with_digest context.message spec.digest).head.lines name spec.label id.params (kind_in context.types id.name) value form row in
+      free (digest_label name other member takes spec.label
+      (found.1, record { dict = found.0; has = record { there = found.2; reads = found.3 }; member_is = found.4 }))
+
+  new_field : (id : ComponentId) (value : List ℕ) → is_listed (signature_name ∷ input_name ∷ []) id.name ≡ true → form_of id.params ≡ form.member spec.label
+      → FieldRow id.params (kind_in context.types id.name) (with_digest context.message spec.digest).head.lines id.name (Ok value) → ⊥
+  new_field id value listed form row = elim (or_cases (bytes_eq id.name signature_name) (bytes_eq id.name input_name || false) listed) [
+    | inl one ↦
+        new_member id value signature_name signature_name_other (signature_member spec tag) signature_takes signature_free form
+        (subst (λ (n : List ℕ). FieldRow id.params (kind_in context.types id.name) (with_digest context.message spec.digest).head.lines n (Ok value)) ((bytes_eq-Decides id.name signature_name).0 one) row)
+    | inr two ↦ elim (or_cases (bytes_eq id.name input_name) false two) [
+      | inl is ↦
+          new_member id value input_name input_other (input_member spec) input_takes input_free form
+          (subst (λ (n : List ℕ). FieldRow id.params (kind_in context.types id.name) (with_digest context.message spec.digest).head.lines n (Ok value)) ((bytes_eq-Decides id.name input_name).0 is) row)
+      | inr no_more ↦ absurd (false≢true no_more)
+    ]
+  ]
+
+  new_name : (field : Bool) (id : ComponentId) (value : List ℕ) → is_field_name id.name ≡ field → is_listed (signature_name ∷ input_name ∷ []) id.name ≡ true → has_param id.params (codes "tr") ≡ false
+      → form_of id.params ≡ form.member spec.label → NameRow field (context_with_digest context spec.digest) id (with_digest context.message spec.digest) (Ok value) → ⊥
+  new_name false id value is listed header form row = false≢true (sym is ∙ listed_is_field id.name listed)
+  new_name true id value is listed header form row = new_field id value listed form (rw header at row)
+
+  -- so what has a value and isn't a whole field doesn't cover the new signature
+  covers_none : (id : ComponentId) (value : List ℕ) → is_identifier (item_of id) ≡ true → covers_signatures id ≡ false → Has (context_with_digest context spec.digest) id value → covers_itself spec.label id ≡ false
+  covers_none id value is part has = elim (cases_Bool (covers_itself spec.label id)) [
+    | inr uncovered ↦ uncovered
+    | inl covers ↦ absurd (by_key (member_key id.params) refl covers)
+  ]
+    where
+      by_key : (key : Option (List ℕ)) → member_key id.params ≡ key → covers_itself spec.label id ≡ true → ⊥
+      by_key None none covers =
+          let whole : covers_signatures id ≡ true = rw none (rw none at covers) in
+          false≢true (sym part ∙ whole)
+      by_key (Some key) named covers =
+          let listed = and_parts (is_listed (signature_name ∷ input_name ∷ []) id.name) (not (has_param id.params (codes "req")) && (not (has_param id.params (codes "tr")) && is_label_or_none spec.label (member_key id.params))) covers in
+          let own = and_parts (not (has_param id.params (codes "req"))) (not (has_param id.params (codes "tr")) && is_label_or_none spec.label (member_key id.params)) listed.1 in
+          let header = and_parts (not (has_param id.params (codes "tr"))) (is_label_or_none spec.label (member_key id.params)) own.1 in
+          let label : key ≡ spec.label = (bytes_eq-Decides key spec.label).0 (rw named at header.1) in
+          new_name (is_field_name id.name) id value refl listed.0 (false_of (has_param id.params (codes "tr")) header.0) (form_is id spec.label is (named ∙ ap (λ (k : List ℕ). Some k) label))
+          (rw (false_of (has_param id.params (codes "req")) own.0) at has)
+
+  pub others_kept : (ids : List ComponentId) (texts : List (List ℕ)) → list_all (λ id. is_identifier (item_of id)) ids ≡ true → list_any covers_signatures ids ≡ false
+      → HaveValues (context_with_digest context spec.digest) ids texts → HaveValues (context_with context (signed_message context.message spec tag)) ids texts
+  others_kept [] [] each part have = tt
+  others_kept [] (text ∷ texts) each part have = absurd have
+  others_kept (id ∷ ids) [] each part have = absurd have
+  others_kept (id ∷ ids) (text ∷ texts) each part have =
+      let are = and_parts (is_identifier (item_of id)) (list_all (λ id. is_identifier (item_of id)) ids) each in
+      let parts = or_parts (covers_signatures id) (list_any covers_signatures ids) part in
+      (value_kept id text are.0 (covers_none id text are.0 parts.0 have.0) have.0, others_kept ids texts are.1 parts.1 have.1)
+
   pub none_covers : list_any (covers_itself spec.label) spec.params.ids ≡ false
   none_covers = elim (cases_Bool (list_any (covers_itself spec.label) spec.params.ids)) [
     | inl some ↦ let first = first_cover spec.label spec.params.ids some in absurd (none (SelfCover first.0) (lit< tt) first.1)
     | inr no_one ↦ no_one
   ]
+
+-- the line of the digest is there
+pub digest_there : (message : Message) (digest : Option Algorithm) (more : List FieldLine) → digest_lines (with_lines message (digest_lines message digest ++ more)) digest ≡ []
+digest_there message None more = refl
+digest_there message (Some algorithm) more = elim (cases_Bool (is_there message.head.lines digest_name)) [
+  | inl there ↦
+      let joined : is_there (message.head.lines ++ more) digest_name ≡ true = list_any-append (has_name digest_name) message.head.lines more ∙ rw there refl in
+      rw (there, joined) refl
+  | inr none ↦
+      let line = digest_lines message (Some algorithm) in
+      let joined : is_there (message.head.lines ++ (line ++ more)) digest_name ≡ true = list_any-append (has_name digest_name) message.head.lines (line ++ more) ∙ rw none refl in
+      rw joined refl
+]
 
 -- ---- the signed message is one
 
@@ -361,6 +456,9 @@ verifiable context spec bytes text valid spells made =
       mac = refl;
       kept = old_signatures context spec valid made.none tag are;
       labels = all_labels context spec valid made.none tag are;
+      apart = all_apart spec.label spec.params.ids (none_covers context spec valid made.none tag are);
+      others = others_kept context spec valid made.none tag are;
+      digested = digest_there context.message spec.digest (signature_lines spec tag);
     }
 
 pub verifiable_is : (context : MessageContext) (spec : SignSpec) (bytes : List ℕ) (result : Result (List ℕ) SignFault) → IsValidSpec spec → Spells (answers_head context.related) context.message bytes

@@ -1,5 +1,5 @@
 -- Why a message isn't signed, in the order in which it is judged.
-use Rattle.std.specs.Prelude.{◌≡◌, ◌⊎◌, ℕ, Bool, true, false, ◌&&◌, not, nat_lt, IsTrue, Option, Some, None, List, [], ◌∷◌, length, take, replicate, slice_get, IsSomeAnd, codes, if◌then◌else◌}
+use Rattle.std.specs.Prelude.{◌≡◌, ◌⊎◌, ℕ, Bool, true, false, ◌&&◌, not, is_some, nat_lt, IsTrue, Option, Some, None, List, [], ◌∷◌, length, take, replicate, slice_get, IsSomeAnd, codes, if◌then◌else◌}
 use Rattle.std.specs.List.{list_any}
 use Rattle.std.specs.Str.{bytes_eq}
 use Rattle.byte_grammar.specs.Causes.{IsFirst}
@@ -46,6 +46,13 @@ covers_itself label id =
     is_listed (signature_name ∷ input_name ∷ []) id.name
     && (not (has_param id.params (codes "req")) && (not (has_param id.params (codes "tr"))
     && is_label_or_none label (member_key id.params)))
+
+-- the component is the whole of one of the header's two fields of signatures
+abbrev pub covers_signatures : ComponentId → Bool
+covers_signatures id =
+    is_listed (signature_name ∷ input_name ∷ []) id.name
+    && (not (has_param id.params (codes "req")) && (not (has_param id.params (codes "tr"))
+    && not (is_some (member_key id.params))))
 
 -- the first component that covers the new signature has the index
 pub record IsFirstSelfCover (label : List ℕ) (ids : List ComponentId) (index : ℕ) : Type 0 where

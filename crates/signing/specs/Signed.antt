@@ -1,13 +1,17 @@
 -- The signed message (RFC 9421 sections 3.1 and 4), and that it can be verified (section 3.2).
-use Rattle.std.specs.Prelude.{◌≡◌, ℕ, List, [], ◌∷◌, ◌++◌}
+use Rattle.std.specs.Prelude.{◌≡◌, ℕ, Bool, IsTrue, IsFalse, List, [], ◌∷◌, ◌++◌}
+use Rattle.std.specs.List.{list_all, list_any}
 use Rattle.msg_body.specs.Messages.{Message, Spells, message_text}
+use Rattle.component_ids.specs.Identifiers.{is_identifier, item_of}
+use Rattle.component_ids.specs.declared.id.ComponentId.{ComponentId}
 use Rattle.component_ids.specs.declared.params.SigParams.{SigParams}
 use Rattle.component_values.specs.Context.{MessageContext, answers_head, context_with}
 use Rattle.component_values.specs.Values.{HaveValues}
 use Rattle.sig_base.specs.SignatureBase.{signature_base}
 use Rattle.hmac_sha256.specs.Hmac.{hmac}
 use Rattle.signatures.specs.Signatures.{HasSignature, AreLabels}
-use Rattle.signing.specs.Written.{context_with_digest, signed_message}
+use Rattle.signing.specs.SignCauses.{covers_signatures}
+use Rattle.signing.specs.Written.{context_with_digest, digest_lines, signed_message}
 use Rattle.signing.specs.declared.spec.SignSpec.{SignSpec}
 
 -- The text is the message, after its header lines the line of its digest and those of the
@@ -34,9 +38,15 @@ SpellsSigned context spec text =
     (written : Message) × IsSignedMessage context spec written
     × Spells (answers_head context.related) written text
 
+-- each of them is an identifier of a component
+abbrev pub are_identifiers : List ComponentId → Bool
+are_identifiers ids = list_all (λ id. is_identifier (item_of id)) ids
+
 -- The text is that of a message that has the signature: it has the parameters that are asked for,
 -- each component has its value in that message, and the tag is the HMAC of the signature base. The
--- signatures that were there are kept, and the new label comes after theirs.
+-- signatures that were there are kept, and the new label comes after theirs. No component of it is
+-- the whole of a field of signatures, and other such components keep their values. The digest's
+-- line is there, where one is asked for.
 pub record IsVerifiable (context : MessageContext) (spec : SignSpec) (text : List ℕ) : Type 0 where
   pub written : Message
   pub spells : Spells (answers_head context.related) written text
@@ -49,3 +59,9 @@ pub record IsVerifiable (context : MessageContext) (spec : SignSpec) (text : Lis
       → HasSignature context.message label params other → HasSignature written label params other
   pub labels : (labels : List (List ℕ)) → AreLabels context.message labels
       → AreLabels written (labels ++ spec.label ∷ [])
+  pub apart : IsFalse (list_any covers_signatures spec.params.ids)
+  pub others : (ids : List ComponentId) (texts : List (List ℕ)) → IsTrue (are_identifiers ids)
+      → IsFalse (list_any covers_signatures ids)
+      → HaveValues (context_with_digest context spec.digest) ids texts
+      → HaveValues (context_with context written) ids texts
+  pub digested : digest_lines written spec.digest ≡ []

@@ -10,8 +10,8 @@ use Rattle.sfv_text.specs.declared.value.InnerList.{InnerList}
 use Rattle.sfv_text.specs.declared.value.Member.{Member}
 use Rattle.sfv_text.specs.declared.value.Member.TheVariants.{InnerList as InnerMember}
 use Rattle.sfv_text.specs.Keys.{value_of}
-use Rattle.sfv_text.specs.Parts.{string_in}
-use Rattle.component_ids.specs.Table.{is_listed, is_string, is_true, has_param}
+use Rattle.sfv_text.specs.Parts.{is_string, is_true, string_in}
+use Rattle.component_ids.specs.Table.{is_listed, has_param}
 use Rattle.component_ids.specs.SignatureParams.{string_keys, IsParamsOf}
 use Rattle.msg_body.specs.Messages.{Message}
 use Rattle.settings.specs.Configuration.{Configuration}

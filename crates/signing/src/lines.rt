@@ -1,14 +1,13 @@
 //! The lines that signing adds.
 
-ghost use Rattle.std.specs.Prelude.{◌≡◌, ◌++◌, codes, IfOk, IsTrue, OnOk};
+ghost use Rattle.std.specs.Prelude.{◌≡◌, ◌++◌, IfOk, IsTrue, OnOk};
 ghost use Rattle.std.specs.List.{list_all};
-ghost use Rattle.component_ids.specs.SignatureParams.{are_sig_params_in_range, sig_params_text};
+ghost use Rattle.component_ids.specs.SignatureParams.{are_sig_params_in_range};
 ghost use Rattle.msg_head.specs.Lines.{line_text};
 ghost use Rattle.msg_body.specs.Views.{message_of};
 ghost use Rattle.sfv_text.specs.Classes.{is_byte};
-ghost use Rattle.sfv_text.specs.Strict.{bytes_text};
-ghost use Rattle.signing.specs.Written.{line_of, member_line, digest_lines, signature_lines};
-ghost use Rattle.signing.specs.tools.Lines.{AreLines};
+ghost use Rattle.signing.specs.Written.{line_of, member_line, digest_lines};
+ghost use Rattle.signing.specs.tools.Lines.{AreLines, params_line, tag_line};
 
 use crate::spec::SignSpec;
 use component_ids::print_params;
@@ -71,38 +70,32 @@ pub(crate) fn digest_lines(
     Ok(AddedLines { text, count: 1 })
 }
 
-/// Adds the line of the label's signature parameters at the end.
-fn append_params_line(alloc: Global, text: &mut Text, spec: &SignSpec) -> Result<(), Memory>
+/// The line of the label's signature parameters.
+pub(crate) fn params_line(alloc: Global, spec: &SignSpec) -> Result<Text, Memory>
     requires { IsTrue (are_sig_params_in_range spec.now.params) }
-    ensures { OnOk result (text.new ≡ text.old ++ line_text (member_line (codes "Signature-Input")
-        spec.now.label (sig_params_text spec.now.params))) }
+    ensures { IfOk result (λ text. text ≡ line_text (params_line spec.now)) }
 {
     let params = print_params(alloc, &spec.params)?;
-    append_member(text, b"Signature-Input", spec.label.bytes(), params.bytes())
+    let mut text = Text::new(alloc);
+    append_member(
+        &mut text,
+        b"Signature-Input",
+        spec.label.bytes(),
+        params.bytes(),
+    )?;
+    Ok(text)
 }
 
 /// Adds the line of the label's tag at the end.
-fn append_tag_line(alloc: Global, text: &mut Text, label: &[u8], tag: &[u8]) -> Result<(), Memory>
+pub(crate) fn append_tag_line(
+    alloc: Global,
+    text: &mut Text,
+    label: &[u8],
+    tag: &[u8],
+) -> Result<(), Memory>
     requires { IsTrue (list_all is_byte tag.now) }
-    ensures { OnOk result (text.new ≡ text.old
-        ++ line_text (member_line (codes "Signature") label.now (bytes_text tag.now))) }
+    ensures { OnOk result (text.new ≡ text.old ++ line_text (tag_line label.now tag.now)) }
 {
     let value = print_bare(alloc, &BareItem::Bytes(Text::from_bytes(alloc, tag)?))?;
     append_member(text, b"Signature", label, value.bytes())
-}
-
-/// The lines of the label's signature parameters and of its tag.
-pub(crate) fn signature_lines(
-    alloc: Global,
-    spec: &SignSpec,
-    tag: &[u8],
-) -> Result<AddedLines, Memory>
-    requires params { IsTrue (are_sig_params_in_range spec.now.params) }
-    requires tag { IsTrue (list_all is_byte tag.now) }
-    ensures { IfOk result (λ added. AreLines added (signature_lines spec.now tag.now)) }
-{
-    let mut text = Text::new(alloc);
-    append_params_line(alloc, &mut text, spec)?;
-    append_tag_line(alloc, &mut text, spec.label.bytes(), tag)?;
-    Ok(AddedLines { text, count: 2 })
 }

@@ -2,21 +2,22 @@
 
 ghost use Rattle.std.specs.Prelude.{◌≡◌, ◌≢◌, ◌+◌, ◌++◌, length, IfOk, IsTrue};
 ghost use Rattle.byte_grammar.specs.Causes.{AnswersWhere};
-ghost use Rattle.msg_body.specs.Messages.{IsMessage, Message, Spells};
+ghost use Rattle.msg_head.specs.Lines.{line_text};
+ghost use Rattle.msg_body.specs.Messages.{Message, Spells};
 ghost use Rattle.msg_body.specs.Views.{message_of};
 ghost use Rattle.component_ids.specs.SignatureParams.{are_sig_params_in_range};
-ghost use Rattle.component_values.specs.Context.{context_of, context_with, answers_head};
+ghost use Rattle.component_values.specs.Context.{HasWholeMessage, context_of, context_with, answers_head};
 ghost use Rattle.signing.specs.declared.fault.SignFault.{SignFault};
 ghost use Rattle.signing.specs.SignCauses.{IsSignFault, any_tag, limit_passed_by, passed_limit};
 ghost use Rattle.signing.specs.Signed.{IsSigned, IsVerifiable, SpellsSigned};
 ghost use Rattle.signing.specs.Specs.{IsValidSpec};
 ghost use Rattle.signing.specs.Written.{context_with_digest, digest_lines, signed_message, with_digest};
 ghost use Rattle.signing.specs.tools.Judged.{ExplainsSign, ExplainsTag, IsMade, NoneBelow};
-ghost use Rattle.signing.specs.tools.Lines.{AreLines};
+ghost use Rattle.signing.specs.tools.Lines.{AreLines, params_line};
 ghost use Rattle.signing.specs.tools.Parts.{ArePartsOf};
 
 use crate::fault::SignFault;
-use crate::lines::{AddedLines, digest_lines, signature_lines};
+use crate::lines::{AddedLines, append_tag_line, digest_lines, params_line};
 use crate::mac::{TAG_BYTES, tag_of};
 use crate::parts::{Parts, parts_of};
 use crate::refuse::judge_label;
@@ -43,17 +44,19 @@ fn limit_passed_by(head: u128, lines: u128, message: u128) -> Option<usize>
     None
 }
 
-/// The first limit that a message of these parts passes with both lists of lines.
-fn passed_limit(parts: Parts<'_>, digest: &AddedLines, signature: &AddedLines) -> Option<usize>
-    ensures { result ≡ limit_passed_by
-        (length parts.entry.before.now + (length digest.now.text + length signature.now.text) + 2)
-        (parts.entry.lines + (digest.now.count + signature.now.count))
-        (length parts.entry.before.now + (length digest.now.text + length signature.now.text)
+/// The first limit that a message of these parts passes with the line of its digest and these of a
+/// signature.
+fn passed_limit(parts: Parts<'_>, digest: &AddedLines, params: &[u8], tag: &[u8]) -> Option<usize>
+    ensures { result ≡ limit_passed_by (length parts.entry.before.now
+        + (length digest.now.text + (length params.now + length tag.now)) + 2)
+        (parts.entry.lines + (digest.now.count + 2))
+        (length parts.entry.before.now
+        + (length digest.now.text + (length params.now + length tag.now))
         + length parts.entry.after.now) }
 {
-    let added = digest.text.bytes().len() as u128 + signature.text.bytes().len() as u128;
-    let head = parts.before.len() as u128 + added;
-    let lines = parts.lines as u128 + (digest.count as u128 + signature.count as u128);
+    let signature = params.len() as u128 + tag.len() as u128;
+    let head = parts.before.len() as u128 + (digest.text.bytes().len() as u128 + signature);
+    let lines = parts.lines as u128 + (digest.count as u128 + 2);
     limit_passed_by(head + 2, lines, head + parts.after.len() as u128)
 }
 
@@ -135,20 +138,22 @@ fn tag_with_digest(
     tag_of_bytes(alloc, text.bytes(), context, spec)
 }
 
-/// The first limit that the signed message passes.
+/// The first limit that the signed message passes, whatever the tag: all have one length.
 fn limit_passed(
     alloc: Global,
     spec: &SignSpec,
     parts: Parts<'_>,
     digest: &AddedLines,
+    params: &[u8],
 ) -> Result<Option<usize>, Memory>
-    requires { IsTrue (are_sig_params_in_range spec.now.params) }
+    requires { params.now ≡ line_text (params_line spec.now) }
     ensures { IfOk result (λ limit. (message : Message) → ArePartsOf message parts.entry
         → AreLines digest.now (digest_lines message spec.now.digest)
         → passed_limit (signed_message message spec.now any_tag) ≡ limit) }
 {
-    let sized = signature_lines(alloc, spec, &[0; TAG_BYTES])?;
-    Ok(passed_limit(parts, digest, &sized))
+    let mut tag = Text::new(alloc);
+    append_tag_line(alloc, &mut tag, spec.label.bytes(), &[0; TAG_BYTES])?;
+    Ok(passed_limit(parts, digest, params, tag.bytes()))
 }
 
 /// The signed message of these parts and the line of its digest, where it passes no limit and no
@@ -161,73 +166,55 @@ fn make_of_parts(
     digest: &AddedLines,
 ) -> Result<Text, SignFault>
     requires valid { IsValidSpec spec.now }
-    requires message { IsMessage (answers_head (context_of context.now).related)
-        (context_of context.now).message }
+    requires whole { HasWholeMessage (context_of context.now) }
     requires parts { ArePartsOf (context_of context.now).message parts }
     requires lines { AreLines digest.now
         (digest_lines (context_of context.now).message spec.now.digest) }
     ensures { NoneBelow (context_of context.now) spec.now 6 → ExplainsSign (context_of context.now)
         spec.now (IsMade (context_of context.now) spec.now) result }
 {
-    if let Some(limit) = limit_passed(alloc, spec, parts, digest)? {
+    let mut signature = params_line(alloc, spec)?;
+    if let Some(limit) = limit_passed(alloc, spec, parts, digest, signature.bytes())? {
         return Err(SignFault::TooLong(limit));
     }
     let tag = match tag_with_digest(alloc, context, spec, parts, digest) {
         Ok(tag) => tag,
         Err(fault) => return Err(fault),
     };
-    let signature = signature_lines(alloc, spec, &tag)?;
-    Ok(text_of(alloc, parts, digest.text.bytes(), signature.text.bytes())?)
+    append_tag_line(alloc, &mut signature, spec.label.bytes(), &tag)?;
+    Ok(text_of(alloc, parts, digest.text.bytes(), signature.bytes())?)
 }
 
 /// The signed message, where it passes no limit and no component lacks a value.
-fn make(
-    alloc: Global,
-    bytes: &[u8],
-    context: &Context<'_, '_>,
-    spec: &SignSpec,
-) -> Result<Text, SignFault>
+fn make(alloc: Global, context: &Context<'_, '_>, spec: &SignSpec) -> Result<Text, SignFault>
     requires valid { IsValidSpec spec.now }
-    requires spells { Spells (answers_head (context_of context.now).related)
-        (context_of context.now).message bytes.now }
+    requires whole { HasWholeMessage (context_of context.now) }
     ensures { NoneBelow (context_of context.now) spec.now 6 → ExplainsSign (context_of context.now)
         spec.now (IsMade (context_of context.now) spec.now) result }
 {
     let digest = digest_lines(alloc, context.message, spec.digest)?;
-    let parts = parts_of(context.message, bytes);
+    let parts = parts_of(context.message);
     make_of_parts(alloc, context, spec, parts, &digest)
 }
 
-fn judge(
-    alloc: Global,
-    bytes: &[u8],
-    context: &Context<'_, '_>,
-    spec: &SignSpec,
-) -> Result<Text, SignFault>
+fn judge(alloc: Global, context: &Context<'_, '_>, spec: &SignSpec) -> Result<Text, SignFault>
     requires valid { IsValidSpec spec.now }
-    requires spells { Spells (answers_head (context_of context.now).related)
-        (context_of context.now).message bytes.now }
+    requires whole { HasWholeMessage (context_of context.now) }
     ensures { ExplainsSign (context_of context.now) spec.now
         (IsMade (context_of context.now) spec.now) result }
 {
     judge_label(alloc, context, spec)?;
-    make(alloc, bytes, context, spec)
+    make(alloc, context, spec)
 }
 
-/// Signs the message of the context, whose bytes these are (RFC 9421 section 3.1).
+/// Signs the message of the context (RFC 9421 section 3.1).
 ///
 /// The answer is the message with these lines after its header lines: `Content-Digest`, where a
 /// digest is asked for and the header has no such line (RFC 9530 section 2), then
 /// `Signature-Input` and `Signature` with a member of the label each.
-pub fn sign(
-    alloc: Global,
-    bytes: &[u8],
-    context: &Context<'_, '_>,
-    spec: &SignSpec,
-) -> Result<Text, SignFault>
+pub fn sign(alloc: Global, context: &Context<'_, '_>, spec: &SignSpec) -> Result<Text, SignFault>
     requires valid { IsValidSpec spec.now }
-    requires spells { Spells (answers_head (context_of context.now).related)
-        (context_of context.now).message bytes.now }
+    requires whole { HasWholeMessage (context_of context.now) }
     ensures ok { IfOk result (IsSigned (context_of context.now) spec.now) }
     ensures spells { IfOk result (SpellsSigned (context_of context.now) spec.now) }
     ensures verifiable { IfOk result (IsVerifiable (context_of context.now) spec.now) }
@@ -236,5 +223,5 @@ pub fn sign(
     ensures fault { (fault : SignFault) → fault ≢ SignFault.Memory → AnswersWhere SignFault.Memory
         result fault (IsSignFault (context_of context.now) spec.now fault) }
 {
-    judge(alloc, bytes, context, spec)
+    judge(alloc, context, spec)
 }

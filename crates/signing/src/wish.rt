@@ -2,7 +2,6 @@
 
 ghost use Rattle.std.specs.Prelude.{◌≡◌, ◌≤◌, ◌++◌, codes, Some, unwrap_or, map, IfErr, IfOk, IsTrue, OnOk};
 ghost use Rattle.std.specs.List.{list_all};
-ghost use Rattle.component_ids.specs.Table.{is_true};
 ghost use Rattle.sfv_text.specs.declared.value.BareItem.TheVariants.{Str};
 ghost use Rattle.sfv_text.specs.Range.{is_dict_member_in_range};
 ghost use Rattle.nonces.specs.declared.limits.TheConstants.{MAX_MOMENT};
@@ -87,25 +86,19 @@ fn read_components(alloc: Global, list: &InnerList) -> Result<Ids, WishFault>
 
 // ---- parameters
 
-fn is_true(value: &BareItem) -> bool
-    ensures { result ≡ is_true value.now }
-{
-    matches!(value, BareItem::Bool(true))
-}
-
 /// Whether the wish for a parameter can be met.
 fn can_be_met(after: Option<u64>, param: &Pair<BareItem>) -> bool
     ensures { result ≡ can_be_met after param.now }
 {
     let key = param.key.bytes();
     if key == b"created".as_slice() {
-        return is_true(&param.value);
+        return param.value.is_true();
     }
     if key == b"expires".as_slice() {
-        return is_true(&param.value) && after.is_some();
+        return param.value.is_true() && after.is_some();
     }
     if is_string_key(key) {
-        return matches!(param.value, BareItem::Str(_));
+        return param.value.is_string();
     }
     true
 }

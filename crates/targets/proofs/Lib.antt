@@ -10,3 +10,4 @@ pub mod Schemes
 pub mod AuthorityValues
 mod ParamLaws
 mod SameTexts
+mod ComparedLaws

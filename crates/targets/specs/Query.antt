@@ -46,6 +46,11 @@ values_under name all =
 abbrev pub matches : List ℕ → List ℕ → List (List ℕ)
 matches query name = values_under name (pairs query)
 
+-- two queries
+pub record TwoQueries : Type 0 where
+  pub query : List ℕ
+  pub other : List ℕ
+
 -- what is found where these are the values
 abbrev pub IsFound : List (List ℕ) → ParamFound → Type 0
 IsFound values None = values ≡ []

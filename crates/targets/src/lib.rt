@@ -28,5 +28,5 @@ pub use authority::{Authority, authority_of};
 pub use feed::{feed_lowered, feed_marked};
 pub use laws::{target_laws, targets_are_decided, values_are_authorities, values_are_visible};
 pub use query::{ParamFound, encoded_texts_are_printable, query_param};
-pub use query_params::{QueryParams, have_same_values_in, query_param_in};
+pub use query_params::{ComparedQueries, QueryParams, query_param_in};
 pub use target::{Form, Target, cut_target, path_of, query_of};

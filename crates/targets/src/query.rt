@@ -1,13 +1,13 @@
 //! The parameters of a query, by name (RFC 9421 section 2.2.8).
 
-ghost use Rattle.std.specs.Prelude.{◌≡◌, ◌↔◌, ℕ, List, [], ◌∷◌, ◌++◌, IsTrue, IfOk};
+ghost use Rattle.std.specs.Prelude.{◌≡◌, ℕ, List, [], ◌∷◌, ◌++◌, IfOk};
 ghost use Rattle.std.specs.Str.{bytes_eq};
 ghost use Rattle.targets.specs.Query.{decoded, encoded, matches, IsFound};
 ghost use Rattle.targets.specs.Query.{HasPrintableEncodings, HasPrintableMatches};
 
 use form_urlencoded::{decode, raw_pairs};
 use percent_encoding::{AsciiSet, NON_ALPHANUMERIC, ascii_set, percent_encode};
-use sfv_text::{Memory, Sequence, Text};
+use sfv_text::{Memory, Text};
 use std::alloc::Global;
 
 /// The bytes of ASCII that are written as percent triplets: all but letters, digits, `*`, `-`, `.`
@@ -78,49 +78,6 @@ pub fn query_param(alloc: Global, query: &[u8], name: &[u8]) -> Result<ParamFoun
         }
     }
     Ok(found)
-}
-
-/// The values that the query has under the name, percent-encoded.
-fn param_values(alloc: Global, query: &[u8], name: &[u8]) -> Result<Sequence<Text>, Memory>
-    ensures { IfOk result (λ values. values ≡ matches query.now name.now) }
-{
-    let mut values = Sequence::new(alloc);
-    for (raw_name, raw_value) in raw_pairs(query) {
-        if has_param_name(alloc, raw_name, name)? {
-            values.push(encode_again(alloc, raw_value)?)?;
-        }
-    }
-    Ok(values)
-}
-
-/// Whether the lists have the same texts.
-fn are_equal(texts: &Sequence<Text>, others: &Sequence<Text>) -> bool
-    ensures { IsTrue result ↔ (texts.now ≡ others.now) }
-{
-    if texts.len() != others.len() {
-        return false;
-    }
-    for index in 0..texts.len() {
-        if texts.get(index).bytes() != others.get(index).bytes() {
-            return false;
-        }
-    }
-    true
-}
-
-/// Whether both queries have the same values under the name, in the same order.
-pub(crate) fn have_same_values(
-    alloc: Global,
-    query: &[u8],
-    other: &[u8],
-    name: &[u8],
-) -> Result<bool, Memory>
-    ensures { IfOk result (λ same. IsTrue same
-        ↔ (matches query.now name.now ≡ matches other.now name.now)) }
-{
-    let values = param_values(alloc, query, name)?;
-    let others = param_values(alloc, other, name)?;
-    Ok(are_equal(&values, &others))
 }
 
 /// The law of percent-encoded texts: they are printable ASCII, so that no value of a query breaks

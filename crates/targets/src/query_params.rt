@@ -1,12 +1,12 @@
 //! The parameters of a query, read once for all names.
 
-ghost use Rattle.std.specs.Prelude.{◌≡◌, ◌↔◌, ℕ, List, ◌∷◌, ◌++◌, [], IsTrue, IfOk, OnOk};
+ghost use Rattle.std.specs.Prelude.{◌≡◌, ◌↔◌, ◌∷◌, ◌++◌, [], IsTrue, IfOk, OnOk, List};
 ghost use Rattle.targets.specs.Query.{QueryPair, IsFound, decoded_pair, matches};
-ghost use Rattle.targets.specs.tools.Params.{AreFoundIn};
+ghost use Rattle.targets.specs.tools.Params.{AreListedIn, SaysWhichAreSame};
 
-use crate::query::{ParamFound, encode_again, have_same_values};
+use crate::query::{ParamFound, encode_again};
 use form_urlencoded::raw_pairs;
-use sfv_text::{Memory, Pairs, Text};
+use sfv_text::{Memory, Pairs, Sequence, Text};
 use std::alloc::Global;
 use std::marker::Model;
 
@@ -15,38 +15,48 @@ use std::marker::Model;
 #[derive(Drop)]
 pub struct QueryParams {
     query: Text,
-    /// The value under each of its names, percent-encoded; none where more than one pair has it.
-    values: Pairs<Option<Text>>,
+    /// Which of the lists has the values under each name.
+    places: Pairs<usize>,
+    /// The values under each name, percent-encoded, in order.
+    lists: Vec<Sequence<Text>>,
 }
 
 impl Model for QueryParams {
     ghost use Rattle.std.specs.Prelude.{ℕ, List};
     ghost use Rattle.targets.specs.Query.{pairs};
-    ghost use Rattle.targets.specs.tools.Params.{AreFoundIn};
+    ghost use Rattle.targets.specs.tools.Params.{AreListedIn, SaysWhichAreSame};
 
     ghost Value = { List ℕ };
 
     ghost view = { λ p. p.query };
 
-    ghost invariant = { λ p. AreFoundIn p.values (pairs p.query) };
+    ghost invariant = { λ p. AreListedIn p.places p.lists.items (pairs p.query) };
 }
 
 /// Adds a pair, as the query has it.
 fn add_pair(
     alloc: Global,
-    values: &mut Pairs<Option<Text>>,
+    places: &mut Pairs<usize>,
+    lists: &mut Vec<Sequence<Text>>,
     raw_name: &[u8],
     raw_value: &[u8],
 ) -> Result<(), Memory>
-    ensures { OnOk result ((done : List QueryPair) → AreFoundIn values.old done
-        → AreFoundIn values.new (done ++ decoded_pair (raw_name.now, raw_value.now) ∷ [])) }
+    requires { (done : List QueryPair) × AreListedIn places.old lists.old.items done }
+    ensures { OnOk result ((done : List QueryPair)
+        → AreListedIn places.old lists.old.items done
+        → AreListedIn places.new lists.new.items
+        (done ++ decoded_pair (raw_name.now, raw_value.now) ∷ [])) }
 {
     let name = encode_again(alloc, raw_name)?;
-    let sole = match values.find(name.bytes()) {
-        None => Some(encode_again(alloc, raw_value)?),
-        Some(_) => None,
-    };
-    values.put(name, sole)
+    let value = encode_again(alloc, raw_value)?;
+    if let Some(place) = places.find(name.bytes()) {
+        return lists[*place].push(value);
+    }
+    let place = lists.len();
+    let mut values = Sequence::new(alloc);
+    values.push(value)?;
+    lists.push(values)?;
+    places.put(name, place)
 }
 
 impl QueryParams {
@@ -54,13 +64,15 @@ impl QueryParams {
     pub fn of(alloc: Global, query: &[u8]) -> Result<QueryParams, Memory>
         ensures { IfOk result (λ params. params ≡ query.now) }
     {
-        let mut values = Pairs::new(alloc);
+        let mut places = Pairs::new(alloc);
+        let mut lists = Vec::new(alloc);
         for (raw_name, raw_value) in raw_pairs(query) {
-            add_pair(alloc, &mut values, raw_name, raw_value)?;
+            add_pair(alloc, &mut places, &mut lists, raw_name, raw_value)?;
         }
         Ok(QueryParams {
             query: Text::from_bytes(alloc, query)?,
-            values,
+            places,
+            lists,
         })
     }
 
@@ -71,14 +83,24 @@ impl QueryParams {
         self.query.bytes() == query
     }
 
+    /// The values under the name, percent-encoded, in order.
+    fn values(&self, name: &[u8]) -> &[Text]
+        ensures { result.now ≡ matches self.now name.now }
+    {
+        match self.places.find(name) {
+            Some(place) => self.lists[*place].as_slice(),
+            None => &[],
+        }
+    }
+
     /// What `query_param` finds under the name.
     fn find(&self, alloc: Global, name: &[u8]) -> Result<ParamFound, Memory>
         ensures { IfOk result (IsFound (matches self.now name.now)) }
     {
-        match self.values.find(name) {
-            None => Ok(ParamFound::None),
-            Some(None) => Ok(ParamFound::Many),
-            Some(Some(text)) => Ok(ParamFound::One(text.copy(alloc)?)),
+        match self.values(name) {
+            [] => Ok(ParamFound::None),
+            [value] => Ok(ParamFound::One(value.copy(alloc)?)),
+            _ => Ok(ParamFound::Many),
         }
     }
 }
@@ -104,23 +126,83 @@ pub fn query_param_in(
     found
 }
 
-/// Whether both queries have the same values under the name, in the same order. A query is read
-/// again only where both have more than one.
-pub fn have_same_values_in(
+/// Whether the lists have the same texts.
+fn are_equal(texts: &[Text], others: &[Text]) -> bool
+    ensures { IsTrue result ↔ (texts.now ≡ others.now) }
+{
+    if texts.len() != others.len() {
+        return false;
+    }
+    for index in 0..texts.len() {
+        if texts[index].bytes() != others[index].bytes() {
+            return false;
+        }
+    }
+    true
+}
+
+/// Two queries, and for each name whether they have the same values under it, in the same order
+/// (RFC 9421 section 2.2.8). A contract sees the queries.
+#[derive(Drop)]
+pub struct ComparedQueries {
+    params: QueryParams,
+    others: QueryParams,
+    /// Of each name of the first query, whether the values under it are the same.
+    are_same: Pairs<bool>,
+}
+
+impl Model for ComparedQueries {
+    ghost use Rattle.targets.specs.Query.{TwoQueries};
+    ghost use Rattle.targets.specs.tools.Params.{SaysWhichAreSame};
+
+    ghost Value = { TwoQueries };
+
+    ghost view = { λ c. record { query = c.params; other = c.others } };
+
+    ghost invariant = { λ c. SaysWhichAreSame c.are_same c.params c.others };
+}
+
+/// Of each name of the first query, whether the values under it are the same.
+fn which_are_same(
     alloc: Global,
     params: &QueryParams,
     others: &QueryParams,
-    name: &[u8],
-) -> Result<bool, Memory>
-    ensures { IfOk result (λ same. IsTrue same
-        ↔ (matches params.now name.now ≡ matches others.now name.now)) }
+) -> Result<Pairs<bool>, Memory>
+    ensures { IfOk result (λ same. SaysWhichAreSame same params.now others.now) }
 {
-    match (params.values.find(name), others.values.find(name)) {
-        (None, None) => Ok(true),
-        (Some(Some(value)), Some(Some(other))) => Ok(value.bytes() == other.bytes()),
-        (Some(None), Some(None)) => {
-            have_same_values(alloc, params.query.bytes(), others.query.bytes(), name)
+    let mut are_same = Pairs::new(alloc);
+    for place in params.places.iter() {
+        let name = place.key.bytes();
+        let same = are_equal(params.values(name), others.values(name));
+        are_same.put(place.key.copy(alloc)?, same)?;
+    }
+    Ok(are_same)
+}
+
+impl ComparedQueries {
+    /// The queries, each read once.
+    pub fn of(alloc: Global, query: &[u8], other: &[u8]) -> Result<ComparedQueries, Memory>
+        ensures { IfOk result (λ compared.
+            compared ≡ record { query = query.now; other = other.now }) }
+    {
+        let params = QueryParams::of(alloc, query)?;
+        let others = QueryParams::of(alloc, other)?;
+        let are_same = which_are_same(alloc, &params, &others)?;
+        Ok(ComparedQueries {
+            params,
+            others,
+            are_same,
+        })
+    }
+
+    /// Whether both queries have the same values under the name, in the same order.
+    pub fn have_same_values(&self, name: &[u8]) -> bool
+        ensures { IsTrue result
+            ↔ (matches self.now.query name.now ≡ matches self.now.other name.now) }
+    {
+        match self.are_same.find(name) {
+            Some(same) => *same,
+            None => self.others.values(name).is_empty(),
         }
-        _ => Ok(false),
     }
 }

@@ -8,6 +8,7 @@ use hms_io::{
 use sfv_text::Memory;
 use std::alloc::Global;
 use std::io::{ErrorKind, Read, Write};
+use std::rt::Files;
 use std::{fs, io};
 
 const TEXT: &[u8] = b"GET /a HTTP/1.1";
@@ -415,4 +416,33 @@ fn a_file_of_a_folder_is_taken_whole_or_not_at_all(rt: HostRuntime) {
     let _ = fs::remove_file(&rt, "shelf/a");
     let _ = fs::remove_file(&rt, "shelf/b ");
     let _ = fs::remove_dir(&rt, "shelf");
+}
+
+// A file that many reads give is taken whole where the limit is its length, and is too long for one
+// that is less.
+fn is_long_file_taken<R: Files>(alloc: Global, rt: &R) -> bool {
+    let Ok(long) = vec![in alloc; b'x'; 65_537] else {
+        return false;
+    };
+    let _ = fs::write(rt, "long", long.as_slice());
+    let rows = [
+        Taking {
+            name: "long",
+            limit: 65_537,
+            wanted: Ok(long.as_slice()),
+        },
+        Taking {
+            name: "long",
+            limit: 65_536,
+            wanted: Err(FileError::TooLong),
+        },
+    ];
+    let is_taken = are_taken(alloc, &mut DirShelf::new(rt), &rows);
+    let _ = fs::remove_file(rt, "long");
+    is_taken
+}
+
+#[test]
+fn a_file_of_many_reads_is_taken_whole_or_not_at_all(rt: HostRuntime) {
+    assert!(rt; is_long_file_taken(rt.alloc(), &rt));
 }

@@ -22,6 +22,8 @@ mod components;
 #[cfg(test)]
 mod configurations;
 #[cfg(test)]
+mod counted_files;
+#[cfg(test)]
 mod device_runs;
 #[cfg(test)]
 mod devices;
@@ -31,8 +33,6 @@ mod digests;
 mod heads;
 #[cfg(test)]
 mod identifiers;
-#[cfg(test)]
-mod interrupted_files;
 #[cfg(test)]
 mod macs;
 #[cfg(test)]

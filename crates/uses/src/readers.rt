@@ -1,6 +1,6 @@
 // Tests of sfv_read, and of the readers of bytes below it.
 
-use SfError::{ItemKind, Syntax};
+use SfError::Syntax;
 use byte_grammar::{
     Byte, ByteClass, Class, Left, is_tchar, read_all, read_byte, read_run, read_word, starts_with,
 };
@@ -66,12 +66,22 @@ struct Reads {
 }
 
 // Texts with blanks at their ends, which a field's value never has, and a repeated key. With the
-// faults of `(a b` and `a, %` below, the example of sfv_read.
-const READS: [Reads; 7] = [
+// faults of `(a b` and `%"%ff"` below, the example of sfv_read.
+const READS: [Reads; 9] = [
     Reads {
         kind: Kind::Item,
         text: b" 1 ",
         strict: b"1",
+    },
+    Reads {
+        kind: Kind::Item,
+        text: b" @-0 ",
+        strict: b"@0",
+    },
+    Reads {
+        kind: Kind::List,
+        text: br#"%"a%21f%c3%bc",(@1)"#,
+        strict: br#"%"a!f%c3%bc", (@1)"#,
     },
     Reads {
         kind: Kind::Inner,
@@ -128,7 +138,7 @@ struct Refuses {
 }
 
 // RFC 9651 section 3. No line of the program has an offset in a List or a Dictionary.
-const REFUSES: [Refuses; 19] = [
+const REFUSES: [Refuses; 17] = [
     Refuses {
         kind: Kind::Item,
         fault: Syntax(0),
@@ -142,12 +152,17 @@ const REFUSES: [Refuses; 19] = [
     Refuses {
         kind: Kind::Item,
         fault: Syntax(2),
-        texts: &[b"  ", b"1 \t", b"1 2"],
+        texts: &[b"  ", b"1 \t", b"1 2", b"@1.5", b" @", b"%\"\x80\""],
     },
     Refuses {
         kind: Kind::Item,
         fault: Syntax(3),
-        texts: &[b":AB:"],
+        texts: &[b":AB:", br#"%"%80""#],
+    },
+    Refuses {
+        kind: Kind::Item,
+        fault: Syntax(4),
+        texts: &[br#"%"%ff""#, br#"%"%cA""#],
     },
     Refuses {
         kind: Kind::Item,
@@ -158,16 +173,6 @@ const REFUSES: [Refuses; 19] = [
         kind: Kind::Item,
         fault: Syntax(9),
         texts: &[b"abcdefgh @1", b"abcdefgh %"],
-    },
-    Refuses {
-        kind: Kind::Item,
-        fault: ItemKind(0),
-        texts: &[b"@1", br#"%"a""#],
-    },
-    Refuses {
-        kind: Kind::Item,
-        fault: ItemKind(5),
-        texts: &[b" a;b=@1"],
     },
     Refuses {
         kind: Kind::Inner,
@@ -191,7 +196,7 @@ const REFUSES: [Refuses; 19] = [
     },
     Refuses {
         kind: Kind::List,
-        fault: ItemKind(3),
+        fault: Syntax(4),
         texts: &[b"a, %", b"a,\t@"],
     },
     Refuses {
@@ -207,21 +212,16 @@ const REFUSES: [Refuses; 19] = [
     Refuses {
         kind: Kind::Dict,
         fault: Syntax(4),
-        texts: &[b"a=1,", b"a=1,,b", b"a=1 b=2", b"a=1;A"],
+        texts: &[b"a=1,", b"a=1,,b", b"a=1 b=2", b"a=1;A", b"a=(@"],
     },
     Refuses {
         kind: Kind::Dict,
-        fault: ItemKind(3),
-        texts: &[b"a=(@"],
-    },
-    Refuses {
-        kind: Kind::Dict,
-        fault: ItemKind(4),
+        fault: Syntax(5),
         texts: &[b"a;b=%"],
     },
     Refuses {
         kind: Kind::Dict,
-        fault: ItemKind(7),
+        fault: Syntax(8),
         texts: &[b"a=1, b=@"],
     },
 ];

@@ -312,7 +312,7 @@ const REFUSED_COMMANDS: [Refused; 15] = [
         params: "(@1)",
         input: &[DATED],
         status: Status::BadInput,
-        cause: "command params-kind 1",
+        cause: "command component-bad 0 not-a-string",
     },
     Refused {
         params: "(",

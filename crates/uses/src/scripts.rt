@@ -251,7 +251,7 @@ const ROWS: [Row; 74] = [
     },
     Row {
         text: b"add-label b AAAA (@1)\n",
-        read: Err(0),
+        read: Ok(1),
     },
     Row {
         text: b"rechunk \n",

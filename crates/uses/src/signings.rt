@@ -218,7 +218,7 @@ fn comes_to(alloc: Global, conf: &Conf, spec: &SignSpec, row: &Signed) -> bool
         return false;
     };
     let context = Context::of_message(&view, conf.scheme(), conf.types());
-    match (sign(alloc, row.message, &context, spec), row.written) {
+    match (sign(alloc, &context, spec), row.written) {
         (Ok(text), Ok(written)) => text.bytes() == written,
         (Err(fault), Err(wanted)) => fault == wanted,
         _ => false,

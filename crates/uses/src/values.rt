@@ -27,13 +27,6 @@ fn an_item_is_copied_and_printed(rt: HostRuntime) {
     assert!(rt; is_copied(rt.alloc(), b"abc;a=1;c"));
 }
 
-fn is_integer(item: &Item, number: i64) -> bool {
-    match &item.bare {
-        BareItem::Integer(found) => *found == number,
-        _ => false,
-    }
-}
-
 // Whether a text that is added to and copied has the bytes.
 fn is_text(alloc: Global) -> Result<bool, Memory> {
     let mut text = Text::from_bytes(alloc, b"a")?;
@@ -77,7 +70,7 @@ fn seven(alloc: Global) -> Item {
 fn is_pushed(alloc: Global) -> Result<bool, Memory> {
     let mut items = Items::with_capacity(alloc, 1)?;
     items.push(seven(alloc))?;
-    Ok(items.len() == 1 && items.iter().all(|item| is_integer(item, 7)))
+    Ok(items.len() == 1 && items.iter().all(|item| item.bare.as_integer() == Some(7)))
 }
 
 // Whether a member that is pushed into a List and one that is put into a Dictionary are there.
@@ -141,7 +134,7 @@ fn is_spelling(alloc: Global, spelling: &Spelling) -> bool {
     let Ok(item) = read_item(alloc, spelling.text) else {
         return false;
     };
-    let BareItem::Bytes(bytes) = &item.bare else {
+    let Some(bytes) = item.bare.as_byte_sequence() else {
         return false;
     };
     if bytes.bytes() != spelling.bytes {

@@ -7,3 +7,5 @@ pub mod Judging
 mod Places
 pub mod RightlySigned
 pub mod AlikeMessages
+pub mod OneTags
+pub mod KnownTagLaws

@@ -1,5 +1,5 @@
 -- Laws of verdicts.
-use Rattle.std.specs.Prelude.{◌≡◌, ◌↔◌, ℕ, Bool, ◌&&◌, ◌||◌, nat_le, IsTrue, IsFalse, Some, List}
+use Rattle.std.specs.Prelude.{◌≡◌, ◌↔◌, ◌⊎◌, ℕ, Bool, ◌&&◌, ◌||◌, nat_le, IsTrue, IsFalse, Some, List}
 use Rattle.std.specs.List.{All}
 use Rattle.sfv_read.specs.Laws.{ReadAlike}
 use Rattle.framing.specs.Framings.{is_request}
@@ -8,6 +8,7 @@ use Rattle.msg_body.specs.Views.{message_content}
 use Rattle.component_ids.specs.declared.params.SigParams.{SigParams}
 use Rattle.component_values.specs.Alike.{ComesToSame}
 use Rattle.component_values.specs.Context.{context_with}
+use Rattle.component_values.specs.Laws.{HasMessages}
 use Rattle.component_values.specs.Values.{HaveValues}
 use Rattle.sig_base.specs.SignatureBase.{signature_base}
 use Rattle.hmac_sha256.specs.Hmac.{hmac}
@@ -118,3 +119,50 @@ DependsOnSignature =
     (v : Verification) (params : SigParams) (tag : List ℕ) (other : Message) (verdict : Verdict)
     → AreAlikeWhereSigned v params tag other
     → IsVerdict v verdict ↔ IsVerdict (verification_with v other) verdict
+
+-- ---- one tag
+
+-- the signature base of an accepted label
+abbrev pub base_of : {v : Verification} {keyid : List ℕ} → Accepts v keyid → List ℕ
+base_of accepted = signature_base accepted.params accepted.values
+
+-- Of two messages a label each is accepted, with one tag and one key. The labels, the related
+-- requests, the schemes, the types, the configurations, the moments and the nonces that were seen
+-- are any.
+pub record HaveOneTag {v w : Verification} {keyid another : List ℕ} (one : Accepts v keyid)
+    (other : Accepts w another) : Type 0 where
+  pub message : HasMessages v.context
+  pub other_message : HasMessages w.context
+  pub tag : one.tag ≡ other.tag
+  pub key : one.key ≡ other.key
+
+-- both have the same signature parameters, and so cover the same components, and all values that
+-- are covered are equal
+abbrev pub Agree : {v w : Verification} {keyid another : List ℕ} → Accepts v keyid
+    → Accepts w another → Type 0
+Agree one other = (one.params ≡ other.params) × (one.values ≡ other.values)
+
+-- the tag is the HMAC of two different texts under the key
+pub record IsTagOfTwo (key tag base other : List ℕ) : Type 0 where
+  pub differ : ¬ (base ≡ other)
+  pub mac : tag ≡ hmac key base
+  pub same : tag ≡ hmac key other
+
+-- Two accepted labels with one tag under one key agree, or the tag is the HMAC of their two bases,
+-- which differ (RFC 9421 section 7.5.5).
+abbrev pub OneTagAgrees : Type 0
+OneTagAgrees =
+    (v w : Verification) (keyid another : List ℕ) (one : Accepts v keyid)
+    (other : Accepts w another) → HaveOneTag one other
+    → Agree one other ⊎ IsTagOfTwo one.key one.tag (base_of one) (base_of other)
+
+-- no other text than this has the tag under the key
+abbrev pub IsAlone : List ℕ → List ℕ → List ℕ → Type 0
+IsAlone key tag base = (text : List ℕ) → tag ≡ hmac key text → text ≡ base
+
+-- So they agree where no other text than the base of one has the tag under the key.
+abbrev pub OneTagAgreesWhereAlone : Type 0
+OneTagAgreesWhereAlone =
+    (v w : Verification) (keyid another : List ℕ) (one : Accepts v keyid)
+    (other : Accepts w another) → HaveOneTag one other
+    → IsAlone one.key one.tag (base_of one) → Agree one other

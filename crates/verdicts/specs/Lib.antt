@@ -4,6 +4,7 @@ pub mod Policies
 pub mod ContentDigest
 pub mod Rules
 pub mod Verdicts
+pub mod KnownTags
 pub mod VerdictLine
 pub mod Laws
 pub mod tools

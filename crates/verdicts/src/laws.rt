@@ -1,6 +1,6 @@
 //! Laws of verdicts. Each function does nothing; its contract is the law.
 
-ghost use Rattle.verdicts.specs.Laws.{HasVerdict, HasOneVerdict, IsAcceptedWhereNoRuleFails, HoldsRulesOfSigning, IsAcceptedByOtherRules, DependsOnItsSignature, DependsOnSignature};
+ghost use Rattle.verdicts.specs.Laws.{HasVerdict, HasOneVerdict, IsAcceptedWhereNoRuleFails, HoldsRulesOfSigning, IsAcceptedByOtherRules, DependsOnItsSignature, DependsOnSignature, OneTagAgrees, OneTagAgreesWhereAlone};
 
 /// A label has one verdict, and it is accepted exactly where no rule fails.
 pub fn a_label_has_one_verdict()
@@ -23,4 +23,12 @@ pub fn a_signed_label_is_accepted_by_the_other_rules()
 pub fn a_verdict_depends_on_its_signature()
     ensures label { DependsOnItsSignature }
     ensures signed { DependsOnSignature }
+{}
+
+/// Two messages that are accepted for labels with one tag under one key have the same signature
+/// parameters and the same value of each covered component; or their bases are two texts with one
+/// HMAC under that key. Where no other text than the base has that tag under the key, they agree.
+pub fn two_messages_with_one_tag_agree()
+    ensures agree { OneTagAgrees }
+    ensures alone { OneTagAgreesWhereAlone }
 {}

@@ -15,6 +15,7 @@ mod context;
 mod coverage;
 mod digest;
 mod judge;
+mod known_tag;
 mod laws;
 mod line;
 mod mac;
@@ -27,10 +28,11 @@ mod times;
 mod verification;
 
 pub use context::context_for;
-pub use judge::{verdict, verdict_in};
+pub use judge::{verdict, verdict_in, verdict_on};
+pub use known_tag::{Signed, known_with};
 pub use laws::{
     a_label_has_one_verdict, a_signed_label_is_accepted_by_the_other_rules,
-    a_verdict_depends_on_its_signature,
+    a_verdict_depends_on_its_signature, two_messages_with_one_tag_agree,
 };
 pub use line::append_verdict_line;
 pub use mac::tag_matches;

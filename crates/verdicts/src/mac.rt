@@ -9,8 +9,10 @@ ghost use Rattle.hmac_sha256.specs.Hmac.{hmac, key_block};
 ghost use Rattle.hmac_sha256.specs.State.{HasAbsorbed};
 ghost use Rattle.component_values.specs.Faults.{HasIndexBelow};
 ghost use Rattle.signatures.specs.tools.Answered.{Explains};
+ghost use Rattle.verdicts.specs.KnownTags.{IsKnownOf};
 ghost use Rattle.verdicts.specs.tools.Judged.{ExplainsMac, FailsByTag, IsTagOf, SaysFault, rule_of_lack};
 
+use crate::known_tag::Signed;
 use component_ids::ComponentId;
 use component_values::{Context, Lack, Prepared, Readings, ValueFault, prepare_in};
 use hmac_sha256::{Hmac, HmacKey, same_tag};
@@ -79,7 +81,7 @@ fn judge_tag(prepared: &Prepared<'_, '_>, key: &HmacKey, tag: &[u8]) -> Result<(
 }
 
 /// Whether each component has its value, and the tag is right: rules 27 to 32.
-pub(crate) fn judge_mac(
+fn judge_base(
     alloc: Global,
     context: &Context<'_, '_>,
     read: &LabelRead,
@@ -95,5 +97,28 @@ pub(crate) fn judge_mac(
     match prepare_in(alloc, context, &read.params, readings) {
         Ok(prepared) => judge_tag(&prepared, key, read.tag.bytes()),
         Err(fault) => Err(fault_of_lack(alloc, read.params.ids.as_slice(), fault)),
+    }
+}
+
+/// The same of a signature of whose tag it may be known.
+pub(crate) fn judge_mac(
+    alloc: Global,
+    context: &Context<'_, '_>,
+    signed: &Signed<'_>,
+    key: &HmacKey,
+    readings: &mut Readings,
+) -> Result<(), LabelFault>
+    requires in_range { IsTrue (are_sig_params_in_range signed.now.read.now.params) }
+    requires known { IsKnownOf (context_of context.now) signed.now.read.now.params
+        signed.now.read.now.tag key.now signed.now.is_right }
+    requires readings { AreReadOf (context_of context.now) readings.old }
+    ensures explains { ExplainsMac (context_of context.now) signed.now.read.now.params
+        signed.now.read.now.tag key.now result }
+    ensures readings { AreReadOf (context_of context.now) readings.new }
+{
+    match signed.is_right {
+        Some(true) => Ok(()),
+        Some(false) => Err(LabelFault::Rule(Rule::MacMismatch, Place::None)),
+        None => judge_base(alloc, context, signed.read, key, readings),
     }
 }

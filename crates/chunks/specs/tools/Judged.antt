@@ -1,9 +1,8 @@
 -- What the search for chunks gives. No public clause cites this module.
-use Rattle.std.specs.Prelude.{◌≡◌, ◌≢◌, ℕ, ◌+◌, ⊤, IsTrue, List, ◌++◌, length, take, Result, Ok, Err}
-use Rattle.std.specs.List.{All, list_all, flat_map}
+use Rattle.std.specs.Prelude.{◌≡◌, ◌≢◌, ℕ, ◌+◌, ◌≤◌, List, ◌++◌, length, take, Result, Ok, Err}
+use Rattle.std.specs.List.{All, flat_map}
 use Rattle.byte_grammar.specs.tools.Walks.{turns_read, with_prefix}
 use Rattle.chunks.specs.declared.limits.TheConstants.{MAX_CONTENT_BYTES}
-use Rattle.chunks.specs.declared.view.ChunkSpan.{ChunkSpan}
 use Rattle.chunks.specs.declared.read.Found.{Found}
 use Rattle.chunks.specs.declared.read.Stop.{Stop}
 use Rattle.chunks.specs.declared.read.Stop.TheVariants as stop
@@ -11,36 +10,33 @@ use Rattle.chunks.specs.declared.read.ChunksRead.{ChunksRead}
 use Rattle.chunks.specs.declared.read.ChunksRead.TheVariants.{Whole, Partial}
 use Rattle.chunks.specs.declared.error.ChunkError.{ChunkError}
 use Rattle.chunks.specs.declared.error.ChunkError.TheVariants.{Memory}
-use Rattle.chunks.specs.Chunks.{Chunk, IsChunk, chunk_text, data_of, content_of}
+use Rattle.chunks.specs.Chunks.{Chunk, IsChunk, chunk_text, data_of}
 use Rattle.chunks.specs.Causes.{HasContentOver, IsContentTooLong, IsChunksError, AreChunksUnfinished}
-use Rattle.chunks.specs.Views.{ChunksParts, IsChunksViewOf, chunks_of, chunks_lie_in}
+use Rattle.chunks.specs.Views.{ChunksParts, IsChunksViewOf}
 use Rattle.chunks.specs.tools.ChunkWalk.{turn_read}
-use Rattle.chunks.specs.tools.Turns.{spans_of}
+use Rattle.chunks.specs.tools.Read.{AreRead, parts_in}
 
 -- what the found offsets say of the bytes
 abbrev pub parts_of : List ℕ → Found → ChunksParts
-parts_of bytes found =
-    record { bytes = take found.used bytes; spans = found.spans.items; last = found.last }
+parts_of bytes found = parts_in (take found.used bytes) found.last
 
 pub record IsFound (bytes : List ℕ) (found : Found) : Type 0 where
   pub view : IsChunksViewOf bytes (parts_of bytes found) found.used
-  pub lie : IsTrue (list_all (chunks_lie_in found.used) found.spans.items)
-  pub counted : found.content ≡ length (content_of (chunks_of (parts_of bytes found)))
+  pub read : AreRead (take found.used bytes) found.last found.count found.content
 
 -- why none are found
 abbrev pub IsStop : List ℕ → Stop → Type 0
-IsStop bytes stop.Memory = ⊤
 IsStop bytes stop.TooLong = IsContentTooLong bytes
 IsStop bytes (stop.Left n) = (turns_read turn_read bytes ≡ Err n) × ¬ IsContentTooLong bytes
 
--- The chunks of these spans are read, and the bytes that are left come after them. So much room is
--- left for content.
-pub record Finding (bytes : List ℕ) (spans : List ChunkSpan) (left : List ℕ) (room : ℕ)
-    : Type 0 where
+-- So many chunks are read, and the bytes that are left come after them. So much room is left for
+-- content.
+pub record Finding (bytes : List ℕ) (count : ℕ) (left : List ℕ) (room : ℕ) : Type 0 where
   pub done : List Chunk
   pub joined : bytes ≡ flat_map chunk_text done ++ left
   pub each : All IsChunk done
-  pub spans_are : spans ≡ spans_of 0 done
+  pub count_is : count ≡ length done
+  pub few : count + room ≤ MAX_CONTENT_BYTES
   pub counted : length (data_of done) + room ≡ MAX_CONTENT_BYTES
   pub so_far : with_prefix done (turns_read turn_read left) ≡ turns_read turn_read bytes
   pub long : IsContentTooLong bytes → HasContentOver room left

@@ -1,7 +1,7 @@
 -- Chunks one after the other, as the reader takes them. No public clause cites this module.
 use Rattle.std.specs.Prelude.{◌≡◌, ℕ, zero, suc, ◌+◌, Bool, true, List, [], ◌∷◌, ◌++◌, length, codes, Option, Some, None}
 use Rattle.byte_grammar.specs.tools.Languages.{Mapped}
-use Rattle.chunks.specs.declared.view.ChunkSpan.{ChunkSpan}
+use Rattle.chunks.specs.Views.{ChunkSpan}
 use Rattle.chunks.specs.Chunks.{Chunk, IsChunkLine, IsChunk, IsExtension, chunk_text}
 
 -- any byte may come next

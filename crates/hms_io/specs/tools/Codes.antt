@@ -18,8 +18,9 @@ log_code =
 abbrev pub files_code : Coded FileMap
 files_code = map.code (coded_list coded_ℕ) (coded_list coded_ℕ)
 
--- a shelf as its files and its calls
+-- a shelf as its files, the bytes given, and its calls
 abbrev pub shelf_code : Coded MemoryShelf
 shelf_code =
-    code_by (FileMap × CallLog) (coded× files_code log_code)
-    (λ s. (s.files, s.calls)) (λ p. record { files = p.0; calls = p.1 }) (λ _. refl)
+    code_by (FileMap × (ℕ × CallLog)) (coded× files_code (coded× coded_ℕ log_code))
+    (λ s. (s.files, (s.reached, s.calls)))
+    (λ p. record { files = p.0; reached = p.1.0; calls = p.1.1 }) (λ _. refl)

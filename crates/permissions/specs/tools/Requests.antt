@@ -1,14 +1,12 @@
 -- What is found of a request. No public clause cites this module.
-use Rattle.std.specs.Prelude.{◌≡◌, ℕ, IsTrue, Option, Some, option_map, unwrap_or, List, [], ◌∷◌, codes}
+use Rattle.std.specs.Prelude.{◌≡◌, ℕ, Option, Some, option_map, unwrap_or, List, []}
 use Rattle.std.specs.Str.{str_to_ascii_lowercase}
 use Rattle.targets.specs.Authorities.{AuthorityParts}
 use Rattle.targets.specs.Targets.{TargetParts, query_of}
-use Rattle.component_ids.specs.declared.id.ComponentId.{ComponentId}
 use Rattle.derived_values.specs.Derived.{scheme_text}
 use Rattle.component_values.specs.Context.{MessageContext}
 use Rattle.msg_body.specs.Messages.{Message}
-use Rattle.permissions.specs.Covered.{is_own_of}
-use Rattle.permissions.specs.Permitted.{HasOneHost, HaveSameParam}
+use Rattle.permissions.specs.Permitted.{HasOneHost}
 use Rattle.permissions.specs.Targets.{AreOneAuthority, OfTarget}
 
 -- the target has a query, or room for one, and this is what is between `?` and its end
@@ -19,11 +17,6 @@ IsQueryIn text parts =
 -- the message is a request whose target has this query
 abbrev pub HasQuery : Message → List ℕ → Type 0
 HasQuery message text = OfTarget message (λ line parts. IsQueryIn text parts)
-
--- where the component is a parameter of the query, both queries have the same values of it
-abbrev pub KeepsParamIn : List ℕ → List ℕ → ComponentId → Type 0
-KeepsParamIn query other id =
-    IsTrue (is_own_of (codes "@query-param" ∷ []) id) → HaveSameParam query other id
 
 -- the scheme of a request whose target has these parts (RFC 9421 section 2.2.4)
 abbrev pub scheme_in : MessageContext → TargetParts → List ℕ

@@ -42,4 +42,3 @@ AnswersStrict Row (Err Memory) = ⊤
 abbrev pub fault_of : SfError → ApplyFault
 fault_of sf.Memory = Memory
 fault_of (sf.Syntax offset) = NotApplicable
-fault_of (sf.ItemKind offset) = NotApplicable

@@ -27,12 +27,6 @@ pub record AreMadeFrom (message : Message) (scripts : List (List Rewrite)) (made
   pub are : AreHopsFrom message scripts hops
   pub texts : AllZip IsTextOf hops made
 
--- the text spells the message that the step gives, or the same
-pub record TakesTo (message : Message) (step : Rewrite) (text : List ℕ) : Type 0 where
-  pub after : Message
-  pub takes : TakesStep (sample_context message) step after
-  pub spells : Spells false after text
-
 -- the text spells the message to which the steps lead
 pub record LeadsTo (message : Message) (steps : List Rewrite) (text : List ℕ) : Type 0 where
   pub after : Message

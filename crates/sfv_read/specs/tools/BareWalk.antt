@@ -4,14 +4,16 @@ use Rattle.std.specs.Str.{byte}
 use Rattle.byte_grammar.specs.Walk.{Reader, ◌>>=◌, byte_read, run_read, all_read, word_read}
 use Rattle.byte_grammar.specs.tools.Walks.{optional_read, pick_read, turns_read, with_state}
 use Rattle.sfv_text.specs.declared.value.BareItem.{BareItem}
-use Rattle.sfv_text.specs.declared.value.BareItem.TheVariants.{Integer, Decimal, Str, Token, Bytes, Bool as Boolean}
+use Rattle.sfv_text.specs.declared.value.BareItem.TheVariants.{Integer, Decimal, Str, Token, Bytes, Bool as Boolean, Date, Display}
 use Rattle.sfv_read.specs.declared.bare.BareKind.{BareKind}
-use Rattle.sfv_read.specs.declared.bare.BareKind.TheVariants.{Number as NumberKind, String as StringKind, Token as TokenKind, ByteSequence as ByteSequenceKind, Boolean as BooleanKind}
+use Rattle.sfv_read.specs.declared.bare.BareKind.TheVariants.{Number as NumberKind, String as StringKind, Token as TokenKind, ByteSequence as ByteSequenceKind, Boolean as BooleanKind, Date as DateKind, DisplayString as DisplayStringKind}
 use Rattle.sfv_text.specs.Range.{is_token_first, is_token_rest}
 use Rattle.byte_grammar.specs.Classes.{is_digit}
-use Rattle.sfv_read.specs.Class.{is_minus, is_dot, is_quote, is_backslash, is_unescaped, is_escapable, is_question, is_bit, is_colon, is_equals, is_base64}
+use Rattle.sfv_read.specs.Class.{is_minus, is_dot, is_quote, is_backslash, is_unescaped, is_escapable, is_question, is_bit, is_colon, is_equals, is_base64, is_at, is_percent}
 use Rattle.std.specs.Str.Parse.{digits_value}
 use Rattle.sfv_read.specs.BareItem.{with_sign}
+pub use Rattle.sfv_read.specs.tools.DisplayWalk.{with_run}
+use Rattle.sfv_read.specs.tools.DisplayWalk.{display_string_read}
 
 -- ---- Integers and Decimals
 
@@ -36,6 +38,15 @@ number_read bytes = do
   f ← fraction_read (length d.0) d.1
   Ok (number_of s.0 d.0 f.0, f.1)
 
+-- ---- Dates
+
+unfoldable pub date_read : Reader BareItem
+date_read bytes = do
+  a ← byte_read is_at bytes
+  s ← run_read is_minus 0 1 a.1
+  d ← run_read is_digit 1 15 s.1
+  Ok (Date (with_sign s.0 (digits_value 10 d.0)), d.1)
+
 -- ---- Strings
 
 -- a backslash, the character that it escapes, and those after it that stand for themselves
@@ -46,9 +57,6 @@ escaped_run_read bytes =
 -- an escaped run where a backslash comes
 unfoldable pub next_run_read : Reader (Option (List ℕ))
 next_run_read bytes = optional_read is_backslash escaped_run_read bytes
-
-abbrev pub with_run : List ℕ → List ℕ → List ℕ
-with_run text run = text ++ run
 
 -- characters that stand for themselves, and escaped runs
 unfoldable pub characters_read : Reader (List ℕ)
@@ -140,7 +148,9 @@ kind_of_bare_item c =
     else (if is_quote c then Some StringKind
     else (if is_token_first c then Some TokenKind
     else (if is_colon c then Some ByteSequenceKind
-    else (if is_question c then Some BooleanKind else None))))
+    else (if is_question c then Some BooleanKind
+    else (if is_at c then Some DateKind
+    else (if is_percent c then Some DisplayStringKind else None))))))
 
 abbrev pub bare_item_by : BareKind → Reader BareItem
 bare_item_by NumberKind bytes = number_read bytes
@@ -149,6 +159,8 @@ bare_item_by TokenKind bytes =
     word_read is_token_first is_token_rest bytes >>= λ s. Ok (Token s.0, s.1)
 bare_item_by ByteSequenceKind bytes = byte_sequence_read bytes >>= λ s. Ok (Bytes s.0, s.1)
 bare_item_by BooleanKind bytes = boolean_read bytes
+bare_item_by DateKind bytes = date_read bytes
+bare_item_by DisplayStringKind bytes = display_string_read bytes >>= λ s. Ok (Display s.0, s.1)
 
 unfoldable pub bare_item_read : Reader BareItem
 bare_item_read bytes = pick_read kind_of_bare_item bare_item_by bytes

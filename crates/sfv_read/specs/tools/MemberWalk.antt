@@ -1,11 +1,10 @@
 -- Lists and Dictionaries, read over lists from left to right. No public clause cites this module.
-use Rattle.std.specs.Prelude.{ℕ, true, List, [], ◌∷◌, ◌++◌, Option, Some, None, Ok, if◌then◌else◌}
+use Rattle.std.specs.Prelude.{true, List, [], ◌∷◌, ◌++◌, Option, Some, None, Ok}
 use Rattle.byte_grammar.specs.Walk.{Reader, ◌>>=◌, byte_read, all_read}
 use Rattle.byte_grammar.specs.tools.Walks.{optional_read, choose_read, turns_read, with_state}
 use Rattle.sfv_text.specs.declared.value.Member.{Member}
 use Rattle.sfv_text.specs.declared.value.Member.TheVariants.{Item as ItemMember, InnerList as InnerMember}
 use Rattle.sfv_text.specs.declared.pair.Pair.{Pair}
-use Rattle.sfv_text.specs.Keys.{has_key}
 use Rattle.byte_grammar.specs.Classes.{is_space, is_blank}
 use Rattle.sfv_read.specs.Class.{is_open, is_comma, is_equals}
 use Rattle.sfv_read.specs.Item.{put_pair}

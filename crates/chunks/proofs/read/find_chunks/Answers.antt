@@ -1,28 +1,20 @@
-use Rattle.std.proofs.Common.{◌≡◌, ◌↔◌, ◌⊎◌, inl, inr, false, true, ℕ, ◌+◌, ◌-◌, ◌<◌, ◌≤◌, length, refl, sym, arith}
-use Rattle.std.proofs.lemmas.Bool.{cases_lt}
+use Rattle.std.proofs.Common.{refl, arith}
 use Rattle.byte_grammar.proofs.AnswerLaws.{err_of}
 use Rattle.chunks.specs.declared.read.Stop.TheVariants.{Left}
 use Rattle.chunks.specs.tools.Judged.{IsStop}
 use Rattle.chunks.proofs.Finding.{first_found, left_within, stopped_at_line, stopped_at_data, line_count, too_long, next_found, data_count, last_found}
+use Rattle.chunks.proofs.NextChunks.{not_last}
 use Rattle.chunks.proofs.read.find_chunks.Goals as goal
 
--- a line that isn't the last one has a size
-not_last : {n : ℕ} → (false ≡ true) ↔ (n ≡ 0) → 0 < n
-not_last {n} is = go (cases_lt 0 n)
-  where
-    go : (0 < n) ⊎ (n ≤ 0) → 0 < n
-    go (inl some) = some
-    go (inr none) = absurd (cc (is.1 (omega arith)))
-
 pub chunks-init : goal.chunks-init
-chunks-init c = rw c.new-spans.ensures.items (first_found c.args.bytes.now)
+chunks-init c = first_found c.args.bytes.now
 
 pub returns-in_err-first-clause-err : goal.returns-in_err-first-clause-err
 returns-in_err-first-clause-err c =
     err_of c.from_residual.result (λ stop. IsStop c.args.bytes.now stop) (Left c.in_err-first.field-0.0.0) c.from_residual.ensures.1 (stopped_at_line c.chunks.invariant c.in_err-first.field-0.0.0 c.in_err-first.ensures.gives)
 
-pub overflow_sub-result : goal.overflow_sub-result
-overflow_sub-result c = omega (arith, left_within c.chunks.invariant, line_count c.chunks.invariant c.in_ok-first.ensures.gives)
+pub overflow_sub-result-then-is_last : goal.overflow_sub-result-then-is_last
+overflow_sub-result-then-is_last c = omega (arith, left_within c.chunks.invariant, line_count c.chunks.invariant c.in_ok-first.ensures.gives)
 
 pub returns-then-is_last-clause-ok : goal.returns-then-is_last-clause-ok
 returns-then-is_last-clause-ok c =
@@ -36,12 +28,8 @@ returns-in_err-after-clause-err c =
     err_of c.from_residual-in_err-after.result (λ stop. IsStop c.args.bytes.now stop) (Left c.in_err-after.field-0.0.0) c.from_residual-in_err-after.ensures.1
     (stopped_at_data c.chunks.invariant c.in_ok-first.ensures.gives c.in_err-after.field-0.0.0 (not_last c.if-is_last.ensures) (omega (arith, c.if-first-room.false)) c.in_err-after.ensures)
 
-pub overflow_add-line_end-in-chunks : goal.overflow_add-line_end-in-chunks
-overflow_add-line_end-in-chunks c = omega (arith, left_within c.chunks.invariant, line_count c.chunks.invariant c.in_ok-first.ensures.gives)
-
-pub overflow_add-line_end-in-chunks-2 : goal.overflow_add-line_end-in-chunks-2
-overflow_add-line_end-in-chunks-2 c =
-    omega (arith, left_within c.chunks.invariant, line_count c.chunks.invariant c.in_ok-first.ensures.gives, (data_count c.chunks.invariant c.in_ok-first.ensures.gives _ _ c.in_ok-after.ensures).1)
+pub overflow_add-count : goal.overflow_add-count
+overflow_add-count c = omega (arith, c.chunks.invariant.few)
 
 pub chunks-smaller : goal.chunks-smaller
 chunks-smaller c =
@@ -49,7 +37,4 @@ chunks-smaller c =
 
 pub chunks-preserved : goal.chunks-preserved
 chunks-preserved c =
-    let offset = length c.args.bytes.now - length c.chunks.left.now in
-    let count = (data_count c.chunks.invariant c.in_ok-first.ensures.gives _ _ c.in_ok-after.ensures).0 in
-    rw c.in_ok-push.ensures.items (next_found c.chunks.invariant c.in_ok-first.ensures.gives c.in_ok-after.field-0-0.now c.in_ok-after.after.now _ (not_last c.if-is_last.ensures) (omega (arith, c.if-first-room.false)) c.in_ok-after.ensures
-    (λ i. record { line = offset; line_end = offset + length c.in_ok-first.first.text.now; end = offset + length c.in_ok-first.first.text.now + 2 + sym count i }))
+    next_found c.chunks.invariant c.in_ok-first.ensures.gives c.in_ok-after.field-0-0.now c.in_ok-after.after.now (not_last c.if-is_last.ensures) (omega (arith, c.if-first-room.false)) c.in_ok-after.ensures

@@ -3,7 +3,7 @@ use Rattle.chunks.specs.tools.Judged.{Finding}
 use Rattle.chunks.proofs.read.find_chunks.Given as goal
 
 abbrev pub invariant-chunks : goal.invariant-chunks
-invariant-chunks l = Finding l.bytes l.spans.items l.left l.room
+invariant-chunks l = Finding l.bytes l.count l.left l.room
 
 abbrev pub decreases-chunks : goal.decreases-chunks
 decreases-chunks l = length l.left

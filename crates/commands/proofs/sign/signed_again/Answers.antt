@@ -10,10 +10,10 @@ unreachable-requires c =
     not_partial (context_of c.args.context.now) c.requires.spells.0 c.args.bytes.now c.requires.spells.1 c.answers_head.result c.answers_head.ensures c.read_message.result c.read_message.ensures.found
     (c.in-Ok-Partial.is ∙ ap Ok c.in-Ok-Partial.field-0-is)
 
-pub signed_text-requires-clause-spells : goal.signed_text-requires-clause-spells
-signed_text-requires-clause-spells c =
-    spelled_again (context_of c.args.context.now) c.requires.spells.0 c.args.bytes.now c.requires.spells.1 c.answers_head.result c.answers_head.ensures c.read_message.result c.read_message.ensures.found
-    c.in-Ok-Whole.message c.in-Ok-Whole.field-0-1 (c.in-Ok-Whole.is ∙ ap Ok c.in-Ok-Whole.field-0-is)
+pub signed_text-requires-clause-whole : goal.signed_text-requires-clause-whole
+signed_text-requires-clause-whole c =
+    (spelled_again (context_of c.args.context.now) c.requires.spells.0 c.args.bytes.now c.requires.spells.1 c.answers_head.result c.answers_head.ensures c.read_message.result c.read_message.ensures.found
+    c.in-Ok-Whole.message c.in-Ok-Whole.field-0-1 (c.in-Ok-Whole.is ∙ ap Ok c.in-Ok-Whole.field-0-is)).is
 
 pub returns-in-Ok-Whole : goal.returns-in-Ok-Whole
 returns-in-Ok-Whole c = λ message spells.

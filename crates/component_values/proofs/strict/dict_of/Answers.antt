@@ -3,6 +3,3 @@ use Rattle.component_values.proofs.strict.dict_of.Goals as goal
 
 pub returns-in-Err-Syntax : goal.returns-in-Err-Syntax
 returns-in-Err-Syntax c = (refl, rw c.in-Err-Syntax.field-0-is at c.in-Err-Syntax.ensures.only)
-
-pub returns-in-Err-ItemKind : goal.returns-in-Err-ItemKind
-returns-in-Err-ItemKind c = (refl, rw c.in-Err-ItemKind.field-0-is at c.in-Err-ItemKind.ensures.only)

@@ -1,4 +1,4 @@
-use Rattle.std.proofs.Common.{◌≡◌, ◌+◌, length}
+use Rattle.std.proofs.Common.{◌≡◌, ◌+◌, ◌≤◌, length}
 use Rattle.std.specs.Io.KnownBytes.{Consumes}
 use Rattle.hms_io.proofs.read_write.fill.Given as goal
 
@@ -6,6 +6,7 @@ use Rattle.hms_io.proofs.read_write.fill.Given as goal
 abbrev pub invariant-reads : goal.invariant-reads
 invariant-reads g l = record {
   size : length l.text + l.room ≡ l.limit + 1;
+  few : g.S.Source.given l.source + l.room ≤ g.S.Source.given l.initial.source + (l.limit + 1);
   kept : g.S.Source.faults l.source ≡ g.S.Source.faults l.initial.source;
   unended : g.S.Source.ended l.initial.source ≡ 0 → g.S.Source.ended l.source ≡ 0;
   took : Consumes (g.S.Source.left l.initial.source) (g.S.Source.left l.source) l.text;

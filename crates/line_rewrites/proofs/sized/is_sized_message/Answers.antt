@@ -1,16 +1,11 @@
-use Rattle.std.proofs.Common.{Ok, ap, ◌∙◌}
-use Rattle.line_rewrites.proofs.Sizes.{all_refused, is_not_read, none_partial}
+use Rattle.std.proofs.Common.{rules}
+use Rattle.msg_body.specs.Views.{message_of}
 use Rattle.line_rewrites.proofs.sized.is_sized_message.Goals as goal
+use Rattle.line_rewrites.proofs.sized.is_sized_message.Goals.{in-Ok, in-Err-NotApplicable, in-Err-Memory}
 
-pub returns-in-Ok-Whole-clause-no : goal.returns-in-Ok-Whole-clause-no
-returns-in-Ok-Whole-clause-no c = λ fails.
-    is_not_read c.args.to_head c.args.text.now c.args.count c.read_message.result c.in-Ok-Whole.message c.in-Ok-Whole.used c.is_sized.result c.read_message.ensures.found
-    (c.in-Ok-Whole.is ∙ ap Ok c.in-Ok-Whole.field-0-is) c.is_sized.ensures fails
-
-pub returns-in-Ok-Partial-clause-no : goal.returns-in-Ok-Partial-clause-no
-returns-in-Ok-Partial-clause-no c = λ _.
-    none_partial c.args.to_head c.args.text.now c.args.count c.read_message.result c.read_message.ensures.found (c.in-Ok-Partial.is ∙ ap Ok c.in-Ok-Partial.field-0-is)
-
-pub returns-in-Err-clause-no : goal.returns-in-Err-clause-no
-returns-in-Err-clause-no c =
-    all_refused c.args.to_head c.args.text.now c.args.count c.read_message.result c.in-Err.error c.unless_memory.result c.read_message.ensures.found c.in-Err.is c.unless_memory.ensures
+pub returns-clause-yes : goal.returns-clause-yes
+returns-clause-yes c = elim c.match-sized_message.branch [
+  | in-Ok w ↦ rw w.result-is (λ _. (message_of w.in-Ok.field-0, w.in-Ok.ensures.ok))
+  | in-Err-NotApplicable w ↦ search rules
+  | in-Err-Memory w ↦ search rules
+]

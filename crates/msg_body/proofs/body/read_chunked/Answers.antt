@@ -32,8 +32,8 @@ of_trailer-requires c =
     let trailer = rw c.split_at.ensures.back at c.in-Err-read_trailer.ensures in
     trailer_offset c.args.start c.args.bytes.now c.in-Ok-Whole.used c.in-Err-read_trailer.fault c.requires.short chunks.whole.within (λ own. (trailer.fault c.in-Err-read_trailer.fault own).only refl)
 
-pub returns : goal.returns
-returns c n =
+pub returns-in-Err-read_trailer : goal.returns-in-Err-read_trailer
+returns-in-Err-read_trailer c n =
     let chunks = rw c.in-Ok-Whole.field-0-is at c.in-Ok-Whole.ensures in
     let trailer = rw c.split_at.ensures.back at c.in-Err-read_trailer.ensures in
     trailer_fault c.args.start c.args.bytes.now c.in-Ok-Whole.chunks c.in-Ok-Whole.used c.in-Err-read_trailer.fault c.of_trailer.result chunks.whole c.of_trailer.ensures (λ own. (trailer.fault c.in-Err-read_trailer.fault own).only refl)

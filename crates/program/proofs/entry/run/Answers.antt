@@ -2,7 +2,7 @@ use Rattle.std.proofs.Common.{◌≡◌, map, string_bytes, ◌∙◌, refl, inl
 use Rattle.hms_io.specs.declared.status.Status.{Status}
 use Rattle.program.specs.Ends.{Ends}
 use Rattle.program.proofs.Reports.{counts_no_read, counts_no_write, failed_outcome, written_outcome}
-use Rattle.program.proofs.Meanings.{all_read_whole, writes_one_base, writes_one_chain}
+use Rattle.program.proofs.Meanings.{all_read_whole, writes_one_base, writes_one_chain, writes_signed, writes_verdicts}
 use Rattle.program.proofs.entry.run.Goals.{in-Ok, in-Err-Refused}
 use Rattle.program.proofs.entry.run.Goals as goal
 
@@ -19,11 +19,11 @@ returns-in-Err-Memory-clause-reads g c =
 pub returns-in-Ok-put_all-clause-ends : goal.returns-in-Ok-put_all-clause-ends
 returns-in-Ok-put_all-clause-ends g c = λ whole. elim c.match-run_command.branch [
   | in-Ok w ↦ written_outcome (map string_bytes c.args.arguments.now) (g.F.Shelf.files c.args.shelf.now) (c.run_command.new.source ≡ c.args.source.now) (g.S.Source.left c.args.source.now) (g.S.Source.left c.run_command.new.source)
-      (g.K.Sink.taken c.args.out.now) (g.K.Sink.taken c.put_all.new.sink) c.match-run_command.outcome c.status-status.result c.bytes.result.now
-      (rw w.outcome-is w.in-Ok.ensures.report) c.status-status.ensures (c.bytes.ensures ∙ c.in-Ok-into_output.ensures) c.in-Ok-put_all.ensures.ok
+      (g.K.Sink.taken c.args.out.now) (g.K.Sink.taken c.put_all.new.sink) c.match-run_command.outcome c.status-status.result c.of_bytes.result.now
+      (rw w.outcome-is w.in-Ok.ensures.report) c.status-status.ensures (c.of_bytes.ensures.same ∙ (c.bytes.ensures ∙ c.in-Ok-into_output.ensures)) c.in-Ok-put_all.ensures.ok (rw (c.of_bytes.ensures.same) c.of_bytes.ensures.are)
   | in-Err-Refused w ↦ written_outcome (map string_bytes c.args.arguments.now) (g.F.Shelf.files c.args.shelf.now) (c.run_command.new.source ≡ c.args.source.now) (g.S.Source.left c.args.source.now) (g.S.Source.left c.run_command.new.source)
-      (g.K.Sink.taken c.args.out.now) (g.K.Sink.taken c.put_all.new.sink) c.match-run_command.outcome c.status-status.result c.bytes.result.now
-      (let told = rw w.in-Err-Refused.field-0-is at w.in-Err-Refused.ensures.report in rw w.outcome-is told) c.status-status.ensures (c.bytes.ensures ∙ c.in-Ok-into_output.ensures) c.in-Ok-put_all.ensures.ok
+      (g.K.Sink.taken c.args.out.now) (g.K.Sink.taken c.put_all.new.sink) c.match-run_command.outcome c.status-status.result c.of_bytes.result.now
+      (let told = rw w.in-Err-Refused.field-0-is at w.in-Err-Refused.ensures.report in rw w.outcome-is told) c.status-status.ensures (c.of_bytes.ensures.same ∙ (c.bytes.ensures ∙ c.in-Ok-into_output.ensures)) c.in-Ok-put_all.ensures.ok (rw (c.of_bytes.ensures.same) c.of_bytes.ensures.are)
 ]
 
 pub returns-in-Ok-put_all-clause-reads : goal.returns-in-Ok-put_all-clause-reads
@@ -43,11 +43,11 @@ returns-in-Ok-put_all-clause-writes g c =
 pub returns-clause-ends : goal.returns-clause-ends
 returns-clause-ends g c = λ whole. elim c.match-run_command.branch [
   | in-Ok w ↦ failed_outcome (map string_bytes c.args.arguments.now) (g.F.Shelf.files c.args.shelf.now) (c.run_command.new.source ≡ c.args.source.now) (g.S.Source.left c.args.source.now) (g.S.Source.left c.run_command.new.source)
-      (g.K.Sink.taken c.args.out.now) (g.K.Sink.taken c.put_all.new.sink) c.match-run_command.outcome c.bytes.result.now
-      (rw w.outcome-is w.in-Ok.ensures.report) (c.bytes.ensures ∙ c.in-Ok-into_output.ensures) c.in-Err.ensures.prefix
+      (g.K.Sink.taken c.args.out.now) (g.K.Sink.taken c.put_all.new.sink) c.match-run_command.outcome c.of_bytes.result.now
+      (rw w.outcome-is w.in-Ok.ensures.report) (c.of_bytes.ensures.same ∙ (c.bytes.ensures ∙ c.in-Ok-into_output.ensures)) c.in-Err.ensures.prefix (rw (c.of_bytes.ensures.same) c.of_bytes.ensures.are)
   | in-Err-Refused w ↦ failed_outcome (map string_bytes c.args.arguments.now) (g.F.Shelf.files c.args.shelf.now) (c.run_command.new.source ≡ c.args.source.now) (g.S.Source.left c.args.source.now) (g.S.Source.left c.run_command.new.source)
-      (g.K.Sink.taken c.args.out.now) (g.K.Sink.taken c.put_all.new.sink) c.match-run_command.outcome c.bytes.result.now
-      (let told = rw w.in-Err-Refused.field-0-is at w.in-Err-Refused.ensures.report in rw w.outcome-is told) (c.bytes.ensures ∙ c.in-Ok-into_output.ensures) c.in-Err.ensures.prefix
+      (g.K.Sink.taken c.args.out.now) (g.K.Sink.taken c.put_all.new.sink) c.match-run_command.outcome c.of_bytes.result.now
+      (let told = rw w.in-Err-Refused.field-0-is at w.in-Err-Refused.ensures.report in rw w.outcome-is told) (c.of_bytes.ensures.same ∙ (c.bytes.ensures ∙ c.in-Ok-into_output.ensures)) c.in-Err.ensures.prefix (rw (c.of_bytes.ensures.same) c.of_bytes.ensures.are)
 ]
 
 -- ---- what is told
@@ -90,3 +90,42 @@ returns-in-Err-Memory-clause-audit g c = λ words is done. elim done [ inl e ↦
 
 pub returns-clause-audit : goal.returns-clause-audit
 returns-clause-audit g c = λ words is done. elim done [ inl e ↦ absurd (cc e) | inr e ↦ absurd (cc e) ]
+
+pub returns-in-Ok-put_all-clause-verify : goal.returns-in-Ok-put_all-clause-verify
+returns-in-Ok-put_all-clause-verify g c =
+    let arguments = map string_bytes c.args.arguments.now in
+    writes_verdicts arguments (g.F.Shelf.files c.args.shelf.now) (c.run_command.new.source ≡ c.args.source.now) (g.S.Source.left c.args.source.now) (g.S.Source.left c.run_command.new.source)
+    (g.K.Sink.taken c.args.out.now) (g.K.Sink.taken c.put_all.new.sink) c.status-status.result
+    (λ done. subst (λ (s : Status). Ends arguments (g.F.Shelf.files c.args.shelf.now) (c.run_command.new.source ≡ c.args.source.now) (g.S.Source.left c.args.source.now)
+    (g.S.Source.left c.run_command.new.source) (g.K.Sink.taken c.args.out.now) (g.K.Sink.taken c.put_all.new.sink) s) done
+    (returns-in-Ok-put_all-clause-ends g c (all_read_whole arguments)))
+    (λ failed. subst (λ (s : Status). Ends arguments (g.F.Shelf.files c.args.shelf.now) (c.run_command.new.source ≡ c.args.source.now) (g.S.Source.left c.args.source.now)
+    (g.S.Source.left c.run_command.new.source) (g.K.Sink.taken c.args.out.now) (g.K.Sink.taken c.put_all.new.sink) s) failed
+    (returns-in-Ok-put_all-clause-ends g c (all_read_whole arguments)))
+
+pub returns-in-Ok-put_all-clause-sign : goal.returns-in-Ok-put_all-clause-sign
+returns-in-Ok-put_all-clause-sign g c =
+    let arguments = map string_bytes c.args.arguments.now in
+    writes_signed arguments (g.F.Shelf.files c.args.shelf.now) (c.run_command.new.source ≡ c.args.source.now) (g.S.Source.left c.args.source.now) (g.S.Source.left c.run_command.new.source)
+    (g.K.Sink.taken c.args.out.now) (g.K.Sink.taken c.put_all.new.sink) c.status-status.result
+    (λ done. subst (λ (s : Status). Ends arguments (g.F.Shelf.files c.args.shelf.now) (c.run_command.new.source ≡ c.args.source.now) (g.S.Source.left c.args.source.now)
+    (g.S.Source.left c.run_command.new.source) (g.K.Sink.taken c.args.out.now) (g.K.Sink.taken c.put_all.new.sink) s) done
+    (returns-in-Ok-put_all-clause-ends g c (all_read_whole arguments)))
+
+pub returns-in-Err-ReadFault-clause-verify : goal.returns-in-Err-ReadFault-clause-verify
+returns-in-Err-ReadFault-clause-verify g c = λ words is done. elim done [ inl e ↦ absurd (cc e) | inr e ↦ absurd (cc e) ]
+
+pub returns-in-Err-ReadFault-clause-sign : goal.returns-in-Err-ReadFault-clause-sign
+returns-in-Err-ReadFault-clause-sign g c = λ words is done. absurd (cc done)
+
+pub returns-in-Err-Memory-clause-verify : goal.returns-in-Err-Memory-clause-verify
+returns-in-Err-Memory-clause-verify g c = λ words is done. elim done [ inl e ↦ absurd (cc e) | inr e ↦ absurd (cc e) ]
+
+pub returns-in-Err-Memory-clause-sign : goal.returns-in-Err-Memory-clause-sign
+returns-in-Err-Memory-clause-sign g c = λ words is done. absurd (cc done)
+
+pub returns-clause-verify : goal.returns-clause-verify
+returns-clause-verify g c = λ words is done. elim done [ inl e ↦ absurd (cc e) | inr e ↦ absurd (cc e) ]
+
+pub returns-clause-sign : goal.returns-clause-sign
+returns-clause-sign g c = λ words is done. absurd (cc done)

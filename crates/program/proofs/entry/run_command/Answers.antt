@@ -1,6 +1,6 @@
 use Rattle.std.proofs.Common.{◌≡◌, ◌+◌, ◌≤◌, map, string_bytes, refl, Ok}
 use Rattle.command_line.specs.Command.{CommandLine, Help, Version, Base, Verify, Sign, Rewrite, Audit, Sample, base_words, verify_words, sign_words, rewrite_words, audit_words, sample_words, line_of}
-use Rattle.commands.specs.Files.{Conf, Request, Script, file_count}
+use Rattle.commands.specs.Files.{Conf, Request, Script, file_bytes, file_count}
 use Rattle.program.specs.Commands.{input_use, name_of, LosesFew}
 use Rattle.command_line.proofs.Moments.{sample_bounded}
 use Rattle.program.proofs.Sampled.{sampled}
@@ -18,6 +18,9 @@ returns-in_default-clause-few g c = λ command is. absurd (c.in_default.ensures.
 
 pub returns-in_default-clause-asked : goal.returns-in_default-clause-asked
 returns-in_default-clause-asked g c = λ command is. absurd (c.in_default.ensures.none command is)
+
+pub returns-in_default-clause-reached : goal.returns-in_default-clause-reached
+returns-in_default-clause-reached g c = λ command is. absurd (c.in_default.ensures.none command is)
 
 pub returns-in_ok-write_help-in-Help-clause-report : goal.returns-in_ok-write_help-in-Help-clause-report
 returns-in_ok-write_help-in-Help-clause-report g c =
@@ -50,6 +53,11 @@ returns-in-Base-clause-asked g c =
     of_command (λ (line : CommandLine). g.F.Shelf.asked c.over_files.new.shelf ≤ g.F.Shelf.asked c.args.shelf.now + file_count (name_of line))
     (map string_bytes c.args.arguments.now) (Base (base_words c.in-Base.words)) (rw c.in-Base.is at c.in-Some.ensures.some) c.over_files.ensures.asked
 
+pub returns-in-Base-clause-reached : goal.returns-in-Base-clause-reached
+returns-in-Base-clause-reached g c =
+    of_command (λ (line : CommandLine). g.F.Shelf.reached c.over_files.new.shelf ≤ g.F.Shelf.reached c.args.shelf.now + file_bytes (name_of line))
+    (map string_bytes c.args.arguments.now) (Base (base_words c.in-Base.words)) (rw c.in-Base.is at c.in-Some.ensures.some) c.over_files.ensures.reached
+
 pub returns-in-Base-clause-unread : goal.returns-in-Base-clause-unread
 returns-in-Base-clause-unread g c = λ none. never_read _ (none (Base (base_words c.in-Base.words)) (rw c.in-Base.is at c.in-Some.ensures.some))
 
@@ -73,6 +81,11 @@ returns-in-Verify-clause-asked g c =
     of_command (λ (line : CommandLine). g.F.Shelf.asked c.over_files-in-Verify.new.shelf ≤ g.F.Shelf.asked c.args.shelf.now + file_count (name_of line))
     (map string_bytes c.args.arguments.now) (Verify (verify_words c.in-Verify.words)) (rw c.in-Verify.is at c.in-Some.ensures.some) c.over_files-in-Verify.ensures.asked
 
+pub returns-in-Verify-clause-reached : goal.returns-in-Verify-clause-reached
+returns-in-Verify-clause-reached g c =
+    of_command (λ (line : CommandLine). g.F.Shelf.reached c.over_files-in-Verify.new.shelf ≤ g.F.Shelf.reached c.args.shelf.now + file_bytes (name_of line))
+    (map string_bytes c.args.arguments.now) (Verify (verify_words c.in-Verify.words)) (rw c.in-Verify.is at c.in-Some.ensures.some) c.over_files-in-Verify.ensures.reached
+
 pub returns-in-Verify-clause-unread : goal.returns-in-Verify-clause-unread
 returns-in-Verify-clause-unread g c = λ none. never_read _ (none (Verify (verify_words c.in-Verify.words)) (rw c.in-Verify.is at c.in-Some.ensures.some))
 
@@ -93,6 +106,11 @@ pub returns-in-Sign-clause-asked : goal.returns-in-Sign-clause-asked
 returns-in-Sign-clause-asked g c =
     of_command (λ (line : CommandLine). g.F.Shelf.asked c.over_files-in-Sign.new.shelf ≤ g.F.Shelf.asked c.args.shelf.now + file_count (name_of line))
     (map string_bytes c.args.arguments.now) (Sign (sign_words c.in-Sign.words)) (rw c.in-Sign.is at c.in-Some.ensures.some) c.over_files-in-Sign.ensures.asked
+
+pub returns-in-Sign-clause-reached : goal.returns-in-Sign-clause-reached
+returns-in-Sign-clause-reached g c =
+    of_command (λ (line : CommandLine). g.F.Shelf.reached c.over_files-in-Sign.new.shelf ≤ g.F.Shelf.reached c.args.shelf.now + file_bytes (name_of line))
+    (map string_bytes c.args.arguments.now) (Sign (sign_words c.in-Sign.words)) (rw c.in-Sign.is at c.in-Some.ensures.some) c.over_files-in-Sign.ensures.reached
 
 pub returns-in-Sign-clause-unread : goal.returns-in-Sign-clause-unread
 returns-in-Sign-clause-unread g c = λ none. never_read _ (none (Sign (sign_words c.in-Sign.words)) (rw c.in-Sign.is at c.in-Some.ensures.some))
@@ -115,6 +133,11 @@ returns-in-Rewrite-clause-asked g c =
     of_command (λ (line : CommandLine). g.F.Shelf.asked c.over_files-in-Rewrite.new.shelf ≤ g.F.Shelf.asked c.args.shelf.now + file_count (name_of line))
     (map string_bytes c.args.arguments.now) (Rewrite (rewrite_words c.in-Rewrite.words)) (rw c.in-Rewrite.is at c.in-Some.ensures.some) c.over_files-in-Rewrite.ensures.asked
 
+pub returns-in-Rewrite-clause-reached : goal.returns-in-Rewrite-clause-reached
+returns-in-Rewrite-clause-reached g c =
+    of_command (λ (line : CommandLine). g.F.Shelf.reached c.over_files-in-Rewrite.new.shelf ≤ g.F.Shelf.reached c.args.shelf.now + file_bytes (name_of line))
+    (map string_bytes c.args.arguments.now) (Rewrite (rewrite_words c.in-Rewrite.words)) (rw c.in-Rewrite.is at c.in-Some.ensures.some) c.over_files-in-Rewrite.ensures.reached
+
 pub returns-in-Rewrite-clause-unread : goal.returns-in-Rewrite-clause-unread
 returns-in-Rewrite-clause-unread g c = λ none. never_read _ (none (Rewrite (rewrite_words c.in-Rewrite.words)) (rw c.in-Rewrite.is at c.in-Some.ensures.some))
 
@@ -135,6 +158,11 @@ pub returns-in-Audit-clause-asked : goal.returns-in-Audit-clause-asked
 returns-in-Audit-clause-asked g c =
     of_command (λ (line : CommandLine). g.F.Shelf.asked c.over_recording.new.shelf ≤ g.F.Shelf.asked c.args.shelf.now + file_count (name_of line))
     (map string_bytes c.args.arguments.now) (Audit (audit_words c.in-Audit.words)) (rw c.in-Audit.is at c.in-Some.ensures.some) c.over_recording.ensures.asked
+
+pub returns-in-Audit-clause-reached : goal.returns-in-Audit-clause-reached
+returns-in-Audit-clause-reached g c =
+    of_command (λ (line : CommandLine). g.F.Shelf.reached c.over_recording.new.shelf ≤ g.F.Shelf.reached c.args.shelf.now + file_bytes (name_of line))
+    (map string_bytes c.args.arguments.now) (Audit (audit_words c.in-Audit.words)) (rw c.in-Audit.is at c.in-Some.ensures.some) c.over_recording.ensures.reached
 
 pub returns-in-Audit-clause-unread : goal.returns-in-Audit-clause-unread
 returns-in-Audit-clause-unread g c = λ none. never_read _ (none (Audit (audit_words c.in-Audit.words)) (rw c.in-Audit.is at c.in-Some.ensures.some))

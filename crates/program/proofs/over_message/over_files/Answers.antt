@@ -2,7 +2,7 @@ use Rattle.std.proofs.Common.{◌≡◌, refl}
 use Rattle.std.specs.Prelude.{option_map}
 use Rattle.conf.specs.ConfMeaning.{meaning}
 use Rattle.std.proofs.lemmas.Result.{err_from_is_err_and}
-use Rattle.program.proofs.Reports.{all_unasked, conf_asked, conf_asked_alone, conf_read, conf_stopped, conf_unasked, keeps_both, table_stopped}
+use Rattle.program.proofs.Reports.{all_unasked, conf_asked, conf_asked_alone, conf_read, conf_stopped, conf_unasked, counted, keeps_both, measured, table_stopped}
 use Rattle.program.proofs.Sources.{none_gone}
 use Rattle.program.proofs.over_message.over_files.Goals as goal
 
@@ -18,7 +18,11 @@ returns-in_err-conf-clause-few g c = none_gone _ (g.S.Source.left c.args.source.
 
 pub returns-in_err-conf-clause-asked : goal.returns-in_err-conf-clause-asked
 returns-in_err-conf-clause-asked g c =
-    conf_asked_alone g.F.Shelf.asked (λ word. word.now) c.args.conf c.args.request c.args.wanted c.args.script c.args.shelf.now c.read_configuration.new.shelf c.in_err-conf.ensures.unasked c.in_err-conf.ensures.asked
+    conf_asked_alone counted g.F.Shelf.asked (λ word. word.now) c.args.conf c.args.request c.args.wanted c.args.script c.args.shelf.now c.read_configuration.new.shelf c.in_err-conf.ensures.unasked c.in_err-conf.ensures.asked
+
+pub returns-in_err-conf-clause-reached : goal.returns-in_err-conf-clause-reached
+returns-in_err-conf-clause-reached g c =
+    conf_asked_alone measured g.F.Shelf.reached (λ word. word.now) c.args.conf c.args.request c.args.wanted c.args.script c.args.shelf.now c.read_configuration.new.shelf c.in_err-conf.ensures.unasked c.in_err-conf.ensures.reached
 
 pub returns-in_err-conf-clause-unasked : goal.returns-in_err-conf-clause-unasked
 returns-in_err-conf-clause-unasked g c =
@@ -36,7 +40,11 @@ returns-in_err-check_tables-clause-few g c = none_gone _ (g.S.Source.left c.args
 
 pub returns-in_err-check_tables-clause-asked : goal.returns-in_err-check_tables-clause-asked
 returns-in_err-check_tables-clause-asked g c =
-    conf_asked_alone g.F.Shelf.asked (λ word. word.now) c.args.conf c.args.request c.args.wanted c.args.script c.args.shelf.now c.read_configuration.new.shelf c.in_ok-conf.ensures.unasked c.in_ok-conf.ensures.asked
+    conf_asked_alone counted g.F.Shelf.asked (λ word. word.now) c.args.conf c.args.request c.args.wanted c.args.script c.args.shelf.now c.read_configuration.new.shelf c.in_ok-conf.ensures.unasked c.in_ok-conf.ensures.asked
+
+pub returns-in_err-check_tables-clause-reached : goal.returns-in_err-check_tables-clause-reached
+returns-in_err-check_tables-clause-reached g c =
+    conf_asked_alone measured g.F.Shelf.reached (λ word. word.now) c.args.conf c.args.request c.args.wanted c.args.script c.args.shelf.now c.read_configuration.new.shelf c.in_ok-conf.ensures.unasked c.in_ok-conf.ensures.reached
 
 pub returns-in_err-check_tables-clause-unasked : goal.returns-in_err-check_tables-clause-unasked
 returns-in_err-check_tables-clause-unasked g c =
@@ -51,8 +59,13 @@ returns-clause-report g c =
 
 pub returns-clause-asked : goal.returns-clause-asked
 returns-clause-asked g c =
-    conf_asked g.F.Shelf.asked (λ word. word.now) c.args.conf c.args.request c.args.wanted c.args.script c.args.shelf.now c.read_configuration.new.shelf c.over_request.new.shelf
+    conf_asked counted g.F.Shelf.asked (λ word. word.now) c.args.conf c.args.request c.args.wanted c.args.script c.args.shelf.now c.read_configuration.new.shelf c.over_request.new.shelf
     c.in_ok-conf.ensures.unasked c.in_ok-conf.ensures.asked c.over_request.ensures.asked
+
+pub returns-clause-reached : goal.returns-clause-reached
+returns-clause-reached g c =
+    conf_asked measured g.F.Shelf.reached (λ word. word.now) c.args.conf c.args.request c.args.wanted c.args.script c.args.shelf.now c.read_configuration.new.shelf c.over_request.new.shelf
+    c.in_ok-conf.ensures.unasked c.in_ok-conf.ensures.reached c.over_request.ensures.reached
 
 pub returns-clause-unasked : goal.returns-clause-unasked
 returns-clause-unasked g c =

@@ -1,8 +1,7 @@
 use Rattle.std.specs.Prelude.{option_map}
 use Rattle.std.proofs.Common.{subst, sym}
-use Rattle.component_values.specs.Context.{MessageContext, context_of, answers_head}
+use Rattle.component_values.specs.Context.{HasWholeMessage, context_of}
 use Rattle.conf.specs.ConfMeaning.{meaning}
-use Rattle.msg_body.specs.Messages.{Spells}
 use Rattle.msg_body.specs.Views.{message_of}
 use Rattle.commands.specs.Messages.{IsInputMessage}
 use Rattle.msg_body.specs.declared.whole.Reading.{Reading}
@@ -18,9 +17,9 @@ returns-in_err-message-clause-after g c =
 pub returns-clause-after : goal.returns-clause-after
 returns-clause-after g c = after_answer c.answer.result c.answer.ensures.own
 
-pub answer-requires-clause-spells : goal.answer-requires-clause-spells
-answer-requires-clause-spells g c =
+pub answer-requires-clause-whole : goal.answer-requires-clause-whole
+answer-requires-clause-whole g c =
     let related = option_map (λ view. message_of view.now) c.args.related in
     let is = subst (λ (r : Reading). IsInputMessage r c.args.input.now (message_of c.in_ok-message.message)) c.of_input-reading.ensures c.in_ok-message.ensures.ok in
-    subst (λ (context : MessageContext). Spells (answers_head context.related) context.message c.args.input.now) (sym c.context_for-context.ensures)
-    (spelled_input related c.args.input.now (message_of c.in_ok-message.message) is)
+    subst HasWholeMessage (sym c.context_for-context.ensures)
+    (spelled_input related c.args.input.now (message_of c.in_ok-message.message) is).is

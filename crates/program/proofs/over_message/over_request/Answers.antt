@@ -10,7 +10,7 @@ use Rattle.commands.specs.Stops.{IfOutcome, IfRefused, IsRefusalFor}
 use Rattle.msg_body.specs.declared.whole.Reading.{Reading}
 use Rattle.refusals.specs.declared.refusal.Refusal.TheVariants.{Of}
 use Rattle.refusals.specs.declared.role.Role.TheVariants.{Request as OfRequest}
-use Rattle.program.proofs.Reports.{HasWishesOutcome, keeps_both, request_asked, request_asked_alone, request_read, request_stopped, request_unasked, request_unasked_alone, same_related, text_stop}
+use Rattle.program.proofs.Reports.{HasWishesOutcome, counted, keeps_both, measured, request_asked, request_asked_alone, request_read, request_stopped, request_unasked, request_unasked_alone, same_related, text_stop}
 use Rattle.program.proofs.over_message.over_request.Goals as goal
 
 pub returns-in_err-text-clause-report : goal.returns-in_err-text-clause-report
@@ -22,7 +22,11 @@ returns-in_err-text-clause-report g c =
 
 pub returns-in_err-text-clause-asked : goal.returns-in_err-text-clause-asked
 returns-in_err-text-clause-asked g c =
-    request_asked_alone g.F.Shelf.asked (λ word. word.now) c.args.name c.args.wanted c.args.script c.args.shelf.now c.take_message.new.shelf c.in_err-text.ensures.unasked c.in_err-text.ensures.asked
+    request_asked_alone counted g.F.Shelf.asked (λ word. word.now) c.args.name c.args.wanted c.args.script c.args.shelf.now c.take_message.new.shelf c.in_err-text.ensures.unasked c.in_err-text.ensures.asked
+
+pub returns-in_err-text-clause-reached : goal.returns-in_err-text-clause-reached
+returns-in_err-text-clause-reached g c =
+    request_asked_alone measured g.F.Shelf.reached (λ word. word.now) c.args.name c.args.wanted c.args.script c.args.shelf.now c.take_message.new.shelf c.in_err-text.ensures.unasked c.in_err-text.ensures.reached
 
 pub returns-in_err-text-clause-unasked : goal.returns-in_err-text-clause-unasked
 returns-in_err-text-clause-unasked g c = request_unasked_alone c.args.name c.args.wanted c.args.script c.args.shelf.now c.take_message.new.shelf c.in_err-text.ensures.unasked
@@ -41,7 +45,11 @@ returns-in_err-related-clause-report g c =
 
 pub returns-in_err-related-clause-asked : goal.returns-in_err-related-clause-asked
 returns-in_err-related-clause-asked g c =
-    request_asked_alone g.F.Shelf.asked (λ word. word.now) c.args.name c.args.wanted c.args.script c.args.shelf.now c.take_message.new.shelf c.in_ok-text.ensures.unasked c.in_ok-text.ensures.asked
+    request_asked_alone counted g.F.Shelf.asked (λ word. word.now) c.args.name c.args.wanted c.args.script c.args.shelf.now c.take_message.new.shelf c.in_ok-text.ensures.unasked c.in_ok-text.ensures.asked
+
+pub returns-in_err-related-clause-reached : goal.returns-in_err-related-clause-reached
+returns-in_err-related-clause-reached g c =
+    request_asked_alone measured g.F.Shelf.reached (λ word. word.now) c.args.name c.args.wanted c.args.script c.args.shelf.now c.take_message.new.shelf c.in_ok-text.ensures.unasked c.in_ok-text.ensures.reached
 
 pub returns-in_err-related-clause-unasked : goal.returns-in_err-related-clause-unasked
 returns-in_err-related-clause-unasked g c = request_unasked_alone c.args.name c.args.wanted c.args.script c.args.shelf.now c.take_message.new.shelf c.in_ok-text.ensures.unasked
@@ -66,8 +74,13 @@ returns-clause-report g c =
 
 pub returns-clause-asked : goal.returns-clause-asked
 returns-clause-asked g c =
-    request_asked g.F.Shelf.asked (λ word. word.now) c.args.name c.args.wanted c.args.script c.args.shelf.now c.take_message.new.shelf c.over_wishes.new.shelf
+    request_asked counted g.F.Shelf.asked (λ word. word.now) c.args.name c.args.wanted c.args.script c.args.shelf.now c.take_message.new.shelf c.over_wishes.new.shelf
     c.in_ok-text.ensures.unasked c.in_ok-text.ensures.asked c.over_wishes.ensures.asked
+
+pub returns-clause-reached : goal.returns-clause-reached
+returns-clause-reached g c =
+    request_asked measured g.F.Shelf.reached (λ word. word.now) c.args.name c.args.wanted c.args.script c.args.shelf.now c.take_message.new.shelf c.over_wishes.new.shelf
+    c.in_ok-text.ensures.unasked c.in_ok-text.ensures.reached c.over_wishes.ensures.reached
 
 pub returns-clause-unasked : goal.returns-clause-unasked
 returns-clause-unasked g c =

@@ -10,7 +10,7 @@ use Rattle.commands.specs.Stops.{IfOutcome, IfRefused, IsRefusalFor}
 use Rattle.msg_body.specs.declared.whole.Reading.{Reading}
 use Rattle.refusals.specs.declared.refusal.Refusal.TheVariants.{Of}
 use Rattle.refusals.specs.declared.role.Role.TheVariants.{Wanted as OfWanted}
-use Rattle.program.proofs.Reports.{HasScriptOutcome, both_unasked, keeps_both, one_unasked, same_related, text_stop, wishes_asked, wishes_asked_alone, wishes_read, wishes_stopped}
+use Rattle.program.proofs.Reports.{HasScriptOutcome, both_unasked, counted, keeps_both, measured, one_unasked, same_related, text_stop, wishes_asked, wishes_asked_alone, wishes_read, wishes_stopped}
 use Rattle.program.proofs.over_message.over_wishes.Goals as goal
 
 pub returns-in_err-text-clause-report : goal.returns-in_err-text-clause-report
@@ -34,14 +34,22 @@ returns-in_err-wishes-clause-report g c =
 
 pub returns-in_err-text-clause-asked : goal.returns-in_err-text-clause-asked
 returns-in_err-text-clause-asked g c =
-    wishes_asked_alone g.F.Shelf.asked (λ word. word.now) c.args.name c.args.script c.args.shelf.now c.take_message.new.shelf c.in_err-text.ensures.unasked c.in_err-text.ensures.asked
+    wishes_asked_alone counted g.F.Shelf.asked (λ word. word.now) c.args.name c.args.script c.args.shelf.now c.take_message.new.shelf c.in_err-text.ensures.unasked c.in_err-text.ensures.asked
+
+pub returns-in_err-text-clause-reached : goal.returns-in_err-text-clause-reached
+returns-in_err-text-clause-reached g c =
+    wishes_asked_alone measured g.F.Shelf.reached (λ word. word.now) c.args.name c.args.script c.args.shelf.now c.take_message.new.shelf c.in_err-text.ensures.unasked c.in_err-text.ensures.reached
 
 pub returns-in_err-text-clause-unasked : goal.returns-in_err-text-clause-unasked
 returns-in_err-text-clause-unasked g c = one_unasked c.args.name c.args.script c.args.shelf.now c.take_message.new.shelf c.in_err-text.ensures.unasked
 
 pub returns-in_err-wishes-clause-asked : goal.returns-in_err-wishes-clause-asked
 returns-in_err-wishes-clause-asked g c =
-    wishes_asked_alone g.F.Shelf.asked (λ word. word.now) c.args.name c.args.script c.args.shelf.now c.take_message.new.shelf c.in_ok-text.ensures.unasked c.in_ok-text.ensures.asked
+    wishes_asked_alone counted g.F.Shelf.asked (λ word. word.now) c.args.name c.args.script c.args.shelf.now c.take_message.new.shelf c.in_ok-text.ensures.unasked c.in_ok-text.ensures.asked
+
+pub returns-in_err-wishes-clause-reached : goal.returns-in_err-wishes-clause-reached
+returns-in_err-wishes-clause-reached g c =
+    wishes_asked_alone measured g.F.Shelf.reached (λ word. word.now) c.args.name c.args.script c.args.shelf.now c.take_message.new.shelf c.in_ok-text.ensures.unasked c.in_ok-text.ensures.reached
 
 pub returns-in_err-wishes-clause-unasked : goal.returns-in_err-wishes-clause-unasked
 returns-in_err-wishes-clause-unasked g c = one_unasked c.args.name c.args.script c.args.shelf.now c.take_message.new.shelf c.in_ok-text.ensures.unasked
@@ -66,8 +74,13 @@ returns-clause-report g c =
 
 pub returns-clause-asked : goal.returns-clause-asked
 returns-clause-asked g c =
-    wishes_asked g.F.Shelf.asked (λ word. word.now) c.args.name c.args.script c.args.shelf.now c.take_message.new.shelf c.over_script.new.shelf
+    wishes_asked counted g.F.Shelf.asked (λ word. word.now) c.args.name c.args.script c.args.shelf.now c.take_message.new.shelf c.over_script.new.shelf
     c.in_ok-text.ensures.unasked c.in_ok-text.ensures.asked c.over_script.ensures.unasked c.over_script.ensures.asked
+
+pub returns-clause-reached : goal.returns-clause-reached
+returns-clause-reached g c =
+    wishes_asked measured g.F.Shelf.reached (λ word. word.now) c.args.name c.args.script c.args.shelf.now c.take_message.new.shelf c.over_script.new.shelf
+    c.in_ok-text.ensures.unasked c.in_ok-text.ensures.reached c.over_script.ensures.unasked c.over_script.ensures.reached
 
 pub returns-clause-unasked : goal.returns-clause-unasked
 returns-clause-unasked g c =

@@ -25,4 +25,4 @@ returns c =
     let framing : context.message.framing ≡ Length = search rules in
     let head = c.in_ok-append_head_with.ensures ∙ (λ i. c.in_ok-text.ensures.ok i ++ head_with (c.header_of-lines.ensures i) c.in-Some.index coding_line) in
     let text = c.in_ok-append.ensures.ok ∙ ap (λ t. t ++ codes "\r\n") (c.in_ok-append_chunks.ensures ∙ ap (λ t. t ++ chunks) head) in
-    chunk_offered context c.append.new.self c.requires.spells.is sizes c.in-Some.index framing fits c.in-Some.ensures text
+    chunk_offered context c.append.new.self c.requires.whole sizes c.in-Some.index framing fits c.in-Some.ensures text

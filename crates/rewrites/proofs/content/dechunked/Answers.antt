@@ -20,4 +20,4 @@ returns c =
     c.in_ok-append_head_of_length.ensures
     ∙ (λ i. c.in_ok-text.ensures.ok i ++ head_with (c.header_of-lines.ensures i) c.in-Some.index (length_line (c.content_len.ensures i))) in
     let text = c.in_ok-append_content.ensures ∙ ap (λ t. t ++ message_content context.message) head in
-    dechunk_offered context c.append_content.new.text c.requires.spells.is c.in-Some.index framing none c.in-Some.ensures text
+    dechunk_offered context c.append_content.new.text c.requires.whole c.in-Some.index framing none c.in-Some.ensures text

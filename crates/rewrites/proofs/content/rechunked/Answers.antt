@@ -21,4 +21,4 @@ returns c =
     let head = c.in_ok-append_head.ensures ∙ (λ i. c.in_ok-text.ensures.ok i ++ head_in (c.header_of.ensures i)) in
     let rest = c.rest_from.ensures ∙ (λ i. lines_text (c.in-Some.ensures.1 i).lines ++ (c.in-Some.ensures.1 i).after) in
     let text = c.in_ok-append.ensures.ok ∙ (λ i. (c.in_ok-append_chunks.ensures ∙ ap (λ t. t ++ chunks) head) i ++ rest i) in
-    rechunk_offered context c.append.new.self c.requires.spells.is sizes c.in-Some.ensures.0 fits text
+    rechunk_offered context c.append.new.self c.requires.whole sizes c.in-Some.ensures.0 fits text

@@ -12,8 +12,8 @@ returns-in_default c = λ made makes is. c.in_default.ensures.none makes.line ma
 pub returns : goal.returns
 returns c =
     let line = c.in-Some.line in
-    absolute_offers (context_of c.args.context.now) c.args.bytes.now (request_line_of line) (parts_of line.parts) (c.scheme_text.result.now ++ (codes "://" ++ (c.bytes.result.now ++ line.target.now)))
-    c.retargeted.result c.requires.spells c.in-Some.ensures.some
+    absolute_offers (context_of c.args.context.now) c.bytes-2.result.now (request_line_of line) (parts_of line.parts) (c.scheme_text.result.now ++ (codes "://" ++ (c.bytes.result.now ++ line.target.now)))
+    c.retargeted.result (record { is = c.requires.whole; text = c.bytes-2.ensures }) c.in-Some.ensures.some
     (record {
       form = c.in-Origin.is;
       authority = c.in-Ok.authority;

@@ -18,5 +18,5 @@ returns-in_default-origin_target c = λ made makes is.
 pub returns : goal.returns
 returns c =
     let line = request_line_of c.in-Some.line in
-    origin_offers (context_of c.args.context.now) c.args.bytes.now line (parts_of c.in-Some.line.parts) (new_target_text c.in-Some-origin_target.target) c.retargeted.result c.requires.spells
+    origin_offers (context_of c.args.context.now) c.bytes.result.now line (parts_of c.in-Some.line.parts) (new_target_text c.in-Some-origin_target.target) c.retargeted.result (record { is = c.requires.whole; text = c.bytes.ensures })
     c.in-Some.ensures.some (c.in-Some-origin_target.ensures.some line) c.retargeted.ensures

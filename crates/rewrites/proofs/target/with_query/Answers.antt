@@ -17,5 +17,5 @@ returns-in_default-query_target c = λ made makes is.
 
 pub returns : goal.returns
 returns c =
-    query_offers (context_of c.args.context.now) c.args.text.now c.args.bytes.now (request_line_of c.in-Some.line) (parts_of c.in-Some.line.parts) (new_target_text c.in-Some-query_target.target) c.retargeted.result
-    c.requires.writable c.requires.spells c.in-Some.ensures.some c.in-Some-query_target.ensures.some c.retargeted.ensures
+    query_offers (context_of c.args.context.now) c.args.text.now c.bytes.result.now (request_line_of c.in-Some.line) (parts_of c.in-Some.line.parts) (new_target_text c.in-Some-query_target.target) c.retargeted.result
+    c.requires.writable (record { is = c.requires.whole; text = c.bytes.ensures }) c.in-Some.ensures.some c.in-Some-query_target.ensures.some c.retargeted.ensures

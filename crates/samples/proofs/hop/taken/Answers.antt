@@ -1,22 +1,19 @@
-use Rattle.std.proofs.Common.{List, ℕ, false, subst, sym}
-use Rattle.msg_body.specs.Messages.{Spells}
-use Rattle.samples.proofs.TakenSteps.{lead_begun, lead_more, lead_done}
+use Rattle.std.proofs.Common.{IfOk, refl, subst}
+use Rattle.msg_body.specs.Messages.{Message}
+use Rattle.msg_body.specs.Views.{message_of}
+use Rattle.msg_body.proofs.OneMessages.{one_message_law}
+use Rattle.samples.specs.tools.Made.{LeadsTo}
+use Rattle.samples.proofs.TakenSteps.{read_whole, no_read_fault, within_limit}
 use Rattle.samples.proofs.hop.taken.Goals as goal
 
-pub loop-step-init : goal.loop-step-init
-loop-step-init c = λ message spells.
-    lead_begun message c.args.script.now c.in_ok-now.now (subst (λ (t : List ℕ). Spells false message t) (sym c.in_ok-now.ensures.ok) spells)
+pub whole_message-requires : goal.whole_message-requires
+whole_message-requires c = rw c.bytes.ensures (within_limit c.args.text.now c.requires.spells.0 c.requires.spells.1)
 
-pub stepped-requires-clause-spells : goal.stepped-requires-clause-spells
-stepped-requires-clause-spells c =
-    let far = c.loop-step.invariant c.requires.spells.0 c.requires.spells.1 in
-    (far.after, far.spells)
+pub returns-in-Ok : goal.returns-in-Ok
+returns-in-Ok c = λ message spells.
+    let own = read_whole c.of_any.result c.bytes.result.now c.args.text.now (message_of c.in-Ok.message) c.of_any.ensures c.bytes.ensures c.in-Ok.ensures.whole in
+    subst (λ (m : Message). IfOk c.after_steps.result (LeadsTo m c.args.script.now)) (one_message_law _ c.args.text.now (message_of c.in-Ok.message) message own spells) c.after_steps.ensures
 
-pub loop-step-preserved : goal.loop-step-preserved
-loop-step-preserved c = λ message spells.
-    lead_more message c.args.script.now c.loop-step.step-index c.loop-step.now (c.loop-step.invariant message spells) c.step-item.result c.in_ok-now-2.now
-    c.loop-step-test.true c.step-item.is c.in_ok-now-2.ensures
-
-pub returns : goal.returns
-returns c = λ message spells.
-    lead_done message c.args.script.now c.loop-step.step-index c.loop-step.now (c.loop-step.invariant message spells) c.loop-step-test.false
+pub only_memory-requires : goal.only_memory-requires
+only_memory-requires c = λ told.
+    no_read_fault c.of_any.result c.bytes.result.now c.args.text.now c.requires.spells.0 c.in-Err.fault c.of_any.ensures c.bytes.ensures c.requires.spells.1 ((c.in-Err.ensures.fault c.in-Err.fault told).only refl)

@@ -22,16 +22,9 @@ returns-in-Ok c =
     c.bytes.ensures ∙ (c.in_ok-value.ensures ∙ ap joined_value c.lines_named-lines.ensures) in
     record { there = there; reads = subst (λ (t : List ℕ). ReadsDict t c.in-Ok.dict) text_is c.in-Ok.ensures.ok }
 
-pub returns-in-Err-Syntax : goal.returns-in-Err-Syntax
-returns-in-Err-Syntax c =
-    let message = message_of c.args.view.now in
-    let there : is_there (lines_on Header message) c.args.name.now ≡ true =
-    some_there (lines_on Header message) c.lines_named-lines.result c.args.name.now c.lines_named-lines.ensures (sym c.is_empty.ensures ∙ c.if-is_empty.false) in
-    unread_field message c.args.name.now c.bytes.result.now there (c.bytes.ensures ∙ (c.in_ok-value.ensures ∙ ap joined_value c.lines_named-lines.ensures)) (rw c.in-Err-Syntax.field-0-is at c.in-Err-Syntax.ensures.only)
-
 pub returns : goal.returns
 returns c =
     let message = message_of c.args.view.now in
     let there : is_there (lines_on Header message) c.args.name.now ≡ true =
     some_there (lines_on Header message) c.lines_named-lines.result c.args.name.now c.lines_named-lines.ensures (sym c.is_empty.ensures ∙ c.if-is_empty.false) in
-    unread_field message c.args.name.now c.bytes.result.now there (c.bytes.ensures ∙ (c.in_ok-value.ensures ∙ ap joined_value c.lines_named-lines.ensures)) (rw c.in-Err-ItemKind.field-0-is at c.in-Err-ItemKind.ensures.only)
+    unread_field message c.args.name.now c.bytes.result.now there (c.bytes.ensures ∙ (c.in_ok-value.ensures ∙ ap joined_value c.lines_named-lines.ensures)) (rw c.in-Err-Syntax.field-0-is at c.in-Err-Syntax.ensures.only)

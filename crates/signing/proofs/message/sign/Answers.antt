@@ -1,3 +1,5 @@
+use Rattle.std.proofs.Common.{refl}
+use Rattle.msg_body.specs.Messages.{message_text}
 use Rattle.component_values.specs.Context.{context_of}
 use Rattle.signing.proofs.Made.{signed_is, fault_is}
 use Rattle.signing.proofs.Verifiable.{spells_is, verifiable_is}
@@ -11,8 +13,8 @@ returns-clause-fault c = fault_is (context_of c.args.context.now) c.args.spec.no
 
 pub returns-clause-verifiable : goal.returns-clause-verifiable
 returns-clause-verifiable c =
-    verifiable_is (context_of c.args.context.now) c.args.spec.now c.args.bytes.now c.judge.result c.requires.valid c.requires.spells c.judge.ensures
+    verifiable_is (context_of c.args.context.now) c.args.spec.now (message_text (context_of c.args.context.now).message) c.judge.result c.requires.valid (record { is = c.requires.whole; text = refl }) c.judge.ensures
 
 pub returns-clause-spells : goal.returns-clause-spells
 returns-clause-spells c =
-    spells_is (context_of c.args.context.now) c.args.spec.now c.args.bytes.now c.judge.result c.requires.valid c.requires.spells c.judge.ensures
+    spells_is (context_of c.args.context.now) c.args.spec.now (message_text (context_of c.args.context.now).message) c.judge.result c.requires.valid (record { is = c.requires.whole; text = refl }) c.judge.ensures

@@ -6,15 +6,23 @@ use Rattle.verdicts.specs.Rules.{Fails, asks_digest_of}
 use Rattle.verdicts.specs.tools.Judged.{AcceptsContent, FailsByMac, FailsByDigest, FailsByRoom}
 use Rattle.verdicts.proofs.RuleOrder.{says_failure}
 use Rattle.verdicts.proofs.Judging.{explains_by, mac_or_lack_fails, digest_fails, room_fails}
+use Rattle.verdicts.proofs.KnownTagLaws.{known_of}
 use Rattle.verdicts.proofs.judge.judge_content.Goals as goal
 
 pub judge_mac-requires-clause-in_range : goal.judge_mac-requires-clause-in_range
 judge_mac-requires-clause-in_range c = c.requires.in_range
 
+pub judge_mac-requires-clause-known : goal.judge_mac-requires-clause-known
+judge_mac-requires-clause-known c =
+    let v = model_of c.args.verification.now in
+    let signed = c.args.signed.now in
+    let has = c.requires.has.1 in
+    known_of v.conf v.context v.label signed.read.now.params signed.read.now.tag c.requires.has.0 c.args.key.now has.under.signature has.under.is has.is signed.is_right c.requires.known
+
 pub returns-in_err-judge_mac-clause-explains : goal.returns-in_err-judge_mac-clause-explains
 returns-in_err-judge_mac-clause-explains c =
     let v = model_of c.args.verification.now in
-    let read = c.args.read.now in
+    let read = c.args.signed.now.read.now in
     let key = c.args.key.now in
     let has = c.requires.has.1 in
     let p = err_from_is_err_and c.from_residual.result c.from_residual.ensures.1 in
@@ -24,7 +32,7 @@ returns-in_err-judge_mac-clause-explains c =
 pub returns-in_err-judge_digest-clause-explains : goal.returns-in_err-judge_digest-clause-explains
 returns-in_err-judge_digest-clause-explains c =
     let v = model_of c.args.verification.now in
-    let read = c.args.read.now in
+    let read = c.args.signed.now.read.now in
     let key = c.args.key.now in
     let has = c.requires.has.1 in
     let mac = c.in_ok-judge_mac.ensures.explains in
@@ -35,7 +43,7 @@ returns-in_err-judge_digest-clause-explains c =
 pub returns-clause-explains : goal.returns-clause-explains
 returns-clause-explains c =
     let v = model_of c.args.verification.now in
-    let read = c.args.read.now in
+    let read = c.args.signed.now.read.now in
     let policy = policy_of v.conf read.params in
     let key = c.args.key.now in
     let has = c.requires.has.1 in

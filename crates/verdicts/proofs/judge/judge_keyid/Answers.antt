@@ -10,7 +10,7 @@ use Rattle.verdicts.proofs.judge.judge_keyid.Goals as goal
 pub returns-in_err-key-clause-explains : goal.returns-in_err-key-clause-explains
 returns-in_err-key-clause-explains g c =
     let v = model_of c.args.verification.now in
-    let read = c.args.read.now in
+    let read = c.args.signed.now.read.now in
     let has = c.requires.has in
     let p = err_from_is_err_and c.from_residual.result c.from_residual.ensures.1 in
     rw (p.1, p.2)
@@ -19,7 +19,7 @@ returns-in_err-key-clause-explains g c =
 pub returns-in_err-judge_policy-clause-explains : goal.returns-in_err-judge_policy-clause-explains
 returns-in_err-judge_policy-clause-explains g c =
     let v = model_of c.args.verification.now in
-    let read = c.args.read.now in
+    let read = c.args.signed.now.read.now in
     let has = c.requires.has in
     let p = err_from_is_err_and c.from_residual-in_err-judge_policy.result c.from_residual-in_err-judge_policy.ensures.1 in
     rw (p.1, p.2) (c.in_err-judge_policy.ensures.explains read.tag has.signature (none_below_17 v read.params read.tag has.signature has.alg c.args.keyid.now has.is c.in_ok-key.key.now c.in_ok-key.ensures.explains))
@@ -27,7 +27,7 @@ returns-in_err-judge_policy-clause-explains g c =
 pub judge_content-requires-clause-has : goal.judge_content-requires-clause-has
 judge_content-requires-clause-has g c =
     let v = model_of c.args.verification.now in
-    let read = c.args.read.now in
+    let read = c.args.signed.now.read.now in
     let has = c.requires.has in
     let policy = c.in_ok-judge_policy.ensures.explains read.tag has.signature (none_below_17 v read.params read.tag has.signature has.alg c.args.keyid.now has.is c.in_ok-key.key.now c.in_ok-key.ensures.explains) in
     (c.args.keyid.now, record { under = has; is = c.in_ok-key.ensures.explains; policy = policy })
@@ -35,7 +35,7 @@ judge_content-requires-clause-has g c =
 pub returns-clause-explains : goal.returns-clause-explains
 returns-clause-explains g c =
     let v = model_of c.args.verification.now in
-    let read = c.args.read.now in
+    let read = c.args.signed.now.read.now in
     let has = c.requires.has in
     let keyid = c.args.keyid.now in
     let key = c.in_ok-key.key.now in

@@ -7,7 +7,7 @@ use Rattle.verdicts.proofs.judge.judge_signature.Goals as goal
 pub returns-in_err-judge_algorithm-clause-explains : goal.returns-in_err-judge_algorithm-clause-explains
 returns-in_err-judge_algorithm-clause-explains g c =
     let v = model_of c.args.verification.now in
-    let read = c.args.read.now in
+    let read = c.args.signed.now.read.now in
     let has = c.requires.has in
     let p = err_from_is_err_and c.from_residual.result c.from_residual.ensures.1 in
     rw (p.1, p.2)
@@ -16,7 +16,7 @@ returns-in_err-judge_algorithm-clause-explains g c =
 pub returns-in_err-keyid-clause-explains : goal.returns-in_err-keyid-clause-explains
 returns-in_err-keyid-clause-explains g c =
     let v = model_of c.args.verification.now in
-    let read = c.args.read.now in
+    let read = c.args.signed.now.read.now in
     let has = c.requires.has in
     let p = err_from_is_err_and c.from_residual-in_err-keyid.result c.from_residual-in_err-keyid.ensures.1 in
     rw (p.1, p.2)
@@ -40,8 +40,8 @@ returns-clause-explains g c =
     let under = accepts.1.under in
     rw c.in_ok-from_bytes.ensures.ok
     (record {
-      params = c.args.read.now.params;
-      tag = c.args.read.now.tag;
+      params = c.args.signed.now.read.now.params;
+      tag = c.args.signed.now.read.now.tag;
       signature = under.signature;
       alg = under.alg;
       keyid_is = under.is;

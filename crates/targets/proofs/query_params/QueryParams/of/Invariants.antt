@@ -3,10 +3,10 @@ use Rattle.std.specs.Prelude.{map}
 use Rattle.form_urlencoded.specs.Form.{raw_pairs}
 use Rattle.form_urlencoded.specs.Parse.{raw_pairs_left}
 use Rattle.targets.specs.Query.{decoded_pair}
-use Rattle.targets.specs.tools.Params.{AreFoundIn}
+use Rattle.targets.specs.tools.Params.{AreListedIn}
 use Rattle.targets.proofs.query_params.QueryParams.of.Given as goal
 
 abbrev pub invariant-loop-raw_name : goal.invariant-loop-raw_name
 invariant-loop-raw_name l =
     (done : List (List ℕ × List ℕ)) × (done ++ raw_pairs_left l.raw_name-iterator ≡ raw_pairs l.query)
-    × AreFoundIn l.values (map decoded_pair done)
+    × AreListedIn l.places l.lists.items (map decoded_pair done)

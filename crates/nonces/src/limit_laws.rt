@@ -1,0 +1,14 @@
+//! The limits in numbers. The function does nothing; its contract is the law.
+
+ghost use Rattle.std.specs.Prelude.{◌≡◌};
+
+use crate::limits::{MAX_ENTRIES, MAX_KEYID_BYTES, MAX_MOMENT, MAX_NONCE_BYTES, MAX_WINDOW};
+
+/// The limits of this crate are these numbers.
+pub fn limits_are_these()
+    ensures max_entries { MAX_ENTRIES ≡ 65_536 }
+    ensures max_window { MAX_WINDOW ≡ 86_400 }
+    ensures max_keyid_bytes { MAX_KEYID_BYTES ≡ 64 }
+    ensures max_nonce_bytes { MAX_NONCE_BYTES ≡ 256 }
+    ensures max_moment { MAX_MOMENT ≡ 999_999_999_999_999 }
+{}

@@ -1,0 +1,11 @@
+//! The limits in numbers. The function does nothing; its contract is the law.
+
+ghost use Rattle.std.specs.Prelude.{◌≡◌};
+
+use crate::limits::{MAX_ITEM_BYTES, MAX_NUMBER_DIGITS};
+
+/// The limits of this crate are these numbers.
+pub fn limits_are_these()
+    ensures max_number_digits { MAX_NUMBER_DIGITS ≡ 15 }
+    ensures max_item_bytes { MAX_ITEM_BYTES ≡ 16_777_216 }
+{}

@@ -1,0 +1,34 @@
+//! What is known of a tag before its label is judged.
+
+ghost use Rattle.component_values.specs.Context.{MessageContext};
+ghost use Rattle.settings.specs.Configuration.{Configuration};
+ghost use Rattle.std.specs.Prelude.{ℕ, List, ◌≡◌};
+ghost use Rattle.verdicts.specs.KnownTags.{KnowsTag};
+ghost use Rattle.verdicts.specs.Verdicts.{IsVerdict};
+ghost use Rattle.verdicts.specs.Verification.{Verification};
+
+use crate::outcome::Verdict;
+use signatures::{LabelRead, Rule};
+
+/// The signature of a label, and whether its tag is right, where that is known: then no signature
+/// base is made for it.
+#[derive(Clone, Copy)]
+pub struct Signed<'r> {
+    pub read: &'r LabelRead,
+    pub is_right: Option<bool>,
+}
+
+/// Whether the tag of the label is right, where that is known with its verdict.
+pub fn known_with(verdict: &Verdict, is_right: Option<bool>) -> Option<bool>
+    ensures { (v : Verification) → KnowsTag v.conf v.context v.label is_right
+        → IsVerdict v verdict.now → KnowsTag v.conf v.context v.label result }
+{
+    match verdict {
+        Verdict::Ok { .. } => Some(true),
+        Verdict::Rule {
+            number: Rule::MacMismatch,
+            ..
+        } => Some(false),
+        Verdict::Rule { .. } => is_right,
+    }
+}
