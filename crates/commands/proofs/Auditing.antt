@@ -8,7 +8,7 @@ use Rattle.hop_audit.specs.ChainFaults.{IsChainFault}
 use Rattle.hop_audit.specs.Report.{IsAudit}
 use Rattle.hop_audit.specs.declared.fault.ChainFault.{ChainFault}
 use Rattle.hop_audit.specs.declared.fault.ChainFault.TheVariants as chain
-use Rattle.hop_audit.specs.declared.limits.TheConstants.{MAX_HOPS}
+use Rattle.recording.specs.declared.limits.TheConstants.{MAX_HOPS}
 use Rattle.hop_audit.specs.declared.line.AuditLine.{AuditLine}
 use Rattle.commands.specs.Audit.{IsRecordingText, IsRecordingRefused, IsChainRefused, ReportsChain, ReportsAudit, audit_outcome}
 use Rattle.commands.specs.Laws.{HasOneAuditing, HasSomeAuditing, IsChainDecided, HasAudit}

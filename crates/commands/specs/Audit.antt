@@ -11,7 +11,7 @@ use Rattle.hop_audit.specs.ChainFaults.{IsChainFault}
 use Rattle.hop_audit.specs.Lines.{finds_fault, report_text}
 use Rattle.hop_audit.specs.Report.{IsAudit}
 use Rattle.hop_audit.specs.declared.fault.ChainFault.TheVariants as chain
-use Rattle.hop_audit.specs.declared.limits.TheConstants.{MAX_HOPS}
+use Rattle.recording.specs.declared.limits.TheConstants.{MAX_HOPS}
 use Rattle.hop_audit.specs.declared.line.AuditLine.{AuditLine}
 use Rattle.refusals.specs.declared.file.FileRefusal.{FileRefusal}
 use Rattle.refusals.specs.declared.file.FileRefusal.TheVariants.{TooLong, Message, Script, Recording, Order, TooManyHops}

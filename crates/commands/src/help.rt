@@ -67,7 +67,7 @@ output, refusals included, goes to standard output.
   3  the input or the command refused 8  a limit is passed
   4  a read failed                    9  a named file is missing
 
-The manual is docs/MANUAL.md.
+The manual page is hms(1), the whole manual docs/MANUAL.md.
 ";
 
 /// The text of `--help`.

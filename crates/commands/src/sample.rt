@@ -1,7 +1,7 @@
 //! The command `sample`: the summary of the report on a chain that is drawn from a seed.
 
 ghost use Rattle.std.specs.Prelude.{◌<◌, ◌≤◌};
-ghost use Rattle.hop_audit.specs.declared.limits.TheConstants.{MAX_HOPS};
+ghost use Rattle.recording.specs.declared.limits.TheConstants.{MAX_HOPS};
 ghost use Rattle.commands.specs.Sample.{ReportsSample};
 ghost use Rattle.commands.specs.Stops.{IfOutcome, ReadsNothing};
 

@@ -1,8 +1,8 @@
 -- What an audit answers: the first fault, or the report of items that have none.
 use Rattle.std.proofs.Common.{◌≡◌, ◌≢◌, ◌-◌, ℕ, List, length, Option, Some, Result, Ok, Err, refl, sym, ap, subst, ◌∙◌, inl, inr, arith}
 use Rattle.byte_grammar.specs.Causes.{AnswersWhere}
-use Rattle.component_values.specs.Context.{MessageContext, answers_head, context_of, context_with}
-use Rattle.msg_body.specs.Messages.{Message, Spells}
+use Rattle.component_values.specs.Context.{HasWholeMessage, MessageContext, answers_head, context_of, context_with}
+use Rattle.msg_body.specs.Messages.{IsMessage, Message}
 use Rattle.msg_body.specs.declared.whole.Reading.{Reading}
 use Rattle.recording.specs.Items.{PlacedItem}
 use Rattle.settings.specs.ConfMeaning.{meaning}
@@ -13,13 +13,14 @@ use Rattle.hop_audit.specs.declared.fault.ChainFault.{ChainFault}
 use Rattle.hop_audit.specs.declared.fault.ChainFault.TheVariants.{Memory, Order, TooManyHops, Message as NoMessage, Script as NoScript, ScriptTooLong}
 use Rattle.hop_audit.specs.declared.hop_lines.End.{End}
 use Rattle.hop_audit.specs.declared.line.AuditLine.{AuditLine}
-use Rattle.hop_audit.specs.declared.order.RecordedChain.{RecordedChain as HeldChain}
+use Rattle.recording.specs.declared.chain.RecordedChain.{RecordedChain as HeldChain}
 use Rattle.hop_audit.specs.ChainFaults.{IsChainFault}
-use Rattle.hop_audit.specs.Chains.{Subject, requests, responses, related_items}
-use Rattle.hop_audit.specs.ChainValues.{AnswersRequest, one_request, reading_of, role_of}
+use Rattle.recording.specs.Chains.{Subject, requests, responses, related_items, role_of}
+use Rattle.hop_audit.specs.ChainValues.{AnswersRequest, one_request, reading_of}
 use Rattle.hop_audit.specs.tools.Judged.{SaysRelated, SaysReport}
 use Rattle.hop_audit.specs.tools.Read.{IsStageOf, SaysMessage}
-use Rattle.hop_audit.specs.tools.Recorded.{IsHeldChain, SaysOrder, chain_meant, subject_meant}
+use Rattle.recording.specs.RecordedChains.{IsHeldChain, chain_meant, subject_meant}
+use Rattle.hop_audit.specs.tools.Recorded.{SaysOrder}
 use Rattle.hop_audit.specs.tools.Written.{AreEnds}
 use Rattle.hop_audit.proofs.FirstFaults.{fault_of_number, fault_of_order, fault_of_related, no_fault_where_audited, one_fault}
 
@@ -33,15 +34,15 @@ same_head (responses text) related is = refl
 pub are_ends : (before after : End) (conf : Configuration) (was now : Message) (related : Option Message)
     → context_of before.context.now ≡ context_for conf was related → context_of after.context.now ≡ context_for conf now related
     → IsStageOf was before.stage.now → IsStageOf now after.stage.now
-    → Spells (answers_head related) was before.bytes.now → Spells (answers_head related) now after.bytes.now → AreEnds before after
-are_ends before after conf was now related is also stage other spells more = record {
+    → IsMessage (answers_head related) was → IsMessage (answers_head related) now → AreEnds before after
+are_ends before after conf was now related is also stage other whole more = record {
   before_is = record {
     stage = subst (λ (m : Message). IsStageOf m before.stage.now) (sym (ap (λ (c : MessageContext). c.message) is)) stage;
-    spells = subst (λ (c : MessageContext). Spells (answers_head c.related) c.message before.bytes.now) (sym is) spells;
+    whole = subst HasWholeMessage (sym is) whole;
   };
   after_is = record {
     stage = subst (λ (m : Message). IsStageOf m after.stage.now) (sym (ap (λ (c : MessageContext). c.message) also)) other;
-    spells = subst (λ (c : MessageContext). Spells (answers_head c.related) c.message after.bytes.now) (sym also) more;
+    whole = subst HasWholeMessage (sym also) more;
   };
   alike = also ∙ sym (λ i. context_with (is i) (also i).message);
 }

@@ -4,6 +4,7 @@ use Rattle.std.specs.Prelude.{IsTrue, IfSome, unwrap_or, slice_get}
 use Rattle.std.specs.List.{AllZip, flat_map}
 use Rattle.std.proofs.lemmas.List.{drop_more, drop_all, append-nil, length-map}
 use Rattle.std.proofs.lemmas.Option.{get_or_from_slice_get, slice_get-get_or, slice_get-map, slice_get_within}
+use Rattle.msg_body.specs.Messages.{IsMessage}
 use Rattle.msg_body.specs.Views.{message_of}
 use Rattle.msg_body.specs.WholeTexts.{IsMessageFault, IsWhole}
 use Rattle.msg_body.specs.declared.whole.Reading.{Reading}
@@ -16,18 +17,19 @@ use Rattle.hop_audit.specs.declared.chain_audit.Reached.{Reached}
 use Rattle.hop_audit.specs.declared.fault.ChainFault.{ChainFault}
 use Rattle.hop_audit.specs.declared.fault.ChainFault.TheVariants.{Memory, Order, TooManyHops, Message as NoMessage, Script as NoScript, ScriptTooLong}
 use Rattle.hop_audit.specs.declared.line.AuditLine.{AuditLine}
-use Rattle.hop_audit.specs.declared.order.RecordedChain.{RecordedChain as HeldChain}
-use Rattle.hop_audit.specs.declared.order.RecordedHop.{RecordedHop as HeldHop}
+use Rattle.recording.specs.declared.chain.RecordedChain.{RecordedChain as HeldChain}
+use Rattle.recording.specs.declared.chain.RecordedHop.{RecordedHop as HeldHop}
 use Rattle.hop_audit.specs.declared.stage.Stage.{Stage}
 use Rattle.hop_audit.specs.ChainFaults.{IsChainFault}
-use Rattle.hop_audit.specs.Chains.{RecordedHop, related_items}
-use Rattle.hop_audit.specs.ChainValues.{AnswersRequest, Chain, Hop, IsChainOf, IsHop, IsScriptItem, reading_of, role_of}
+use Rattle.recording.specs.Chains.{RecordedHop, related_items, role_of}
+use Rattle.hop_audit.specs.ChainValues.{AnswersRequest, Chain, Hop, IsChainOf, IsHop, IsScriptItem, reading_of}
 use Rattle.hop_audit.specs.Hops.{PlacedHop, places_from}
 use Rattle.hop_audit.specs.Report.{AreHopLines, IsReport}
 use Rattle.hop_audit.specs.Lines.{are_lines_in_range}
+use Rattle.hop_audit.specs.tools.Carried.{KnowTags}
 use Rattle.hop_audit.specs.tools.Judged.{AddsFirst, AddsHop, AddsNext, IsSizedHop, SaysHop, SaysReport, SaysStage, context_of_audit, related_of}
 use Rattle.hop_audit.specs.tools.Read.{IsStageOf, SaysMessage, SaysScript}
-use Rattle.hop_audit.specs.tools.Recorded.{IsHeldChain, chain_meant, hop_meant, items_up_to, subject_meant}
+use Rattle.recording.specs.RecordedChains.{IsHeldChain, chain_meant, hop_meant, items_up_to, subject_meant}
 use Rattle.hop_audit.specs.tools.Written.{AddsMessageLines}
 use Rattle.hop_audit.proofs.FirstFaults.{IsClean, clean_first, clean_hops, clean_hop, fault_of_first, fault_of_script, long_script, fault_of_message}
 use Rattle.hop_audit.proofs.ReportLines.{joined_in_range, hop_in_range}
@@ -44,9 +46,10 @@ pub record IsAuditOf (audit : ChainAudit) (chain : HeldChain) : Type 0 where
   pub reading : audit.reading ≡ reading_of (related_of audit) (role_of (subject_meant chain.subject))
 
 -- so many hops are reported, and the last message has this moment
-pub record IsAuditedSoFar (audit : ChainAudit) (chain : HeldChain) (count moment : ℕ) (text : List ℕ) (stage : Stage) (lines : List AuditLine) : Type 0 where
-  pub whole : IsWhole audit.reading text (message_of stage.message)
+pub record IsAuditedSoFar (audit : ChainAudit) (chain : HeldChain) (count moment : ℕ) (stage : Stage) (lines : List AuditLine) : Type 0 where
+  pub whole : IsMessage audit.reading.to_head (message_of stage.message)
   pub stage_is : IsStageOf (message_of stage.message) stage
+  pub known : KnowTags (meaning audit.conf.now) (context_of_audit audit (message_of stage.message)) stage.known
   pub now : moment ≤ MAX_MOMENT
   pub in_range : IsTrue (are_lines_in_range lines)
   pub clean : (items : List PlacedItem) → IsHeldChain items chain → IsClean items (chain_meant chain) (length (items_up_to (chain_meant chain) count))
@@ -79,10 +82,11 @@ module _ (audit : ChainAudit) (chain : HeldChain) (of : IsAuditOf audit chain) w
 
   pub first_reported : (stage : Stage) (lines : List AuditLine) → chain.moment ≤ MAX_MOMENT → SaysStage chain.item audit.reading chain.first.now (Ok stage)
       → AddsMessageLines (meaning audit.conf.now) (context_of_audit audit (message_of stage.message)) 0 chain.moment [] lines
-      → IsAuditedSoFar audit chain 0 chain.moment chain.first.now stage lines
-  first_reported stage lines short says added = record {
-    whole = says.0;
+      → KnowTags (meaning audit.conf.now) (context_of_audit audit (message_of stage.message)) stage.known → IsAuditedSoFar audit chain 0 chain.moment stage lines
+  first_reported stage lines short says added known = record {
+    whole = says.0.spells.is;
     stage_is = says.1;
+    known = known;
     now = short;
     in_range = subst (λ (ls : List AuditLine). IsTrue (are_lines_in_range ls)) (sym added.added) added.in_range;
     clean = λ items held.
@@ -108,11 +112,9 @@ module _ (audit : ChainAudit) (chain : HeldChain) (of : IsAuditOf audit chain) w
   }
 
   pub first_reached : (reached : Reached) (lines : List AuditLine) → chain.moment ≤ MAX_MOMENT → AddsFirst audit chain [] lines reached
-      → IsAuditedSoFar audit chain 0 reached.moment reached.text.now reached.stage lines
+      → IsAuditedSoFar audit chain 0 reached.moment reached.stage lines
   first_reached reached lines short says =
-      subst (λ (m : ℕ). IsAuditedSoFar audit chain 0 m reached.text.now reached.stage lines) (sym says.moment_is)
-      (subst (λ (t : List ℕ). IsAuditedSoFar audit chain 0 chain.moment t reached.stage lines) (sym says.text_is)
-      (first_reported reached.stage lines short says.stage says.added))
+      subst (λ (m : ℕ). IsAuditedSoFar audit chain 0 m reached.stage lines) (sym says.moment_is) (first_reported reached.stage lines short says.stage says.added says.known)
 
   -- why the item of message 0 is none
   pub first_refused : (fault : ChainFault) → SaysMessage chain.item audit.reading chain.first.now (Err fault) → SaysReport audit chain (Err fault)
@@ -129,8 +131,8 @@ module _ (audit : ChainAudit) (chain : HeldChain) (of : IsAuditOf audit chain) w
 
   -- ---- one more hop
 
-  module _ (count moment : ℕ) (text : List ℕ) (before : Stage) (lines : List AuditLine) (hop : HeldHop) (there : slice_get chain.hops count ≡ Some hop)
-      (so_far : IsAuditedSoFar audit chain count moment text before lines) where
+  module _ (count moment : ℕ) (before : Stage) (lines : List AuditLine) (hop : HeldHop) (there : slice_get chain.hops count ≡ Some hop)
+      (so_far : IsAuditedSoFar audit chain count moment before lines) where
     hop_there : slice_get (map hop_meant chain.hops) count ≡ Some (hop_meant hop)
     hop_there = slice_get-map hop_meant chain.hops count ∙ ap (λ (o : Option HeldHop). elim o as (λ _. Option RecordedHop) [ None ↦ None | Some h ↦ Some (hop_meant h) ]) there
 
@@ -141,8 +143,8 @@ module _ (audit : ChainAudit) (chain : HeldChain) (of : IsAuditOf audit chain) w
 
     pub hop_reported : (more all : List AuditLine) (after : Stage) → IsSizedHop hop → AddsHop audit (count + 1) before hop lines more after
         → AddsMessageLines (meaning audit.conf.now) (context_of_audit audit (message_of after.message)) (count + 1) (unwrap_or hop.moment moment) more all
-        → IsAuditedSoFar audit chain (count + 1) (unwrap_or hop.moment moment) hop.message.now after all
-    hop_reported more all after short says added =
+        → KnowTags (meaning audit.conf.now) (context_of_audit audit (message_of after.message)) after.known → IsAuditedSoFar audit chain (count + 1) (unwrap_or hop.moment moment) after all
+    hop_reported more all after short says added known =
         let context = context_of_audit audit (message_of before.message) in
         let place : PlacedHop = record {
           index = count + 1;
@@ -169,8 +171,9 @@ module _ (audit : ChainAudit) (chain : HeldChain) (of : IsAuditOf audit chain) w
         let all_is : all ≡ lines ++ part =
         added.added ∙ (ap (λ (ls : List AuditLine). ls ++ added.lines) own.added ∙ append_assoc lines (own.line ∷ own.own) added.lines) in
         record {
-          whole = says.stage.0;
+          whole = says.stage.0.spells.is;
           stage_is = says.stage.1;
+          known = known;
           now = moment_short hop.moment moment so_far.now short.moment;
           in_range = subst (λ (ls : List AuditLine). IsTrue (are_lines_in_range ls)) (sym all_is)
               (joined_in_range lines part so_far.in_range (joined_in_range (own.line ∷ own.own) added.lines (hop_in_range context place own.line own.labels own.own own.is own.each) added.in_range));
@@ -226,19 +229,18 @@ module _ (audit : ChainAudit) (chain : HeldChain) (of : IsAuditOf audit chain) w
     hop_refused more (ScriptTooLong index) says = either (ScriptTooLong index) says
 
   pub next_reached : (count : ℕ) (before : Reached) (lines : List AuditLine) (hop : HeldHop) → slice_get chain.hops count ≡ Some hop
-      → IsAuditedSoFar audit chain count before.moment before.text.now before.stage lines
+      → IsAuditedSoFar audit chain count before.moment before.stage lines
       → (all : List AuditLine) (after : Reached) → IsSizedHop hop → AddsNext audit (count + 1) before hop lines all after
-      → IsAuditedSoFar audit chain (count + 1) after.moment after.text.now after.stage all
+      → IsAuditedSoFar audit chain (count + 1) after.moment after.stage all
   next_reached count before lines hop there so_far all after short says =
-      subst (λ (m : ℕ). IsAuditedSoFar audit chain (count + 1) m after.text.now after.stage all) (sym says.moment_is)
-      (subst (λ (t : List ℕ). IsAuditedSoFar audit chain (count + 1) (unwrap_or hop.moment before.moment) t after.stage all) (sym says.text_is)
-      (hop_reported count before.moment before.text.now before.stage lines hop there so_far says.between all after.stage short says.hop_lines says.added))
+      subst (λ (m : ℕ). IsAuditedSoFar audit chain (count + 1) m after.stage all) (sym says.moment_is)
+      (hop_reported count before.moment before.stage lines hop there so_far says.between all after.stage short says.hop_lines says.added says.known)
 
   -- ---- all hops
 
-  pub all_reported : (count moment : ℕ) (text : List ℕ) (stage : Stage) (lines : List AuditLine) → length chain.hops ≤ count → IsAuditedSoFar audit chain count moment text stage lines
+  pub all_reported : (count moment : ℕ) (stage : Stage) (lines : List AuditLine) → length chain.hops ≤ count → IsAuditedSoFar audit chain count moment stage lines
       → SaysReport audit chain (Ok lines)
-  all_reported count moment text stage lines past so_far =
+  all_reported count moment stage lines past so_far =
       let none : drop count (map hop_meant chain.hops) ≡ [] = drop_all count (map hop_meant chain.hops) (omega (arith, length-map chain.hops hop_meant)) in
       let reported = so_far.others [] [] (subst (λ (rs : List RecordedHop). AllZip (IsHop audit.reading) rs []) (sym none) tt) tt in
       let own : IsReported audit chain lines = subst (λ (ls : List AuditLine). IsReported audit chain ls) (append-nil lines) reported in

@@ -24,14 +24,14 @@ use Rattle.recording.specs.Items.{Body, IsShort, moment, stored, message, script
 use Rattle.recording.specs.Recordings.{bodies}
 use Rattle.hop_audit.specs.declared.fault.ChainFault.{ChainFault}
 use Rattle.hop_audit.specs.declared.fault.ChainFault.TheVariants.{Memory, Order, TooManyHops, Message as NoMessage, Script as NoScript, ScriptTooLong}
-use Rattle.hop_audit.specs.declared.limits.TheConstants.{MAX_HOPS}
-use Rattle.hop_audit.specs.Chains.{Subject, requests, responses, RecordedChain, RecordedHop, IsChain, IsOrderFault, chain_items, hop_items, message_item, moment_items, related_items}
-use Rattle.hop_audit.specs.ChainValues.{AnswersRequest, Chain, Hop, IsChainOf, IsHop, IsScriptItem, one_request, reading_of, role_of}
-use Rattle.hop_audit.specs.ChainFaults.{IsBadMessage, IsBadScript, IsChainCause, IsChainFault, IsKnownRequest, IsLongScript, OfChain, SaysAt, chain_order}
+use Rattle.recording.specs.declared.limits.TheConstants.{MAX_HOPS}
+use Rattle.recording.specs.Chains.{Subject, requests, responses, RecordedChain, RecordedHop, IsChain, IsOrderFault, chain_items, hop_items, message_item, moment_items, related_items, role_of, OfChain}
+use Rattle.hop_audit.specs.ChainValues.{AnswersRequest, Chain, Hop, IsChainOf, IsHop, IsScriptItem, one_request, reading_of}
+use Rattle.hop_audit.specs.ChainFaults.{IsBadMessage, IsBadScript, IsChainCause, IsChainFault, IsKnownRequest, IsLongScript, SaysAt, chain_order}
 use Rattle.hop_audit.specs.Laws.{HaveNoFaultWhereAudited, HaveOneFault}
-use Rattle.hop_audit.specs.tools.Recorded.{items_up_to, script_index}
-use Rattle.hop_audit.proofs.OneChain.{hop_items-length, items_around_hop, items_up_to-more, message_there, one_chain, script_there, slice_get_at}
-use Rattle.hop_audit.proofs.OrderFaults.{one_order_fault}
+use Rattle.recording.specs.RecordedChains.{items_up_to, script_index}
+use Rattle.recording.proofs.OneChain.{hop_items-length, items_around_hop, items_up_to-more, message_there, one_chain, script_there, slice_get_at}
+use Rattle.recording.proofs.OrderFaults.{one_order_fault}
 use Rattle.hop_audit.proofs.Reports.{some_is}
 
 -- ---- lists

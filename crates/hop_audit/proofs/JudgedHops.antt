@@ -1,5 +1,5 @@
 -- The lines of a hop: whether it is explained, and what is judged of the labels before it.
-use Rattle.std.proofs.Common.{◌≡◌, ◌<◌, ◌≤◌, ◌+◌, ℕ, Bool, true, false, ◌&&◌, Option, Some, None, List, [], ◌∷◌, ◌++◌, length, get_or, take, refl, sym, subst, ap, ◌∙◌, append_assoc, arith}
+use Rattle.std.proofs.Common.{◌≡◌, ◌<◌, ◌≤◌, ◌+◌, ℕ, Bool, true, false, ◌&&◌, Bor, Option, Some, None, List, [], ◌∷◌, ◌++◌, length, get_or, take, refl, sym, subst, ap, ◌∙◌, append_assoc, arith}
 use Rattle.std.specs.Prelude.{◌↔◌, Result, Ok, Err, OnOk, IsTrue, IsSomeAnd, MatchOption, is_some, slice_get}
 use Rattle.std.specs.List.{AllZip}
 use Rattle.std.proofs.lemmas.Bool.{false≢true}
@@ -25,8 +25,8 @@ use Rattle.hop_audit.specs.declared.walk.Walked.TheVariants.{To, Stopped}
 use Rattle.hop_audit.specs.Fates.{IsFate}
 use Rattle.hop_audit.specs.Hops.{IsExplanation, IsPermission, IsPermitted, IsStoppedAt, PlacedHop}
 use Rattle.hop_audit.specs.Report.{IsLabelLine}
-use Rattle.hop_audit.specs.tools.HopLines.{AreAddedSoFar, AreJudged, IsJudged, IsReadOf, SaysExplained}
-use Rattle.hop_audit.specs.tools.Walked.{AreMarksOf, HoldSignatures, HoldsSignature, IsMarkOf, IsMarkedAfter, IsSameMark, SaysWalked}
+use Rattle.hop_audit.specs.tools.HopLines.{AreAddedSoFar, AreJudged, IsJudged, SaysExplained}
+use Rattle.hop_audit.specs.tools.Walked.{AreMarksOf, HoldSignatures, HoldsSignature, IsMarkOf, IsMarkRead, IsMarkedAfter, IsSameMark, SaysWalked}
 use Rattle.hop_audit.specs.tools.Written.{AddsHopLines, IsHopBetween}
 use Rattle.hop_audit.proofs.StepLists.{one_explanation, permitted_leads}
 
@@ -90,13 +90,13 @@ module _ (context : MessageContext) (script : List Rewrite) where
     IsLabelJudged explained label mark = (mark.label.now ≡ label) × IsJudged context hop after index explained mark
 
     -- what is known of the signature that was read
-    abbrev IsReadJudged : List ℕ → Option LabelRead → Bool → Type 0
+    abbrev IsReadJudged : List ℕ → Option (Bor LabelRead) → Bool → Type 0
     IsReadJudged label read permitted = MatchOption read
         ((params : SigParams) (tag : List ℕ) → ¬ HasSignature context.message label params tag)
-        (λ read. HasSignature context.message label read.params read.tag × IsPermission label context hop.script after permitted)
+        (λ read. HasSignature context.message label read.now.params read.now.tag × IsPermission label context hop.script after permitted)
 
-    read_judged : (label : List ℕ) (read : Option LabelRead) (permitted : Bool)
-        → MatchOption read ((params : SigParams) (tag : List ℕ) → ¬ HasSignature context.message label params tag) (λ read. HasSignature context.message label read.params read.tag)
+    read_judged : (label : List ℕ) (read : Option (Bor LabelRead)) (permitted : Bool)
+        → MatchOption read ((params : SigParams) (tag : List ℕ) → ¬ HasSignature context.message label params tag) (λ read. HasSignature context.message label read.now.params read.now.tag)
         → IsTrue permitted ↔ (IsTrue (is_some read) × IsPermitted label context script after) → IsReadJudged label read permitted
     read_judged label None permitted is both = is
     read_judged label (Some read) permitted is both =
@@ -111,7 +111,7 @@ module _ (context : MessageContext) (script : List Rewrite) where
         let own = subst (λ (l : List ℕ). IsTrue (explained && now.permitted) ↔ (IsTrue was.permitted × IsPermitted l context script after)) of.label_is both in
         let by_read = subst (λ (p : Bool). IsTrue (explained && now.permitted) ↔ (IsTrue p × IsPermitted label context script after)) of.permitted own in
         let judged = read_judged label was.read (explained && now.permitted) of.read by_read in
-        let moved = subst (λ (r : Option LabelRead). IsReadJudged label r (explained && now.permitted)) (sym same.read) judged in (
+        let moved = subst (λ (r : Option (Bor LabelRead)). IsReadJudged label r (explained && now.permitted)) (sym same.read) judged in (
           named,
           record {
             index_is = between.index_is;
@@ -150,27 +150,27 @@ module _ (context : MessageContext) (script : List Rewrite) where
 -- ---- the line of a label
 
 module _ (context : MessageContext) (hop : PlacedHop) (index : ℕ) (after : Message) (explained : Bool) (mark : Mark) (judged : IsJudged context hop after index explained mark) where
-  abbrev IsReadSo : Option LabelRead → Type 0
+  abbrev IsReadSo : Option (Bor LabelRead) → Type 0
   IsReadSo read = MatchOption read
       ((params : SigParams) (tag : List ℕ) → ¬ HasSignature context.message mark.label.now params tag)
-      (λ read. HasSignature context.message mark.label.now read.params read.tag × IsPermission mark.label.now context hop.script after (explained && mark.permitted))
+      (λ read. HasSignature context.message mark.label.now read.now.params read.now.tag × IsPermission mark.label.now context hop.script after (explained && mark.permitted))
 
   pub unread_line : (named : List ℕ) → named ≡ mark.label.now → mark.read ≡ None → IsLabelLine context hop mark.label.now (UnreadLine index named)
   unread_line named label_is read_is = (sym judged.index_is, label_is, subst IsReadSo read_is judged.read)
 
-  pub judged_line : (named : List ℕ) (read : LabelRead) (permitted : Bool) (fate : Fate) → named ≡ mark.label.now → mark.read ≡ Some read → permitted ≡ (explained && mark.permitted)
-      → IsFate context after mark.label.now read.params read.tag fate → IsLabelLine context hop mark.label.now (LabelLine index named permitted fate)
+  pub judged_line : (named : List ℕ) (read : Bor LabelRead) (permitted : Bool) (fate : Fate) → named ≡ mark.label.now → mark.read ≡ Some read → permitted ≡ (explained && mark.permitted)
+      → IsFate context after mark.label.now read.now.params read.now.tag fate → IsLabelLine context hop mark.label.now (LabelLine index named permitted fate)
   judged_line named read permitted fate label_is read_is permitted_is fate_is =
       let is = subst IsReadSo read_is judged.read in (
         sym judged.index_is,
         label_is,
         record {
-          params = read.params;
-          tag = read.tag;
+          params = read.now.params;
+          tag = read.now.tag;
           signature = is.0;
           permission = subst (λ (p : Bool). IsPermission mark.label.now context hop.script hop.after p) (sym permitted_is)
               (subst (λ (m : Message). IsPermission mark.label.now context hop.script m (explained && mark.permitted)) (sym judged.after_is) is.1);
-          fate_is = subst (λ (m : Message). IsFate context m mark.label.now read.params read.tag fate) (sym judged.after_is) fate_is;
+          fate_is = subst (λ (m : Message). IsFate context m mark.label.now read.now.params read.now.tag fate) (sym judged.after_is) fate_is;
         },
       )
 
@@ -186,15 +186,15 @@ zip_next {A} {B} R xs ys n x y there all one =
     subst (λ (l : List A). AllZip R l (ys ++ y ∷ [])) (sym (take_next xs n x there)) (zip_push R (take n xs) ys x y all one)
 
 -- the element of the first list in this place
-zip_here : {A B : Type 0} (R : A → B → Type 0) (xs : List A) (ys : List B) (n : ℕ) (y : B) → AllZip R xs ys → slice_get ys n ≡ Some y → (x : A) × (slice_get xs n ≡ Some x) × R x y
+pub zip_here : {A B : Type 0} (R : A → B → Type 0) (xs : List A) (ys : List B) (n : ℕ) (y : B) → AllZip R xs ys → slice_get ys n ≡ Some y → (x : A) × (slice_get xs n ≡ Some x) × R x y
 zip_here {A} {B} R xs ys n y all there =
     some_and_parts (λ x. R x y) (slice_get xs n)
     (subst (λ (o : Option B). MatchOption o (Unit {0}) (λ z. IsSomeAnd (slice_get xs n) (λ x. R x z))) there (AllZip-right R xs ys all n))
 
-pub mark_of : (message : Message) (label : List ℕ) (mark : Mark) → mark.label.now ≡ label → IsReadOf message mark.label.now mark.read → mark.permitted ≡ is_some mark.read → IsMarkOf message label mark
+pub mark_of : (message : Message) (label : List ℕ) (mark : Mark) → mark.label.now ≡ label → IsMarkRead message mark.label.now mark.read → mark.permitted ≡ is_some mark.read → IsMarkOf message label mark
 mark_of message label mark named read permitted = record {
   label_is = named;
-  read = subst (λ (l : List ℕ). IsReadOf message l mark.read) named read;
+  read = subst (λ (l : List ℕ). IsMarkRead message l mark.read) named read;
   permitted = permitted;
 }
 
@@ -207,10 +207,10 @@ hold_signatures message [] [] are = All-nil (HoldsSignature message)
 hold_signatures message [] (mark ∷ marks) are = absurd are
 hold_signatures message (label ∷ labels) [] are = absurd are
 hold_signatures message (label ∷ labels) (mark ∷ marks) are =
-    All-cons (HoldsSignature message) mark marks (holds mark.read (subst (λ (l : List ℕ). IsReadOf message l mark.read) (sym are.0.label_is) are.0.read) are.0.permitted) (hold_signatures message labels marks are.1)
+    All-cons (HoldsSignature message) mark marks (holds mark.read (subst (λ (l : List ℕ). IsMarkRead message l mark.read) (sym are.0.label_is) are.0.read) are.0.permitted) (hold_signatures message labels marks are.1)
   where
-    holds : (read : Option LabelRead) → IsReadOf message mark.label.now read → mark.permitted ≡ is_some read → IsTrue mark.permitted
-        → IsSomeAnd read (λ read. HasSignature message mark.label.now read.params read.tag)
+    holds : (read : Option (Bor LabelRead)) → IsMarkRead message mark.label.now read → mark.permitted ≡ is_some read → IsTrue mark.permitted
+        → IsSomeAnd read (λ read. HasSignature message mark.label.now read.now.params read.now.tag)
     holds None none same is = absurd (false≢true (sym same ∙ is))
     holds (Some read) has same is = has
 
@@ -265,6 +265,10 @@ hop_added context index script after labels explained stopped was first now labe
       each = own.1;
       added = own.2 ∙ ap (λ (l : List AuditLine). l ++ own.0) begins ∙ append_assoc was (line ∷ []) own.0;
     }
+
+pub on_ok_too : {T E P : Type 0} (result : Result T E) → P → OnOk result P
+on_ok_too (Ok value) holds = holds
+on_ok_too (Err error) holds = tt
 
 pub on_ok : {T E P Q : Type 0} (result : Result T E) → (P → Q) → OnOk result P → OnOk result Q
 on_ok (Ok value) both is = both is

@@ -5,12 +5,7 @@ mod Permitted
 mod Reports
 pub mod SameVerdicts
 pub mod StepLists
-mod ReadAgain
 mod WalkSteps
-pub mod OneChain
-mod Stopping
-mod OrderFaults
-mod HeldOrder
 pub mod FirstFaults
 mod ItemTexts
 mod ReportLines
@@ -22,3 +17,5 @@ pub mod SomeReport
 pub mod OneBases
 mod Comparing
 mod JudgedHops
+mod CarriedTags
+mod ReadLabels

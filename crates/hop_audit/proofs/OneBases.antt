@@ -29,8 +29,8 @@ use Rattle.verdicts.proofs.OneTags.{all_lines, have_base, one_tag_agrees}
 use Rattle.verdicts.specs.declared.outcome.Verdict.TheVariants.{Ok as Accepted}
 use Rattle.recording.specs.Items.{Body, PlacedItem, body_text, kind_word, moment, number_line, script, stored}
 use Rattle.recording.specs.Recordings.{SpellsRecording, bodies, items_text}
-use Rattle.hop_audit.specs.Chains.{RecordedHop, Subject, hop_items, message_item, moment_items, related_items, requests, responses}
-use Rattle.hop_audit.specs.ChainValues.{AnswersRequest, Chain, Hop, IsHop, one_request, reading_of, role_of}
+use Rattle.recording.specs.Chains.{RecordedHop, Subject, hop_items, message_item, moment_items, related_items, requests, responses, role_of}
+use Rattle.hop_audit.specs.ChainValues.{AnswersRequest, Chain, Hop, IsHop, one_request, reading_of}
 use Rattle.hop_audit.specs.declared.line.Fate.{Fate}
 use Rattle.hop_audit.specs.declared.line.Fate.TheVariants.{Changed, Kept}
 use Rattle.hop_audit.specs.Fates.{HasKept, IsFate}

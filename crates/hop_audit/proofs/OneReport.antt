@@ -19,14 +19,14 @@ use Rattle.verdicts.proofs.Judging.{has_one_verdict}
 use Rattle.hop_audit.specs.declared.line.AuditLine.{AuditLine}
 use Rattle.hop_audit.specs.declared.line.AuditLine.TheVariants.{Message as MessageLine, Hop as HopLine, Unread as UnreadLine, Label as LabelLine}
 use Rattle.hop_audit.specs.declared.line.Fate.{Fate}
-use Rattle.hop_audit.specs.Chains.{Subject, requests, responses, RecordedChain, RecordedHop}
-use Rattle.hop_audit.specs.ChainValues.{AnswersRequest, Chain, Hop, IsChainOf, IsHop, one_request, reading_of, role_of}
+use Rattle.recording.specs.Chains.{Subject, requests, responses, RecordedChain, RecordedHop, role_of}
+use Rattle.hop_audit.specs.ChainValues.{AnswersRequest, Chain, Hop, IsChainOf, IsHop, one_request, reading_of}
 use Rattle.hop_audit.specs.Fates.{IsFate}
 use Rattle.hop_audit.specs.Hops.{IsExplanation, PlacedHop}
 use Rattle.hop_audit.specs.Laws.{HaveOneAudit}
 use Rattle.hop_audit.specs.Report.{AreHopLines, AreMessageLines, IsHopLine, IsLabelLine, IsLabelReport, IsMessageLine, IsReport, places_of}
 use Rattle.hop_audit.proofs.Fates.{has_one_fate}
-use Rattle.hop_audit.proofs.OneChain.{one_chain}
+use Rattle.recording.proofs.OneChain.{one_chain}
 use Rattle.hop_audit.proofs.StepLists.{one_explanation, one_permission}
 
 -- ---- lists

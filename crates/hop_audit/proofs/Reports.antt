@@ -17,8 +17,8 @@ use Rattle.hop_audit.specs.declared.line.AuditLine.{AuditLine}
 use Rattle.hop_audit.specs.declared.line.AuditLine.TheVariants.{Message as MessageLine, Hop as HopLine, Unread as UnreadLine, Label as LabelLine}
 use Rattle.hop_audit.specs.declared.line.Fate.{Fate}
 use Rattle.msg_body.specs.declared.whole.Reading.{Reading}
-use Rattle.hop_audit.specs.Chains.{RecordedHop}
-use Rattle.hop_audit.specs.ChainValues.{Chain, Hop, IsHop, reading_of, role_of}
+use Rattle.recording.specs.Chains.{RecordedHop, role_of}
+use Rattle.hop_audit.specs.ChainValues.{Chain, Hop, IsHop, reading_of}
 use Rattle.recording.specs.Items.{PlacedItem}
 use Rattle.hop_audit.specs.Hops.{PlacedHop, places_from}
 use Rattle.hop_audit.specs.Laws.{IsKeptOrLacking}

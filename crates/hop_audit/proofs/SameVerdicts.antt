@@ -24,7 +24,8 @@ use Rattle.verdicts.proofs.Judging.{has_one_verdict}
 use Rattle.hop_audit.specs.declared.line.AuditLine.{AuditLine}
 use Rattle.hop_audit.specs.declared.line.AuditLine.TheVariants.{Message as MessageLine, Hop as HopLine, Unread as UnreadLine, Label as LabelLine}
 use Rattle.hop_audit.specs.declared.line.Fate.{Fate}
-use Rattle.hop_audit.specs.ChainValues.{Chain, Hop, moments_from, reading_of, role_of}
+use Rattle.recording.specs.Chains.{role_of}
+use Rattle.hop_audit.specs.ChainValues.{Chain, Hop, moments_from, reading_of}
 use Rattle.hop_audit.specs.Hops.{PlacedHop, places_from}
 use Rattle.recording.specs.Items.{PlacedItem}
 use Rattle.hop_audit.specs.Laws.{HaveOneMoment, KeepsWhatIsPermitted}

@@ -9,12 +9,12 @@ use Rattle.msg_body.specs.declared.limits.TheConstants.{MAX_MESSAGE_BYTES}
 use Rattle.nonces.specs.declared.limits.TheConstants.{MAX_MOMENT}
 use Rattle.recording.specs.Items.{Body, IsNumber, IsShort, PlacedItem, message, moment, number_of, script, stored}
 use Rattle.recording.specs.Recordings.{AreItems, bodies}
-use Rattle.hop_audit.specs.declared.order.RecordedChain.{RecordedChain as HeldChain}
-use Rattle.hop_audit.specs.declared.order.RecordedHop.{RecordedHop as HeldHop}
-use Rattle.hop_audit.specs.declared.limits.TheConstants.{MAX_HOPS}
-use Rattle.hop_audit.specs.Chains.{RecordedChain, RecordedHop, Subject, requests, responses, hop_items, message_item, moment_items, related_items}
+use Rattle.recording.specs.declared.chain.RecordedChain.{RecordedChain as HeldChain}
+use Rattle.recording.specs.declared.chain.RecordedHop.{RecordedHop as HeldHop}
+use Rattle.recording.specs.declared.limits.TheConstants.{MAX_HOPS}
+use Rattle.recording.specs.Chains.{RecordedChain, RecordedHop, Subject, requests, responses, hop_items, message_item, moment_items, related_items}
 use Rattle.hop_audit.specs.tools.Judged.{IsHeldFor, IsSizedHop, IsSizedSubject}
-use Rattle.hop_audit.specs.tools.Recorded.{IsHeldChain, chain_meant, hop_meant, items_up_to}
+use Rattle.recording.specs.RecordedChains.{IsHeldChain, chain_meant, hop_meant, items_up_to}
 
 -- ---- parts of a list
 

@@ -11,17 +11,17 @@ use Rattle.verdicts.specs.Contexts.{context_for}
 use Rattle.verdicts.specs.Verification.{or_no_label, verification_for}
 use Rattle.verdicts.proofs.Judging.{has_verdict}
 use Rattle.hop_audit.specs.declared.fault.ChainFault.TheVariants.{Order, TooManyHops}
-use Rattle.hop_audit.specs.declared.limits.TheConstants.{MAX_HOPS}
+use Rattle.recording.specs.declared.limits.TheConstants.{MAX_HOPS}
 use Rattle.hop_audit.specs.declared.line.AuditLine.{AuditLine}
 use Rattle.hop_audit.specs.declared.line.AuditLine.TheVariants.{Message as MessageLine, Hop as HopLine, Unread as UnreadLine, Label as LabelLine}
-use Rattle.hop_audit.specs.Chains.{RecordedChain, RecordedHop, Subject, requests, responses}
-use Rattle.hop_audit.specs.ChainValues.{AnswersRequest, Chain, Hop, IsChainOf, IsHop, reading_of, role_of}
+use Rattle.recording.specs.Chains.{RecordedChain, RecordedHop, Subject, requests, responses, role_of}
+use Rattle.hop_audit.specs.ChainValues.{AnswersRequest, Chain, Hop, IsChainOf, IsHop, reading_of}
 use Rattle.hop_audit.specs.Hops.{PlacedHop, places_from}
 use Rattle.hop_audit.specs.Laws.{HaveAuditOrFault}
 use Rattle.hop_audit.specs.Report.{AreHopLines, AreMessageLines, IsLabelLine, IsMessageLine, IsReport}
 use Rattle.hop_audit.proofs.Fates.{has_some_fate}
 use Rattle.hop_audit.proofs.FirstFaults.{fault_of_number, fault_of_order, values_or_fault}
-use Rattle.hop_audit.proofs.OrderFaults.{chain_or_not}
+use Rattle.recording.proofs.OrderFaults.{chain_or_not}
 use Rattle.hop_audit.proofs.Reports.{IsWritten}
 use Rattle.hop_audit.proofs.StepLists.{has_explanation, has_permission}
 

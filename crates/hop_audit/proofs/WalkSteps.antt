@@ -1,15 +1,15 @@
 -- Steps one by one, each label marked by whether its signature permits them.
-use Rattle.std.proofs.Common.{◌≡◌, ◌↔◌, ◌<◌, ◌≤◌, ◌+◌, ℕ, zero, suc, Bool, true, Option, Some, None, List, [], ◌∷◌, ◌++◌, length, get_or, set, take, drop, length-drop, Result, Ok, Err, refl, sym, ap, subst, ◌∙◌, arith}
-use Rattle.std.specs.Prelude.{IsTrue, IsSomeAnd, IfOk}
+use Rattle.std.proofs.Common.{◌≡◌, ◌<◌, ◌≤◌, ◌+◌, ℕ, true, Bor, Option, Some, None, List, [], ◌∷◌, ◌++◌, length, get_or, set, take, drop, length-drop, Ok, refl, sym, ap, subst, ◌∙◌, arith}
+use Rattle.std.specs.Prelude.{IsTrue, IsSomeAnd}
 use Rattle.std.specs.List.{AllZip, list_all}
-use Rattle.std.proofs.lemmas.Fn.{FoldsTo-push}
+use Rattle.std.proofs.lemmas.Bool.{and_parts}
+use Rattle.std.proofs.lemmas.Fn.{FoldsTo-push, chained_keeps}
 use Rattle.std.proofs.lemmas.List.{drop-set-lt, drop_more, take_all, take_more, take_more_set}
-use Rattle.std.proofs.lemmas.Option.{slice_get_read}
-use Rattle.std.proofs.lemmas.List.Sums.{AllPass-from_list_all}
+use Rattle.std.proofs.lemmas.List.Folds.{list_all-append}
 use Rattle.std.proofs.lemmas.List.Elements.{All-cons, All-head, All-nil, All-tail, AllZip-push}
-use Rattle.msg_body.specs.Messages.{Message, Spells}
+use Rattle.msg_body.specs.Messages.{Message}
 use Rattle.component_ids.specs.declared.params.SigParams.{SigParams}
-use Rattle.component_values.specs.Context.{MessageContext, answers_head, context_with}
+use Rattle.component_values.specs.Context.{MessageContext, context_with}
 use Rattle.signatures.specs.Signatures.{HasSignature}
 use Rattle.signatures.specs.declared.label.LabelRead.{LabelRead}
 use Rattle.signatures.proofs.Reading.{has_one_signature}
@@ -18,22 +18,17 @@ use Rattle.rewrite_script.specs.Scripts.{HaveValues}
 use Rattle.rewrite_script.specs.declared.rewrite.Rewrite.{Rewrite}
 use Rattle.rewrites.specs.Laws.{IsPermittedStep}
 use Rattle.rewrites.specs.Permitted.{Permits}
-use Rattle.rewrites.specs.Steps.{Step, Steps, Rewrites}
+use Rattle.rewrites.specs.Steps.{Step, Steps}
+use Rattle.rewrites.specs.Walks.{EndsAt, IsForbiddenStep, IsInapplicableStep, IsWatchedStep, ReportsWalk, Walks}
+use Rattle.rewrites.specs.declared.watcher.Judgement.TheVariants.{Forbidden, Permitted, Unjudged}
 use Rattle.rewrites.proofs.Kept.{keeps_where_permitted}
-use Rattle.rewrites.proofs.StepKinds.{gives_kind}
+use Rattle.rewrites.proofs.KeptSteps.{values_parts}
 use Rattle.hop_audit.specs.Hops.{IsPermitted}
 use Rattle.hop_audit.specs.declared.walk.Mark.{Mark}
-use Rattle.hop_audit.specs.tools.Walked.{GivesText, HoldsSignature, HoldSignatures, AreMarkedSoFar, IsMarkedAfter, IsMarkedBy, IsSameMark, SaysStepped, SaysWalked, AreWalkedSoFar}
+use Rattle.hop_audit.specs.declared.walk.Marks.{Marks}
+use Rattle.hop_audit.specs.tools.Walked.{AreMarkedBy, AreMarkedSoFar, HoldSignatures, HoldsSignature, IsMarkedAfter, IsMarkedBy, IsSameMark, SaysWalked}
 use Rattle.hop_audit.specs.declared.walk.Walked.TheVariants.{To, Stopped}
 use Rattle.hop_audit.proofs.StepLists.{one_end, permitted_leads}
-
--- the text of what the step gives
-pub text_given : (context : MessageContext) (step : Rewrite) (text : List ℕ) → Rewrites context step text → GivesText context step text
-text_given context step text made = record {
-  after = made.0;
-  spells = record { is = (gives_kind context step made.0 made.1).0; text = made.2 };
-  gives = made.1;
-}
 
 pub same_mark : (mark : Mark) → IsSameMark mark mark
 same_mark mark = record { label = refl; read = refl }
@@ -41,16 +36,6 @@ same_mark mark = record { label = refl; read = refl }
 pub same_marks : (marks : List Mark) → AllZip IsSameMark marks marks
 same_marks [] = tt
 same_marks (mark ∷ marks) = (same_mark mark, same_marks marks)
-
--- where the label's signature has permitted all so far, what it says of the step is said of all
-pub still_permitted : {E : Type 0} (context : MessageContext) (step : Rewrite) (mark : Mark) (read : LabelRead) (result : Result Bool E) → mark.permitted ≡ true → mark.read ≡ Some read
-    → IfOk result (λ permitted. IsTrue permitted ↔ Permits context step mark.label.now read.params)
-    → IfOk result (λ permitted. IsTrue permitted ↔ IsTrue mark.permitted × IsSomeAnd mark.read (λ r. Permits context step mark.label.now r.params))
-still_permitted context step mark read (Err e) all there says = tt
-still_permitted context step mark read (Ok permitted) all there says = (
-  λ allowed. (all, subst (λ (o : Option LabelRead). IsSomeAnd o (λ r. Permits context step mark.label.now r.params)) (sym there) (says.0 allowed)),
-  λ both. says.1 (subst (λ (o : Option LabelRead). IsSomeAnd o (λ r. Permits context step mark.label.now r.params)) there both.1),
-)
 
 -- ---- the marks one by one
 
@@ -63,10 +48,6 @@ module _ (was now : List Mark) (index : ℕ) (mark : Mark) (others : drop index 
 
   mark_was : mark ≡ get_or was index mark
   mark_was = let heads : get_or now index mark ≡ get_or was index mark = cc (parts) in is ∙ heads
-
-  -- what held of each mark holds of the next
-  pub holds_here : (message : Message) → HoldSignatures message was → HoldsSignature message mark
-  holds_here message holds = subst (λ (m : Mark). HoldsSignature message m) (sym mark_was) (holds index mark within_was)
 
   -- it is marked
   pub marked_here : (context : MessageContext) (step : Rewrite) (new : Mark) → AllZip (IsMarkedBy context step) (take index was) (take index now) → IsMarkedBy context step mark new
@@ -109,25 +90,25 @@ module _ (context : MessageContext) (done : List Rewrite) (message : Message) (s
     label_is = by.same.label ∙ marked.same.label
 
     -- where all was permitted, the message has the signature that was read
-    to_permitted : (read : Option LabelRead) → IsTrue now.permitted → IsPermitted was.label.now context done message
-        → IsSomeAnd read (λ r. HasSignature message now.label.now r.params r.tag)
-        → IsSomeAnd read (λ r. Permits (context_with context message) step now.label.now r.params)
+    to_permitted : (read : Option (Bor LabelRead)) → IsTrue now.permitted → IsPermitted was.label.now context done message
+        → IsSomeAnd read (λ r. HasSignature message now.label.now r.now.params r.now.tag)
+        → IsSomeAnd read (λ r. Permits (context_with context message) step now.label.now r.now.params)
         → IsPermitted was.label.now context (done ++ step ∷ []) after
     to_permitted None allowed permitted has permits = absurd has
     to_permitted (Some read) allowed permitted has permits =
-        let has_was = subst (λ (l : List ℕ). HasSignature message l read.params read.tag) marked.same.label has in
-        let permits_was = subst (λ (l : List ℕ). Permits (context_with context message) step l read.params) marked.same.label permits in
+        let has_was = subst (λ (l : List ℕ). HasSignature message l read.now.params read.now.tag) marked.same.label has in
+        let permits_was = subst (λ (l : List ℕ). Permits (context_with context message) step l read.now.params) marked.same.label permits in
         FoldsTo-push (λ m s next. IsPermittedStep was.label.now (context_with context m) s next) context.message done message step after permitted
-        (record { gives = gives; params = read.params; tag = read.tag; signature = has_was; permits = permits_was })
+        (record { gives = gives; params = read.now.params; tag = read.now.tag; signature = has_was; permits = permits_was })
 
-    from_permitted : (read : Option LabelRead) → IsSomeAnd read (λ r. HasSignature message now.label.now r.params r.tag)
+    from_permitted : (read : Option (Bor LabelRead)) → IsSomeAnd read (λ r. HasSignature message now.label.now r.now.params r.now.tag)
         → IsPermittedStep was.label.now (context_with context message) step after
-        → IsSomeAnd read (λ r. Permits (context_with context message) step now.label.now r.params)
+        → IsSomeAnd read (λ r. Permits (context_with context message) step now.label.now r.now.params)
     from_permitted None has permitted = has
     from_permitted (Some read) has permitted =
-        let has_was = subst (λ (l : List ℕ). HasSignature message l read.params read.tag) marked.same.label has in
-        let one = has_one_signature message was.label.now permitted.params read.params permitted.tag read.tag permitted.signature has_was in
-        subst (λ (l : List ℕ). Permits (context_with context message) step l read.params) (sym marked.same.label)
+        let has_was = subst (λ (l : List ℕ). HasSignature message l read.now.params read.now.tag) marked.same.label has in
+        let one = has_one_signature message was.label.now permitted.params read.now.params permitted.tag read.now.tag permitted.signature has_was in
+        subst (λ (l : List ℕ). Permits (context_with context message) step l read.now.params) (sym marked.same.label)
         (subst (λ (p : SigParams). Permits (context_with context message) step was.label.now p) one.0 permitted.permits)
 
     pub mark_more : IsMarkedAfter context (done ++ step ∷ []) after was new
@@ -145,21 +126,21 @@ module _ (context : MessageContext) (done : List Rewrite) (message : Message) (s
       );
     }
 
-    keeps_read : (writable : IsTrue (is_writable step)) (values : HasValues step) (read : Option LabelRead)
-        → IsSomeAnd read (λ r. HasSignature message now.label.now r.params r.tag)
-        → IsSomeAnd read (λ r. Permits (context_with context message) step now.label.now r.params)
-        → IsSomeAnd read (λ r. HasSignature after now.label.now r.params r.tag)
+    keeps_read : (writable : IsTrue (is_writable step)) (values : HasValues step) (read : Option (Bor LabelRead))
+        → IsSomeAnd read (λ r. HasSignature message now.label.now r.now.params r.now.tag)
+        → IsSomeAnd read (λ r. Permits (context_with context message) step now.label.now r.now.params)
+        → IsSomeAnd read (λ r. HasSignature after now.label.now r.now.params r.now.tag)
     keeps_read writable values None has permits = has
     keeps_read writable values (Some read) has permits =
-        (keeps_where_permitted (context_with context message) step now.label.now read.params read.tag after writable values has gives permits).signature
+        (keeps_where_permitted (context_with context message) step now.label.now read.now.params read.now.tag after writable values has gives permits).signature
 
     -- it keeps its signature where all was permitted
     pub holds_more : IsTrue (is_writable step) → HasValues step → HoldsSignature after new
     holds_more writable values allowed =
         let here = by.permitted.0 allowed in
         let kept = keeps_read writable values now.read (holds here.0) here.1 in
-        subst (λ (l : List ℕ). IsSomeAnd new.read (λ r. HasSignature after l r.params r.tag)) (sym by.same.label)
-        (subst (λ (o : Option LabelRead). IsSomeAnd o (λ r. HasSignature after now.label.now r.params r.tag)) (sym by.same.read) kept)
+        subst (λ (l : List ℕ). IsSomeAnd new.read (λ r. HasSignature after l r.now.params r.now.tag)) (sym by.same.label)
+        (subst (λ (o : Option (Bor LabelRead)). IsSomeAnd o (λ r. HasSignature after now.label.now r.now.params r.now.tag)) (sym by.same.read) kept)
 
   -- each label's mark after one step more
   pub marks_more : (was now new : List Mark) → IsTrue (is_writable step) → HasValues step → AllZip (IsMarkedAfter context done message) was now → HoldSignatures message now
@@ -181,85 +162,84 @@ pub marks_begun : (context : MessageContext) (marks : List Mark) → AllZip (IsM
 marks_begun context [] = tt
 marks_begun context (mark ∷ marks) = (record { same = same_mark mark; permitted = (λ allowed. (allowed, refl), λ both. both.0) }, marks_begun context marks)
 
--- what stops leaves each label and its signature
-pub marks_stopped : (context : MessageContext) (done : List Rewrite) (message : Message) (was now new : List Mark) → AllZip (IsMarkedAfter context done message) was now
-    → AllZip IsSameMark now new → AllZip IsSameMark was new
-marks_stopped context done message [] [] [] marked same = tt
-marks_stopped context done message [] [] (n ∷ new) marked same = absurd same
-marks_stopped context done message [] (m ∷ now) new marked same = absurd marked
-marks_stopped context done message (w ∷ was) [] new marked same = absurd marked
-marks_stopped context done message (w ∷ was) (m ∷ now) [] marked same = absurd same
-marks_stopped context done message (w ∷ was) (m ∷ now) (n ∷ new) marked same = (
-  record { label = same.0.label ∙ marked.0.same.label; read = same.0.read ∙ marked.0.same.read },
-  marks_stopped context done message was now new marked.1 same.1,
-)
+-- what is marked on is the same label still
+same_still : (was now new : List Mark) → AllZip IsSameMark was now → AllZip IsSameMark now new → AllZip IsSameMark was new
+same_still [] [] [] first second = tt
+same_still [] [] (n ∷ new) first second = absurd second
+same_still [] (m ∷ now) new first second = absurd first
+same_still (w ∷ was) [] new first second = absurd first
+same_still (w ∷ was) (m ∷ now) [] first second = absurd second
+same_still (w ∷ was) (m ∷ now) (n ∷ new) first second =
+    (record { label = second.0.label ∙ first.0.label; read = second.0.read ∙ first.0.read }, same_still was now new first.1 second.1)
 
--- ---- so many steps
+marked_same : (context : MessageContext) (step : Rewrite) (now new : List Mark) → AllZip (IsMarkedBy context step) now new → AllZip IsSameMark now new
+marked_same context step [] [] by = tt
+marked_same context step [] (n ∷ new) by = absurd by
+marked_same context step (m ∷ now) [] by = absurd by
+marked_same context step (m ∷ now) (n ∷ new) by = (by.0.same, marked_same context step now new by.1)
 
--- the words of the step at an index have values
-values_at : (script : List Rewrite) (index : ℕ) (step : Rewrite) → HaveValues script → index < length script → step ≡ get_or script index step → HasValues step
-values_at [] index step values within is = absurd (omega arith)
-values_at (first ∷ script) zero step values within is = subst HasValues (sym is) values.0
-values_at (first ∷ script) (suc index) step values within is = values_at script index step values.1 (omega arith) is
+-- ---- walks
 
--- so can a line write it
-writable_at : (script : List Rewrite) (index : ℕ) (step : Rewrite) → IsTrue (list_all is_writable script) → index < length script → step ≡ get_or script index step → IsTrue (is_writable step)
-writable_at script index step writable within is =
-    subst (λ (s : Rewrite). IsTrue (is_writable s)) (sym is) (AllPass-from_list_all is_writable script writable index step within)
+module _ (context : MessageContext) (was : Marks) (holds : HoldSignatures context.message was.marks.items) where
+  -- where steps lead, and how the labels are marked then
+  record IsWalked (done : List Rewrite) (at : Message × Marks) : Type 0 where
+    pub lead : Steps Step context done at.0
+    pub same : AllZip IsSameMark was.marks.items at.1.marks.items
+    pub marked : list_all is_writable done ≡ true → HaveValues done
+        → AllZip (IsMarkedAfter context done at.0) was.marks.items at.1.marks.items × HoldSignatures at.0 at.1.marks.items
 
--- steps that begin lead to the context's message
-pub walk_begun : (context : MessageContext) (script : List Rewrite) (marks : List Mark) (text : List ℕ) → Spells (answers_head context.related) context.message text
-    → HoldSignatures context.message marks → AreWalkedSoFar context script marks marks 0 text
-walk_begun context script marks text spells holds = record {
-  message = context.message;
-  spells = spells;
-  lead = refl;
-  marks = marks_begun context marks;
-  holds = holds;
-}
+  begun : IsWalked [] (context.message, was)
+  begun = record {
+    lead = refl;
+    same = same_marks was.marks.items;
+    marked = λ writable values. (marks_begun context was.marks.items, holds);
+  }
 
-module _ (context : MessageContext) (script : List Rewrite) (was now : List Mark) (count : ℕ) (text : List ℕ) (so_far : AreWalkedSoFar context script was now count text) where
-  module _ (step : Rewrite) (within : count < length script) (is : step ≡ get_or script count step) (new : List Mark) where
-    next_is : take (count + 1) script ≡ take count script ++ step ∷ []
-    next_is = take_more script count step within ∙ ap (λ (s : Rewrite). take count script ++ s ∷ []) (sym is)
+  one_more : (done : List Rewrite) (at : Message × Marks) (step : Rewrite) (next : Message × Marks) → IsWalked done at
+      → IsWatchedStep AreMarkedBy (context_with context at.0) at.1 step next.0 next.1 → IsWalked (done ++ step ∷ []) next
+  one_more done at step next so_far taken = record {
+    lead = lead_further context done at.0 step next.0 so_far.lead taken.gives;
+    same = same_still was.marks.items at.1.marks.items next.1.marks.items so_far.same
+        (marked_same (context_with context at.0) step at.1.marks.items next.1.marks.items taken.judged.0);
+    marked = λ writable values.
+        let parts = and_parts (list_all is_writable done) (list_all is_writable (step ∷ [])) (sym (list_all-append is_writable done (step ∷ [])) ∙ writable) in
+        let one = and_parts (is_writable step) true parts.1 in
+        let both = values_parts done step values in
+        let before = so_far.marked parts.0 both.0 in
+        marks_more context done at.0 step next.0 so_far.lead taken.gives was.marks.items at.1.marks.items next.1.marks.items one.0 both.1 before.0 before.1 taken.judged.0;
+  }
 
-    -- the step is taken
-    pub walk_more : (more : List ℕ) → IsTrue (list_all is_writable script) → HaveValues script
-        → ((message : Message) → Spells (answers_head context.related) message text → SaysStepped (context_with context message) step now new (Some more))
-        → AreWalkedSoFar context script was new (count + 1) more
-    walk_more more writable values says =
-        let one = says so_far.message so_far.spells in
-        let marks = marks_more context (take count script) so_far.message step one.0.after so_far.lead one.0.gives was now new (writable_at script count step writable within is)
-        (values_at script count step values within is) so_far.marks so_far.holds one.1 in record {
-          message = one.0.after;
-          spells = one.0.spells;
-          lead = subst (λ (done : List Rewrite). Steps Step context done one.0.after) (sym next_is)
-              (lead_further context (take count script) so_far.message step one.0.after so_far.lead one.0.gives);
-          marks = subst (λ (done : List Rewrite). AllZip (IsMarkedAfter context done one.0.after) was new) (sym next_is) marks.0;
-          holds = marks.1;
-        }
+  walked : (steps : List Rewrite) (after : Message) (now : Marks) → Walks AreMarkedBy context was steps after now → IsWalked steps (after, now)
+  walked steps after now leads =
+      chained_keeps (λ (at : Message × Marks) step (next : Message × Marks). IsWatchedStep AreMarkedBy (context_with context at.0) at.1 step next.0 next.1) IsWalked one_more steps
+      (context.message, was) (after, now) begun leads
 
-    -- it isn't applicable
-    pub walk_stopped : ((message : Message) → Spells (answers_head context.related) message text → SaysStepped (context_with context message) step now new None)
-        → SaysWalked context script was new (Stopped count)
-    walk_stopped says =
-        let one = says so_far.message so_far.spells in (
-          record {
-            met = so_far.message;
-            before = so_far.lead;
-            step = step;
-            there = slice_get_read script (length script) count step refl within is;
-            stops = one.0;
-          },
-          marks_stopped context (take count script) so_far.message was now new so_far.marks one.1,
-        )
+  -- what the walk reports is said of the marks
+  pub walk_done : (steps : List Rewrite) (now : Marks) (text : List ℕ) → list_all is_writable steps ≡ true → HaveValues steps → ReportsWalk AreMarkedBy context was steps now (Ok text)
+      → SaysWalked context steps was.marks.items now.marks.items (To text)
+  walk_done steps now text writable values report =
+      let all = walked steps report.0 now report.1 in
+      (report.0, report.2, all.lead, (all.marked writable values).0)
 
-  -- all are taken
-  pub walk_done : length script ≤ count → SaysWalked context script was now (To text)
-  walk_done past =
-      let all = take_all count script past in (
-        so_far.message,
-        so_far.spells,
-        subst (λ (done : List Rewrite). Steps Step context done so_far.message) all so_far.lead,
-        subst (λ (done : List Rewrite). AllZip (IsMarkedAfter context done so_far.message) was now) all so_far.marks,
+  pub walk_stopped : (steps : List Rewrite) (now : Marks) (index : ℕ) → EndsAt AreMarkedBy context was steps index now IsInapplicableStep
+      → SaysWalked context steps was.marks.items now.marks.items (Stopped index)
+  walk_stopped steps now index ends =
+      let all = walked (take index steps) ends.message ends.watcher ends.lead in (
+        record {
+          met = ends.message;
+          before = all.lead;
+          step = ends.step;
+          there = ends.there;
+          stops = ends.why.1;
+        },
+        same_still was.marks.items ends.watcher.marks.items now.marks.items all.same
+            (marked_same (context_with context ends.message) ends.step ends.watcher.marks.items now.marks.items ends.judged.0),
       )
+
+-- each step is judged
+pub never_unjudged : (context : MessageContext) (was now : Marks) (steps : List Rewrite) (index : ℕ) → ¬ EndsAt AreMarkedBy context was steps index now (λ _ _ judgement. judgement ≡ Unjudged)
+never_unjudged context was now steps index ends = let e : Permitted ≡ Unjudged = sym ends.judged.1 ∙ ends.why in cc
+
+-- and none is forbidden
+pub never_forbidden : (context : MessageContext) (was now : Marks) (steps : List Rewrite) (index : ℕ) → ¬ EndsAt AreMarkedBy context was steps index now IsForbiddenStep
+never_forbidden context was now steps index ends = let e : Permitted ≡ Forbidden = sym ends.judged.1 ∙ ends.why.0 in cc

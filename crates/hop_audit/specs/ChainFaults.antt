@@ -7,11 +7,11 @@ use Rattle.rewrite_script.specs.Causes.{IsScriptFault}
 use Rattle.rewrite_script.specs.declared.fault.ScriptFault.{ScriptFault}
 use Rattle.hop_audit.specs.declared.fault.ChainFault.{ChainFault}
 use Rattle.hop_audit.specs.declared.fault.ChainFault.TheVariants.{Memory, Order, TooManyHops, Message as NoMessage, Script as NoScript, ScriptTooLong}
-use Rattle.hop_audit.specs.declared.limits.TheConstants.{MAX_HOPS}
+use Rattle.recording.specs.declared.limits.TheConstants.{MAX_HOPS}
 use Rattle.rewrite_script.specs.declared.limits.TheConstants.{MAX_SCRIPT_BYTES}
 use Rattle.recording.specs.declared.item.Role.{Role}
 use Rattle.recording.specs.Items.{Body, stored, message, script, PlacedItem}
-use Rattle.hop_audit.specs.Chains.{Subject, RecordedChain, chain_items, IsChain, IsOrderFault}
+use Rattle.recording.specs.Chains.{Subject, RecordedChain, chain_items, IsOrderFault, OfChain}
 use Rattle.hop_audit.specs.ChainValues.{AnswersRequest, reading_of}
 use Rattle.msg_body.specs.WholeTexts.{IsMessageFault}
 
@@ -45,10 +45,6 @@ pub record IsLongScript (chain : RecordedChain) (index : ℕ) : Type 0 where
   pub text : List ℕ
   pub there : SaysAt chain index (stored script text)
   pub long : MAX_SCRIPT_BYTES < length text
-
--- the items are those of a chain of which the fact holds
-abbrev pub OfChain : List PlacedItem → (RecordedChain → Type 0) → Type 0
-OfChain items Fact = (chain : RecordedChain) × IsChain items chain × Fact chain
 
 -- the fact for which the fault is answered; being out of memory is none of them
 abbrev pub IsChainCause : List PlacedItem → ChainFault → Type 0

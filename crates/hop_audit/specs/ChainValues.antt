@@ -9,7 +9,7 @@ use Rattle.rewrite_script.specs.declared.rewrite.Rewrite.{Rewrite}
 use Rattle.rewrite_script.specs.declared.limits.TheConstants.{MAX_SCRIPT_BYTES}
 use Rattle.recording.specs.declared.item.Role.{Role}
 use Rattle.recording.specs.declared.item.Role.TheVariants.{Request, Response, Related}
-use Rattle.hop_audit.specs.Chains.{Subject, requests, responses, RecordedHop, RecordedChain}
+use Rattle.recording.specs.Chains.{Subject, requests, responses, RecordedHop, RecordedChain, role_of}
 use Rattle.msg_body.specs.WholeTexts.{IsWhole}
 use Rattle.msg_body.specs.declared.whole.Reading.{Reading}
 
@@ -24,11 +24,6 @@ reading_of related Request = one_request
 reading_of related Response =
     record { expect = OneResponse; to_head = answers_head related }
 reading_of related Related = one_request
-
--- the role of a chain's messages
-abbrev pub role_of : Subject → Role
-role_of requests = Request
-role_of (responses related) = Response
 
 -- the recorded request is this one, or none is recorded
 abbrev pub AnswersRequest : Subject → Option Message → Type 0

@@ -23,7 +23,6 @@ use Rattle.hop_audit.specs.declared.line.Fate.{Fate}
 use Rattle.hop_audit.specs.declared.line.Fate.TheVariants.{Dropped, Changed, Lacking, Kept}
 use Rattle.hop_audit.specs.declared.line.AuditLine.{AuditLine}
 use Rattle.hop_audit.specs.declared.line.AuditLine.TheVariants.{Message as MessageLine, Label as LabelLine}
-use Rattle.hop_audit.specs.Chains.{RecordedChain, IsChain, IsOrderFault}
 use Rattle.hop_audit.specs.ChainFaults.{IsChainFault}
 use Rattle.hop_audit.specs.ChainValues.{Chain, moments_of}
 use Rattle.hop_audit.specs.Fates.{IsFate}
@@ -35,22 +34,6 @@ use Rattle.sfv_text.specs.Classes.{is_byte}
 use Rattle.verdicts.specs.Contexts.{context_for}
 
 -- ---- one answer
-
--- items are at most one chain
-abbrev pub AreOneChain : Type 0
-AreOneChain = (items : List PlacedItem) (chain other : RecordedChain)
-    → IsChain items chain → IsChain items other → chain ≡ other
-
--- items are a chain, or not in its order, at one item
-abbrev pub AreChainOrNot : Type 0
-AreChainOrNot = (items : List PlacedItem) → BeginWithMoment (bodies items)
-    → ((chain : RecordedChain) × IsChain items chain)
-    ⊎ ((offset : ℕ) × IsOrderFault items offset)
-
--- they aren't in order at two items
-abbrev pub HaveOneOrderFault : Type 0
-HaveOneOrderFault = (items : List PlacedItem) (offset other : ℕ)
-    → IsOrderFault items offset → IsOrderFault items other → offset ≡ other
 
 -- items have at most one report
 abbrev pub HaveOneAudit : Type 0

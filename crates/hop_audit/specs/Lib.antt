@@ -1,4 +1,3 @@
-pub mod Chains
 pub mod ChainValues
 pub mod ChainFaults
 pub mod Hops

@@ -8,12 +8,12 @@ use Rattle.settings.specs.Configuration.{Configuration}
 use Rattle.signatures.specs.Signatures.{AreLabels, HasSignature}
 use Rattle.verdicts.specs.Verdicts.{IsVerdict}
 use Rattle.verdicts.specs.Verification.{or_no_label, verification_for}
-use Rattle.hop_audit.specs.declared.limits.TheConstants.{MAX_HOPS}
+use Rattle.recording.specs.declared.limits.TheConstants.{MAX_HOPS}
 use Rattle.hop_audit.specs.declared.line.Fate.{Fate}
 use Rattle.hop_audit.specs.declared.line.AuditLine.{AuditLine}
 use Rattle.hop_audit.specs.declared.line.AuditLine.TheVariants.{Message as MessageLine, Hop as HopLine, Unread as UnreadLine, Label as LabelLine}
 use Rattle.recording.specs.Items.{PlacedItem}
-use Rattle.hop_audit.specs.Chains.{RecordedChain, IsChain}
+use Rattle.recording.specs.Chains.{RecordedChain, IsChain}
 use Rattle.hop_audit.specs.ChainValues.{Chain, IsChainOf}
 use Rattle.hop_audit.specs.Fates.{IsFate}
 use Rattle.hop_audit.specs.Hops.{PlacedHop, places_from, IsExplanation, IsPermission}

@@ -1,3 +1,4 @@
+pub mod Carried
 pub mod Recorded
 pub mod Read
 pub mod Written

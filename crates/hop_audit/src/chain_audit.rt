@@ -14,13 +14,14 @@ ghost use Rattle.hop_audit.specs.tools.Judged.{IsHeldFor, SaysRelated, SaysRepor
 
 use crate::fault::ChainFault;
 use crate::hop_lines::{End, add_hop_lines};
+use crate::known_tags::KnownTags;
 use crate::line::AuditReport;
 use crate::message_lines::add_message_lines;
-use crate::order::{RecordedChain, RecordedHop, Subject, recorded_chain, role_of};
+use crate::order::chain_of;
 use crate::read::{item_message, item_script, reading_of};
 use crate::stage::Stage;
 use msg_body::{MessageView, Reading};
-use recording::{Recording, Role};
+use recording::{RecordedChain, RecordedHop, Recording, Role, Subject, role_of};
 use settings::Conf;
 use std::alloc::Global;
 use verdicts::context_for;
@@ -43,11 +44,10 @@ fn related_request<'r>(
     }
 }
 
-/// A message of the chain that was judged: its moment, its text, and what was read of it.
+/// A message of the chain that was judged: its moment, and what was read of it.
 #[derive(Drop)]
 struct Reached<'r> {
     moment: u64,
-    text: &'r [u8],
     stage: Stage<'r>,
 }
 
@@ -60,18 +60,20 @@ struct ChainAudit<'a, 'r> {
 }
 
 impl<'a, 'r> ChainAudit<'a, 'r> {
-    ghost use Rattle.std.specs.Prelude.{◌≡◌, ◌≤◌, length, Err, OnOk, OnErr};
+    ghost use Rattle.std.specs.Prelude.{◌≡◌, ◌≤◌, length, [], Err, IfOk, OnOk, OnErr};
     ghost use Rattle.component_values.specs.Context.{answers_head};
-    ghost use Rattle.msg_body.specs.Messages.{Message, Spells};
+    ghost use Rattle.msg_body.specs.Messages.{IsMessage, Message};
     ghost use Rattle.msg_body.specs.Views.{message_of};
     ghost use Rattle.msg_body.specs.declared.limits.TheConstants.{MAX_MESSAGE_BYTES};
     ghost use Rattle.nonces.specs.declared.limits.TheConstants.{MAX_MOMENT};
     ghost use Rattle.settings.specs.ConfMeaning.{meaning};
-    ghost use Rattle.hop_audit.specs.ChainValues.{AnswersRequest, reading_of, role_of};
+    ghost use Rattle.recording.specs.Chains.{role_of};
+    ghost use Rattle.hop_audit.specs.ChainValues.{AnswersRequest, reading_of};
     ghost use Rattle.hop_audit.specs.declared.fault.ChainFault.{ChainFault};
+    ghost use Rattle.hop_audit.specs.tools.Carried.{KnowTags};
     ghost use Rattle.hop_audit.specs.tools.Judged.{IsHeldFor, IsSizedHop, SaysFirst, SaysHop, SaysNext, SaysReport, SaysStage, context_of_audit, related_of};
     ghost use Rattle.hop_audit.specs.tools.Read.{IsStageOf};
-    ghost use Rattle.hop_audit.specs.tools.Recorded.{subject_meant};
+    ghost use Rattle.recording.specs.RecordedChains.{subject_meant};
     ghost use Rattle.hop_audit.specs.tools.Written.{AddsMessageLines};
 
     /// The parts for the messages of a chain, which are these.
@@ -95,13 +97,15 @@ impl<'a, 'r> ChainAudit<'a, 'r> {
     /// The message of the item with this index, with its labels.
     fn stage(&self, alloc: Global, item: usize, text: &'r [u8]) -> Result<Stage<'r>, ChainFault>
         requires { length text.now ≤ MAX_MESSAGE_BYTES }
-        ensures { SaysStage item self.now.reading text.now result }
+        ensures is { SaysStage item self.now.reading text.now result }
+        ensures unknown { IfOk result (λ stage. stage.known ≡ []) }
     {
         let message = item_message(alloc, item, self.reading, text)?;
         Ok(Stage::of(alloc, message)?)
     }
 
-    /// Adds the lines of the message with this index, at this moment.
+    /// Adds the lines of the message with this index, at this moment. It answers what is known of
+    /// the message's tags then.
     fn add_message<'x>(
         &'x self,
         alloc: Global,
@@ -109,12 +113,16 @@ impl<'a, 'r> ChainAudit<'a, 'r> {
         moment: u64,
         stage: &'x Stage<'r>,
         lines: &mut AuditReport,
-    ) -> Result<(), ChainFault>
+    ) -> Result<KnownTags, ChainFault>
         requires stage { (message : Message) × IsStageOf message stage.now }
+        requires known { KnowTags (meaning self.now.conf.now)
+            (context_of_audit self.now (message_of stage.now.message)) stage.now.known }
         requires now { moment ≤ MAX_MOMENT }
         ensures ok { OnOk result (AddsMessageLines (meaning self.now.conf.now)
             (context_of_audit self.now (message_of stage.now.message)) index moment
             lines.old lines.new) }
+        ensures known { IfOk result (KnowTags (meaning self.now.conf.now)
+            (context_of_audit self.now (message_of stage.now.message))) }
         ensures err { OnErr result (result ≡ Err ChainFault.Memory) }
     {
         let context = context_for(self.conf, &stage.message, self.related);
@@ -126,33 +134,34 @@ impl<'a, 'r> ChainAudit<'a, 'r> {
         &'x self,
         alloc: Global,
         index: usize,
-        text: &'r [u8],
         before: &'x Stage<'r>,
         hop: &RecordedHop<'r>,
         lines: &mut AuditReport,
     ) -> Result<Stage<'r>, ChainFault>
-        requires spells { Spells (answers_head (related_of self.now))
-            (message_of before.now.message) text.now }
+        requires whole { IsMessage (answers_head (related_of self.now))
+            (message_of before.now.message) }
         requires stage { IsStageOf (message_of before.now.message) before.now }
+        requires known { KnowTags (meaning self.now.conf.now)
+            (context_of_audit self.now (message_of before.now.message)) before.now.known }
         requires reading { self.now.reading.to_head ≡ answers_head (related_of self.now) }
         requires sized { IsSizedHop hop.now }
-        ensures { SaysHop self.now index before.now hop.now lines.old lines.new result }
+        ensures is { SaysHop self.now index before.now hop.now lines.old lines.new result }
+        ensures known { IfOk result (λ after. KnowTags (meaning self.now.conf.now)
+            (context_of_audit self.now (message_of after.message)) after.known) }
     {
         let script = item_script(alloc, hop.item, hop.script)?;
-        let after = self.stage(alloc, hop.item + 1, hop.message)?;
+        let mut after = self.stage(alloc, hop.item + 1, hop.message)?;
         let was = context_for(self.conf, &before.message, self.related);
         let now = context_for(self.conf, &after.message, self.related);
         let from = End {
-            bytes: text,
             context: &was,
             stage: before,
         };
         let to = End {
-            bytes: hop.message,
             context: &now,
             stage: &after,
         };
-        add_hop_lines(alloc, index, &from, script.as_slice(), &to, lines)?;
+        after.known = add_hop_lines(alloc, index, &from, script.as_slice(), &to, lines)?;
         Ok(after)
     }
 
@@ -166,11 +175,10 @@ impl<'a, 'r> ChainAudit<'a, 'r> {
         requires { IsHeldFor chain.now }
         ensures { SaysFirst self.now chain.now lines.old lines.new result }
     {
-        let stage = self.stage(alloc, chain.item, chain.first)?;
-        (&*self).add_message(alloc, 0, chain.moment, &stage, lines)?;
+        let mut stage = self.stage(alloc, chain.item, chain.first)?;
+        stage.known = (&*self).add_message(alloc, 0, chain.moment, &stage, lines)?;
         Ok(Reached {
             moment: chain.moment,
-            text: chain.first,
             stage,
         })
     }
@@ -185,21 +193,20 @@ impl<'a, 'r> ChainAudit<'a, 'r> {
         lines: &mut AuditReport,
     ) -> Result<Reached<'r>, ChainFault>
         requires now { before.now.moment ≤ MAX_MOMENT }
-        requires spells { Spells (answers_head (related_of self.now))
-            (message_of before.now.stage.message) before.now.text.now }
+        requires whole { IsMessage (answers_head (related_of self.now))
+            (message_of before.now.stage.message) }
         requires stage { IsStageOf (message_of before.now.stage.message) before.now.stage }
+        requires known { KnowTags (meaning self.now.conf.now)
+            (context_of_audit self.now (message_of before.now.stage.message))
+            before.now.stage.known }
         requires reading { self.now.reading.to_head ≡ answers_head (related_of self.now) }
         requires sized { IsSizedHop hop.now }
         ensures { SaysNext self.now index before.now hop.now lines.old lines.new result }
     {
         let moment = hop.moment.unwrap_or(before.moment);
-        let stage = (&*self).add_hop(alloc, index, before.text, &before.stage, hop, lines)?;
-        (&*self).add_message(alloc, index, moment, &stage, lines)?;
-        Ok(Reached {
-            moment,
-            text: hop.message,
-            stage,
-        })
+        let mut stage = (&*self).add_hop(alloc, index, &before.stage, hop, lines)?;
+        stage.known = (&*self).add_message(alloc, index, moment, &stage, lines)?;
+        Ok(Reached { moment, stage })
     }
 
     /// The lines of the chain.
@@ -240,7 +247,7 @@ pub fn audit(
         → AnswersWhere ChainFault.Memory result fault
         (IsChainFault (map placed recording.now) fault) }
 {
-    let chain = recorded_chain(alloc, recording.as_slice())?;
+    let chain = chain_of(alloc, recording.as_slice())?;
     let related = related_request(alloc, &chain)?;
     let related = related.as_ref();
     let audit = ChainAudit::of(conf, related, chain.subject);

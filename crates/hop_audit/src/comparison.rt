@@ -1,19 +1,21 @@
 //! What becomes of a signature at a hop.
 
-ghost use Rattle.std.specs.Prelude.{◌≡◌, ◌↔◌, IsTrue, IfOk};
+ghost use Rattle.std.specs.Prelude.{◌≡◌, ◌↔◌, ℕ, List, IsTrue, IfOk};
 ghost use Rattle.component_values.specs.Context.{MessageContext};
 ghost use Rattle.msg_body.specs.Messages.{Message};
-ghost use Rattle.signatures.specs.Fields.{AreFieldsOf};
 ghost use Rattle.signatures.specs.Signatures.{HasSignature};
 ghost use Rattle.hop_audit.specs.Fates.{IsFate};
 ghost use Rattle.hop_audit.specs.tools.Compared.{IsComparison};
+ghost use Rattle.hop_audit.specs.tools.Read.{IsStageOf};
+ghost use Rattle.hop_audit.specs.tools.Walked.{IsMarkRead};
 
 use crate::answer::Answer;
 use crate::line::Fate;
+use crate::stage::Stage;
 use component_ids::ComponentId;
 use component_values::{Context, Readings};
 use sfv_text::Memory;
-use signatures::{LabelFault, LabelRead, SignatureFields};
+use signatures::LabelRead;
 use std::alloc::Global;
 
 /// Two messages of a chain, and what was read of each for the components before.
@@ -68,41 +70,36 @@ fn is_same(read: &LabelRead, other: &LabelRead) -> bool
     read.params.is_equal(&other.params) && read.tag.bytes() == other.tag.bytes()
 }
 
-/// Whether the message of these fields has the label with the same signature parameters and tag.
-fn has_same_signature(
-    alloc: Global,
-    fields: &SignatureFields,
-    label: &[u8],
-    read: &LabelRead,
-) -> Result<bool, Memory>
-    ensures { (message : Message) → AreFieldsOf message fields.now → IfOk result (λ same.
-        IsTrue same ↔ HasSignature message label.now read.now.params read.now.tag) }
+/// Whether the label has the same signature parameters and tag there too, where this is its
+/// signature.
+fn has_same_signature(own: Option<&LabelRead>, read: &LabelRead) -> bool
+    ensures { (message : Message) (label : List ℕ) → IsMarkRead message label own.entry
+        → IsTrue result ↔ HasSignature message label read.now.params read.now.tag }
 {
-    match fields.label(alloc, label) {
-        Ok(own) => Ok(is_same(&own, read)),
-        Err(LabelFault::Rule(_, _)) => Ok(false),
-        Err(LabelFault::Memory) => Err(Memory),
+    match own {
+        Some(own) => is_same(own, read),
+        None => false,
     }
 }
 
-/// What becomes of the signature that the label has in the message before, of which the message
-/// after has these fields.
+/// What becomes of the signature that the label has in the message before, of which this is the
+/// message after.
 pub(crate) fn fate_of(
     alloc: Global,
     label: &[u8],
     read: &LabelRead,
-    fields: &SignatureFields,
+    after: &Stage<'_>,
     comparison: &mut Comparison<'_, '_, '_>,
 ) -> Result<Fate, Memory>
     requires { (context : MessageContext) × (other : Message)
-        × IsComparison context other comparison.old × AreFieldsOf other fields.now }
+        × IsComparison context other comparison.old × IsStageOf other after.now }
     ensures fate { (context : MessageContext) (other : Message)
-        → IsComparison context other comparison.old → AreFieldsOf other fields.now
+        → IsComparison context other comparison.old → IsStageOf other after.now
         → IfOk result (IsFate context other label.now read.now.params read.now.tag) }
     ensures kept { (context : MessageContext) (other : Message)
         → IsComparison context other comparison.old → IsComparison context other comparison.new }
 {
-    if !has_same_signature(alloc, fields, label, read)? {
+    if !has_same_signature(after.signature(label), read) {
         return Ok(Fate::Dropped);
     }
     comparison.of_components(alloc, read.params.ids.as_slice())

@@ -1,54 +1,38 @@
 //! The lines of a hop.
 
-ghost use Rattle.std.specs.Prelude.{◌≡◌, ℕ, List, Bool, OnOk, IfOk, IsTrue, Option};
+ghost use Rattle.std.specs.Prelude.{◌≡◌, ◌≤◌, ℕ, length, List, Bool, OnOk, IfOk, IsTrue, Option};
 ghost use Rattle.std.specs.List.{list_all};
-ghost use Rattle.component_values.specs.Context.{MessageContext, answers_head, context_of};
-ghost use Rattle.msg_body.specs.Messages.{Message, Spells};
+ghost use Rattle.component_values.specs.Context.{MessageContext, context_of};
+ghost use Rattle.msg_body.specs.Messages.{Message};
 ghost use Rattle.msg_body.specs.Views.{message_of};
-ghost use Rattle.signatures.specs.Fields.{AreFieldsOf};
 ghost use Rattle.rewrite_script.specs.Lines.{is_writable};
 ghost use Rattle.rewrite_script.specs.Scripts.{HaveValues};
 ghost use Rattle.rewrite_script.specs.declared.rewrite.Rewrite.{Rewrite};
+ghost use Rattle.settings.specs.Configuration.{Configuration};
 ghost use Rattle.hop_audit.specs.Hops.{PlacedHop};
 ghost use Rattle.hop_audit.specs.Report.{IsLabelLine};
+ghost use Rattle.hop_audit.specs.tools.Carried.{KnowTags};
 ghost use Rattle.hop_audit.specs.tools.Compared.{IsComparison};
 ghost use Rattle.hop_audit.specs.tools.Read.{IsStageOf};
-ghost use Rattle.hop_audit.specs.tools.HopLines.{AddsLabelLines, AreJudged, IsJudged, IsReadOf, SaysExplained};
+ghost use Rattle.hop_audit.specs.tools.HopLines.{AddsLabelLines, AreJudged, IsJudged, SaysExplained};
 ghost use Rattle.hop_audit.specs.tools.Walked.{AreMarksOf};
 ghost use Rattle.hop_audit.specs.tools.Written.{AddsHopLines, AreEnds};
 
 use crate::comparison::{Comparison, fate_of};
+use crate::known_tags::{KnownTags, known_after};
 use crate::line::{AuditLine, AuditReport};
 use crate::stage::Stage;
-use crate::walk::{Mark, Walked, walk};
+use crate::walk::{Mark, Marks, Walked, walk};
 use component_values::{Context, Readings};
 use rewrite_script::Rewrite;
 use sfv_text::{Memory, Text};
-use signatures::{LabelFault, LabelRead, SignatureFields};
 use std::alloc::Global;
 
-/// A message of a hop: its bytes, its context, and what was read of its signatures.
+/// A message of a hop: its context, and what was read of its signatures.
 #[derive(Clone, Copy)]
-pub(crate) struct End<'t, 'c, 'a, 'm> {
-    pub(crate) bytes: &'t [u8],
+pub(crate) struct End<'c, 'a, 'm> {
     pub(crate) context: &'c Context<'a, 'm>,
     pub(crate) stage: &'c Stage<'m>,
-}
-
-/// The signature that the label has in the message of these fields, where it has one.
-fn signature_of(
-    alloc: Global,
-    fields: &SignatureFields,
-    label: &[u8],
-) -> Result<Option<LabelRead>, Memory>
-    ensures { (message : Message) → AreFieldsOf message fields.now
-        → IfOk result (IsReadOf message label.now) }
-{
-    match fields.label(alloc, label) {
-        Ok(read) => Ok(Some(read)),
-        Err(LabelFault::Rule(_, _)) => Ok(None),
-        Err(LabelFault::Memory) => Err(Memory),
-    }
 }
 
 /// Each label of the message before the hop, with its signature, where it has one.
@@ -59,7 +43,7 @@ fn marks_of<'s>(alloc: Global, before: &'s Stage<'_>) -> Result<Vec<Mark<'s>>, M
     let mut marks = Vec::with_capacity(alloc, before.labels.len())?;
     for label in before.labels.as_slice() {
         let label = label.bytes();
-        let read = signature_of(alloc, &before.fields, label)?;
+        let read = before.signature(label);
         let permitted = read.is_some();
         marks.push(Mark {
             label,
@@ -86,7 +70,7 @@ fn label_line(
     index: usize,
     explained: bool,
     mark: &Mark<'_>,
-    after: &End<'_, '_, '_, '_>,
+    after: &End<'_, '_, '_>,
     comparison: &mut Comparison<'_, '_, '_>,
 ) -> Result<AuditLine, Memory>
     requires after { IsStageOf (context_of after.now.context.now).message after.now.stage.now }
@@ -101,10 +85,10 @@ fn label_line(
         → IsComparison context (context_of after.now.context.now).message comparison.new }
 {
     let label = Text::from_bytes(alloc, mark.label)?;
-    let Some(read) = &mark.read else {
+    let Some(read) = mark.read else {
         return Ok(AuditLine::Unread { index, label });
     };
-    let fate = fate_of(alloc, mark.label, read, &after.stage.fields, comparison)?;
+    let fate = fate_of(alloc, mark.label, read, after.stage, comparison)?;
     let permitted = explained && mark.permitted;
     Ok(AuditLine::Label {
         index,
@@ -119,7 +103,7 @@ fn add_label_lines(
     index: usize,
     explained: bool,
     marks: &[Mark<'_>],
-    after: &End<'_, '_, '_, '_>,
+    after: &End<'_, '_, '_>,
     comparison: &mut Comparison<'_, '_, '_>,
     lines: &mut AuditReport,
 ) -> Result<(), Memory>
@@ -146,8 +130,8 @@ fn add_compared_lines<'c, 'a, 'm>(
     index: usize,
     explained: bool,
     marks: &[Mark<'_>],
-    before: &End<'_, 'c, 'a, 'm>,
-    after: &End<'_, 'c, 'a, 'm>,
+    before: &End<'c, 'a, 'm>,
+    after: &End<'c, 'a, 'm>,
     lines: &mut AuditReport,
 ) -> Result<(), Memory>
     requires ends { AreEnds before.now after.now }
@@ -175,27 +159,55 @@ fn add_compared_lines<'c, 'a, 'm>(
 }
 
 /// Adds the hop's line, and a line for each label of the message before it.
-pub(crate) fn add_hop_lines<'c, 'a, 'm>(
+fn add_own_lines<'c, 'a, 'm>(
     alloc: Global,
     index: usize,
-    before: &End<'_, 'c, 'a, 'm>,
+    before: &End<'c, 'a, 'm>,
     script: &[Rewrite],
-    after: &End<'_, 'c, 'a, 'm>,
+    after: &End<'c, 'a, 'm>,
     lines: &mut AuditReport,
 ) -> Result<(), Memory>
     requires writable { IsTrue (list_all is_writable script.now) }
     requires values { HaveValues script.now }
     requires ends { AreEnds before.now after.now }
-    ensures { OnOk result (AddsHopLines (context_of before.now.context.now) index script.now
+    ensures lines { OnOk result (AddsHopLines (context_of before.now.context.now) index script.now
         (context_of after.now.context.now).message lines.old lines.new) }
+    ensures longer { OnOk result (length lines.old ≤ length lines.new) }
 {
-    let mut marks = marks_of(alloc, before.stage)?;
-    let walked = walk(alloc, before.bytes, before.context, script, &mut marks)?;
-    let (explained, stopped) = explanation(&walked, after.bytes);
+    let mut marks = Marks {
+        marks: marks_of(alloc, before.stage)?,
+    };
+    let walked = walk(alloc, before.context, script, &mut marks)?;
+    let (explained, stopped) = explanation(&walked, after.context.message.bytes());
     lines.push(AuditLine::Hop {
         index,
         explained,
         stopped,
     })?;
-    add_compared_lines(alloc, index, explained, &marks, before, after, lines)
+    let marks = marks.marks.as_slice();
+    add_compared_lines(alloc, index, explained, marks, before, after, lines)
+}
+
+/// The same. It answers what is known of the tags of the message after the hop: where it keeps a
+/// label's signature base, what was known of the label's tag.
+pub(crate) fn add_hop_lines<'c, 'a, 'm>(
+    alloc: Global,
+    index: usize,
+    before: &End<'c, 'a, 'm>,
+    script: &[Rewrite],
+    after: &End<'c, 'a, 'm>,
+    lines: &mut AuditReport,
+) -> Result<KnownTags, Memory>
+    requires writable { IsTrue (list_all is_writable script.now) }
+    requires values { HaveValues script.now }
+    requires ends { AreEnds before.now after.now }
+    ensures lines { OnOk result (AddsHopLines (context_of before.now.context.now) index script.now
+        (context_of after.now.context.now).message lines.old lines.new) }
+    ensures known { (conf : Configuration)
+        → KnowTags conf (context_of before.now.context.now) before.now.stage.now.known
+        → IfOk result (KnowTags conf (context_of after.now.context.now)) }
+{
+    let first = lines.len();
+    add_own_lines(alloc, index, before, script, after, lines)?;
+    known_after(alloc, &before.stage.known, &lines.as_slice()[first..])
 }

@@ -1,13 +1,6 @@
 //! Laws of audits. Each function does nothing; its contract is the law.
 
-ghost use Rattle.hop_audit.specs.Laws.{IsKeptWithItsBase, IsKeptWithItsBaseAtHops, KeepsFate, AreChainOrNot, AreOneChain, HasOneFate, HasSomeFate, HaveAuditOrFault, HaveNoFaultWhereAudited, HaveOneAudit, HaveOneFault, HaveOneOrderFault, KeepsWhatIsPermitted, TellsWhatChanged, TellsWhatChangedAtHops};
-
-/// Items are one chain, or there is one place where they aren't in its order.
-pub fn items_are_a_chain_or_not()
-    ensures one { AreOneChain }
-    ensures either { AreChainOrNot }
-    ensures fault { HaveOneOrderFault }
-{}
+ghost use Rattle.hop_audit.specs.Laws.{IsKeptWithItsBase, IsKeptWithItsBaseAtHops, KeepsFate, HasOneFate, HasSomeFate, HaveAuditOrFault, HaveNoFaultWhereAudited, HaveOneAudit, HaveOneFault, KeepsWhatIsPermitted, TellsWhatChanged, TellsWhatChangedAtHops};
 
 /// The items of a recording have one report, or one fault.
 pub fn items_have_one_audit()

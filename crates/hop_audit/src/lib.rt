@@ -16,9 +16,8 @@ mod chain_audit;
 mod comparison;
 mod fault;
 mod hop_lines;
+mod known_tags;
 mod laws;
-mod limit_laws;
-mod limits;
 mod line;
 mod line_text;
 mod message_lines;
@@ -30,10 +29,9 @@ mod walk;
 pub use chain_audit::audit;
 pub use fault::ChainFault;
 pub use laws::{
-    a_signature_has_one_fate, items_are_a_chain_or_not, items_have_one_audit,
+    a_signature_has_one_fate, items_have_one_audit, one_tag_tells_one_base,
     what_is_permitted_is_kept,
 };
-pub use limit_laws::limits_are_these;
-pub use limits::MAX_HOPS;
 pub use line::{AuditLine, AuditReport, Fate};
 pub use line_text::{append_report, finds_fault};
+pub use recording::{MAX_HOPS, items_are_a_chain_or_not};

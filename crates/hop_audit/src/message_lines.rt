@@ -1,15 +1,18 @@
 //! The lines of a message: the verdicts on its labels (RFC 9421 section 3.2).
 
-ghost use Rattle.std.specs.Prelude.{◌≡◌, ◌≤◌, ◌<◌, None, OnOk};
+ghost use Rattle.std.specs.Prelude.{◌≡◌, ◌≤◌, ◌<◌, None, IfOk, IsTrue, OnOk};
 ghost use Rattle.component_values.specs.Context.{context_of};
 ghost use Rattle.nonces.specs.declared.limits.TheConstants.{MAX_MOMENT};
 ghost use Rattle.settings.specs.ConfMeaning.{meaning};
 ghost use Rattle.verdicts.specs.Readings.{AreReadFor};
+ghost use Rattle.verdicts.specs.Verdicts.{IsVerdict, is_verdict_in_range};
 ghost use Rattle.verdicts.specs.Verification.{model_of};
 ghost use Rattle.verdicts.specs.Verification.{no_label};
+ghost use Rattle.hop_audit.specs.tools.Carried.{KnowTags};
 ghost use Rattle.hop_audit.specs.tools.Read.{IsStageOf};
 ghost use Rattle.hop_audit.specs.tools.Written.{AddsMessageLine, AddsMessageLines};
 
+use crate::known_tags::{KnownTags, known_after, known_of};
 use crate::line::{AuditLine, AuditReport};
 use crate::stage::Stage;
 use component_values::Context;
@@ -19,7 +22,36 @@ use sfv_text::{Memory, Text};
 use std::alloc::Global;
 use std::marker::Brand;
 use std::sync::ledger::{Blank, Ledger};
-use verdicts::{LabelReadings, Verification, verdict_in};
+use verdicts::{LabelReadings, Signed, Verdict, Verification, verdict_in, verdict_on};
+
+/// The verdict on the label.
+fn verdict_of<L: Ledger>(
+    alloc: Global,
+    stage: &Stage<'_>,
+    verification: &Verification<'_, '_, '_>,
+    readings: &mut LabelReadings,
+    steps: &mut Steps<L>,
+) -> Result<Verdict, Memory>
+    requires stage { IsStageOf (model_of verification.now).context.message stage.now }
+    requires known { KnowTags (model_of verification.now).conf (model_of verification.now).context
+        stage.now.known }
+    requires readings { AreReadFor (model_of verification.now).context readings.old }
+    requires seen { (model_of verification.now).seen ≡ None }
+    ensures is { IfOk result (IsVerdict (model_of verification.entry.now)) }
+    ensures in_range { IfOk result (λ verdict. IsTrue (is_verdict_in_range verdict)) }
+    ensures readings { AreReadFor (model_of verification.entry.now).context readings.new }
+{
+    match stage.signature(verification.label) {
+        Some(read) => {
+            let signed = Signed {
+                read,
+                is_right: known_of(&stage.known, verification.label),
+            };
+            verdict_on(alloc, &signed, readings, verification, steps)
+        }
+        None => verdict_in(alloc, &stage.fields, readings, verification, steps),
+    }
+}
 
 fn add_line<L: Ledger>(
     alloc: Global,
@@ -31,13 +63,15 @@ fn add_line<L: Ledger>(
     lines: &mut AuditReport,
 ) -> Result<(), Memory>
     requires stage { IsStageOf (model_of verification.now).context.message stage.now }
+    requires known { KnowTags (model_of verification.now).conf (model_of verification.now).context
+        stage.now.known }
     requires readings { AreReadFor (model_of verification.now).context readings.old }
     requires seen { (model_of verification.now).seen ≡ None }
     ensures line { OnOk result
         (AddsMessageLine (model_of verification.entry.now) index lines.old lines.new) }
     ensures readings { AreReadFor (model_of verification.entry.now).context readings.new }
 {
-    let verdict = verdict_in(alloc, &stage.fields, readings, verification, steps)?;
+    let verdict = verdict_of(alloc, stage, verification, readings, steps)?;
     let label = Text::from_bytes(alloc, verification.label)?;
     lines.push(AuditLine::Message {
         index,
@@ -57,6 +91,8 @@ fn add_lines<'x, L: Ledger>(
     lines: &mut AuditReport,
 ) -> Result<(), Memory>
     requires stage { IsStageOf (model_of first.now).context.message stage.now }
+    requires known { KnowTags (model_of first.now).conf (model_of first.now).context
+        stage.now.known }
     requires label { (model_of first.now).label ≡ no_label }
     requires now { (model_of first.now).now ≤ MAX_MOMENT }
     requires seen { (model_of first.now).seen ≡ None }
@@ -80,7 +116,7 @@ fn add_lines<'x, L: Ledger>(
 }
 
 /// Adds the lines of the message with this index at this moment, in seconds since the epoch. No
-/// nonce is remembered.
+/// nonce is remembered. It answers what is known of the message's tags then.
 pub(crate) fn add_message_lines<'x>(
     alloc: Global,
     conf: &'x Conf,
@@ -89,11 +125,13 @@ pub(crate) fn add_message_lines<'x>(
     moment: u64,
     stage: &'x Stage<'_>,
     lines: &mut AuditReport,
-) -> Result<(), Memory>
+) -> Result<KnownTags, Memory>
     requires stage { IsStageOf (context_of context.now).message stage.now }
+    requires known { KnowTags (meaning conf.now) (context_of context.now) stage.now.known }
     requires now { moment ≤ MAX_MOMENT }
-    ensures { OnOk result (AddsMessageLines (meaning conf.now) (context_of context.now) index moment
-        lines.old lines.new) }
+    ensures lines { OnOk result (AddsMessageLines (meaning conf.now) (context_of context.now) index
+        moment lines.old lines.new) }
+    ensures known { IfOk result (KnowTags (meaning conf.now) (context_of context.now)) }
 {
     let first = Verification {
         context,
@@ -102,7 +140,9 @@ pub(crate) fn add_message_lines<'x>(
         now: moment,
         seen: None,
     };
+    let count = lines.len();
     let mut readings = LabelReadings::new(alloc);
     let blank = Blank::new(1);
-    add_lines::<Brand>(alloc, index, stage, &first, &mut readings, blank, lines)
+    add_lines::<Brand>(alloc, index, stage, &first, &mut readings, blank, lines)?;
+    known_after(alloc, &stage.known, &lines.as_slice()[count..])
 }

@@ -83,7 +83,7 @@ none_counted test (x ∷ xs) none =
     counted ∙ rw parts.0 (omega (arith, none_counted test xs parts.1))
 
 -- what has the keyid and the nonce of an entry is seen exactly where the entry is
-of_itself : (keyid nonce : List ℕ) (e : Entry) → is_of keyid nonce e ≡ true → (e.keyid ≡ keyid) × (e.nonce ≡ nonce)
+pub of_itself : (keyid nonce : List ℕ) (e : Entry) → is_of keyid nonce e ≡ true → (e.keyid ≡ keyid) × (e.nonce ≡ nonce)
 of_itself keyid nonce e is =
     let parts = and_true (bytes_eq e.keyid keyid) (bytes_eq e.nonce nonce) is in
     ((bytes_eq-Decides e.keyid keyid).0 parts.0, (bytes_eq-Decides e.nonce nonce).0 parts.1)

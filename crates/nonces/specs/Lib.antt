@@ -1,2 +1,4 @@
 pub mod Books
+pub mod Buckets
 pub mod Laws
+pub mod tools

@@ -1,13 +1,18 @@
 //! The book of seen nonces.
 
-ghost use Rattle.std.specs.Prelude.{◌≡◌, ◌≤◌, ◌<◌, ◌+◌, ◌++◌, ◌↔◌, IsTrue, false, [], ◌∷◌, length, is_err, IfOk, OnOk, OnErr};
-ghost use Rattle.std.specs.Vec.{vec_capacity};
+ghost use Rattle.std.specs.Prelude.{◌≡◌, ◌≤◌, ◌<◌, ◌+◌, ◌-◌, ◌*◌, ◌%◌, ◌↔◌, ℕ, min, IsTrue, false, None, [], ◌∷◌, length, map, slice_index_or, slice_set, is_err, IfOk, OnOk, OnErr};
+ghost use Rattle.std.specs.List.{count_by};
 ghost use Rattle.nonces.specs.Books.{HaveSameEntries, IsBook, book_of, is_full, is_seen, live_entries};
+ghost use Rattle.nonces.specs.Buckets.{IsLeastPowerOfTwo, bucket_of, is_in_bucket};
+ghost use Rattle.nonces.specs.tools.Links.{IsListOf};
+ghost use Rattle.nonces.specs.tools.Nodes.{Holds, ends_at, entries_of, let_go, link_at};
 ghost use Rattle.nonces.specs.declared.limits.TheConstants.{MAX_ENTRIES, MAX_KEYID_BYTES, MAX_MOMENT, MAX_NONCE_BYTES, MAX_WINDOW};
 
+use crate::arrays::Heads;
 use crate::entry::Entry;
 use crate::full::Full;
 use crate::steps::Steps;
+use crate::store::Store;
 use sfv_text::Memory;
 use std::alloc::Global;
 use std::marker::Model;
@@ -17,64 +22,50 @@ use std::sync::ledger::Ledger;
 /// accepted again (RFC 9421 section 7.2.2). Moments are seconds since the epoch.
 #[derive(Drop)]
 pub struct NonceBook {
-    // It has room for as many entries as the book can hold.
-    entries: Vec<Entry>,
+    store: Store,
+    // The first node of the list of each slot; an entry is in the slot of the last second at which
+    // it lives.
+    slots: Heads,
     capacity: usize,
     window: u64,
     moment: u64,
 }
 
 impl Model for NonceBook {
-    ghost use Rattle.std.specs.Prelude.{◌≤◌};
-    ghost use Rattle.std.specs.Vec.{vec_capacity};
+    ghost use Rattle.std.specs.Prelude.{◌≡◌, ◌+◌, length};
     ghost use Rattle.nonces.specs.Books.{Book, IsBook, book_of};
+    ghost use Rattle.nonces.specs.tools.Nodes.{IsWheel, entries_of};
 
     ghost Value = { Book };
 
-    ghost view = { λ b. book_of b.entries.items b.capacity b.window b.moment };
+    ghost view = { λ b. book_of (entries_of b.store) b.capacity b.window b.moment };
 
-    ghost invariant = { λ b. IsBook (book_of b.entries.items b.capacity b.window b.moment)
-        × (b.capacity ≤ vec_capacity b.entries) };
+    ghost invariant = { λ b. IsBook (book_of (entries_of b.store) b.capacity b.window b.moment)
+        × IsWheel b.store b.slots
+        × (length b.slots ≡ b.window + 1)
+        × (length b.store.entries ≡ b.capacity) };
 }
 
-/// Keeps the entries that live at this moment, in their order.
-fn keep_live<L: Ledger>(entries: &mut Vec<Entry>, now: u64, steps: &mut Steps<L>)
-    ensures live { entries.new.items ≡ live_entries now entries.old.items }
-    ensures room { vec_capacity entries.new ≡ vec_capacity entries.old }
-    ensures steps { steps.old ≤ steps.new }
+/// Lets go of the entries that die after this second: those of its slot's list.
+fn drop_second<L: Ledger>(store: &mut Store, slots: &mut Heads, until: u64, steps: &mut Steps<L>)
+    requires some { 0 < length slots.old }
+    requires list { IsListOf (link_at store.old)
+        (slice_index_or slots.old (until % length slots.old) None)
+        (Holds (ends_at until) store.old.entries) }
+    ensures slots { slots.new ≡ slice_set slots.old (until % length slots.old) None }
+    ensures entries { store.new.entries ≡ map (let_go until) store.old.entries }
+    ensures links { (i : ℕ) → (slice_index_or store.new.entries i None ≡ None → ⊥)
+        → link_at store.new i ≡ link_at store.old i }
+    ensures rises { steps.old ≤ steps.new }
+    ensures cost { steps.new + length (entries_of store.new)
+        ≤ steps.old + length (entries_of store.old) + 1 }
 {
-    let mut kept = 0;
-    'entries: for index in 0..entries.len() {
-        steps.tick();
-        if entries[index].is_live(now) {
-            entries.swap(kept, index);
-            kept += 1;
-        }
+    let slot = (until % slots.len() as u64) as usize;
+    let mut link = slots.look(slot, steps);
+    slots.set(slot, None);
+    'list: while let Some(index) = link {
+        link = store.release(index, steps);
     }
-    entries.truncate(kept);
-}
-
-/// Whether an entry has this keyid and this nonce.
-fn is_seen<L: Ledger>(entries: &[Entry], keyid: &[u8], nonce: &[u8], steps: &mut Steps<L>) -> bool
-    ensures found { result ≡ is_seen keyid.now nonce.now entries.now }
-    ensures steps { steps.old ≤ steps.new }
-{
-    'entries: for entry in entries {
-        steps.tick();
-        if entry.is_of(keyid, nonce) {
-            return true;
-        }
-    }
-    false
-}
-
-/// Adds an entry at the end. There is room for it, so it takes no memory and doesn't fail.
-fn add(entries: &mut Vec<Entry>, entry: Entry)
-    requires { length entries.old.items < vec_capacity entries.old }
-    ensures items { entries.new.items ≡ entries.old.items ++ entry ∷ [] }
-    ensures room { vec_capacity entries.old ≤ vec_capacity entries.new }
-{
-    let _ = entries.push(entry);
 }
 
 impl NonceBook {
@@ -86,9 +77,11 @@ impl NonceBook {
         requires now { now ≤ MAX_MOMENT }
         ensures { IfOk result (λ book. book ≡ book_of [] capacity window now) }
     {
-        let entries = Vec::with_capacity(alloc, capacity)?;
+        let store = Store::open(alloc, capacity)?;
+        let slots = Heads::empty(alloc, window as usize + 1)?;
         Ok(NonceBook {
-            entries,
+            store,
+            slots,
             capacity,
             window,
             moment: now,
@@ -99,21 +92,21 @@ impl NonceBook {
     pub fn len(&self) -> usize
         ensures { result ≡ length self.now.entries }
     {
-        self.entries.len()
+        self.store.len()
     }
 
     /// Whether it holds no entry.
     pub fn is_empty(&self) -> bool
         ensures { IsTrue result ↔ (self.now.entries ≡ []) }
     {
-        self.entries.is_empty()
+        self.store.len() == 0
     }
 
     /// Whether it holds as many entries as it can.
     pub fn is_full(&self) -> bool
         ensures { result ≡ is_full self.now }
     {
-        self.entries.len() == self.capacity
+        self.store.len() == self.capacity
     }
 
     /// How many entries it can hold.
@@ -154,9 +147,44 @@ impl NonceBook {
         ensures capacity { self.new.capacity ≡ self.old.capacity }
         ensures window { self.new.window ≡ self.old.window }
         ensures steps { steps.old ≤ steps.new }
+        ensures bound { steps.new
+            ≤ steps.old + min (now - self.old.moment) (self.old.window + 1)
+            + 2 * (length self.old.entries - length self.new.entries) }
     {
-        keep_live(&mut self.entries, now, steps);
+        self.keeps_limits();
+        let end = now.min(self.moment() + self.window() + 1);
+        self.pass_seconds(end, steps);
         self.moment = now;
+    }
+
+    /// Goes on to a moment, second by second.
+    fn pass_seconds<L: Ledger>(&mut self, end: u64, steps: &mut Steps<L>)
+        requires end { end ≤ MAX_MOMENT }
+        requires later { self.old.moment ≤ end }
+        ensures book { self.new ≡ book_of (live_entries end self.old.entries) self.old.capacity
+            self.old.window end }
+        ensures rises { steps.old ≤ steps.new }
+        ensures cost { steps.new + length self.new.entries
+            ≤ steps.old + length self.old.entries + (end - self.old.moment) }
+    {
+        self.keeps_limits();
+        'seconds: while self.moment() < end {
+            self.pass_second(steps);
+        }
+    }
+
+    /// Goes on by a second.
+    fn pass_second<L: Ledger>(&mut self, steps: &mut Steps<L>)
+        requires { self.old.moment < MAX_MOMENT }
+        ensures book { self.new ≡ book_of
+            (live_entries (self.old.moment + 1) self.old.entries) self.old.capacity
+            self.old.window (self.old.moment + 1) }
+        ensures rises { steps.old ≤ steps.new }
+        ensures cost { steps.new + length self.new.entries
+            ≤ steps.old + length self.old.entries + 1 }
+    {
+        drop_second(&mut self.store, &mut self.slots, self.moment, steps);
+        self.moment += 1;
     }
 
     /// Whether it holds an entry of this keyid and this nonce: a signature with them is a replay.
@@ -166,8 +194,12 @@ impl NonceBook {
         ensures live { result
             ≡ is_seen keyid.now nonce.now (live_entries self.now.moment self.now.entries) }
         ensures steps { steps.old ≤ steps.new }
+        ensures bound { (buckets : ℕ) → IsLeastPowerOfTwo self.now.capacity buckets
+            → steps.new ≤ steps.old + count_by
+            (is_in_bucket buckets (bucket_of buckets keyid.now nonce.now)) self.now.entries
+            + 1 }
     {
-        is_seen(&self.entries, keyid, nonce, steps)
+        self.store.find(keyid, nonce, steps)
     }
 
     /// Adds an entry, which lives until this moment and no longer. It takes no memory.
@@ -191,12 +223,17 @@ impl NonceBook {
         ensures window { self.new.window ≡ self.old.window }
         ensures moment { self.new.moment ≡ self.old.moment }
         ensures steps { steps.old ≤ steps.new }
+        ensures bound { steps.new ≤ steps.old + 4 }
     {
         if self.is_full() {
             return Err(Full);
         }
-        steps.tick();
-        add(&mut self.entries, Entry::new(keyid, nonce, until));
+        let slot = (until % self.slots.len() as u64) as usize;
+        let first = self.slots.look(slot, steps);
+        let index = self
+            .store
+            .add(Entry::new(keyid, nonce, until), first, steps);
+        self.slots.set(slot, Some(index));
         Ok(())
     }
 }

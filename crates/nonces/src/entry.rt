@@ -1,7 +1,7 @@
 //! An entry of a book.
 
 ghost use Rattle.std.specs.Prelude.{◌≡◌, ◌≤◌, length};
-ghost use Rattle.nonces.specs.Books.{is_live, is_of};
+ghost use Rattle.nonces.specs.Books.{is_of};
 ghost use Rattle.nonces.specs.declared.limits.TheConstants.{MAX_KEYID_BYTES, MAX_NONCE_BYTES};
 
 use crate::limits::{MAX_KEYID_BYTES, MAX_NONCE_BYTES};
@@ -38,11 +38,18 @@ impl Entry {
         }
     }
 
-    /// Whether it lives at this moment.
-    pub fn is_live(&self, now: u64) -> bool
-        ensures { result ≡ is_live now self.now }
+    /// Its keyid.
+    pub fn keyid(&self) -> &[u8]
+        ensures { result.now ≡ self.now.keyid }
     {
-        now <= self.until
+        self.keyid.as_slice()
+    }
+
+    /// Its nonce.
+    pub fn nonce(&self) -> &[u8]
+        ensures { result.now ≡ self.now.nonce }
+    {
+        self.nonce.as_slice()
     }
 
     /// Whether it has this keyid and this nonce.

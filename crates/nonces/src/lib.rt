@@ -11,7 +11,9 @@
 //! ```
 #![tactic(auto)]
 
+mod arrays;
 mod book;
+mod buckets;
 mod entry;
 mod full;
 mod laws;
@@ -19,6 +21,7 @@ mod limit_laws;
 mod limits;
 mod short;
 mod steps;
+mod store;
 
 pub use book::NonceBook;
 pub use full::Full;

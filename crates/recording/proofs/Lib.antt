@@ -10,3 +10,8 @@ mod ReadLaws
 mod LeftLaws
 mod AllowedLaws
 mod RestLaws
+pub mod OneChain
+mod Stopping
+pub mod OrderFaults
+mod HeldOrder
+mod OrderAnswers

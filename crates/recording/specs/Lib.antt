@@ -3,4 +3,7 @@ pub mod Recordings
 pub mod Causes
 pub mod Words
 pub mod Laws
+pub mod Chains
+pub mod RecordedChains
+pub mod ChainLaws
 pub mod tools

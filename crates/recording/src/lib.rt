@@ -3,8 +3,8 @@
 //!
 //! A recording is a line that names the format, items, and a last line. The first item is a moment.
 //! A moment is one line. A message or a script is a line that says how many bytes it has, those
-//! bytes, and LF: so bytes of any kind can be in it. In which order the items make a chain isn't
-//! said here.
+//! bytes, and LF: so bytes of any kind can be in it. Items that come in the order of a chain are
+//! one: `recorded_chain`.
 //!
 //! ```text
 //! hms-recording 1
@@ -25,15 +25,20 @@
 //! The items borrow their bytes from the recording.
 #![tactic(auto)]
 
+mod chain;
+mod chain_laws;
 mod fault;
 mod item;
 mod laws;
 mod limit_laws;
 mod limits;
 mod number;
+mod order;
 mod read;
 mod word;
 
+pub use chain::{OrderFault, RecordedChain, RecordedHop, Subject};
+pub use chain_laws::items_are_a_chain_or_not;
 pub use fault::RecordingFault;
 pub use item::{Item, ItemBody, Recording, Role};
 pub use laws::{
@@ -41,5 +46,6 @@ pub use laws::{
     the_rest_is_read_by_itself,
 };
 pub use limit_laws::limits_are_these;
-pub use limits::{MAX_ITEM_BYTES, MAX_NUMBER_DIGITS};
+pub use limits::{MAX_HOPS, MAX_ITEM_BYTES, MAX_NUMBER_DIGITS};
+pub use order::{recorded_chain, role_of};
 pub use read::read_recording;

@@ -1,7 +1,10 @@
-//! What a recording may have at most.
+//! What a recording, or the chain that it is, may have at most.
 
 /// How many digits a number may have: a moment in seconds, or a length in bytes.
 pub const MAX_NUMBER_DIGITS: usize = 15;
 
 /// How many bytes a message or a script may have.
 pub const MAX_ITEM_BYTES: usize = 16_777_216;
+
+/// How many hops a chain may have.
+pub const MAX_HOPS: usize = 64;

@@ -20,16 +20,16 @@ use Rattle.recording.specs.declared.item.Role.TheVariants.{Request}
 use Rattle.recording.specs.declared.limits.TheConstants.{MAX_ITEM_BYTES}
 use Rattle.signing.specs.Signed.{IsSignedMessage}
 use Rattle.signing.specs.declared.spec.SignSpec.{SignSpec}
-use Rattle.hop_audit.specs.Chains.{RecordedChain, RecordedHop, requests, chain_items, hop_items}
+use Rattle.recording.specs.Chains.{RecordedChain, RecordedHop, requests, chain_items, hop_items}
 use Rattle.hop_audit.specs.ChainFaults.{IsChainFault}
 use Rattle.hop_audit.specs.ChainValues.{Chain, Hop, IsChainOf, IsHop, IsScriptItem, one_request}
 use Rattle.hop_audit.specs.Lines.{finds_fault}
 use Rattle.hop_audit.specs.Report.{AreItemsOf, IsAudit, IsReport}
 use Rattle.hop_audit.specs.declared.fault.ChainFault.{ChainFault}
-use Rattle.hop_audit.specs.declared.limits.TheConstants.{MAX_HOPS}
+use Rattle.recording.specs.declared.limits.TheConstants.{MAX_HOPS}
 use Rattle.hop_audit.specs.declared.line.AuditLine.{AuditLine}
 use Rattle.hop_audit.proofs.FirstFaults.{no_fault_where_audited}
-use Rattle.hop_audit.proofs.OneChain.{one_chain}
+use Rattle.recording.proofs.OneChain.{one_chain}
 use Rattle.hop_audit.proofs.OneReport.{one_chain_value}
 use Rattle.hop_audit.proofs.SomeReport.{some_report}
 use Rattle.samples.specs.Chains.{AreHopsFrom, TakesStep, sample_context}

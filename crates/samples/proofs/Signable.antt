@@ -6,7 +6,7 @@ use Rattle.std.specs.Fmt.{digits}
 use Rattle.std.specs.Int.{byte_at, bytes_high_first, to_be_bytes, w32}
 use Rattle.std.specs.List.{flat_map, list_all, list_any, slice_get, slice_index}
 use Rattle.std.specs.Str.{byte}
-use Rattle.std.proofs.lemmas.Bool.{and_from, false≢true, le-ltb, lt-ltb, or_parts}
+use Rattle.std.proofs.lemmas.Bool.{and_from, false≢true, lt-ltb, or_parts}
 use Rattle.std.proofs.lemmas.Bool.Decides.{nat_tests}
 use Rattle.std.proofs.lemmas.List.{append-nil, length-append, length-replicate}
 use Rattle.base64.specs.Engines.{standard}
@@ -28,12 +28,10 @@ use Rattle.sfv_read.proofs.MoreMembers.{strict_ends}
 use Rattle.msg_head.specs.Heads.{head_text}
 use Rattle.msg_head.specs.Lines.{FieldLine, line_text}
 use Rattle.msg_head.specs.Values.{value}
-use Rattle.msg_head.specs.declared.limits.TheConstants.{MAX_HEAD_BYTES, MAX_HEAD_LINES}
 use Rattle.msg_head.proofs.LineBytes.{line_byte_of}
 use Rattle.msg_head.proofs.MoreLines.{value_after_space}
 use Rattle.msg_body.specs.Bodies.{body_text}
 use Rattle.msg_body.specs.Messages.{Message, message_text}
-use Rattle.msg_body.specs.declared.limits.TheConstants.{MAX_MESSAGE_BYTES}
 use Rattle.targets.specs.Authorities.{IsAuthority}
 use Rattle.targets.specs.Targets.{SpellsTarget, TargetParts}
 use Rattle.targets.specs.declared.target.Form.TheVariants.{Origin}
@@ -43,11 +41,12 @@ use Rattle.component_ids.specs.declared.scheme.Scheme.TheVariants.{Https}
 use Rattle.component_values.specs.Context.{MessageContext}
 use Rattle.component_values.specs.Values.{Has, HaveValues, plain_value}
 use Rattle.component_values.proofs.FirstLacks.{none_lacks}
-use Rattle.signing.specs.SignCauses.{IsSignCause, any_tag, covers_itself, limit_passed_by, passed_limit}
+use Rattle.signing.specs.SignCauses.{IsSignCause, any_tag, covers_itself, passed_limit}
 use Rattle.signing.specs.Written.{line_of, signed_message, with_lines}
 use Rattle.signing.specs.declared.fault.SignFault.{SignFault}
 use Rattle.signing.specs.declared.fault.SignFault.TheVariants.{Memory, InputMalformed, SignatureMalformed, LabelThere, SelfCover, TooLong, Lacks}
 use Rattle.signing.proofs.Inserting.{flat_joined, head_length, line_length}
+use Rattle.signing.proofs.Making.{none_where_fits}
 use Rattle.samples.specs.Chains.{sample_context}
 use Rattle.samples.specs.Laws.{IsSignable}
 use Rattle.samples.specs.Requests.{content_of, plain, sample_params, sample_spec}
@@ -120,9 +119,6 @@ module _ (digest : List ℕ) (bytes : list_all is_byte digest ≡ true) where
 
 -- ---- limits
 
-no_limit : (head count message : ℕ) → head ≤ MAX_HEAD_BYTES → count ≤ MAX_HEAD_LINES → message ≤ MAX_MESSAGE_BYTES → limit_passed_by head count message ≡ None
-no_limit head count message short few brief = rw (le-ltb MAX_HEAD_BYTES head short, le-ltb MAX_HEAD_LINES count few, le-ltb MAX_MESSAGE_BYTES message brief) refl
-
 one_line : (line : FieldLine) (more : List FieldLine) → length (flat_map line_text (line ∷ more)) ≡ length line.name + length line.raw + 3 + length (flat_map line_text more)
 one_line line more = omega (arith, line_length line, length-append (line_text line) (flat_map line_text more))
 
@@ -157,7 +153,7 @@ module _ (content digest input tag : List ℕ) (long : length content ≡ 100000
   text_short = omega (arith, head_short, body_length, length-append (head_text longer.head) (body_text longer.body))
 
   fits : passed_limit longer ≡ None
-  fits = no_limit (length (head_text longer.head)) (length longer.head.lines) (length (message_text longer)) (omega (arith, head_short)) (omega arith) (omega (arith, text_short))
+  fits = none_where_fits longer (record { head_fits = omega (arith, head_short); lines_fit = omega arith; whole_fits = omega (arith, text_short) })
 
 -- the strict text of the parameters, the moment's digits written out
 input_length : length (codes "s=" ++ sig_params_text sample_params) ≤ 1000

@@ -6,7 +6,7 @@ ghost use Rattle.recording.specs.Items.{placed};
 ghost use Rattle.recording.specs.Recordings.{bodies};
 ghost use Rattle.settings.specs.ConfMeaning.{meaning};
 ghost use Rattle.hop_audit.specs.Report.{IsReport};
-ghost use Rattle.hop_audit.specs.declared.limits.TheConstants.{MAX_HOPS};
+ghost use Rattle.recording.specs.declared.limits.TheConstants.{MAX_HOPS};
 ghost use Rattle.samples.specs.Requests.{sample_configuration};
 ghost use Rattle.samples.specs.Scripts.{scripts_from};
 ghost use Rattle.samples.specs.Summary.{IsSample, last_from};

@@ -2,7 +2,7 @@
 
 ghost use Rattle.std.specs.Prelude.{◌≡◌, ◌≤◌, ◌++◌, ◌*◌, OnOk, count_by};
 ghost use Rattle.hop_audit.specs.Lines.{finds_fault};
-ghost use Rattle.hop_audit.specs.declared.limits.TheConstants.{MAX_HOPS};
+ghost use Rattle.recording.specs.declared.limits.TheConstants.{MAX_HOPS};
 ghost use Rattle.samples.specs.Summary.{is_kept_line, is_ok_line, is_permitted_line, number_line, summary_text};
 
 use hop_audit::{AuditLine, Fate, finds_fault};

@@ -1,7 +1,7 @@
 -- The signed message, or the first cause for which there is none.
-use Rattle.std.proofs.Common.{◌≡◌, ◌≢◌, ◌<◌, ◌+◌, lit<, ℕ, true, List, ◌++◌, length, length-append, Option, Some, None, Result, Ok, Err, refl, sym, ap, ◌∙◌, inl, inr}
+use Rattle.std.proofs.Common.{◌≡◌, ◌≢◌, ◌<◌, ◌+◌, lit<, ℕ, true, List, ◌++◌, length, length-append, Some, None, Result, Ok, Err, refl, ap, ◌∙◌, arith, inl, inr}
 use Rattle.std.specs.Prelude.{IfOk}
-use Rattle.std.specs.List.{list_all}
+use Rattle.std.specs.List.{flat_map, list_all}
 use Rattle.sfv_text.specs.Range.{is_byte}
 use Rattle.byte_grammar.specs.Causes.{AnswersWhere}
 use Rattle.byte_grammar.specs.tools.Determined.{AreDetermined}
@@ -11,36 +11,38 @@ use Rattle.msg_head.specs.Lines.{line_text}
 use Rattle.msg_body.specs.Messages.{Message, message_text}
 use Rattle.component_values.specs.Context.{MessageContext}
 use Rattle.component_values.proofs.FirstLacks.{first_lack_is_one, none_lacks}
+use Rattle.component_values.specs.Values.{HaveValues, IsFirstLack}
+use Rattle.component_values.specs.declared.fault.ValueFault.{ValueFault}
+use Rattle.component_values.specs.declared.fault.ValueFault.TheVariants as value
+use Rattle.derived_values.specs.declared.lack.Lack.{Lack}
+use Rattle.hmac_sha256.specs.Hmac.{hmac}
+use Rattle.sig_base.specs.SignatureBase.{signature_base}
 use Rattle.signing.specs.Written.{context_with_digest, digest_lines, signature_lines, signed_message}
 use Rattle.signing.specs.declared.lines.AddedLines.{AddedLines}
 use Rattle.signing.specs.declared.parts.Parts.{Parts}
-use Rattle.signing.specs.tools.Lines.{AreLines, params_line, tag_line}
+use Rattle.signing.specs.tools.Lines.{AreLines}
 use Rattle.signing.specs.tools.Parts.{ArePartsOf}
 use Rattle.signing.specs.Signed.{IsSigned}
-use Rattle.signing.specs.SignCauses.{IsSignCause, IsSignFault, any_tag, limit_passed_by, passed_limit, sign_order}
+use Rattle.signing.specs.SignCauses.{IsSignCause, IsSignFault, any_tag, passed_limit, sign_order}
 use Rattle.signing.specs.declared.fault.SignFault.{SignFault}
 use Rattle.signing.specs.declared.fault.SignFault.TheVariants.{Memory, InputMalformed, SignatureMalformed, LabelThere, SelfCover, TooLong, Lacks}
 use Rattle.signing.specs.declared.spec.SignSpec.{SignSpec}
-use Rattle.signing.specs.tools.Judged.{ExplainsSign, ExplainsTag, IsTagOf, IsMade, NoneBelow}
+use Rattle.signing.specs.tools.Judged.{ExplainsSign, IsMade, NoneBelow, lack_fault_of}
 use Rattle.signing.proofs.DigestBytes.{sha256_bytes}
-use Rattle.signing.proofs.LineTexts.{two_lines}
-use Rattle.signing.proofs.Making.{limit_is}
+use Rattle.signing.proofs.Making.{added_bytes}
 use Rattle.signing.proofs.Causes.{first, none_below_7, none_below_8, one_cover}
 
--- what the parts say of the limits, and the lines of a signature with any tag
-pub limit_of : (message : Message) (spec : SignSpec) (parts : Parts) (digest : AddedLines) (params tag : List ℕ) (o : Option ℕ) → ArePartsOf message parts → AreLines digest (digest_lines message spec.digest)
-    → params ≡ line_text (params_line spec) → tag ≡ line_text (tag_line spec.label any_tag)
-    → o ≡ limit_passed_by (length parts.before.now + (length digest.text + (length params + length tag)) + 2) (parts.lines + (digest.count + 2))
-    (length parts.before.now + (length digest.text + (length params + length tag)) + length parts.after.now)
-    → passed_limit (signed_message message spec any_tag) ≡ o
-limit_of message spec parts digest params tag o are lines params_are tag_is is =
-    let both : AddedLines = record { text = params ++ tag; count = 2 } in
-    let two : AreLines both (signature_lines spec any_tag) = record {
-      text = two_lines (params_line spec) (tag_line spec.label any_tag) params (params ++ tag) params_are (ap (λ t. params ++ t) tag_is);
-      count = refl;
-    } in
-    let limit = limit_is message parts are (digest_lines message spec.digest) (signature_lines spec any_tag) digest both lines two in
-    sym (is ∙ (rw (length-append params tag) at limit))
+-- what the parts say of the limits, and how many bytes the lines of a signature have with any tag
+module _ (message : Message) (spec : SignSpec) (parts : Parts) (digest : AddedLines) (are : ArePartsOf message parts) (lines : AreLines digest (digest_lines message spec.digest)) where
+  pub all_bytes : (n : ℕ) → n ≡ length (flat_map line_text (signature_lines spec any_tag)) → length digest.text + n ≡ length (flat_map line_text (digest_lines message spec.digest ++ signature_lines spec any_tag))
+  all_bytes n is = added_bytes message parts are (digest_lines message spec.digest) (signature_lines spec any_tag) digest n lines is
+
+  pub all_lines : digest.count + 2 ≡ length (digest_lines message spec.digest ++ signature_lines spec any_tag)
+  all_lines = omega (arith, lines.count, length-append (digest_lines message spec.digest) (signature_lines spec any_tag))
+
+-- a tag is bytes
+pub tag_bytes : (tag key base : List ℕ) → tag ≡ hmac key base → list_all is_byte tag ≡ true
+tag_bytes tag key base is = rw is (sha256_bytes _)
 
 module _ (context : MessageContext) (spec : SignSpec) where
   pub too_long : NoneBelow context spec 6 → (limit : ℕ) → passed_limit (signed_message context.message spec any_tag) ≡ Some limit
@@ -50,30 +52,21 @@ module _ (context : MessageContext) (spec : SignSpec) where
   pub fits : NoneBelow context spec 6 → passed_limit (signed_message context.message spec any_tag) ≡ None → NoneBelow context spec 7
   fits none short = none_below_7 context spec none (λ limit long. absurd (cc (short, long)))
 
-  pub lack_answered : NoneBelow context spec 7 → (fault : SignFault) → ExplainsTag (context_with_digest context spec.digest) spec (Err fault)
-      → ExplainsSign context spec (IsMade context spec) (Err fault)
-  lack_answered none (Lacks index lack) is = first context spec (Lacks index lack) none is
-  lack_answered none Memory is = tt
-  lack_answered none InputMalformed is = absurd is
-  lack_answered none SignatureMalformed is = absurd is
-  lack_answered none LabelThere is = absurd is
-  lack_answered none (SelfCover index) is = absurd is
-  lack_answered none (TooLong limit) is = absurd is
+  pub lack_answered : NoneBelow context spec 7 → (fault : ValueFault) → ((index : ℕ) (lack : Lack) → fault ≡ value.Lacks index lack → IsFirstLack (context_with_digest context spec.digest) spec.params.ids index lack)
+      → ExplainsSign context spec (IsMade context spec) (Err (lack_fault_of fault))
+  lack_answered none value.Memory is = tt
+  lack_answered none (value.Lacks index lack) is = first context spec (Lacks index lack) none (is index lack refl)
 
-  pub made : NoneBelow context spec 7 → (tag text : List ℕ) → IsTagOf (context_with_digest context spec.digest) spec tag → text ≡ message_text (signed_message context.message spec tag)
-      → IsMade context spec text
-  made none tag text is same = record {
+  pub made : NoneBelow context spec 7 → (values : List (List ℕ)) (tag text : List ℕ) → HaveValues (context_with_digest context spec.digest) spec.params.ids values
+      → tag ≡ hmac spec.key (signature_base spec.params values) → text ≡ message_text (signed_message context.message spec tag) → IsMade context spec text
+  made none values tag text have is same = record {
     signed = record {
-      values = is.0;
-      have = is.1;
-      text_is = same ∙ ap (λ t. message_text (signed_message context.message spec t)) is.2;
+      values = values;
+      have = have;
+      text_is = same ∙ ap (λ t. message_text (signed_message context.message spec t)) is;
     };
-    none = none_below_8 context spec none (λ index lack. none_lacks (context_with_digest context spec.digest) spec.params.ids is.0 index lack is.1);
+    none = none_below_8 context spec none (λ index lack. none_lacks (context_with_digest context spec.digest) spec.params.ids values index lack have);
   }
-
-  -- a tag is bytes
-  pub tag_bytes : (tag : List ℕ) → IsTagOf (context_with_digest context spec.digest) spec tag → list_all is_byte tag ≡ true
-  tag_bytes tag is = rw is.2 (sha256_bytes _)
 
   -- ---- the clauses of the call
 

@@ -70,3 +70,17 @@ module _ (message : Message) (spec : SignSpec) (a b : List ℕ) (same : length a
 
 pub tag_length : (key base : List ℕ) → length (hmac key base) ≡ length any_tag
 tag_length key base = length-sha256 _
+
+-- ---- what the code counts
+
+pub any_tag_length : 46 ≡ length (bytes_text any_tag)
+any_tag_length =
+    let one : length (encode_of standard any_tag) ≡ 44 = encoded_length any_tag in
+    omega (arith, one, length-append (encode_of standard any_tag) (codes ":"))
+
+pub lines_of_lengths : (spec : SignSpec) (one two : ℕ) → one ≡ length (line_text (member_line (codes "Signature-Input") spec.label (sig_params_text spec.params)))
+    → two ≡ length (line_text (member_line (codes "Signature") spec.label (bytes_text any_tag))) → one + two ≡ length (flat_map line_text (signature_lines spec any_tag))
+lines_of_lengths spec one two is also =
+    let input = line_text (member_line (codes "Signature-Input") spec.label (sig_params_text spec.params)) in
+    let tag = line_text (member_line (codes "Signature") spec.label (bytes_text any_tag)) in
+    omega (arith, is, also, length-append input (tag ++ []), length-append tag [])

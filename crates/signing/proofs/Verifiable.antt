@@ -1,5 +1,5 @@
 -- The signed message can be verified, and the signatures that were there are kept.
-use Rattle.std.proofs.Common.{◌≡◌, ℕ, lit<, Bool, true, false, ◌&&◌, ◌||◌, not, Option, Some, None, is_some, Result, Ok, Err, List, [], ◌∷◌, ◌++◌, codes, length, suc, refl, sym, ap, subst, ◌∙◌, append_assoc, inl, inr}
+use Rattle.std.proofs.Common.{◌≡◌, ℕ, lit<, Bool, true, false, ◌&&◌, ◌||◌, not, Option, Some, None, is_some, Result, Ok, Err, List, [], ◌∷◌, ◌++◌, codes, suc, refl, sym, ap, subst, ◌∙◌, append_assoc, inl, inr}
 use Rattle.std.specs.Prelude.{IfOk, option_and_then}
 use Rattle.std.specs.List.{join_by, list_all, list_any}
 use Rattle.std.specs.Str.{bytes_eq}
@@ -19,8 +19,7 @@ use Rattle.msg_head.specs.Lines.{FieldLine, IsLine}
 use Rattle.msg_head.specs.Names.{has_name}
 use Rattle.msg_head.specs.Values.{is_there, values}
 use Rattle.msg_head.proofs.MoreLines.{there_same, values_same}
-use Rattle.msg_head.specs.Heads.{head_text}
-use Rattle.msg_body.specs.Messages.{IsMessage, Message, Spells, message_text}
+use Rattle.msg_body.specs.Messages.{IsMessage, Message, Spells}
 use Rattle.field_values.specs.SameFields.{HasSameField, HasSameValues}
 use Rattle.component_ids.specs.Identifiers.{is_identifier, item_of}
 use Rattle.component_ids.specs.Table.{has_param, has_value_type, goes_with, have_clash, is_field_name, is_listed, is_name}
@@ -51,7 +50,7 @@ use Rattle.signing.proofs.AddedLines.{FrameNothing, digest_are_lines, digest_fra
 use Rattle.signing.proofs.MemberValues.{found_field, key_field}
 use Rattle.signing.proofs.DigestBytes.{sha256_bytes}
 use Rattle.signing.proofs.Lengthened.{is_lengthened}
-use Rattle.signing.proofs.Making.{within}
+use Rattle.signing.proofs.Making.{fits_where_none}
 use Rattle.signing.proofs.SignatureLines.{digest_other, input_member, signature_are_lines, signature_frame_nothing, signature_member, signature_other, takes_input, takes_signature}
 use Rattle.signing.proofs.TagLengths.{limit_same, tag_length}
 use Rattle.signing.proofs.TakenMembers.{TakesMember, combined_same, dict_begun, dict_taken, member_kept, member_taken, some_member, takes_before}
@@ -430,9 +429,9 @@ is_one to_head message spec valid tag bytes is none =
     let digest = digest_lines message spec.digest in
     let signature = signature_lines spec tag in
     let written = signed_message message spec tag in
-    let fits = within (length (head_text written.head)) (length written.head.lines) (length (message_text written)) none in
+    let fits = fits_where_none written none in
     is_lengthened to_head message (digest ++ signature) is (All-append IsLine digest signature (digest_are_lines message spec.digest) (signature_are_lines spec valid tag bytes))
-    (frames_joined digest signature (digest_frame_nothing message spec.digest) (signature_frame_nothing spec valid tag bytes)) fits.head fits.lines fits.message
+    (frames_joined digest signature (digest_frame_nothing message spec.digest) (signature_frame_nothing spec valid tag bytes)) fits.head_fits fits.lines_fit fits.whole_fits
 
 limit_none : (o : Option ℕ) → ((limit : ℕ) → ¬ (o ≡ Some limit)) → o ≡ None
 limit_none None none = refl

@@ -61,19 +61,13 @@ pub record IsFirstSelfCover (label : List ℕ) (ids : List ComponentId) (index :
 
 -- ---- limits
 
--- the first limit that is passed by so many bytes of a head, lines of it and bytes of a message
-abbrev pub limit_passed_by : ℕ → ℕ → ℕ → Option ℕ
-limit_passed_by head lines message =
-    if nat_lt MAX_HEAD_BYTES head then Some MAX_HEAD_BYTES
-    else if nat_lt MAX_HEAD_LINES lines then Some MAX_HEAD_LINES
-    else if nat_lt MAX_MESSAGE_BYTES message then Some MAX_MESSAGE_BYTES
-    else None
-
--- the first limit that the message passes
+-- the first limit that the message passes: bytes of its head, lines of it, bytes of the whole
 abbrev pub passed_limit : Message → Option ℕ
 passed_limit message =
-    limit_passed_by (length (head_text message.head)) (length message.head.lines)
-    (length (message_text message))
+    if nat_lt MAX_HEAD_BYTES (length (head_text message.head)) then Some MAX_HEAD_BYTES
+    else if nat_lt MAX_HEAD_LINES (length message.head.lines) then Some MAX_HEAD_LINES
+    else if nat_lt MAX_MESSAGE_BYTES (length (message_text message)) then Some MAX_MESSAGE_BYTES
+    else None
 
 -- a tag of as many bytes as each tag has: all tags make messages of one length
 abbrev pub any_tag : List ℕ

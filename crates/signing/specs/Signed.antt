@@ -16,7 +16,8 @@ use Rattle.signing.specs.declared.spec.SignSpec.{SignSpec}
 
 -- The text is the message, after its header lines the line of its digest and those of the
 -- signature. The tag is the HMAC of the signature base over the values that the components have in
--- the message with the line of its digest (section 3.3.3).
+-- the message with the line of its digest (section 3.3.3). Of a message that isn't signed, because
+-- a cause of `IsSignFault` is against it, this says what would be written.
 pub record IsSigned (context : MessageContext) (spec : SignSpec) (text : List ℕ) : Type 0 where
   pub values : List (List ℕ)
   pub have : HaveValues (context_with_digest context spec.digest) spec.params.ids values
@@ -24,7 +25,7 @@ pub record IsSigned (context : MessageContext) (spec : SignSpec) (text : List �
       (hmac spec.key (signature_base spec.params values)))
 
 -- The message is the signed one: after its header lines the line of its digest and those of the
--- signature, with the same tag.
+-- signature, with the same tag. Of one that isn't signed it says the same.
 pub record IsSignedMessage (context : MessageContext) (spec : SignSpec) (written : Message)
     : Type 0 where
   pub values : List (List ℕ)

@@ -111,7 +111,8 @@ MeetWishes conf now (wish ∷ wishes) (spec ∷ specs) =
 MeetWishes conf now [] (spec ∷ specs) = ⊥
 MeetWishes conf now (wish ∷ wishes) [] = ⊥
 
--- the message's field has wishes, and each of them is what the wish of the same place asks for
+-- The message's field is a Dictionary of wishes, and each of these is what the wish of the same
+-- place asks for. Of an empty Dictionary they are none; then there is a fault, `Absent`.
 abbrev pub AreWished : Configuration → ℕ → Message → List SignSpec → Type 0
 AreWished conf now message specs =
     (wishes : List (Pair Member)) × HasDict message wish_name wishes

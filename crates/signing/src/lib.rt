@@ -11,6 +11,8 @@
 mod asked;
 mod fault;
 mod laws;
+mod limit;
+mod limit_laws;
 mod lines;
 mod mac;
 mod message;
@@ -28,6 +30,7 @@ pub use laws::{
     a_configuration_asks_for_one_signature, a_message_is_signed_or_has_a_fault,
     wishes_are_met_or_have_a_fault,
 };
+pub use limit_laws::limits_are_these;
 pub use mac::TAG_BYTES;
 pub use message::sign;
 pub use spec::{SignSpec, Specs};

@@ -1,22 +1,26 @@
 //! The lines that signing adds.
 
-ghost use Rattle.std.specs.Prelude.{◌≡◌, ◌++◌, IfOk, IsTrue, OnOk};
-ghost use Rattle.std.specs.List.{list_all};
-ghost use Rattle.component_ids.specs.SignatureParams.{are_sig_params_in_range};
+ghost use Rattle.std.specs.Prelude.{◌≡◌, ◌<◌, ◌^◌, ◌++◌, ℕ, List, length, IfOk, IsTrue, OnOk};
+ghost use Rattle.std.specs.List.{flat_map, list_all};
+ghost use Rattle.component_ids.specs.SignatureParams.{sig_params_text};
 ghost use Rattle.msg_head.specs.Lines.{line_text};
 ghost use Rattle.msg_body.specs.Views.{message_of};
 ghost use Rattle.sfv_text.specs.Classes.{is_byte};
-ghost use Rattle.signing.specs.Written.{line_of, member_line, digest_lines};
-ghost use Rattle.signing.specs.tools.Lines.{AreLines, params_line, tag_line};
+ghost use Rattle.signing.specs.SignCauses.{any_tag};
+ghost use Rattle.signing.specs.Written.{line_of, member_line, digest_lines, signature_lines};
+ghost use Rattle.signing.specs.tools.Lines.{AreLines};
 
+use crate::mac::TAG_BYTES;
 use crate::spec::SignSpec;
-use component_ids::print_params;
 use content_digest::{Algorithm, make_digest};
 use field_values::count_lines;
 use msg_body::MessageView;
 use msg_head::Side;
 use sfv_text::{BareItem, Memory, Text, print_bare};
 use std::alloc::Global;
+
+/// How many bytes the text of a tag has, which is a Byte Sequence (RFC 9651 section 4.1.8).
+const TAG_TEXT_BYTES: usize = (TAG_BYTES + 2) / 3 * 4 + 2;
 
 /// Lines to be added to a header.
 #[derive(Drop)]
@@ -70,32 +74,44 @@ pub(crate) fn digest_lines(
     Ok(AddedLines { text, count: 1 })
 }
 
-/// The line of the label's signature parameters.
-pub(crate) fn params_line(alloc: Global, spec: &SignSpec) -> Result<Text, Memory>
-    requires { IsTrue (are_sig_params_in_range spec.now.params) }
-    ensures { IfOk result (λ text. text ≡ line_text (params_line spec.now)) }
+/// How many bytes the line of a Dictionary of one member has, the text of whose value has so many.
+fn member_line_len(name: &[u8], key: &[u8], value: usize) -> u128
+    ensures is { (text : List ℕ) → value ≡ length text
+        → result ≡ length (line_text (member_line name.now key.now text)) }
+    ensures small { result < 2 ^ 67 }
 {
-    let params = print_params(alloc, &spec.params)?;
-    let mut text = Text::new(alloc);
-    append_member(
-        &mut text,
-        b"Signature-Input",
-        spec.label.bytes(),
-        params.bytes(),
-    )?;
-    Ok(text)
+    // A colon and a space, an equals sign, and the line's end.
+    name.len() as u128 + key.len() as u128 + value as u128 + 5
 }
 
-/// Adds the line of the label's tag at the end.
-pub(crate) fn append_tag_line(
-    alloc: Global,
-    text: &mut Text,
-    label: &[u8],
-    tag: &[u8],
-) -> Result<(), Memory>
-    requires { IsTrue (list_all is_byte tag.now) }
-    ensures { OnOk result (text.new ≡ text.old ++ line_text (tag_line label.now tag.now)) }
+/// How many bytes the lines of a signature have, whose parameters have this text. The texts of all
+/// tags have one length.
+pub(crate) fn signature_lines_len(spec: &SignSpec, params: &[u8]) -> u128
+    requires { params.now ≡ sig_params_text spec.now.params }
+    ensures is { result ≡ length (flat_map line_text (signature_lines spec.now any_tag)) }
+    ensures small { result < 2 ^ 68 }
 {
+    let label = spec.label.bytes();
+    member_line_len(b"Signature-Input", label, params.len())
+        + member_line_len(b"Signature", label, TAG_TEXT_BYTES)
+}
+
+/// The lines of a signature with this tag, whose parameters have this text.
+pub(crate) fn signature_lines(
+    alloc: Global,
+    spec: &SignSpec,
+    params: &[u8],
+    tag: &[u8],
+) -> Result<Text, Memory>
+    requires params { params.now ≡ sig_params_text spec.now.params }
+    requires bytes { IsTrue (list_all is_byte tag.now) }
+    ensures { IfOk result (λ text.
+        text ≡ flat_map line_text (signature_lines spec.now tag.now)) }
+{
+    let label = spec.label.bytes();
     let value = print_bare(alloc, &BareItem::Bytes(Text::from_bytes(alloc, tag)?))?;
-    append_member(text, b"Signature", label, value.bytes())
+    let mut text = Text::new(alloc);
+    append_member(&mut text, b"Signature-Input", label, params)?;
+    append_member(&mut text, b"Signature", label, value.bytes())?;
+    Ok(text)
 }

@@ -1,16 +1,13 @@
 //! The tag of a signature.
 
-ghost use Rattle.std.specs.Prelude.{◌≡◌, IsTrue};
-ghost use Rattle.component_ids.specs.SignatureParams.{are_sig_params_in_range};
-ghost use Rattle.component_values.specs.Context.{context_of};
-ghost use Rattle.signing.specs.tools.Judged.{ExplainsTag};
+ghost use Rattle.std.specs.Prelude.{◌≡◌};
+ghost use Rattle.hmac_sha256.specs.Hmac.{hmac};
+ghost use Rattle.sig_base.specs.SignatureBase.{signature_base};
 
 use crate::fault::SignFault;
-use crate::spec::SignSpec;
-use component_values::{Context, ValueFault, prepare};
+use component_values::{Prepared, ValueFault};
 use hmac_sha256::Hmac;
 use sig_base::feed_base;
-use std::alloc::Global;
 
 /// How many bytes a tag has (RFC 9421 section 3.3.3).
 pub const TAG_BYTES: usize = 32;
@@ -30,18 +27,12 @@ impl From<ValueFault> for SignFault {
     }
 }
 
-/// The HMAC of the signature base (RFC 9421 section 3.3.3), or the first component that lacks a
-/// value.
-pub(crate) fn tag_of(
-    alloc: Global,
-    context: &Context<'_, '_>,
-    spec: &SignSpec,
-) -> Result<[u8; TAG_BYTES], SignFault>
-    requires { IsTrue (are_sig_params_in_range spec.now.params) }
-    ensures { ExplainsTag (context_of context.now) spec.now result }
+/// The HMAC of the signature base of prepared components (RFC 9421 section 3.3.3).
+pub(crate) fn tag_of(prepared: &Prepared<'_, '_>, key: &[u8]) -> [u8; TAG_BYTES]
+    ensures { result ≡ hmac key.now
+        (signature_base prepared.now.params prepared.now.values) }
 {
-    let prepared = prepare(alloc, context, &spec.params)?;
-    let mut mac = Hmac::new(spec.key.bytes());
-    feed_base(&prepared, &mut mac);
-    Ok(mac.finish())
+    let mut mac = Hmac::new(key);
+    feed_base(prepared, &mut mac);
+    mac.finish()
 }

@@ -1,64 +1,28 @@
 //! Signs a message.
 
-ghost use Rattle.std.specs.Prelude.{◌≡◌, ◌≢◌, ◌+◌, ◌++◌, length, IfOk, IsTrue};
+ghost use Rattle.std.specs.Prelude.{◌≡◌, ◌≢◌, ◌++◌, IfOk};
 ghost use Rattle.byte_grammar.specs.Causes.{AnswersWhere};
-ghost use Rattle.msg_head.specs.Lines.{line_text};
-ghost use Rattle.msg_body.specs.Messages.{Message, Spells};
-ghost use Rattle.msg_body.specs.Views.{message_of};
-ghost use Rattle.component_ids.specs.SignatureParams.{are_sig_params_in_range};
-ghost use Rattle.component_values.specs.Context.{HasWholeMessage, context_of, context_with, answers_head};
+ghost use Rattle.msg_body.specs.Messages.{Spells};
+ghost use Rattle.component_values.specs.Context.{HasWholeMessage, MessageContext, answers_head, context_of};
+ghost use Rattle.component_values.specs.Values.{HaveValues};
 ghost use Rattle.signing.specs.declared.fault.SignFault.{SignFault};
-ghost use Rattle.signing.specs.SignCauses.{IsSignFault, any_tag, limit_passed_by, passed_limit};
+ghost use Rattle.signing.specs.SignCauses.{IsSignFault};
 ghost use Rattle.signing.specs.Signed.{IsSigned, IsVerifiable, SpellsSigned};
 ghost use Rattle.signing.specs.Specs.{IsValidSpec};
-ghost use Rattle.signing.specs.Written.{context_with_digest, digest_lines, signed_message, with_digest};
-ghost use Rattle.signing.specs.tools.Judged.{ExplainsSign, ExplainsTag, IsMade, NoneBelow};
-ghost use Rattle.signing.specs.tools.Lines.{AreLines, params_line};
-ghost use Rattle.signing.specs.tools.Parts.{ArePartsOf};
+ghost use Rattle.signing.specs.Written.{context_with_digest, with_digest};
+ghost use Rattle.signing.specs.tools.Judged.{AreJudgedParts, ExplainsSign, IsMade, NoneBelow, label_judged};
 
 use crate::fault::SignFault;
-use crate::lines::{AddedLines, append_tag_line, digest_lines, params_line};
-use crate::mac::{TAG_BYTES, tag_of};
+use crate::limit::{limit_of_signed, limit_of_unprinted, passed_limit};
+use crate::lines::{AddedLines, digest_lines, signature_lines};
+use crate::mac::tag_of;
 use crate::parts::{Parts, parts_of};
 use crate::refuse::judge_label;
 use crate::spec::SignSpec;
-use component_values::Context;
-use msg_body::{Expect, MAX_MESSAGE_BYTES, MessageRead, MessageView, read_message};
-use msg_head::{MAX_HEAD_BYTES, MAX_HEAD_LINES};
+use component_values::{Context, Prepared, prepare};
+use msg_body::{Expect, MessageRead, read_message};
 use sfv_text::{Memory, Text};
 use std::alloc::Global;
-
-/// The first limit that is passed.
-fn limit_passed_by(head: u128, lines: u128, message: u128) -> Option<usize>
-    ensures { result ≡ limit_passed_by head lines message }
-{
-    if head > MAX_HEAD_BYTES as u128 {
-        return Some(MAX_HEAD_BYTES);
-    }
-    if lines > MAX_HEAD_LINES as u128 {
-        return Some(MAX_HEAD_LINES);
-    }
-    if message > MAX_MESSAGE_BYTES as u128 {
-        return Some(MAX_MESSAGE_BYTES);
-    }
-    None
-}
-
-/// The first limit that a message of these parts passes with the line of its digest and these of a
-/// signature.
-fn passed_limit(parts: Parts<'_>, digest: &AddedLines, params: &[u8], tag: &[u8]) -> Option<usize>
-    ensures { result ≡ limit_passed_by (length parts.entry.before.now
-        + (length digest.now.text + (length params.now + length tag.now)) + 2)
-        (parts.entry.lines + (digest.now.count + 2))
-        (length parts.entry.before.now
-        + (length digest.now.text + (length params.now + length tag.now))
-        + length parts.entry.after.now) }
-{
-    let signature = params.len() as u128 + tag.len() as u128;
-    let head = parts.before.len() as u128 + (digest.text.bytes().len() as u128 + signature);
-    let lines = parts.lines as u128 + (digest.count as u128 + 2);
-    limit_passed_by(head + 2, lines, head + parts.after.len() as u128)
-}
 
 /// The bytes of a message of these parts with further lines, given by their bytes.
 fn text_of(alloc: Global, parts: Parts<'_>, digest: &[u8], signature: &[u8]) -> Result<Text, Memory>
@@ -73,92 +37,86 @@ fn text_of(alloc: Global, parts: Parts<'_>, digest: &[u8], signature: &[u8]) -> 
     Ok(text)
 }
 
-/// The tag of the message in place of that of the context.
-fn tag_of_message(
+/// The signed message of prepared components, where it passes no limit.
+fn make_of_prepared(
     alloc: Global,
-    context: &Context<'_, '_>,
-    message: &MessageView<'_>,
+    prepared: &Prepared<'_, '_>,
     spec: &SignSpec,
-) -> Result<[u8; TAG_BYTES], SignFault>
-    requires { IsTrue (are_sig_params_in_range spec.now.params) }
-    ensures { ExplainsTag (context_with (context_of context.now) (message_of message.now)) spec.now
-        result }
+    parts: Parts<'_>,
+    digest: &AddedLines,
+) -> Result<Text, SignFault>
+    requires { prepared.now.params ≡ spec.now.params }
+    ensures { (context : MessageContext) → AreJudgedParts context spec.now parts.entry digest.now
+        → HaveValues (context_with_digest context spec.now.digest) spec.now.params.ids
+        prepared.now.values
+        → ExplainsSign context spec.now (IsMade context spec.now) result }
 {
-    let context = Context {
-        message,
-        related: context.related,
-        scheme: context.scheme,
-        types: context.types,
-    };
-    tag_of(alloc, &context, spec)
+    let params = prepared.params_text();
+    if let Some(limit) = limit_of_signed(spec, parts, digest, params) {
+        return Err(SignFault::TooLong(limit));
+    }
+    let tag = tag_of(prepared, spec.key.bytes());
+    let signature = signature_lines(alloc, spec, params, &tag)?;
+    Ok(text_of(alloc, parts, digest.text.bytes(), signature.bytes())?)
 }
 
-/// The tag of a message that is read from its bytes, the line of its digest among them.
-fn tag_of_bytes(
+/// The signed message, where the message of the context has the line of its digest. A limit that it
+/// passes comes before a value that a component lacks.
+fn make_of_context(
+    alloc: Global,
+    context: &Context<'_, '_>,
+    spec: &SignSpec,
+    parts: Parts<'_>,
+    digest: &AddedLines,
+) -> Result<Text, SignFault>
+    requires valid { IsValidSpec spec.now }
+    ensures { (unsigned : MessageContext)
+        → context_of context.now ≡ context_with_digest unsigned spec.now.digest
+        → AreJudgedParts unsigned spec.now parts.entry digest.now
+        → ExplainsSign unsigned spec.now (IsMade unsigned spec.now) result }
+{
+    match prepare(alloc, context, &spec.params) {
+        Ok(prepared) => make_of_prepared(alloc, &prepared, spec, parts, digest),
+        Err(fault) => match limit_of_unprinted(alloc, spec, parts, digest)? {
+            Some(limit) => Err(SignFault::TooLong(limit)),
+            None => Err(SignFault::from(fault)),
+        },
+    }
+}
+
+/// The signed message, where these are the bytes of the message with the line of its digest.
+fn make_of_bytes(
     alloc: Global,
     bytes: &[u8],
     context: &Context<'_, '_>,
     spec: &SignSpec,
-) -> Result<[u8; TAG_BYTES], SignFault>
+    parts: Parts<'_>,
+    digest: &AddedLines,
+) -> Result<Text, SignFault>
     requires valid { IsValidSpec spec.now }
+    requires judged { AreJudgedParts (context_of context.now) spec.now parts digest.now }
     requires spells { Spells (answers_head (context_of context.now).related)
         (with_digest (context_of context.now).message spec.now.digest) bytes.now }
-    ensures { ExplainsTag (context_with_digest (context_of context.now) spec.now.digest) spec.now
-        result }
+    ensures { ExplainsSign (context_of context.now) spec.now
+        (IsMade (context_of context.now) spec.now) result }
 {
     match read_message(alloc, bytes, Expect::Any, context.answers_head()) {
-        Ok(MessageRead::Whole(message, _)) => tag_of_message(alloc, context, &message, spec),
+        Ok(MessageRead::Whole(message, _)) => {
+            let with_digest = Context {
+                message: &message,
+                related: context.related,
+                scheme: context.scheme,
+                types: context.types,
+            };
+            make_of_context(alloc, &with_digest, spec, parts, digest)
+        }
         Ok(MessageRead::Partial) => unreachable!(),
         Err(_) => Err(SignFault::Memory),
     }
 }
 
-/// The tag of the message with the line of its digest.
-fn tag_with_digest(
-    alloc: Global,
-    context: &Context<'_, '_>,
-    spec: &SignSpec,
-    parts: Parts<'_>,
-    digest: &AddedLines,
-) -> Result<[u8; TAG_BYTES], SignFault>
-    requires valid { IsValidSpec spec.now }
-    requires parts { ArePartsOf (context_of context.now).message parts }
-    requires lines { AreLines digest.now
-        (digest_lines (context_of context.now).message spec.now.digest) }
-    requires spells { Spells (answers_head (context_of context.now).related)
-        (with_digest (context_of context.now).message spec.now.digest)
-        (parts.before.now ++ (digest.now.text ++ parts.after.now)) }
-    ensures { ExplainsTag (context_with_digest (context_of context.now) spec.now.digest) spec.now
-        result }
-{
-    if digest.count == 0 {
-        return tag_of(alloc, context, spec);
-    }
-    let text = text_of(alloc, parts, digest.text.bytes(), &[])?;
-    tag_of_bytes(alloc, text.bytes(), context, spec)
-}
-
-/// The first limit that the signed message passes, whatever the tag: all have one length.
-fn limit_passed(
-    alloc: Global,
-    spec: &SignSpec,
-    parts: Parts<'_>,
-    digest: &AddedLines,
-    params: &[u8],
-) -> Result<Option<usize>, Memory>
-    requires { params.now ≡ line_text (params_line spec.now) }
-    ensures { IfOk result (λ limit. (message : Message) → ArePartsOf message parts.entry
-        → AreLines digest.now (digest_lines message spec.now.digest)
-        → passed_limit (signed_message message spec.now any_tag) ≡ limit) }
-{
-    let mut tag = Text::new(alloc);
-    append_tag_line(alloc, &mut tag, spec.label.bytes(), &[0; TAG_BYTES])?;
-    Ok(passed_limit(parts, digest, params, tag.bytes()))
-}
-
-/// The signed message of these parts and the line of its digest, where it passes no limit and no
-/// component lacks a value.
-fn make_of_parts(
+/// The signed message, where the line of its digest is added.
+fn make_with_digest(
     alloc: Global,
     context: &Context<'_, '_>,
     spec: &SignSpec,
@@ -167,34 +125,35 @@ fn make_of_parts(
 ) -> Result<Text, SignFault>
     requires valid { IsValidSpec spec.now }
     requires whole { HasWholeMessage (context_of context.now) }
-    requires parts { ArePartsOf (context_of context.now).message parts }
-    requires lines { AreLines digest.now
-        (digest_lines (context_of context.now).message spec.now.digest) }
-    ensures { NoneBelow (context_of context.now) spec.now 6 → ExplainsSign (context_of context.now)
-        spec.now (IsMade (context_of context.now) spec.now) result }
+    requires judged { AreJudgedParts (context_of context.now) spec.now parts digest.now }
+    ensures { ExplainsSign (context_of context.now) spec.now
+        (IsMade (context_of context.now) spec.now) result }
 {
-    let mut signature = params_line(alloc, spec)?;
-    if let Some(limit) = limit_passed(alloc, spec, parts, digest, signature.bytes())? {
-        return Err(SignFault::TooLong(limit));
+    let bytes = digest.text.bytes();
+    if passed_limit(parts, bytes.len() as u128, digest.count as u128).is_some() {
+        return match limit_of_unprinted(alloc, spec, parts, digest)? {
+            Some(limit) => Err(SignFault::TooLong(limit)),
+            None => unreachable!(),
+        };
     }
-    let tag = match tag_with_digest(alloc, context, spec, parts, digest) {
-        Ok(tag) => tag,
-        Err(fault) => return Err(fault),
-    };
-    append_tag_line(alloc, &mut signature, spec.label.bytes(), &tag)?;
-    Ok(text_of(alloc, parts, digest.text.bytes(), signature.bytes())?)
+    let text = text_of(alloc, parts, bytes, &[])?;
+    make_of_bytes(alloc, text.bytes(), context, spec, parts, digest)
 }
 
 /// The signed message, where it passes no limit and no component lacks a value.
 fn make(alloc: Global, context: &Context<'_, '_>, spec: &SignSpec) -> Result<Text, SignFault>
     requires valid { IsValidSpec spec.now }
     requires whole { HasWholeMessage (context_of context.now) }
-    ensures { NoneBelow (context_of context.now) spec.now 6 → ExplainsSign (context_of context.now)
-        spec.now (IsMade (context_of context.now) spec.now) result }
+    requires judged { NoneBelow (context_of context.now) spec.now label_judged }
+    ensures { ExplainsSign (context_of context.now) spec.now
+        (IsMade (context_of context.now) spec.now) result }
 {
     let digest = digest_lines(alloc, context.message, spec.digest)?;
     let parts = parts_of(context.message);
-    make_of_parts(alloc, context, spec, parts, &digest)
+    if digest.count == 0 {
+        return make_of_context(alloc, context, spec, parts, &digest);
+    }
+    make_with_digest(alloc, context, spec, parts, &digest)
 }
 
 fn judge(alloc: Global, context: &Context<'_, '_>, spec: &SignSpec) -> Result<Text, SignFault>

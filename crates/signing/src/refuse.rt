@@ -3,7 +3,7 @@
 ghost use Rattle.std.specs.Prelude.{◌≡◌};
 ghost use Rattle.component_values.specs.Context.{context_of};
 ghost use Rattle.signing.specs.tools.Fields.{fault_of_places};
-ghost use Rattle.signing.specs.tools.Judged.{ExplainsSign, NoneBelow};
+ghost use Rattle.signing.specs.tools.Judged.{ExplainsSign, NoneBelow, fields_judged, label_judged};
 
 use crate::fault::SignFault;
 use crate::place::{LabelPlace, label_place};
@@ -28,7 +28,7 @@ fn fault_of_places(input: LabelPlace, signature: LabelPlace) -> Option<SignFault
 /// Whether a member of the label can be added to both fields.
 fn judge_fields(alloc: Global, context: &Context<'_, '_>, spec: &SignSpec) -> Result<(), SignFault>
     ensures { ExplainsSign (context_of context.now) spec.now
-        (λ _. NoneBelow (context_of context.now) spec.now 5) result }
+        (λ _. NoneBelow (context_of context.now) spec.now fields_judged) result }
 {
     let label = spec.label.bytes();
     let input = label_place(alloc, context.message, b"signature-input", label)?;
@@ -46,7 +46,7 @@ pub(crate) fn judge_label(
     spec: &SignSpec,
 ) -> Result<(), SignFault>
     ensures { ExplainsSign (context_of context.now) spec.now
-        (λ _. NoneBelow (context_of context.now) spec.now 6) result }
+        (λ _. NoneBelow (context_of context.now) spec.now label_judged) result }
 {
     judge_fields(alloc, context, spec)?;
     match first_self_cover(spec.label.bytes(), spec.params.ids.as_slice()) {

@@ -13,7 +13,7 @@ ghost use Rattle.signing.specs.Specs.{IsValidSpec};
 ghost use Rattle.signing.specs.WishCauses.{IsWantFault};
 ghost use Rattle.signatures.specs.Signatures.{HasDict};
 ghost use Rattle.signing.specs.Wishes.{AreWished, wish_name};
-ghost use Rattle.signing.specs.tools.Wished.{fault_at, ExplainsWishes, ExplainsWanted};
+ghost use Rattle.signing.specs.tools.Wished.{ExplainsWishes, ExplainsWanted};
 
 use crate::fault::WantFault;
 use crate::spec::Specs;
@@ -24,18 +24,23 @@ use sfv_text::{Dict, Member, Pair};
 use signatures::{DictField, read_field};
 use std::alloc::Global;
 
-/// The fault of the wish at the index.
-fn fault_at(index: usize, fault: WishFault) -> WantFault
-    ensures { result ≡ fault_at index fault }
-{
-    match fault {
-        WishFault::Memory => WantFault::Memory,
-        WishFault::NotInnerList => WantFault::NotInnerList(index),
-        WishFault::Ids(fault) => WantFault::Ids(index, fault),
-        WishFault::Parameter => WantFault::Parameter(index),
-        WishFault::AlgRefused => WantFault::AlgRefused(index),
-        WishFault::AlgUnknown => WantFault::AlgUnknown(index),
-        WishFault::KeyUnknown => WantFault::KeyUnknown(index),
+/// The fault of a wish, with the wish's index in the field.
+impl From<(usize, WishFault)> for WantFault {
+    ghost use Rattle.std.specs.Prelude.{◌≡◌};
+    ghost use Rattle.signing.specs.tools.Wished.{fault_at};
+
+    ghost from_gives = { λ wish fault. fault ≡ fault_at wish.0 wish.1 };
+
+    fn from((index, fault): (usize, WishFault)) -> WantFault {
+        match fault {
+            WishFault::Memory => WantFault::Memory,
+            WishFault::NotInnerList => WantFault::NotInnerList(index),
+            WishFault::Ids(fault) => WantFault::Ids(index, fault),
+            WishFault::Parameter => WantFault::Parameter(index),
+            WishFault::AlgRefused => WantFault::AlgRefused(index),
+            WishFault::AlgUnknown => WantFault::AlgUnknown(index),
+            WishFault::KeyUnknown => WantFault::KeyUnknown(index),
+        }
     }
 }
 
@@ -56,7 +61,7 @@ fn specs_of_wishes(
     for (index, wish) in wishes.iter().enumerate() {
         match spec_of_wish(alloc, conf, sign, now, wish) {
             Ok(spec) => specs.push(spec)?,
-            Err(fault) => return Err(fault_at(index, fault)),
+            Err(fault) => return Err(WantFault::from((index, fault))),
         }
     }
     Ok(specs)

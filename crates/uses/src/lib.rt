@@ -1,8 +1,6 @@
-//! The libraries as their users call them. Each function is the example of a crate's documentation,
-//! and calls those of its calls that take memory, with ample memory; what goes over what was read
-//! before, as `prepare_in`, and rewritings, `read_script` aside, are called by runs alone. Beside
-//! them are vectors from outside (RFC 4231, RFC 9421, RFC 9530, RFC 9651), and runs of `program`
-//! over devices in memory, failing ones among them. What a user sees is a case of cases/.
+//! The libraries as their users call them: each function is the example of a crate's documentation,
+//! and calls what takes memory, with ample memory. Beside them are vectors from outside (RFC 4231,
+//! RFC 9421, RFC 9530, RFC 9651), and runs of `program` over devices in memory, failing ones too.
 #![tactic(auto)]
 
 #[cfg(test)]
@@ -11,6 +9,8 @@ mod audit_runs;
 mod audits;
 #[cfg(test)]
 mod authorities;
+#[cfg(test)]
+mod base_runs;
 #[cfg(test)]
 mod bases;
 #[cfg(test)]

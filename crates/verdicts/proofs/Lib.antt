@@ -4,7 +4,7 @@ mod OfSignature
 mod Uncovered
 pub mod PolicyFailures
 pub mod Judging
-mod Places
+pub mod Places
 pub mod RightlySigned
 pub mod AlikeMessages
 pub mod OneTags

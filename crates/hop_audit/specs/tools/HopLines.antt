@@ -6,7 +6,6 @@ use Rattle.component_ids.specs.declared.params.SigParams.{SigParams}
 use Rattle.component_values.specs.Context.{MessageContext}
 use Rattle.rewrite_script.specs.declared.rewrite.Rewrite.{Rewrite}
 use Rattle.signatures.specs.Signatures.{HasSignature}
-use Rattle.signatures.specs.declared.label.LabelRead.{LabelRead}
 use Rattle.hop_audit.specs.declared.line.AuditLine.{AuditLine}
 use Rattle.hop_audit.specs.declared.walk.Mark.{Mark}
 use Rattle.hop_audit.specs.declared.walk.Walked.{Walked}
@@ -14,12 +13,6 @@ use Rattle.hop_audit.specs.declared.walk.Walked.TheVariants.{To, Stopped}
 use Rattle.hop_audit.specs.Hops.{IsPermission, PlacedHop}
 use Rattle.hop_audit.specs.Report.{IsLabelLine}
 use Rattle.hop_audit.specs.tools.Written.{IsHopBetween}
-
--- the label's signature in the message, or that it has none
-abbrev pub IsReadOf : Message → List ℕ → Option LabelRead → Type 0
-IsReadOf message label read = MatchOption read
-    ((params : SigParams) (tag : List ℕ) → ¬ HasSignature message label params tag)
-    (λ read. HasSignature message label read.params read.tag)
 
 -- the steps lead to the message of these bytes; else the step that isn't applicable, where there is
 -- one
@@ -38,7 +31,7 @@ pub record IsJudged (context : MessageContext) (hop : PlacedHop) (after : Messag
   pub read : MatchOption mark.read
       ((params : SigParams) (tag : List ℕ)
       → ¬ HasSignature context.message mark.label.now params tag)
-      (λ read. HasSignature context.message mark.label.now read.params read.tag
+      (λ read. HasSignature context.message mark.label.now read.now.params read.now.tag
       × IsPermission mark.label.now context hop.script after (explained && mark.permitted))
 
 -- each label was judged, of whatever moments the hop is

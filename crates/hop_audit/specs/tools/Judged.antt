@@ -11,12 +11,12 @@ use Rattle.hop_audit.specs.declared.fault.ChainFault.{ChainFault}
 use Rattle.hop_audit.specs.declared.fault.ChainFault.TheVariants.{Memory}
 use Rattle.hop_audit.specs.declared.line.AuditLine.{AuditLine}
 use Rattle.msg_body.specs.declared.whole.Reading.{Reading}
-use Rattle.hop_audit.specs.declared.order.RecordedHop.{RecordedHop as HeldHop}
-use Rattle.hop_audit.specs.declared.order.RecordedChain.{RecordedChain as HeldChain}
+use Rattle.recording.specs.declared.chain.RecordedHop.{RecordedHop as HeldHop}
+use Rattle.recording.specs.declared.chain.RecordedChain.{RecordedChain as HeldChain}
 use Rattle.hop_audit.specs.declared.stage.Stage.{Stage}
-use Rattle.hop_audit.specs.declared.limits.TheConstants.{MAX_HOPS}
+use Rattle.recording.specs.declared.limits.TheConstants.{MAX_HOPS}
 use Rattle.hop_audit.specs.ChainFaults.{IsChainFault}
-use Rattle.hop_audit.specs.Chains.{Subject, requests, responses}
+use Rattle.recording.specs.Chains.{Subject, requests, responses}
 use Rattle.hop_audit.specs.ChainValues.{AnswersRequest, IsScriptItem}
 use Rattle.recording.specs.Items.{PlacedItem}
 use Rattle.msg_body.specs.declared.limits.TheConstants.{MAX_MESSAGE_BYTES}
@@ -25,8 +25,9 @@ use Rattle.msg_body.specs.WholeTexts.{IsWhole}
 use Rattle.verdicts.specs.Contexts.{context_for}
 use Rattle.hop_audit.specs.Lines.{are_lines_in_range}
 use Rattle.hop_audit.specs.Report.{IsAudit}
+use Rattle.hop_audit.specs.tools.Carried.{KnowTags}
 use Rattle.hop_audit.specs.tools.Read.{IsStageOf, SaysMessage, SaysScript}
-use Rattle.hop_audit.specs.tools.Recorded.{IsHeldChain, subject_meant}
+use Rattle.recording.specs.RecordedChains.{IsHeldChain, subject_meant}
 use Rattle.hop_audit.specs.tools.Written.{AddsHopLines, AddsMessageLines}
 
 -- the request that the messages of the audit answer
@@ -97,10 +98,11 @@ SaysHop audit index before hop was now (Err fault) =
 pub record AddsFirst (audit : ChainAudit) (chain : HeldChain) (was now : List AuditLine)
     (reached : Reached) : Type 0 where
   pub moment_is : reached.moment ≡ chain.moment
-  pub text_is : reached.text.now ≡ chain.first.now
   pub stage : SaysStage chain.item audit.reading chain.first.now (Ok reached.stage)
   pub added : AddsMessageLines (meaning audit.conf.now)
       (context_of_audit audit (message_of reached.stage.message)) 0 chain.moment was now
+  pub known : KnowTags (meaning audit.conf.now)
+      (context_of_audit audit (message_of reached.stage.message)) reached.stage.known
 
 -- the same, or why its item is none
 abbrev pub SaysFirst : ChainAudit → HeldChain → List AuditLine → List AuditLine
@@ -114,11 +116,12 @@ pub record AddsNext (audit : ChainAudit) (index : ℕ) (before : Reached) (hop :
     (was now : List AuditLine) (after : Reached) : Type 0 where
   pub between : List AuditLine
   pub moment_is : after.moment ≡ unwrap_or hop.moment before.moment
-  pub text_is : after.text.now ≡ hop.message.now
   pub hop_lines : AddsHop audit index before.stage hop was between after.stage
   pub added : AddsMessageLines (meaning audit.conf.now)
       (context_of_audit audit (message_of after.stage.message)) index
       (unwrap_or hop.moment before.moment) between now
+  pub known : KnowTags (meaning audit.conf.now)
+      (context_of_audit audit (message_of after.stage.message)) after.stage.known
 
 -- the same, or why its script or its message is none
 abbrev pub SaysNext : ChainAudit → ℕ → Reached → HeldHop → List AuditLine → List AuditLine

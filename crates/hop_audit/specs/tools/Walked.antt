@@ -1,25 +1,34 @@
 -- What the code makes of the steps of a script. No public clause cites this module.
-use Rattle.std.specs.Prelude.{◌≡◌, ◌↔◌, ℕ, IsTrue, Option, Some, None, IsSomeAnd, MatchOption, is_some, List, take, drop}
+use Rattle.std.specs.Prelude.{◌≡◌, ◌↔◌, ℕ, IsTrue, Option, IsSomeAnd, MatchOption, is_some, List, take, drop}
+use Rattle.std.specs.Borrow.{Bor}
 use Rattle.std.specs.List.{All, AllZip}
 use Rattle.msg_body.specs.Messages.{Message, Spells}
 use Rattle.component_ids.specs.declared.params.SigParams.{SigParams}
 use Rattle.component_values.specs.Context.{MessageContext, answers_head}
 use Rattle.rewrite_script.specs.declared.rewrite.Rewrite.{Rewrite}
 use Rattle.rewrites.specs.Permitted.{Permits}
-use Rattle.rewrites.specs.Steps.{Step, Steps, IsNotApplicable}
+use Rattle.rewrites.specs.Steps.{Step, Steps}
 use Rattle.signatures.specs.Signatures.{HasSignature}
+use Rattle.signatures.specs.declared.label.LabelRead.{LabelRead}
+use Rattle.rewrites.specs.declared.watcher.Judgement.{Judgement}
+use Rattle.rewrites.specs.declared.watcher.Judgement.TheVariants.{Permitted}
 use Rattle.hop_audit.specs.declared.walk.Mark.{Mark}
+use Rattle.hop_audit.specs.declared.walk.Marks.{Marks}
 use Rattle.hop_audit.specs.declared.walk.Walked.{Walked}
 use Rattle.hop_audit.specs.declared.walk.Walked.TheVariants.{To, Stopped}
 use Rattle.hop_audit.specs.Hops.{IsPermitted, IsStoppedAt}
+
+-- the label's signature in the message, or that it has none
+abbrev pub IsMarkRead : Message → List ℕ → Option (Bor LabelRead) → Type 0
+IsMarkRead message label read = MatchOption read
+    ((params : SigParams) (tag : List ℕ) → ¬ HasSignature message label params tag)
+    (λ read. HasSignature message label read.now.params read.now.tag)
 
 -- the label's signature in the message, or that it has none; so far each step is permitted, where
 -- it has one
 pub record IsMarkOf (message : Message) (label : List ℕ) (mark : Mark) : Type 0 where
   pub label_is : mark.label.now ≡ label
-  pub read : MatchOption mark.read
-      ((params : SigParams) (tag : List ℕ) → ¬ HasSignature message label params tag)
-      (λ read. HasSignature message label read.params read.tag)
+  pub read : IsMarkRead message label mark.read
   pub permitted : mark.permitted ≡ is_some mark.read
 
 -- each label has its mark
@@ -29,7 +38,7 @@ AreMarksOf message labels marks = AllZip (IsMarkOf message) labels marks
 -- where the signature has permitted all so far, the message has it
 abbrev pub HoldsSignature : Message → Mark → Type 0
 HoldsSignature message mark = IsTrue mark.permitted
-    → IsSomeAnd mark.read (λ read. HasSignature message mark.label.now read.params read.tag)
+    → IsSomeAnd mark.read (λ read. HasSignature message mark.label.now read.now.params read.now.tag)
 
 -- all of them do
 abbrev pub HoldSignatures : Message → List Mark → Type 0
@@ -45,22 +54,12 @@ pub record IsMarkedBy (context : MessageContext) (step : Rewrite) (was now : Mar
     : Type 0 where
   pub same : IsSameMark was now
   pub permitted : IsTrue now.permitted ↔ (IsTrue was.permitted
-      × IsSomeAnd was.read (λ read. Permits context step was.label.now read.params))
+      × IsSomeAnd was.read (λ read. Permits context step was.label.now read.now.params))
 
--- the step gives the message of the text
-pub record GivesText (context : MessageContext) (step : Rewrite) (text : List ℕ) : Type 0 where
-  pub after : Message
-  pub spells : Spells (answers_head context.related) after text
-  pub gives : Step context step after
-
--- the text of what the step gives, each label marked by whether it is permitted; or that it gives
--- none
-abbrev pub SaysStepped : MessageContext → Rewrite → List Mark → List Mark → Option (List ℕ)
-    → Type 0
-SaysStepped context step was now (Some text) =
-    GivesText context step text × AllZip (IsMarkedBy context step) was now
-SaysStepped context step was now None =
-    IsNotApplicable context step × AllZip IsSameMark was now
+-- each label is, and the walk goes on
+abbrev pub AreMarkedBy : MessageContext → Rewrite → Marks → Marks → Judgement → Type 0
+AreMarkedBy context step was now judgement =
+    AllZip (IsMarkedBy context step) was.marks.items now.marks.items × (judgement ≡ Permitted)
 
 -- the label is marked by whether its signature permits the steps to this message
 pub record IsMarkedAfter (context : MessageContext) (script : List Rewrite) (after : Message)
@@ -77,16 +76,6 @@ SaysWalked context script was now (To text) = (after : Message)
     × AllZip (IsMarkedAfter context script after) was now
 SaysWalked context script was now (Stopped index) =
     IsStoppedAt context script index × AllZip IsSameMark was now
-
--- so many of the steps lead to the message of the text, each label is marked by whether they are
--- permitted, and where they are, the message has the label's signature
-pub record AreWalkedSoFar (context : MessageContext) (script : List Rewrite) (was now : List Mark)
-    (count : ℕ) (text : List ℕ) : Type 0 where
-  pub message : Message
-  pub spells : Spells (answers_head context.related) message text
-  pub lead : Steps Step context (take count script) message
-  pub marks : AllZip (IsMarkedAfter context (take count script) message) was now
-  pub holds : HoldSignatures message now
 
 -- so many labels are marked by whether their signatures permit the step too; the others are as
 -- before

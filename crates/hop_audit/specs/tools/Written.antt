@@ -7,8 +7,7 @@ use Rattle.rewrite_script.specs.declared.rewrite.Rewrite.{Rewrite}
 use Rattle.settings.specs.Configuration.{Configuration}
 use Rattle.signatures.specs.Signatures.{AreLabels}
 use Rattle.verdicts.specs.Verification.{Verification}
-use Rattle.component_values.specs.Context.{answers_head, context_of, context_with}
-use Rattle.msg_body.specs.Messages.{Spells}
+use Rattle.component_values.specs.Context.{HasWholeMessage, context_of, context_with}
 use Rattle.hop_audit.specs.declared.hop_lines.End.{End}
 use Rattle.hop_audit.specs.declared.line.AuditLine.{AuditLine}
 use Rattle.hop_audit.specs.Hops.{PlacedHop}
@@ -66,11 +65,10 @@ AddsHopLines context index script after was now =
     (hop : PlacedHop) → IsHopBetween context index script after hop
     → AddsLinesOf context hop was now
 
--- the bytes and what was read are those of the context's message
+-- what was read is of the context's message, which is a whole one
 pub record IsEnd (end : End) : Type 0 where
   pub stage : IsStageOf (context_of end.context.now).message end.stage.now
-  pub spells : Spells (answers_head (context_of end.context.now).related)
-      (context_of end.context.now).message end.bytes.now
+  pub whole : HasWholeMessage (context_of end.context.now)
 
 -- both ends of a hop, whose contexts differ in the message alone
 pub record AreEnds (before after : End) : Type 0 where

@@ -1,8 +1,8 @@
 use Rattle.std.proofs.Common.{◌≡◌, ◌∙◌, ℕ, List, Option, Some, Bor, ap}
 use Rattle.std.specs.Prelude.{option_map}
 use Rattle.std.proofs.lemmas.Result.{err_from_is_err_and}
-use Rattle.hop_audit.specs.Chains.{responses}
-use Rattle.hop_audit.specs.tools.Recorded.{subject_meant}
+use Rattle.recording.specs.Chains.{responses}
+use Rattle.recording.specs.RecordedChains.{subject_meant}
 use Rattle.hop_audit.proofs.AuditAnswers.{related_refused}
 use Rattle.hop_audit.proofs.chain_audit.related_request.Goals as goal
 

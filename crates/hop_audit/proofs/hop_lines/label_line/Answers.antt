@@ -15,7 +15,7 @@ returns-clause-line c = λ context hop judged is.
       | else-explained w ↦ w.permitted-is ∙ (w.if-explained.false ∙ ap both (sym w.if-explained.false))
     ] in
     judged_line context hop c.args.index (context_of c.args.after.now.context.now).message c.args.explained c.args.mark.now judged c.in_ok-label.label c.in-Some.read c.if-explained.permitted c.in_ok-fate.fate
-    c.in_ok-label.ensures.ok c.in-Some.is permitted (c.in_ok-fate.ensures.fate context _ is c.requires.after.fields)
+    c.in_ok-label.ensures.ok c.in-Some.is permitted (c.in_ok-fate.ensures.fate context _ is c.requires.after)
 
 pub returns-clause-kept : goal.returns-clause-kept
 returns-clause-kept c = λ context is. c.fate_of.ensures.kept context _ is

@@ -9,8 +9,8 @@ loop-label-init c = λ message is. subst (λ (l : List Mark). AreMarksOf message
 
 pub loop-label-preserved : goal.loop-label-preserved
 loop-label-preserved c = λ message is.
-    let mark : Mark = record { label = c.bytes-label.result; read = c.in_ok-read.read; permitted = c.is_some-permitted.result } in
-    let own = mark_of message c.label-item.result mark c.bytes-label.ensures (c.in_ok-read.ensures message is.fields) c.is_some-permitted.ensures in
+    let mark : Mark = record { label = c.bytes-label.result; read = c.signature-read.result; permitted = c.is_some-permitted.result } in
+    let own = mark_of message c.label-item.result mark c.bytes-label.ensures (c.signature-read.ensures message is) c.is_some-permitted.ensures in
     subst (λ (l : List Mark). AreMarksOf message (take (c.loop-label.label-index + 1) c.as_slice-label-items.result.now) l) (sym c.in_ok-push.ensures.items)
     (more_marks message c.as_slice-label-items.result.now c.loop-label.label-index c.label-item.result c.loop-label.marks.items mark c.loop-label-test.true c.label-item.is
     (c.loop-label.invariant message is) own)

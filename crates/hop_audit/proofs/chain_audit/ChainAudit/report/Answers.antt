@@ -14,6 +14,9 @@ loop-count-init c =
     let of : IsAuditOf c.args.self.now c.args.chain.now = record { related = c.requires.related; reading = c.requires.reading } in
     first_reached c.args.self.now c.args.chain.now of c.in_ok-reached.reached c.first.new.lines c.requires.held.now (rw c.new-lines.ensures at c.in_ok-reached.ensures)
 
+pub next-requires-clause-known : goal.next-requires-clause-known
+next-requires-clause-known c = c.loop-count.invariant.known
+
 pub next-requires-clause-sized : goal.next-requires-clause-sized
 next-requires-clause-sized c =
     c.requires.held.hops c.loop-count.count _ (hop_at c.args.chain.now.hops c.as_slice-hop-items.result.now c.loop-count.count no_hop c.as_slice-hop-items.ensures c.loop-count-test.true)
@@ -23,7 +26,7 @@ returns-in_err-reached-2 c =
     let p = err_from_is_err_and c.from_residual-in_err-reached-2.result c.from_residual-in_err-reached-2.ensures.1 in
     let of : IsAuditOf c.args.self.now c.args.chain.now = record { related = c.requires.related; reading = c.requires.reading } in
     let there = hop_at c.args.chain.now.hops c.as_slice-hop-items.result.now c.loop-count.count no_hop c.as_slice-hop-items.ensures c.loop-count-test.true in
-    rw (p.1, p.2) (hop_refused c.args.self.now c.args.chain.now of c.loop-count.count c.loop-count.reached.moment c.loop-count.reached.text.now c.loop-count.reached.stage c.loop-count.lines
+    rw (p.1, p.2) (hop_refused c.args.self.now c.args.chain.now of c.loop-count.count c.loop-count.reached.moment c.loop-count.reached.stage c.loop-count.lines
     (get_or c.as_slice-hop-items.result.now c.loop-count.count no_hop) there c.loop-count.invariant c.next.new.lines c.in_err-reached-2.field-0.0 c.in_err-reached-2.ensures)
 
 pub loop-count-preserved : goal.loop-count-preserved
@@ -37,5 +40,5 @@ loop-count-preserved c =
 pub returns : goal.returns
 returns c =
     let of : IsAuditOf c.args.self.now c.args.chain.now = record { related = c.requires.related; reading = c.requires.reading } in
-    all_reported c.args.self.now c.args.chain.now of c.loop-count.count c.loop-count.reached.moment c.loop-count.reached.text.now c.loop-count.reached.stage c.loop-count.lines
+    all_reported c.args.self.now c.args.chain.now of c.loop-count.count c.loop-count.reached.moment c.loop-count.reached.stage c.loop-count.lines
     (rw c.as_slice-hop-items.ensures at c.loop-count-test.false) c.loop-count.invariant

@@ -1,9 +1,0 @@
-use Rattle.std.proofs.Common.{length, ◌-◌}
-use Rattle.hop_audit.specs.tools.Recorded.{AreHopsOf, subject_meant}
-use Rattle.hop_audit.proofs.order.Items.hops.Given as goal
-
-abbrev pub invariant-loop-self : goal.invariant-loop-self
-invariant-loop-self l = AreHopsOf (subject_meant l.subject) l.hops l.is_long l.fn.self l.self
-
-abbrev pub decreases-loop-self : goal.decreases-loop-self
-decreases-loop-self l = length l.self.items.now - l.self.taken

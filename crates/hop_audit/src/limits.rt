@@ -1,4 +1,0 @@
-//! What a chain may have at most.
-
-/// How many hops a chain may have.
-pub const MAX_HOPS: usize = 64;
