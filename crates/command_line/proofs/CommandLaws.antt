@@ -1,13 +1,19 @@
 -- Arguments spell one command: the one that they are read as.
-use Rattle.std.proofs.Common.{◌≡◌, ℕ, List, [], ◌∷◌, Option, Some, None, refl, sym, ap, ◌∙◌}
-use Rattle.std.specs.Prelude.{IsSomeAnd, codes, if◌then◌else◌, unwrap_or}
+use Rattle.std.proofs.Common.{◌≡◌, ℕ, false, inl, inr, List, [], ◌∷◌, Option, Some, None, refl, sym, ap, ◌∙◌}
+use Rattle.std.specs.Prelude.{IsSomeAnd, codes, if◌then◌else◌, option_map, unwrap_or}
 use Rattle.std.specs.Str.{bytes_eq}
 use Rattle.std.specs.Str.Parse.{digits_value}
+use Rattle.std.proofs.lemmas.Bool.{cases_Bool}
+use Rattle.std.proofs.lemmas.Slice.Eq.{bytes_eq-Decides}
 use Rattle.sfv_text.specs.Keys.{value_of}
 use Rattle.sfv_text.specs.declared.pair.Pair.{Pair}
-use Rattle.command_line.specs.Command.{CommandLine, Help, Version, Base, Verify, Sign, Rewrite, Audit, Sample, BaseWords, VerifyWords, SignWords, RewriteWords, AuditWords, SampleWords, IsCommand, SpellsBase, SpellsVerify, SpellsSign, SpellsRewrite, SpellsAudit, SpellsSample}
+use Rattle.command_line.specs.Command.{CommandLine, Help, HelpOf, Version, Base, Verify, Sign, Rewrite, Audit, Sample, BaseWords, VerifyWords, SignWords, RewriteWords, AuditWords, SampleWords, IsCommand, SpellsBase, SpellsVerify, SpellsSign, SpellsRewrite, SpellsAudit, SpellsSample}
 use Rattle.command_line.specs.Laws.{HasOneCommand}
+use Rattle.command_line.specs.Names.{command_of, command_word}
 use Rattle.command_line.specs.Options.{words_of}
+use Rattle.command_line.specs.declared.options.CommandName.{CommandName}
+use Rattle.command_line.specs.declared.options.CommandName.TheVariants as name
+use Rattle.command_line.specs.tools.Wrong.{asks_help}
 
 -- ---- what words are read as
 
@@ -63,16 +69,24 @@ after_sample : List (List ℕ) → CommandLine
 after_sample (seed ∷ count ∷ []) = Sample (sample_in seed count)
 after_sample words = Help
 
+after_name : CommandName → List (List ℕ) → CommandLine
+after_name name.Base words = after_base words
+after_name name.Verify words = Verify (verify_in (options_in words))
+after_name name.Sign words = Sign (sign_in (options_in words))
+after_name name.Rewrite words = Rewrite (rewrite_in (options_in words))
+after_name name.Audit words = Audit (audit_in (options_in words))
+after_name name.Sample words = after_sample words
+
+-- after `help`
+topic : List (List ℕ) → CommandLine
+topic (word ∷ words) = unwrap_or (option_map HelpOf (command_of word)) Help
+topic [] = Help
+
 -- a command by its name
 after : List ℕ → List (List ℕ) → CommandLine
 after name words =
-    if bytes_eq name (codes "base") then after_base words
-    else (if bytes_eq name (codes "verify") then Verify (verify_in (options_in words))
-    else (if bytes_eq name (codes "sign") then Sign (sign_in (options_in words))
-    else (if bytes_eq name (codes "rewrite") then Rewrite (rewrite_in (options_in words))
-    else (if bytes_eq name (codes "audit") then Audit (audit_in (options_in words))
-    else (if bytes_eq name (codes "sample") then after_sample words
-    else (if bytes_eq name (codes "--version") then Version else Help))))))
+    unwrap_or (option_map (λ command. if asks_help words then HelpOf command else after_name command words) (command_of name))
+    (if bytes_eq name (codes "--version") then Version else (if bytes_eq name (codes "help") then topic words else Help))
 
 read : List (List ℕ) → CommandLine
 read [] = Help
@@ -130,21 +144,71 @@ sample_is : (arguments : List (List ℕ)) (sample : SampleWords) (a : SpellsSamp
 unfolding sample_in
 sample_is arguments sample a = λ i. record { seed = a.seed_is.1 i; count = a.count_is.1 i }
 
+-- options aren't `--help` alone
+no_help : (options : List (Pair (List ℕ))) → asks_help (words_of options) ≡ false
+no_help [] = refl
+no_help (p ∷ options) = refl
+
+plain : (words : List (List ℕ)) (options : List (Pair (List ℕ))) → words ≡ words_of options → asks_help words ≡ false
+plain words options joined = ap (λ (all : List (List ℕ)). asks_help all) joined ∙ no_help options
+
+no_base_help : (words : List (List ℕ)) → (words ≡ codes "--help" ∷ [] → ⊥) → asks_help words ≡ false
+no_base_help [] none = refl
+no_base_help (word ∷ []) none = elim (cases_Bool (bytes_eq word (codes "--help"))) [
+  | inl is ↦ absurd (none (ap (λ (w : List ℕ). w ∷ []) ((bytes_eq-Decides word (codes "--help")).0 is)))
+  | inr other ↦ other
+]
+no_base_help (word ∷ other ∷ words) none = refl
+
+-- words that aren't `--help` alone are read by the name before them
+read_plain : (command : CommandName) (words : List (List ℕ)) → asks_help words ≡ false → read (command_word command ∷ words) ≡ after_name command words
+unfolding read after
+read_plain name.Base words isnt = rw isnt refl
+read_plain name.Verify words isnt = rw isnt refl
+read_plain name.Sign words isnt = rw isnt refl
+read_plain name.Rewrite words isnt = rw isnt refl
+read_plain name.Audit words isnt = rw isnt refl
+read_plain name.Sample words isnt = rw isnt refl
+
+read_help : (command : CommandName) → read (command_word command ∷ codes "--help" ∷ []) ≡ HelpOf command
+unfolding read after
+read_help name.Base = refl
+read_help name.Verify = refl
+read_help name.Sign = refl
+read_help name.Rewrite = refl
+read_help name.Audit = refl
+read_help name.Sample = refl
+
+read_topic : (command : CommandName) → read (codes "help" ∷ command_word command ∷ []) ≡ HelpOf command
+unfolding read after topic
+read_topic name.Base = refl
+read_topic name.Verify = refl
+read_topic name.Sign = refl
+read_topic name.Rewrite = refl
+read_topic name.Audit = refl
+read_topic name.Sample = refl
+
 is_read : (arguments : List (List ℕ)) (command : CommandLine) → IsCommand arguments command → read arguments ≡ command
-unfolding read after after_base after_sample
-is_read arguments Help a = ap read a
+unfolding read after after_name after_base after_sample topic
+is_read arguments Help a = elim a [ inl help ↦ ap read help | inr word ↦ ap read word ]
+is_read arguments (HelpOf command) a = elim a [ inl name ↦ ap read name ∙ read_help command | inr word ↦ ap read word ∙ read_topic command ]
 is_read arguments Version a = ap read a
 is_read arguments (Base words) a = ap read a.joined
-    ∙ (ap (λ (options : List (Pair (List ℕ))). Base (base_in words.params options)) (are_in a.words a.options a.are.joined) ∙ ap Base (sym (base_is arguments words a)))
+    ∙ (read_plain name.Base (words.params ∷ a.words) (no_base_help (words.params ∷ a.words) a.asks)
+    ∙ (ap (λ (options : List (Pair (List ℕ))). Base (base_in words.params options)) (are_in a.words a.options a.are.joined) ∙ ap Base (sym (base_is arguments words a))))
 is_read arguments (Verify words) a = ap read a.joined
-    ∙ (ap (λ (options : List (Pair (List ℕ))). Verify (verify_in options)) (are_in a.words a.options a.are.joined) ∙ ap Verify (sym (verify_is arguments words a)))
+    ∙ (read_plain name.Verify a.words (plain a.words a.options a.are.joined)
+    ∙ (ap (λ (options : List (Pair (List ℕ))). Verify (verify_in options)) (are_in a.words a.options a.are.joined) ∙ ap Verify (sym (verify_is arguments words a))))
 is_read arguments (Sign words) a = ap read a.joined
-    ∙ (ap (λ (options : List (Pair (List ℕ))). Sign (sign_in options)) (are_in a.words a.options a.are.joined) ∙ ap Sign (sym (sign_is arguments words a)))
+    ∙ (read_plain name.Sign a.words (plain a.words a.options a.are.joined)
+    ∙ (ap (λ (options : List (Pair (List ℕ))). Sign (sign_in options)) (are_in a.words a.options a.are.joined) ∙ ap Sign (sym (sign_is arguments words a))))
 is_read arguments (Rewrite words) a = ap read a.joined
-    ∙ (ap (λ (options : List (Pair (List ℕ))). Rewrite (rewrite_in options)) (are_in a.words a.options a.are.joined) ∙ ap Rewrite (sym (rewrite_is arguments words a)))
+    ∙ (read_plain name.Rewrite a.words (plain a.words a.options a.are.joined)
+    ∙ (ap (λ (options : List (Pair (List ℕ))). Rewrite (rewrite_in options)) (are_in a.words a.options a.are.joined) ∙ ap Rewrite (sym (rewrite_is arguments words a))))
 is_read arguments (Audit words) a = ap read a.joined
-    ∙ (ap (λ (options : List (Pair (List ℕ))). Audit (audit_in options)) (are_in a.words a.options a.are.joined) ∙ ap Audit (sym (audit_is arguments words a)))
-is_read arguments (Sample words) a = ap read a.joined ∙ ap Sample (sym (sample_is arguments words a))
+    ∙ (read_plain name.Audit a.words (plain a.words a.options a.are.joined)
+    ∙ (ap (λ (options : List (Pair (List ℕ))). Audit (audit_in options)) (are_in a.words a.options a.are.joined) ∙ ap Audit (sym (audit_is arguments words a))))
+is_read arguments (Sample words) a = ap read a.joined ∙ (read_plain name.Sample (a.seed ∷ a.count ∷ []) refl ∙ ap Sample (sym (sample_is arguments words a)))
 
 pub one_command : HasOneCommand
 one_command arguments one other a b = sym (is_read arguments one a) ∙ is_read arguments other b

@@ -10,26 +10,25 @@ use Rattle.std.proofs.lemmas.Bool.Decides.{nat_tests}
 use Rattle.std.proofs.lemmas.Slice.Eq.{bytes_eq-Decides}
 use Rattle.sfv_text.specs.Keys.{have_distinct_keys, value_of}
 use Rattle.sfv_text.specs.declared.pair.Pair.{Pair}
-use Rattle.command_line.specs.Command.{Help, Version, Base, Verify, Sign, Rewrite, Audit, Sample, BaseWords, VerifyWords, SignWords, RewriteWords, AuditWords, SampleWords, NoCommand, SpellsBase, SpellsVerify, SpellsSign, SpellsRewrite, SpellsAudit, SpellsSample}
-use Rattle.command_line.specs.Laws.{HasCommandOrNone}
+use Rattle.command_line.specs.Command.{VerifyWords, SignWords, RewriteWords, AuditWords, SampleWords, SpellsBase, SpellsVerify, SpellsSign, SpellsRewrite, SpellsAudit, SpellsSample}
 use Rattle.command_line.specs.Numbers.{is_number, IsCount, IsSeed}
 use Rattle.command_line.specs.Options.{may_have, takes, words_of, AreOptions}
 use Rattle.command_line.specs.declared.options.CommandName.{CommandName}
 use Rattle.command_line.specs.declared.options.CommandName.TheVariants as name
 use Rattle.command_line.proofs.OptionLists.{begins, no_single, one_list}
 
-first_is : (a b : List ℕ) (x y : List (List ℕ)) → a ∷ x ≡ b ∷ y → (a ≡ b) × (x ≡ y)
+pub first_is : (a b : List ℕ) (x y : List (List ℕ)) → a ∷ x ≡ b ∷ y → (a ≡ b) × (x ≡ y)
 first_is a b x y e = (cc, cc)
 
 not_named : (a b : List ℕ) (x y : List (List ℕ)) → bytes_eq a b ≡ false → a ∷ x ≡ b ∷ y → ⊥
 not_named a b x y other e = false≢true (sym other ∙ (bytes_eq-Decides a b).1 (first_is a b x y e).0)
 
 -- a value is spelled, or none
-abbrev SomeOrNone : {V : Type 0} → (V → Type 0) → Type 0
+abbrev pub SomeOrNone : {V : Type 0} → (V → Type 0) → Type 0
 SomeOrNone {V} Spells = ((v : V) × Spells v) ⊎ ((v : V) → Spells v → ⊥)
 
 -- one word alone
-word_or_not : (word : List ℕ) (arguments : List (List ℕ)) → (arguments ≡ word ∷ []) ⊎ (arguments ≡ word ∷ [] → ⊥)
+pub word_or_not : (word : List ℕ) (arguments : List (List ℕ)) → (arguments ≡ word ∷ []) ⊎ (arguments ≡ word ∷ [] → ⊥)
 word_or_not word [] = inr (λ e. absurd cc)
 word_or_not word (first ∷ []) = elim (cases_Bool (bytes_eq first word)) [
   | inl same ↦ inl (ap (λ (w : List ℕ). w ∷ []) ((bytes_eq-Decides first word).0 same))
@@ -104,14 +103,14 @@ with_or_none Spells command words options_of with_options = elim (options_or_non
 
 -- ---- the options that commands need
 
-has_word : (found : Option (List ℕ)) → ((word : List ℕ) × (found ≡ Some word)) ⊎ (found ≡ None)
+pub has_word : (found : Option (List ℕ)) → ((word : List ℕ) × (found ≡ Some word)) ⊎ (found ≡ None)
 has_word None = inr refl
 has_word (Some word) = inl (word, refl)
 
 no_word : (found : Option (List ℕ)) (word : List ℕ) → found ≡ None → found ≡ Some word → ⊥
 no_word found word none some = let e : None ≡ Some word = sym none ∙ some in absurd cc
 
-has_moment : (found : Option (List ℕ)) (digits : List ℕ) → found ≡ Some digits → IsSomeAnd found (λ word. digits_value 10 digits ≡ digits_value 10 word)
+pub has_moment : (found : Option (List ℕ)) (digits : List ℕ) → found ≡ Some digits → IsSomeAnd found (λ word. digits_value 10 digits ≡ digits_value 10 word)
 has_moment found digits some = subst (λ (found : Option (List ℕ)). IsSomeAnd found (λ word. digits_value 10 digits ≡ digits_value 10 word)) (sym some) refl
 
 no_moment : (found : Option (List ℕ)) (n : ℕ) → found ≡ None → IsSomeAnd found (λ word. n ≡ digits_value 10 word) → ⊥
@@ -133,16 +132,16 @@ needed_or_none options = elim (has_word (value_of options (codes "--conf"))) [
 
 -- ---- `base`
 
-base_of : (words : List (List ℕ)) → SomeOrNone (SpellsBase (codes "base" ∷ words))
-base_of [] = inr (λ base is. let e : [] ≡ base.params ∷ is.words = (first_is (codes "base") (codes "base") [] (base.params ∷ is.words) is.joined).1 in absurd cc)
-base_of (params ∷ words) = with_or_none (SpellsBase (codes "base" ∷ params ∷ words)) name.Base words
+pub base_of : (words : List (List ℕ)) → (words ≡ codes "--help" ∷ [] → ⊥) → SomeOrNone (SpellsBase (codes "base" ∷ words))
+base_of [] asks = inr (λ base is. let e : [] ≡ base.params ∷ is.words = (first_is (codes "base") (codes "base") [] (base.params ∷ is.words) is.joined).1 in absurd cc)
+base_of (params ∷ words) asks = with_or_none (SpellsBase (codes "base" ∷ params ∷ words)) name.Base words
     (λ base is.
     let others = (first_is (codes "base") (codes "base") (params ∷ words) (base.params ∷ is.words) is.joined).1 in
     let same = (first_is params base.params words is.words others).1 in
     (is.options, subst (λ (all : List (List ℕ)). AreOptions name.Base all is.options) (sym same) is.are))
     (λ options are. inl (
       record { params = params; conf = value_of options (codes "--conf"); request = value_of options (codes "--request") },
-      record { words = words; options = options; joined = refl; are = are; conf_is = refl; request_is = refl },
+      record { words = words; options = options; joined = refl; asks = asks; are = are; conf_is = refl; request_is = refl },
     ))
 
 -- ---- `verify`
@@ -170,7 +169,7 @@ verify_with words options are = elim (needed_or_none options) [
   )
 ]
 
-verify_of : (words : List (List ℕ)) → SomeOrNone (SpellsVerify (codes "verify" ∷ words))
+pub verify_of : (words : List (List ℕ)) → SomeOrNone (SpellsVerify (codes "verify" ∷ words))
 verify_of words =
     with_or_none (SpellsVerify (codes "verify" ∷ words)) name.Verify words (λ verify is. (is.options, verify_are words verify is)) (verify_with words)
 
@@ -229,7 +228,7 @@ sign_with words options are = elim (needed_or_none options) [
     same : (sign : SignWords) (is : SpellsSign (codes "sign" ∷ words) sign) → is.options ≡ options
     same sign is = same_options name.Sign words options is.options are (sign_are words sign is)
 
-sign_of : (words : List (List ℕ)) → SomeOrNone (SpellsSign (codes "sign" ∷ words))
+pub sign_of : (words : List (List ℕ)) → SomeOrNone (SpellsSign (codes "sign" ∷ words))
 sign_of words = with_or_none (SpellsSign (codes "sign" ∷ words)) name.Sign words (λ sign is. (is.options, sign_are words sign is)) (sign_with words)
 
 -- ---- `rewrite`
@@ -263,7 +262,7 @@ rewrite_with words options are = elim (has_word (value_of options (codes "--scri
   )
 ]
 
-rewrite_of : (words : List (List ℕ)) → SomeOrNone (SpellsRewrite (codes "rewrite" ∷ words))
+pub rewrite_of : (words : List (List ℕ)) → SomeOrNone (SpellsRewrite (codes "rewrite" ∷ words))
 rewrite_of words =
     with_or_none (SpellsRewrite (codes "rewrite" ∷ words)) name.Rewrite words (λ rewrite is. (is.options, rewrite_are words rewrite is)) (rewrite_with words)
 
@@ -284,7 +283,7 @@ audit_with words options are = elim (has_word (value_of options (codes "--conf")
   )
 ]
 
-audit_of : (words : List (List ℕ)) → SomeOrNone (SpellsAudit (codes "audit" ∷ words))
+pub audit_of : (words : List (List ℕ)) → SomeOrNone (SpellsAudit (codes "audit" ∷ words))
 audit_of words = with_or_none (SpellsAudit (codes "audit" ∷ words)) name.Audit words (λ audit is. (is.options, audit_are words audit is)) (audit_with words)
 
 -- ---- `sample`
@@ -330,69 +329,9 @@ sample_with seed count = elim (seed_or_none seed) [
   ]
 ]
 
-sample_of : (words : List (List ℕ)) → SomeOrNone (SpellsSample (codes "sample" ∷ words))
+pub sample_of : (words : List (List ℕ)) → SomeOrNone (SpellsSample (codes "sample" ∷ words))
 sample_of [] = inr (λ sample is. let e : [] ≡ is.seed ∷ is.count ∷ [] = sample_words [] sample is in absurd cc)
 sample_of (seed ∷ []) = inr (λ sample is. let e : seed ∷ [] ≡ is.seed ∷ is.count ∷ [] = sample_words (seed ∷ []) sample is in absurd cc)
 sample_of (seed ∷ count ∷ []) = sample_with seed count
 sample_of (seed ∷ count ∷ word ∷ more) = inr (λ sample is.
     let e : seed ∷ count ∷ word ∷ more ≡ is.seed ∷ is.count ∷ [] = sample_words (seed ∷ count ∷ word ∷ more) sample is in absurd cc)
-
--- ---- any command
-
-none_of : (arguments : List (List ℕ)) → (arguments ≡ codes "--help" ∷ [] → ⊥) → (arguments ≡ codes "--version" ∷ [] → ⊥)
-    → ((base : BaseWords) → SpellsBase arguments base → ⊥) → ((verify : VerifyWords) → SpellsVerify arguments verify → ⊥)
-    → ((sign : SignWords) → SpellsSign arguments sign → ⊥) → ((rewrite : RewriteWords) → SpellsRewrite arguments rewrite → ⊥)
-    → ((audit : AuditWords) → SpellsAudit arguments audit → ⊥) → ((sample : SampleWords) → SpellsSample arguments sample → ⊥) → NoCommand arguments
-none_of arguments no_help no_version no_base no_verify no_sign no_rewrite no_audit no_sample Help is = no_help is
-none_of arguments no_help no_version no_base no_verify no_sign no_rewrite no_audit no_sample Version is = no_version is
-none_of arguments no_help no_version no_base no_verify no_sign no_rewrite no_audit no_sample (Base words) is = no_base words is
-none_of arguments no_help no_version no_base no_verify no_sign no_rewrite no_audit no_sample (Verify words) is = no_verify words is
-none_of arguments no_help no_version no_base no_verify no_sign no_rewrite no_audit no_sample (Sign words) is = no_sign words is
-none_of arguments no_help no_version no_base no_verify no_sign no_rewrite no_audit no_sample (Rewrite words) is = no_rewrite words is
-none_of arguments no_help no_version no_base no_verify no_sign no_rewrite no_audit no_sample (Audit words) is = no_audit words is
-none_of arguments no_help no_version no_base no_verify no_sign no_rewrite no_audit no_sample (Sample words) is = no_sample words is
-
-base_or_none : (arguments : List (List ℕ)) → SomeOrNone (SpellsBase arguments)
-base_or_none arguments = named_or_none SpellsBase (codes "base") (λ all base is. (base.params ∷ is.words, is.joined)) base_of arguments
-
-verify_or_none : (arguments : List (List ℕ)) → SomeOrNone (SpellsVerify arguments)
-verify_or_none arguments = named_or_none SpellsVerify (codes "verify") (λ all verify is. (is.words, is.joined)) verify_of arguments
-
-sign_or_none : (arguments : List (List ℕ)) → SomeOrNone (SpellsSign arguments)
-sign_or_none arguments = named_or_none SpellsSign (codes "sign") (λ all sign is. (is.words, is.joined)) sign_of arguments
-
-rewrite_or_none : (arguments : List (List ℕ)) → SomeOrNone (SpellsRewrite arguments)
-rewrite_or_none arguments = named_or_none SpellsRewrite (codes "rewrite") (λ all rewrite is. (is.words, is.joined)) rewrite_of arguments
-
-audit_or_none : (arguments : List (List ℕ)) → SomeOrNone (SpellsAudit arguments)
-audit_or_none arguments = named_or_none SpellsAudit (codes "audit") (λ all audit is. (is.words, is.joined)) audit_of arguments
-
-sample_or_none : (arguments : List (List ℕ)) → SomeOrNone (SpellsSample arguments)
-sample_or_none arguments = named_or_none SpellsSample (codes "sample") (λ all sample is. (is.seed ∷ is.count ∷ [], is.joined)) sample_of arguments
-
-pub command_or_none : HasCommandOrNone
-command_or_none arguments = elim (word_or_not (codes "--help") arguments) [
-  | inl help ↦ inl (Help, help)
-  | inr no_help ↦ elim (word_or_not (codes "--version") arguments) [
-    | inl version ↦ inl (Version, version)
-    | inr no_version ↦ elim (base_or_none arguments) [
-      | inl base ↦ inl (Base base.0, base.1)
-      | inr no_base ↦ elim (verify_or_none arguments) [
-        | inl verify ↦ inl (Verify verify.0, verify.1)
-        | inr no_verify ↦ elim (sign_or_none arguments) [
-          | inl sign ↦ inl (Sign sign.0, sign.1)
-          | inr no_sign ↦ elim (rewrite_or_none arguments) [
-            | inl rewrite ↦ inl (Rewrite rewrite.0, rewrite.1)
-            | inr no_rewrite ↦ elim (audit_or_none arguments) [
-              | inl audit ↦ inl (Audit audit.0, audit.1)
-              | inr no_audit ↦ elim (sample_or_none arguments) [
-                | inl sample ↦ inl (Sample sample.0, sample.1)
-                | inr no_sample ↦ inr (none_of arguments no_help no_version no_base no_verify no_sign no_rewrite no_audit no_sample)
-              ]
-            ]
-          ]
-        ]
-      ]
-    ]
-  ]
-]

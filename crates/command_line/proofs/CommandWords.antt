@@ -4,7 +4,7 @@ use Rattle.std.specs.Prelude.{IsSomeAnd, codes}
 use Rattle.std.specs.Str.Parse.{digits_value}
 use Rattle.sfv_text.specs.Keys.{value_of}
 use Rattle.sfv_text.specs.declared.pair.Pair.{Pair}
-use Rattle.command_line.specs.Command.{CommandLine, Help, Version, Base, Verify, Sign, Rewrite, Audit, Sample, IsCommand, IsTimely, HasRightNonce}
+use Rattle.command_line.specs.Command.{CommandLine, Help, HelpOf, Version, Base, Verify, Sign, Rewrite, Audit, Sample, IsCommand, IsTimely, HasRightNonce}
 use Rattle.command_line.specs.Options.{AreOptions}
 use Rattle.command_line.specs.declared.options.CommandName.{CommandName}
 use Rattle.command_line.proofs.Moments.{is_below}
@@ -20,6 +20,7 @@ moment_below command words options are now is = below (value_of options (codes "
 
 pub timely : (arguments : List (List ℕ)) (command : CommandLine) → IsCommand arguments command → IsTimely command
 timely arguments Help is = tt
+timely arguments (HelpOf command) is = tt
 timely arguments Version is = tt
 timely arguments (Base words) is = tt
 timely arguments (Verify words) is = moment_below _ is.words is.options is.are words.now is.now_is
@@ -30,6 +31,7 @@ timely arguments (Sample words) is = tt
 
 pub right_nonce : (arguments : List (List ℕ)) (command : CommandLine) → IsCommand arguments command → HasRightNonce command
 right_nonce arguments Help is = tt
+right_nonce arguments (HelpOf command) is = tt
 right_nonce arguments Version is = tt
 right_nonce arguments (Base words) is = tt
 right_nonce arguments (Verify words) is = tt

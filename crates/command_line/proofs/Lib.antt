@@ -1,5 +1,10 @@
 pub mod CommandLaws
 pub mod CommandOrNone
 pub mod CommandWords
+pub mod Completions
+pub mod FirstWords
 pub mod Moments
+pub mod OptionFaults
 pub mod OptionLists
+pub mod OtherFaults
+pub mod SomeCommand

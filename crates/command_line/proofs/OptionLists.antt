@@ -26,7 +26,7 @@ one_is a b k v = λ i. record { key = k i; value = v i }
 three_parts : (a b c d : List ℕ) (x y : List (List ℕ)) → a ∷ b ∷ x ≡ c ∷ d ∷ y → (a ≡ c) × (b ≡ d) × (x ≡ y)
 three_parts a b c d x y e = (cc, cc, cc)
 
-words_joined : (done rest : List (Pair (List ℕ))) → words_of (done ++ rest) ≡ words_of done ++ words_of rest
+pub words_joined : (done rest : List (Pair (List ℕ))) → words_of (done ++ rest) ≡ words_of done ++ words_of rest
 words_joined [] rest = refl
 words_joined (p ∷ done) rest = ap (λ (words : List (List ℕ)). p.key ∷ p.value ∷ words) (words_joined done rest)
 
@@ -49,7 +49,7 @@ pub one_list : (a b : List (Pair (List ℕ))) → words_of a ≡ words_of b → 
 one_list a b e = let rest = begins a b [] (append-nil (words_of a) ∙ e) in ends a b rest.0 rest.1 rest.2
 
 -- two words and more begin with an option
-begins_with : (rest : List (Pair (List ℕ))) (o w : List ℕ) (after : List (List ℕ)) → o ∷ w ∷ after ≡ words_of rest
+pub begins_with : (rest : List (Pair (List ℕ))) (o w : List ℕ) (after : List (List ℕ)) → o ∷ w ∷ after ≡ words_of rest
     → (p : Pair (List ℕ)) × (others : List (Pair (List ℕ))) × (rest ≡ p ∷ others) × (o ≡ p.key) × (w ≡ p.value)
 begins_with [] o w after e = absurd cc
 begins_with (p ∷ others) o w after e =
@@ -62,17 +62,17 @@ no_single (p ∷ others) word e = absurd cc
 
 -- ---- lists of options with one among them
 
-all_at : (test : Pair (List ℕ) → Bool) (done others : List (Pair (List ℕ))) (p : Pair (List ℕ)) → list_all test (done ++ (p ∷ others)) ≡ true → test p ≡ true
+pub all_at : (test : Pair (List ℕ) → Bool) (done others : List (Pair (List ℕ))) (p : Pair (List ℕ)) → list_all test (done ++ (p ∷ others)) ≡ true → test p ≡ true
 all_at test done others p all =
     let parts = and_parts (list_all test done) (list_all test (p ∷ others)) (sym (list_all-append test done (p ∷ others)) ∙ all) in
     (and_parts (test p) (list_all test others) parts.1).0
 
-or_false : (a b : Bool) → (a || b) ≡ false → (a ≡ false) × (b ≡ false)
+pub or_false : (a b : Bool) → (a || b) ≡ false → (a ≡ false) × (b ≡ false)
 or_false true b h = absurd (false≢true (sym h))
 or_false false b h = (refl, h)
 
 -- options with distinct keys have none twice
-new_at : (done others : List (Pair (List ℕ))) (p : Pair (List ℕ)) → have_distinct_keys (done ++ (p ∷ others)) ≡ true → list_any (has_key p.key) done ≡ false
+pub new_at : (done others : List (Pair (List ℕ))) (p : Pair (List ℕ)) → have_distinct_keys (done ++ (p ∷ others)) ≡ true → list_any (has_key p.key) done ≡ false
 new_at [] others p distinct = refl
 new_at (q ∷ done) others p distinct =
     let parts = distinct_parts q (done ++ (p ∷ others)) distinct in
@@ -95,7 +95,7 @@ none_found_yet command found words none = record {
 }
 
 -- an option has the name of its row
-first_holds : (test : CommandOption → Bool) (options : List CommandOption) (option : CommandOption) → find test options ≡ Some option → test option ≡ true
+pub first_holds : (test : CommandOption → Bool) (options : List CommandOption) (option : CommandOption) → find test options ≡ Some option → test option ≡ true
 first_holds test [] option e = absurd cc
 first_holds test (first ∷ others) option e = elim (cases_Bool (test first)) [
   | inl holds ↦
@@ -105,16 +105,16 @@ first_holds test (first ∷ others) option e = elim (cases_Bool (test first)) [
   | inr other ↦ first_holds test others option (rw other at e)
 ]
 
-name_is : (name : List ℕ) (option : CommandOption) → option_of name ≡ Some option → name ≡ (row_of option).word
+pub name_is : (name : List ℕ) (option : CommandOption) → option_of name ≡ Some option → name ≡ (row_of option).word
 name_is name option e =
     (bytes_eq-Decides name (row_of option).word).0 (first_holds (λ o. bytes_eq name (row_of o).word) (Conf ∷ Now ∷ Label ∷ Request ∷ Nonce ∷ Wanted ∷ Script ∷ []) option e)
 
-option_named : (test : CommandOption → Bool) (name : List ℕ) (option : CommandOption) → option_of name ≡ Some option
+pub option_named : (test : CommandOption → Bool) (name : List ℕ) (option : CommandOption) → option_of name ≡ Some option
     → unwrap_or (option_map test (option_of name)) false ≡ test option
 option_named test name option e = ap (λ (found : Option CommandOption). unwrap_or (option_map test found) false) e
 
 -- a test that holds of the option of a name holds of some option
-named_option : (found : Option CommandOption) (test : CommandOption → Bool) → unwrap_or (option_map test found) false ≡ true
+pub named_option : (found : Option CommandOption) (test : CommandOption → Bool) → unwrap_or (option_map test found) false ≡ true
     → (option : CommandOption) × (found ≡ Some option) × (test option ≡ true)
 named_option None test holds = absurd cc
 named_option (Some option) test holds = (option, refl, holds)
@@ -124,18 +124,18 @@ none_found option [] none = refl
 none_found option (p ∷ done) none =
     let parts = or_false (has_key option p) (list_any (has_key option) done) none in rw parts.0 (none_found option done parts.1)
 
-found_none : (option : List ℕ) (done : List (Pair (List ℕ))) → value_of done option ≡ None → list_any (has_key option) done ≡ false
+pub found_none : (option : List ℕ) (done : List (Pair (List ℕ))) → value_of done option ≡ None → list_any (has_key option) done ≡ false
 found_none option [] none = refl
 found_none option (p ∷ done) none = elim (cases_Bool (has_key option p)) [
   | inl same ↦ let some : Some p.value ≡ None = rw same at none in absurd cc
   | inr other ↦ rw other (found_none option done (rw other at none))
 ]
 
-value_none : (option : List ℕ) (done : List (Pair (List ℕ))) → list_any (has_key option) done ≡ false → value_of done option ≡ None
+pub value_none : (option : List ℕ) (done : List (Pair (List ℕ))) → list_any (has_key option) done ≡ false → value_of done option ≡ None
 value_none option done none = ap (λ (found : Option (Pair (List ℕ))). option_map (λ pair. pair.value) found) (none_found option done none)
 
 -- the value with one more pair, whose key is new
-value_more : (option : List ℕ) (done : List (Pair (List ℕ))) (p : Pair (List ℕ)) → list_any (has_key p.key) done ≡ false
+pub value_more : (option : List ℕ) (done : List (Pair (List ℕ))) (p : Pair (List ℕ)) → list_any (has_key p.key) done ≡ false
     → value_of (done ++ (p ∷ [])) option ≡ (if bytes_eq p.key option then Some p.value else value_of done option)
 value_more option [] p none = elim (cases_Bool (bytes_eq p.key option)) [
   | inl same ↦ rw same refl
@@ -154,7 +154,7 @@ value_more option (q ∷ done) p none =
       | inr other ↦ rw other (value_more option done p parts.1)
     ]
 
-snoc_test : (test : Pair (List ℕ) → Bool) (done : List (Pair (List ℕ))) (p : Pair (List ℕ)) → list_all test done ≡ true → test p ≡ true → list_all test (done ++ (p ∷ [])) ≡ true
+pub snoc_test : (test : Pair (List ℕ) → Bool) (done : List (Pair (List ℕ))) (p : Pair (List ℕ)) → list_all test done ≡ true → test p ≡ true → list_all test (done ++ (p ∷ [])) ≡ true
 snoc_test test done p all is = list_all-append test done (p ∷ []) ∙ rw (all, is) refl
 
 -- the options with one more

@@ -3,9 +3,11 @@ use Rattle.std.specs.Prelude.{◌≡◌, ◌⊎◌, ◌<◌, ◌^◌, ⊤, ℕ, 
 use Rattle.std.specs.Str.Parse.{digits_value}
 use Rattle.sfv_text.specs.Keys.{value_of}
 use Rattle.sfv_text.specs.declared.pair.Pair.{Pair}
+use Rattle.command_line.specs.Names.{command_word}
 use Rattle.command_line.specs.Numbers.{IsCount, IsSeed}
 use Rattle.command_line.specs.Options.{is_nonce, AreOptions}
 use Rattle.command_line.specs.declared.options.TheConstants.{MAX_MOMENT_DIGITS}
+use Rattle.command_line.specs.declared.options.CommandName.{CommandName}
 use Rattle.command_line.specs.declared.options.CommandName.TheVariants as name
 use Rattle.command_line.specs.declared.command.BaseWords as base
 use Rattle.command_line.specs.declared.command.VerifyWords as verify
@@ -61,6 +63,8 @@ pub record SampleWords : Type 0 where
 pub data CommandLine : Type 0 where
   -- what the program does
   Help : CommandLine
+  -- what a command does
+  HelpOf : CommandName → CommandLine
   -- its version
   Version : CommandLine
   -- the signature base over the components that PARAMS cover, by a configuration or without one,
@@ -79,11 +83,12 @@ pub data CommandLine : Type 0 where
   -- the summary of the report on a chain that is drawn from a seed, with so many hops
   Sample : SampleWords → CommandLine
 
--- the arguments are `base`, PARAMS and the options of `base`
+-- the arguments are `base`, PARAMS and the options of `base`, and not `base --help`
 pub record SpellsBase (arguments : List (List ℕ)) (base : BaseWords) : Type 0 where
   pub words : List (List ℕ)
   pub options : List (Pair (List ℕ))
   pub joined : arguments ≡ codes "base" ∷ base.params ∷ words
+  pub asks : ¬ (base.params ∷ words ≡ codes "--help" ∷ [])
   pub are : AreOptions name.Base words options
   pub conf_is : base.conf ≡ value_of options (codes "--conf")
   pub request_is : base.request ≡ value_of options (codes "--request")
@@ -144,7 +149,10 @@ pub record SpellsSample (arguments : List (List ℕ)) (sample : SampleWords) : T
 
 -- the arguments spell the command
 abbrev pub IsCommand : List (List ℕ) → CommandLine → Type 0
-IsCommand arguments Help = arguments ≡ codes "--help" ∷ []
+IsCommand arguments Help = (arguments ≡ codes "--help" ∷ []) ⊎ (arguments ≡ codes "help" ∷ [])
+IsCommand arguments (HelpOf command) =
+    (arguments ≡ command_word command ∷ codes "--help" ∷ [])
+    ⊎ (arguments ≡ codes "help" ∷ command_word command ∷ [])
 IsCommand arguments Version = arguments ≡ codes "--version" ∷ []
 IsCommand arguments (Base words) = SpellsBase arguments words
 IsCommand arguments (Verify words) = SpellsVerify arguments words
@@ -160,6 +168,7 @@ NoCommand arguments = (command : CommandLine) → ¬ IsCommand arguments command
 -- the file of the configuration
 abbrev pub conf_of : CommandLine → Option (List ℕ)
 conf_of Help = None
+conf_of (HelpOf command) = None
 conf_of Version = None
 conf_of (Base words) = words.conf
 conf_of (Verify words) = Some words.conf
@@ -171,6 +180,7 @@ conf_of (Sample words) = None
 -- the file of the request that the input answers
 abbrev pub request_of : CommandLine → Option (List ℕ)
 request_of Help = None
+request_of (HelpOf command) = None
 request_of Version = None
 request_of (Base words) = words.request
 request_of (Verify words) = words.request
@@ -236,6 +246,7 @@ sample_words words = record { seed = words.seed; count = words.count }
 -- what a command with borrowed words stands for
 abbrev pub line_of : Command → CommandLine
 line_of command.Help = Help
+line_of (command.HelpOf name) = HelpOf name
 line_of command.Version = Version
 line_of (command.Base words) = Base (base_words words)
 line_of (command.Verify words) = Verify (verify_words words)

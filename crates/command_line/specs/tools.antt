@@ -1,2 +1,3 @@
 pub mod After
 pub mod Found
+pub mod Wrong

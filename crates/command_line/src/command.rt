@@ -1,7 +1,10 @@
 //! The arguments of the program.
 
-ghost use Rattle.std.specs.Prelude.{◌≡◌, drop, map, codes, IfSome, IfNone, string_bytes};
-ghost use Rattle.command_line.specs.Command.{HasRightNonce, IsCommand, NoCommand, line_of, IsTimely};
+ghost use Rattle.std.specs.Prelude.{◌≡◌, ◌∷◌, [], drop, false, None, map, codes, IfSome, IfNone, string_bytes};
+ghost use Rattle.command_line.specs.Command.{HasRightNonce, IsCommand, NoCommand, SpellsAudit, SpellsBase, SpellsRewrite, SpellsSample, SpellsSign, SpellsVerify, line_of, IsTimely};
+ghost use Rattle.command_line.specs.Command.{AuditWords as AuditLine, BaseWords as BaseLine, RewriteWords as RewriteLine, SampleWords as SampleLine, SignWords as SignLine, VerifyWords as VerifyLine};
+ghost use Rattle.command_line.specs.Names.{command_of, command_word};
+ghost use Rattle.command_line.specs.tools.Wrong.{asks_help};
 ghost use Rattle.command_line.specs.tools.After.{IsAfter, NoneAfter};
 
 use crate::options::{CommandName, moment_of, read_options};
@@ -78,8 +81,10 @@ pub struct SampleWords {
 /// What the arguments ask for.
 #[derive(Clone, Copy)]
 pub enum Command<'a> {
-    /// `--help`: what the program does.
+    /// `--help`, or `help`: what the program does.
     Help,
+    /// The name of a command and `--help`, or `help` and that name: what the command does.
+    HelpOf(CommandName),
     /// `--version`: its version.
     Version,
     /// `base PARAMS`: the signature base over the components that PARAMS cover (RFC 9421 section
@@ -105,6 +110,42 @@ pub fn after_name(arguments: &[String]) -> &[String]
     match arguments {
         [] => &[],
         [_, after @ ..] => after,
+    }
+}
+
+/// The first word, and those after it.
+pub fn first_of(words: &[String]) -> Option<(&str, &[String])>
+    ensures some { IfSome result (λ parts. map string_bytes words.now
+        ≡ parts.0.now ∷ map string_bytes parts.1.now) }
+    ensures none { IfNone result (map string_bytes words.now ≡ []) }
+{
+    let (first, others) = words.split_first()?;
+    Some((first.as_str(), others))
+}
+
+/// Whether the words are `--help` alone.
+fn asks_help(words: &[String]) -> bool
+    ensures { result ≡ asks_help (map string_bytes words.now) }
+{
+    match words {
+        [word] => word.as_str() == "--help",
+        _ => false,
+    }
+}
+
+/// The words after `help`.
+fn read_help_word<'a>(words: &'a [String]) -> Option<Command<'a>>
+    ensures some { IfSome result
+        (λ command. IsAfter (codes "help") (map string_bytes words.now) (line_of command)) }
+    ensures none { IfNone result (NoneAfter (codes "help") (map string_bytes words.now)) }
+{
+    let Some((name, others)) = first_of(words) else {
+        return Some(Command::Help);
+    };
+    let command = CommandName::of_word(name)?;
+    match first_of(others) {
+        None => Some(Command::HelpOf(command)),
+        Some(_) => None,
     }
 }
 
@@ -136,14 +177,18 @@ fn read_version<'a>(words: &'a [String]) -> Option<Command<'a>>
 
 /// The words after `base`.
 fn read_base<'a>(words: &'a [String]) -> Option<Command<'a>>
+    requires { asks_help (map string_bytes words.now) ≡ false }
     ensures some { IfSome result
         (λ command. IsAfter (codes "base") (map string_bytes words.now) (line_of command)) }
-    ensures none { IfNone result (NoneAfter (codes "base") (map string_bytes words.now)) }
+    ensures none { IfNone result ((base : BaseLine)
+        → ¬ SpellsBase (codes "base" ∷ map string_bytes words.now) base) }
 {
-    let (params, words) = words.split_first()?;
-    let found = read_options(CommandName::Base, words)?;
+    let Some((params, others)) = first_of(words) else {
+        return None;
+    };
+    let found = read_options(CommandName::Base, others)?;
     Some(Command::Base(BaseWords {
-        params: params.as_str(),
+        params,
         conf: found.conf,
         request: found.request,
     }))
@@ -153,7 +198,8 @@ fn read_base<'a>(words: &'a [String]) -> Option<Command<'a>>
 fn read_verify<'a>(words: &'a [String]) -> Option<Command<'a>>
     ensures some { IfSome result
         (λ command. IsAfter (codes "verify") (map string_bytes words.now) (line_of command)) }
-    ensures none { IfNone result (NoneAfter (codes "verify") (map string_bytes words.now)) }
+    ensures none { IfNone result ((verify : VerifyLine)
+        → ¬ SpellsVerify (codes "verify" ∷ map string_bytes words.now) verify) }
 {
     let found = read_options(CommandName::Verify, words)?;
     let conf = found.conf?;
@@ -170,7 +216,8 @@ fn read_verify<'a>(words: &'a [String]) -> Option<Command<'a>>
 fn read_sign<'a>(words: &'a [String]) -> Option<Command<'a>>
     ensures some { IfSome result
         (λ command. IsAfter (codes "sign") (map string_bytes words.now) (line_of command)) }
-    ensures none { IfNone result (NoneAfter (codes "sign") (map string_bytes words.now)) }
+    ensures none { IfNone result ((sign : SignLine)
+        → ¬ SpellsSign (codes "sign" ∷ map string_bytes words.now) sign) }
 {
     let found = read_options(CommandName::Sign, words)?;
     let conf = found.conf?;
@@ -191,7 +238,8 @@ fn read_sign<'a>(words: &'a [String]) -> Option<Command<'a>>
 fn read_rewrite<'a>(words: &'a [String]) -> Option<Command<'a>>
     ensures some { IfSome result
         (λ command. IsAfter (codes "rewrite") (map string_bytes words.now) (line_of command)) }
-    ensures none { IfNone result (NoneAfter (codes "rewrite") (map string_bytes words.now)) }
+    ensures none { IfNone result ((rewrite : RewriteLine)
+        → ¬ SpellsRewrite (codes "rewrite" ∷ map string_bytes words.now) rewrite) }
 {
     let found = read_options(CommandName::Rewrite, words)?;
     let script = found.script?;
@@ -207,7 +255,8 @@ fn read_rewrite<'a>(words: &'a [String]) -> Option<Command<'a>>
 fn read_audit<'a>(words: &'a [String]) -> Option<Command<'a>>
     ensures some { IfSome result
         (λ command. IsAfter (codes "audit") (map string_bytes words.now) (line_of command)) }
-    ensures none { IfNone result (NoneAfter (codes "audit") (map string_bytes words.now)) }
+    ensures none { IfNone result ((audit : AuditLine)
+        → ¬ SpellsAudit (codes "audit" ∷ map string_bytes words.now) audit) }
 {
     let found = read_options(CommandName::Audit, words)?;
     let conf = found.conf?;
@@ -218,7 +267,8 @@ fn read_audit<'a>(words: &'a [String]) -> Option<Command<'a>>
 fn read_sample<'a>(words: &'a [String]) -> Option<Command<'a>>
     ensures some { IfSome result
         (λ command. IsAfter (codes "sample") (map string_bytes words.now) (line_of command)) }
-    ensures none { IfNone result (NoneAfter (codes "sample") (map string_bytes words.now)) }
+    ensures none { IfNone result ((sample : SampleLine)
+        → ¬ SpellsSample (codes "sample" ∷ map string_bytes words.now) sample) }
 {
     let [seed, count] = words else {
         return None;
@@ -228,22 +278,53 @@ fn read_sample<'a>(words: &'a [String]) -> Option<Command<'a>>
     Some(Command::Sample(SampleWords { seed, count }))
 }
 
+/// The words after the name of a command.
+fn read_command<'a>(command: CommandName, words: &'a [String]) -> Option<Command<'a>>
+    ensures some { IfSome result
+        (λ line. IsAfter (command_word command) (map string_bytes words.now) (line_of line)) }
+    ensures none { IfNone result (NoneAfter (command_word command) (map string_bytes words.now)) }
+{
+    if asks_help(words) {
+        return Some(Command::HelpOf(command));
+    }
+    match command {
+        CommandName::Base => read_base(words),
+        CommandName::Verify => read_verify(words),
+        CommandName::Sign => read_sign(words),
+        CommandName::Rewrite => read_rewrite(words),
+        CommandName::Audit => read_audit(words),
+        CommandName::Sample => read_sample(words),
+    }
+}
+
+/// The words after a name that is no command's.
+fn read_other<'a>(name: &str, words: &'a [String]) -> Option<Command<'a>>
+    requires { command_of name.now ≡ None }
+    ensures some { IfSome result
+        (λ command. IsAfter name.now (map string_bytes words.now) (line_of command)) }
+    ensures none { IfNone result (NoneAfter name.now (map string_bytes words.now)) }
+{
+    if name == "--help" {
+        return read_help(words);
+    }
+    if name == "--version" {
+        return read_version(words);
+    }
+    if name == "help" {
+        return read_help_word(words);
+    }
+    None
+}
+
 /// The words after a name.
 fn read_named<'a>(name: &str, words: &'a [String]) -> Option<Command<'a>>
     ensures some { IfSome result
         (λ command. IsAfter name.now (map string_bytes words.now) (line_of command)) }
     ensures none { IfNone result (NoneAfter name.now (map string_bytes words.now)) }
 {
-    match name {
-        "--help" => read_help(words),
-        "--version" => read_version(words),
-        "base" => read_base(words),
-        "verify" => read_verify(words),
-        "sign" => read_sign(words),
-        "rewrite" => read_rewrite(words),
-        "audit" => read_audit(words),
-        "sample" => read_sample(words),
-        _ => None,
+    match CommandName::of_word(name) {
+        Some(command) => read_command(command, words),
+        None => read_other(name, words),
     }
 }
 

@@ -8,7 +8,7 @@ ghost use Rattle.byte_grammar.specs.Classes.{is_digit};
 ghost use Rattle.sfv_text.specs.declared.pair.Pair.{Pair};
 ghost use Rattle.command_line.specs.Numbers.{is_number};
 ghost use Rattle.command_line.specs.Options.{is_moment, is_nonce, is_taken_by, option_of, row_of, AreOptions};
-ghost use Rattle.command_line.specs.tools.Found.{word_in, AddsOption, AreFoundBefore, IsNextOption, HasOptions};
+ghost use Rattle.command_line.specs.tools.Found.{excluding_in, word_in, AddsOption, AreFoundBefore, IsNextOption, HasOptions};
 
 use nonces::MAX_NONCE_BYTES;
 use sfv_text::{are_string_bytes, is_key};
@@ -16,7 +16,7 @@ use sfv_text::{are_string_bytes, is_key};
 /// The most digits of a moment.
 pub const MAX_MOMENT_DIGITS: usize = 15;
 
-/// The commands with options.
+/// The commands that have a name.
 #[derive(Clone, Copy)]
 pub enum CommandName {
     /// `base`.
@@ -29,6 +29,8 @@ pub enum CommandName {
     Rewrite,
     /// `audit`.
     Audit,
+    /// `sample`, which has no options.
+    Sample,
 }
 
 /// The options.
@@ -103,7 +105,7 @@ pub fn moment_of(word: &str) -> u64
 
 impl CommandOption {
     /// The option of that name.
-    fn of_word(word: &str) -> Option<CommandOption>
+    pub fn of_word(word: &str) -> Option<CommandOption>
         ensures { result ≡ option_of word.now }
     {
         match word {
@@ -119,14 +121,14 @@ impl CommandOption {
     }
 
     /// Whether the command takes the option.
-    fn is_taken_by(self, command: CommandName) -> bool
+    pub fn is_taken_by(self, command: CommandName) -> bool
         ensures { result ≡ is_taken_by command self }
     {
         match self {
-            CommandOption::Conf => true,
+            CommandOption::Conf => !matches!(command, CommandName::Sample),
             CommandOption::Now => matches!(command, CommandName::Verify | CommandName::Sign),
             CommandOption::Label => matches!(command, CommandName::Verify | CommandName::Rewrite),
-            CommandOption::Request => !matches!(command, CommandName::Audit),
+            CommandOption::Request => !matches!(command, CommandName::Audit | CommandName::Sample),
             CommandOption::Nonce => matches!(command, CommandName::Sign),
             CommandOption::Wanted => matches!(command, CommandName::Sign),
             CommandOption::Script => matches!(command, CommandName::Rewrite),
@@ -134,7 +136,7 @@ impl CommandOption {
     }
 
     /// Whether the option may have the word.
-    fn may_have(self, word: &str) -> bool
+    pub fn may_have(self, word: &str) -> bool
         ensures { result ≡ (row_of self).may_have word.now }
     {
         match self {
@@ -151,7 +153,7 @@ impl CommandOption {
 
 impl<'a> OptionWords<'a> {
     /// No option has a word.
-    fn new() -> OptionWords<'a>
+    pub fn new() -> OptionWords<'a>
         ensures { (option : CommandOption) → word_in result option ≡ None }
     {
         OptionWords {
@@ -166,7 +168,7 @@ impl<'a> OptionWords<'a> {
     }
 
     /// Whether the option has a word.
-    fn has(self, option: CommandOption) -> bool
+    pub fn has(self, option: CommandOption) -> bool
         ensures { result ≡ is_some (word_in self.entry option) }
     {
         match option {
@@ -180,8 +182,20 @@ impl<'a> OptionWords<'a> {
         }
     }
 
+    /// The option with a word beside which this one can't come: a nonce, and a message that asks
+    /// for signatures.
+    pub fn excluding(self, option: CommandOption) -> Option<CommandOption>
+        ensures { result ≡ excluding_in self.entry option }
+    {
+        match option {
+            CommandOption::Nonce if self.wanted.is_some() => Some(CommandOption::Wanted),
+            CommandOption::Wanted if self.nonce.is_some() => Some(CommandOption::Nonce),
+            _ => None,
+        }
+    }
+
     /// With the word of an option.
-    fn with(self, option: CommandOption, word: &'a str) -> OptionWords<'a>
+    pub fn with(self, option: CommandOption, word: &'a str) -> OptionWords<'a>
         ensures { (other : CommandOption) → word_in result other ≡
             (if bytes_eq (row_of option).word (row_of other).word then Some word.now
             else word_in self.entry other) }

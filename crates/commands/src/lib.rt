@@ -40,7 +40,10 @@ mod verify;
 pub use audit::write_audit;
 pub use base::write_base;
 pub use configured::read_configuration;
-pub use help::{HELP_TEXT, VERSION_TEXT, write_help, write_version};
+pub use help::{
+    AUDIT_TEXT, BASE_TEXT, COMMANDS, END_TEXT, REWRITE_TEXT, SAMPLE_TEXT, SIGN_TEXT, TITLE_TEXT,
+    VERIFY_TEXT, VERSION_TEXT, write_help, write_help_of, write_version,
+};
 pub use laws::{
     auditing_has_one_outcome, each_layer_has_an_answer, each_layer_is_decided,
     rewriting_has_one_outcome, signing_has_one_outcome, verdicts_have_one_outcome,

@@ -1,7 +1,7 @@
 -- What was read of a context, so that each of its structured fields is read once for all labels
 -- (RFC 9421 sections 2.1.1 and 2.1.2).
 use Rattle.std.specs.Prelude.{◌≡◌, ℕ, Option, Some, option_map, IfSome, List, Result, Ok, Err, codes, if◌then◌else◌}
-use Rattle.std.specs.List.{All}
+use Rattle.std.specs.List.{All, Contains}
 use Rattle.sfv_text.specs.declared.pair.Pair.{Pair}
 use Rattle.sfv_text.specs.declared.value.Member.{Member}
 use Rattle.sfv_read.specs.Reads.{ReadsDict}
@@ -53,6 +53,11 @@ IsStrictTextIn context own =
 abbrev pub IsDictIn : MessageContext → FieldAnswer (List (Pair Member)) → Type 0
 IsDictIn context own =
     IfSome (text_at context own.field) (λ text. DictRow text own.answer)
+
+-- the field has a reading among these
+abbrev pub HasReading : {T : Type 0} → List (FieldAnswer T) → ContextField → Type 0
+HasReading {T} own field =
+    (answer : Result T Lack) × Contains own (record { field = field; answer = answer })
 
 -- Each was read of a field of the context. The parameters of a query, which are kept too, know of
 -- which query they are.

@@ -24,6 +24,9 @@ pub(crate) enum Form<'a> {
 pub(crate) fn form_of(params: &Params) -> Form<'_>
     ensures { form_meant result ≡ form_of params.now }
 {
+    if params.is_empty() {
+        return Form::Plain;
+    }
     if has_param(params, b"bs") {
         return Form::ByteSequences;
     }

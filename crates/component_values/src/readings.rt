@@ -1,7 +1,8 @@
 //! What was read of a context.
 
-ghost use Rattle.std.specs.Prelude.{◌≡◌, ◌++◌, ◌∷◌, [], IfSome, OnErr, OnOk};
+ghost use Rattle.std.specs.Prelude.{◌≡◌, ◌++◌, ◌∷◌, [], IfNone, IfSome, OnErr, OnOk};
 ghost use Rattle.std.specs.List.{Contains};
+ghost use Rattle.component_values.specs.Readings.{HasReading};
 ghost use Rattle.component_values.specs.tools.Rows.{field_meant};
 
 use crate::context::Context;
@@ -26,8 +27,9 @@ fn answer_for<'k, T>(
     answers: &'k [FieldAnswer<T>],
     field: FieldRef<'_>,
 ) -> Option<&'k Result<T, Lack>>
-    ensures { IfSome result (λ answer.
+    ensures some { IfSome result (λ answer.
         Contains answers.now (record { field = field_meant field.entry; answer = answer.now })) }
+    ensures none { IfNone result (¬ HasReading answers.now (field_meant field.entry)) }
 {
     for own in answers {
         if own.field.is(field) {
@@ -71,7 +73,7 @@ impl Readings {
     ghost use Rattle.derived_values.specs.Answers.{AnswersRow};
     ghost use Rattle.component_values.specs.Context.{MessageContext, context_of};
     ghost use Rattle.component_values.specs.Values.{KindRow, KeyRow, MemberRow};
-    ghost use Rattle.component_values.specs.Readings.{AreReadOf, field_of, text_at};
+    ghost use Rattle.component_values.specs.Readings.{AreReadOf, HasReading, field_of, text_at};
 
     /// Nothing was read yet. It takes no memory.
     pub fn new(alloc: Global) -> Readings
@@ -99,6 +101,8 @@ impl Readings {
         ensures row { AnswersRow (KindRow (kind_in (context_of context.now).types id.now.name)
             (joined_value lines.entry)) result }
         ensures readings { AreReadOf (context_of context.now) self.new }
+        ensures kept { AnswersRow (λ _. HasReading self.new.texts (field_of id.now)) result }
+        ensures once { HasReading self.old.texts (field_of id.now) → self.new ≡ self.old }
     {
         let field = FieldRef::of(id);
         if let Some(answer) = answer_for(self.texts.as_slice(), field) {
@@ -125,6 +129,8 @@ impl Readings {
             ≡ Some (joined_value lines) }
         ensures row { AnswersRow (MemberRow key.now (joined_value lines.entry)) result }
         ensures readings { AreReadOf (context_of context.now) self.new }
+        ensures kept { AnswersRow (λ _. HasReading self.new.dicts (field_of id.now)) result }
+        ensures once { HasReading self.old.dicts (field_of id.now) → self.new ≡ self.old }
     {
         let field = FieldRef::of(id);
         if let Some(answer) = answer_for(self.dicts.as_slice(), field) {

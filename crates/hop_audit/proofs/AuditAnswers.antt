@@ -1,5 +1,6 @@
 -- What an audit answers: the first fault, or the report of items that have none.
 use Rattle.std.proofs.Common.{◌≡◌, ◌≢◌, ◌-◌, ℕ, List, length, Option, Some, Result, Ok, Err, refl, sym, ap, subst, ◌∙◌, inl, inr, arith}
+use Rattle.std.specs.Prelude.{IfOk}
 use Rattle.byte_grammar.specs.Causes.{AnswersWhere}
 use Rattle.component_values.specs.Context.{HasWholeMessage, MessageContext, answers_head, context_of, context_with}
 use Rattle.msg_body.specs.Messages.{IsMessage, Message}
@@ -15,6 +16,7 @@ use Rattle.hop_audit.specs.declared.hop_lines.End.{End}
 use Rattle.hop_audit.specs.declared.line.AuditLine.{AuditLine}
 use Rattle.recording.specs.declared.chain.RecordedChain.{RecordedChain as HeldChain}
 use Rattle.hop_audit.specs.ChainFaults.{IsChainFault}
+use Rattle.hop_audit.specs.Report.{IsAudit}
 use Rattle.recording.specs.Chains.{Subject, requests, responses, related_items, role_of}
 use Rattle.hop_audit.specs.ChainValues.{AnswersRequest, one_request, reading_of}
 use Rattle.hop_audit.specs.tools.Judged.{SaysRelated, SaysReport}
@@ -93,6 +95,11 @@ module _ (items : List PlacedItem) where
     related_answered (NoMessage index own) fault says other = first_answered (NoMessage index own) fault (says items held)
     related_answered (NoScript index own) fault says other = first_answered (NoScript index own) fault (says items held)
     related_answered (ScriptTooLong index) fault says other = first_answered (ScriptTooLong index) fault (says items held)
+
+    -- the report is that of the items
+    pub report_told : (audit : ChainAudit) (result : Result (List AuditLine) ChainFault) → SaysReport audit chain result → IfOk result (IsAudit (meaning audit.conf.now) items)
+    report_told audit (Ok lines) says = says.0 items held
+    report_told audit (Err fault) says = tt
 
     pub report_answered : (audit : ChainAudit) (result : Result (List AuditLine) ChainFault) → SaysReport audit chain result → (fault : ChainFault) → fault ≢ Memory
         → AnswersWhere Memory result fault (IsChainFault items fault)

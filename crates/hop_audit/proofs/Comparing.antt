@@ -1,11 +1,15 @@
 -- What becomes of components, one after another.
-use Rattle.std.proofs.Common.{◌≡◌, ◌<◌, ◌≤◌, ◌+◌, ℕ, Bool, true, false, Option, Some, None, List, length, get_or, take, Result, Ok, Err, refl, sym, subst, ap, ◌∙◌}
-use Rattle.std.specs.Prelude.{◌↔◌, IfOk, IsTrue, is_some, option_map, is_err, slice_get}
+use Rattle.std.proofs.Common.{◌≡◌, ◌≢◌, ◌<◌, ◌≤◌, ◌+◌, ℕ, Bool, true, false, Option, Some, None, List, [], inl, inr, length, get_or, take, Result, Ok, Err, refl, sym, subst, ap, ◌∙◌}
+use Rattle.std.specs.Prelude.{◌↔◌, IfOk, IsTrue, OnErr, OnOk, is_err, slice_get}
+use Rattle.std.specs.Str.{bytes_eq}
 use Rattle.std.specs.List.{All}
-use Rattle.std.proofs.lemmas.Bool.{false≢true}
+use Rattle.std.proofs.lemmas.Bool.{cases_Bool, false≢true}
 use Rattle.std.proofs.lemmas.List.Elements.{All-more, All-weaker, All-same}
 use Rattle.std.proofs.lemmas.List.{take_all}
 use Rattle.std.proofs.lemmas.Option.{slice_get-get_or}
+use Rattle.sfv_text.specs.Keys.{put, value_of}
+use Rattle.sfv_text.specs.declared.pair.Pair.{Pair}
+use Rattle.sfv_text.proofs.PutLaws.{put_value}
 use Rattle.msg_body.specs.Messages.{Message}
 use Rattle.component_ids.specs.declared.id.ComponentId.{ComponentId}
 use Rattle.component_ids.specs.declared.params.SigParams.{SigParams}
@@ -19,37 +23,18 @@ use Rattle.signatures.specs.declared.place.Place.{Place}
 use Rattle.signatures.specs.declared.rule.Rule.{Rule}
 use Rattle.signatures.proofs.Reading.{has_no_failure_where_read, has_one_signature}
 use Rattle.byte_grammar.specs.declared.memory.Memory.{Memory}
+use Rattle.hop_audit.specs.declared.comparison.Compared.{Compared}
 use Rattle.hop_audit.specs.declared.comparison.Comparison.{Comparison}
+use Rattle.hop_audit.specs.declared.comparison.ComponentFate.{ComponentFate}
+use Rattle.hop_audit.specs.declared.comparison.ComponentFate.TheVariants as component
 use Rattle.hop_audit.specs.declared.line.Fate.{Fate}
 use Rattle.hop_audit.specs.declared.line.Fate.TheVariants.{Dropped, Changed, Lacking, Kept}
 use Rattle.hop_audit.specs.Fates.{ComesToBoth, HasChanged, HasStayed, IsFate, LacksValue}
-use Rattle.hop_audit.specs.tools.Compared.{AreComparedSoFar, IsComparison, LacksSoFar, SaysCompared}
+use Rattle.hop_audit.specs.tools.Compared.{AreCompared, AreComparedSoFar, IsComparison, IsComponentFate, LacksSoFar, SaysCompared, lacking_with}
 use Rattle.hop_audit.proofs.Fates.{all_kept, stays_unchanged}
 
 abbrev Answer : Type 0
 Answer = Result (List ℕ) Lack
-
--- the first that lacks a value, where this one comes next
-abbrev pub lacking_with : Option ComponentId → Bool → ComponentId → Option ComponentId
-lacking_with None true id = Some id
-lacking_with None false id = None
-lacking_with (Some first) lacks id = Some first
-
-module _ {T : Type 0} (f : T → ComponentId) (id : ComponentId) where
-  -- it is the first
-  pub lacking_first : (first : Option T) → is_some first ≡ false → lacking_with (option_map f first) true id ≡ Some id
-  lacking_first None none = refl
-  lacking_first (Some first) none = absurd (false≢true (sym none))
-
-  -- it isn't one
-  pub lacking_none : (first : Option T) → is_some first ≡ false → lacking_with (option_map f first) false id ≡ option_map f first
-  lacking_none None none = refl
-  lacking_none (Some first) none = refl
-
-  -- another was the first
-  pub lacking_after : (first : Option T) (lacks : Bool) → is_some first ≡ true → lacking_with (option_map f first) lacks id ≡ option_map f first
-  lacking_after None lacks some = absurd (false≢true some)
-  lacking_after (Some first) lacks some = refl
 
 -- what the component comes to in the two messages
 pub comes_to_both : (context : MessageContext) (other : Message) (c : Comparison) (id : ComponentId) (was now : Answer) → IsComparison context other c
@@ -58,6 +43,46 @@ comes_to_both context other c id was now is before after = record {
   before = subst (λ (m : MessageContext). ComesTo m id was) is.before before;
   after = subst (λ (m : MessageContext). ComesTo m id now) is.after after;
 }
+
+-- ---- a component by itself
+
+module _ (context : MessageContext) (other : Message) (id : ComponentId) where
+  -- values that differ, or of which one is lacking
+  pub changed_between : (was now : Answer) → ComesToBoth context other id was now → ¬ (was ≡ now) → IsComponentFate context other id component.Changed
+  changed_between was now both apart = (was, now, both, apart)
+
+  same_in_both : (was now : Answer) → ComesToBoth context other id was now → was ≡ now → ComesToBoth context other id was was
+  same_in_both was now both same = record { before = both.before; after = subst (λ (a : Answer). ComesTo (context_with context other) id a) (sym same) both.after }
+
+  pub lacking_in_both : (was now : Answer) → ComesToBoth context other id was now → was ≡ now → is_err was ≡ true → IsComponentFate context other id component.Lacking
+  lacking_in_both (Ok value) now both same lacks = absurd (false≢true lacks)
+  lacking_in_both (Err lack) now both same lacks = ((Err lack, same_in_both (Err lack) now both same), (lack, both.before))
+
+  pub kept_in_both : (was now : Answer) → ComesToBoth context other id was now → was ≡ now → is_err was ≡ false → IsComponentFate context other id component.Kept
+  kept_in_both (Ok value) now both same has = (value, same_in_both (Ok value) now both same)
+  kept_in_both (Err lack) now both same has = absurd (false≢true (sym has))
+
+-- nothing was compared
+pub none_compared : (context : MessageContext) (other : Message) → AreCompared context other []
+none_compared context other text = tt
+
+-- one more was
+pub compared_more : (context : MessageContext) (other : Message) (pairs : List (Pair Compared)) (text : List ℕ) (own : Compared) → AreCompared context other pairs → IsComponentFate context other own.id own.fate
+    → AreCompared context other (put pairs text own)
+compared_more context other pairs text own are is name = elim (cases_Bool (bytes_eq text name)) [
+  | inl same ↦
+      let there : value_of (put pairs text own) name ≡ Some own = put_value text own name pairs ∙ rw same refl in
+      rw there is
+  | inr apart ↦
+      let there : value_of (put pairs text own) name ≡ value_of pairs name = put_value text own name pairs ∙ rw apart refl in
+      rw there (are name)
+]
+
+-- whether it could be kept or not
+pub compared_after : {R E : Type 0} (context : MessageContext) (other : Message) (pairs now : List (Pair Compared)) (text : List ℕ) (own : Compared) (result : Result R E) → AreCompared context other pairs
+    → IsComponentFate context other own.id own.fate → OnOk result (now ≡ put pairs text own) → OnErr result (now ≡ pairs) → AreCompared context other now
+compared_after context other pairs now text own (Ok value) are is added same = rw added (compared_more context other pairs text own are is)
+compared_after context other pairs now text own (Err fault) are is added same = rw same are
 
 module _ (context : MessageContext) (other : Message) (ids : List ComponentId) where
   -- ---- at the next component
@@ -69,26 +94,34 @@ module _ (context : MessageContext) (other : Message) (ids : List ComponentId) w
     further : (P : ComponentId → Type 0) → All P (take n ids) → P id → All P (take (n + 1) ids)
     further P all here = All-more P ids n id lt all (subst (λ (i : ComponentId). P i) is here)
 
-    pub changed_here : (lacking : Option ComponentId) (was now : Answer) → AreComparedSoFar context other ids n lacking → ComesToBoth context other id was now → ¬ (was ≡ now)
+    pub changed_here : (lacking : Option ComponentId) (fate : ComponentFate) → AreComparedSoFar context other ids n lacking → IsComponentFate context other id fate → fate ≡ component.Changed
         → SaysCompared context other ids (Changed id)
-    changed_here lacking was now so_far both apart = record {
+    changed_here lacking component.Changed so_far is changed = record {
       index = n;
       before = All-weaker (HasStayed context other) (λ i. ¬ HasChanged context other i) (stays_unchanged context other) (take n ids) so_far.stay;
       there = there;
-      holds = (was, now, both, apart);
+      holds = is;
     }
+    changed_here lacking component.Lacking so_far is changed = absurd (cc changed)
+    changed_here lacking component.Kept so_far is changed = absurd (cc changed)
 
-    lacks_further : (lacking : Option ComponentId) (was : Answer) → LacksSoFar context ids n lacking → ComesTo context id was → LacksSoFar context ids (n + 1) (lacking_with lacking (is_err was) id)
-    lacks_further (Some first) was so_far comes = so_far
-    lacks_further None (Ok value) so_far comes = further (λ i. ¬ LacksValue context i) so_far (λ lacks. lacks_no_value context id value lacks.0 comes lacks.1)
-    lacks_further None (Err lack) so_far comes = record { index = n; before = so_far; there = there; holds = (lack, comes) }
+    stays : (fate : ComponentFate) → IsComponentFate context other id fate → fate ≢ component.Changed → HasStayed context other id
+    stays component.Changed is not = absurd (not refl)
+    stays component.Lacking is not = is.0
+    stays component.Kept is not = (Ok is.0, is.1)
 
-    pub more_compared : (lacking : Option ComponentId) (was now : Answer) → AreComparedSoFar context other ids n lacking → ComesToBoth context other id was now → was ≡ now
-        → AreComparedSoFar context other ids (n + 1) (lacking_with lacking (is_err was) id)
-    more_compared lacking was now so_far both same = record {
-      stay = further (HasStayed context other) so_far.stay
-          (was, record { before = both.before; after = subst (λ (a : Answer). ComesTo (context_with context other) id a) (sym same) both.after });
-      lacks = lacks_further lacking was so_far.lacks both.before;
+    lacks_further : (lacking : Option ComponentId) (fate : ComponentFate) → LacksSoFar context ids n lacking → IsComponentFate context other id fate → fate ≢ component.Changed
+        → LacksSoFar context ids (n + 1) (lacking_with lacking fate id)
+    lacks_further (Some first) fate so_far is not = so_far
+    lacks_further None component.Changed so_far is not = absurd (not refl)
+    lacks_further None component.Lacking so_far is not = record { index = n; before = so_far; there = there; holds = is.1 }
+    lacks_further None component.Kept so_far is not = further (λ i. ¬ LacksValue context i) so_far (λ lacks. lacks_no_value context id is.0 lacks.0 is.1.before lacks.1)
+
+    pub more_compared : (lacking : Option ComponentId) (fate : ComponentFate) → AreComparedSoFar context other ids n lacking → IsComponentFate context other id fate → fate ≢ component.Changed
+        → AreComparedSoFar context other ids (n + 1) (lacking_with lacking fate id)
+    more_compared lacking fate so_far is not = record {
+      stay = further (HasStayed context other) so_far.stay (stays fate is not);
+      lacks = lacks_further lacking fate so_far.lacks is not;
     }
 
   -- ---- at the end

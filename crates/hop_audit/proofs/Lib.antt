@@ -19,3 +19,4 @@ mod Comparing
 mod JudgedHops
 mod CarriedTags
 mod ReadLabels
+mod LineTexts

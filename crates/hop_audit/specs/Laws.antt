@@ -1,5 +1,5 @@
 -- Laws of audits.
-use Rattle.std.specs.Prelude.{◌≡◌, ◌↔◌, ◌⊎◌, ⊤, ℕ, ◌+◌, Bool, true, IsTrue, Option, Some, List, slice_get}
+use Rattle.std.specs.Prelude.{◌≡◌, ◌↔◌, ◌⊎◌, ⊤, ℕ, ◌+◌, Bool, true, ◌&&◌, IsTrue, Option, Some, List, ◌++◌, slice_get, codes}
 use Rattle.std.specs.List.{All, Contains, list_all}
 use Rattle.msg_body.specs.Messages.{Message}
 use Rattle.component_ids.specs.declared.id.ComponentId.{ComponentId}
@@ -17,12 +17,17 @@ use Rattle.verdicts.specs.Laws.{IsTagOfTwo}
 use Rattle.verdicts.specs.Rules.{key_in}
 use Rattle.verdicts.specs.Verdicts.{IsVerdict}
 use Rattle.verdicts.specs.declared.outcome.Verdict.{Verdict}
-use Rattle.verdicts.specs.declared.outcome.Verdict.TheVariants.{Ok as Accepted}
+use Rattle.verdicts.specs.declared.outcome.Verdict.TheVariants.{Ok as Accepted, Rule as Failing}
+use Rattle.signatures.specs.declared.place.Place.{Place}
+use Rattle.signatures.specs.declared.place.Place.TheVariants.{Name, Identifier}
+use Rattle.component_ids.specs.Identifiers.{id_text}
+use Rattle.byte_grammar.specs.Classes.{is_line_byte}
+use Rattle.hop_audit.specs.Lines.{line_text}
 use Rattle.hop_audit.specs.declared.fault.ChainFault.{ChainFault}
 use Rattle.hop_audit.specs.declared.line.Fate.{Fate}
 use Rattle.hop_audit.specs.declared.line.Fate.TheVariants.{Dropped, Changed, Lacking, Kept}
 use Rattle.hop_audit.specs.declared.line.AuditLine.{AuditLine}
-use Rattle.hop_audit.specs.declared.line.AuditLine.TheVariants.{Message as MessageLine, Label as LabelLine}
+use Rattle.hop_audit.specs.declared.line.AuditLine.TheVariants.{Message as MessageLine, Unread as UnreadLine, Label as LabelLine}
 use Rattle.hop_audit.specs.ChainFaults.{IsChainFault}
 use Rattle.hop_audit.specs.ChainValues.{Chain, moments_of}
 use Rattle.hop_audit.specs.Fates.{IsFate}
@@ -196,3 +201,41 @@ IsKeptWithItsBaseAtHops = (conf : Configuration) (text : List ℕ) (items : List
     → AreItemsOf items chain → IsReport conf chain lines
     → Contains lines (LabelLine (index + 1) label permitted fate)
     → IsKeptWithItsBaseAt conf chain index label fate
+
+-- ---- lines
+
+-- the text is one line: it has one LF, at its end
+pub record IsLine (text : List ℕ) : Type 0 where
+  pub line : List ℕ
+  pub text_is : text ≡ line ++ codes "\n"
+  pub clean : IsTrue (list_all is_line_byte line)
+
+-- the text or the identifier where a rule fails, if any, has no end of a line
+abbrev pub is_clean_place : Place → Bool
+is_clean_place (Name text) = list_all is_line_byte text
+is_clean_place (Identifier id) = list_all is_line_byte (id_text id)
+is_clean_place place = true
+
+-- nor has that of a verdict
+abbrev pub is_clean_verdict : Verdict → Bool
+is_clean_verdict (Accepted keyid) = true
+is_clean_verdict (Failing rule place) = is_clean_place place
+
+-- nor has the identifier of the component that decides what becomes of a signature
+abbrev pub is_clean_fate : Fate → Bool
+is_clean_fate (Changed id) = list_all is_line_byte (id_text id)
+is_clean_fate (Lacking id) = list_all is_line_byte (id_text id)
+is_clean_fate fate = true
+
+-- what the line has from a message has no end of a line
+abbrev pub is_clean_line : AuditLine → Bool
+is_clean_line (MessageLine index label verdict) =
+    list_all is_line_byte label && is_clean_verdict verdict
+is_clean_line (UnreadLine index label) = list_all is_line_byte label
+is_clean_line (LabelLine index label permitted fate) =
+    list_all is_line_byte label && is_clean_fate fate
+is_clean_line line = true
+
+-- it is written as one line then
+abbrev pub HasOneLf : Type 0
+HasOneLf = (line : AuditLine) → IsTrue (is_clean_line line) → IsLine (line_text line)

@@ -1,12 +1,13 @@
 //! The audit of a recorded chain.
 
-ghost use Rattle.std.specs.Prelude.{◌≡◌, ◌≢◌, map, IfOk, IsTrue};
+ghost use Rattle.std.specs.Prelude.{◌≡◌, ◌≢◌, List, IfOk, IsTrue};
 ghost use Rattle.std.specs.List.{All};
 ghost use Rattle.byte_grammar.specs.Causes.{AnswersWhere};
 ghost use Rattle.settings.specs.ConfMeaning.{meaning};
 ghost use Rattle.hop_audit.specs.ChainFaults.{IsChainFault};
 ghost use Rattle.recording.specs.Recordings.{AreItems, bodies};
-ghost use Rattle.recording.specs.Items.{IsShort, placed};
+ghost use Rattle.recording.specs.Items.{IsShort, PlacedItem};
+ghost use Rattle.recording.specs.RecordedChains.{IsHeldChain};
 ghost use Rattle.hop_audit.specs.Lines.{are_lines_in_range};
 ghost use Rattle.hop_audit.specs.Report.{IsAudit};
 ghost use Rattle.hop_audit.specs.declared.fault.ChainFault.{ChainFault};
@@ -226,30 +227,51 @@ impl<'a, 'r> ChainAudit<'a, 'r> {
     }
 }
 
-/// Audits the chain that the items of a recording are: the verdict on each label of each message,
-/// and of each hop whether its script explains what came out, and for each label whether its
-/// signature permits that and what becomes of it (RFC 9421 sections 1.1 and 3.2).
+/// Audits the chain: the verdict on each label of each message, and of each hop whether its script
+/// explains what came out, and for each label whether its signature permits that and what becomes
+/// of it (RFC 9421 sections 1.1 and 3.2).
+///
+/// The chain is that of items such as a recording has: each is within its limits. Each message is
+/// read once; two are held beside the chain. A fault is one of a message or of a script.
+pub fn audit_chain(
+    alloc: Global,
+    chain: &RecordedChain<'_>,
+    conf: &Conf,
+) -> Result<AuditReport, ChainFault>
+    requires { (items : List PlacedItem) × IsHeldChain items chain.now
+        × AreItems (bodies items) × All IsShort (bodies items) }
+    ensures report { (items : List PlacedItem) → IsHeldChain items chain.now
+        → IfOk result (IsAudit (meaning conf.now) items) }
+    ensures in_range { IfOk result (λ lines. IsTrue (are_lines_in_range lines)) }
+
+    // The first fault whose cause holds is answered, and no other.
+    ensures fault { (items : List PlacedItem) → IsHeldChain items chain.now
+        → (fault : ChainFault) → fault ≢ ChainFault.Memory
+        → AnswersWhere ChainFault.Memory result fault (IsChainFault items fault) }
+{
+    let related = related_request(alloc, chain)?;
+    let audit = ChainAudit::of(conf, related.as_ref(), chain.subject);
+    audit.report(alloc, chain)
+}
+
+/// Audits the chain that the items of a recording are.
 ///
 /// The items are such as a recording has: the first is a moment, and each is within its limits.
-/// Each message is read once; two are held beside the recording.
 pub fn audit(
     alloc: Global,
     recording: &Recording<'_>,
     conf: &Conf,
 ) -> Result<AuditReport, ChainFault>
-    requires are { AreItems (bodies (map placed recording.now)) }
-    requires short { All IsShort (bodies (map placed recording.now)) }
-    ensures report { IfOk result (IsAudit (meaning conf.now) (map placed recording.now)) }
+    requires are { AreItems (bodies recording.now) }
+    requires short { All IsShort (bodies recording.now) }
+    ensures report { IfOk result (IsAudit (meaning conf.now) recording.now) }
     ensures in_range { IfOk result (λ lines. IsTrue (are_lines_in_range lines)) }
 
     // The first fault whose cause holds is answered, and no other.
     ensures fault { (fault : ChainFault) → fault ≢ ChainFault.Memory
         → AnswersWhere ChainFault.Memory result fault
-        (IsChainFault (map placed recording.now) fault) }
+        (IsChainFault recording.now fault) }
 {
-    let chain = chain_of(alloc, recording.as_slice())?;
-    let related = related_request(alloc, &chain)?;
-    let related = related.as_ref();
-    let audit = ChainAudit::of(conf, related, chain.subject);
-    audit.report(alloc, &chain)
+    let chain = chain_of(alloc, recording)?;
+    audit_chain(alloc, &chain, conf)
 }

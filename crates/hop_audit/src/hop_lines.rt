@@ -25,7 +25,7 @@ use crate::stage::Stage;
 use crate::walk::{Mark, Marks, Walked, walk};
 use component_values::{Context, Readings};
 use rewrite_script::Rewrite;
-use sfv_text::{Memory, Text};
+use sfv_text::{Memory, Pairs, Text};
 use std::alloc::Global;
 
 /// A message of a hop: its context, and what was read of its signatures.
@@ -146,6 +146,7 @@ fn add_compared_lines<'c, 'a, 'm>(
         after: after.context,
         was: Readings::new(alloc),
         now: Readings::new(alloc),
+        compared: Pairs::new(alloc),
     };
     add_label_lines(
         alloc,

@@ -1,6 +1,6 @@
 //! Laws of audits. Each function does nothing; its contract is the law.
 
-ghost use Rattle.hop_audit.specs.Laws.{IsKeptWithItsBase, IsKeptWithItsBaseAtHops, KeepsFate, HasOneFate, HasSomeFate, HaveAuditOrFault, HaveNoFaultWhereAudited, HaveOneAudit, HaveOneFault, KeepsWhatIsPermitted, TellsWhatChanged, TellsWhatChangedAtHops};
+ghost use Rattle.hop_audit.specs.Laws.{HasOneLf, IsKeptWithItsBase, IsKeptWithItsBaseAtHops, KeepsFate, HasOneFate, HasSomeFate, HaveAuditOrFault, HaveNoFaultWhereAudited, HaveOneAudit, HaveOneFault, KeepsWhatIsPermitted, TellsWhatChanged, TellsWhatChangedAtHops};
 
 /// The items of a recording have one report, or one fault.
 pub fn items_have_one_audit()
@@ -31,4 +31,10 @@ pub fn one_tag_tells_one_base()
     ensures kept_line { IsKeptWithItsBaseAtHops }
     ensures changed { TellsWhatChanged }
     ensures changed_line { TellsWhatChangedAtHops }
+{}
+
+/// A line of a report is written as one line: it has one LF, at its end, where the labels, the
+/// identifiers and the texts that it has from a message have no end of a line.
+pub fn each_line_has_one_lf()
+    ensures { HasOneLf }
 {}

@@ -26,10 +26,10 @@ mod read;
 mod stage;
 mod walk;
 
-pub use chain_audit::audit;
+pub use chain_audit::{audit, audit_chain};
 pub use fault::ChainFault;
 pub use laws::{
-    a_signature_has_one_fate, items_have_one_audit, one_tag_tells_one_base,
+    a_signature_has_one_fate, each_line_has_one_lf, items_have_one_audit, one_tag_tells_one_base,
     what_is_permitted_is_kept,
 };
 pub use line::{AuditLine, AuditReport, Fate};

@@ -1,6 +1,8 @@
--- Laws of lists that have the same entries: what is asked of one is answered by the other.
+-- Laws of lists that have the same entries: what is asked of one is answered by the other. And of
+-- how many buckets a book has.
 use Rattle.std.specs.Prelude.{◌≡◌, ℕ, List, ◌∷◌}
 use Rattle.nonces.specs.Books.{Entry, HasDistinctNonces, HaveSameEntries, is_seen, live_entries}
+use Rattle.nonces.specs.Buckets.{IsLeastPowerOfTwo}
 
 -- a list has the same entries as itself
 abbrev pub IsSameAsItself : Type 0
@@ -32,3 +34,13 @@ abbrev pub HaveSameLive : Type 0
 HaveSameLive =
     (now : ℕ) (xs ys : List Entry) → HasDistinctNonces xs → HasDistinctNonces ys
     → HaveSameEntries xs ys → HaveSameEntries (live_entries now xs) (live_entries now ys)
+
+-- each number has a least power of two that isn't below it
+abbrev pub HasLeastPowerOfTwo : Type 0
+HasLeastPowerOfTwo = (least : ℕ) → (number : ℕ) × IsLeastPowerOfTwo least number
+
+-- and at most one
+abbrev pub HasOneLeastPowerOfTwo : Type 0
+HasOneLeastPowerOfTwo =
+    (least number other : ℕ) → IsLeastPowerOfTwo least number → IsLeastPowerOfTwo least other
+    → number ≡ other

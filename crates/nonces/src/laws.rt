@@ -1,6 +1,7 @@
-//! Laws of lists that have the same entries. Each function does nothing; its contract is the law.
+//! Laws of lists that have the same entries, and of how many buckets a book has. Each function does
+//! nothing; its contract is the law.
 
-ghost use Rattle.nonces.specs.Laws.{HaveSameLive, IsSameAsItself, IsSameBothWays, IsSameThrough, IsSameWithOneMore, IsSeenAlike};
+ghost use Rattle.nonces.specs.Laws.{HasLeastPowerOfTwo, HasOneLeastPowerOfTwo, HaveSameLive, IsSameAsItself, IsSameBothWays, IsSameThrough, IsSameWithOneMore, IsSeenAlike};
 
 /// To have the same entries is an equivalence.
 pub fn same_entries_are_an_equivalence()
@@ -15,4 +16,10 @@ pub fn same_entries_are_alike()
     ensures seen { IsSeenAlike }
     ensures more { IsSameWithOneMore }
     ensures live { HaveSameLive }
+{}
+
+/// Each capacity has one count of buckets: the bound on the steps of `find` speaks of it.
+pub fn a_capacity_has_one_count_of_buckets()
+    ensures there { HasLeastPowerOfTwo }
+    ensures one { HasOneLeastPowerOfTwo }
 {}

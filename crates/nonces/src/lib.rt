@@ -25,7 +25,9 @@ mod store;
 
 pub use book::NonceBook;
 pub use full::Full;
-pub use laws::{same_entries_are_alike, same_entries_are_an_equivalence};
+pub use laws::{
+    a_capacity_has_one_count_of_buckets, same_entries_are_alike, same_entries_are_an_equivalence,
+};
 pub use limit_laws::limits_are_these;
 pub use limits::{MAX_ENTRIES, MAX_KEYID_BYTES, MAX_MOMENT, MAX_NONCE_BYTES, MAX_WINDOW};
 pub use steps::Steps;

@@ -1,13 +1,19 @@
 pub mod CommandLaws
+pub mod IntakeLaws
 pub mod Layers
 pub mod OneReport
 pub mod Recordings
 pub mod Reports
 pub mod SomeReport
 pub mod Sources
+mod AskedFiles
+mod AuditLines
 mod AuditedInputs
+mod FaultCounts
 mod Meanings
 mod OneLines
 mod RewrittenInputs
 mod Sampled
 mod SignedInputs
+mod VerdictLines
+mod WrittenOutcomes

@@ -6,8 +6,9 @@ use Rattle.std.specs.List.{Contains, list_all, zip}
 use Rattle.hms_io.specs.Files.{FileMap}
 use Rattle.hms_io.specs.declared.status.Status.{Status}
 use Rattle.hms_io.specs.declared.status.Status.TheVariants.{Done, NotOk}
-use Rattle.command_line.specs.Command.{CommandLine, Help, Version, Base, Verify, Sign, Rewrite, Audit, Sample, BaseWords, VerifyWords, AuditWords, IsCommand}
+use Rattle.command_line.specs.Command.{CommandLine, Help, HelpOf, Version, Base, Verify, Sign, Rewrite, Audit, Sample, BaseWords, VerifyWords, AuditWords, IsCommand}
 use Rattle.command_line.proofs.CommandLaws.{one_command}
+use Rattle.sfv_text.specs.Classes.{is_key}
 use Rattle.msg_body.specs.Messages.{Message}
 use Rattle.msg_body.specs.WholeTexts.{one_request, reading_for}
 use Rattle.component_ids.specs.declared.params.SigParams.{SigParams}
@@ -31,23 +32,28 @@ use Rattle.hop_audit.proofs.OneBases.{is_kept_with_its_base_at_hops, tells_what_
 use Rattle.commands.specs.Audit.{ReportsAudit, audit_outcome}
 use Rattle.commands.specs.Configured.{IsConfigured}
 use Rattle.commands.specs.Covered.{ReadsParams}
-use Rattle.commands.specs.Files.{Found, Conf as ConfFile, Request as RequestFile}
+use Rattle.commands.specs.Files.{FileNames, Found, Conf as ConfFile, Request as RequestFile}
 use Rattle.commands.specs.MessageFiles.{IsRequested}
 use Rattle.commands.specs.Messages.{IsInputMessage}
 use Rattle.commands.specs.Outcome.{output_of, status_of}
 use Rattle.commands.specs.Verify.{AreVerdicts, verdict_lines, verdicts_outcome}
+use Rattle.commands.specs.declared.tables.Needs.{Needs}
+use Rattle.commands.specs.declared.tables.Needs.TheVariants.{Nothing}
 use Rattle.commands.specs.declared.outcome.Outcome.{Outcome}
 use Rattle.commands.specs.declared.outcome.Outcome.TheVariants.{Done as Written, NotOk as Counted, Refused}
 use Rattle.refusals.specs.Laws.{IsOfRefusal}
 use Rattle.refusals.specs.declared.refusal.Refusal.{Refusal}
 use Rattle.refusals.proofs.Statuses.{status_of_refusal}
-use Rattle.program.specs.Commands.{AreFoundFor, ReadsWhole, input_use, is_whole}
+use Rattle.program.specs.Commands.{AreFoundFor, ReadsWhole, input_use, is_whole, name_of}
+use Rattle.program.specs.Intake.{IsIntake, TakenValues}
 use Rattle.program.specs.Ends.{Ends, HasReport}
 use Rattle.program.specs.Meanings.{HasOneBase, HasOneChain, HasOneMeaning, HasWritten, HaveOneMeaning, RunsAgreeWhereOneTag, TellsOneBase, TellsOneChain, TellsVerdicts, WritesOneBase, WritesOneChain, WritesSigned, WritesVerdicts}
 use Rattle.program.specs.Report.{Reports, ReportsCommand}
-use Rattle.program.proofs.CommandLaws.{keeps_what_is_permitted}
+use Rattle.program.proofs.AuditLines.{report_lines_are}
+use Rattle.program.proofs.CommandLaws.{keeps_what_is_permitted, valid_where_configured}
 use Rattle.program.proofs.OneLines.{params_in_range}
 use Rattle.program.proofs.SignedInputs.{has_signed}
+use Rattle.program.proofs.VerdictLines.{verdict_lines_are, verifies_key}
 
 -- ---- a base
 
@@ -63,6 +69,14 @@ request_spelled (Some name) None (Some request) is = absurd is
 request_spelled (Some name) (Some text) (Some request) is =
     record { to_head = one_request.to_head; text = text; are_bytes = is.are_bytes; spells = is.whole.spells }
 
+-- the messages that are taken are spelled by bytes
+intake_spelled : (needs : Needs) (names : FileNames) (found : Found) (input : List ℕ) (taken : TakenValues) → IsIntake needs names found input taken
+    → HasMessages (context_for taken.conf taken.context.message taken.context.related)
+intake_spelled needs names found input taken is = record {
+  message = input_spelled taken.context.related input taken.context.message is.is;
+  related = request_spelled (names RequestFile) (found RequestFile) taken.context.related is.requested;
+}
+
 one_base : (text : List ℕ) (params : SigParams) (context : MessageContext) (values : List (List ℕ)) → ReadsParams text params → HasMessages context → HaveValues context params.ids values
     → (output : List ℕ) → output ≡ signature_base params values → (others : SigParams) (also : List (List ℕ)) → HaveBase others also
     → (output ≡ signature_base others also) ↔ ((others ≡ params) × (also ≡ values))
@@ -75,27 +89,24 @@ one_base text params context values reads spelled have output is others also bas
 
 base_told : (words : BaseWords) (found : Found) (input output : List ℕ) → ReportsCommand (Base words) found input (Written output) → TellsOneBase words found input output
 base_told words found input output (inr cause) = absurd (cc cause.2)
-base_told words found input output (inl (conf, configured, inr cause)) = absurd (cc cause.2)
-base_told words found input output (inl (conf, configured, inl (_, tables, inr cause))) = absurd (cc cause.2)
-base_told words found input output (inl (conf, configured, inl (_, tables, inl (related, requested, inr cause)))) = absurd (cc cause.2)
-base_told words found input output (inl (conf, configured, inl (_, tables, inl (related, requested, inl (wishes, wanted, inr cause))))) = absurd (cc cause.2)
-base_told words found input output (inl (conf, configured, inl (_, tables, inl (related, requested, inl (wishes, wanted, inl (script, scripted, inr cause)))))) = absurd (cc cause.2)
-base_told words found input output (inl (conf, configured, inl (_, tables, inl (related, requested, inl (wishes, wanted, inl (script, scripted, inl (message, is, inr cause))))))) = absurd (cc cause.2)
-base_told words found input output (inl (conf, configured, inl (_, tables, inl (related, requested, inl (wishes, wanted, inl (script, scripted, inl (message, is, inl (params, reads, inr cause)))))))) = absurd (cc cause.2)
-base_told words found input output (inl (conf, configured, inl (_, tables, inl (related, requested, inl (wishes, wanted, inl (script, scripted, inl (message, is, inl (params, reads, inl (values, have, same))))))))) = record {
-  conf = conf;
-  configured = configured;
-  related = related;
-  requested = requested;
-  message = message;
-  is = is;
-  params = params;
-  reads = reads;
-  values = values;
-  have = have;
-  one = one_base words.params params (context_for conf message related) values reads
-      (record { message = input_spelled related input message is; related = request_spelled words.request (found RequestFile) related requested }) have output (ap output_of same);
-}
+base_told words found input output (inl (taken, is, inr cause)) = absurd (cc cause.2)
+base_told words found input output (inl (taken, is, inl (params, reads, inr cause))) = absurd (cc cause.2)
+base_told words found input output (inl (taken, is, inl (params, reads, inl (values, have, same)))) =
+    let context = context_for taken.conf taken.context.message taken.context.related in
+    let all : HaveValues context params.ids values = subst (λ (c : MessageContext). HaveValues c params.ids values) is.context_is have in
+    record {
+      conf = taken.conf;
+      configured = is.conf.configured;
+      related = taken.context.related;
+      requested = is.requested;
+      message = taken.context.message;
+      is = is.is;
+      params = params;
+      reads = reads;
+      values = values;
+      have = all;
+      one = one_base words.params params context values reads (intake_spelled Nothing (name_of (Base words)) found input taken is) all output (ap output_of same);
+    }
 
 pub has_one_base : HasOneBase
 has_one_base arguments words found input output is (inr cause) = absurd (cc cause.2)
@@ -130,6 +141,7 @@ chain_told words found input outcome conf configured (inl (items, is, inl (lines
   lines = lines;
   report = audit.2;
   written = ap output_of same ∙ report_written lines (finds_fault lines) refl;
+  each = report_lines_are conf (valid_where_configured (Some words.conf) (found ConfFile) conf configured) audit.0 lines audit.2;
   kept = λ index label permitted fate line.
       is_kept_with_its_base_at_hops conf input items audit.0 lines index label permitted fate is.are_bytes is.spells audit.1 audit.2 line;
   changed = λ index label id keyid accepts.
@@ -172,34 +184,34 @@ lines_written : (labels : List (List ℕ)) (verdicts : List Verdict) (all : Bool
 lines_written labels verdicts true is = rw is refl
 lines_written labels verdicts false is = rw is refl
 
-verdicts_told : (words : VerifyWords) (found : Found) (input : List ℕ) (outcome : Outcome) → ReportsCommand (Verify words) found input outcome → (status_of outcome ≡ Done) ⊎ (status_of outcome ≡ NotOk)
+verdicts_told : (words : VerifyWords) → IfSome words.label (λ label. IsTrue (is_key label)) → (found : Found) (input : List ℕ) (outcome : Outcome) → ReportsCommand (Verify words) found input outcome → (status_of outcome ≡ Done) ⊎ (status_of outcome ≡ NotOk)
     → TellsVerdicts words found input (output_of outcome)
-verdicts_told words found input outcome (inr cause) answered = absurd (no_refusal _ outcome cause.2 answered)
-verdicts_told words found input outcome (inl (conf, configured, inr cause)) answered = absurd (no_refusal _ outcome cause.2 answered)
-verdicts_told words found input outcome (inl (conf, configured, inl (_, tables, inr cause))) answered = absurd (no_refusal _ outcome cause.2 answered)
-verdicts_told words found input outcome (inl (conf, configured, inl (_, tables, inl (related, requested, inr cause)))) answered = absurd (no_refusal _ outcome cause.2 answered)
-verdicts_told words found input outcome (inl (conf, configured, inl (_, tables, inl (related, requested, inl (wishes, wanted, inr cause))))) answered = absurd (no_refusal _ outcome cause.2 answered)
-verdicts_told words found input outcome (inl (conf, configured, inl (_, tables, inl (related, requested, inl (wishes, wanted, inl (script, scripted, inr cause)))))) answered = absurd (no_refusal _ outcome cause.2 answered)
-verdicts_told words found input outcome (inl (conf, configured, inl (_, tables, inl (related, requested, inl (wishes, wanted, inl (script, scripted, inl (message, is, reports))))))) answered = record {
-  conf = conf;
-  configured = configured;
-  related = related;
-  requested = requested;
-  message = message;
-  is = is;
-  labels = reports.labels;
-  asked = reports.asked;
-  verdicts = reports.verdicts;
-  written = ap output_of reports.outcome_is ∙ lines_written reports.labels reports.verdicts (list_all is_accepted reports.verdicts) refl;
-  ok = λ label keyid there.
-      one_meaning (verification_for conf words.now (context_for conf message related) label) keyid (accepted_at conf words.now (context_for conf message related) reports.labels reports.verdicts reports.are label keyid there)
-      (record { message = input_spelled related input message is; related = request_spelled words.request (found RequestFile) related requested });
-}
+verdicts_told words key found input outcome (inr cause) answered = absurd (no_refusal _ outcome cause.2 answered)
+verdicts_told words key found input outcome (inl (taken, is, reports)) answered =
+    let context = context_for taken.conf taken.context.message taken.context.related in
+    let all : AreVerdicts taken.conf words.now context reports.labels reports.verdicts =
+    subst (λ (c : MessageContext). AreVerdicts taken.conf words.now c reports.labels reports.verdicts) is.context_is reports.are in
+    record {
+      conf = taken.conf;
+      configured = is.conf.configured;
+      related = taken.context.related;
+      requested = is.requested;
+      message = taken.context.message;
+      is = is.is;
+      labels = reports.labels;
+      asked = reports.asked;
+      verdicts = reports.verdicts;
+      written = ap output_of reports.outcome_is ∙ lines_written reports.labels reports.verdicts (list_all is_accepted reports.verdicts) refl;
+      lines = verdict_lines_are words.label taken.conf words.now context reports.labels reports.verdicts (valid_where_configured (Some words.conf) (found ConfFile) taken.conf is.conf.configured) key reports.asked all;
+      ok = λ label keyid there.
+          one_meaning (verification_for taken.conf words.now context label) keyid (accepted_at taken.conf words.now context reports.labels reports.verdicts all label keyid there)
+          (intake_spelled Nothing (name_of (Verify words)) found input taken is);
+    }
 
 pub have_one_meaning : HaveOneMeaning
 have_one_meaning arguments words found input outcome is (inr cause) answered = absurd (no_refusal _ outcome cause.2 answered)
 have_one_meaning arguments words found input outcome is (inl (command, spells, reports)) answered =
-    verdicts_told words found input outcome (subst (λ (c : CommandLine). ReportsCommand c found input outcome) (one_command arguments command (Verify words) spells is) reports) answered
+    verdicts_told words (verifies_key arguments words is) found input outcome (subst (λ (c : CommandLine). ReportsCommand c found input outcome) (one_command arguments command (Verify words) spells is) reports) answered
 
 pub runs_agree : RunsAgreeWhereOneTag
 runs_agree words other_words found other_found input other_input output other_output one other label other_label keyid other_keyid ok also tag key =
@@ -211,6 +223,7 @@ runs_agree words other_words found other_found input other_input output other_ou
 -- each command writes nothing before it has read all
 reads_whole : (command : CommandLine) → IsTrue (is_whole (input_use command))
 reads_whole Help = refl
+reads_whole (HelpOf command) = refl
 reads_whole Version = refl
 reads_whole (Base words) = refl
 reads_whole (Verify words) = refl
@@ -229,9 +242,16 @@ written_is (Counted text) is = absurd (cc is)
 written_is (Refused refusal) is = absurd (refused_not refusal (inl is))
 
 module _ (arguments : List (List ℕ)) (shelf : Option FileMap) (Same : Type 0) (before left taken now : Option (List ℕ)) (status : Status) where
-  pub writes_one_base : (status ≡ Done → Ends arguments shelf Same before left taken now Done) → WritesOneBase arguments shelf before taken now status
+  -- where the run is done, it ends so
+  done_ends : Ends arguments shelf Same before left taken now status → status ≡ Done → Ends arguments shelf Same before left taken now Done
+  done_ends ends done = subst (λ (s : Status). Ends arguments shelf Same before left taken now s) done ends
+
+  not_ok_ends : Ends arguments shelf Same before left taken now status → status ≡ NotOk → Ends arguments shelf Same before left taken now NotOk
+  not_ok_ends ends failed = subst (λ (s : Status). Ends arguments shelf Same before left taken now s) failed ends
+
+  pub writes_one_base : Ends arguments shelf Same before left taken now status → WritesOneBase arguments shelf before taken now status
   writes_one_base ends words is done =
-      let end = ends done in
+      let end = done_ends ends done in
       let report = end.1 in
       record {
         found = report.found;
@@ -244,9 +264,9 @@ module _ (arguments : List (List ℕ)) (shelf : Option FileMap) (Same : Type 0) 
             (subst (λ (o : Outcome). Reports arguments report.found report.holds.input o) (written_is end.0 end.2) report.holds.reports);
       }
 
-  pub writes_signed : (status ≡ Done → Ends arguments shelf Same before left taken now Done) → WritesSigned arguments shelf before taken now status
+  pub writes_signed : Ends arguments shelf Same before left taken now status → WritesSigned arguments shelf before taken now status
   writes_signed ends words is done =
-      let end = ends done in
+      let end = done_ends ends done in
       let report = end.1 in
       record {
         found = report.found;
@@ -271,10 +291,9 @@ module _ (arguments : List (List ℕ)) (shelf : Option FileMap) (Same : Type 0) 
     tells = have_one_meaning arguments words report.found report.holds.input outcome is report.holds.reports answered;
   }
 
-  pub writes_verdicts : (status ≡ Done → Ends arguments shelf Same before left taken now Done) → (status ≡ NotOk → Ends arguments shelf Same before left taken now NotOk)
-      → WritesVerdicts arguments shelf before taken now status
-  writes_verdicts ends counted words is (inl done) = let end = ends done in verdicts_written words is end.0 end.1 (inl end.2) end.3
-  writes_verdicts ends counted words is (inr failed) = let end = counted failed in verdicts_written words is end.0 end.1 (inr end.2) end.3
+  pub writes_verdicts : Ends arguments shelf Same before left taken now status → WritesVerdicts arguments shelf before taken now status
+  writes_verdicts ends words is (inl done) = let end = done_ends ends done in verdicts_written words is end.0 end.1 (inl end.2) end.3
+  writes_verdicts ends words is (inr failed) = let end = not_ok_ends ends failed in verdicts_written words is end.0 end.1 (inr end.2) end.3
 
   chain_written : (words : AuditWords) → IsCommand arguments (Audit words) → (outcome : Outcome) → HasReport arguments shelf Same before left outcome
       → (status_of outcome ≡ Done) ⊎ (status_of outcome ≡ NotOk) → Appends taken now (output_of outcome) → HasWritten (TellsOneChain words) (AreFoundFor arguments shelf) before taken now
@@ -288,7 +307,6 @@ module _ (arguments : List (List ℕ)) (shelf : Option FileMap) (Same : Type 0) 
     tells = has_one_chain arguments words report.found report.holds.input outcome is report.holds.reports answered;
   }
 
-  pub writes_one_chain : (status ≡ Done → Ends arguments shelf Same before left taken now Done) → (status ≡ NotOk → Ends arguments shelf Same before left taken now NotOk)
-      → WritesOneChain arguments shelf before taken now status
-  writes_one_chain ends counted words is (inl done) = let end = ends done in chain_written words is end.0 end.1 (inl end.2) end.3
-  writes_one_chain ends counted words is (inr failed) = let end = counted failed in chain_written words is end.0 end.1 (inr end.2) end.3
+  pub writes_one_chain : Ends arguments shelf Same before left taken now status → WritesOneChain arguments shelf before taken now status
+  writes_one_chain ends words is (inl done) = let end = done_ends ends done in chain_written words is end.0 end.1 (inl end.2) end.3
+  writes_one_chain ends words is (inr failed) = let end = not_ok_ends ends failed in chain_written words is end.0 end.1 (inr end.2) end.3

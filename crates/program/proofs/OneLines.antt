@@ -35,7 +35,7 @@ use Rattle.msg_body.specs.Messages.{Message}
 use Rattle.msg_body.specs.WholeTexts.{any_message, one_request, reading_for}
 use Rattle.msg_body.specs.declared.whole.Reading.{Reading}
 use Rattle.framing.specs.Framings.{is_request}
-use Rattle.command_line.specs.Command.{CommandLine, Help, Version, Base, Verify, Sign, Rewrite, Audit, Sample, SignWords, IsCommand, NoCommand}
+use Rattle.command_line.specs.Command.{CommandLine, Help, HelpOf, Version, Base, Verify, Sign, Rewrite, Audit, Sample, SignWords, IsCommand, NoCommand}
 use Rattle.conf.specs.Configuration.{Configuration}
 use Rattle.conf.specs.Paths.{HoldsAtPath}
 use Rattle.conf.specs.Refusals.{IsConfFault}
@@ -52,7 +52,6 @@ use Rattle.signing.specs.Signed.{IsSignedMessage}
 use Rattle.signing.specs.Specs.{IsValidSpec}
 use Rattle.signing.specs.Wishes.{AreWished}
 use Rattle.signing.specs.declared.spec.SignSpec.{SignSpec}
-use Rattle.verdicts.specs.Contexts.{context_for}
 use Rattle.verdicts.specs.Verdicts.{is_accepted}
 use Rattle.verdicts.specs.declared.outcome.Verdict.{Verdict}
 use Rattle.hop_audit.specs.Lines.{finds_fault}
@@ -64,13 +63,13 @@ use Rattle.commands.specs.Configured.{IsConfigured, IsConfRefused}
 use Rattle.commands.specs.Covered.{ReadsParams}
 use Rattle.commands.specs.Files.{FileNames, Found, Conf as ConfFile, Request as RequestFile, Wanted as WantedFile, Script as ScriptFile}
 use Rattle.commands.specs.Layers.{IsUnrefused, ReadsThen}
-use Rattle.commands.specs.MessageFiles.{IsMessageFileRefused, IsRequestRefused, IsRequested, IsWanted, IsWantedRefused}
-use Rattle.commands.specs.Messages.{IsInputMessage, IsInputRefused}
+use Rattle.commands.specs.MessageFiles.{IsMessageFileRefused}
+use Rattle.commands.specs.Messages.{IsInputRefused}
 use Rattle.commands.specs.Rewrite.{IsStepRefused, IsTaken, ReportsRewriting, ReportsSteps}
 use Rattle.commands.specs.Sample.{sample_outcome}
-use Rattle.commands.specs.Scripts.{IsScriptRefused, IsScripted}
+use Rattle.commands.specs.Scripts.{IsScriptRefused}
 use Rattle.commands.specs.Sign.{AreWishesRefused, IsSignRefused, ReportsEach, ReportsSigning}
-use Rattle.commands.specs.Tables.{HasTables, IsTableMissing}
+use Rattle.commands.specs.Tables.{IsTableMissing}
 use Rattle.commands.specs.Verify.{ReportsVerdicts, verdicts_outcome}
 use Rattle.commands.specs.declared.outcome.Outcome.{Outcome}
 use Rattle.commands.specs.declared.outcome.Outcome.TheVariants.{Done, Refused}
@@ -87,7 +86,8 @@ use Rattle.refusals.specs.declared.refusal.Refusal.TheVariants.{Arguments, Of, C
 use Rattle.refusals.specs.declared.role.Role.TheVariants.{Conf, Request, Wanted, Script, Input, Item}
 use Rattle.program.specs.Commands.{name_of}
 use Rattle.program.specs.Laws.{IsLineWhereRefused}
-use Rattle.program.specs.Report.{Answers, ReportsCommand, ReportsFiles, ReportsMessage, ReportsRequest, ReportsScript, ReportsTables, ReportsWishes}
+use Rattle.program.specs.Intake.{IsIntake, IsIntakeRefused, TakenValues}
+use Rattle.program.specs.Report.{Answers, ReportsCommand, ReportsFiles}
 use Rattle.program.proofs.CommandLaws.{valid_where_configured}
 use Rattle.program.proofs.SignedInputs.{signs_characters, signs_timely}
 
@@ -265,6 +265,17 @@ table_missing : (needs : Needs) (conf : Configuration) (refusal : FileRefusal) �
 table_missing Nothing conf refusal is = absurd is
 table_missing SignTable conf refusal is = rw is.1 refl
 
+intake_refused : (needs : Needs) (names : FileNames) (found : Found) (input : List ℕ) (refusal : Refusal) → IsIntakeRefused needs names found input refusal → is_clean refusal ≡ true
+intake_refused needs names found input Arguments is = absurd is
+intake_refused needs names found input (Command r) is = absurd is
+intake_refused needs names found input (Of (Item i) r) is = absurd is
+intake_refused needs names found input (Of Conf r) (inl refused) = conf_refused (names ConfFile) (found ConfFile) r refused
+intake_refused needs names found input (Of Conf r) (inr (conf, configured, missing)) = table_missing needs conf r missing
+intake_refused needs names found input (Of Request r) is = file_refused one_request (names RequestFile) (found RequestFile) r is.1
+intake_refused needs names found input (Of Wanted r) is = file_refused any_message (names WantedFile) (found WantedFile) r is.1
+intake_refused needs names found input (Of Script r) is = script_refused (names ScriptFile) (found ScriptFile) r is.1
+intake_refused needs names found input (Of Input r) is = input_refused (reading_for is.2.related) input r is.2.refused
+
 -- ---- layers
 
 module _ (refusal : Refusal) where
@@ -277,21 +288,10 @@ module _ (refusal : Refusal) where
 
   -- what comes of the files is clean, where what comes of the command is
   of_files : (needs : Needs) (Then : Answers) (names : FileNames) (found : Found) (input : List ℕ)
-      → ((conf : Configuration) → IsConfigured (names ConfFile) (found ConfFile) conf → (wishes : Option Message) (script : List Rewriting) (message : Message) (related : Option Message)
-      → Then conf wishes script (context_for conf message related) (Refused refusal) → is_clean refusal ≡ true)
+      → ((taken : TakenValues) → IsConfigured (names ConfFile) (found ConfFile) taken.conf → Then taken (Refused refusal) → is_clean refusal ≡ true)
       → ReportsFiles needs Then names found input (Refused refusal) → is_clean refusal ≡ true
   of_files needs Then names found input then =
-      of_layer (IsConfigured (names ConfFile) (found ConfFile)) (IsConfRefused (names ConfFile) (found ConfFile)) (λ r. Of Conf r) (λ conf. ReportsTables needs Then conf names found input) (conf_refused (names ConfFile) (found ConfFile)) (λ conf configured.
-      of_layer (λ (_ : ⊤). HasTables needs conf) (IsTableMissing needs conf) (λ r. Of Conf r) (λ _. ReportsRequest Then conf names found input) (table_missing needs conf) (λ _ tables.
-      of_layer (IsRequested (names RequestFile) (found RequestFile)) (IsRequestRefused (names RequestFile) (found RequestFile)) (λ r. Of Request r) (λ related. ReportsWishes Then conf related names found input)
-      (file_refused one_request (names RequestFile) (found RequestFile)) (λ related requested.
-      of_layer (IsWanted (names WantedFile) (found WantedFile)) (IsWantedRefused (names WantedFile) (found WantedFile)) (λ r. Of Wanted r) (λ wishes. ReportsScript Then conf related wishes names found input)
-      (file_refused any_message (names WantedFile) (found WantedFile)) (λ wishes wanted.
-      of_layer (IsScripted (names ScriptFile) (found ScriptFile)) (IsScriptRefused (names ScriptFile) (found ScriptFile)) (λ r. Of Script r) (λ script. ReportsMessage (Then conf wishes script) conf related input)
-      (script_refused (names ScriptFile) (found ScriptFile)) (λ script scripted.
-      of_layer (IsInputMessage (reading_for related) input) (IsInputRefused (reading_for related) input) (λ r. Of Input r) (λ message. Then conf wishes script (context_for conf message related))
-      (input_refused (reading_for related) input) (λ message is.
-      then conf configured wishes script message related))))))
+      of_layer (IsIntake needs names found input) (IsIntakeRefused needs names found input) (λ r. r) Then (intake_refused needs names found input) (λ taken is. then taken is.conf.configured)
 
   -- ---- commands
 
@@ -362,19 +362,19 @@ module _ (refusal : Refusal) where
 
   command_refused : (arguments : List (List ℕ)) (command : CommandLine) → IsCommand arguments command → (found : Found) (input : List ℕ) → ReportsCommand command found input (Refused refusal) → is_clean refusal ≡ true
   command_refused arguments Help is found input = λ same. absurd (cc same)
+  command_refused arguments (HelpOf command) is found input = λ same. absurd (cc same)
   command_refused arguments Version is found input = λ same. absurd (cc same)
   command_refused arguments (Base words) is found input =
-      of_files Nothing (λ conf wishes script. ReportsBase words.params) (name_of (Base words)) found input (λ conf configured wishes script message related. base_refused words.params (context_for conf message related))
+      of_files Nothing (λ taken. ReportsBase words.params taken.context) (name_of (Base words)) found input (λ taken configured. base_refused words.params taken.context)
   command_refused arguments (Verify words) is found input =
-      of_files Nothing (λ conf wishes script. ReportsVerdicts words.label words.now conf) (name_of (Verify words)) found input
-      (λ conf configured wishes script message related reports. absurd (lines_not reports.labels reports.verdicts (list_all is_accepted reports.verdicts) refl reports.outcome_is))
+      of_files Nothing (λ taken. ReportsVerdicts words.label words.now taken.conf taken.context) (name_of (Verify words)) found input
+      (λ taken configured reports. absurd (lines_not reports.labels reports.verdicts (list_all is_accepted reports.verdicts) refl reports.outcome_is))
   command_refused arguments (Sign words) is found input =
-      of_files SignTable (λ conf wishes script. ReportsSigning words.nonce words.now conf wishes) (name_of (Sign words)) found input
-      (λ conf configured wishes script message related.
-      signing_refused words (signs_timely arguments words is) (signs_characters arguments words is) conf (valid_where_configured (Some words.conf) (found ConfFile) conf configured) wishes (context_for conf message related))
+      of_files SignTable (λ taken. ReportsSigning words.nonce words.now taken.conf taken.wishes taken.context) (name_of (Sign words)) found input
+      (λ taken configured.
+      signing_refused words (signs_timely arguments words is) (signs_characters arguments words is) taken.conf (valid_where_configured (Some words.conf) (found ConfFile) taken.conf configured) taken.wishes taken.context)
   command_refused arguments (Rewrite words) is found input =
-      of_files Nothing (λ conf wishes script. ReportsRewriting words.label script) (name_of (Rewrite words)) found input
-      (λ conf configured wishes script message related. steps_refused words.label 0 (context_for conf message related) script)
+      of_files Nothing (λ taken. ReportsRewriting words.label taken.script taken.context) (name_of (Rewrite words)) found input (λ taken configured. steps_refused words.label 0 taken.context taken.script)
   command_refused arguments (Audit words) is found input =
       of_layer (IsConfigured (Some words.conf) (found ConfFile)) (IsConfRefused (Some words.conf) (found ConfFile)) (λ r. Of Conf r) (λ conf. ReportsAudit conf input) (conf_refused (Some words.conf) (found ConfFile))
       (λ conf configured. audit_refused conf input)

@@ -13,32 +13,34 @@ use Rattle.command_line.specs.Command.{CommandLine, IsCommand, NoCommand}
 use Rattle.conf.specs.Configuration.{Configuration}
 use Rattle.msg_body.specs.Messages.{Message}
 use Rattle.msg_body.specs.Views.{MessageParts, message_of}
-use Rattle.commands.specs.Configured.{IsConfigured, IsConfRefused}
-use Rattle.commands.specs.Files.{FileRole, Conf, Request, Wanted, Script, Other, Found, IsFound, AreFound, HasFound, FileNames, file_names, file_bytes, file_count}
+use Rattle.commands.specs.Files.{FileRole, Conf, Request, Wanted, Script, Other, Found, IsFound, AreFound, HasFound, file_names, file_bytes, file_count}
 use Rattle.commands.specs.Layers.{ReadsFound, IsFileRefused}
 use Rattle.commands.specs.Messages.{IsInputMessage, IsInputRefused}
-use Rattle.msg_body.specs.WholeTexts.{any_message, one_request}
-use Rattle.commands.specs.MessageFiles.{IsMessageFile, IsMessageFileRefused, IsTaken, IsMessageIn, IsTextRefused}
+use Rattle.commands.specs.MessageFiles.{IsMessageFile, IsMessageFileRefused, IsTaken, IsMessageIn, IsTextRefused, IsRequested, IsRequestRefused, IsWanted, IsWantedRefused}
 use Rattle.commands.specs.Scripts.{IsScripted, IsScriptRefused}
-use Rattle.commands.specs.Tables.{HasTables, IsTableMissing}
 use Rattle.rewrite_script.specs.Lines.{is_writable}
 use Rattle.rewrite_script.specs.declared.rewrite.Rewrite.{Rewrite}
 use Rattle.program.proofs.CommandLaws.{writable_where_scripted}
 use Rattle.msg_body.specs.declared.whole.Reading.{Reading}
+use Rattle.commands.specs.Configured.{IsConfigured, IsConfRefused}
+use Rattle.commands.specs.Tables.{HasTables, IsTableMissing}
 use Rattle.commands.specs.declared.tables.Needs.{Needs}
 use Rattle.refusals.specs.Laws.{IsOfRefusal}
 use Rattle.refusals.specs.Refusal.{refusal_status}
 use Rattle.refusals.proofs.Statuses.{status_of_refusal}
 use Rattle.commands.specs.Outcome.{status_of, output_of}
 use Rattle.program.specs.Commands.{InputUse, Unread, Whole, input_use, name_of, AreFoundFor}
-use Rattle.program.specs.Ends.{HasInput, HasOutcome, Leaves, HasReport, AppendsPrefix, Ends, CountsFaults, CountsReads}
-use Rattle.program.specs.Report.{Answers, ReportsMessage, ReportsScript, ReportsWishes, ReportsRequest, ReportsFiles, ReportsCommand}
+use Rattle.program.specs.Ends.{HasInput, HasOutcome, Leaves, HasReport, Ends, CountsFaults}
+use Rattle.program.specs.Intake.{IsConfLacking, IsConfRead, IsIntakeRefused, names_of}
+use Rattle.program.specs.Report.{Answers, ReportsFiles, ReportsCommand}
+use Rattle.program.specs.declared.intake.FileWords.{FileWords}
+use Rattle.program.specs.tools.Parts.{Asks, FileValues, ReportsMessage, taken_with}
 use Rattle.refusals.specs.declared.refusal.Refusal.{Refusal}
 use Rattle.refusals.specs.declared.file.FileRefusal.{FileRefusal}
 use Rattle.refusals.specs.declared.refusal.TheConstants.{MAX_CONF_BYTES, MAX_INPUT_BYTES}
 use Rattle.rewrite_script.specs.declared.limits.TheConstants.{MAX_SCRIPT_BYTES}
 use Rattle.refusals.specs.declared.role.Role.{Role}
-use Rattle.refusals.specs.declared.role.Role.TheVariants.{Conf as OfConf, Request as OfRequest, Wanted as OfWanted, Script as OfScript}
+use Rattle.refusals.specs.declared.role.Role.TheVariants.{Conf as OfConf, Request as OfRequest, Wanted as OfWanted, Script as OfScript, Input}
 use Rattle.refusals.specs.declared.refusal.Refusal.TheVariants.{Arguments, Of}
 use Rattle.commands.specs.declared.outcome.Outcome.{Outcome}
 use Rattle.commands.specs.declared.outcome.Outcome.TheVariants.{Done, NotOk, Refused}
@@ -163,14 +165,22 @@ module _ (r : Reading) where
   text_refused (Some name) found (Some text) cause taken is =
       subst (λ (t : Option (List ℕ)). IsFileRefused (IsInputRefused r) t cause) (sym taken.0) is
 
-  -- what is known of a file whose text is refused
-  pub text_stop : (role : Role) (shelf : Option FileMap) (name text : Option (List ℕ)) (stop : Stop) → HasFound shelf name (λ found. IsTaken name found text)
-      → IfRefused stop (IsRefusalFor (IsTextRefused r text) (λ cause. Of role cause))
+  -- what is known of a file whose text is refused, which was read as the text that was taken
+  pub text_stop : (role : Role) (shelf : Option FileMap) (name text : Option (List ℕ)) (reading : Reading) (borrowed : Option (List ℕ)) (stop : Stop) → reading ≡ r → borrowed ≡ text
+      → HasFound shelf name (λ found. IsTaken name found text) → IfRefused stop (IsRefusalFor (IsTextRefused reading borrowed) (λ cause. Of role cause))
       → IfStopped stop (λ refusal. HasFound shelf name (λ found. IsRefusalFor (IsMessageFileRefused r name found) (λ cause. Of role cause) refusal))
-  text_stop role shelf name text Memory has is = tt
-  text_stop role shelf name text ReadFailed has is = tt
-  text_stop role shelf name text (IsRefused refusal) has is =
-      record { found = has.found; known = has.known; holds = (is.0, text_refused name has.found text is.0 has.holds is.1, is.2) }
+  text_stop role shelf name text reading borrowed Memory one same has is = tt
+  text_stop role shelf name text reading borrowed ReadFailed one same has is = tt
+  text_stop role shelf name text reading borrowed (IsRefused refusal) one same has is =
+      let own = subst (λ (o : Reading). IsTextRefused o text is.0) one (subst (λ (t : Option (List ℕ)). IsTextRefused reading t is.0) same is.1) in
+      record { found = has.found; known = has.known; holds = (is.0, text_refused name has.found text is.0 has.holds own, is.2) }
+
+  -- the message in a file whose text is taken
+  pub file_had : (shelf : Option FileMap) (name text : Option (List ℕ)) (reading : Reading) (borrowed : Option (List ℕ)) (message : Option Message) → reading ≡ r → borrowed ≡ text
+      → HasFound shelf name (λ found. IsTaken name found text) → IsMessageIn reading borrowed message → HasFound shelf name (λ found. IsMessageFile r name found message)
+  file_had shelf name text reading borrowed message one same has is =
+      let own = subst (λ (o : Reading). IsMessageIn o text message) one (subst (λ (t : Option (List ℕ)). IsMessageIn reading t message) same is) in
+      record { found = has.found; known = has.known; holds = file_read name has.found text message has.holds own }
 
 taken_within : (name found text : Option (List ℕ)) → IsTaken name found text → IfSome text (λ t. length t ≤ MAX_INPUT_BYTES)
 taken_within None found text taken = subst (λ (t : Option (List ℕ)). IfSome t (λ u. length u ≤ MAX_INPUT_BYTES)) (sym taken) tt
@@ -188,7 +198,28 @@ pub same_related : {X : Type 0} (f : X → MessageParts) (view : Option X) (part
 same_related f None parts same = ap (λ (o : Option MessageParts). option_map (λ p. message_of p) o) same
 same_related f (Some v) parts same = ap (λ (o : Option MessageParts). option_map (λ p. message_of p) o) same
 
--- ---- the files, one layer after another
+-- ---- the configuration, which has what is needed
+
+module _ (needs : Needs) (shelf : Option FileMap) (name : Option (List ℕ)) where
+  pub needed_had : (conf : Configuration) → HasFound shelf name (λ found. IsConfigured name found conf) → HasTables needs conf → HasFound shelf name (λ found. IsConfRead needs name found conf)
+  needed_had conf has tables = record { found = has.found; known = has.known; holds = record { configured = has.holds; tables = tables } }
+
+  pub conf_lacking : (stop : Stop) → IfStopped stop (λ refusal. HasFound shelf name (λ found. IsRefusalFor (IsConfRefused name found) (λ cause. Of OfConf cause) refusal))
+      → IfStopped stop (λ refusal. HasFound shelf name (λ found. IsRefusalFor (IsConfLacking needs name found) (λ cause. Of OfConf cause) refusal))
+  conf_lacking Memory has = tt
+  conf_lacking ReadFailed has = tt
+  conf_lacking (IsRefused refusal) has =
+      let cause = has.holds in
+      record { found = has.found; known = has.known; holds = (cause.0, inl cause.1, cause.2) }
+
+  pub table_lacking : (conf : Configuration) (stop : Stop) → HasFound shelf name (λ found. IsConfigured name found conf) → IfRefused stop (IsRefusalFor (IsTableMissing needs conf) (λ cause. Of OfConf cause))
+      → IfStopped stop (λ refusal. HasFound shelf name (λ found. IsRefusalFor (IsConfLacking needs name found) (λ cause. Of OfConf cause) refusal))
+  table_lacking conf Memory has is = tt
+  table_lacking conf ReadFailed has is = tt
+  table_lacking conf (IsRefused refusal) has is =
+      record { found = has.found; known = has.known; holds = (is.0, inr (conf, has.holds, is.1), is.2) }
+
+-- ---- the files
 
 -- what is refused by a text of this role comes before the input is read
 abbrev IsEarly : Role → Type 1
@@ -206,15 +237,58 @@ wanted_early limit Same before now cause same = same
 script_early : IsEarly OfScript
 script_early limit Same before now cause same = same
 
-module _ (shelf : Option FileMap) (Same : Type 0) (before now : Option (List ℕ)) where
+-- lines can write a script that is read
+pub script_writable : (shelf : Option FileMap) (name : Option (List ℕ)) (script : List Rewrite) → HasFound shelf name (λ found. IsScripted name found script) → IsTrue (list_all is_writable script)
+script_writable shelf name script has = writable_where_scripted name has.found script has.holds
+
+-- what was read in the file of this role, or why it was refused
+module _ (shelf : Option FileMap) (words : FileWords) (role : FileRole) where
+  abbrev pub HasRead : {V : Type 0} → (Option (List ℕ) → Option (List ℕ) → V → Type 0) → V → Type 0
+  HasRead Reads value = HasFound shelf (names_of words role) (λ found. Reads (names_of words role) found value)
+
+  abbrev pub IfRefusedFor : (Option (List ℕ) → Option (List ℕ) → FileRefusal → Type 0) → Role → Stop → Type 0
+  IfRefusedFor Causes own stop =
+      IfStopped stop (λ refusal. HasFound shelf (names_of words role) (λ found. IsRefusalFor (Causes (names_of words role) found) (λ cause. Of own cause) refusal))
+
+  -- what holds of a shelf that kept its files
+  pub read_before : {V : Type 0} (Reads : Option (List ℕ) → Option (List ℕ) → V → Type 0) (value : V) (later : Option FileMap) → KeepsFiles shelf later
+      → HasFound later (names_of words role) (λ found. Reads (names_of words role) found value) → HasRead Reads value
+  read_before Reads value later keeps has =
+      record { found = has.found; known = found_before shelf later (names_of words role) has.found keeps has.known; holds = has.holds }
+
+  pub refused_before : (Causes : Option (List ℕ) → Option (List ℕ) → FileRefusal → Type 0) (own : Role) (stop : Stop) (later : Option FileMap) → KeepsFiles shelf later
+      → IfStopped stop (λ refusal. HasFound later (names_of words role) (λ found. IsRefusalFor (Causes (names_of words role) found) (λ cause. Of own cause) refusal)) → IfRefusedFor Causes own stop
+  refused_before Causes own Memory later keeps has = tt
+  refused_before Causes own ReadFailed later keeps has = tt
+  refused_before Causes own (IsRefused refusal) later keeps has =
+      record { found = has.found; known = found_before shelf later (names_of words role) has.found keeps has.known; holds = has.holds }
+
+  -- a message in a file whose text was taken
+  pub message_had : (r : Reading) (text : Option (List ℕ)) (reading : Reading) (borrowed : Option (List ℕ)) (message : Option Message) (later : Option FileMap) → KeepsFiles shelf later → reading ≡ r
+      → borrowed ≡ text → HasFound later (names_of words role) (λ found. IsTaken (names_of words role) found text) → IsMessageIn reading borrowed message → HasRead (IsMessageFile r) message
+  message_had r text reading borrowed message later keeps one same has is =
+      file_had r shelf (names_of words role) text reading borrowed message one same (read_before IsTaken text later keeps has) is
+
+  -- or a text that was taken and is refused as one
+  pub message_refused : (r : Reading) (own : Role) (text : Option (List ℕ)) (reading : Reading) (borrowed : Option (List ℕ)) (stop : Stop) (later : Option FileMap) → KeepsFiles shelf later → reading ≡ r
+      → borrowed ≡ text → HasFound later (names_of words role) (λ found. IsTaken (names_of words role) found text)
+      → IfRefused stop (IsRefusalFor (IsTextRefused reading borrowed) (λ cause. Of own cause)) → IfRefusedFor (IsMessageFileRefused r) own stop
+  message_refused r own text reading borrowed stop later keeps one same has is =
+      text_stop r own shelf (names_of words role) text reading borrowed stop one same (read_before IsTaken text later keeps has) is
+
+  -- what is there under a name that isn't asked for
+  some_named : (text : Option (List ℕ)) × IsFound shelf (names_of words role) text
+  some_named = some_found shelf (names_of words role)
+
+module _ (needs : Needs) (Then : Answers) (words : FileWords) (shelf : Option FileMap) (Same : Type 0) (before now : Option (List ℕ)) where
   -- a run that comes to an outcome with the files of these names
-  abbrev pub HasFilesOutcome : (Found → List ℕ → Outcome → Type 0) → FileNames → Outcome → Type 0
-  HasFilesOutcome R names = HasOutcome R (LeavesInput Same before now) (AreFound shelf names) before
+  abbrev pub HasFilesOutcome : Outcome → Type 0
+  HasFilesOutcome = HasOutcome (ReportsFiles needs Then (names_of words)) (LeavesInput Same before now) (AreFound shelf (names_of words)) before
 
   -- one that is refused by a file of this role
-  refused_early : (R : Found → List ℕ → Outcome → Type 0) (names : FileNames) (role : Role) (found : Found) (cause : FileRefusal) (refusal : Refusal) → IsEarly role → AreFound shelf names found
-      → Same → refusal ≡ Of role cause → ((input : List ℕ) → R found input (Refused (Of role cause))) → HasFilesOutcome R names (Refused refusal)
-  refused_early R names role found cause refusal early files same is reports =
+  refused_early : (role : Role) (found : Found) (cause : FileRefusal) (refusal : Refusal) → IsEarly role → AreFound shelf (names_of words) found → Same → refusal ≡ Of role cause
+      → ((input : List ℕ) → IsIntakeRefused needs (names_of words) found input (Of role cause)) → HasFilesOutcome (Refused refusal)
+  refused_early role found cause refusal early files same is refused =
       let input = some_input before in
       record {
         found = found;
@@ -222,171 +296,111 @@ module _ (shelf : Option FileMap) (Same : Type 0) (before now : Option (List ℕ
         holds = record {
           input = input.0;
           known = input.1;
-          reports = subst (λ (r : Refusal). R found input.0 (Refused r)) (sym is) (reports input.0);
+          reports = inr (refusal, subst (λ (r : Refusal). IsIntakeRefused needs (names_of words) found input.0 r) (sym is) (refused input.0), refl);
           leaves = subst (λ (r : Refusal). LeavesInput Same before now (Refused r)) (sym is) (early MAX_INPUT_BYTES Same before now cause same);
         };
       }
 
--- ---- the script
+  -- what was found, of each role
+  all_there : (conf request wanted script : Option (List ℕ)) → IsFound shelf (names_of words Conf) conf → IsFound shelf (names_of words Request) request → IsFound shelf (names_of words Wanted) wanted
+      → IsFound shelf (names_of words Script) script → AreFound shelf (names_of words) (file_names conf request wanted script)
+  all_there conf request wanted script =
+      all_found shelf (names_of words Conf) (names_of words Request) (names_of words Wanted) (names_of words Script) conf request wanted script
 
--- lines can write a script that is read
-pub script_writable : (shelf : Option FileMap) (name : Option (List ℕ)) (script : List Rewrite) → HasFound shelf name (λ found. IsScripted name found script) → IsTrue (list_all is_writable script)
-script_writable shelf name script has = writable_where_scripted name has.found script has.holds
-
-module _ (Then : Answers) (conf : Configuration) (related wishes : Option Message) (name : Option (List ℕ)) (shelf : Option FileMap) (Same : Type 0) (before now : Option (List ℕ)) where
-  abbrev pub HasScriptOutcome : Outcome → Type 0
-  HasScriptOutcome = HasFilesOutcome shelf Same before now (ReportsScript Then conf related wishes (file_names None None None name)) (file_names None None None name)
-
-  -- a stop while its file is read
-  pub script_stopped : (stop : Stop) → Same → IfStopped stop (λ refusal. HasFound shelf name (λ found. IsRefusalFor (IsScriptRefused name found) (λ cause. Of OfScript cause) refusal))
-      → IfOutcome (Err stop) HasScriptOutcome
-  script_stopped Memory same has = tt
-  script_stopped ReadFailed same has = tt
-  script_stopped (IsRefused refusal) same has =
-      let names = file_names None None None name in
-      let cause = has.holds in
-      refused_early shelf Same before now (ReportsScript Then conf related wishes names) names OfScript (file_names None None None has.found) cause.0 refusal script_early
-      (all_found shelf None None None name None None None has.found tt tt tt has.known) same cause.2 (λ input. inr (cause.0, cause.1, refl))
-
-  -- what comes after it
-  pub script_read : (script : List Rewrite) (result : Result Outcome Stop) → HasFound shelf name (λ found. IsScripted name found script)
-      → IfOutcome result (HasInput (ReportsMessage (Then conf wishes script) conf related) (LeavesInput Same before now) before) → IfOutcome result HasScriptOutcome
-  script_read script result has =
-      went_on (λ outcome reported. record {
-        found = file_names None None None has.found;
-        files = all_found shelf None None None name None None None has.found tt tt tt has.known;
-        holds = record {
-          input = reported.input;
-          known = reported.known;
-          reports = inl (script, has.holds, reported.reports);
-          leaves = reported.leaves;
-        };
-      }) result
-
--- ---- the message that wishes signatures
-
-module _ (Then : Answers) (conf : Configuration) (related : Option Message) (name script : Option (List ℕ)) (shelf : Option FileMap) (Same : Type 0) (before now : Option (List ℕ)) where
-  abbrev pub HasWishesOutcome : Outcome → Type 0
-  HasWishesOutcome = HasFilesOutcome shelf Same before now (ReportsWishes Then conf related (file_names None None name script)) (file_names None None name script)
-
-  -- a stop while its file is taken and read
-  pub wishes_stopped : (stop : Stop) → Same → IfStopped stop (λ refusal. HasFound shelf name (λ found. IsRefusalFor (IsMessageFileRefused any_message name found) (λ cause. Of OfWanted cause) refusal))
-      → IfOutcome (Err stop) HasWishesOutcome
-  wishes_stopped Memory same has = tt
-  wishes_stopped ReadFailed same has = tt
-  wishes_stopped (IsRefused refusal) same has =
-      let names = file_names None None name script in
-      let other = some_found shelf script in
-      let cause = has.holds in
-      refused_early shelf Same before now (ReportsWishes Then conf related names) names OfWanted (file_names None None has.found other.0) cause.0 refusal wanted_early
-      (all_found shelf None None name script None None has.found other.0 tt tt has.known other.1) same cause.2 (λ input. inr (cause.0, cause.1, refl))
-
-  -- what comes after it, of a shelf that keeps its files
-  pub wishes_read : (text : Option (List ℕ)) (wishes : Option Message) (later : Option FileMap) (result : Result Outcome Stop) → HasFound shelf name (λ found. IsTaken name found text)
-      → IsMessageIn any_message text wishes → KeepsFiles shelf later → IfOutcome result (HasScriptOutcome Then conf related wishes script later Same before now) → IfOutcome result HasWishesOutcome
-  wishes_read text wishes later result has is keeps =
-      went_on (λ outcome reported. record {
-        found = file_names None None has.found (reported.found Script);
-        files = all_found shelf None None name script None None has.found (reported.found Script) tt tt has.known
-            (found_before shelf later script (reported.found Script) keeps (reported.files Script));
-        holds = record {
-          input = reported.holds.input;
-          known = reported.holds.known;
-          reports = inl (wishes, file_read any_message name has.found text wishes has.holds is, reported.holds.reports);
-          leaves = reported.holds.leaves;
-        };
-      }) result
-
--- ---- the request
-
-module _ (Then : Answers) (conf : Configuration) (name wanted script : Option (List ℕ)) (shelf : Option FileMap) (Same : Type 0) (before now : Option (List ℕ)) where
-  abbrev pub HasRequestOutcome : Outcome → Type 0
-  HasRequestOutcome = HasFilesOutcome shelf Same before now (ReportsRequest Then conf (file_names None name wanted script)) (file_names None name wanted script)
-
-  -- a stop while its file is taken and read
-  pub request_stopped : (stop : Stop) → Same → IfStopped stop (λ refusal. HasFound shelf name (λ found. IsRefusalFor (IsMessageFileRefused one_request name found) (λ cause. Of OfRequest cause) refusal))
-      → IfOutcome (Err stop) HasRequestOutcome
-  request_stopped Memory same has = tt
-  request_stopped ReadFailed same has = tt
-  request_stopped (IsRefused refusal) same has =
-      let names = file_names None name wanted script in
-      let other = some_found shelf wanted in
-      let last = some_found shelf script in
-      let cause = has.holds in
-      refused_early shelf Same before now (ReportsRequest Then conf names) names OfRequest (file_names None has.found other.0 last.0) cause.0 refusal request_early
-      (all_found shelf None name wanted script None has.found other.0 last.0 tt has.known other.1 last.1) same cause.2 (λ input. inr (cause.0, cause.1, refl))
-
-  -- what comes after it, of a shelf that keeps its files
-  pub request_read : (text : Option (List ℕ)) (related : Option Message) (later : Option FileMap) (result : Result Outcome Stop) → HasFound shelf name (λ found. IsTaken name found text)
-      → IsMessageIn one_request text related → KeepsFiles shelf later → IfOutcome result (HasWishesOutcome Then conf related wanted script later Same before now) → IfOutcome result HasRequestOutcome
-  request_read text related later result has is keeps =
-      went_on (λ outcome reported. record {
-        found = file_names None has.found (reported.found Wanted) (reported.found Script);
-        files = all_found shelf None name wanted script None has.found (reported.found Wanted) (reported.found Script) tt has.known
-            (found_before shelf later wanted (reported.found Wanted) keeps (reported.files Wanted))
-            (found_before shelf later script (reported.found Script) keeps (reported.files Script));
-        holds = record {
-          input = reported.holds.input;
-          known = reported.holds.known;
-          reports = inl (related, file_read one_request name has.found text related has.holds is, reported.holds.reports);
-          leaves = reported.holds.leaves;
-        };
-      }) result
-
--- ---- the configuration
-
-module _ (needs : Needs) (Then : Answers) (name request wanted script : Option (List ℕ)) (shelf : Option FileMap) (Same : Type 0) (before now : Option (List ℕ)) where
-  abbrev pub HasConfOutcome : Outcome → Type 0
-  HasConfOutcome = HasFilesOutcome shelf Same before now (ReportsFiles needs Then (file_names name request wanted script)) (file_names name request wanted script)
-
-  -- one that is refused, whatever is there under the other names
-  refused_by_conf : (found : Option (List ℕ)) (cause : FileRefusal) (refusal : Refusal) → IsFound shelf name found → Same → refusal ≡ Of OfConf cause
-      → ((others : Found) → others Conf ≡ found → (input : List ℕ) → ReportsFiles needs Then (file_names name request wanted script) others input (Refused (Of OfConf cause))) → HasConfOutcome (Refused refusal)
-  refused_by_conf found cause refusal known same is reports =
-      let names = file_names name request wanted script in
-      let one = some_found shelf request in
-      let other = some_found shelf wanted in
-      let last = some_found shelf script in
-      let others = file_names found one.0 other.0 last.0 in
-      refused_early shelf Same before now (ReportsFiles needs Then names) names OfConf others cause refusal conf_early
-      (all_found shelf name request wanted script found one.0 other.0 last.0 known one.1 other.1 last.1) same is (reports others refl)
-
-  -- a stop while the configuration is read
-  pub conf_stopped : (stop : Stop) → Same → IfStopped stop (λ refusal. HasFound shelf name (λ found. IsRefusalFor (IsConfRefused name found) (λ cause. Of OfConf cause) refusal))
-      → IfOutcome (Err stop) HasConfOutcome
+  -- the configuration is refused
+  pub conf_stopped : (stop : Stop) → Same → IfRefusedFor shelf words Conf (IsConfLacking needs) OfConf stop → IfOutcome (Err stop) HasFilesOutcome
   conf_stopped Memory same has = tt
   conf_stopped ReadFailed same has = tt
   conf_stopped (IsRefused refusal) same has =
+      let request = some_named shelf words Request in
+      let wanted = some_named shelf words Wanted in
+      let script = some_named shelf words Script in
       let cause = has.holds in
-      refused_by_conf has.found cause.0 refusal has.known same cause.2
-      (λ others is input. inr (cause.0, subst (λ (f : Option (List ℕ)). IsConfRefused name f cause.0) (sym is) cause.1, refl))
+      refused_early OfConf (file_names has.found request.0 wanted.0 script.0) cause.0 refusal conf_early (all_there has.found request.0 wanted.0 script.0 has.known request.1 wanted.1 script.1) same cause.2
+      (λ input. cause.1)
 
-  -- one because it lacks a table
-  pub table_stopped : (conf : Configuration) (stop : Stop) → Same → HasFound shelf name (λ found. IsConfigured name found conf)
-      → IfRefused stop (IsRefusalFor (IsTableMissing needs conf) (λ cause. Of OfConf cause)) → IfOutcome (Err stop) HasConfOutcome
-  table_stopped conf Memory same has is = tt
-  table_stopped conf ReadFailed same has is = tt
-  table_stopped conf (IsRefused refusal) same has is =
-      refused_by_conf has.found is.0 refusal has.known same is.2
-      (λ others there input. inl (conf, subst (λ (f : Option (List ℕ)). IsConfigured name f conf) (sym there) has.holds, inr (is.0, is.1, refl)))
+  -- ---- with a configuration
 
-  -- what comes after it, of a shelf that keeps its files
-  pub conf_read : (conf : Configuration) (later : Option FileMap) (result : Result Outcome Stop) → HasFound shelf name (λ found. IsConfigured name found conf) → HasTables needs conf → KeepsFiles shelf later
-      → IfOutcome result (HasRequestOutcome Then conf request wanted script later Same before now) → IfOutcome result HasConfOutcome
-  conf_read conf later result has tables keeps =
-      went_on (λ outcome reported. record {
-        found = file_names has.found (reported.found Request) (reported.found Wanted) (reported.found Script);
-        files = all_found shelf name request wanted script has.found (reported.found Request) (reported.found Wanted) (reported.found Script) has.known
-            (found_before shelf later request (reported.found Request) keeps (reported.files Request))
-            (found_before shelf later wanted (reported.found Wanted) keeps (reported.files Wanted))
-            (found_before shelf later script (reported.found Script) keeps (reported.files Script));
-        holds = record {
-          input = reported.holds.input;
-          known = reported.holds.known;
-          reports = inl (conf, has.holds, inl (tt, tables, reported.holds.reports));
-          leaves = reported.holds.leaves;
-        };
-      }) result
+  module _ (conf : Configuration) (configured : HasRead shelf words Conf (IsConfRead needs) conf) where
+    -- the request is refused
+    pub request_stopped : (stop : Stop) → Same → IfRefusedFor shelf words Request IsRequestRefused OfRequest stop → IfOutcome (Err stop) HasFilesOutcome
+    request_stopped Memory same has = tt
+    request_stopped ReadFailed same has = tt
+    request_stopped (IsRefused refusal) same has =
+        let wanted = some_named shelf words Wanted in
+        let script = some_named shelf words Script in
+        let cause = has.holds in
+        refused_early OfRequest (file_names configured.found has.found wanted.0 script.0) cause.0 refusal request_early
+        (all_there configured.found has.found wanted.0 script.0 configured.known has.known wanted.1 script.1) same cause.2 (λ input. ((conf, configured.holds), cause.1))
+
+    -- ---- with a request, or none
+
+    module _ (related : Option Message) (requested : HasRead shelf words Request IsRequested related) where
+      -- the message that wishes signatures is refused
+      pub wishes_stopped : (stop : Stop) → Same → IfRefusedFor shelf words Wanted IsWantedRefused OfWanted stop → IfOutcome (Err stop) HasFilesOutcome
+      wishes_stopped Memory same has = tt
+      wishes_stopped ReadFailed same has = tt
+      wishes_stopped (IsRefused refusal) same has =
+          let script = some_named shelf words Script in
+          let cause = has.holds in
+          refused_early OfWanted (file_names configured.found requested.found has.found script.0) cause.0 refusal wanted_early
+          (all_there configured.found requested.found has.found script.0 configured.known requested.known has.known script.1) same cause.2
+          (λ input. (record { conf = (conf, configured.holds); request = (related, requested.holds) }, cause.1))
+
+      -- ---- with wishes, or none
+
+      module _ (wishes : Option Message) (wanted : HasRead shelf words Wanted IsWanted wishes) where
+        -- the script is refused
+        pub script_stopped : (stop : Stop) → Same → IfRefusedFor shelf words Script IsScriptRefused OfScript stop → IfOutcome (Err stop) HasFilesOutcome
+        script_stopped Memory same has = tt
+        script_stopped ReadFailed same has = tt
+        script_stopped (IsRefused refusal) same has =
+            let cause = has.holds in
+            refused_early OfScript (file_names configured.found requested.found wanted.found has.found) cause.0 refusal script_early
+            (all_there configured.found requested.found wanted.found has.found configured.known requested.known wanted.known has.known) same cause.2
+            (λ input. (record { before = record { conf = (conf, configured.holds); request = (related, requested.holds) }; wishes = (wishes, wanted.holds) }, cause.1))
+
+        -- ---- with a script
+
+        module _ (script : List Rewrite) (scripted : HasRead shelf words Script IsScripted script) where
+          abbrev pub files : FileValues
+          files = record { conf = conf; related = related; wishes = wishes; script = script }
+
+          abbrev all_texts : Found
+          all_texts = file_names configured.found requested.found wanted.found scripted.found
+
+          input_read : (input : List ℕ) (outcome : Outcome) → ReportsMessage Then files input outcome → ReportsFiles needs Then (names_of words) all_texts input outcome
+          input_read input outcome (inl (message, is, then)) =
+              inl (
+                taken_with files message,
+                record { conf = configured.holds; requested = requested.holds; wanted = wanted.holds; scripted = scripted.holds; is = is; context_is = refl },
+                then,
+              )
+          input_read input outcome (inr (cause, refused, same)) =
+              inr (
+                Of Input cause,
+                (
+                  record { before = record { conf = (conf, configured.holds); request = (related, requested.holds) }; wishes = (wishes, wanted.holds) },
+                  (script, scripted.holds),
+                  record { related = related; requested = requested.holds; refused = refused },
+                ),
+                same,
+              )
+
+          -- what comes of the input
+          pub all_read : (result : Result Outcome Stop) (borrowed : FileValues) → borrowed ≡ files → IfOutcome result (HasInput (ReportsMessage Then borrowed) (LeavesInput Same before now) before)
+              → IfOutcome result HasFilesOutcome
+          all_read result borrowed same =
+              went_on (λ outcome reported. record {
+                found = all_texts;
+                files = all_there configured.found requested.found wanted.found scripted.found configured.known requested.known wanted.known scripted.known;
+                holds = record {
+                  input = reported.input;
+                  known = reported.known;
+                  reports = input_read reported.input outcome (subst (λ (v : FileValues). ReportsMessage Then v reported.input outcome) same reported.reports);
+                  leaves = reported.leaves;
+                };
+              }) result
 
 -- files that are kept twice are kept
 pub keeps_both : (before middle now : Option FileMap) → KeepsFiles before middle → KeepsFiles middle now → KeepsFiles before now
@@ -399,15 +413,6 @@ keeps_both (Some files) middle now keeps also = subst (λ (shelf : Option FileMa
 abbrev pub weighed : {X : Type 0} → ℕ → Option X → ℕ
 weighed weight None = 0
 weighed weight (Some x) = weight
-
--- a sum over the files that have a name
-pub record Total : Type 0 where
-  pub conf : ℕ
-  pub request : ℕ
-  pub wanted : ℕ
-  pub script : ℕ
-  pub total : FileNames → ℕ
-  pub is : (a b c d : Option (List ℕ)) → total (file_names a b c d) ≡ weighed conf a + (weighed request b + (weighed wanted c + weighed script d))
 
 pub files_counted : (a b c d : Option (List ℕ)) → file_count (file_names a b c d) ≡ weighed 1 a + (weighed 1 b + (weighed 1 c + weighed 1 d))
 files_counted None None None None = refl
@@ -446,125 +451,64 @@ files_measured (Some x) (Some y) None (Some s) = refl
 files_measured (Some x) (Some y) (Some z) None = refl
 files_measured (Some x) (Some y) (Some z) (Some s) = refl
 
--- how many files they are
-abbrev pub counted : Total
-counted = record { conf = 1; request = 1; wanted = 1; script = 1; total = file_count; is = files_counted }
+-- of one file, or none where it isn't named, a shelf is asked
+pub record AsksOne {X S : Type 0} (files : S → Option FileMap) (asked reached : S → ℕ) (weight : ℕ) (name : Option X) (before now : S) : Type 0 where
+  pub keeps : KeepsFiles (files before) (files now)
+  pub asks : asked now ≤ asked before + 1
+  pub reaches : reached now ≤ reached before + weight
+  pub unasked : IfNone name (now ≡ before)
 
--- how many bytes are read of them at most
-abbrev pub measured : Total
-measured = record {
-  conf = MAX_CONF_BYTES + 1;
-  request = MAX_INPUT_BYTES + 1;
-  wanted = MAX_INPUT_BYTES + 1;
-  script = MAX_SCRIPT_BYTES + 1;
-  total = file_bytes;
-  is = files_measured;
+-- of none
+keeps_same : (shelf : Option FileMap) → KeepsFiles shelf shelf
+keeps_same None = tt
+keeps_same (Some files) = refl
+
+or_named : {X : Type 0} (name : Option X) (P : Type 0) → P → IfNone name P
+or_named None P p = p
+or_named (Some x) P p = tt
+
+pub asks_none : {X S : Type 0} (files : S → Option FileMap) (asked reached : S → ℕ) (weight : ℕ) (name : Option X) (shelf : S) → AsksOne files asked reached weight name shelf shelf
+asks_none files asked reached weight name shelf = record {
+  keeps = keeps_same (files shelf);
+  asks = omega arith;
+  reaches = omega arith;
+  unasked = or_named name (shelf ≡ shelf) refl;
 }
 
-one_counted : {X S : Type 0} (asked : S → ℕ) (f : X → List ℕ) (weight : ℕ) (name : Option X) (before now : S) → IfNone name (now ≡ before) → asked now ≤ asked before + weight
+pub one_counted : {X S : Type 0} (asked : S → ℕ) (f : X → List ℕ) (weight : ℕ) (name : Option X) (before now : S) → IfNone name (now ≡ before) → asked now ≤ asked before + weight
     → asked now ≤ asked before + weighed weight (option_map f name)
 one_counted asked f weight None before now same one = omega (arith, ap asked same)
 one_counted asked f weight (Some x) before now same one = one
 
--- of a message that wishes signatures, and of the script that is asked for after it
-pub wishes_asked : {X S : Type 0} (sums : Total) (asked : S → ℕ) (f : X → List ℕ) (wanted script : Option X) (before middle now : S)
-    → IfNone wanted (middle ≡ before) → asked middle ≤ asked before + sums.wanted → IfNone script (now ≡ middle) → asked now ≤ asked middle + sums.script
-    → asked now ≤ asked before + sums.total (file_names None None (option_map f wanted) (option_map f script))
-wishes_asked sums asked f wanted script before middle now same one also other =
-    let first = one_counted asked f sums.wanted wanted before middle same one in
-    let second = one_counted asked f sums.script script middle now also other in
-    omega (arith, first, second, sums.is None None (option_map f wanted) (option_map f script))
+not_named : {X S : Type 0} (f : X → List ℕ) (name : Option X) (before now : S) → option_map f name ≡ None → IfNone name (now ≡ before) → now ≡ before
+not_named f None before now none same = same
+not_named f (Some x) before now none same = absurd (cc none)
 
--- where nothing comes after it
-pub wishes_asked_alone : {X S : Type 0} (sums : Total) (asked : S → ℕ) (f : X → List ℕ) (wanted script : Option X) (before now : S) → IfNone wanted (now ≡ before) → asked now ≤ asked before + sums.wanted
-    → asked now ≤ asked before + sums.total (file_names None None (option_map f wanted) (option_map f script))
-wishes_asked_alone sums asked f wanted script before now same one =
-    omega (arith, one_counted asked f sums.wanted wanted before now same one, sums.is None None (option_map f wanted) (option_map f script))
+summed : (total u v w x a b c d e : ℕ) → total ≡ u + (v + (w + x)) → b ≤ a + u → c ≤ b + v → d ≤ c + w → e ≤ d + x → e ≤ a + total
+summed total u v w x a b c d e is one two three four = omega (arith, is, one, two, three, four)
 
--- of a request, and of what is asked for after it
-pub request_asked : {X S : Type 0} (sums : Total) (asked : S → ℕ) (f : X → List ℕ) (request wanted script : Option X) (before middle now : S)
-    → IfNone request (middle ≡ before) → asked middle ≤ asked before + sums.request → asked now ≤ asked middle + sums.total (file_names None None (option_map f wanted) (option_map f script))
-    → asked now ≤ asked before + sums.total (file_names None (option_map f request) (option_map f wanted) (option_map f script))
-request_asked sums asked f request wanted script before middle now same one others =
-    let first = one_counted asked f sums.request request before middle same one in
-    let later = sums.is None None (option_map f wanted) (option_map f script) in
-    omega (arith, first, others, later, sums.is None (option_map f request) (option_map f wanted) (option_map f script))
-
--- where nothing comes after it
-pub request_asked_alone : {X S : Type 0} (sums : Total) (asked : S → ℕ) (f : X → List ℕ) (request wanted script : Option X) (before now : S) → IfNone request (now ≡ before)
-    → asked now ≤ asked before + sums.request
-    → asked now ≤ asked before + sums.total (file_names None (option_map f request) (option_map f wanted) (option_map f script))
-request_asked_alone sums asked f request wanted script before now same one =
-    let first = one_counted asked f sums.request request before now same one in
-    omega (arith, first, sums.is None (option_map f request) (option_map f wanted) (option_map f script))
-
--- of a configuration, and of what is asked for after it
-pub conf_asked : {X S : Type 0} (sums : Total) (asked : S → ℕ) (f : X → List ℕ) (conf request wanted script : Option X) (before middle now : S)
-    → IfNone conf (middle ≡ before) → asked middle ≤ asked before + sums.conf
-    → asked now ≤ asked middle + sums.total (file_names None (option_map f request) (option_map f wanted) (option_map f script))
-    → asked now ≤ asked before + sums.total (file_names (option_map f conf) (option_map f request) (option_map f wanted) (option_map f script))
-conf_asked sums asked f conf request wanted script before middle now same one others =
-    let first = one_counted asked f sums.conf conf before middle same one in
-    let later = sums.is None (option_map f request) (option_map f wanted) (option_map f script) in
-    omega (arith, first, others, later, sums.is (option_map f conf) (option_map f request) (option_map f wanted) (option_map f script))
-
--- where nothing comes after it
-pub conf_asked_alone : {X S : Type 0} (sums : Total) (asked : S → ℕ) (f : X → List ℕ) (conf request wanted script : Option X) (before now : S) → IfNone conf (now ≡ before)
-    → asked now ≤ asked before + sums.conf
-    → asked now ≤ asked before + sums.total (file_names (option_map f conf) (option_map f request) (option_map f wanted) (option_map f script))
-conf_asked_alone sums asked f conf request wanted script before now same one =
-    let first = one_counted asked f sums.conf conf before now same one in
-    omega (arith, first, sums.is (option_map f conf) (option_map f request) (option_map f wanted) (option_map f script))
-
--- ---- nothing is asked for where no file is named
-
--- two states that are the same where names are missing
-pub then_unasked : {X S : Type 0} (name : Option X) (before middle now : S) (Rest : Type 0 → Type 0) → ((P Q : Type 0) → (P → Q) → Rest P → Rest Q)
-    → IfNone name (middle ≡ before) → Rest (now ≡ middle) → IfNone name (Rest (now ≡ before))
-then_unasked None before middle now Rest more same also = more (now ≡ middle) (now ≡ before) (λ e. e ∙ same) also
-then_unasked (Some x) before middle now Rest more same also = tt
-
-pub if_none : {X : Type 0} (name : Option X) (P Q : Type 0) → (P → Q) → IfNone name P → IfNone name Q
-if_none None P Q f p = f p
-if_none (Some x) P Q f p = p
-
--- what holds holds where a name is missing
-pub or_named : {X : Type 0} (name : Option X) (P : Type 0) → P → IfNone name P
-or_named None P p = p
-or_named (Some x) P p = tt
-
-pub both_unasked : {X S : Type 0} (wanted script : Option X) (before middle now : S) → IfNone wanted (middle ≡ before) → IfNone script (now ≡ middle)
-    → IfNone wanted (IfNone script (now ≡ before))
-both_unasked wanted script before middle now same also = then_unasked wanted before middle now (λ P. IfNone script P) (if_none script) same also
-
-pub one_unasked : {X S : Type 0} (wanted script : Option X) (before now : S) → IfNone wanted (now ≡ before) → IfNone wanted (IfNone script (now ≡ before))
-one_unasked wanted script before now same = if_none wanted (now ≡ before) (IfNone script (now ≡ before)) (or_named script (now ≡ before)) same
-
-pub request_unasked : {X S : Type 0} (request wanted script : Option X) (before middle now : S) → IfNone request (middle ≡ before) → IfNone wanted (IfNone script (now ≡ middle))
-    → IfNone request (IfNone wanted (IfNone script (now ≡ before)))
-request_unasked request wanted script before middle now same also =
-    then_unasked request before middle now (λ P. IfNone wanted (IfNone script P)) (λ P Q f. if_none wanted (IfNone script P) (IfNone script Q) (if_none script P Q f)) same also
-
-pub request_unasked_alone : {X S : Type 0} (request wanted script : Option X) (before now : S) → IfNone request (now ≡ before) → IfNone request (IfNone wanted (IfNone script (now ≡ before)))
-request_unasked_alone request wanted script before now same =
-    if_none request (now ≡ before) (IfNone wanted (IfNone script (now ≡ before))) (λ e. or_named wanted (IfNone script (now ≡ before)) (or_named script (now ≡ before) e)) same
-
-pub all_unasked : {X S : Type 0} (conf request wanted script : Option X) (before middle now : S) → IfNone conf (middle ≡ before) → IfNone request (IfNone wanted (IfNone script (now ≡ middle)))
-    → IfNone conf (IfNone request (IfNone wanted (IfNone script (now ≡ before))))
-all_unasked conf request wanted script before middle now same also =
-    then_unasked conf before middle now (λ P. IfNone request (IfNone wanted (IfNone script P)))
-    (λ P Q f. if_none request (IfNone wanted (IfNone script P)) (IfNone wanted (IfNone script Q)) (if_none wanted (IfNone script P) (IfNone script Q) (if_none script P Q f))) same also
-
-pub conf_unasked : {X S : Type 0} (conf request wanted script : Option X) (before now : S) → IfNone conf (now ≡ before)
-    → IfNone conf (IfNone request (IfNone wanted (IfNone script (now ≡ before))))
-conf_unasked conf request wanted script before now same =
-    if_none conf (now ≡ before) (IfNone request (IfNone wanted (IfNone script (now ≡ before))))
-    (λ e. or_named request (IfNone wanted (IfNone script (now ≡ before))) (or_named wanted (IfNone script (now ≡ before)) (or_named script (now ≡ before) e))) same
-
--- where a file isn't named, nothing is asked of the shelf for it
-pub none_named : {X : Type 0} (f : X → List ℕ) (name : Option X) (P : Type 0) → option_map f name ≡ None → IfNone name P → P
-none_named f None P same is = is
-none_named f (Some x) P same is = absurd cc
+-- of all four, in order
+module _ {X S : Type 0} (files : S → Option FileMap) (asked reached : S → ℕ) (f : X → List ℕ) (conf request wanted script : Option X) (a b c d e : S) where
+  pub asks_all : AsksOne files asked reached (MAX_CONF_BYTES + 1) conf a b → AsksOne files asked reached (MAX_INPUT_BYTES + 1) request b c → AsksOne files asked reached (MAX_INPUT_BYTES + 1) wanted c d
+      → AsksOne files asked reached (MAX_SCRIPT_BYTES + 1) script d e
+      → Asks (file_names (option_map f conf) (option_map f request) (option_map f wanted) (option_map f script)) (files a) (files e) (asked a) (asked e) (reached a) (reached e) (e ≡ a)
+  asks_all one two three four =
+      let first = option_map f conf in
+      let second = option_map f request in
+      let third = option_map f wanted in
+      let fourth = option_map f script in
+      record {
+        files = keeps_both (files a) (files b) (files e) one.keeps (keeps_both (files b) (files c) (files e) two.keeps (keeps_both (files c) (files d) (files e) three.keeps four.keeps));
+        asks = summed (file_count (file_names first second third fourth)) (weighed 1 first) (weighed 1 second) (weighed 1 third) (weighed 1 fourth) (asked a) (asked b) (asked c) (asked d) (asked e) (files_counted first second third fourth)
+            (one_counted asked f 1 conf a b one.unasked one.asks) (one_counted asked f 1 request b c two.unasked two.asks) (one_counted asked f 1 wanted c d three.unasked three.asks)
+            (one_counted asked f 1 script d e four.unasked four.asks);
+        reaches = summed (file_bytes (file_names first second third fourth)) (weighed (MAX_CONF_BYTES + 1) first) (weighed (MAX_INPUT_BYTES + 1) second) (weighed (MAX_INPUT_BYTES + 1) third) (weighed (MAX_SCRIPT_BYTES + 1) fourth)
+            (reached a) (reached b) (reached c) (reached d) (reached e) (files_measured first second third fourth)
+            (one_counted reached f (MAX_CONF_BYTES + 1) conf a b one.unasked one.reaches) (one_counted reached f (MAX_INPUT_BYTES + 1) request b c two.unasked two.reaches)
+            (one_counted reached f (MAX_INPUT_BYTES + 1) wanted c d three.unasked three.reaches) (one_counted reached f (MAX_SCRIPT_BYTES + 1) script d e four.unasked four.reaches);
+        unasked = λ none.
+            not_named f script d e (none Script) four.unasked ∙ (not_named f wanted c d (none Wanted) three.unasked ∙ (not_named f request b c (none Request) two.unasked ∙ not_named f conf a b (none Conf) one.unasked));
+      }
 
 pub never : {X : Type 0} {P : Type 0} (x : X) → Some x ≡ None → P
 never x e = absurd cc
@@ -617,38 +561,21 @@ whole_status (NotOk text) = refl
 whole_status (Refused refusal) = whole_refusal (refusal_status refusal) (status_of_refusal refusal)
 
 -- an outcome that was written whole ends the run with its status
-pub written_outcome : (arguments : List (List ℕ)) (shelf : Option FileMap) (Same : Type 0) (before left taken now : Option (List ℕ)) (outcome : Outcome) (status : Status) (output : List ℕ)
-    → HasReport arguments shelf Same before left outcome → status ≡ status_of outcome → output ≡ output_of outcome → Appends taken now output → list_all is_byte output ≡ true
+pub written_outcome : (arguments : List (List ℕ)) (shelf : Option FileMap) (Same : Type 0) (before left taken now : Option (List ℕ)) (outcome : Outcome) (status : Status)
+    → HasReport arguments shelf Same before left outcome → status ≡ status_of outcome → Appends taken now (output_of outcome) → list_all is_byte (output_of outcome) ≡ true
     → Ends arguments shelf Same before left taken now status
-written_outcome arguments shelf Same before left taken now outcome status output has s o all bytes =
-    whole_ends arguments shelf Same before left taken now outcome status (subst (λ (st : Status). is_whole st ≡ true) (sym s) (whole_status outcome)) has (sym s)
-    (subst (λ (text : List ℕ). Appends taken now text) o all) (subst (λ (text : List ℕ). list_all is_byte text ≡ true) o bytes)
-
--- an outcome of which only a prefix was written
-pub failed_outcome : (arguments : List (List ℕ)) (shelf : Option FileMap) (Same : Type 0) (before left taken now : Option (List ℕ)) (outcome : Outcome) (output : List ℕ)
-    → HasReport arguments shelf Same before left outcome → output ≡ output_of outcome → AppendsPrefix taken now output → list_all is_byte output ≡ true
-    → Ends arguments shelf Same before left taken now WriteFault
-failed_outcome arguments shelf Same before left taken now outcome output has o prefix bytes =
-    (outcome, has, subst (λ (text : List ℕ). AppendsPrefix taken now text) o prefix, subst (λ (text : List ℕ). list_all is_byte text ≡ true) o bytes)
+written_outcome arguments shelf Same before left taken now outcome status has is all bytes =
+    whole_ends arguments shelf Same before left taken now outcome status (subst (λ (s : Status). is_whole s ≡ true) (sym is) (whole_status outcome)) has (sym is) all bytes
 
 -- ---- the counts of faults, where an outcome was written whole
 
-not_read_fault : (outcome : Outcome) → status_of outcome ≡ ReadFault → ⊥
+pub not_read_fault : (outcome : Outcome) → status_of outcome ≡ ReadFault → ⊥
 unfolding is_whole
 not_read_fault outcome same = false≢true (sym (ap is_whole same) ∙ whole_status outcome)
 
 not_write_fault : (outcome : Outcome) → status_of outcome ≡ WriteFault → ⊥
 unfolding is_whole
 not_write_fault outcome same = false≢true (sym (ap is_whole same) ∙ whole_status outcome)
-
-pub counts_no_read : (Same : Type 0) (outcome : Outcome) (status : Status) (shelf shelf_now source source_now : ℕ) → status ≡ status_of outcome
-    → (shelf_now ≡ shelf) × (source_now ≡ source) → CountsReads Same status shelf shelf_now source source_now
-counts_no_read Same outcome status shelf shelf_now source source_now is same = record {
-  shelf_later = omega (arith, same.0);
-  source_later = omega (arith, same.1);
-  rose = λ fault. absurd (not_read_fault outcome (sym is ∙ fault));
-  kept = inr same;
-}
 
 pub counts_no_write : (outcome : Outcome) (status : Status) (before now : ℕ) → status ≡ status_of outcome → now ≡ before → CountsFaults WriteFault status before now
 counts_no_write outcome status before now is same = record {

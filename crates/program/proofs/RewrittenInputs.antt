@@ -1,6 +1,6 @@
 -- What `rewrite` writes under a label has the verdict on it that the message had that was read.
 use Rattle.std.proofs.Common.{◌≡◌, ◌≤◌, ℕ, Bool, Option, Some, None, List, [], ◌∷◌, length, refl, sym, subst, inl, inr}
-use Rattle.std.specs.Prelude.{⊤, IsTrue, not}
+use Rattle.std.specs.Prelude.{IsTrue, not}
 use Rattle.std.specs.List.{list_any}
 use Rattle.command_line.specs.Command.{CommandLine, Rewrite, Verify, RewriteWords, VerifyWords, IsCommand}
 use Rattle.command_line.proofs.CommandLaws.{one_command}
@@ -16,7 +16,6 @@ use Rattle.verdicts.specs.declared.outcome.Verdict.{Verdict}
 use Rattle.commands.specs.Configured.{IsConfigured}
 use Rattle.verdicts.specs.Contexts.{context_for}
 use Rattle.commands.specs.Files.{Found, Conf as ConfFile, Request as RequestFile, Script as ScriptFile}
-use Rattle.commands.specs.Layers.{ReadsThen}
 use Rattle.commands.specs.Messages.{IsInputMessage}
 use Rattle.msg_body.specs.WholeTexts.{IsWhole, reading_for}
 use Rattle.commands.specs.MessageFiles.{IsRequested}
@@ -28,15 +27,16 @@ use Rattle.commands.specs.declared.outcome.Outcome.{Outcome}
 use Rattle.commands.specs.declared.outcome.Outcome.TheVariants.{Done}
 use Rattle.commands.specs.declared.tables.Needs.TheVariants.{Nothing}
 use Rattle.refusals.specs.declared.refusal.Refusal.{Refusal}
-use Rattle.refusals.specs.declared.refusal.Refusal.TheVariants.{Of}
+use Rattle.refusals.specs.declared.refusal.Refusal.TheVariants.{Arguments, Of, Command}
 use Rattle.refusals.specs.declared.refusal.TheConstants.{MAX_INPUT_BYTES}
-use Rattle.refusals.specs.declared.role.Role.TheVariants.{Conf as OfConf, Request as OfRequest, Wanted as OfWanted, Script as OfScript}
+use Rattle.refusals.specs.declared.role.Role.TheVariants.{Conf, Request, Wanted, Script, Input, Item}
 use Rattle.program.specs.Commands.{name_of}
+use Rattle.program.specs.Intake.{IsIntake, IsIntakeRefused, TakenValues}
 use Rattle.program.specs.Laws.{IsVerdictKept}
-use Rattle.program.specs.Report.{Answers, Reports, ReportsCommand, ReportsMessage, ReportsRequest, ReportsScript, ReportsTables, ReportsWishes}
+use Rattle.program.specs.Report.{Reports, ReportsCommand}
 use Rattle.program.proofs.Sources.{spelled_input}
-use Rattle.program.proofs.SignedInputs.{label_verdict, read_as, short_of, to_head_is}
-use Rattle.program.proofs.CommandLaws.{request_decided, message_where_rewritten, values_where_scripted, verdict_where_rewritten, writable_where_scripted}
+use Rattle.program.proofs.SignedInputs.{input_not_refused, label_verdict, short_of, taken_context, to_head_is}
+use Rattle.program.proofs.CommandLaws.{message_where_rewritten, values_where_scripted, verdict_where_rewritten, writable_where_scripted}
 
 -- ---- what `rewrite` read
 
@@ -54,21 +54,16 @@ record IsRewritten (words : RewriteWords) (found : Found) (input written : List 
 
 of_files : (words : RewriteWords) (found : Found) (input written : List ℕ) → ReportsCommand (Rewrite words) found input (Done written) → IsRewritten words found input written
 of_files words found input written (inr cause) = absurd (cc cause.2)
-of_files words found input written (inl (conf, configured, inr cause)) = absurd (cc cause.2)
-of_files words found input written (inl (conf, configured, inl (_, tables, inr cause))) = absurd (cc cause.2)
-of_files words found input written (inl (conf, configured, inl (_, tables, inl (related, requested, inr cause)))) = absurd (cc cause.2)
-of_files words found input written (inl (conf, configured, inl (_, tables, inl (related, requested, inl (wishes, wanted, inr cause))))) = absurd (cc cause.2)
-of_files words found input written (inl (conf, configured, inl (_, tables, inl (related, requested, inl (wishes, wanted, inl (script, scripted, inr cause)))))) = absurd (cc cause.2)
-of_files words found input written (inl (conf, configured, inl (_, tables, inl (related, requested, inl (wishes, wanted, inl (script, scripted, inl (message, is, reports))))))) = record {
-  related = related;
-  requested = requested;
-  script = script;
-  scripted = scripted;
-  message = message;
-  is = is;
-  conf = conf;
-  configured = configured;
-  reports = reports;
+of_files words found input written (inl (taken, is, reports)) = record {
+  related = taken.context.related;
+  requested = is.requested;
+  script = taken.script;
+  scripted = is.scripted;
+  message = taken.context.message;
+  is = is.is;
+  conf = taken.conf;
+  configured = is.conf.configured;
+  reports = subst (λ (context : MessageContext). ReportsRewriting words.label taken.script context (Done written)) is.context_is reports;
 }
 
 rewritten_parts : (arguments : List (List ℕ)) (words : RewriteWords) (found : Found) (input written : List ℕ) → IsCommand arguments (Rewrite words) → Reports arguments found input (Done written)
@@ -101,54 +96,36 @@ verdicts_same words conf label context other outcome asked same reports =
 
 -- ---- both
 
--- a layer that leads to more of an outcome
-more_of : {V C : Type 0} (Reads : V → Type 0) (Causes : C → Type 0) (refusal_of : C → Refusal) (Then Other : V → Outcome → Type 0) (outcome : Outcome)
-    → ((value : V) → Reads value → Then value outcome → Other value outcome) → ReadsThen Reads Causes refusal_of Then outcome → ReadsThen Reads Causes refusal_of Other outcome
-more_of Reads Causes refusal_of Then Other outcome more (inl read) = inl (read.0, read.1, more read.0 read.1 read.2)
-more_of Reads Causes refusal_of Then Other outcome more (inr cause) = inr cause
-
 module _ (verified : VerifyWords) (label : List ℕ) (asked : verified.label ≡ Some label) (found : Found) (related : Option Message) (requested : IsRequested verified.request (found RequestFile) related)
     (input other : List ℕ) (message after : Message) (short : length input ≤ MAX_INPUT_BYTES) (whole : IsWhole (reading_for related) input message) (also : IsInputMessage (reading_for related) other after)
     (same : (conf : Configuration) → IsConfigured (Some verified.conf) (found ConfFile) conf → (verdict : Verdict) → IsVerdict (verification_for conf verified.now (context_for conf message related) label) verdict
     → IsVerdict (verification_for conf verified.now (context_for conf after related) label) verdict) where
-  Then : Answers
-  Then = λ conf wishes script. ReportsVerdicts verified.label verified.now conf
+  -- what is refused before the input is
+  refused_same : (refusal : Refusal) → IsIntakeRefused Nothing (name_of (Verify verified)) found input refusal → IsIntakeRefused Nothing (name_of (Verify verified)) found other refusal
+  refused_same Arguments un = un
+  refused_same (Command r) un = un
+  refused_same (Of (Item i) r) un = un
+  refused_same (Of Conf r) un = un
+  refused_same (Of Request r) un = un
+  refused_same (Of Wanted r) un = un
+  refused_same (Of Script r) un = un
+  refused_same (Of Input r) un = absurd (input_not_refused verified found input related message requested short whole r un)
 
-  message_same : (conf : Configuration) → IsConfigured (Some verified.conf) (found ConfFile) conf → (wishes : Option Message) (script : List Rewriting) (outcome : Outcome)
-      → ReportsMessage (Then conf wishes script) conf related input outcome → ReportsMessage (Then conf wishes script) conf related other outcome
-  unfolding Then
-  message_same conf configured wishes script outcome reports =
-      let verdicts = (read_as (λ m. ReportsVerdicts verified.label verified.now conf (context_for conf m related)) (reading_for related) input message outcome short whole reports).1 in
-      inl (after, also, verdicts_same verified conf label (context_for conf message related) (context_for conf after related) outcome asked (same conf configured) verdicts)
-
-  script_same : (conf : Configuration) → IsConfigured (Some verified.conf) (found ConfFile) conf → (wishes : Option Message) (outcome : Outcome) → ReportsScript Then conf related wishes (name_of (Verify verified)) found input outcome
-      → ReportsScript Then conf related wishes (name_of (Verify verified)) found other outcome
-  script_same conf configured wishes outcome =
-      more_of _ _ (λ refusal. Of OfScript refusal) (λ s. ReportsMessage (Then conf wishes s) conf related input) (λ s. ReportsMessage (Then conf wishes s) conf related other) outcome
-      (λ script _. message_same conf configured wishes script outcome)
-
-  wishes_same : (conf : Configuration) → IsConfigured (Some verified.conf) (found ConfFile) conf → (outcome : Outcome) → ReportsWishes Then conf related (name_of (Verify verified)) found input outcome
-      → ReportsWishes Then conf related (name_of (Verify verified)) found other outcome
-  wishes_same conf configured outcome =
-      more_of _ _ (λ refusal. Of OfWanted refusal) (λ w. ReportsScript Then conf related w (name_of (Verify verified)) found input) (λ w. ReportsScript Then conf related w (name_of (Verify verified)) found other) outcome
-      (λ wishes _. script_same conf configured wishes outcome)
-
-  request_same : (conf : Configuration) → IsConfigured (Some verified.conf) (found ConfFile) conf → (outcome : Outcome) → ReportsRequest Then conf (name_of (Verify verified)) found input outcome
-      → ReportsRequest Then conf (name_of (Verify verified)) found other outcome
-  request_same conf configured outcome =
-      more_of _ _ (λ refusal. Of OfRequest refusal) (λ r. ReportsWishes Then conf r (name_of (Verify verified)) found input) (λ r. ReportsWishes Then conf r (name_of (Verify verified)) found other) outcome
-      (λ r reads then.
-      let one : related ≡ r = (request_decided verified.request (found RequestFile)).value related r requested reads in
-      subst (λ (q : Option Message). ReportsWishes Then conf q (name_of (Verify verified)) found other outcome) one
-      (wishes_same conf configured outcome (subst (λ (q : Option Message). ReportsWishes Then conf q (name_of (Verify verified)) found input outcome) (sym one) then)))
+  -- what is taken of the other input
+  taken_other : (taken : TakenValues) → IsIntake Nothing (name_of (Verify verified)) found input taken
+      → IsIntake Nothing (name_of (Verify verified)) found other (record { conf = taken.conf; wishes = taken.wishes; script = taken.script; context = context_for taken.conf after related })
+  taken_other taken is = record { conf = is.conf; requested = requested; wanted = is.wanted; scripted = is.scripted; is = also; context_is = refl }
 
   command_same : (outcome : Outcome) → ReportsCommand (Verify verified) found input outcome → ReportsCommand (Verify verified) found other outcome
-  unfolding Then
-  command_same outcome =
-      more_of _ _ (λ refusal. Of OfConf refusal) (λ c. ReportsTables Nothing Then c (name_of (Verify verified)) found input) (λ c. ReportsTables Nothing Then c (name_of (Verify verified)) found other) outcome
-      (λ conf configured.
-      more_of _ _ (λ refusal. Of OfConf refusal) (λ (_ : ⊤). ReportsRequest Then conf (name_of (Verify verified)) found input) (λ (_ : ⊤). ReportsRequest Then conf (name_of (Verify verified)) found other) outcome
-      (λ _ _. request_same conf configured outcome))
+  command_same outcome (inr (refusal, un, refused)) = inr (refusal, refused_same refusal un, refused)
+  command_same outcome (inl (taken, is, reports)) =
+      let own : ReportsVerdicts verified.label verified.now taken.conf (context_for taken.conf message related) outcome =
+      subst (λ (context : MessageContext). ReportsVerdicts verified.label verified.now taken.conf context outcome) (taken_context verified found input related message requested short whole taken is) reports in
+      inl (
+        record { conf = taken.conf; wishes = taken.wishes; script = taken.script; context = context_for taken.conf after related },
+        taken_other taken is,
+        verdicts_same verified taken.conf label (context_for taken.conf message related) (context_for taken.conf after related) outcome asked (same taken.conf is.conf.configured) own,
+      )
 
   reports_same : (arguments : List (List ℕ)) (outcome : Outcome) → IsCommand arguments (Verify verified) → Reports arguments found input outcome → Reports arguments found other outcome
   reports_same arguments outcome spells (inr cause) = absurd (cause.1 (Verify verified) spells)

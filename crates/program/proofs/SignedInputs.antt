@@ -1,6 +1,6 @@
 -- What `sign` writes is accepted by `verify`, or fails a rule of the policy.
 use Rattle.std.proofs.Common.{◌≡◌, ◌<◌, ◌≤◌, ◌^◌, ℕ, Bool, true, ◌&&◌, nat_lt, nat_le, Option, Some, None, List, [], ◌∷◌, codes, length, refl, sym, ap, subst, ◌∙◌, inl, inr, arith}
-use Rattle.std.specs.Prelude.{⊤, IfSome, IsSomeAnd, IsTrue}
+use Rattle.std.specs.Prelude.{IfSome, IsSomeAnd, IsTrue}
 use Rattle.std.specs.List.{list_all}
 use Rattle.std.specs.Str.Parse.{digits_value}
 use Rattle.std.proofs.lemmas.Bool.{and_parts, cases_Bool}
@@ -25,9 +25,8 @@ use Rattle.verdicts.specs.declared.outcome.Verdict.TheVariants.{Ok as Accepted, 
 use Rattle.verdicts.proofs.RightlySigned.{holds_rules_of_signing}
 use Rattle.commands.specs.Configured.{IsConfigured}
 use Rattle.verdicts.specs.Contexts.{context_for}
-use Rattle.commands.specs.Files.{Found, Conf as ConfFile, Request as RequestFile, Wanted as WantedFile, Script as ScriptFile}
+use Rattle.commands.specs.Files.{Found, Conf as ConfFile, Request as RequestFile, Wanted as WantedFile}
 use Rattle.settings.specs.Valid.{IsValid}
-use Rattle.commands.specs.Layers.{ReadsThen, IsDecisive}
 use Rattle.commands.specs.Messages.{IsInputMessage, IsInputRefused}
 use Rattle.msg_body.proofs.OneMessages.{one_message_law}
 use Rattle.msg_body.proofs.WholeTexts.{no_fault_of_whole}
@@ -44,15 +43,17 @@ use Rattle.commands.specs.declared.tables.Needs.TheVariants.{Nothing}
 use Rattle.refusals.specs.declared.file.FileRefusal.{FileRefusal}
 use Rattle.refusals.specs.declared.file.FileRefusal.TheVariants.{Missing, TooLong, Message as NoMessage, Conf as NoConf, Script as NoScript, Recording as NoRecording, Order, TooManyHops}
 use Rattle.refusals.specs.declared.refusal.Refusal.{Refusal}
-use Rattle.refusals.specs.declared.refusal.Refusal.TheVariants.{Of}
-use Rattle.refusals.specs.declared.role.Role.TheVariants.{Conf as OfConf, Request as OfRequest, Wanted as OfWanted, Script as OfScript}
+use Rattle.refusals.specs.declared.refusal.Refusal.TheVariants.{Arguments, Of, Command}
+use Rattle.refusals.specs.declared.role.Role.TheVariants.{Conf, Request, Wanted, Script, Input, Item}
 use Rattle.refusals.specs.declared.refusal.TheConstants.{MAX_INPUT_BYTES}
 use Rattle.program.specs.Commands.{name_of}
+use Rattle.program.specs.Intake.{IsIntake, IsIntakeRefused, TakenValues}
 use Rattle.program.specs.Laws.{IsAcceptedWhereSigned, IsOkOrPolicy, KnowsSigner, VerifiesSigned}
 use Rattle.program.specs.Meanings.{HasSigned, TellsSigned}
-use Rattle.program.specs.Report.{Answers, Reports, ReportsCommand, ReportsInput, ReportsMessage, ReportsRequest, ReportsScript, ReportsTables, ReportsWishes}
+use Rattle.program.specs.Report.{Reports, ReportsCommand}
+use Rattle.program.proofs.IntakeLaws.{conf_not}
 use Rattle.program.proofs.Sources.{spelled_input}
-use Rattle.program.proofs.CommandLaws.{conf_decided, tables_decided, request_decided, wanted_decided, script_decided, valid_where_configured, kept_where_signed, message_where_signed, right_where_signed}
+use Rattle.program.proofs.CommandLaws.{conf_decided, request_decided, wanted_decided, valid_where_configured, kept_where_signed, message_where_signed, right_where_signed}
 
 -- ---- the words of `sign`
 
@@ -89,21 +90,16 @@ record IsSigned (words : SignWords) (found : Found) (input written : List ℕ) :
 
 of_files : (words : SignWords) (found : Found) (input written : List ℕ) → ReportsCommand (Sign words) found input (Done written) → IsSigned words found input written
 of_files words found input written (inr cause) = absurd (cc cause.2)
-of_files words found input written (inl (conf, configured, inr cause)) = absurd (cc cause.2)
-of_files words found input written (inl (conf, configured, inl (_, tables, inr cause))) = absurd (cc cause.2)
-of_files words found input written (inl (conf, configured, inl (_, tables, inl (related, requested, inr cause)))) = absurd (cc cause.2)
-of_files words found input written (inl (conf, configured, inl (_, tables, inl (related, requested, inl (wishes, wanted, inr cause))))) = absurd (cc cause.2)
-of_files words found input written (inl (conf, configured, inl (_, tables, inl (related, requested, inl (wishes, wanted, inl (script, scripted, inr cause)))))) = absurd (cc cause.2)
-of_files words found input written (inl (conf, configured, inl (_, tables, inl (related, requested, inl (wishes, wanted, inl (script, scripted, inl (message, is, reports))))))) = record {
-  conf = conf;
-  configured = configured;
-  related = related;
-  requested = requested;
-  wishes = wishes;
-  wanted = wanted;
-  message = message;
-  is = is;
-  reports = reports;
+of_files words found input written (inl (taken, is, reports)) = record {
+  conf = taken.conf;
+  configured = is.conf.configured;
+  related = taken.context.related;
+  requested = is.requested;
+  wishes = taken.wishes;
+  wanted = is.wanted;
+  message = taken.context.message;
+  is = is.is;
+  reports = subst (λ (context : MessageContext). ReportsSigning words.nonce words.now taken.conf taken.wishes context (Done written)) is.context_is reports;
 }
 
 signed_parts : (arguments : List (List ℕ)) (words : SignWords) (found : Found) (input written : List ℕ) → IsCommand arguments (Sign words) → Reports arguments found input (Done written)
@@ -140,14 +136,6 @@ whole_is related input written message signed is spells start = record {
   spells = subst (λ (to_head : Bool). Spells to_head signed written) (sym (to_head_is related)) spells;
 }
 
--- it is of bytes, where something comes of it
-pub read_as : (Then : Message → Outcome → Type 0) (reading : Reading) (written : List ℕ) (message : Message) (outcome : Outcome) → length written ≤ MAX_INPUT_BYTES → IsWhole reading written message
-    → ReportsInput Then reading written outcome → IsInputMessage reading written message × Then message outcome
-read_as Then reading written message outcome short whole (inr (refusal, refused, _)) = absurd (not_refused reading written message refusal short whole refused)
-read_as Then reading written message outcome short whole (inl (other, is, then)) =
-    let one : other ≡ message = one_message_law reading.to_head written other message is.whole.spells whole.spells in
-    (subst (λ (m : Message). IsInputMessage reading written m) one is, subst (λ (m : Message). Then m outcome) one then)
-
 -- the one label has one verdict
 pub one_verdict : (conf : Configuration) (moment : ℕ) (context : MessageContext) (label : List ℕ) (verdicts : List Verdict) → AreVerdicts conf moment context (label ∷ []) verdicts
     → (verdict : Verdict) × (verdicts ≡ verdict ∷ []) × IsVerdict (verification_for conf moment context label) verdict
@@ -162,25 +150,50 @@ ok_or_policy v keyid (Failing rule place) signed is = elim (cases_Bool (is_rule_
   | inl own ↦ absurd (holds_rules_of_signing v keyid rule place signed own is.holds)
 ]
 
--- what comes after the value that a layer has
-pub then_of : {V C : Type 0} (Reads : V → Type 0) (Causes : C → Type 0) (refusal_of : C → Refusal) (Then : V → Outcome → Type 0) → IsDecisive Reads Causes → (value : V) → Reads value → (outcome : Outcome)
-    → ReadsThen Reads Causes refusal_of Then outcome → Then value outcome
-then_of {V} Reads Causes refusal_of Then d value reads outcome (inl read) = subst (λ (v : V). Then v outcome) (d.value read.0 value read.1 reads) read.2
-then_of Reads Causes refusal_of Then d value reads outcome (inr cause) = absurd (d.either value cause.0 reads cause.1)
+-- a message that is read is the one that it is known to be
+pub read_as : (reading : Reading) (written : List ℕ) (message other : Message) → IsWhole reading written message → IsInputMessage reading written other → other ≡ message
+read_as reading written message other whole is = one_message_law reading.to_head written other message is.whole.spells whole.spells
 
--- what `verify` comes to over a message that is read
-pub verdicts_of : (words : VerifyWords) (found : Found) (written : List ℕ) (outcome : Outcome) (conf : Configuration) (related : Option Message) (message : Message)
-    → IsConfigured (Some words.conf) (found ConfFile) conf → IsRequested words.request (found RequestFile) related → length written ≤ MAX_INPUT_BYTES → IsWhole (reading_for related) written message
-    → ReportsCommand (Verify words) found written outcome → ReportsVerdicts words.label words.now conf (context_for conf message related) outcome
-verdicts_of words found written outcome conf related message configured requested short whole reports =
-    let names = name_of (Verify words) in
-    let Then : Answers = λ conf wishes script. ReportsVerdicts words.label words.now conf in
-    let tables = then_of _ _ (λ refusal. Of OfConf refusal) (λ c. ReportsTables Nothing Then c names found written) (conf_decided (Some words.conf) (found ConfFile)) conf configured outcome reports in
-    let request = then_of _ _ (λ refusal. Of OfConf refusal) (λ (_ : ⊤). ReportsRequest Then conf names found written) (tables_decided Nothing conf) tt tt outcome tables in
-    let wishes = then_of _ _ (λ refusal. Of OfRequest refusal) (λ r. ReportsWishes Then conf r names found written) (request_decided words.request (found RequestFile)) related requested outcome request in
-    let script = then_of _ _ (λ refusal. Of OfWanted refusal) (λ w. ReportsScript Then conf related w names found written) (wanted_decided None (found WantedFile)) None refl outcome wishes in
-    let over = then_of _ _ (λ refusal. Of OfScript refusal) (λ s. ReportsMessage (Then conf None s) conf related written) (script_decided None (found ScriptFile)) [] refl outcome script in
-    (read_as (λ m. ReportsVerdicts words.label words.now conf (context_for conf m related)) (reading_for related) written message outcome short whole over).1
+-- the context that `verify` takes for a message that is read
+module _ (words : VerifyWords) (found : Found) (input : List ℕ) (related : Option Message) (message : Message) (requested : IsRequested words.request (found RequestFile) related)
+    (short : length input ≤ MAX_INPUT_BYTES) (whole : IsWhole (reading_for related) input message) where
+  related_is : (taken : TakenValues) → IsIntake Nothing (name_of (Verify words)) found input taken → taken.context.related ≡ related
+  related_is taken is = (request_decided words.request (found RequestFile)).value taken.context.related related is.requested requested
+
+  pub taken_context : (taken : TakenValues) → IsIntake Nothing (name_of (Verify words)) found input taken → taken.context ≡ context_for taken.conf message related
+  taken_context taken is =
+      let same : taken.context.related ≡ related = related_is taken is in
+      let one : taken.context.message ≡ message = read_as (reading_for related) input message taken.context.message whole
+      (subst (λ (r : Option Message). IsInputMessage (reading_for r) input taken.context.message) same is.is) in
+      let parts : context_for taken.conf taken.context.message taken.context.related ≡ context_for taken.conf message related = λ i. context_for taken.conf (one i) (same i) in
+      is.context_is ∙ parts
+
+  -- the input isn't refused
+  pub input_not_refused : (refusal : FileRefusal) → IsIntakeRefused Nothing (name_of (Verify words)) found input (Of Input refusal) → ⊥
+  input_not_refused refusal un =
+      let same : un.2.related ≡ related = (request_decided words.request (found RequestFile)).value un.2.related related un.2.requested requested in
+      not_refused (reading_for related) input message refusal short whole (subst (λ (r : Option Message). IsInputRefused (reading_for r) input refusal) same un.2.refused)
+
+  -- nor is what comes before it, where the configuration is known
+  none_refused : (conf : Configuration) → IsConfigured (Some words.conf) (found ConfFile) conf → (refusal : Refusal) → IsIntakeRefused Nothing (name_of (Verify words)) found input refusal → ⊥
+  none_refused conf configured Arguments un = un
+  none_refused conf configured (Command r) un = un
+  none_refused conf configured (Of (Item i) r) un = un
+  none_refused conf configured (Of Conf r) un = conf_not Nothing (Some words.conf) (found ConfFile) r (conf, record { configured = configured; tables = tt }) un
+  none_refused conf configured (Of Request r) un = (request_decided words.request (found RequestFile)).either related r requested un.1
+  none_refused conf configured (Of Wanted r) un = un.1
+  none_refused conf configured (Of Script r) un = un.1
+  none_refused conf configured (Of Input r) un = input_not_refused r un
+
+  -- what `verify` comes to over it
+  pub verdicts_of : (conf : Configuration) (outcome : Outcome) → IsConfigured (Some words.conf) (found ConfFile) conf → ReportsCommand (Verify words) found input outcome
+      → ReportsVerdicts words.label words.now conf (context_for conf message related) outcome
+  verdicts_of conf outcome configured (inr (refusal, un, same)) = absurd (none_refused conf configured refusal un)
+  verdicts_of conf outcome configured (inl (taken, is, reports)) =
+      let own : ReportsVerdicts words.label words.now taken.conf (context_for taken.conf message related) outcome =
+      subst (λ (context : MessageContext). ReportsVerdicts words.label words.now taken.conf context outcome) (taken_context taken is) reports in
+      subst (λ (c : Configuration). ReportsVerdicts words.label words.now c (context_for c message related) outcome)
+      ((conf_decided (Some words.conf) (found ConfFile)).value taken.conf conf is.conf.configured configured) own
 
 pub verify_parts : (arguments : List (List ℕ)) (words : VerifyWords) (found : Found) (input : List ℕ) (outcome : Outcome) → IsCommand arguments (Verify words) → Reports arguments found input outcome
     → ReportsCommand (Verify words) found input outcome
@@ -279,8 +292,8 @@ module _ (signed : SignWords) (found : Found) (input written : List ℕ) (timely
         let requested : IsRequested verified.request (other RequestFile) parts.related =
         subst (λ (text : Option (List ℕ)). IsRequested verified.request text parts.related) (sym request)
         (subst (λ (name : Option (List ℕ)). IsRequested name (found RequestFile) parts.related) (sym same.request) parts.requested) in
-        let verdicts = verdicts_of verified other written outcome knows.next parts.related written_message.0 knows.next_configured requested short
-        (whole_is parts.related input written parts.message written_message.0 parts.is written_message.1 written_message.2) reports in
+        let whole = whole_is parts.related input written parts.message written_message.0 parts.is written_message.1 written_message.2 in
+        let verdicts = verdicts_of verified other written parts.related written_message.0 requested short whole knows.next outcome knows.next_configured reports in
         let one = label_verdict verified.label verified.now knows.next (context_for knows.next written_message.0 parts.related) outcome label same.label_is verdicts in
         (one.0, ok_or_policy (verification_for knows.next verified.now (context_for knows.next written_message.0 parts.related) label) keyid one.0 (right_by verified.now) one.1, one.2)
 

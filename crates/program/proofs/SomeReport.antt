@@ -1,11 +1,11 @@
 -- Arguments, what was found and an input have some outcome, and one of status 0 or 1 where the
 -- command has all that it needs.
-use Rattle.std.proofs.Common.{◌≡◌, ◌+◌, inl, inr, ℕ, Bool, true, false, List, [], ◌∷◌, Option, Some, None, refl}
+use Rattle.std.proofs.Common.{◌≡◌, ◌+◌, ◌++◌, inl, inr, ℕ, Bool, true, false, List, [], ◌∷◌, Option, Some, None, refl}
 use Rattle.std.specs.Prelude.{⊤, IsTrue, IsSome}
 use Rattle.std.specs.List.{list_all}
 use Rattle.sfv_text.specs.Classes.{is_byte}
-use Rattle.command_line.specs.Command.{CommandLine, Help, Version, Base, Verify, Sign, Rewrite, Audit, Sample, IsCommand, NoCommand}
-use Rattle.command_line.proofs.CommandOrNone.{command_or_none}
+use Rattle.command_line.specs.Command.{CommandLine, Help, HelpOf, Version, Base, Verify, Sign, Rewrite, Audit, Sample, IsCommand, NoCommand}
+use Rattle.command_line.proofs.SomeCommand.{command_or_none}
 use Rattle.component_ids.specs.declared.params.SigParams.{SigParams}
 use Rattle.component_values.specs.Context.{MessageContext, answers_head, context_with}
 use Rattle.conf.specs.Configuration.{Configuration}
@@ -16,15 +16,11 @@ use Rattle.hop_audit.specs.Lines.{finds_fault}
 use Rattle.hop_audit.specs.declared.line.AuditLine.{AuditLine}
 use Rattle.commands.specs.Audit.{IsRecordingText, IsChainRefused, ReportsAudit, audit_outcome}
 use Rattle.commands.specs.Base.{ReportsValues, ReportsBase}
-use Rattle.verdicts.specs.Contexts.{context_for}
-use Rattle.commands.specs.Configured.{IsConfigured}
-use Rattle.commands.specs.Files.{FileNames, Found, FileRole, Conf as ConfFile, Request as RequestFile, Wanted as WantedFile, Script as ScriptFile}
+use Rattle.commands.specs.Files.{FileNames, Found, FileRole, Conf as ConfFile, Script as ScriptFile}
 use Rattle.commands.specs.Layers.{ReadsThen, HasAnswer}
-use Rattle.msg_body.specs.WholeTexts.{reading_for}
 use Rattle.commands.specs.MessageFiles.{IsOfBytes}
 use Rattle.commands.specs.Rewrite.{IsTaken, ReportsSteps, ReportsRewriting}
 use Rattle.commands.specs.Sign.{ReportsEach, ReportsSigning}
-use Rattle.commands.specs.Tables.{HasTables}
 use Rattle.commands.specs.declared.tables.Needs.{Needs}
 use Rattle.commands.specs.declared.tables.Needs.TheVariants.{Nothing, SignTable}
 use Rattle.msg_body.specs.Messages.{Message, IsMessage, message_text}
@@ -35,14 +31,17 @@ use Rattle.rewrites.specs.Steps.{Steps}
 use Rattle.signing.specs.declared.spec.SignSpec.{SignSpec}
 use Rattle.commands.specs.Verify.{ReportsVerdicts, verdicts_outcome}
 use Rattle.verdicts.specs.Verdicts.{is_accepted}
-use Rattle.commands.specs.declared.help.TheConstants.{HELP_TEXT, VERSION_TEXT}
+use Rattle.commands.specs.Help.{help_text, text_of}
+use Rattle.commands.specs.declared.help.TheConstants.{TITLE_TEXT, VERSION_TEXT}
 use Rattle.commands.specs.declared.outcome.Outcome.{Outcome}
 use Rattle.commands.specs.declared.outcome.Outcome.TheVariants.{Done, Refused}
 use Rattle.refusals.specs.declared.refusal.Refusal.{Refusal}
 use Rattle.program.specs.Laws.{HasSomeReport, IsBaseDone, CanSignEach, IsSignDone, IsRewriteDone, IsServed, HasAll, IsAnswered, IsComplete}
 use Rattle.program.specs.Commands.{name_of}
+use Rattle.program.specs.Intake.{IsConfRead, TakenValues}
 use Rattle.program.specs.Report.{Answers, ReportsCommand, ReportsFiles}
-use Rattle.program.proofs.CommandLaws.{conf_answer, tables_answer, request_answer, wanted_answer, script_answer, input_answer, params_answer, values_answer, verdicts_answer, signing_answer, rewriting_answer, auditing_answer, audit_answer, sampling_answer, writable_where_scripted, valid_where_configured}
+use Rattle.program.proofs.CommandLaws.{conf_answer, params_answer, values_answer, verdicts_answer, signing_answer, rewriting_answer, auditing_answer, audit_answer, sampling_answer, writable_where_scripted, valid_where_configured}
+use Rattle.program.proofs.IntakeLaws.{intake_answer}
 use Rattle.program.proofs.Sources.{spelled_input}
 
 -- some outcome
@@ -57,29 +56,23 @@ some_of_layers Reads Causes refusal_of Then (inr cause) then = (Refused (refusal
 some_of_values : (context : MessageContext) (sig : SigParams) → HasSome (ReportsValues context sig)
 some_of_values context sig = some_of_layers _ _ _ _ (values_answer context sig.ids) (λ values _. (Done (signature_base sig values), refl))
 
-some_of_base : (params : List ℕ) (conf : Configuration) (context : MessageContext) → HasSome (ReportsBase params context)
-some_of_base params conf context = some_of_layers _ _ _ _ (params_answer params) (λ sig _. some_of_values context sig)
+some_of_base : (params : List ℕ) (context : MessageContext) → HasSome (ReportsBase params context)
+some_of_base params context = some_of_layers _ _ _ _ (params_answer params) (λ sig _. some_of_values context sig)
 
 -- the files are of bytes
 abbrev AreOfBytes : Found → Type 0
 AreOfBytes found = (role : FileRole) → IsOfBytes (found role)
 
--- a command over a configuration has some outcome, where it was found under this name and has what is needed
+-- a command has some outcome over what was read for it, where the configuration was found under this name and has what is needed
 abbrev HasSomeAnswer : Needs → Answers → Option (List ℕ) → Option (List ℕ) → Type 0
 HasSomeAnswer needs Then name text =
-    (conf : Configuration) → IsConfigured name text conf → HasTables needs conf → (wishes : Option Message) (script : List Rewriting) → IsTrue (list_all is_writable script)
-    → (context : MessageContext) → IsMessage (answers_head context.related) context.message → HasSome (Then conf wishes script context)
+    (taken : TakenValues) → IsConfRead needs name text taken.conf → IsTrue (list_all is_writable taken.script) → IsMessage (answers_head taken.context.related) taken.context.message → HasSome (Then taken)
 
 some_of_files : (needs : Needs) (Then : Answers) (names : FileNames) (found : Found) (input : List ℕ) → HasSomeAnswer needs Then (names ConfFile) (found ConfFile) → AreOfBytes found
     → IsTrue (list_all is_byte input) → HasSome (ReportsFiles needs Then names found input)
 some_of_files needs Then names found input some files bytes =
-    some_of_layers _ _ _ _ (conf_answer (names ConfFile) (found ConfFile)) (λ conf configured.
-    some_of_layers _ _ _ _ (tables_answer needs conf) (λ _ has.
-    some_of_layers _ _ _ _ (request_answer (names RequestFile) (found RequestFile) (files RequestFile)) (λ related _.
-    some_of_layers _ _ _ _ (wanted_answer (names WantedFile) (found WantedFile) (files WantedFile)) (λ wishes _.
-    some_of_layers _ _ _ _ (script_answer (names ScriptFile) (found ScriptFile)) (λ script scripted.
-    some_of_layers _ _ _ _ (input_answer (reading_for related) input bytes) (λ message is.
-    some conf configured has wishes script (writable_where_scripted (names ScriptFile) (found ScriptFile) script scripted) (context_for conf message related) (spelled_input related input message is).is))))))
+    some_of_layers _ _ _ _ (intake_answer needs names found input files bytes) (λ taken is.
+    some taken is.conf (writable_where_scripted (names ScriptFile) (found ScriptFile) taken.script is.scripted) (spelled_input taken.context.related input taken.context.message is.is).is)
 
 some_sign : (conf : Configuration) → IsSome conf.sign → (sign : SignConf) × (conf.sign ≡ Some sign)
 some_sign conf has = of_option conf.sign has where
@@ -87,25 +80,26 @@ some_sign conf has = of_option conf.sign has where
   of_option (Some sign) is = (sign, refl)
   of_option None is = absurd cc
 
-some_of_signing : (nonce : Option (List ℕ)) (now : ℕ) (name text : Option (List ℕ)) → HasSomeAnswer SignTable (λ conf wishes script. ReportsSigning nonce now conf wishes) name text
-some_of_signing nonce now name text conf configured has wishes script writable context is =
-    let sign = some_sign conf has in
-    signing_answer nonce now conf wishes context sign.0 sign.1 ((valid_where_configured name text conf configured).sign sign.0 sign.1).keyid
+some_of_signing : (nonce : Option (List ℕ)) (now : ℕ) (name text : Option (List ℕ)) → HasSomeAnswer SignTable (λ taken. ReportsSigning nonce now taken.conf taken.wishes taken.context) name text
+some_of_signing nonce now name text taken read writable is =
+    let sign = some_sign taken.conf read.tables in
+    signing_answer nonce now taken.conf taken.wishes taken.context sign.0 sign.1 ((valid_where_configured name text taken.conf read.configured).sign sign.0 sign.1).keyid
 
 some_of_command : (command : CommandLine) (found : Found) (input : List ℕ) → AreOfBytes found → IsTrue (list_all is_byte input) → HasSome (ReportsCommand command found input)
-some_of_command Help found input files bytes = (Done HELP_TEXT.now, refl)
+some_of_command Help found input files bytes = (Done help_text, refl)
+some_of_command (HelpOf command) found input files bytes = (Done (TITLE_TEXT.now ++ text_of command), refl)
 some_of_command Version found input files bytes = (Done VERSION_TEXT.now, refl)
 some_of_command (Base words) found input files bytes =
-    some_of_files Nothing (λ conf wishes script. ReportsBase words.params) (name_of (Base words)) found input (λ conf _ _ wishes script _ context _. some_of_base words.params conf context) files bytes
+    some_of_files Nothing (λ taken. ReportsBase words.params taken.context) (name_of (Base words)) found input (λ taken _ _ _. some_of_base words.params taken.context) files bytes
 some_of_command (Verify words) found input files bytes =
-    some_of_files Nothing (λ conf wishes script. ReportsVerdicts words.label words.now conf) (name_of (Verify words)) found input
-    (λ conf _ _ wishes script _ context _. verdicts_answer words.label words.now conf context) files bytes
+    some_of_files Nothing (λ taken. ReportsVerdicts words.label words.now taken.conf taken.context) (name_of (Verify words)) found input
+    (λ taken _ _ _. verdicts_answer words.label words.now taken.conf taken.context) files bytes
 some_of_command (Sign words) found input files bytes =
-    some_of_files SignTable (λ conf wishes script. ReportsSigning words.nonce words.now conf wishes) (name_of (Sign words)) found input
+    some_of_files SignTable (λ taken. ReportsSigning words.nonce words.now taken.conf taken.wishes taken.context) (name_of (Sign words)) found input
     (some_of_signing words.nonce words.now (Some words.conf) (found ConfFile)) files bytes
 some_of_command (Rewrite words) found input files bytes =
-    some_of_files Nothing (λ conf wishes script. ReportsRewriting words.label script) (name_of (Rewrite words)) found input
-    (λ conf _ _ wishes script writable context message. rewriting_answer words.label script context writable message) files bytes
+    some_of_files Nothing (λ taken. ReportsRewriting words.label taken.script taken.context) (name_of (Rewrite words)) found input
+    (λ taken _ writable message. rewriting_answer words.label taken.script taken.context writable message) files bytes
 some_of_command (Audit words) found input files bytes = some_of_layers _ _ _ _ (conf_answer (Some words.conf) (found ConfFile)) (λ conf _. auditing_answer conf input bytes)
 some_of_command (Sample words) found input files bytes = let some = sampling_answer words.seed words.count in (some.0, some.1)
 
@@ -124,19 +118,11 @@ some_report_law arguments found input files bytes = some_of_layers _ _ _ _ (argu
 abbrev HasAnswered : (Outcome → Type 0) → Type 0
 HasAnswered P = (outcome : Outcome) × P outcome × IsAnswered outcome
 
-files_answered : (needs : Needs) (Then : Answers) (IsDone : Configuration → Option Message → List Rewriting → MessageContext → Type 0)
-    → ((conf : Configuration) (wishes : Option Message) (script : List Rewriting) (context : MessageContext) → IsDone conf wishes script context → HasAnswered (Then conf wishes script context))
+files_answered : (needs : Needs) (Then : Answers) (IsDone : TakenValues → Type 0) → ((taken : TakenValues) → IsDone taken → HasAnswered (Then taken))
     → (names : FileNames) (found : Found) (input : List ℕ) → IsServed needs names found input IsDone → HasAnswered (ReportsFiles needs Then names found input)
 files_answered needs Then IsDone answered names found input served =
-    let next = answered served.conf served.wishes served.script (context_for served.conf served.message served.related) served.done in (
-      next.0,
-      inl (
-        served.conf,
-        served.configured,
-        inl (tt, served.tables, inl (served.related, served.requested, inl (served.wishes, served.wanted, inl (served.script, served.scripted, inl (served.message, served.is, next.1))))),
-      ),
-      next.2,
-    )
+    let next = answered served.taken served.done in
+    (next.0, inl (served.taken, served.is, next.1), next.2)
 
 each_answered : (specs : List SignSpec) (context : MessageContext) → CanSignEach context specs → HasAnswered (ReportsEach context specs)
 each_answered [] context can = (Done (message_text context.message), refl, inl refl)
@@ -160,8 +146,8 @@ steps_answered (step ∷ script) label index context after are =
     let next = steps_answered script label (index + 1) (context_with context are.0) after are.2 in
     (next.0, inl (are.0, are.1, next.1), next.2)
 
-base_answered : (params : List ℕ) (conf : Configuration) (context : MessageContext) → IsBaseDone params context → HasAnswered (ReportsBase params context)
-base_answered params conf context done =
+base_answered : (params : List ℕ) (context : MessageContext) → IsBaseDone params context → HasAnswered (ReportsBase params context)
+base_answered params context done =
     (Done (signature_base done.sig done.values), inl (done.sig, done.reads, inl (done.values, done.have, refl)), inl refl)
 
 lines_answered : (labels : List (List ℕ)) (verdicts : List Verdict) (accepted : Bool) → list_all is_accepted verdicts ≡ accepted → IsAnswered (verdicts_outcome labels verdicts)
@@ -185,19 +171,20 @@ audit_answered conf input items is none = elim (audit_answer conf input items is
 ]
 
 command_answered : (command : CommandLine) (found : Found) (input : List ℕ) → HasAll command found input → HasAnswered (ReportsCommand command found input)
-command_answered Help found input has = (Done HELP_TEXT.now, refl, inl refl)
+command_answered Help found input has = (Done help_text, refl, inl refl)
+command_answered (HelpOf command) found input has = (Done (TITLE_TEXT.now ++ text_of command), refl, inl refl)
 command_answered Version found input has = (Done VERSION_TEXT.now, refl, inl refl)
 command_answered (Base words) found input has =
-    files_answered Nothing (λ conf wishes script. ReportsBase words.params) (λ conf wishes script. IsBaseDone words.params) (λ conf wishes script. base_answered words.params conf) (name_of (Base words)) found input has
+    files_answered Nothing (λ taken. ReportsBase words.params taken.context) (λ taken. IsBaseDone words.params taken.context) (λ taken. base_answered words.params taken.context) (name_of (Base words)) found input has
 command_answered (Verify words) found input has =
-    files_answered Nothing (λ conf wishes script. ReportsVerdicts words.label words.now conf) (λ conf wishes script context. ⊤) (λ conf wishes script context _. verdicts_answered words.label words.now conf context)
+    files_answered Nothing (λ taken. ReportsVerdicts words.label words.now taken.conf taken.context) (λ taken. ⊤) (λ taken _. verdicts_answered words.label words.now taken.conf taken.context)
     (name_of (Verify words)) found input has
 command_answered (Sign words) found input has =
-    files_answered SignTable (λ conf wishes script. ReportsSigning words.nonce words.now conf wishes) (λ conf wishes script. IsSignDone words.nonce words.now conf wishes)
-    (λ conf wishes script. signing_answered words.nonce words.now conf wishes) (name_of (Sign words)) found input has
+    files_answered SignTable (λ taken. ReportsSigning words.nonce words.now taken.conf taken.wishes taken.context) (λ taken. IsSignDone words.nonce words.now taken.conf taken.wishes taken.context)
+    (λ taken. signing_answered words.nonce words.now taken.conf taken.wishes taken.context) (name_of (Sign words)) found input has
 command_answered (Rewrite words) found input has =
-    files_answered Nothing (λ conf wishes script. ReportsRewriting words.label script) (λ conf wishes script. IsRewriteDone words.label script)
-    (λ conf wishes script context done. steps_answered script words.label 0 context done.0 done.1) (name_of (Rewrite words)) found input has
+    files_answered Nothing (λ taken. ReportsRewriting words.label taken.script taken.context) (λ taken. IsRewriteDone words.label taken.script taken.context)
+    (λ taken done. steps_answered taken.script words.label 0 taken.context done.0 done.1) (name_of (Rewrite words)) found input has
 command_answered (Audit words) found input has =
     let next = audit_answered has.conf input has.items has.recorded has.none in
     (next.0, inl (has.conf, has.configured, next.1), next.2)

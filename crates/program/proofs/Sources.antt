@@ -23,8 +23,8 @@ use Rattle.verdicts.specs.Verdicts.{is_accepted}
 use Rattle.msg_body.specs.declared.whole.Reading.{Reading}
 use Rattle.program.specs.Commands.{Whole, LosesAtMost}
 use Rattle.program.specs.Ends.{HasInput, Leaves}
-use Rattle.program.specs.Report.{ReportsInput}
-use Rattle.program.specs.tools.Parts.{IsAfterInput, IsOwn}
+use Rattle.program.specs.Report.{Answers}
+use Rattle.program.specs.tools.Parts.{FileValues, IsAfterInput, IsOwn, ReportsMessage}
 use Rattle.refusals.specs.declared.refusal.Refusal.{Refusal}
 use Rattle.refusals.specs.declared.refusal.TheConstants.{MAX_INPUT_BYTES}
 use Rattle.refusals.specs.declared.refusal.Refusal.TheVariants.{Arguments, Of, Command}
@@ -49,12 +49,12 @@ abbrev pub LeavesInput : Type 0 → Option (List ℕ) → Option (List ℕ) → 
 LeavesInput = Leaves (Whole MAX_INPUT_BYTES)
 
 -- why it isn't read whole
-pub fill_stop : (Then : Message → Outcome → Type 0) (reading : Reading) (Same : Type 0) (before now : Option (List ℕ)) (error : FillError)
+pub fill_stop : (Then : Answers) (files : FileValues) (Same : Type 0) (before now : Option (List ℕ)) (error : FillError)
     → (error ≡ Longer → LosesPrefix before now (MAX_INPUT_BYTES + 1))
-    → IfOutcome (Err (stop_of_fill MAX_INPUT_BYTES error)) (HasInput (ReportsInput Then reading) (LeavesInput Same before now) before)
-fill_stop Then reading Same before now NoFillMemory lost = tt
-fill_stop Then reading Same before now Failed lost = tt
-fill_stop Then reading Same before now Longer lost =
+    → IfOutcome (Err (stop_of_fill MAX_INPUT_BYTES error)) (HasInput (ReportsMessage Then files) (LeavesInput Same before now) before)
+fill_stop Then files Same before now NoFillMemory lost = tt
+fill_stop Then files Same before now Failed lost = tt
+fill_stop Then files Same before now Longer lost =
     let input = longer MAX_INPUT_BYTES before now (lost refl) in
     record { input = input.0; known = input.1; reports = inr (TooLong MAX_INPUT_BYTES, (refl, input.2), refl); leaves = lost refl }
 
@@ -92,16 +92,16 @@ after_input Same before now none (Refused (Of Input (TooManyHops n))) after = ab
 after_input Same before now none (Refused (Of (Item n) r)) after = absurd after
 after_input Same before now none (Refused (Command r)) after = none
 
-pub input_outcome : (Then : Message → Outcome → Type 0) (reading : Reading) (Same : Type 0) (input read : List ℕ) (before now : Option (List ℕ)) → read ≡ input → GivesAll before now input
-    → (result : Result Outcome Stop) → IfOutcome result (ReportsInput Then reading read) → IfOutcome result IsAfterInput
-    → IfOutcome result (HasInput (ReportsInput Then reading) (LeavesInput Same before now) before)
-input_outcome Then reading Same input read before now same all result reported after =
+pub input_outcome : (Then : Answers) (files : FileValues) (Same : Type 0) (input read : List ℕ) (before now : Option (List ℕ)) → read ≡ input → GivesAll before now input
+    → (result : Result Outcome Stop) → IfOutcome result (ReportsMessage Then files read) → IfOutcome result IsAfterInput
+    → IfOutcome result (HasInput (ReportsMessage Then files) (LeavesInput Same before now) before)
+input_outcome Then files Same input read before now same all result reported after =
     went_on (λ outcome facts. record {
       input = input;
       known = known_input before now input all;
-      reports = subst (λ (bytes : List ℕ). ReportsInput Then reading bytes outcome) same facts.0;
+      reports = subst (λ (bytes : List ℕ). ReportsMessage Then files bytes outcome) same facts.0;
       leaves = after_input Same before now (nothing_left before now input all) outcome facts.1;
-    }) result (both (ReportsInput Then reading read) IsAfterInput result reported after)
+    }) result (both (ReportsMessage Then files read) IsAfterInput result reported after)
 
 -- what is gone once it was read to its end
 pub all_gone : (limit : ℕ) (before now : Option (List ℕ)) (input : List ℕ) → GivesAll before now input → length input ≤ limit → LosesAtMost (limit + 1) before now

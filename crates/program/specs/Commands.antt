@@ -2,8 +2,8 @@
 use Rattle.std.specs.Prelude.{◌≡◌, ◌+◌, ◌≤◌, ℕ, Bool, true, IsTrue, List, Option, None}
 use Rattle.hms_io.specs.Files.{FileMap}
 use Rattle.hms_io.specs.Reading.{LosesPrefix}
-use Rattle.command_line.specs.Command.{CommandLine, Help, Version, Base, Verify, Sign, Rewrite, Audit, Sample, IsCommand, conf_of, request_of, wanted_of, script_of}
-use Rattle.commands.specs.Files.{FileRole, FileNames, Found, AreFound, file_names, file_count, file_bytes}
+use Rattle.command_line.specs.Command.{CommandLine, Help, HelpOf, Version, Base, Verify, Sign, Rewrite, Audit, Sample, IsCommand, conf_of, request_of, wanted_of, script_of}
+use Rattle.commands.specs.Files.{FileRole, FileNames, Found, AreFound, file_names, file_bytes}
 use Rattle.refusals.specs.declared.refusal.TheConstants.{MAX_INPUT_BYTES, MAX_RECORDING_BYTES}
 
 -- the name of the file of each role
@@ -20,6 +20,7 @@ pub data InputUse : Type 0 where
 
 abbrev pub input_use : CommandLine → InputUse
 input_use Help = Unread
+input_use (HelpOf command) = Unread
 input_use Version = Unread
 input_use (Base words) = Whole MAX_INPUT_BYTES
 input_use (Verify words) = Whole MAX_INPUT_BYTES
@@ -64,12 +65,6 @@ ReadsWhole arguments =
 abbrev pub AreFoundFor : List (List ℕ) → Option FileMap → Found → Type 0
 AreFoundFor arguments shelf found =
     (command : CommandLine) → IsCommand arguments command → AreFound shelf (name_of command) found
-
--- at most so many files are asked for as the command names
-abbrev pub AsksForNamed : List (List ℕ) → ℕ → ℕ → Type 0
-AsksForNamed arguments before now =
-    (command : CommandLine) → IsCommand arguments command
-    → now ≤ before + file_count (name_of command)
 
 -- at most one byte past the limit of each file that the command names is read
 abbrev pub ReachesNamed : List (List ℕ) → ℕ → ℕ → Type 0

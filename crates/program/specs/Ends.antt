@@ -1,5 +1,5 @@
 -- How a run ends: what it has written and what is left of its input, by its status.
-use Rattle.std.specs.Prelude.{◌≡◌, ◌⊎◌, ◌+◌, ◌<◌, ◌≤◌, ℕ, IsTrue, List, [], length, take, Option, Some, IfSome}
+use Rattle.std.specs.Prelude.{◌≡◌, ◌⊎◌, ◌+◌, ◌<◌, ◌≤◌, ℕ, IsTrue, List, [], length, take, Option, Some, None, IfSome}
 use Rattle.std.specs.Io.KnownBytes.{Appends, Keeps}
 use Rattle.std.specs.List.{list_all}
 use Rattle.sfv_text.specs.Classes.{is_byte}
@@ -9,12 +9,16 @@ use Rattle.hms_io.specs.Reading.{LosesPrefix}
 use Rattle.hms_io.specs.declared.status.Status.{Status}
 use Rattle.hms_io.specs.declared.status.Status.TheVariants.{ReadFault, WriteFault, OutOfMemory}
 use Rattle.command_line.specs.Command.{CommandLine, IsCommand, NoCommand}
-use Rattle.commands.specs.Files.{Found}
+use Rattle.commands.specs.Files.{FileNames, Found}
 use Rattle.commands.specs.Outcome.{status_of, output_of}
 use Rattle.commands.specs.declared.outcome.Outcome.{Outcome}
 use Rattle.commands.specs.declared.outcome.Outcome.TheVariants.{Refused}
-use Rattle.program.specs.Commands.{InputUse, Unread, Whole, input_use, AreFoundFor}
+use Rattle.program.specs.Commands.{InputUse, Unread, Whole, input_use, name_of, AreFoundFor}
+use Rattle.program.specs.Intake.{named_count, read_order, roles_until}
 use Rattle.program.specs.Report.{Reports}
+use Rattle.refusals.specs.Laws.{IsOfRefusal}
+use Rattle.refusals.specs.Refusal.{refusal_line, refusal_status}
+use Rattle.refusals.specs.declared.refusal.Refusal.{Refusal}
 use Rattle.refusals.specs.declared.role.Role.TheVariants.{Input, Item}
 use Rattle.refusals.specs.declared.file.FileRefusal.TheVariants.{TooLong}
 use Rattle.refusals.specs.declared.refusal.Refusal.TheVariants.{Arguments, Of}
@@ -89,6 +93,32 @@ Ends arguments shelf Same before left taken now status =
     (outcome : Outcome) × HasReport arguments shelf Same before left outcome
     × (status_of outcome ≡ status) × Appends taken now (output_of outcome)
     × IsTrue (list_all is_byte (output_of outcome))
+
+-- ---- why a run is refused
+
+-- What is told of a refusal: it is the outcome, its status is that of the run, and its line was
+-- added to the known bytes. Where none is told, no refusal gives the status: what was asked for was
+-- written, a device failed, or no memory was found.
+abbrev pub TellsWhy : (Outcome → Type 0) → Option (List ℕ) → Option (List ℕ) → Status
+    → Option Refusal → Type 0
+TellsWhy Has taken now status (Some refusal) = Has (Refused refusal)
+    × (refusal_status refusal ≡ status) × Appends taken now (refusal_line refusal)
+TellsWhy Has taken now status None = ¬ IsOfRefusal status
+
+-- ---- the files that are asked for
+
+-- at most so many files are asked for as have a name; where a refusal is told, of those up to and
+-- with the one that is refused
+abbrev pub AsksFor : FileNames → Option Refusal → ℕ → ℕ → Type 0
+AsksFor names (Some refusal) before now =
+    now ≤ before + named_count names (roles_until refusal)
+AsksFor names None before now = now ≤ before + named_count names read_order
+
+-- the same for arguments
+abbrev pub AsksForNamed : List (List ℕ) → Option Refusal → ℕ → ℕ → Type 0
+AsksForNamed arguments refusal before now =
+    (command : CommandLine) → IsCommand arguments command
+    → AsksFor (name_of command) refusal before now
 
 -- ---- the counts of faults
 

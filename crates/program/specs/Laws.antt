@@ -3,7 +3,7 @@ use Rattle.std.specs.Prelude.{◌≡◌, ◌⊎◌, ⊤, ℕ, IsTrue, IsFalse, L
 use Rattle.std.specs.List.{list_all, list_any}
 use Rattle.hms_io.specs.declared.status.Status.TheVariants.{Done, NotOk}
 use Rattle.sfv_text.specs.Classes.{is_byte}
-use Rattle.command_line.specs.Command.{CommandLine, Help, Version, Base, Verify, Sign, Rewrite, Audit, Sample, SignWords, VerifyWords, RewriteWords, AuditWords, IsCommand}
+use Rattle.command_line.specs.Command.{CommandLine, Help, HelpOf, Version, Base, Verify, Sign, Rewrite, Audit, Sample, SignWords, VerifyWords, RewriteWords, AuditWords, IsCommand}
 use Rattle.component_ids.specs.declared.params.SigParams.{SigParams}
 use Rattle.component_values.specs.Context.{MessageContext, context_with}
 use Rattle.component_values.specs.Values.{HaveValues}
@@ -11,19 +11,15 @@ use Rattle.msg_body.specs.Messages.{Message}
 use Rattle.conf.specs.Configuration.{Configuration}
 use Rattle.commands.specs.Audit.{IsChainRefused, IsRecordingText, audit_outcome}
 use Rattle.commands.specs.Configured.{IsConfigured}
-use Rattle.verdicts.specs.Contexts.{context_for}
 use Rattle.commands.specs.Covered.{ReadsParams}
 use Rattle.commands.specs.Files.{FileNames, Found, FileRole, Conf as ConfFile, Request as RequestFile, Wanted as WantedFile, Script as ScriptFile}
-use Rattle.commands.specs.Layers.{IsUnrefused}
-use Rattle.commands.specs.Messages.{IsInputMessage}
-use Rattle.msg_body.specs.WholeTexts.{reading_for}
+use Rattle.commands.specs.Layers.{HasAnswer, IsDecisive, IsUnrefused}
 use Rattle.commands.specs.Outcome.{status_of}
-use Rattle.commands.specs.MessageFiles.{IsRequested, IsWanted, IsOfBytes}
+use Rattle.commands.specs.MessageFiles.{IsWanted, IsOfBytes}
 use Rattle.commands.specs.Rewrite.{IsTaken}
 use Rattle.commands.specs.Scripts.{IsScripted}
 use Rattle.commands.specs.Sign.{AreWishesRefused, IsSignRefused}
 use Rattle.commands.specs.SignedMessages.{SignsAs}
-use Rattle.commands.specs.Tables.{HasTables}
 use Rattle.commands.specs.Verify.{verdicts_outcome}
 use Rattle.commands.specs.declared.outcome.Outcome.{Outcome}
 use Rattle.commands.specs.declared.outcome.Outcome.TheVariants.{Done as Written, Refused}
@@ -50,7 +46,22 @@ use Rattle.verdicts.specs.Rules.{key_in}
 use Rattle.verdicts.specs.declared.outcome.Verdict.{Verdict}
 use Rattle.verdicts.specs.declared.outcome.Verdict.TheVariants.{Ok as Accepted, Rule as Failing}
 use Rattle.program.specs.Commands.{name_of}
+use Rattle.program.specs.Intake.{IsIntake, IsIntakeRefused, TakenValues}
 use Rattle.program.specs.Report.{Reports}
+
+-- of the files of these names and an input at most one value is taken, or it is refused for at most
+-- one cause
+abbrev pub IsIntakeDecided : Type 0
+IsIntakeDecided =
+    (needs : Needs) (names : FileNames) (found : Found) (input : List ℕ)
+    → IsDecisive (IsIntake needs names found input) (IsIntakeRefused needs names found input)
+
+-- where the files and the input are of bytes, a value is taken, or there is a cause to refuse it
+abbrev pub HasIntake : Type 0
+HasIntake =
+    (needs : Needs) (names : FileNames) (found : Found) (input : List ℕ)
+    → ((role : FileRole) → IsOfBytes (found role)) → IsTrue (list_all is_byte input)
+    → HasAnswer (IsIntake needs names found input) (IsIntakeRefused needs names found input)
 
 -- the arguments, what was found and the input have at most one outcome
 abbrev pub HasOneReport : Type 0
@@ -103,24 +114,12 @@ IsSignDone own moment conf (Some wishes) context =
 abbrev pub IsRewriteDone : Option (List ℕ) → List Rewriting → MessageContext → Type 0
 IsRewriteDone label script context = (after : Message) × Steps (IsTaken label) context script after
 
--- the files of these names say a configuration, which has what is needed, a request, a message that
--- wishes signatures, and a script, or the last three aren't named; the input is a message, which
--- answers the request; and over all of them the command can be done
+-- all that the command needs is read, and over it the command can be done
 pub record IsServed (needs : Needs) (names : FileNames) (found : Found) (input : List ℕ)
-    (IsDone : Configuration → Option Message → List Rewriting → MessageContext → Type 0)
-    : Type 0 where
-  pub conf : Configuration
-  pub configured : IsConfigured (names ConfFile) (found ConfFile) conf
-  pub tables : HasTables needs conf
-  pub related : Option Message
-  pub requested : IsRequested (names RequestFile) (found RequestFile) related
-  pub wishes : Option Message
-  pub wanted : IsWanted (names WantedFile) (found WantedFile) wishes
-  pub script : List Rewriting
-  pub scripted : IsScripted (names ScriptFile) (found ScriptFile) script
-  pub message : Message
-  pub is : IsInputMessage (reading_for related) input message
-  pub done : IsDone conf wishes script (context_for conf message related)
+    (IsDone : TakenValues → Type 0) : Type 0 where
+  pub taken : TakenValues
+  pub is : IsIntake needs names found input taken
+  pub done : IsDone taken
 
 -- the file of this name says a configuration, and the input is the recording of a chain, which
 -- isn't refused
@@ -134,18 +133,19 @@ pub record IsAuditable (words : AuditWords) (found : Found) (input : List ℕ) :
 -- the command has all that it needs
 abbrev pub HasAll : CommandLine → Found → List ℕ → Type 0
 HasAll Help found input = ⊤
+HasAll (HelpOf command) found input = ⊤
 HasAll Version found input = ⊤
 HasAll (Base words) found input =
     IsServed Nothing (name_of (Base words)) found input
-    (λ conf wishes script. IsBaseDone words.params)
+    (λ taken. IsBaseDone words.params taken.context)
 HasAll (Verify words) found input =
-    IsServed Nothing (name_of (Verify words)) found input (λ conf wishes script context. ⊤)
+    IsServed Nothing (name_of (Verify words)) found input (λ taken. ⊤)
 HasAll (Sign words) found input =
     IsServed SignTable (name_of (Sign words)) found input
-    (λ conf wishes script. IsSignDone words.nonce words.now conf wishes)
+    (λ taken. IsSignDone words.nonce words.now taken.conf taken.wishes taken.context)
 HasAll (Rewrite words) found input =
     IsServed Nothing (name_of (Rewrite words)) found input
-    (λ conf wishes script. IsRewriteDone words.label script)
+    (λ taken. IsRewriteDone words.label taken.script taken.context)
 HasAll (Audit words) found input = IsAuditable words found input
 HasAll (Sample words) found input = ⊤
 

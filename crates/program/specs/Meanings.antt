@@ -1,7 +1,7 @@
 -- What the program's output tells of the messages that it was given (RFC 9421 sections 2.5, 3.2).
 use Rattle.std.specs.Prelude.{◌≡◌, ◌⊎◌, ◌↔◌, ℕ, ◌+◌, Bool, List, Option, Some, IfSome}
 use Rattle.std.specs.Io.KnownBytes.{Appends}
-use Rattle.std.specs.List.{Contains, zip}
+use Rattle.std.specs.List.{All, Contains, zip}
 use Rattle.hms_io.specs.Files.{FileMap}
 use Rattle.hms_io.specs.declared.status.Status.{Status}
 use Rattle.hms_io.specs.declared.status.Status.TheVariants.{Done, NotOk}
@@ -19,6 +19,7 @@ use Rattle.conf.specs.Configuration.{Configuration}
 use Rattle.signatures.specs.Signatures.{HasSignature}
 use Rattle.verdicts.specs.Contexts.{context_for}
 use Rattle.verdicts.specs.Laws.{Agree, IsRightlySigned, IsTagOfTwo, base_of}
+use Rattle.verdicts.specs.VerdictLine.{verdict_line}
 use Rattle.verdicts.specs.Verdicts.{Accepts}
 use Rattle.verdicts.specs.Verification.{Verification, verification_for}
 use Rattle.verdicts.specs.declared.outcome.Verdict.{Verdict}
@@ -26,11 +27,12 @@ use Rattle.verdicts.specs.declared.outcome.Verdict.TheVariants.{Ok as Accepted}
 use Rattle.recording.specs.Items.{PlacedItem}
 use Rattle.hop_audit.specs.ChainValues.{Chain}
 use Rattle.hop_audit.specs.Laws.{AcceptsChange, HasTagOfTwo, IsKeptWithItsBaseAt, IsSoundReport}
-use Rattle.hop_audit.specs.Lines.{report_text}
+use Rattle.hop_audit.specs.Lines.{line_text, report_text}
 use Rattle.hop_audit.specs.Report.{AreItemsOf, IsReport}
 use Rattle.hop_audit.specs.declared.line.AuditLine.{AuditLine}
 use Rattle.hop_audit.specs.declared.line.AuditLine.TheVariants.{Label as LabelLine}
 use Rattle.hop_audit.specs.declared.line.Fate.{Fate}
+use Rattle.refusals.specs.Laws.{IsLine}
 use Rattle.commands.specs.Audit.{IsRecordingText}
 use Rattle.commands.specs.Configured.{IsConfigured}
 use Rattle.commands.specs.Covered.{ReadsParams}
@@ -84,8 +86,8 @@ pub record HasOneMeaning (v : Verification) (keyid : List ℕ) : Type 0 where
       → Agree accepts other
       ⊎ IsTagOfTwo accepts.key accepts.tag (base_of accepts) (base_of other)
 
--- The output has the line of each label that was asked for, and a label whose line is `ok` has one
--- meaning.
+-- The output has the line of each label that was asked for, whose one LF is its end, and a label
+-- whose line is `ok` has one meaning.
 pub record TellsVerdicts (words : VerifyWords) (found : Found) (input output : List ℕ)
     : Type 0 where
   pub conf : Configuration
@@ -98,6 +100,7 @@ pub record TellsVerdicts (words : VerifyWords) (found : Found) (input output : L
   pub asked : AreAsked words.label message labels
   pub verdicts : List Verdict
   pub written : output ≡ verdict_lines labels verdicts
+  pub lines : All (λ line. IsLine (verdict_line line)) (zip labels verdicts)
   pub ok : (label keyid : List ℕ) → Contains (zip labels verdicts) (label, Accepted keyid)
       → HasOneMeaning
       (verification_for conf words.now (context_for conf message related) label) keyid
@@ -167,11 +170,12 @@ HasSigned =
 
 -- ---- `audit`
 
--- The output is the report on the chain that the input records. A label's fate is kept exactly
--- where the message after the hop has the label with the same parameters and tag, and both bases
--- are the same text. Where a label is accepted before and after a hop and one of its components has
--- changed, two bases have one HMAC. A label for which a hop is permitted is kept or lacking, and
--- where both messages have one moment, its verdict is the same in both.
+-- The output is the report on the chain that the input records; the one LF of each line is its end.
+-- A label's fate is kept exactly where the message after the hop has the label with the same
+-- parameters and tag, and both bases are the same text. Where a label is accepted before and after
+-- a hop and one of its components has changed, two bases have one HMAC. A label for which a hop is
+-- permitted is kept or lacking, and where both messages have one moment, its verdict is the same in
+-- both.
 pub record TellsOneChain (words : AuditWords) (found : Found) (input output : List ℕ)
     : Type 0 where
   pub conf : Configuration
@@ -183,6 +187,7 @@ pub record TellsOneChain (words : AuditWords) (found : Found) (input output : Li
   pub lines : List AuditLine
   pub report : IsReport conf chain lines
   pub written : output ≡ report_text lines
+  pub each : All (λ line. IsLine (line_text line)) lines
   pub kept : (index : ℕ) (label : List ℕ) (permitted : Bool) (fate : Fate)
       → Contains lines (LabelLine (index + 1) label permitted fate)
       → IsKeptWithItsBaseAt conf chain index label fate

@@ -1,24 +1,27 @@
 //! The top call: all that the program does.
 
-ghost use Rattle.std.specs.Prelude.{◌≡◌, ◌⊎◌, ◌≤◌, Err, IsTrue, map, string_bytes};
+ghost use Rattle.std.specs.Prelude.{◌≡◌, ◌⊎◌, ◌≤◌, Err, IfOk, IsTrue, map, string_bytes};
 ghost use Rattle.std.specs.List.{list_all};
 ghost use Rattle.sfv_text.specs.Classes.{is_byte};
 ghost use Rattle.hms_io.specs.Files.{KeepsFiles};
 ghost use Rattle.command_line.specs.Command.{NoCommand};
-ghost use Rattle.program.specs.Commands.{NamesNoFile, ReadsNoInput, ReadsWhole, AsksForNamed, ReachesNamed, ReadsFew};
-ghost use Rattle.program.specs.Ends.{HasReport, Ends, CountsFaults, CountsReads};
+ghost use Rattle.program.specs.Commands.{NamesNoFile, ReadsNoInput, ReadsWhole, ReachesNamed, ReadsFew};
+ghost use Rattle.program.specs.Ends.{AsksForNamed, HasReport, Ends, TellsWhy, CountsFaults, CountsReads};
 ghost use Rattle.program.specs.Meanings.{WritesOneBase, WritesOneChain, WritesSigned, WritesVerdicts};
 ghost use Rattle.refusals.specs.declared.refusal.Refusal.TheVariants.{Arguments};
 ghost use Rattle.commands.specs.declared.stop.Stop.TheVariants.{Refused};
+ghost use Rattle.commands.specs.Outcome.{output_of};
 ghost use Rattle.commands.specs.Stops.{IfOutcome};
-ghost use Rattle.program.specs.tools.Parts.{CountsOne};
+ghost use Rattle.program.specs.tools.Parts.{AsksOf, CountsOne, IsWritten, refusal_of};
 
-use crate::over_message::over_files;
+use crate::ended::Ended;
+use crate::over_message::over_message;
 use crate::over_recording::over_recording;
 use command_line::{Command, read_words};
-use commands::{Outcome, Stop, write_help, write_sample, write_version};
+use commands::{Outcome, Stop, write_help, write_help_of, write_sample, write_version};
 use hms_io::{Failed, Shelf, Sink, Source, Status, put_all};
 use refusals::Refusal;
+use sfv_text::{Memory, Text};
 use std::alloc::Global;
 
 /// Does what the arguments ask for.
@@ -37,7 +40,7 @@ fn run_command<F: Shelf, S: Source>(
     ensures few { ReadsFew (map string_bytes arguments.now)
         (S.left source.old) (S.left source.new) }
     ensures ended { S.ended source.old ≡ 0 → S.ended source.new ≤ 1 }
-    ensures asked { AsksForNamed (map string_bytes arguments.now)
+    ensures asked { AsksOf (map string_bytes arguments.now) result
         (F.asked shelf.old) (F.asked shelf.new) }
     ensures reached { ReachesNamed (map string_bytes arguments.now)
         (F.reached shelf.old) (F.reached shelf.new) }
@@ -52,47 +55,12 @@ fn run_command<F: Shelf, S: Source>(
     };
     match command {
         Command::Help => Ok(write_help(alloc)?),
+        Command::HelpOf(name) => Ok(write_help_of(alloc, name)?),
         Command::Version => Ok(write_version(alloc)?),
-        Command::Base(words) => over_files(
-            alloc,
-            &words,
-            words.conf,
-            words.request,
-            None,
-            None,
-            shelf,
-            source,
-        ),
-        Command::Verify(words) => over_files(
-            alloc,
-            &words,
-            Some(words.conf),
-            words.request,
-            None,
-            None,
-            shelf,
-            source,
-        ),
-        Command::Sign(words) => over_files(
-            alloc,
-            &words,
-            Some(words.conf),
-            words.request,
-            words.wanted,
-            None,
-            shelf,
-            source,
-        ),
-        Command::Rewrite(words) => over_files(
-            alloc,
-            &words,
-            words.conf,
-            words.request,
-            None,
-            Some(words.script),
-            shelf,
-            source,
-        ),
+        Command::Base(words) => over_message(alloc, &words, shelf, source),
+        Command::Verify(words) => over_message(alloc, &words, shelf, source),
+        Command::Sign(words) => over_message(alloc, &words, shelf, source),
+        Command::Rewrite(words) => over_message(alloc, &words, shelf, source),
         Command::Audit(words) => over_recording(alloc, &words, shelf, source),
         Command::Sample(words) => write_sample(alloc, words.seed, words.count),
     }
@@ -106,6 +74,38 @@ fn of_bytes(bytes: &[u8]) -> &[u8]
     bytes
 }
 
+/// The text that the outcome writes, and the refusal that it is, if it is one.
+fn output_and_refusal(alloc: Global, outcome: Outcome) -> Result<(Text, Option<Refusal>), Memory>
+    ensures output { IfOk result (λ made. made.0 ≡ output_of outcome) }
+    ensures refusal { IfOk result (λ made. made.1 ≡ refusal_of outcome) }
+{
+    match outcome {
+        Outcome::Done(output) => Ok((output, None)),
+        Outcome::NotOk(output) => Ok((output, None)),
+        Outcome::Refused(refusal) => {
+            let line = refusal.line(alloc)?;
+            Ok((line, Some(refusal)))
+        }
+    }
+}
+
+/// Writes the outcome.
+fn write_outcome<K: Sink>(alloc: Global, outcome: Outcome, out: &mut K) -> Ended
+    ensures ends { IsWritten outcome (K.taken out.old) (K.taken out.new)
+        result.status result.refusal }
+    ensures writes { CountsFaults Status.WriteFault result.status
+        (K.faults out.old) (K.faults out.new) }
+{
+    let status = outcome.status();
+    let Ok((output, refusal)) = output_and_refusal(alloc, outcome) else {
+        return Ended::of_status(Status::OutOfMemory);
+    };
+    match put_all(out, of_bytes(output.bytes())) {
+        Ok(()) => Ended { status, refusal },
+        Err(Failed) => Ended::of_status(Status::WriteFault),
+    }
+}
+
 /// Does what the arguments ask for, over the files of the shelf and the bytes of the source, and
 /// writes the outcome to the sink: the text that was asked for, or one line that begins `refused `
 /// and ends with LF.
@@ -115,63 +115,62 @@ pub fn run<F: Shelf, S: Source, K: Sink>(
     shelf: &mut F,
     source: &mut S,
     out: &mut K,
-) -> Status
+) -> Ended
     // What the sink took is the report of the arguments, the files and the input, by the status,
     // for each command that writes nothing before it has read all.
     ensures ends { ReadsWhole (map string_bytes arguments.now)
         → Ends (map string_bytes arguments.now) (F.files shelf.old)
         (source.new ≡ source.old) (S.left source.old) (S.left source.new)
-        (K.taken out.old) (K.taken out.new) result }
+        (K.taken out.old) (K.taken out.new) result.status }
+
+    // A refusal is told where it is the outcome and its line was written, at the statuses that only
+    // a refusal gives, and at no other.
+    ensures why { TellsWhy (HasReport (map string_bytes arguments.now) (F.files shelf.old)
+        (source.new ≡ source.old) (S.left source.old) (S.left source.new))
+        (K.taken out.old) (K.taken out.new) result.status result.refusal }
 
     // What these commands wrote tells what it was made of: equal bases have equal parameters and
     // values, labels that are accepted with one tag under one key agree, each label that was there
     // or is signed is there, and what is kept at a hop has one base on both sides of it.
     ensures base { WritesOneBase (map string_bytes arguments.now) (F.files shelf.old)
-        (S.left source.old) (K.taken out.old) (K.taken out.new) result }
+        (S.left source.old) (K.taken out.old) (K.taken out.new) result.status }
     ensures verify { WritesVerdicts (map string_bytes arguments.now) (F.files shelf.old)
-        (S.left source.old) (K.taken out.old) (K.taken out.new) result }
+        (S.left source.old) (K.taken out.old) (K.taken out.new) result.status }
     ensures sign { WritesSigned (map string_bytes arguments.now) (F.files shelf.old)
-        (S.left source.old) (K.taken out.old) (K.taken out.new) result }
+        (S.left source.old) (K.taken out.old) (K.taken out.new) result.status }
     ensures audit { WritesOneChain (map string_bytes arguments.now) (F.files shelf.old)
-        (S.left source.old) (K.taken out.old) (K.taken out.new) result }
+        (S.left source.old) (K.taken out.old) (K.taken out.new) result.status }
 
     // Where the arguments are no command, or one without an input, the source isn't read, and where
     // they name no file, none is asked for. The files stay as they are.
-    ensures refused { NoCommand (map string_bytes arguments.now) → (result ≡ Status.BadArguments)
-        ⊎ ((result ≡ Status.WriteFault) ⊎ (result ≡ Status.OutOfMemory)) }
+    ensures refused { NoCommand (map string_bytes arguments.now)
+        → (result.status ≡ Status.BadArguments)
+        ⊎ ((result.status ≡ Status.WriteFault) ⊎ (result.status ≡ Status.OutOfMemory)) }
     ensures unread { ReadsNoInput (map string_bytes arguments.now) → source.new ≡ source.old }
     ensures unasked { NamesNoFile (map string_bytes arguments.now) → shelf.new ≡ shelf.old }
     ensures files { KeepsFiles (F.files shelf.old) (F.files shelf.new) }
 
     // At any status at most one byte past the limit is read, of the input and of each file, the
     // source isn't read after its end, and at most so many files are asked for as the command
-    // names.
+    // names: after one that is refused no other.
     ensures few { ReadsFew (map string_bytes arguments.now)
         (S.left source.old) (S.left source.new) }
     ensures ended { S.ended source.old ≡ 0 → S.ended source.new ≤ 1 }
-    ensures asked { AsksForNamed (map string_bytes arguments.now)
+    ensures asked { AsksForNamed (map string_bytes arguments.now) result.refusal
         (F.asked shelf.old) (F.asked shelf.new) }
     ensures reached { ReachesNamed (map string_bytes arguments.now)
         (F.reached shelf.old) (F.reached shelf.new) }
 
     // The counts of faults say when a read or a write failed.
-    ensures reads { CountsReads (source.new ≡ source.old) result
+    ensures reads { CountsReads (source.new ≡ source.old) result.status
         (F.faults shelf.old) (F.faults shelf.new) (S.faults source.old) (S.faults source.new) }
-    ensures writes { CountsFaults Status.WriteFault result
+    ensures writes { CountsFaults Status.WriteFault result.status
         (K.faults out.old) (K.faults out.new) }
 {
-    let outcome = match run_command(alloc, arguments, shelf, source) {
-        Ok(outcome) => outcome,
-        Err(Stop::Refused(refusal)) => Outcome::Refused(refusal),
-        Err(Stop::ReadFault) => return Status::ReadFault,
-        Err(Stop::Memory) => return Status::OutOfMemory,
-    };
-    let status = outcome.status();
-    let Ok(output) = outcome.into_output(alloc) else {
-        return Status::OutOfMemory;
-    };
-    match put_all(out, of_bytes(output.bytes())) {
-        Ok(()) => status,
-        Err(Failed) => Status::WriteFault,
+    match run_command(alloc, arguments, shelf, source) {
+        Ok(outcome) => write_outcome(alloc, outcome, out),
+        Err(Stop::Refused(refusal)) => write_outcome(alloc, Outcome::Refused(refusal), out),
+        Err(Stop::ReadFault) => Ended::of_status(Status::ReadFault),
+        Err(Stop::Memory) => Ended::of_status(Status::OutOfMemory),
     }
 }

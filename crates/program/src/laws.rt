@@ -1,6 +1,6 @@
 //! Laws of what the program answers. Each function does nothing; its contract is the law.
 
-ghost use Rattle.program.specs.Laws.{HasOneReport, HasSomeReport, IsComplete, IsAcceptedWhereSigned, IsVerdictKept, IsKeptWherePermitted, IsLineWhereRefused};
+ghost use Rattle.program.specs.Laws.{HasIntake, HasOneReport, HasSomeReport, IsComplete, IsIntakeDecided, IsAcceptedWhereSigned, IsVerdictKept, IsKeptWherePermitted, IsLineWhereRefused};
 ghost use Rattle.program.specs.Meanings.{HasOneBase, HasOneChain, HasSigned, HaveOneMeaning, RunsAgreeWhereOneTag};
 
 /// For given arguments, files and input there is one outcome, and so one status and one output. So
@@ -9,6 +9,13 @@ ghost use Rattle.program.specs.Meanings.{HasOneBase, HasOneChain, HasSigned, Hav
 pub fn one_report()
     ensures one { HasOneReport }
     ensures some { HasSomeReport }
+{}
+
+/// What is read for a command over a message is at most one value, or there is at most one cause to
+/// refuse it, and not both; and one of the two, where the files and the input are of bytes.
+pub fn the_intake_is_decided()
+    ensures decided { IsIntakeDecided }
+    ensures answer { HasIntake }
 {}
 
 /// What is refused is written as one line, whose one LF is its end.

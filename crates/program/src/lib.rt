@@ -9,18 +9,23 @@
 //! let mut shelf = MemShelf::new(alloc, &[])?;
 //! let mut source = MemSource::new(alloc, b"GET / HTTP/1.1\r\nA: 1\r\n\r\n", 7, &[])?;
 //! let mut sink = MemSink::new(alloc, 1_000, 7, &[])?;
-//! run(alloc, arguments, &mut shelf, &mut source, &mut sink) // the status to exit with
+//! let ended = run(alloc, arguments, &mut shelf, &mut source, &mut sink);
+//! ended.status  // the status to exit with
+//! ended.refusal // why the run is refused, if it is
 //! ```
 #![tactic(auto)]
 
+mod ended;
 mod entry;
+mod intake;
 mod laws;
 mod over_message;
 mod over_recording;
 
+pub use ended::Ended;
 pub use entry::run;
 pub use laws::{
     a_base_has_one_meaning, a_command_that_has_all_is_answered, a_refusal_is_one_line, one_report,
-    one_tag_has_one_meaning, what_is_kept_has_one_base, what_is_permitted_is_kept,
-    what_is_rewritten_keeps_its_verdict, what_is_signed_is_accepted,
+    one_tag_has_one_meaning, the_intake_is_decided, what_is_kept_has_one_base,
+    what_is_permitted_is_kept, what_is_rewritten_keeps_its_verdict, what_is_signed_is_accepted,
 };

@@ -1,84 +1,75 @@
 -- What the code takes of the items one by one, and what it answers for their order.
-use Rattle.std.proofs.Common.{◌≡◌, ◌≢◌, ◌<◌, ◌≤◌, ◌+◌, ◌-◌, min, ℕ, Bool, true, false, not, ltb, Bor, Option, Some, None, option_map, List, [], ◌∷◌, ◌++◌, length, take, drop, map, get_or, Ok, Err, refl, sym, ap, subst, ◌∙◌, inl, inr, arith, rules}
+use Rattle.std.proofs.Common.{◌≡◌, ◌≢◌, ◌<◌, ◌≤◌, ◌+◌, ◌-◌, min, ℕ, Bool, true, false, not, Bor, Option, Some, None, option_map, List, [], ◌∷◌, ◌++◌, length, take, drop, map, Ok, Err, refl, sym, ap, subst, ◌∙◌, inl, inr, arith, rules}
 use denote.Enum.Bare.{sameb, same_false, same_true}
 use Rattle.std.specs.Prelude.{IfNone, IfSome, slice_get}
 use Rattle.std.specs.List.{flat_map}
-use Rattle.std.proofs.lemmas.Bool.{cases_lt, ltb-false, ltb-true}
+use Rattle.std.proofs.lemmas.Bool.{cases_lt}
 use Rattle.std.proofs.lemmas.List.{append_assoc, append-nil, length-append, length-map, length-take, length-drop, take_all, take_at, take-append-le, drop_all, map_push}
-use Rattle.std.proofs.lemmas.Option.{slice_get_read, slice_get_within, slice_get-map, same_Some}
+use Rattle.std.proofs.lemmas.Option.{slice_get_within, slice_get-map, same_Some}
 use Rattle.recording.specs.declared.item.Role.TheVariants.{Request, Response, Related}
 use Rattle.recording.specs.declared.item.Role.{Role}
 use Rattle.recording.specs.contracts.item.Role.{the_type}
-use Rattle.recording.specs.declared.item.Item.{Item}
 use Rattle.recording.specs.declared.item.ItemBody.{ItemBody}
 use Rattle.recording.specs.declared.item.ItemBody.TheVariants.{At, Message, Script}
-use Rattle.recording.specs.Items.{Body, moment, stored, message, script, PlacedItem, body_of, placed}
+use Rattle.recording.specs.Items.{Body, moment, stored, message, script, PlacedItem, body_of}
 use Rattle.recording.specs.Recordings.{bodies}
 use Rattle.recording.specs.declared.chain.OrderFault.{OrderFault}
 use Rattle.recording.specs.declared.chain.OrderFault.TheVariants.{Memory, Order, TooManyHops}
 use Rattle.recording.specs.declared.limits.TheConstants.{MAX_HOPS}
-use Rattle.recording.specs.declared.order.Items.{Items as HeldItems}
 use Rattle.recording.specs.declared.chain.RecordedHop.{RecordedHop as HeldHop}
 use Rattle.recording.specs.declared.chain.Subject.{Subject as HeldSubject}
 use Rattle.recording.specs.declared.chain.RecordedChain.{RecordedChain as HeldChain}
 use Rattle.recording.specs.Chains.{Subject, RecordedHop, RecordedChain, role_of, moment_items, related_items, message_item, hop_items, chain_items}
 use Rattle.recording.specs.RecordedChains.{chain_meant, hop_meant, script_index, subject_meant}
-use Rattle.recording.specs.tools.Ordered.{AreAfterMoment, AreChain, AreHops, AreHopsOf, HasKind, IsAfter, IsMoment, IsNextHop, LacksNext, SaysHops, SaysOrder, Stops, StopsAt, Takes, TakesFirst, TakesNone, bodies_left}
+use Rattle.recording.specs.tools.Ordered.{AreAfterMoment, AreAhead, AreChain, AreHops, AreHopsOf, HasKind, HeldItems, IsAfter, IsMoment, IsNextHop, LacksNext, SaysHops, SaysOrder, Stops, StopsAt, Takes, TakesFirst, TakesNone, bodies_left}
+use Rattle.recording.proofs.AheadLaws.{past_of}
 use Rattle.recording.proofs.OneChain.{drop_some, slice_get_at, slice_get-append_left, hop_items-length, hops_items-append}
 use Rattle.recording.proofs.Stopping.{chain_down, chain_up, head_same, message_script, moment_stored, same_message_role, some_list_none, stored_kind, stored_moment, first_down, first_missing, first_up, head_items, hops_down, hops_up, message_missing, nil_cons, script_missing, some_none, stops_after}
 use Rattle.recording.proofs.OrderFaults.{order_fault}
 
 -- ---- the next item
 
-said : (items : List Item) (n : ℕ) (item : Item) → slice_get items n ≡ Some item → slice_get (bodies (map placed items)) n ≡ Some (body_of item.body)
+said : (items : List PlacedItem) (n : ℕ) (item : PlacedItem) → slice_get items n ≡ Some item → slice_get (bodies items) n ≡ Some item.body
 said items n item there =
-    slice_get-map (λ (i : PlacedItem). i.body) (map placed items) n
-    ∙ ap (λ (o : Option PlacedItem). option_map (λ (i : PlacedItem). i.body) o) (slice_get-map placed items n ∙ ap (λ (o : Option Item). option_map placed o) there)
+    slice_get-map (λ (i : PlacedItem). i.body) items n ∙ ap (λ (o : Option PlacedItem). option_map (λ (i : PlacedItem). i.body) o) there
 
 -- what is left from an item on
-pub left_some : (items : List Item) (n : ℕ) (item : Item) → slice_get items n ≡ Some item
-    → drop n (bodies (map placed items)) ≡ body_of item.body ∷ drop (n + 1) (bodies (map placed items))
-left_some items n item there = drop_some (bodies (map placed items)) n (body_of item.body) (said items n item there)
+pub left_some : (items : List PlacedItem) (n : ℕ) (item : PlacedItem) → slice_get items n ≡ Some item
+    → drop n (bodies items) ≡ item.body ∷ drop (n + 1) (bodies items)
+left_some items n item there = drop_some (bodies items) n item.body (said items n item there)
 
-bodies-length : (items : List Item) → length (bodies (map placed items)) ≡ length items
-bodies-length items = length-map (map placed items) (λ (i : PlacedItem). i.body) ∙ length-map items placed
+bodies-length : (items : List PlacedItem) → length (bodies items) ≡ length items
+bodies-length items = length-map items (λ (i : PlacedItem). i.body)
 
 -- nothing is left after the last item
-pub left_none : (items : List Item) (n : ℕ) → length items ≤ n → drop n (bodies (map placed items)) ≡ []
-left_none items n past = drop_all n (bodies (map placed items)) (omega (arith, bodies-length items))
+pub left_none : (items : List PlacedItem) (n : ℕ) → length items ≤ n → drop n (bodies items) ≡ []
+left_none items n past = drop_all n (bodies items) (omega (arith, bodies-length items))
 
-pub left_of : (items : List Item) (n : ℕ) → n < length items → drop n (bodies (map placed items)) ≢ []
+pub left_of : (items : List PlacedItem) (n : ℕ) → n < length items → drop n (bodies items) ≢ []
 left_of items n within e =
-    omega (arith, length-drop n (bodies (map placed items)), bodies-length items, ap (λ (x : List Body). length x) e)
+    omega (arith, length-drop n (bodies items), bodies-length items, ap (λ (x : List Body). length x) e)
 
--- what the code reads at an index
-pub read_there : (items : List Item) (n : ℕ) (item : Item) → true ≡ ltb n (length items) → item ≡ get_or items n item → slice_get items n ≡ Some item
-read_there items n item less is = slice_get_read items (length items) n item refl (ltb-true n (length items) (sym less)) is
-
-pub read_past : (items : List Item) (n : ℕ) → false ≡ ltb n (length items) → length items ≤ n
-read_past items n more = ltb-false n (length items) (sym more)
-
-pub take_one : (was : HeldItems) (item : Item) (body : Body) → slice_get was.items.now was.taken ≡ Some item → body_of item.body ≡ body
+pub take_one : (was : HeldItems) (item : PlacedItem) (body : Body) → slice_get was.items was.taken ≡ Some item → item.body ≡ body
     → Takes body was (record { items = was.items; taken = was.taken + 1 })
 take_one was item body there is = record {
   items = refl;
   taken = refl;
-  next = left_some was.items.now was.taken item there ∙ ap (λ (b : Body). b ∷ drop (was.taken + 1) (bodies (map placed was.items.now))) is;
+  next = left_some was.items was.taken item there ∙ ap (λ (b : Body). b ∷ drop (was.taken + 1) (bodies was.items)) is;
 }
 
-pub take_none : (IsSuch : Body → Type 0) (was : HeldItems) (item : Item) → slice_get was.items.now was.taken ≡ Some item → ¬ IsSuch (body_of item.body)
+pub take_none : (IsSuch : Body → Type 0) (was : HeldItems) (item : PlacedItem) → slice_get was.items was.taken ≡ Some item → ¬ IsSuch item.body
     → TakesNone IsSuch was was
 take_none IsSuch was item there not = record {
   same = refl;
   lacks = λ body others e is.
-      let same : body ≡ body_of item.body = head_same body (body_of item.body) others (drop (was.taken + 1) (bodies (map placed was.items.now))) (sym e ∙ left_some was.items.now was.taken item there) in
+      let same : body ≡ item.body = head_same body item.body others (drop (was.taken + 1) (bodies was.items)) (sym e ∙ left_some was.items was.taken item there) in
       not (subst IsSuch same is);
 }
 
-pub take_past : (IsSuch : Body → Type 0) (was : HeldItems) → length was.items.now ≤ was.taken → TakesNone IsSuch was was
-take_past IsSuch was past = record {
+pub take_past : (IsSuch : Body → Type 0) (was : HeldItems) → slice_get was.items was.taken ≡ None → TakesNone IsSuch was was
+take_past IsSuch was none = record {
   same = refl;
-  lacks = λ body others e is. nil_cons body others (sym (left_none was.items.now was.taken past) ∙ e);
+  lacks = λ body others e is. nil_cons body others (sym (left_none was.items was.taken (past_of was.items was.taken none)) ∙ e);
 }
 
 pub not_moment : (said : ItemBody) → ((seconds : ℕ) → said ≡ At seconds → ⊥) → ¬ IsMoment (body_of said)
@@ -120,25 +111,28 @@ role_same own role ne is unset = same_true the_type (search rules) own role (not
 -- ---- the fault after what was taken
 
 -- the fault at the next item, or at the last one
-pub fault_next : (left : HeldItems) (item : Item) → slice_get left.items.now left.taken ≡ Some item → IsAfter left (Order item.offset)
+pub fault_next : (left : HeldItems) (item : PlacedItem) → slice_get left.items left.taken ≡ Some item → IsAfter left (Order item.offset)
 fault_next left item there = record {
   index = left.taken;
-  item = placed item;
-  there = slice_get-map placed left.items.now left.taken ∙ ap (λ (o : Option Item). option_map placed o) there;
+  item = item;
+  there = there;
   fault_is = refl;
   next = λ within. refl;
-  last = λ past. absurd (omega (arith, slice_get_within left.items.now left.taken item there, length-map left.items.now placed));
+  last = λ past. absurd (omega (arith, slice_get_within left.items left.taken item there));
 }
 
-pub fault_last : (left : HeldItems) (item : Item) → length left.items.now ≤ left.taken → Some item ≡ slice_get left.items.now (length left.items.now - 1) → IsAfter left (Order item.offset)
-fault_last left item past there = record {
-  index = length left.items.now - 1;
-  item = placed item;
-  there = slice_get-map placed left.items.now (length left.items.now - 1) ∙ ap (λ (o : Option Item). option_map placed o) (sym there);
-  fault_is = refl;
-  next = λ within. absurd (omega (arith, length-map left.items.now placed));
-  last = λ _. omega (arith, slice_get_within left.items.now (length left.items.now - 1) item (sym there), length-map left.items.now placed);
-}
+pub fault_last : (left : HeldItems) (last : ℕ) (later : List PlacedItem) → AreAhead left None later last → 0 < length left.items → IsAfter left (Order last)
+fault_last left last later a some =
+    let past = past_of left.items left.taken a.next_is in
+    let own = a.last_is (omega arith) in
+    record {
+      index = left.taken - 1;
+      item = own.0;
+      there = own.1;
+      fault_is = ap Order own.2;
+      next = λ within. absurd (omega arith);
+      last = λ _. omega (arith, a.within);
+    }
 
 -- ---- the first message
 
@@ -193,13 +187,13 @@ of_moment (Some seconds) was mid t = record {
   no_moment = λ e. absurd (some_none seconds e);
 }
 
-pub no_script : (subject : Subject) (m : Option ℕ) (was mid late : HeldItems) → was.taken < length was.items.now → TakesMoment m was mid
+pub no_script : (subject : Subject) (m : Option ℕ) (was mid late : HeldItems) → was.taken < length was.items → TakesMoment m was mid
     → TakesNone (HasKind script) mid late → StopsAt (AreHops subject) was late
 no_script subject m was mid late within t none =
     let of = of_moment m was mid t in
     subst (λ (h : HeldItems). StopsAt (AreHops subject) was h) (sym none.same) record {
       items = of.items;
-      stops = script_missing subject m (bodies_left was) (bodies_left mid) of.joined of.no_moment none.lacks (left_of was.items.now was.taken within);
+      stops = script_missing subject m (bodies_left was) (bodies_left mid) of.joined of.no_moment none.lacks (left_of was.items was.taken within);
     }
 
 pub no_message : (subject : Subject) (m : Option ℕ) (text : List ℕ) (role : Role) (was mid last late : HeldItems) → TakesMoment m was mid
@@ -311,16 +305,16 @@ says_fault subject was now TooManyHops fail after = (fail, after)
 -- ---- the chain
 
 -- items that are of no chain where they stop
-chain_fault : (left : HeldItems) (fault : OrderFault) → Stops AreChain (bodies (map placed left.items.now)) (bodies_left left) → IsAfter left fault
-    → SaysOrder (map placed left.items.now) (Err fault)
+chain_fault : (left : HeldItems) (fault : OrderFault) → Stops AreChain (bodies left.items) (bodies_left left) → IsAfter left fault
+    → SaysOrder left.items (Err fault)
 chain_fault left fault s after =
-    subst (λ (f : OrderFault). SaysOrder (map placed left.items.now) (Err f)) (sym after.fault_is)
-    (order_fault (map placed left.items.now) left.taken s after.index after.item after.there after.next after.last)
+    subst (λ (f : OrderFault). SaysOrder left.items (Err f)) (sym after.fault_is)
+    (order_fault left.items left.taken s after.index after.item after.there after.next after.last)
 
 -- a chain of which the moment was taken
 module _ (start a : HeldItems) (seconds : ℕ) (at_start : start.taken ≡ 0) (own : Takes (moment seconds) start a) where
   abbrev items : List PlacedItem
-  items = map placed start.items.now
+  items = start.items
 
   all_left : bodies items ≡ bodies_left start
   all_left = ap (λ (n : ℕ). drop n (bodies items)) (sym at_start)
@@ -329,8 +323,8 @@ module _ (start a : HeldItems) (seconds : ℕ) (at_start : start.taken ≡ 0) (o
   first_answer b fault fail after =
       let same : b.items ≡ start.items = fail.items ∙ own.items in
       let s : Stops AreChain (bodies items) (bodies_left b) = stops_after AreChain AreAfterMoment (moment seconds ∷ []) (bodies items) (bodies_left a) (bodies_left b) (all_left ∙ own.next) (chain_down seconds) (chain_up seconds) fail.stops in
-      subst (λ (x : Bor (List Item)). SaysOrder (map placed x.now) (Err fault)) same
-      (chain_fault b fault (subst (λ (x : Bor (List Item)). Stops AreChain (bodies (map placed x.now)) (bodies_left b)) (sym same) s) after)
+      subst (λ (x : List PlacedItem). SaysOrder x (Err fault)) same
+      (chain_fault b fault (subst (λ (x : List PlacedItem). Stops AreChain (bodies x) (bodies_left b)) (sym same) s) after)
 
   -- and the first message
   module _ (subject : HeldSubject) (text : Bor (List ℕ)) (b : HeldItems) (first : TakesFirst (subject_meant subject) text.now a b) where

@@ -6,12 +6,15 @@ mod WalkLaws
 mod LoopLaws
 mod WholeLaws
 pub mod RecordingLaws
+mod NextLaws
 mod ReadLaws
+mod ViewLaws
 mod LeftLaws
 mod AllowedLaws
 mod RestLaws
 pub mod OneChain
 mod Stopping
 pub mod OrderFaults
+mod AheadLaws
 mod HeldOrder
 mod OrderAnswers

@@ -56,7 +56,6 @@ pub record LineAfter (IsSuch : ℕ → List ℕ → Type 0) (last : ℕ) (bytes 
 
 abbrev pub WalkSays : ℕ → List ℕ → Result (List Body × List ℕ) Stop → Type 0
 WalkSays last bytes (Ok (items, rest)) = (turns_read turn_read bytes ≡ Ok (items, rest)) × AreAllowedAfter last items
-WalkSays last bytes (Err stop.Memory) = ⊥
 WalkSays last bytes (Err (stop.Left n)) = turns_read turn_read bytes ≡ Err n
 WalkSays last bytes (Err (stop.TooLong n)) = LineAfter IsLongAfter last bytes n
 WalkSays last bytes (Err (stop.MomentFalls n)) = LineAfter IsFallingAfter last bytes n
@@ -97,7 +96,6 @@ turns_more item bytes rest r e f = turn_is bytes (Ok (Some item, rest)) e ∙ ap
 says_later : (last : ℕ) (bytes : List ℕ) (item : Body) (rest : List ℕ) → item_step last bytes ≡ Ok (Some item, rest) → turn_read bytes ≡ Ok (Some item, rest)
     → (r : Result (List Body × List ℕ) Stop) → WalkSays (moment_after last item) rest r → WalkSays last bytes (with_items (item ∷ []) r)
 says_later last bytes item rest e t (Ok (items, end)) w = (turns_more item bytes rest (Ok (items, end)) t w.0, ((step_some last bytes item rest e).2, w.1))
-says_later last bytes item rest e t (Err stop.Memory) w = w
 says_later last bytes item rest e t (Err (stop.Left n)) w = turns_more item bytes rest (Err n) t w
 says_later last bytes item rest e t (Err (stop.TooLong n)) w = line_later IsLongAfter last bytes item rest n e w
 says_later last bytes item rest e t (Err (stop.MomentFalls n)) w = line_later IsFallingAfter last bytes item rest n e w
@@ -116,7 +114,6 @@ says_in (suc k) last bytes lt = go (λ last rest l. says_in k last rest l) (item
         at (Ok (Some item, rest)) e t =
             let less : length rest < length bytes = (step_some last bytes item rest e).3 in
             says_later last bytes item rest e t.0 (walk_in k (moment_after last item) rest) (again (moment_after last item) rest (omega (arith, less, lt)))
-        at (Err stop.Memory) e t = t
         at (Err (stop.Left n)) e t = turn_is bytes (Err n) t
         at (Err (stop.TooLong n)) e t = line_here IsLongAfter last bytes n t.0 t.1
         at (Err (stop.MomentFalls n)) e t = line_here IsFallingAfter last bytes n t.0 t.1

@@ -1,5 +1,5 @@
 -- Laws of recordings, and the answer to a text.
-use Rattle.std.proofs.Common.{◌≡◌, ◌≢◌, ◌⊎◌, inl, inr, ℕ, ◌+◌, ◌-◌, ◌≤◌, ◌<◌, List, [], ◌∷◌, ◌++◌, length, map, Result, Ok, Err, refl, sym, ap, subst, ◌∙◌, arith, codes}
+use Rattle.std.proofs.Common.{◌≡◌, ◌≢◌, ◌⊎◌, inl, inr, ℕ, ◌+◌, ◌-◌, ◌≤◌, ◌<◌, List, [], ◌∷◌, ◌++◌, length, Result, Ok, Err, refl, sym, ap, subst, ◌∙◌, arith, codes}
 use Rattle.std.specs.Prelude.{MatchResult}
 use Rattle.std.proofs.lemmas.List.{append-nil, length-append}
 use Rattle.byte_grammar.specs.Causes.{AnswersWhere}
@@ -11,14 +11,14 @@ use Rattle.byte_grammar.proofs.OffsetLaws.{one_offset}
 use Rattle.byte_grammar.proofs.Whole.{judges}
 use Rattle.recording.specs.declared.fault.RecordingFault.{RecordingFault}
 use Rattle.recording.specs.declared.fault.RecordingFault.TheVariants.{Memory, Syntax, ItemTooLong, MomentFalls}
-use Rattle.recording.specs.declared.item.Item.{Item}
 use Rattle.recording.specs.declared.read.Stop.{Stop}
 use Rattle.recording.specs.declared.read.Stop.TheVariants as stop
-use Rattle.recording.specs.Items.{Body, body_text, PlacedItem, placed}
+use Rattle.recording.specs.Items.{Body, body_text, PlacedItem}
 use Rattle.recording.specs.Recordings.{items_text, HasForm, AreAllowed, ArePlaced, SpellsRecording, bodies}
 use Rattle.recording.specs.Causes.{HasLineAt, IsLongLine, IsFallingLine, IsRecordingCause, IsRecordingFault, recording_order}
 use Rattle.recording.specs.Laws.{HasRecordingOrFault, OneRecording, OneRecordingFault, NoFaultOfRecording, OneOfBoth}
 use Rattle.recording.specs.tools.Running.{HasLineAfter, IsLongAfter, IsFallingAfter, last_moment}
+use Rattle.recording.specs.tools.RecordingViews.{place}
 use Rattle.recording.specs.tools.RecordingWalk.{form_read, with_items, item_step, walk, recording_step}
 use Rattle.recording.specs.tools.Judged.{Explains}
 use Rattle.recording.proofs.AllowedLaws.{allowed_of, allowed_after, long_line_at, long_line_after, falling_line_at, falling_line_after}
@@ -52,7 +52,6 @@ stopped_within text n e = (stopped text n (whole_err text n e)).0
 unfoldable pub answer : List ℕ → Result (List Body × List ℕ) Stop → Result (List Body) RecordingFault
 answer text (Ok (items, [])) = Ok items
 answer text (Ok (items, c ∷ rest)) = Err (Syntax (length text - length (c ∷ rest)))
-answer text (Err stop.Memory) = Err Memory
 answer text (Err (stop.Left n)) = Err (Syntax (length text - n))
 answer text (Err (stop.TooLong n)) = Err (ItemTooLong (length text - n))
 answer text (Err (stop.MomentFalls n)) = Err (MomentFalls (length text - n))
@@ -75,7 +74,6 @@ explained text = go (recording_step text) (recording_says text)
     go : (r : Result (List Body × List ℕ) Stop) → RecordingSays text (form_read text) r → Explained text (answer text r)
     go (Ok (items, [])) w = ((judges meets_form).ok text items (whole_ok text items w.0), allowed_of items w.1)
     go (Ok (items, c ∷ rest)) w = (stopped text (length (c ∷ rest)) (whole_rest text items c rest w.0)).1
-    go (Err stop.Memory) w = w
     go (Err (stop.Left n)) w = (stopped text n (whole_err text n w)).1
     go (Err (stop.TooLong n)) w = long_line_at text (length text - n) w.1
     go (Err (stop.MomentFalls n)) w = falling_line_at text (length text - n) w.1
@@ -175,24 +173,18 @@ items_of text items e = subst (λ (r : Result (List Body) RecordingFault). Expla
 
 -- ---- places
 
-place : ℕ → List Body → List PlacedItem
-place offset [] = []
-place offset (item ∷ items) = record { offset = offset; body = item } ∷ place (offset + length (body_text item)) items
-
-place_bodies : (offset : ℕ) (items : List Body) → bodies (place offset items) ≡ items
-unfolding place
+pub place_bodies : (offset : ℕ) (items : List Body) → bodies (place offset items) ≡ items
 place_bodies offset [] = refl
 place_bodies offset (item ∷ items) = ap (λ (others : List Body). item ∷ others) (place_bodies (offset + length (body_text item)) items)
 
-place_placed : (offset : ℕ) (items : List Body) → ArePlaced offset (place offset items)
-unfolding place
+pub place_placed : (offset : ℕ) (items : List Body) → ArePlaced offset (place offset items)
 place_placed offset [] = tt
 place_placed offset (item ∷ items) = (refl, place_placed (offset + length (body_text item)) items)
 
 same_item : (item other : PlacedItem) → item.offset ≡ other.offset → item.body ≡ other.body → item ≡ other
 same_item item other a b = λ i. record { offset = a i; body = b i }
 
-placed_once : (offset : ℕ) (items others : List PlacedItem) → ArePlaced offset items → ArePlaced offset others → bodies items ≡ bodies others → items ≡ others
+pub placed_once : (offset : ℕ) (items others : List PlacedItem) → ArePlaced offset items → ArePlaced offset others → bodies items ≡ bodies others → items ≡ others
 placed_once offset [] [] a b e = refl
 placed_once offset [] (other ∷ others) a b e = absurd (cc e)
 placed_once offset (item ∷ items) [] a b e = absurd (cc e)
@@ -248,13 +240,13 @@ memory_or_not (Syntax offset) = inr (λ e. cc)
 memory_or_not (ItemTooLong offset) = inr (λ e. cc)
 memory_or_not (MomentFalls offset) = inr (λ e. cc)
 
-pub only_recording : (text : List ℕ) (result : Result (List Item) RecordingFault) → Explains text result → (items : List PlacedItem) → SpellsRecording text items → MatchResult result (λ given. map placed given ≡ items) (λ fault. fault ≡ Memory)
-only_recording text (Ok given) is items s = one_recording text (map placed given) items is s
+pub only_recording : (text : List ℕ) (result : Result (List PlacedItem) RecordingFault) → Explains text result → (items : List PlacedItem) → SpellsRecording text items → MatchResult result (λ given. given ≡ items) (λ fault. fault ≡ Memory)
+only_recording text (Ok given) is items s = one_recording text given items is s
 only_recording text (Err fault) is items s = memory_if Memory memory_or_not fault (λ own. no_fault_of_recording text items fault s (is own))
 
-named : (text : List ℕ) (result : Result (List Item) RecordingFault) → Explains text result → NamesFault Memory (IsRecordingFault text) result
-named text (Ok given) is = λ fault. no_fault_of_recording text (map placed given) fault is
+named : (text : List ℕ) (result : Result (List PlacedItem) RecordingFault) → Explains text result → NamesFault Memory (IsRecordingFault text) result
+named text (Ok given) is = λ fault. no_fault_of_recording text given fault is
 named text (Err fault) is = is
 
-pub fault_is : (text : List ℕ) (result : Result (List Item) RecordingFault) → Explains text result → (fault : RecordingFault) → fault ≢ Memory → AnswersWhere Memory result fault (IsRecordingFault text fault)
+pub fault_is : (text : List ℕ) (result : Result (List PlacedItem) RecordingFault) → Explains text result → (fault : RecordingFault) → fault ≢ Memory → AnswersWhere Memory result fault (IsRecordingFault text fault)
 fault_is text result is = answers_where Memory memory_or_not (IsRecordingFault text) result (one_recording_fault text) (named text result is)

@@ -26,7 +26,6 @@ BeginsWith IsSuch last bytes = (line more : List ℕ) × (bytes ≡ line ++ more
 abbrev pub Says : ℕ → List ℕ → Result (Option Body × List ℕ) ℕ → Result (Option Body × List ℕ) Stop → Type 0
 Says last bytes turn (Ok (None, rest)) = turn ≡ Ok (None, rest)
 Says last bytes turn (Ok (Some item, rest)) = (turn ≡ Ok (Some item, rest)) × IsAllowedAfter last item
-Says last bytes turn (Err stop.Memory) = ⊥
 Says last bytes turn (Err (stop.Left n)) = turn ≡ Err n
 Says last bytes turn (Err (stop.TooLong n)) = (n ≡ length bytes) × BeginsWith IsLongAfter last bytes
 Says last bytes turn (Err (stop.MomentFalls n)) = (n ≡ length bytes) × BeginsWith IsFallingAfter last bytes

@@ -106,7 +106,6 @@ and_items n r = r >>= λ t. Ok (moment n ∷ t.0, t.1)
 
 abbrev pub FirstSays : List ℕ → Result (List Body × List ℕ) ℕ → Result (ℕ × List ℕ) Stop → Type 0
 FirstSays text form (Ok (n, rest)) = (form ≡ and_items n (turns_read turn_read rest)) × (text ≡ codes "hms-recording 1\n" ++ (number_line (codes "at ") n ++ rest)) × IsNumber n
-FirstSays text form (Err stop.Memory) = ⊥
 FirstSays text form (Err (stop.Left k)) = form ≡ Err k
 FirstSays text form (Err (stop.TooLong k)) = ⊥
 FirstSays text form (Err (stop.MomentFalls k)) = ⊥
@@ -152,7 +151,6 @@ first_is n rest is =
 
 abbrev pub RecordingSays : List ℕ → Result (List Body × List ℕ) ℕ → Result (List Body × List ℕ) Stop → Type 0
 RecordingSays text form (Ok (items, rest)) = (form ≡ Ok (items, rest)) × AreAllowedAfter 0 items
-RecordingSays text form (Err stop.Memory) = ⊥
 RecordingSays text form (Err (stop.Left n)) = form ≡ Err n
 RecordingSays text form (Err (stop.TooLong n)) = (n ≤ length text) × HasLineAfter IsLongAfter text (length text - n)
 RecordingSays text form (Err (stop.MomentFalls n)) = (n ≤ length text) × HasLineAfter IsFallingAfter text (length text - n)
@@ -183,14 +181,12 @@ recording_says text = go (first_step text) (first_says text)
   where
     walked : (n : ℕ) (rest : List ℕ) → FirstSays text (form_read text) (Ok (n, rest)) → (r : Result (List Body × List ℕ) Stop) → WalkSays n rest r → RecordingSays text (form_read text) (with_items (moment n ∷ []) r)
     walked n rest f (Ok (items, end)) w = (f.0 ∙ ap (and_items n) w.0, (omega arith, w.1))
-    walked n rest f (Err stop.Memory) w = w
     walked n rest f (Err (stop.Left k)) w = f.0 ∙ ap (and_items n) w
     walked n rest f (Err (stop.TooLong k)) w = line_of IsLongAfter text n rest k f.1 f.2 w
     walked n rest f (Err (stop.MomentFalls k)) w = line_of IsFallingAfter text n rest k f.1 f.2 w
 
     go : (s : Result (ℕ × List ℕ) Stop) → FirstSays text (form_read text) s → RecordingSays text (form_read text) (and_on (mapped_step (λ (n : ℕ × List ℕ). (Some (moment n.0), n.1)) s) (λ item rest. walk (moment_after 0 item) rest))
     go (Ok (n, rest)) f = walked n rest f (walk n rest) (walk_says n rest)
-    go (Err stop.Memory) f = f
     go (Err (stop.Left k)) f = f
     go (Err (stop.TooLong k)) f = absurd f
     go (Err (stop.MomentFalls k)) f = absurd f

@@ -1,17 +1,13 @@
 //! Why bytes are no recording.
 
-ghost use Rattle.std.specs.Prelude.{◌≡◌};
-ghost use Rattle.recording.specs.declared.fault.RecordingFault.TheVariants.{Memory as OutOfMemory};
-
 use crate::limits::MAX_ITEM_BYTES;
-use sfv_text::Memory;
 use std::error::Error;
 use std::fmt;
 
 /// Why bytes are no recording. The first that reading from the left meets is answered.
 #[derive(Clone, Copy, Debug, PartialEq, Eq)]
 pub enum RecordingFault {
-    /// Out of memory. It says nothing of the bytes.
+    /// Out of memory. Recordings are read without memory, so this is never answered.
     Memory,
     /// The offset is the first at which the bytes up to and with it begin no recording, or that of
     /// the end where only more bytes are missing. Limits on items and the order of moments are left
@@ -41,11 +37,3 @@ impl fmt::Display for RecordingFault {
 }
 
 impl Error for RecordingFault {}
-
-impl From<Memory> for RecordingFault {
-    ghost from_gives = { λ _ fault. fault ≡ OutOfMemory };
-
-    fn from(_memory: Memory) -> RecordingFault {
-        RecordingFault::Memory
-    }
-}

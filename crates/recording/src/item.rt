@@ -1,7 +1,5 @@
 //! Items of a recording.
 
-use sfv_text::Sequence;
-
 /// What a message is in its recording.
 #[derive(Clone, Copy, PartialEq, Eq)]
 pub enum Role {
@@ -33,6 +31,3 @@ pub struct Item<'r> {
     /// What it says.
     pub body: ItemBody<'r>,
 }
-
-/// The items of a recording, in order.
-pub type Recording<'r> = Sequence<Item<'r>>;

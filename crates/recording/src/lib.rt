@@ -22,7 +22,8 @@
 //! read_recording(alloc, b"hms-recording 1\nat 05\nend\n") // Err(RecordingFault::Syntax(20))
 //! ```
 //!
-//! The items borrow their bytes from the recording.
+//! A recording is kept as its text alone, and its items are read from it one at a time. They borrow
+//! their bytes from it.
 #![tactic(auto)]
 
 mod chain;
@@ -35,12 +36,13 @@ mod limits;
 mod number;
 mod order;
 mod read;
+mod view;
 mod word;
 
 pub use chain::{OrderFault, RecordedChain, RecordedHop, Subject};
 pub use chain_laws::items_are_a_chain_or_not;
 pub use fault::RecordingFault;
-pub use item::{Item, ItemBody, Recording, Role};
+pub use item::{Item, ItemBody, Role};
 pub use laws::{
     a_text_is_a_recording_or_has_a_fault, the_first_fault_is_that_from_the_left,
     the_rest_is_read_by_itself,
@@ -49,3 +51,4 @@ pub use limit_laws::limits_are_these;
 pub use limits::{MAX_HOPS, MAX_ITEM_BYTES, MAX_NUMBER_DIGITS};
 pub use order::{recorded_chain, role_of};
 pub use read::read_recording;
+pub use view::{Items, Recording};

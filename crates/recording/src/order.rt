@@ -1,9 +1,8 @@
 //! The order of a recorded chain.
 
-ghost use Rattle.std.specs.Prelude.{◌≡◌, ◌≢◌, map, IfOk};
+ghost use Rattle.std.specs.Prelude.{◌≡◌, ◌≢◌, IfOk};
 ghost use Rattle.byte_grammar.specs.Causes.{AnswersWhere};
 ghost use Rattle.recording.specs.Chains.{role_of};
-ghost use Rattle.recording.specs.Items.{placed};
 ghost use Rattle.recording.specs.RecordedChains.{IsHeldChain, IsOrderCause, subject_meant};
 ghost use Rattle.recording.specs.Recordings.{BeginWithMoment, bodies};
 ghost use Rattle.recording.specs.declared.chain.OrderFault.{OrderFault};
@@ -11,33 +10,98 @@ ghost use Rattle.recording.specs.declared.chain.OrderFault.{OrderFault};
 use crate::chain::{OrderFault, RecordedChain, RecordedHop, Subject};
 use crate::item::{Item, ItemBody, Role};
 use crate::limits::MAX_HOPS;
+use crate::view::{Items, Recording};
 use sfv_text::Sequence;
 use std::alloc::Global;
+use std::marker::Model;
 
-/// Items, and how many of them were taken.
+/// The items of a recording in their order, and how many of them were taken. A contract sees it as
+/// both.
 #[derive(Drop)]
-struct Items<'i, 'r> {
-    items: &'i [Item<'r>],
+struct ItemsAhead<'a, 'r> {
+    recording: &'a Recording<'r>,
+    next: Option<Item<'r>>,
+    // Those after the next one.
+    later: Items<'r>,
     taken: usize,
+    // The offset of the item that was taken last.
+    last: u64,
 }
 
-impl<'i, 'r> Items<'i, 'r> {
-    ghost use Rattle.std.specs.Prelude.{◌<◌, length, IfNone, IfSome};
-    ghost use Rattle.recording.specs.Items.{message, moment, script, stored};
+impl<'a, 'r> Model for ItemsAhead<'a, 'r> {
+    ghost use Rattle.std.specs.Prelude.{option_map};
+    ghost use Rattle.recording.specs.Items.{placed};
+    ghost use Rattle.recording.specs.tools.Ordered.{AreAhead, HeldItems};
+
+    ghost Value = { HeldItems };
+
+    ghost view = { λ s. record { items = s.recording.now; taken = s.taken } };
+
+    ghost invariant = { λ s. AreAhead (record { items = s.recording.now; taken = s.taken })
+        (option_map placed s.next) s.later s.last };
+}
+
+impl<'a, 'r> ItemsAhead<'a, 'r> {
+    ghost use Rattle.std.specs.Prelude.{◌≡◌, ◌<◌, ◌≤◌, ◌+◌, false, length, slice_get, option_map, Some, IfNone, IfSome, IsTrue};
+    ghost use Rattle.recording.specs.Items.{message, moment, placed, script, stored};
     ghost use Rattle.recording.specs.RecordedChains.{subject_meant};
     ghost use Rattle.recording.specs.tools.Ordered.{AreAfterMoment, AreHops, HasKind, IsAfter, IsMoment, IsNextHop, SaysHops, StopsAt, Takes, TakesFirst, TakesNone};
 
+    /// The items of the recording, of which none was taken.
+    fn of(recording: &'a Recording<'r>) -> ItemsAhead<'a, 'r>
+        ensures { result ≡ record { items = recording.now; taken = 0 } }
+    {
+        let mut later = recording.items();
+        let next = later.next();
+        ItemsAhead {
+            recording,
+            next,
+            later,
+            taken: 0,
+            last: 0,
+        }
+    }
+
+    /// How many were taken.
+    fn taken(&self) -> usize
+        ensures { result ≡ self.now.taken }
+    {
+        self.taken
+    }
+
+    /// Whether some are left.
+    fn are_left(&self) -> bool
+        ensures some { IsTrue result → self.now.taken < length self.now.items }
+        ensures none { result ≡ false → length self.now.items ≤ self.now.taken }
+    {
+        self.next.is_some()
+    }
+
+    /// The next item.
+    fn peek(&self) -> Option<Item<'r>>
+        ensures { slice_get self.now.items self.now.taken ≡ option_map placed result }
+    {
+        self.next
+    }
+
+    /// Takes the next item, which is this one.
+    fn take(&mut self, item: Item<'r>)
+        requires { slice_get self.old.items self.old.taken ≡ Some (placed item) }
+        ensures { self.new ≡ record { items = self.old.items; taken = self.old.taken + 1 } }
+    {
+        self.last = item.offset;
+        self.taken += 1;
+        self.next = self.later.next();
+    }
+
     /// The fault of the next item, or of the last, where none is left.
     fn fault(&self) -> OrderFault
-        requires some { 0 < length self.now.items.now }
+        requires some { 0 < length self.now.items }
         ensures { IsAfter self.now result }
     {
-        match self.items.get(self.taken) {
+        match self.next {
             Some(item) => OrderFault::Order(item.offset),
-            None => match self.items.last() {
-                Some(item) => OrderFault::Order(item.offset),
-                None => unreachable!(),
-            },
+            None => OrderFault::Order(self.last),
         }
     }
 
@@ -45,9 +109,10 @@ impl<'i, 'r> Items<'i, 'r> {
         ensures some { IfSome result (λ seconds. Takes (moment seconds) self.old self.new) }
         ensures none { IfNone result (TakesNone IsMoment self.old self.new) }
     {
-        match self.items.get(self.taken)?.body {
+        let item = self.peek()?;
+        match item.body {
             ItemBody::At(seconds) => {
-                self.taken += 1;
+                self.take(item);
                 Some(seconds)
             }
             _ => None,
@@ -58,9 +123,10 @@ impl<'i, 'r> Items<'i, 'r> {
         ensures some { IfSome result (λ text. Takes (stored script text.now) self.old self.new) }
         ensures none { IfNone result (TakesNone (HasKind script) self.old self.new) }
     {
-        match self.items.get(self.taken)?.body {
+        let item = self.peek()?;
+        match item.body {
             ItemBody::Script(text) => {
-                self.taken += 1;
+                self.take(item);
                 Some(text)
             }
             _ => None,
@@ -73,12 +139,13 @@ impl<'i, 'r> Items<'i, 'r> {
             Takes (stored (message role) text.now) self.old self.new) }
         ensures none { IfNone result (TakesNone (HasKind (message role)) self.old self.new) }
     {
-        match self.items.get(self.taken)?.body {
+        let item = self.peek()?;
+        match item.body {
             ItemBody::Message(own, text) => {
                 if own != role {
                     return None;
                 }
-                self.taken += 1;
+                self.take(item);
                 Some(text)
             }
             _ => None,
@@ -101,14 +168,14 @@ impl<'i, 'r> Items<'i, 'r> {
 
     /// The next hop of a chain of such messages.
     fn hop(&mut self, subject: Subject<'r>) -> Option<RecordedHop<'r>>
-        requires left { self.old.taken < length self.old.items.now }
+        requires left { self.old.taken < length self.old.items }
         ensures some { IfSome result (λ hop.
             IsNextHop (subject_meant subject.entry) hop self.old self.new) }
         ensures none { IfNone result
             (StopsAt (AreHops (subject_meant subject.entry)) self.old self.new) }
     {
         let moment = self.moment();
-        let item = self.taken;
+        let item = self.taken();
         let script = self.script()?;
         let message = self.message(role_of(subject))?;
         Some(RecordedHop {
@@ -129,7 +196,7 @@ impl<'i, 'r> Items<'i, 'r> {
     {
         let mut hops = Sequence::new(alloc);
         let mut is_long = false;
-        while self.taken < self.items.len() {
+        while self.are_left() {
             let Some(hop) = self.hop(subject) else {
                 return Err(self.fault());
             };
@@ -153,25 +220,26 @@ pub fn role_of(subject: Subject<'_>) -> Role
     }
 }
 
-/// The chain that the items are: a moment, the request that the messages answer, where it is
-/// recorded, a message, and then for each hop a moment, where it has one, a script and a message.
+/// The chain that the items of the recording are: a moment, the request that the messages answer,
+/// where it is recorded, a message, and then for each hop a moment, where it has one, a script and
+/// a message.
 pub fn recorded_chain<'r>(
     alloc: Global,
-    items: &[Item<'r>],
+    recording: &Recording<'r>,
 ) -> Result<RecordedChain<'r>, OrderFault>
-    requires begins { BeginWithMoment (bodies (map placed items.now)) }
-    ensures chain { IfOk result (IsHeldChain (map placed items.now)) }
+    requires begins { BeginWithMoment (bodies recording.now) }
+    ensures chain { IfOk result (IsHeldChain recording.now) }
     ensures fault { (fault : OrderFault) → fault ≢ OrderFault.Memory
-        → AnswersWhere OrderFault.Memory result fault (IsOrderCause (map placed items.now) fault) }
+        → AnswersWhere OrderFault.Memory result fault (IsOrderCause recording.now fault) }
 {
-    let mut left = Items { items, taken: 0 };
+    let mut left = ItemsAhead::of(recording);
     let Some(moment) = left.moment() else {
         return Err(left.fault());
     };
     let Some((subject, first)) = left.first() else {
         return Err(left.fault());
     };
-    let item = left.taken - 1;
+    let item = left.taken() - 1;
     let (hops, is_long) = left.hops(alloc, subject)?;
     if is_long {
         return Err(OrderFault::TooManyHops);

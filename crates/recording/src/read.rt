@@ -1,32 +1,32 @@
 //! Reads recordings.
 
-ghost use Rattle.std.specs.Prelude.{◌≡◌, ◌≢◌, ℕ, List, map, length, codes, option_map, IfOk, MatchResult};
+ghost use Rattle.std.specs.Prelude.{◌≡◌, ◌≢◌, ℕ, Option, List, Ok, Err, option_map, IfOk, MatchResult};
 ghost use Rattle.byte_grammar.specs.Causes.{AnswersWhere};
 ghost use Rattle.byte_grammar.specs.Gives.{Gives as ReadGives};
-ghost use Rattle.recording.specs.Items.{PlacedItem, body_of, placed};
-ghost use Rattle.recording.specs.Recordings.{SpellsRecording, ArePlaced};
+ghost use Rattle.recording.specs.Items.{Body, PlacedItem, body_of};
+ghost use Rattle.recording.specs.Recordings.{SpellsRecording};
 ghost use Rattle.recording.specs.Causes.{IsRecordingFault};
 ghost use Rattle.recording.specs.tools.Running.{moment_after};
 ghost use Rattle.recording.specs.tools.RecordingWalk.{bytes_read, text_read, moment_step, stored_step, item_step, first_step, recording_step};
-ghost use Rattle.recording.specs.tools.Judged.{Gives, said, Explains};
+ghost use Rattle.recording.specs.tools.NextItems.{BeginsWithNext, IsStop};
+ghost use Rattle.recording.specs.tools.Judged.{Gives, Explains};
 
 use crate::fault::RecordingFault;
-use crate::item::{Item, ItemBody, Recording};
+use crate::item::ItemBody;
 use crate::limits::MAX_ITEM_BYTES;
 use crate::number::read_number_line;
+use crate::view::Recording;
 use crate::word::{Word, read_literal, read_word};
 use byte_grammar::{Byte, Left, read_byte};
-use sfv_text::Memory;
 use std::alloc::Global;
 
 // The line that names the format.
-const FIRST_LINE: &[u8] = b"hms-recording 1\n";
+pub(crate) const FIRST_LINE: &[u8] = b"hms-recording 1\n";
 
 // Why no items are read. A number is that of the bytes that were left: where it stopped, or before
 // the line.
 #[derive(Clone, Copy)]
-enum Stop {
-    Memory,
+pub(crate) enum Stop {
     Left(usize),
     TooLong(usize),
     MomentFalls(usize),
@@ -40,17 +40,6 @@ impl From<Left> for Stop {
 
     fn from(left: Left) -> Stop {
         Stop::Left(left.0)
-    }
-}
-
-impl From<Memory> for Stop {
-    ghost use Rattle.std.specs.Prelude.{◌≡◌};
-    ghost use Rattle.recording.specs.declared.read.Stop.TheVariants.{Memory};
-
-    ghost from_gives = { λ _ stop. stop ≡ Memory };
-
-    fn from(_memory: Memory) -> Stop {
-        Stop::Memory
     }
 }
 
@@ -100,9 +89,9 @@ fn read_stored(line: usize, bytes: &[u8]) -> Result<(&[u8], &[u8]), Stop>
     Ok(read_text(size as usize, rest)?)
 }
 
-// Reads an item after the last moment, or the last line.
+// Reads what comes after the last moment: an item, or the last line.
 #[tactic(auto, unfolding(crate::specs::tools::RecordingWalk::item_step, crate::specs::tools::RecordingWalk::body_step))]
-fn read_item(last: u64, bytes: &[u8]) -> Result<(Option<ItemBody<'_>>, &[u8]), Stop>
+fn read_next(last: u64, bytes: &[u8]) -> Result<(Option<ItemBody<'_>>, &[u8]), Stop>
     ensures { Gives (λ x. (option_map body_of x.0, x.1.now)) result (item_step last bytes.now) }
 {
     let (word, rest) = read_word(bytes)?;
@@ -123,6 +112,21 @@ fn read_item(last: u64, bytes: &[u8]) -> Result<(Option<ItemBody<'_>>, &[u8]), S
     }
 }
 
+// Reads an item after the last moment, or the last line. Where it stops with no byte left, more
+// bytes may make it one.
+pub(crate) fn read_item(last: u64, bytes: &[u8]) -> Result<(Option<ItemBody<'_>>, &[u8]), Stop>
+    ensures gives { Gives (λ x. (option_map body_of x.0, x.1.now)) result
+        (item_step last bytes.now) }
+    ensures is { MatchResult result
+        (λ x. BeginsWithNext last (option_map body_of x.0) x.1.now bytes.now)
+        (λ stop. IsStop last bytes.now stop) }
+    ensures only { (next : Option Body) (rest : List ℕ) → BeginsWithNext last next rest bytes.now
+        → MatchResult result (λ x. (option_map body_of x.0 ≡ next) × (x.1.now ≡ rest))
+        (λ _. ⊥) }
+{
+    read_next(last, bytes)
+}
+
 // Reads the line that names the format and the first item, which is a moment.
 #[tactic(auto, unfolding(crate::specs::tools::RecordingWalk::first_step))]
 fn read_first(text: &[u8]) -> Result<(u64, &[u8]), Stop>
@@ -133,26 +137,19 @@ fn read_first(text: &[u8]) -> Result<(u64, &[u8]), Stop>
     Ok(read_number_line(rest)?)
 }
 
-// Reads the items, up to and with the last line.
-fn read_items<'r>(alloc: Global, text: &'r [u8]) -> Result<(Recording<'r>, &'r [u8]), Stop>
-    ensures gives { Gives (λ x. (said x.0, x.1.now)) result (recording_step text.now) }
-    ensures placed { IfOk result
-        (λ x. ArePlaced (length (codes "hms-recording 1\n")) (map placed x.0)) }
+// Goes over the items, up to and with the last line. It answers what comes after it.
+fn skip_items(text: &[u8]) -> Result<&[u8], Stop>
+    ensures { MatchResult result
+        (λ rest. (items : List Body) × (recording_step text.now ≡ Ok (items, rest.now)))
+        (λ stop. recording_step text.now ≡ Err stop) }
 {
     let (mut last, mut left) = read_first(text)?;
-    let mut items = Recording::new(alloc);
-    items.push(Item {
-        offset: FIRST_LINE.len() as u64,
-        body: ItemBody::At(last),
-    })?;
     'items: loop {
-        let offset = (text.len() - left.len()) as u64;
         let (item, rest) = read_item(last, left)?;
         match item {
-            None => return Ok((items, rest)),
+            None => return Ok(rest),
             Some(body) => {
                 last = moment_after(last, body);
-                items.push(Item { offset, body })?;
                 left = rest;
             }
         }
@@ -160,7 +157,7 @@ fn read_items<'r>(alloc: Global, text: &'r [u8]) -> Result<(Recording<'r>, &'r [
 }
 
 // The last moment after an item.
-fn moment_after(last: u64, body: ItemBody<'_>) -> u64
+pub(crate) fn moment_after(last: u64, body: ItemBody<'_>) -> u64
     ensures { result ≡ moment_after last (body_of body.entry) }
 {
     match body {
@@ -170,33 +167,32 @@ fn moment_after(last: u64, body: ItemBody<'_>) -> u64
 }
 
 // The answer to a text, by its cause.
-fn judge<'r>(alloc: Global, text: &'r [u8]) -> Result<Recording<'r>, RecordingFault>
+fn judge<'r>(text: &'r [u8]) -> Result<Recording<'r>, RecordingFault>
     ensures { Explains text.now result }
 {
     let size = text.len();
-    match read_items(alloc, text) {
-        Ok((items, [])) => Ok(items),
-        Ok((_items, rest)) => Err(RecordingFault::Syntax((size - rest.len()) as u64)),
+    match skip_items(text) {
+        Ok([]) => Ok(Recording::of(text)),
+        Ok(rest) => Err(RecordingFault::Syntax((size - rest.len()) as u64)),
         Err(Stop::Left(left)) => Err(RecordingFault::Syntax((size - left) as u64)),
         Err(Stop::TooLong(left)) => Err(RecordingFault::ItemTooLong((size - left) as u64)),
         Err(Stop::MomentFalls(left)) => Err(RecordingFault::MomentFalls((size - left) as u64)),
-        Err(Stop::Memory) => Err(RecordingFault::Memory),
     }
 }
 
 /// Reads a recording: the line `hms-recording 1`, items, and the line `end`, after which nothing
 /// comes. The first item is a moment, and no moment is earlier than the one before it.
 ///
-/// That an item is too long is answered where its line says so, before its bytes are asked for.
-pub fn read_recording<'r>(alloc: Global, text: &'r [u8]) -> Result<Recording<'r>, RecordingFault>
-    ensures ok { IfOk result (λ given. SpellsRecording text.now (map placed given)) }
+/// No memory is asked for: the text is gone over once, and no item is kept. That an item is too
+/// long is answered where its line says so, before its bytes are asked for.
+pub fn read_recording<'r>(_alloc: Global, text: &'r [u8]) -> Result<Recording<'r>, RecordingFault>
+    ensures ok { IfOk result (λ given. SpellsRecording text.now given) }
     ensures only { (items : List PlacedItem) → SpellsRecording text.now items
-        → MatchResult result (λ given. map placed given ≡ items)
-        (λ fault. fault ≡ RecordingFault.Memory) }
+        → MatchResult result (λ given. given ≡ items) (λ fault. fault ≡ RecordingFault.Memory) }
 
     // The first fault whose cause holds is answered, and no other.
     ensures fault { (fault : RecordingFault) → fault ≢ RecordingFault.Memory
         → AnswersWhere RecordingFault.Memory result fault (IsRecordingFault text.now fault) }
 {
-    judge(alloc, text)
+    judge(text)
 }

@@ -8,6 +8,8 @@
 #![tactic(auto)]
 
 mod file;
+mod hint;
+mod hint_conf;
 mod laws;
 mod limit_laws;
 mod refusal;

@@ -23,13 +23,13 @@ use Rattle.samples.specs.Scripts.{hop_steps, sizes_of}
 -- ---- numbers
 
 -- what is drawn is below the bound
-draw_within : (state number bound : ℕ) → 0 < bound → draw state number bound < bound
+pub draw_within : (state number bound : ℕ) → 0 < bound → draw state number bound < bound
 draw_within state number bound some = mod_below (state_after number state / 2 ^ 33) bound some
 
 few_digits : (n : ℕ) → n < 1000000000 → is_number n ≡ true
 few_digits n small = lt-ltb n 1000000000 small
 
-all_replicated : (test : ℕ → Bool) (n x : ℕ) → test x ≡ true → list_all test (replicate n x) ≡ true
+pub all_replicated : (test : ℕ → Bool) (n x : ℕ) → test x ≡ true → list_all test (replicate n x) ≡ true
 all_replicated test zero x is = refl
 all_replicated test (suc n) x is = and_from (test x) (list_all test (replicate n x)) is (all_replicated test n x is)
 
@@ -50,7 +50,7 @@ module _ (size : ℕ) (low : 1000 ≤ size) (high : size < 10000) where
       let rest = mod_below 100000 size (omega arith) in
       all_sizes (100000 / size) size (100000 % size) (eqb (100000 % size) 0) (few_digits size (omega arith)) (few_digits (100000 % size) (omega arith))
 
-  sizes_few : length (sizes_of size) ≤ 101
+  pub sizes_few : length (sizes_of size) ≤ 101
   sizes_few =
       let count = div_below 100000 size 101 (omega arith) (omega arith) in
       let all = few_sizes (100000 / size) size (100000 % size) (eqb (100000 % size) 0) in
@@ -102,7 +102,7 @@ script_length a b c x y z p q r = simp length-append (omega arith)
 pad_writable : (index count : ℕ) → index < 10 → count ≤ 3 → is_line_writable (Pad Header index (replicate count 32) []) ≡ true
 pad_writable index count small few =
     let long : length {A = ℕ} (replicate count 32) ≡ count = length-replicate count 32 in
-    let blanks = and_from (leb (length (replicate count 32)) 64) (list_all is_blank (replicate count 32)) (le-leb (length (replicate count 32)) 64 (omega arith)) (all_replicated is_blank count 32 refl) in
+    let blanks : are_blanks (replicate count 32) ≡ true = and_from (leb (length (replicate count 32)) 64) (list_all is_blank (replicate count 32)) (le-leb (length (replicate count 32)) 64 (omega arith)) (all_replicated is_blank count 32 refl) in
     and_from (is_number index) (are_blanks (replicate count 32) && are_blanks []) (few_digits index (omega arith)) (and_from (are_blanks (replicate count 32)) (are_blanks []) blanks refl)
 
 move_writable : (from to : ℕ) → from < 10 → to < 10 → is_line_writable (Move Header from to) ≡ true

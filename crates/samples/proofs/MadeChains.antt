@@ -1,5 +1,5 @@
 -- The chain of a sample, as it is recorded, and its audit.
-use Rattle.std.proofs.Common.{◌≡◌, false, ◌≤◌, ◌+◌, ◌-◌, ◌*◌, ℕ, zero, suc, Some, None, List, [], ◌∷◌, length, map, refl, sym, ap, subst, ◌∙◌, inl, inr, arith}
+use Rattle.std.proofs.Common.{◌≡◌, false, ◌≤◌, ◌+◌, ◌-◌, ◌*◌, ℕ, zero, suc, Some, None, List, [], ◌∷◌, length, map, refl, sym, ap, subst, ◌∙◌, arith}
 use Rattle.std.specs.Prelude.{IsTrue, count_by, slice_get}
 use Rattle.std.specs.List.{All, AllZip, flat_map}
 use Rattle.std.proofs.lemmas.List.{length-map}
@@ -12,7 +12,7 @@ use Rattle.component_values.specs.Context.{MessageContext}
 use Rattle.settings.specs.Configuration.{Configuration}
 use Rattle.rewrite_script.specs.Scripts.{script_text}
 use Rattle.rewrite_script.specs.declared.rewrite.Rewrite.{Rewrite}
-use Rattle.rewrites.specs.Steps.{Steps}
+use Rattle.rewrites.specs.Steps.{Step, Steps}
 use Rattle.rewrites.proofs.StepKinds.{gives_kind}
 use Rattle.recording.specs.Items.{Body, IsNumber, IsShort, Kind, PlacedItem, moment, stored, message, script, number_of}
 use Rattle.recording.specs.Recordings.{AreItems, bodies}
@@ -20,7 +20,7 @@ use Rattle.recording.specs.declared.item.Role.TheVariants.{Request}
 use Rattle.recording.specs.declared.limits.TheConstants.{MAX_ITEM_BYTES}
 use Rattle.signing.specs.Signed.{IsSignedMessage}
 use Rattle.signing.specs.declared.spec.SignSpec.{SignSpec}
-use Rattle.recording.specs.Chains.{RecordedChain, RecordedHop, requests, chain_items, hop_items}
+use Rattle.recording.specs.Chains.{RecordedChain, requests, chain_items, hop_items}
 use Rattle.hop_audit.specs.ChainFaults.{IsChainFault}
 use Rattle.hop_audit.specs.ChainValues.{Chain, Hop, IsChainOf, IsHop, IsScriptItem, one_request}
 use Rattle.hop_audit.specs.Lines.{finds_fault}
@@ -32,7 +32,7 @@ use Rattle.hop_audit.proofs.FirstFaults.{no_fault_where_audited}
 use Rattle.recording.proofs.OneChain.{one_chain}
 use Rattle.hop_audit.proofs.OneReport.{one_chain_value}
 use Rattle.hop_audit.proofs.SomeReport.{some_report}
-use Rattle.samples.specs.Chains.{AreHopsFrom, TakesStep, sample_context}
+use Rattle.samples.specs.Chains.{AreHopsFrom, sample_context}
 use Rattle.samples.specs.Draws.{state_after}
 use Rattle.samples.specs.Requests.{sample_configuration, sample_spec}
 use Rattle.samples.specs.Scripts.{hop_draws, hop_steps, scripts_from}
@@ -40,14 +40,11 @@ use Rattle.samples.specs.Summary.{IsSample, IsSummaryOf, is_kept_line, is_ok_lin
 use Rattle.samples.specs.declared.hop.MadeHop.{MadeHop}
 use Rattle.samples.specs.declared.limits.TheConstants.{MOMENT}
 use Rattle.samples.specs.declared.summary.Summary.{Summary}
-use Rattle.samples.specs.tools.Made.{AreMadeFrom, IsMade, IsTextOf, SpellsSample, items_made, made_items}
+use Rattle.samples.specs.tools.Made.{AreMadeFrom, IsMade, IsTextOf, SpellsSample, items_made, made_items, recorded_hop}
 use Rattle.samples.proofs.HopSteps.{hop_short, hop_spelled}
 use Rattle.samples.proofs.TakenSteps.{within_limit}
 
 -- ---- as it is recorded
-
-abbrev pub recorded_hop : MadeHop → RecordedHop
-recorded_hop made = record { moment = None; script = made.script; message = made.message }
 
 abbrev pub recorded_of : List ℕ → List MadeHop → RecordedChain
 recorded_of first made = record { moment = MOMENT; subject = requests; first = first; hops = map recorded_hop made }
@@ -56,18 +53,14 @@ hops_are : (made : List MadeHop) → flat_map made_items made ≡ flat_map (hop_
 hops_are [] = refl
 hops_are (hop ∷ made) = ap (λ (rest : List Body). stored script hop.script ∷ stored (message Request) hop.message ∷ rest) (hops_are made)
 
-items_are : (first : List ℕ) (made : List MadeHop) → items_made first made ≡ chain_items (recorded_of first made)
+pub items_are : (first : List ℕ) (made : List MadeHop) → items_made first made ≡ chain_items (recorded_of first made)
 items_are first made = ap (λ (rest : List Body). moment MOMENT ∷ stored (message Request) first ∷ rest) (hops_are made)
 
 -- ---- its messages are requests
 
-kind_after : (m : Message) (step : Rewrite) (after : Message) → IsTrue (is_request m.head.start) → TakesStep (sample_context m) step after → IsTrue (is_request after.head.start)
-kind_after m step after kind (inl gives) = (gives_kind (sample_context m) step after gives).1 ∙ kind
-kind_after m step after kind (inr left) = subst (λ (n : Message). IsTrue (is_request n.head.start)) (sym left.1) kind
-
-kind_over : (steps : List Rewrite) (m after : Message) → IsTrue (is_request m.head.start) → Steps TakesStep (sample_context m) steps after → IsTrue (is_request after.head.start)
+kind_over : (steps : List Rewrite) (m after : Message) → IsTrue (is_request m.head.start) → Steps Step (sample_context m) steps after → IsTrue (is_request after.head.start)
 kind_over [] m after kind lead = subst (λ (n : Message). IsTrue (is_request n.head.start)) lead kind
-kind_over (step ∷ steps) m after kind lead = kind_over steps lead.0 after (kind_after m step lead.0 kind lead.1) lead.2
+kind_over (step ∷ steps) m after kind lead = kind_over steps lead.0 after ((gives_kind (sample_context m) step lead.0 lead.1).1 ∙ kind) lead.2
 
 -- a signed request is one
 kind_signed : (context : MessageContext) (spec : SignSpec) (written : Message) → IsSignedMessage context spec written → IsTrue (is_request context.message.head.start)

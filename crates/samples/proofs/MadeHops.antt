@@ -4,22 +4,28 @@ use Rattle.std.proofs.lemmas.List.{append-nil, append_assoc}
 use Rattle.msg_body.specs.Messages.{Message, Spells}
 use Rattle.rewrite_script.specs.Scripts.{script_text}
 use Rattle.rewrite_script.specs.declared.rewrite.Rewrite.{Rewrite}
+use Rattle.hop_audit.proofs.StepLists.{one_end}
+use Rattle.samples.specs.Chains.{sample_context}
 use Rattle.samples.specs.Draws.{state_after}
 use Rattle.samples.specs.Scripts.{hop_draws, hop_steps, scripts_from}
 use Rattle.samples.specs.tools.Made.{AreMadeFrom, LeadsTo}
 use Rattle.samples.specs.declared.hop.MadeHop.{MadeHop}
+use Rattle.samples.proofs.DrawnSteps.{goes_through}
+use Rattle.samples.proofs.Ready.{IsReady}
 
 -- so many hops are made, and with others, which go on from here, they are those of all
 pub record AreMadeSoFar (message : Message) (seed count : ℕ) (made : List MadeHop) (state : ℕ) (text : List ℕ) : Type 0 where
   pub met : Message
   pub spells : Spells false met text
+  pub ready : IsReady met
   pub others : (more : ℕ) (rest : List MadeHop) → AreMadeFrom met (scripts_from state more) rest → AreMadeFrom message (scripts_from seed (count + more)) (made ++ rest)
 
 -- before any hop
-pub none_made : (message : Message) (seed : ℕ) (text : List ℕ) → Spells false message text → AreMadeSoFar message seed 0 [] seed text
-none_made message seed text spells = record {
+pub none_made : (message : Message) (seed : ℕ) (text : List ℕ) → Spells false message text → IsReady message → AreMadeSoFar message seed 0 [] seed text
+none_made message seed text spells ready = record {
   met = message;
   spells = spells;
+  ready = ready;
   others = λ more rest are.
       let e : more ≡ 0 + more = omega arith in subst (λ (n : ℕ). AreMadeFrom message (scripts_from seed n) rest) e are;
 }
@@ -38,9 +44,11 @@ module _ (message : Message) (seed count : ℕ) (made : List MadeHop) (state : �
       → ((m : Message) → Spells false m text → LeadsTo m (hop_steps state) hop.message)
       → AreMadeSoFar message seed (count + 1) (made ++ hop ∷ []) next hop.message
   hop_made hop next script_is next_is leads =
-      let one = leads far.met far.spells in record {
+      let one = leads far.met far.spells in
+      let on = goes_through state far.met far.ready in record {
         met = one.after;
         spells = one.spells;
+        ready = subst IsReady (one_end (sample_context far.met) (hop_steps state) on.after one.after on.lead one.lead) on.ready;
         others = λ more rest are.
             let own = subst (λ (s : ℕ). AreMadeFrom one.after (scripts_from s more) rest) next_is are in
             let all = far.others (suc more) (hop ∷ rest) (hop_before far.met state hop script_is one more rest own) in

@@ -1,19 +1,17 @@
 -- A seed and a number of hops have at most one summary.
-use Rattle.std.proofs.Common.{◌≡◌, ℕ, inl, inr, List, [], ◌∷◌, refl, sym, subst, ◌∙◌}
+use Rattle.std.proofs.Common.{◌≡◌, ℕ, List, [], ◌∷◌, refl, sym, subst, ◌∙◌}
 use Rattle.msg_body.specs.Messages.{Message}
 use Rattle.msg_body.specs.WholeTexts.{one_request}
 use Rattle.msg_body.proofs.WholeTexts.{one_whole}
-use Rattle.component_values.specs.Context.{MessageContext, context_with}
 use Rattle.signing.specs.Signed.{IsSignedMessage}
 use Rattle.signing.proofs.OneSigned.{one_signed_message}
 use Rattle.rewrite_script.specs.declared.rewrite.Rewrite.{Rewrite}
-use Rattle.rewrites.specs.Steps.{Steps}
-use Rattle.rewrites.proofs.StepLaws.{gives_one_message}
 use Rattle.hop_audit.specs.ChainValues.{Chain, Hop}
 use Rattle.hop_audit.specs.Report.{IsReport}
 use Rattle.hop_audit.specs.declared.line.AuditLine.{AuditLine}
 use Rattle.hop_audit.proofs.OneReport.{one_report}
-use Rattle.samples.specs.Chains.{AreHopsFrom, IsSampleChain, IsUnsigned, TakesStep, sample_context}
+use Rattle.hop_audit.proofs.StepLists.{one_end}
+use Rattle.samples.specs.Chains.{AreHopsFrom, IsSampleChain, IsUnsigned, sample_context}
 use Rattle.samples.specs.Laws.{HasOneSample}
 use Rattle.samples.specs.Requests.{request_text, sample_configuration, sample_spec}
 use Rattle.samples.specs.Scripts.{scripts_from}
@@ -24,18 +22,6 @@ one_unsigned : (seed : ℕ) (a b : Message) → IsUnsigned seed a → IsUnsigned
 one_unsigned seed a b is also = one_whole one_request (request_text seed) a b is also
 
 -- ---- the hops
-
-one_taken : (context : MessageContext) (step : Rewrite) (a b : Message) → TakesStep context step a → TakesStep context step b → a ≡ b
-one_taken context step a b (inl x) (inl y) = gives_one_message context step a b x y
-one_taken context step a b (inl x) (inr y) = absurd (y.0 a x)
-one_taken context step a b (inr x) (inl y) = absurd (x.0 b y)
-one_taken context step a b (inr x) (inr y) = x.1 ∙ sym y.1
-
-one_end : (context : MessageContext) (script : List Rewrite) (a b : Message) → Steps TakesStep context script a → Steps TakesStep context script b → a ≡ b
-one_end context [] a b lead also = sym lead ∙ also
-one_end context (step ∷ script) a b lead also =
-    let same = one_taken context step lead.0 also.0 lead.1 also.1 in
-    one_end (context_with context also.0) script a b (subst (λ (m : Message). Steps TakesStep (context_with context m) script a) same lead.2) also.2
 
 one_list : (message : Message) (scripts : List (List Rewrite)) (hops others : List Hop) → AreHopsFrom message scripts hops → AreHopsFrom message scripts others → hops ≡ others
 one_list message [] [] [] a b = refl

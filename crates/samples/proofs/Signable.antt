@@ -54,17 +54,17 @@ use Rattle.samples.proofs.Unsigned.{bytes_are, content_length, lines, message_wi
 
 -- ---- the member of a digest
 
-abbrev member : List ℕ → Pair Member
+abbrev pub member : List ℕ → Pair Member
 member digest = record { key = codes "sha-256"; value = ItemMember (record { bare = Bytes digest; params = [] }) }
 
 -- the text of the field that has it
-abbrev digest_text : List ℕ → List ℕ
+abbrev pub digest_text : List ℕ → List ℕ
 digest_text digest = dict_text (member digest ∷ [])
 
 -- ---- its length
 
 -- 32 bytes are 44 symbols of base64, and a colon before and after them
-bytes_length : (bytes : List ℕ) → length bytes ≡ 32 → length (bytes_text bytes) ≡ 46
+pub bytes_length : (bytes : List ℕ) → length bytes ≡ 32 → length (bytes_text bytes) ≡ 46
 bytes_length bytes long =
     let padding = replicate {A = ℕ} (padding_len (length bytes)) (byte "=") in
     let symbols : length (encode_symbols standard.encode_table bytes) ≡ 43 = length-encode_symbols standard.encode_table bytes ∙ ap unpadded_len long in
@@ -90,24 +90,24 @@ unfolding digest_bytes
 words_are_bytes h zero = refl
 words_are_bytes h (suc n) = all_joined is_byte (digest_bytes h n) (to_be_bytes w32 (slice_index h n)) (words_are_bytes h n) (high_first 4 (slice_index h n))
 
-digest_are_bytes : (text : List ℕ) → list_all is_byte (sha256 text) ≡ true
+pub digest_are_bytes : (text : List ℕ) → list_all is_byte (sha256 text) ≡ true
 unfolding sha256
 digest_are_bytes text = words_are_bytes (final_hash initial_hash_256 text) 8
 
 module _ (digest : List ℕ) (bytes : list_all is_byte digest ≡ true) where
-  in_range : is_dict_member_in_range (member digest) ≡ true
+  pub in_range : is_dict_member_in_range (member digest) ≡ true
   in_range = rw bytes refl
 
-  dict_in_range : is_dict_in_range (member digest ∷ []) ≡ true
+  pub dict_in_range : is_dict_in_range (member digest ∷ []) ≡ true
   dict_in_range = rw in_range refl
 
-  same : digest_text digest ≡ dict_member_text (member digest)
+  pub same : digest_text digest ≡ dict_member_text (member digest)
   same = append-nil (dict_member_text (member digest))
 
-  printed : list_all is_string_byte (dict_member_text (member digest)) ≡ true
+  pub printed : list_all is_string_byte (dict_member_text (member digest)) ≡ true
   printed = subst (λ (t : List ℕ). list_all is_string_byte t ≡ true) same (dict_is (member digest ∷ []) dict_in_range)
 
-  digest_value : value (byte " " ∷ digest_text digest) ≡ dict_member_text (member digest)
+  pub digest_value : value (byte " " ∷ digest_text digest) ≡ dict_member_text (member digest)
   digest_value =
       let text = dict_member_text (member digest) in
       let clean = all_implied is_string_byte is_line_byte (λ c is. line_byte_of is_string_byte c refl refl refl is) text printed in
@@ -119,7 +119,7 @@ module _ (digest : List ℕ) (bytes : list_all is_byte digest ≡ true) where
 
 -- ---- limits
 
-one_line : (line : FieldLine) (more : List FieldLine) → length (flat_map line_text (line ∷ more)) ≡ length line.name + length line.raw + 3 + length (flat_map line_text more)
+pub one_line : (line : FieldLine) (more : List FieldLine) → length (flat_map line_text (line ∷ more)) ≡ length line.name + length line.raw + 3 + length (flat_map line_text more)
 one_line line more = omega (arith, line_length line, length-append (line_text line) (flat_map line_text more))
 
 -- the lines of the signed request, by the values of those that are added

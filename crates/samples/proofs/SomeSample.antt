@@ -1,22 +1,16 @@
 -- A seed and a number of hops have a summary.
 use Rattle.std.proofs.Common.{◌*◌, ℕ, zero, suc, false, inl, inr, List, [], ◌∷◌, None, length, refl}
-use Rattle.std.specs.Prelude.{IsTrue, count_by}
-use Rattle.std.specs.List.{AllZip, list_all}
-use Rattle.std.proofs.lemmas.Bool.{and_parts}
-use Rattle.msg_body.specs.Messages.{IsMessage, Message, Spells, message_text}
+use Rattle.std.specs.Prelude.{count_by}
+use Rattle.std.specs.List.{AllZip}
+use Rattle.msg_body.specs.Messages.{Message, Spells, message_text}
 use Rattle.signing.specs.Signed.{IsSignedMessage}
 use Rattle.signing.proofs.SomeSigned.{signed_or_fault, verifiable_where_signed}
-use Rattle.rewrite_script.specs.Lines.{is_writable}
 use Rattle.rewrite_script.specs.Scripts.{script_text}
-use Rattle.rewrite_script.specs.declared.rewrite.Rewrite.{Rewrite}
-use Rattle.rewrites.specs.Steps.{Steps}
-use Rattle.rewrites.proofs.StepKinds.{gives_kind}
-use Rattle.rewrites.proofs.StepLaws.{has_message_or_none}
 use Rattle.hop_audit.specs.ChainValues.{Chain, Hop}
 use Rattle.hop_audit.specs.Lines.{finds_fault}
 use Rattle.hop_audit.specs.declared.line.AuditLine.{AuditLine}
 use Rattle.hop_audit.proofs.SomeReport.{some_report}
-use Rattle.samples.specs.Chains.{AreHopsFrom, IsUnsigned, TakesStep, sample_context}
+use Rattle.samples.specs.Chains.{AreHopsFrom, IsUnsigned, sample_context}
 use Rattle.samples.specs.Draws.{state_after}
 use Rattle.samples.specs.Laws.{HasSomeSample}
 use Rattle.samples.specs.Requests.{request_text, sample_configuration, sample_spec}
@@ -25,38 +19,26 @@ use Rattle.samples.specs.Summary.{IsSample, is_kept_line, is_ok_line, is_permitt
 use Rattle.samples.specs.declared.hop.MadeHop.{MadeHop}
 use Rattle.samples.specs.declared.summary.Summary.{Summary}
 use Rattle.samples.specs.tools.Made.{AreMadeFrom, IsTextOf, SpellsSample}
-use Rattle.samples.proofs.HopSteps.{hop_writable}
+use Rattle.samples.proofs.DrawnSteps.{goes_through}
+use Rattle.samples.proofs.FirstReady.{first_ready}
 use Rattle.samples.proofs.MadeChains.{chain_of, recorded_of, sample_is, values}
+use Rattle.samples.proofs.Ready.{IsReady, message_is}
 use Rattle.samples.proofs.Signable.{no_sign_fault}
 use Rattle.samples.proofs.Unsigned.{unsigned_is}
 use Rattle.samples.proofs.Valid.{spec_valid}
 
 -- ---- the hops
 
-some_taken : (m : Message) (step : Rewrite) → IsTrue (is_writable step) → IsMessage false m → (after : Message) × TakesStep (sample_context m) step after × IsMessage false after
-some_taken m step writable is = elim (has_message_or_none (sample_context m) step writable is) [
-  | inl gives ↦ (gives.0, inl gives.1, (gives_kind (sample_context m) step gives.0 gives.1).0)
-  | inr none ↦ (m, inr (none, refl), is)
-]
-
-some_end : (steps : List Rewrite) (m : Message) → IsTrue (list_all is_writable steps) → IsMessage false m → (after : Message) × Steps TakesStep (sample_context m) steps after × IsMessage false after
-some_end [] m writable is = (m, refl, is)
-some_end (step ∷ steps) m writable is =
-    let parts = and_parts (is_writable step) (list_all is_writable steps) writable in
-    let one = some_taken m step parts.0 is in
-    let rest = some_end steps one.0 parts.1 one.2 in
-    (rest.0, (one.0, one.1, rest.1), rest.2)
-
 -- hops, and the texts of them
-some_hops : (count state : ℕ) (m : Message) → IsMessage false m → (hops : List Hop) × (made : List MadeHop) × AreHopsFrom m (scripts_from state count) hops × AllZip IsTextOf hops made
-some_hops zero state m is = ([], [], tt, tt)
-some_hops (suc count) state m is =
-    let end = some_end (hop_steps state) m (hop_writable state) is in
-    let rest = some_hops count (state_after hop_draws state) end.0 end.2 in
-    let own : Spells false end.0 (message_text end.0) = record { is = end.2; text = refl } in (
-      record { moment = None; script = hop_steps state; message = end.0 } ∷ rest.0,
-      record { script = script_text (hop_steps state); message = message_text end.0 } ∷ rest.1,
-      (refl, refl, end.1, rest.2),
+some_hops : (count state : ℕ) (m : Message) → IsReady m → (hops : List Hop) × (made : List MadeHop) × AreHopsFrom m (scripts_from state count) hops × AllZip IsTextOf hops made
+some_hops zero state m ready = ([], [], tt, tt)
+some_hops (suc count) state m ready =
+    let end = goes_through state m ready in
+    let rest = some_hops count (state_after hop_draws state) end.after end.ready in
+    let own : Spells false end.after (message_text end.after) = record { is = message_is end.after end.ready; text = refl } in (
+      record { moment = None; script = hop_steps state; message = end.after } ∷ rest.0,
+      record { script = script_text (hop_steps state); message = message_text end.after } ∷ rest.1,
+      (refl, refl, end.lead, rest.2),
       (record { script = refl; message = own }, rest.3),
     )
 
@@ -96,7 +78,7 @@ signed_sample seed count unsigned is signed signed_is =
       signed_is = signed_is;
       spells = spells;
     } in
-    let hops = some_hops count seed signed spells.is in
+    let hops = some_hops count seed signed (first_ready seed unsigned signed is signed_is) in
     sample_of seed count (message_text signed) own hops.1 (record { hops = hops.0; are = hops.2; texts = hops.3 })
 
 pub some_sample : HasSomeSample

@@ -20,13 +20,13 @@ use Rattle.samples.specs.Requests.{content_bytes, content_of, request_head, requ
 
 -- ---- the parts
 
-abbrev host : FieldLine
+abbrev pub host : FieldLine
 host = record { name = codes "Host"; raw = codes " sample.example" }
 
-abbrev date : FieldLine
+abbrev pub date : FieldLine
 date = record { name = codes "Date"; raw = codes " Tue, 20 Apr 2021 02:07:55 GMT" }
 
-abbrev coding : FieldLine
+abbrev pub coding : FieldLine
 coding = record { name = codes "Transfer-Encoding"; raw = codes " chunked" }
 
 abbrev pub lines : List FieldLine
@@ -41,7 +41,7 @@ head = record {
 abbrev chunk : List ℕ → Chunk
 chunk content = record { line = codes "186a0"; chunk_data = content }
 
-abbrev chunks : List ℕ → Chunks
+abbrev pub chunks : List ℕ → Chunks
 chunks content = record { chunks = chunk content ∷ []; last = codes "0" }
 
 abbrev pub message_with : List ℕ → Message
@@ -100,7 +100,7 @@ is_last_line = record {
 no_chunks : All IsChunk []
 no_chunks k d lt = absurd (omega arith)
 
-are_chunks : (content : List ℕ) → length content ≡ 100000 → AreChunks (chunks content)
+pub are_chunks : (content : List ℕ) → length content ≡ 100000 → AreChunks (chunks content)
 are_chunks content long = record {
   each = All-cons IsChunk (chunk content) [] (record { line = is_chunk_line (length content) long; some = omega arith }) no_chunks;
   last = is_last_line;
@@ -123,7 +123,7 @@ text_length content = ap (λ (text : List ℕ). length text) (sym (text_is conte
 
 -- ---- the message
 
-content_joined : (content : List ℕ) → length (content ++ []) ≡ length content
+pub content_joined : (content : List ℕ) → length (content ++ []) ≡ length content
 content_joined content = omega (arith, length-append content [])
 
 is_message : (content : List ℕ) → length content ≡ 100000 → IsMessage false (message_with content)

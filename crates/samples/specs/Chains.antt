@@ -1,10 +1,10 @@
 -- The chain of a sample: a signed request, and hops that rewrite it.
-use Rattle.std.specs.Prelude.{◌≡◌, ◌⊎◌, ⊤, ℕ, None, List, [], ◌∷◌}
+use Rattle.std.specs.Prelude.{◌≡◌, ⊤, ℕ, None, List, [], ◌∷◌}
 use Rattle.msg_body.specs.Messages.{Message}
 use Rattle.msg_body.specs.WholeTexts.{IsWhole, one_request}
 use Rattle.component_values.specs.Context.{MessageContext}
 use Rattle.rewrite_script.specs.declared.rewrite.Rewrite.{Rewrite}
-use Rattle.rewrites.specs.Steps.{Step, Steps, IsNotApplicable}
+use Rattle.rewrites.specs.Steps.{Step, Steps}
 use Rattle.signing.specs.Signed.{IsSignedMessage}
 use Rattle.verdicts.specs.Contexts.{context_for}
 use Rattle.hop_audit.specs.ChainValues.{Chain, Hop}
@@ -16,18 +16,13 @@ use Rattle.samples.specs.declared.limits.TheConstants.{MOMENT}
 abbrev pub sample_context : Message → MessageContext
 sample_context message = context_for sample_configuration message None
 
--- what the step gives; a step that isn't applicable leaves the message as it is
-abbrev pub TakesStep : MessageContext → Rewrite → Message → Type 0
-TakesStep context step after =
-    Step context step after ⊎ (IsNotApplicable context step × (after ≡ context.message))
-
 -- the hops take the steps of these scripts, one after the other, beginning with this message; the
 -- moment stays
 abbrev pub AreHopsFrom : Message → List (List Rewrite) → List Hop → Type 0
 AreHopsFrom message [] [] = ⊤
 AreHopsFrom message (script ∷ scripts) (hop ∷ hops) =
     (hop.moment ≡ None) × (hop.script ≡ script)
-    × Steps TakesStep (sample_context message) script hop.message
+    × Steps Step (sample_context message) script hop.message
     × AreHopsFrom hop.message scripts hops
 AreHopsFrom message scripts hops = ⊥
 

@@ -1,8 +1,8 @@
 -- The summary of a sample's audit.
 use Rattle.std.specs.Prelude.{◌≡◌, ℕ, ◌*◌, Bool, false, List, [], ◌∷◌, ◌++◌, length, codes, count_by}
-use Rattle.std.specs.Fmt.{decimal}
 use Rattle.msg_body.specs.Messages.{Message, message_text}
 use Rattle.verdicts.specs.Verdicts.{is_accepted}
+use Rattle.recording.specs.Items.{number_line}
 use Rattle.hop_audit.specs.ChainValues.{Chain, Hop}
 use Rattle.hop_audit.specs.Lines.{finds_fault, is_kept}
 use Rattle.hop_audit.specs.Report.{IsReport}
@@ -31,10 +31,6 @@ is_ok_line line = false
 abbrev pub last_from : Message → List Hop → Message
 last_from message [] = message
 last_from message (hop ∷ hops) = last_from hop.message hops
-
--- a line with a number
-abbrev pub number_line : List ℕ → ℕ → List ℕ
-number_line word number = word ++ (decimal number ++ codes "\n")
 
 -- the lines of a summary: the hops, their steps, the label lines that say permitted and those that
 -- say kept, the messages whose label is `ok`, and the bytes of the last message

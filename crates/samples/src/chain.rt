@@ -1,16 +1,17 @@
 //! The chain of a sample, and its audit.
 
-ghost use Rattle.std.specs.Prelude.{◌≡◌, ◌≤◌, ◌<◌, ℕ, false, IfOk, map};
-ghost use Rattle.msg_body.specs.Messages.{Message, Spells, message_text};
-ghost use Rattle.recording.specs.Items.{placed};
-ghost use Rattle.recording.specs.Recordings.{bodies};
+ghost use Rattle.std.specs.Prelude.{◌≡◌, ◌≤◌, ◌<◌, ℕ, List, length, IfOk};
+ghost use Rattle.msg_body.specs.Messages.{message_text};
 ghost use Rattle.settings.specs.ConfMeaning.{meaning};
 ghost use Rattle.hop_audit.specs.Report.{IsReport};
+ghost use Rattle.recording.specs.Items.{PlacedItem};
+ghost use Rattle.recording.specs.RecordedChains.{IsHeldChain};
+ghost use Rattle.recording.specs.Recordings.{bodies};
 ghost use Rattle.recording.specs.declared.limits.TheConstants.{MAX_HOPS};
 ghost use Rattle.samples.specs.Requests.{sample_configuration};
 ghost use Rattle.samples.specs.Scripts.{scripts_from};
 ghost use Rattle.samples.specs.Summary.{IsSample, last_from};
-ghost use Rattle.samples.specs.tools.Made.{AreMadeFrom, IsMade, chain_made, items_made};
+ghost use Rattle.samples.specs.tools.Made.{AreMadeFrom, AreRecorded, IsMade, SpellsSample, chain_made, items_made};
 
 use crate::conf::sample_conf;
 use crate::draws::Draws;
@@ -19,14 +20,14 @@ use crate::limits::MOMENT;
 use crate::request::signed_request;
 use crate::script::hop_script;
 use crate::summary::{Summary, summary_of};
-use hop_audit::{AuditReport, ChainFault, audit};
-use recording::{Item, ItemBody, Recording, Role};
+use hop_audit::{AuditReport, ChainFault, audit_chain};
+use recording::{RecordedChain, RecordedHop, Subject};
 use rewrite_script::print_script;
 use settings::Conf;
 use sfv_text::{Memory, Sequence, Text};
 use std::alloc::Global;
 
-/// The hops, of which the first leads from the message of this text.
+/// The hops, of which the first leads from the signed request of this text.
 fn hops_from(
     alloc: Global,
     conf: &Conf,
@@ -35,9 +36,9 @@ fn hops_from(
     count: usize,
 ) -> Result<Sequence<MadeHop>, Memory>
     requires conf { meaning conf.now ≡ sample_configuration }
-    requires spells { (message : Message) × Spells false message first.now }
-    ensures { (message : Message) → Spells false message first.now
-        → IfOk result (AreMadeFrom message (scripts_from seed count)) }
+    requires signed { SpellsSample seed first.now }
+    ensures { (own : SpellsSample seed first.now)
+        → IfOk result (AreMadeFrom own.signed (scripts_from seed count)) }
 {
     let mut draws = Draws { state: seed };
     let mut hops = Sequence::new(alloc);
@@ -52,29 +53,44 @@ fn hops_from(
     Ok(hops)
 }
 
-/// The item that says this.
-fn item(body: ItemBody<'_>) -> Item<'_>
-    ensures { result ≡ record { offset = 0; body = body.entry } }
+/// The hops as they are recorded. Each has two items; two come before them all.
+fn recorded_hops<'t>(
+    alloc: Global,
+    hops: &'t [MadeHop],
+) -> Result<Sequence<RecordedHop<'t>>, Memory>
+    requires { length hops.now ≤ MAX_HOPS }
+    ensures { IfOk result (AreRecorded 2 hops.now) }
 {
-    Item { offset: 0, body }
+    let mut recorded = Sequence::new(alloc);
+    for (count, hop) in hops.iter().enumerate() {
+        recorded.push(RecordedHop {
+            moment: None,
+            item: 2 * count + 2,
+            script: hop.script.bytes(),
+            message: hop.message.bytes(),
+        })?;
+    }
+    Ok(recorded)
 }
 
-/// The items of the chain: a moment, the first message, and for each hop its script and message.
-fn items_of<'t>(
+/// The chain of these texts as it is recorded, of which the first item is a moment.
+fn recorded<'t>(
     alloc: Global,
     first: &'t Text,
     hops: &'t [MadeHop],
-) -> Result<Recording<'t>, Memory>
-    ensures { IfOk result (λ items. bodies (map placed items) ≡ items_made first.now hops.now) }
+) -> Result<RecordedChain<'t>, Memory>
+    requires { length hops.now ≤ MAX_HOPS }
+    ensures { (items : List PlacedItem) → bodies items ≡ items_made first.now hops.now
+        → IfOk result (IsHeldChain items) }
 {
-    let mut items = Recording::new(alloc);
-    items.push(item(ItemBody::At(MOMENT)))?;
-    items.push(item(ItemBody::Message(Role::Request, first.bytes())))?;
-    for hop in hops {
-        items.push(item(ItemBody::Script(hop.script.bytes())))?;
-        items.push(item(ItemBody::Message(Role::Request, hop.message.bytes())))?;
-    }
-    Ok(items)
+    let hops = recorded_hops(alloc, hops)?;
+    Ok(RecordedChain {
+        moment: MOMENT,
+        subject: Subject::Requests,
+        item: 1,
+        first: first.bytes(),
+        hops,
+    })
 }
 
 /// The report on the chain of these texts.
@@ -89,8 +105,8 @@ fn report_on(
     ensures { (seed count : ℕ) → count ≤ MAX_HOPS → (is : IsMade seed count first.now hops.now)
         → IfOk result (IsReport sample_configuration (chain_made is)) }
 {
-    let items = items_of(alloc, first, hops)?;
-    match audit(alloc, &items, conf) {
+    let chain = recorded(alloc, first, hops)?;
+    match audit_chain(alloc, &chain, conf) {
         Ok(lines) => Ok(lines),
         Err(fault) => match fault {
             ChainFault::Memory => Err(Memory),

@@ -6,6 +6,8 @@ ghost use Rattle.msg_body.specs.Views.{message_of};
 ghost use Rattle.std.specs.List.{list_all};
 ghost use Rattle.rewrite_script.specs.Lines.{is_writable};
 ghost use Rattle.settings.specs.ConfMeaning.{meaning};
+ghost use Rattle.rewrites.specs.Steps.{Step, Steps};
+ghost use Rattle.samples.specs.Chains.{sample_context};
 ghost use Rattle.samples.specs.Requests.{sample_configuration};
 ghost use Rattle.samples.specs.tools.Made.{LeadsTo};
 
@@ -26,7 +28,7 @@ pub(crate) struct MadeHop {
     pub(crate) message: Text,
 }
 
-/// The message after the steps. A step that isn't applicable leaves it as it is.
+/// The message after the steps.
 fn after_steps<'x>(
     alloc: Global,
     conf: &'x Conf,
@@ -36,6 +38,8 @@ fn after_steps<'x>(
     requires conf { meaning conf.now ≡ sample_configuration }
     requires writable { IsTrue (list_all is_writable steps.now) }
     requires whole { IsMessage false (message_of message.now) }
+    requires lead { (after : Message)
+        × Steps Step (sample_context (message_of message.now)) steps.now after }
     ensures { IfOk result (LeadsTo (message_of message.now) steps.now) }
 {
     let Some((step, later)) = steps.split_first() else {
@@ -44,13 +48,14 @@ fn after_steps<'x>(
     let context = context_for(conf, message, None);
     let text = match make(alloc, &context, step) {
         Ok(text) => text,
-        Err(ApplyFault::NotApplicable) => return after_steps(alloc, conf, message, later),
         Err(ApplyFault::Memory) => return Err(Memory),
+        // the steps lead to a message, so each of them is applicable
+        Err(ApplyFault::NotApplicable) => unreachable!(),
     };
     match sized_message(alloc, text.bytes(), false, message.content_len()) {
         Ok(next) => after_steps(alloc, conf, &next, later),
-        Err(ApplyFault::NotApplicable) => after_steps(alloc, conf, message, later),
         Err(ApplyFault::Memory) => Err(Memory),
+        Err(ApplyFault::NotApplicable) => unreachable!(),
     }
 }
 
@@ -63,7 +68,8 @@ pub(crate) fn taken(
 ) -> Result<Text, Memory>
     requires conf { meaning conf.now ≡ sample_configuration }
     requires writable { IsTrue (list_all is_writable script.now) }
-    requires spells { (message : Message) × Spells false message text.now }
+    requires lead { (message : Message) × (after : Message) × Spells false message text.now
+        × Steps Step (sample_context message) script.now after }
     ensures { (message : Message) → Spells false message text.now
         → IfOk result (LeadsTo message script.now) }
 {

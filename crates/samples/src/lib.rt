@@ -23,7 +23,7 @@ mod script;
 mod summary;
 
 pub use chain::sample;
-pub use laws::a_sample_has_one_summary;
+pub use laws::{a_sample_has_one_summary, a_sample_keeps_its_signature};
 pub use limit_laws::limits_are_these;
 pub use limits::{CONTENT_BYTES, MOMENT, SIGNED_LINES};
 pub use summary::{Summary, append_summary};

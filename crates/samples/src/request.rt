@@ -1,6 +1,6 @@
 //! The request of a sample, unsigned and signed.
 
-ghost use Rattle.std.specs.Prelude.{◌≡◌, ◌<◌, ◌++◌, ℕ, false, IfOk, OnOk};
+ghost use Rattle.std.specs.Prelude.{◌≡◌, ◌<◌, ◌++◌, ℕ, IfOk, OnOk};
 ghost use Rattle.component_values.specs.Context.{context_of};
 ghost use Rattle.settings.specs.ConfMeaning.{meaning};
 ghost use Rattle.samples.specs.Chains.{IsUnsigned, sample_context};

@@ -1,10 +1,11 @@
 // Tests of nonces.
 
-ghost use Rattle.std.specs.Prelude.{◌≡◌, ◌<◌, ◌≤◌};
-ghost use Rattle.nonces.specs.declared.limits.TheConstants.{MAX_ENTRIES};
+ghost use Rattle.std.specs.Prelude.{◌≡◌, ◌<◌};
 
 use Answer::{Full, Seen, Taken, Unfit};
-use nonces::{MAX_KEYID_BYTES, MAX_MOMENT, MAX_NONCE_BYTES, NonceBook, Steps};
+use nonces::{
+    MAX_ENTRIES, MAX_KEYID_BYTES, MAX_MOMENT, MAX_NONCE_BYTES, MAX_WINDOW, NonceBook, Steps,
+};
 use std::alloc::Global;
 use std::marker::Brand;
 use std::sync::ledger::{Blank, Ledger};
@@ -182,6 +183,162 @@ const AT_TWO: [Arrival<'static>; 14] = [
     },
 ];
 
+// At a book with room for one entry and ten seconds.
+const FROM_ZERO: [Arrival<'static>; 4] = [
+    Arrival {
+        now: 0,
+        keyid: b"k",
+        nonce: b"n",
+        until: 10,
+        answer: Taken,
+    },
+    Arrival {
+        now: 0,
+        keyid: b"k",
+        nonce: b"x",
+        until: 10,
+        answer: Full,
+    },
+    Arrival {
+        now: 10,
+        keyid: b"k",
+        nonce: b"n",
+        until: 10,
+        answer: Seen,
+    },
+    Arrival {
+        now: 11,
+        keyid: b"k",
+        nonce: b"n",
+        until: 21,
+        answer: Taken,
+    },
+];
+
+// At a book with room for two entries and ten seconds: both die in one second, and much later two
+// have room again.
+const FAR: [Arrival<'static>; 6] = [
+    Arrival {
+        now: 0,
+        keyid: b"k",
+        nonce: b"m",
+        until: 3,
+        answer: Taken,
+    },
+    Arrival {
+        now: 0,
+        keyid: b"k",
+        nonce: b"n",
+        until: 3,
+        answer: Taken,
+    },
+    Arrival {
+        now: 3,
+        keyid: b"k",
+        nonce: b"n",
+        until: 3,
+        answer: Seen,
+    },
+    Arrival {
+        now: 1_000_000,
+        keyid: b"k",
+        nonce: b"n",
+        until: 1_000_010,
+        answer: Taken,
+    },
+    Arrival {
+        now: 1_000_000,
+        keyid: b"k",
+        nonce: b"m",
+        until: 1_000_000,
+        answer: Taken,
+    },
+    Arrival {
+        now: 1_000_000,
+        keyid: b"k",
+        nonce: b"x",
+        until: 1_000_000,
+        answer: Full,
+    },
+];
+
+// A new book, and what comes of the signatures that arrive.
+#[derive(Clone, Copy)]
+struct Course<'a> {
+    capacity: usize,
+    window: u64,
+    moment: u64,
+    arrivals: &'a [Arrival<'a>],
+}
+
+const COURSES: [Course<'static>; 4] = [
+    Course {
+        capacity: 1,
+        window: 300,
+        moment: 1_000,
+        arrivals: &AT_ONE,
+    },
+    Course {
+        capacity: 2,
+        window: 300,
+        moment: 1_000,
+        arrivals: &AT_TWO,
+    },
+    Course {
+        capacity: 1,
+        window: 10,
+        moment: 0,
+        arrivals: &FROM_ZERO,
+    },
+    Course {
+        capacity: 2,
+        window: 10,
+        moment: 0,
+        arrivals: &FAR,
+    },
+];
+
+// A book beside a plain list of the moments until which each of 32 nonces is seen.
+#[derive(Clone, Copy)]
+struct Walk {
+    capacity: usize,
+    window: u64,
+}
+
+// In the first four all nonces share a bucket, in the second all entries die in the same second.
+const WALKS: [Walk; 5] = [
+    Walk {
+        capacity: 1,
+        window: 3,
+    },
+    Walk {
+        capacity: 5,
+        window: 0,
+    },
+    Walk {
+        capacity: 16,
+        window: 40,
+    },
+    Walk {
+        capacity: 3,
+        window: 7,
+    },
+    Walk {
+        capacity: 65_536,
+        window: 86_400,
+    },
+];
+
+// So many signatures arrive in a walk.
+const ARRIVALS: u32 = 200;
+
+// Nonces of two bytes: with the keyid `k` the first four bytes of each one's SHA-256 are a multiple
+// of 16.
+const NONCES: &[u8; 64] = b"bnbpcrdiemeygkgmgniaioipixlbldlelflrmdmgmsmtnspuqfqmqnqqqrrkrmrq";
+
+// How many seconds pass before a signature arrives, by draw.
+const GAPS: [u64; 8] = [0, 0, 0, 0, 1, 1, 2, 20];
+
 // Asks the book, and has it remember what is new.
 fn answer_of<L: Ledger>(
     book: &mut NonceBook,
@@ -207,25 +364,100 @@ fn answer_of<L: Ledger>(
     }
 }
 
-// Whether each arrival at a new book is answered as it has to be.
-fn are_answered<L: Ledger>(
-    alloc: Global,
-    capacity: usize,
-    arrivals: &[Arrival<'_>],
-    blank: Blank,
-) -> bool
-    requires some { 1 ≤ capacity }
-    requires few { capacity ≤ MAX_ENTRIES }
+// A new book, where the limits allow it.
+fn opened(alloc: Global, capacity: usize, window: u64, moment: u64) -> Option<NonceBook> {
+    if capacity < 1 || capacity > MAX_ENTRIES {
+        return None;
+    }
+    if window > MAX_WINDOW || moment > MAX_MOMENT {
+        return None;
+    }
+    NonceBook::open(alloc, capacity, window, moment).ok()
+}
+
+// Whether each arrival is answered as it has to be.
+fn is_answered<L: Ledger>(alloc: Global, course: &Course<'_>, steps: &mut Steps<L>) -> bool {
+    let Some(mut book) = opened(alloc, course.capacity, course.window, course.moment) else {
+        return false;
+    };
+    for arrival in course.arrivals {
+        if answer_of(&mut book, arrival, steps) != arrival.answer {
+            return false;
+        }
+    }
+    true
+}
+
+// How many entries of the list live.
+fn live_count(untils: &[u64; 32], now: u64) -> usize {
+    untils.iter().filter(|until| **until >= now).count()
+}
+
+// Whether the book answers an arrival as the list does, and holds as many entries.
+fn agrees<L: Ledger>(
+    book: &mut NonceBook,
+    untils: &mut [u64; 32],
+    draw: u64,
+    steps: &mut Steps<L>,
+) -> bool {
+    let index = (draw % 32) as usize;
+    let now = book.moment().saturating_add(GAPS[(draw / 32 % 8) as usize]);
+    let ahead = draw / 256 % book.window().saturating_add(1).max(1);
+    let until = now.saturating_add(ahead);
+    let wanted = if untils[index] >= now {
+        Seen
+    } else if live_count(untils, now) >= book.capacity() {
+        Full
+    } else {
+        Taken
+    };
+    let nonces = NONCES;
+    let arrival = Arrival {
+        now,
+        keyid: b"k",
+        nonce: &nonces[2 * index..2 * index + 2],
+        until,
+        answer: wanted,
+    };
+    if answer_of(book, &arrival, steps) != wanted {
+        return false;
+    }
+    if wanted == Taken {
+        untils[index] = until;
+    }
+    book.len() == live_count(untils, now)
+}
+
+// Whether the book of a walk answers each arrival as the list does.
+fn is_walked<L: Ledger>(alloc: Global, walk: &Walk, steps: &mut Steps<L>) -> bool {
+    let Some(mut book) = opened(alloc, walk.capacity, walk.window, 1) else {
+        return false;
+    };
+    let mut untils = [0u64; 32];
+    let mut draw = 7u64;
+    for _arrival in 0..ARRIVALS {
+        draw = draw.wrapping_mul(6_364_136_223_846_793_005).wrapping_add(1);
+        if !agrees(&mut book, &mut untils, draw >> 33, steps) {
+            return false;
+        }
+    }
+    true
+}
+
+// Whether all courses and walks are as they have to be.
+fn are_all<L: Ledger>(alloc: Global, blank: Blank) -> bool
     requires name { blank.name ≡ L.name }
     requires parts { blank.parts ≡ L.parts }
     requires blank { 0 < blank.parts }
 {
     let mut steps: Steps<L> = Steps::new(blank);
-    let Ok(mut book) = NonceBook::open(alloc, capacity, 300, 1_000) else {
-        return false;
-    };
-    for arrival in arrivals {
-        if answer_of(&mut book, arrival, &mut steps) != arrival.answer {
+    for course in &COURSES {
+        if !is_answered(alloc, course, &mut steps) {
+            return false;
+        }
+    }
+    for walk in &WALKS {
+        if !is_walked(alloc, walk, &mut steps) {
             return false;
         }
     }
@@ -234,6 +466,5 @@ fn are_answered<L: Ledger>(
 
 #[test]
 fn a_nonce_is_seen_up_to_its_second(rt: HostRuntime) {
-    assert!(rt; are_answered::<Brand>(rt.alloc(), 1, &AT_ONE, Blank::new(1)));
-    assert!(rt; are_answered::<Brand>(rt.alloc(), 2, &AT_TWO, Blank::new(1)));
+    assert!(rt; are_all::<Brand>(rt.alloc(), Blank::new(1)));
 }

@@ -141,7 +141,7 @@ fn ends_so(alloc: Global, row: &Failing) -> Result<bool, Memory> {
         &mut source,
         &mut sink,
     );
-    Ok(ended == row.status && sink.taken() == row.taken)
+    Ok(ended.status == row.status && sink.taken() == row.taken)
 }
 
 const VERIFY: &[&str] = &["verify", "--conf", "c", "--now", "1618884473"];

@@ -163,7 +163,7 @@ const ROWS: [Row; 37] = [
 
 fn is_read(alloc: Global, row: &Row) -> bool {
     match read_recording(alloc, row.text) {
-        Ok(items) => row.read == Ok(items.len()),
+        Ok(recording) => row.read == Ok(recording.items().count()),
         Err(fault) => row.read == Err(fault),
     }
 }
@@ -179,13 +179,16 @@ fn recordings_are_read(rt: HostRuntime) {
 const PARTS: &[u8] = b"hms-recording 1\nat 5\nrelated 2\nab\nresponse 3\ncde\nscript 1\nf\nend\n";
 
 fn has_parts(alloc: Global) -> bool {
-    let Ok(items) = read_recording(alloc, PARTS) else {
+    let Ok(recording) = read_recording(alloc, PARTS) else {
         return false;
     };
-    let [first, second, third, fourth] = items.as_slice() else {
+    let mut items = recording.items();
+    let parts = [items.next(), items.next(), items.next(), items.next()];
+    let [Some(first), Some(second), Some(third), Some(fourth)] = parts else {
         return false;
     };
-    first.offset == 16
+    items.next().is_none()
+        && first.offset == 16
         && matches!(first.body, ItemBody::At(5))
         && second.offset == 21
         && matches!(second.body, ItemBody::Message(Role::Related, b"ab"))

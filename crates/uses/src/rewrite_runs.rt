@@ -109,7 +109,7 @@ fn written(
         &mut source,
         &mut sink,
     );
-    if ended != Status::Done {
+    if ended.status != Status::Done {
         return Ok(None);
     }
     Ok(Some(Text::from_bytes(alloc, sink.taken())?))
@@ -260,7 +260,7 @@ fn comes_out(alloc: Global, row: &Run) -> Result<bool, Memory> {
         &mut source,
         &mut sink,
     );
-    Ok(ended == row.status && sink.taken() == output.bytes())
+    Ok(ended.status == row.status && sink.taken() == output.bytes())
 }
 
 #[test]

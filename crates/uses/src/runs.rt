@@ -56,7 +56,7 @@ pub fn comes_to(
         &mut source,
         &mut sink,
     );
-    Ok(ended == status && sink.taken() == output.bytes())
+    Ok(ended.status == status && sink.taken() == output.bytes())
 }
 
 pub const DATED: &[u8] = b"GET / HTTP/1.1\r\nDate: Tue, 20 Apr 2021 02:07:55 GMT\r\n\r\n";

@@ -1,7 +1,6 @@
 -- Whether the digest of the content is covered and right.
-use Rattle.std.proofs.Common.{◌≡◌, ◌⊎◌, true, Option, Some, List, Result, Ok, Err, IfOk, refl, sym, ap, ◌∙◌, inl, inr}
+use Rattle.std.proofs.Common.{◌≡◌, ◌⊎◌, true, Some, List, refl, sym, ap, ◌∙◌, inl, inr}
 use Rattle.std.proofs.lemmas.Bool.{cases_Bool, false≢true}
-use Rattle.byte_grammar.specs.Causes.{AnswersWhere}
 use Rattle.msg_body.specs.Messages.{Message}
 use Rattle.msg_body.specs.Views.{message_content}
 use Rattle.component_ids.specs.declared.id.ComponentId.{ComponentId}
@@ -15,7 +14,6 @@ use Rattle.signatures.specs.declared.place.DigestReason.{DigestReason}
 use Rattle.signatures.specs.declared.place.DigestReason.TheVariants.{Uncovered, Malformed, NoneKnown, Mismatch}
 use Rattle.verdicts.specs.ContentDigest.{covers_digest, digest_text, digest_reason, HasDigest, LacksDigest}
 use Rattle.signatures.specs.tools.Answered.{SaysRule}
-use Rattle.verdicts.specs.Readings.{IsDigestAnswer}
 use Rattle.verdicts.specs.tools.Judged.{FailsByField, FailsByDigest}
 
 module _ (message : Message) (ids : List ComponentId) where
@@ -51,21 +49,3 @@ module _ (message : Message) (ids : List ComponentId) where
   pub field_says : covers_digest ids ≡ true → (answer : LabelFault) → SaysRule (FailsByField message) answer → SaysRule (FailsByDigest true message ids) answer
   field_says covered Memory says = tt
   field_says covered (IsRule rule place) says = (says.0, refl, says.1, says.2, inr (covered, says.3.0, says.3.1, says.3.2))
-
--- the reason of a fault of the digests
-reason_says : (message : Message) (f : DigestFault) (reason : DigestReason) → digest_reason f ≡ Some reason
-    → ((one : DigestFault) → ¬ (one ≡ fault.Memory) → AnswersWhere {T = Unit} fault.Memory (Err f) one (IsDigestFault (digest_text message) (message_content message) one))
-    → IsDigestAnswer message (Some reason)
-reason_says message fault.Memory reason e answers = absurd cc
-reason_says message fault.Malformed reason e answers = (fault.Malformed, e, (answers fault.Malformed (λ e. absurd cc)).only refl)
-reason_says message fault.NoneKnown reason e answers = (fault.NoneKnown, e, (answers fault.NoneKnown (λ e. absurd cc)).only refl)
-reason_says message (fault.Mismatch algorithm kept computed) reason e answers =
-    (fault.Mismatch algorithm kept computed, e, (answers (fault.Mismatch algorithm kept computed) (λ e. absurd cc)).only refl)
-
--- what is answered of a fault of the digests
-pub fault_answered : {M : Type 0} (message : Message) (f : DigestFault) (result : Result (Option DigestReason) M)
-    → IfOk result (λ answer. (reason : DigestReason) × (answer ≡ Some reason) × (digest_reason f ≡ Some reason))
-    → ((one : DigestFault) → ¬ (one ≡ fault.Memory) → AnswersWhere {T = Unit} fault.Memory (Err f) one (IsDigestFault (digest_text message) (message_content message) one))
-    → IfOk result (IsDigestAnswer message)
-fault_answered message f (Ok answer) says answers = rw says.1 (reason_says message f says.0 says.2 answers)
-fault_answered message f (Err memory) says answers = tt

@@ -17,7 +17,6 @@ use Rattle.component_values.specs.Context.{MessageContext}
 use Rattle.component_values.specs.Values.{Lacks, HaveValues, IsFirstLack}
 use Rattle.component_values.specs.declared.fault.ValueFault.{ValueFault}
 use Rattle.component_values.specs.declared.fault.ValueFault.TheVariants as value
-use Rattle.component_values.specs.declared.prepared.Prepared.{Prepared}
 use Rattle.component_values.proofs.FirstLacks.{have_or_lack, have_one_list, first_lack_is_one, none_lacks}
 use Rattle.sig_base.specs.SignatureBase.{signature_base}
 use Rattle.hmac_sha256.specs.Hmac.{hmac}
@@ -335,7 +334,7 @@ module _ (v : Verification) (params : SigParams) (tag : List ℕ) (has : HasSign
 -- what is known of a fault, by the contract of what prepares
 abbrev pub IsAnswered : MessageContext → SigParams → ValueFault → Type 0
 IsAnswered context params fault =
-    (index : ℕ) (how : Lack) → AnswersWhere {T = Prepared} value.Memory (Err fault) (value.Lacks index how) (IsFirstLack context params.ids index how)
+    (index : ℕ) (how : Lack) → AnswersWhere {T = Unit} value.Memory (Err fault) (value.Lacks index how) (IsFirstLack context params.ids index how)
 
 pub lack_says : (context : MessageContext) (params : SigParams) (tag key : List ℕ) (fault : ValueFault) (result : LabelFault) → IsAnswered context params fault
     → SaysFault params.ids fault result → SaysRule (FailsByMac context params tag key) result

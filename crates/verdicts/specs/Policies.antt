@@ -1,5 +1,5 @@
 -- What a policy asks of a signature by its parameters (RFC 9421 sections 2.3, 3.2 and 7.2).
-use Rattle.std.specs.Prelude.{◌≡◌, ◌≤◌, ◌<◌, ◌+◌, ℕ, pos, ℤ, ◌+ℤ◌, ◌≤ℤ◌, ◌<ℤ◌, Bool, true, false, nat_le, IsTrue, IsFalse, Option, Some, None, IsSome, IsSomeAnd, IfSome, List, length, take, slice_get, if◌then◌else◌}
+use Rattle.std.specs.Prelude.{◌≡◌, ◌≤◌, ◌+◌, ℕ, pos, ℤ, ◌+ℤ◌, ◌≤ℤ◌, ◌<ℤ◌, Bool, true, false, nat_le, IsTrue, IsFalse, Option, Some, None, IsSome, IsSomeAnd, IfSome, List, length, take, slice_get, if◌then◌else◌}
 use Rattle.std.specs.List.{All, Any}
 use Rattle.framing.specs.Framings.{is_request}
 use Rattle.component_ids.specs.declared.id.ComponentId.{ComponentId}

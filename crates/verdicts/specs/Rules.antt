@@ -1,7 +1,7 @@
 -- The rules that a label is judged by, as a table: a rule fails so, with this place, exactly where
 -- its row holds (RFC 9421 section 3.2). A row that speaks of what an earlier failure leaves
 -- undefined holds only where the earlier rule doesn't fail.
-use Rattle.std.specs.Prelude.{◌≡◌, ◌<◌, ◌<ℤ◌, ℕ, pos, Bool, IsTrue, IsFalse, Option, Some, None, List, length, [], ◌∷◌, slice_get, IsSomeAnd, codes}
+use Rattle.std.specs.Prelude.{◌≡◌, ◌<◌, ◌<ℤ◌, ℕ, pos, Bool, IsTrue, IsFalse, Option, Some, None, List, length, ◌∷◌, slice_get, IsSomeAnd}
 use Rattle.std.specs.FinMap as map
 use Rattle.sfv_text.specs.Strict.{string_text}
 use Rattle.msg_body.specs.Views.{message_content}

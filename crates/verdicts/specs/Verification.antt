@@ -8,6 +8,7 @@ use Rattle.settings.specs.declared.policy.Policy.{Policy}
 use Rattle.settings.specs.ConfMeaning.{meaning}
 use Rattle.nonces.specs.Books.{Book}
 use Rattle.verdicts.specs.declared.verification.Verification.{Verification as Borrowed}
+use Rattle.verdicts.specs.declared.verifier.Verifier.{Verifier}
 
 -- what the values of components are drawn from, the label, the configuration, the moment in seconds
 -- since the epoch, and the nonces that were seen, where they are remembered
@@ -32,6 +33,16 @@ verification_of context label conf now seen = record {
 abbrev pub model_of : Borrowed → Verification
 model_of v =
     verification_of v.context.now v.label.now (meaning v.conf.now) v.now (option_copied v.seen)
+
+-- what a label of the message of this context is judged by, where the verifier is this one
+abbrev pub verification_by : Verifier → MessageContext → List ℕ → Verification
+verification_by verifier context label = record {
+  context = context;
+  label = label;
+  conf = meaning verifier.conf.now;
+  now = verifier.moment;
+  seen = option_copied verifier.seen;
+}
 
 -- the moment of a book is this one
 abbrev pub IsAt : ℕ → Option Book → Type 0

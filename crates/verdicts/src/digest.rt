@@ -1,22 +1,20 @@
 //! Whether the signature covers the digest of the content: rule 33.
 
-ghost use Rattle.std.specs.Prelude.{◌≡◌, Some, IsTrue, IfOk, IfSome};
+ghost use Rattle.std.specs.Prelude.{◌≡◌, IsTrue};
 ghost use Rattle.std.specs.List.{list_all};
 ghost use Rattle.content_digest.specs.Digests.{DigestHolds};
 ghost use Rattle.msg_body.specs.Views.{message_of, message_content};
-ghost use Rattle.verdicts.specs.ContentDigest.{asks_digest, keeps_whole, is_whole_digest, covers_digest, digest_reason, digest_text, HasDigest};
-ghost use Rattle.verdicts.specs.Readings.{IsDigestAnswer};
-ghost use Rattle.signatures.specs.declared.place.DigestReason.{DigestReason};
+ghost use Rattle.exchange.specs.ContentDigests.{digest_text};
+ghost use Rattle.exchange.specs.Exchanges.{StillKnows};
+ghost use Rattle.verdicts.specs.ContentDigest.{asks_digest, keeps_whole, is_whole_digest, covers_digest, HasDigest};
 ghost use Rattle.signatures.specs.tools.Answered.{Explains};
 ghost use Rattle.verdicts.specs.tools.Judged.{FailsByField, FailsByDigest};
 
 use component_ids::{ComponentId, SigParams};
-use content_digest::{DigestFault, check_digest};
-use field_values::joined_value;
+use exchange::Exchange;
 use msg_body::MessageView;
-use msg_head::Side;
 use settings::DigestUse;
-use sfv_text::{BareItem, Memory, Pair, Params};
+use sfv_text::{BareItem, Pair, Params};
 use signatures::{DigestReason, LabelFault, Place, Rule};
 use std::alloc::Global;
 
@@ -56,61 +54,15 @@ fn covers_digest(ids: &[ComponentId]) -> bool
     ids.iter().any(|id| is_whole_digest(id))
 }
 
-/// The reason for which the digests have a fault.
-fn reason_of(fault: &DigestFault) -> Result<Option<DigestReason>, Memory>
-    ensures { IfOk result (λ answer. (reason : DigestReason) × (answer ≡ Some reason)
-        × (digest_reason fault.now ≡ Some reason)) }
+/// Whether the digests of the field are those of the content.
+fn judge_field(alloc: Global, exchange: &mut Exchange<'_, '_>) -> Result<(), LabelFault>
+    ensures explains { Explains (λ _. DigestHolds (digest_text exchange.old.context.message)
+        (message_content exchange.old.context.message))
+        (FailsByField exchange.old.context.message) result }
+    ensures exchange { exchange.new.context ≡ exchange.old.context }
+    ensures still { StillKnows exchange.old exchange.new }
 {
-    match fault {
-        DigestFault::Memory => Err(Memory),
-        DigestFault::Malformed => Ok(Some(DigestReason::Malformed)),
-        DigestFault::NoneKnown => Ok(Some(DigestReason::NoneKnown)),
-        DigestFault::Mismatch { algorithm, .. } => Ok(Some(DigestReason::Mismatch(*algorithm))),
-    }
-}
-
-/// Why the digests of the field's value aren't those of the content; nothing where they are.
-fn check_value(
-    alloc: Global,
-    value: &[u8],
-    message: &MessageView<'_>,
-) -> Result<Option<DigestReason>, Memory>
-    requires { value.now ≡ digest_text (message_of message.now) }
-    ensures { IfOk result (IsDigestAnswer (message_of message.now)) }
-{
-    match check_digest(alloc, value, message) {
-        Ok(()) => Ok(None),
-        Err(fault) => reason_of(&fault),
-    }
-}
-
-/// Why the digests of the field aren't those of the content; nothing where they are.
-fn read_digest(alloc: Global, message: &MessageView<'_>) -> Result<Option<DigestReason>, Memory>
-    ensures { IfOk result (IsDigestAnswer (message_of message.now)) }
-{
-    let lines = message.lines_named(Side::Header, b"content-digest");
-    let value = joined_value(alloc, lines)?;
-    check_value(alloc, value.bytes(), message)
-}
-
-/// Whether the digests of the field are those of the content. They are looked at where they weren't
-/// yet.
-fn judge_field(
-    alloc: Global,
-    message: &MessageView<'_>,
-    read: &mut Option<Option<DigestReason>>,
-) -> Result<(), LabelFault>
-    requires { IfSome read.old (IsDigestAnswer (message_of message.now)) }
-    ensures explains { Explains (λ _. DigestHolds (digest_text (message_of message.now))
-        (message_content (message_of message.now))) (FailsByField (message_of message.now)) result }
-    ensures read { IfSome read.new (IsDigestAnswer (message_of message.now)) }
-{
-    let answer = match *read {
-        Some(answer) => answer,
-        None => read_digest(alloc, message)?,
-    };
-    *read = Some(answer);
-    match answer {
+    match exchange.digest(alloc)? {
         None => Ok(()),
         Some(reason) => Err(LabelFault::Rule(Rule::Digest, Place::Digest(reason))),
     }
@@ -119,25 +71,24 @@ fn judge_field(
 /// Whether the digest of the content is covered, where it has to be, and is right: rule 33.
 pub(crate) fn judge_digest(
     alloc: Global,
-    message: &MessageView<'_>,
+    exchange: &mut Exchange<'_, '_>,
     params: &SigParams,
     digest: DigestUse,
-    read: &mut Option<Option<DigestReason>>,
 ) -> Result<(), LabelFault>
-    requires { IfSome read.old (IsDigestAnswer (message_of message.now)) }
     ensures explains { Explains (λ _.
-        IsTrue (asks_digest digest (message_content (message_of message.now)))
-        → HasDigest (message_of message.now) params.now.ids)
-        (FailsByDigest (asks_digest digest (message_content (message_of message.now)))
-        (message_of message.now) params.now.ids) result }
-    ensures read { IfSome read.new (IsDigestAnswer (message_of message.now)) }
+        IsTrue (asks_digest digest (message_content exchange.old.context.message))
+        → HasDigest exchange.old.context.message params.now.ids)
+        (FailsByDigest (asks_digest digest (message_content exchange.old.context.message))
+        exchange.old.context.message params.now.ids) result }
+    ensures exchange { exchange.new.context ≡ exchange.old.context }
+    ensures still { StillKnows exchange.old exchange.new }
 {
-    if !asks_digest(digest, message) {
+    if !asks_digest(digest, exchange.message()) {
         return Ok(());
     }
     if !covers_digest(params.ids.as_slice()) {
         let place = Place::Digest(DigestReason::Uncovered);
         return Err(LabelFault::Rule(Rule::Digest, place));
     }
-    judge_field(alloc, message, read)
+    judge_field(alloc, exchange)
 }

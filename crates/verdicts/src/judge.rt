@@ -1,39 +1,37 @@
 //! The verdict on a label.
 
 ghost use Rattle.std.specs.Prelude.{◌≡◌, ◌≤◌, ℕ, List, Some, IsTrue, IfOk, length, option_copied};
-ghost use Rattle.component_values.specs.Context.{context_of};
-ghost use Rattle.verdicts.specs.KnownTags.{KnowsTag};
-ghost use Rattle.verdicts.specs.Readings.{AreReadFor};
+ghost use Rattle.exchange.specs.Exchanges.{StillKnows};
 ghost use Rattle.settings.specs.ConfMeaning.{meaning};
 ghost use Rattle.nonces.specs.declared.limits.TheConstants.{MAX_KEYID_BYTES};
 ghost use Rattle.component_ids.specs.SignatureParams.{are_sig_params_in_range};
-ghost use Rattle.signatures.specs.Fields.{AreFieldsOf};
 ghost use Rattle.signatures.specs.Signatures.{HasSignature};
 ghost use Rattle.signatures.specs.tools.Answered.{Explains};
-ghost use Rattle.verdicts.specs.Parameters.{keyid_of};
 ghost use Rattle.signatures.specs.Rules.{IsFirstFailure};
+ghost use Rattle.verdicts.specs.KnownTags.{IsKnownOf, KnowsTag};
+ghost use Rattle.verdicts.specs.Parameters.{keyid_of};
 ghost use Rattle.verdicts.specs.Rules.{Fails, key_in};
 ghost use Rattle.verdicts.specs.Verdicts.{IsVerdict, is_verdict_in_range};
 ghost use Rattle.verdicts.specs.Verification.{Verification as Verified};
-ghost use Rattle.verdicts.specs.Verification.{IsAt, model_of, policy_of, verification_of};
-ghost use Rattle.verdicts.specs.tools.Judged.{AcceptsContent, AcceptsKeyid, ExplainsJudged, FailsByKeyid, FailsByKey, HasKey, HasKeyid};
+ghost use Rattle.verdicts.specs.Verification.{IsAt, policy_of, verification_by, verification_of};
+ghost use Rattle.verdicts.specs.tools.Judged.{AcceptsContent, ExplainsJudged, FailsByKeyid, FailsByKey, HasKey};
 
 use crate::algorithm::judge_algorithm;
 use crate::digest::judge_digest;
-use crate::known_tag::Signed;
+use crate::known_tag::SignedLabel;
 use crate::mac::judge_mac;
 use crate::nonce::judge_room;
 use crate::outcome::Verdict;
 use crate::policy::{judge_policy, policy_of};
-use crate::readings::LabelReadings;
-use crate::verification::Verification;
+use crate::verifier::Verifier;
 use component_ids::SigParams;
 use component_values::Context;
+use exchange::Exchange;
 use hmac_sha256::HmacKey;
 use nonces::{NonceBook, Steps};
 use settings::{Conf, Policy};
 use sfv_text::{Memory, Text};
-use signatures::{LabelFault, Place, Rule, SignatureFields};
+use signatures::{LabelFault, Place, Rule};
 use std::alloc::Global;
 use std::sync::ledger::Ledger;
 
@@ -64,132 +62,90 @@ fn key_of<'a>(conf: &'a Conf, keyid: &[u8]) -> Result<&'a HmacKey, LabelFault>
 /// accepted: rules 27 to 34.
 fn judge_content(
     alloc: Global,
-    verification: &Verification<'_, '_, '_>,
-    signed: &Signed<'_>,
+    exchange: &mut Exchange<'_, '_>,
+    verifier: &Verifier<'_>,
+    signed: &SignedLabel<'_>,
     policy: &Policy,
     key: &HmacKey,
-    readings: &mut LabelReadings,
 ) -> Result<(), LabelFault>
     requires has { (keyid : List ℕ)
-        × HasKey (model_of verification.now) signed.now.read.now.params
-        signed.now.read.now.tag keyid key.now }
+        × HasKey (verification_by verifier.now exchange.old.context signed.now.label.now)
+        signed.now.read.now.params signed.now.read.now.tag keyid key.now }
     requires policy { policy.now
-        ≡ policy_of (model_of verification.now).conf signed.now.read.now.params }
+        ≡ policy_of (meaning verifier.now.conf.now) signed.now.read.now.params }
     requires in_range { IsTrue (are_sig_params_in_range signed.now.read.now.params) }
-    requires known { KnowsTag (model_of verification.now).conf (model_of verification.now).context
-        (model_of verification.now).label signed.now.is_right }
-    requires readings { AreReadFor (model_of verification.now).context readings.old }
-    requires now { IsAt (model_of verification.now).now (model_of verification.now).seen }
-    ensures explains { Explains (λ _. AcceptsContent (model_of verification.entry.now)
-        signed.now.read.now.params signed.now.read.now.tag key.now)
-        (IsFirstFailure (Fails (model_of verification.entry.now))) result }
-    ensures readings { AreReadFor (model_of verification.entry.now).context readings.new }
+    requires known { KnowsTag (meaning verifier.now.conf.now) exchange.old.context
+        signed.now.label.now signed.now.is_right }
+    requires now { IsAt verifier.now.moment (option_copied verifier.now.seen) }
+    ensures explains { Explains
+        (λ _. AcceptsContent (verification_by verifier.entry.now exchange.old.context
+        signed.now.label.now) signed.now.read.now.params signed.now.read.now.tag key.now)
+        (IsFirstFailure (Fails (verification_by verifier.entry.now exchange.old.context
+        signed.now.label.now))) result }
+    ensures exchange { exchange.new.context ≡ exchange.old.context }
+    ensures still { StillKnows exchange.old exchange.new }
 {
-    judge_mac(
-        alloc,
-        verification.context,
-        signed,
-        key,
-        &mut readings.values,
-    )?;
-    judge_digest(
-        alloc,
-        verification.context.message,
-        &signed.read.params,
-        policy.digest,
-        &mut readings.digest,
-    )?;
-    judge_room(&signed.read.params, policy, verification.seen)
-}
-
-/// Whether the signature is accepted under the key of this `keyid`: rules 16 to 34.
-fn judge_keyid<L: Ledger>(
-    alloc: Global,
-    verification: &Verification<'_, '_, '_>,
-    signed: &Signed<'_>,
-    policy: &Policy,
-    keyid: &[u8],
-    readings: &mut LabelReadings,
-    steps: &mut Steps<L>,
-) -> Result<(), LabelFault>
-    requires has { HasKeyid (model_of verification.now) signed.now.read.now.params
-        signed.now.read.now.tag keyid.now }
-    requires policy { policy.now
-        ≡ policy_of (model_of verification.now).conf signed.now.read.now.params }
-    requires in_range { IsTrue (are_sig_params_in_range signed.now.read.now.params) }
-    requires known { KnowsTag (model_of verification.now).conf (model_of verification.now).context
-        (model_of verification.now).label signed.now.is_right }
-    requires readings { AreReadFor (model_of verification.now).context readings.old }
-    requires now { IsAt (model_of verification.now).now (model_of verification.now).seen }
-    ensures explains { Explains (λ _. AcceptsKeyid (model_of verification.entry.now)
-        signed.now.read.now.params signed.now.read.now.tag keyid.now)
-        (IsFirstFailure (Fails (model_of verification.entry.now))) result }
-    ensures readings { AreReadFor (model_of verification.entry.now).context readings.new }
-    ensures steps { steps.old ≤ steps.new }
-{
-    let key = key_of(verification.conf, keyid)?;
-    judge_policy(
-        alloc,
-        verification,
-        &signed.read.params,
-        policy,
-        keyid,
-        steps,
-    )?;
-    judge_content(alloc, verification, signed, policy, key, readings)
+    judge_mac(alloc, exchange, signed, key)?;
+    judge_digest(alloc, exchange, &signed.read.params, policy.digest)?;
+    judge_room(&signed.read.params, policy, verifier.seen)
 }
 
 /// The `keyid` of the accepted signature, or the first of rules 13 to 34 that fails.
-fn judge_signature<L: Ledger>(
+pub(crate) fn judge_signature<L: Ledger>(
     alloc: Global,
-    verification: &Verification<'_, '_, '_>,
-    signed: &Signed<'_>,
-    readings: &mut LabelReadings,
+    exchange: &mut Exchange<'_, '_>,
+    verifier: &Verifier<'_>,
+    signed: &SignedLabel<'_>,
     steps: &mut Steps<L>,
 ) -> Result<Text, LabelFault>
-    requires has { HasSignature (model_of verification.now).context.message
-        (model_of verification.now).label signed.now.read.now.params signed.now.read.now.tag }
+    requires has { HasSignature exchange.old.context.message signed.now.label.now
+        signed.now.read.now.params signed.now.read.now.tag }
     requires in_range { IsTrue (are_sig_params_in_range signed.now.read.now.params) }
-    requires known { KnowsTag (model_of verification.now).conf (model_of verification.now).context
-        (model_of verification.now).label signed.now.is_right }
-    requires readings { AreReadFor (model_of verification.now).context readings.old }
-    requires now { IsAt (model_of verification.now).now (model_of verification.now).seen }
-    ensures explains { ExplainsJudged (model_of verification.entry.now) result }
-    ensures readings { AreReadFor (model_of verification.entry.now).context readings.new }
+    requires known { KnowsTag (meaning verifier.now.conf.now) exchange.old.context
+        signed.now.label.now signed.now.is_right }
+    requires now { IsAt verifier.now.moment (option_copied verifier.now.seen) }
+    ensures explains { ExplainsJudged
+        (verification_by verifier.entry.now exchange.old.context signed.now.label.now) result }
+    ensures exchange { exchange.new.context ≡ exchange.old.context }
+    ensures still { StillKnows exchange.old exchange.new }
     ensures steps { steps.old ≤ steps.new }
 {
-    let policy = policy_of(verification.conf, &signed.read.params);
-    judge_algorithm(alloc, &signed.read.params)?;
-    let keyid = keyid_of(&signed.read.params)?;
-    judge_keyid(alloc, verification, signed, policy, keyid, readings, steps)?;
+    let params = &signed.read.params;
+    let policy = policy_of(verifier.conf, params);
+    judge_algorithm(alloc, params)?;
+    let keyid = keyid_of(params)?;
+    let key = key_of(verifier.conf, keyid)?;
+    judge_policy(alloc, exchange, verifier, params, keyid, steps)?;
+    judge_content(alloc, exchange, verifier, signed, policy, key)?;
     Ok(Text::from_bytes(alloc, keyid)?)
 }
 
 /// The `keyid` of the accepted label, or the first rule that fails.
-fn judge<L: Ledger>(
+pub(crate) fn judge<L: Ledger>(
     alloc: Global,
-    fields: &SignatureFields,
-    readings: &mut LabelReadings,
-    verification: &Verification<'_, '_, '_>,
+    exchange: &mut Exchange<'_, '_>,
+    verifier: &Verifier<'_>,
+    label: &[u8],
     steps: &mut Steps<L>,
 ) -> Result<Text, LabelFault>
-    requires fields { AreFieldsOf (model_of verification.now).context.message fields.now }
-    requires readings { AreReadFor (model_of verification.now).context readings.old }
-    requires now { IsAt (model_of verification.now).now (model_of verification.now).seen }
-    ensures explains { ExplainsJudged (model_of verification.entry.now) result }
-    ensures readings { AreReadFor (model_of verification.entry.now).context readings.new }
+    requires { IsAt verifier.now.moment (option_copied verifier.now.seen) }
+    ensures explains { ExplainsJudged
+        (verification_by verifier.entry.now exchange.old.context label.now) result }
+    ensures exchange { exchange.new.context ≡ exchange.old.context }
+    ensures still { StillKnows exchange.old exchange.new }
     ensures steps { steps.old ≤ steps.new }
 {
-    let read = fields.label(alloc, verification.label)?;
-    let signed = Signed {
+    let read = exchange.label(alloc, label)?;
+    let signed = SignedLabel {
+        label,
         read: &read,
         is_right: None,
     };
-    judge_signature(alloc, verification, &signed, readings, steps)
+    judge_signature(alloc, exchange, verifier, &signed, steps)
 }
 
 /// The verdict that was judged.
-fn verdict_of(judged: Result<Text, LabelFault>) -> Result<Verdict, Memory>
+pub(crate) fn verdict_of(judged: Result<Text, LabelFault>) -> Result<Verdict, Memory>
     ensures is { (v : Verified) → ExplainsJudged v judged → IfOk result (IsVerdict v) }
     ensures in_range { (v : Verified) → ExplainsJudged v judged
         → IfOk result (λ verdict. IsTrue (is_verdict_in_range verdict)) }
@@ -199,51 +155,6 @@ fn verdict_of(judged: Result<Text, LabelFault>) -> Result<Verdict, Memory>
         Err(LabelFault::Memory) => Err(Memory),
         Err(LabelFault::Rule(number, place)) => Ok(Verdict::Rule { number, place }),
     }
-}
-
-/// The verdict on a label (RFC 9421 section 3.2), over what was read of the signature fields of the
-/// context's message, and of the context before; what is read of it now is added. So each field is
-/// read once for all labels of a message.
-pub fn verdict_in<L: Ledger>(
-    alloc: Global,
-    fields: &SignatureFields,
-    readings: &mut LabelReadings,
-    verification: &Verification<'_, '_, '_>,
-    steps: &mut Steps<L>,
-) -> Result<Verdict, Memory>
-    requires fields { AreFieldsOf (model_of verification.now).context.message fields.now }
-    requires readings { AreReadFor (model_of verification.now).context readings.old }
-    requires now { IsAt (model_of verification.now).now (model_of verification.now).seen }
-    ensures is { IfOk result (IsVerdict (model_of verification.entry.now)) }
-    ensures in_range { IfOk result (λ verdict. IsTrue (is_verdict_in_range verdict)) }
-    ensures readings { AreReadFor (model_of verification.entry.now).context readings.new }
-    ensures steps { steps.old ≤ steps.new }
-{
-    verdict_of(judge(alloc, fields, readings, verification, steps))
-}
-
-/// The verdict on a label whose signature was read. Where it is known of its tag, no signature base
-/// is made for it.
-pub fn verdict_on<L: Ledger>(
-    alloc: Global,
-    signed: &Signed<'_>,
-    readings: &mut LabelReadings,
-    verification: &Verification<'_, '_, '_>,
-    steps: &mut Steps<L>,
-) -> Result<Verdict, Memory>
-    requires has { HasSignature (model_of verification.now).context.message
-        (model_of verification.now).label signed.now.read.now.params signed.now.read.now.tag }
-    requires in_range { IsTrue (are_sig_params_in_range signed.now.read.now.params) }
-    requires known { KnowsTag (model_of verification.now).conf (model_of verification.now).context
-        (model_of verification.now).label signed.now.is_right }
-    requires readings { AreReadFor (model_of verification.now).context readings.old }
-    requires now { IsAt (model_of verification.now).now (model_of verification.now).seen }
-    ensures is { IfOk result (IsVerdict (model_of verification.entry.now)) }
-    ensures in_range { IfOk result (λ verdict. IsTrue (is_verdict_in_range verdict)) }
-    ensures readings { AreReadFor (model_of verification.entry.now).context readings.new }
-    ensures steps { steps.old ≤ steps.new }
-{
-    verdict_of(judge_signature(alloc, verification, signed, readings, steps))
 }
 
 /// The verdict on the label at the moment `now`, in seconds since the epoch (RFC 9421 section
@@ -266,14 +177,11 @@ pub fn verdict<L: Ledger>(
     ensures in_range { IfOk result (λ verdict. IsTrue (is_verdict_in_range verdict)) }
     ensures steps { steps.old ≤ steps.new }
 {
-    let fields = SignatureFields::read(alloc, context.message)?;
-    let verification = Verification {
-        context,
-        label,
+    let verifier = Verifier {
         conf,
-        now,
+        moment: now,
         seen,
     };
-    let mut readings = LabelReadings::new(alloc);
-    verdict_in(alloc, &fields, &mut readings, &verification, steps)
+    let mut exchange = Exchange::new(alloc, *context);
+    verifier.verdict(alloc, &mut exchange, label, steps)
 }

@@ -10,10 +10,11 @@ ghost use Rattle.verdicts.specs.Verification.{Verification};
 use crate::outcome::Verdict;
 use signatures::{LabelRead, Rule};
 
-/// The signature of a label, and whether its tag is right, where that is known: then no signature
+/// A label with its signature, and whether its tag is right, where that is known: then no signature
 /// base is made for it.
 #[derive(Clone, Copy)]
-pub struct Signed<'r> {
+pub struct SignedLabel<'r> {
+    pub label: &'r [u8],
     pub read: &'r LabelRead,
     pub is_right: Option<bool>,
 }

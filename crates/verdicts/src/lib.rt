@@ -11,7 +11,6 @@
 #![tactic(auto)]
 
 mod algorithm;
-mod context;
 mod coverage;
 mod digest;
 mod judge;
@@ -21,15 +20,17 @@ mod line;
 mod mac;
 mod nonce;
 mod outcome;
+mod parts;
 mod policy;
 mod readings;
 mod tag_param;
 mod times;
 mod verification;
+mod verifier;
 
-pub use context::context_for;
-pub use judge::{verdict, verdict_in, verdict_on};
-pub use known_tag::{Signed, known_with};
+pub use exchange::context_for;
+pub use judge::verdict;
+pub use known_tag::{SignedLabel, known_with};
 pub use laws::{
     a_label_has_one_verdict, a_signed_label_is_accepted_by_the_other_rules,
     a_verdict_depends_on_its_signature, two_messages_with_one_tag_agree,
@@ -38,9 +39,11 @@ pub use line::append_verdict_line;
 pub use mac::tag_matches;
 pub use nonces::MAX_MOMENT;
 pub use outcome::Verdict;
+pub use parts::{Signed, verdict_in, verdict_on};
 pub use readings::LabelReadings;
 pub use signatures::{
     DigestReason, LabelFault, LabelRead, Labels, Place, Rule, SignatureFields,
     a_label_has_one_reading, a_message_has_one_list_of_labels, labels_of, read_label,
 };
 pub use verification::Verification;
+pub use verifier::Verifier;

@@ -1,9 +1,8 @@
 //! The signature base and the tag of a signature: rules 27 to 32.
 
-ghost use Rattle.std.specs.Prelude.{◌≡◌, ◌<◌, ◌↔◌, ℕ, List, IsTrue, length};
+ghost use Rattle.std.specs.Prelude.{◌≡◌, ◌<◌, ◌↔◌, ◌++◌, ℕ, List, IsTrue, length};
 ghost use Rattle.component_ids.specs.SignatureParams.{are_sig_params_in_range};
-ghost use Rattle.component_values.specs.Context.{context_of};
-ghost use Rattle.component_values.specs.Readings.{AreReadOf};
+ghost use Rattle.component_ids.specs.declared.params.SigParams.{SigParams};
 ghost use Rattle.sig_base.specs.SignatureBase.{signature_base};
 ghost use Rattle.hmac_sha256.specs.Hmac.{hmac, key_block};
 ghost use Rattle.hmac_sha256.specs.State.{HasAbsorbed};
@@ -12,9 +11,10 @@ ghost use Rattle.signatures.specs.tools.Answered.{Explains};
 ghost use Rattle.verdicts.specs.KnownTags.{IsKnownOf};
 ghost use Rattle.verdicts.specs.tools.Judged.{ExplainsMac, FailsByTag, IsTagOf, SaysFault, rule_of_lack};
 
-use crate::known_tag::Signed;
+use crate::known_tag::SignedLabel;
 use component_ids::ComponentId;
-use component_values::{Context, Lack, Prepared, Readings, ValueFault, prepare_in};
+use component_values::{Lack, Prepared, ValueFault};
+use exchange::Exchange;
 use hmac_sha256::{Hmac, HmacKey, same_tag};
 use sig_base::feed_base;
 use signatures::{LabelFault, LabelRead, Place, Rule};
@@ -47,15 +47,12 @@ fn fault_of_lack(alloc: Global, ids: &[ComponentId], fault: ValueFault) -> Label
     }
 }
 
-/// Whether the tag is what the HMAC comes to over the signature base, all its bytes (RFC 9421
+/// Whether the tag is what the HMAC comes to over the text that it was fed, all its bytes (RFC 9421
 /// section 3.3.3).
-fn is_tag(prepared: &Prepared<'_, '_>, empty: Hmac, tag: &[u8]) -> bool
-    ensures { (key : List ℕ) → HasAbsorbed empty (key_block key)
-        → IsTrue result ↔ (tag.now
-        ≡ hmac key (signature_base prepared.now.params prepared.now.values)) }
+fn has_tag(mac: Hmac, tag: &[u8]) -> bool
+    ensures { (key text : List ℕ) → HasAbsorbed mac (key_block key ++ text)
+        → IsTrue result ↔ (tag.now ≡ hmac key text) }
 {
-    let mut mac = empty;
-    feed_base(prepared, &mut mac);
     same_tag(tag, &mac.finish())
 }
 
@@ -65,15 +62,19 @@ pub fn tag_matches(prepared: &Prepared<'_, '_>, key: &[u8], tag: &[u8]) -> bool
     ensures { IsTrue result ↔ (tag.now
         ≡ hmac key.now (signature_base prepared.now.params prepared.now.values)) }
 {
-    is_tag(prepared, Hmac::new(key), tag)
+    let mut mac = Hmac::new(key);
+    feed_base(prepared, &mut mac);
+    has_tag(mac, tag)
 }
 
-/// Whether the tag is right: rule 32.
-fn judge_tag(prepared: &Prepared<'_, '_>, key: &HmacKey, tag: &[u8]) -> Result<(), LabelFault>
-    ensures { Explains (λ _. IsTagOf prepared.now.params prepared.now.values key.now tag.now)
-        (FailsByTag prepared.now.params prepared.now.values key.now tag.now) result }
+/// Whether the tag is right, where the HMAC was fed the signature base: rule 32.
+fn judge_tag(mac: Hmac, tag: &[u8]) -> Result<(), LabelFault>
+    ensures { (params : SigParams) (values : List (List ℕ)) (key : List ℕ)
+        → HasAbsorbed mac (key_block key ++ signature_base params values)
+        → Explains (λ _. IsTagOf params values key tag.now)
+        (FailsByTag params values key tag.now) result }
 {
-    if is_tag(prepared, key.hmac(), tag) {
+    if has_tag(mac, tag) {
         Ok(())
     } else {
         Err(LabelFault::Rule(Rule::MacMismatch, Place::None))
@@ -83,19 +84,18 @@ fn judge_tag(prepared: &Prepared<'_, '_>, key: &HmacKey, tag: &[u8]) -> Result<(
 /// Whether each component has its value, and the tag is right: rules 27 to 32.
 fn judge_base(
     alloc: Global,
-    context: &Context<'_, '_>,
+    exchange: &mut Exchange<'_, '_>,
     read: &LabelRead,
     key: &HmacKey,
-    readings: &mut Readings,
 ) -> Result<(), LabelFault>
-    requires in_range { IsTrue (are_sig_params_in_range read.now.params) }
-    requires readings { AreReadOf (context_of context.now) readings.old }
-    ensures explains { ExplainsMac (context_of context.now) read.now.params read.now.tag key.now
+    requires { IsTrue (are_sig_params_in_range read.now.params) }
+    ensures explains { ExplainsMac exchange.old.context read.now.params read.now.tag key.now
         result }
-    ensures readings { AreReadOf (context_of context.now) readings.new }
+    ensures exchange { exchange.new ≡ exchange.old }
 {
-    match prepare_in(alloc, context, &read.params, readings) {
-        Ok(prepared) => judge_tag(&prepared, key, read.tag.bytes()),
+    let mut mac = key.hmac();
+    match exchange.feed_base(alloc, &read.params, &mut mac) {
+        Ok(()) => judge_tag(mac, read.tag.bytes()),
         Err(fault) => Err(fault_of_lack(alloc, read.params.ids.as_slice(), fault)),
     }
 }
@@ -103,22 +103,20 @@ fn judge_base(
 /// The same of a signature of whose tag it may be known.
 pub(crate) fn judge_mac(
     alloc: Global,
-    context: &Context<'_, '_>,
-    signed: &Signed<'_>,
+    exchange: &mut Exchange<'_, '_>,
+    signed: &SignedLabel<'_>,
     key: &HmacKey,
-    readings: &mut Readings,
 ) -> Result<(), LabelFault>
     requires in_range { IsTrue (are_sig_params_in_range signed.now.read.now.params) }
-    requires known { IsKnownOf (context_of context.now) signed.now.read.now.params
+    requires known { IsKnownOf exchange.old.context signed.now.read.now.params
         signed.now.read.now.tag key.now signed.now.is_right }
-    requires readings { AreReadOf (context_of context.now) readings.old }
-    ensures explains { ExplainsMac (context_of context.now) signed.now.read.now.params
+    ensures explains { ExplainsMac exchange.old.context signed.now.read.now.params
         signed.now.read.now.tag key.now result }
-    ensures readings { AreReadOf (context_of context.now) readings.new }
+    ensures exchange { exchange.new ≡ exchange.old }
 {
     match signed.is_right {
         Some(true) => Ok(()),
         Some(false) => Err(LabelFault::Rule(Rule::MacMismatch, Place::None)),
-        None => judge_base(alloc, context, signed.read, key, readings),
+        None => judge_base(alloc, exchange, signed.read, key),
     }
 }

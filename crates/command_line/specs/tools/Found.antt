@@ -1,5 +1,5 @@
 -- The words that options were found to have. No public clause cites this module.
-use Rattle.std.specs.Prelude.{◌≡◌, ℕ, Option, None, Some, option_map, List, ◌++◌, codes, if◌then◌else◌, IsTrue}
+use Rattle.std.specs.Prelude.{◌≡◌, ℕ, Option, None, Some, option_map, is_some, List, ◌++◌, codes, if◌then◌else◌, IsTrue}
 use Rattle.std.specs.Str.{bytes_eq}
 use Rattle.sfv_text.specs.Keys.{value_of}
 use Rattle.sfv_text.specs.declared.pair.Pair.{Pair}
@@ -18,6 +18,12 @@ word_in found Request = option_map (λ word. word.now) found.request
 word_in found Nonce = option_map (λ word. word.now) found.nonce
 word_in found Wanted = option_map (λ word. word.now) found.wanted
 word_in found Script = option_map (λ word. word.now) found.script
+
+-- the option with a word beside which this one can't come
+abbrev pub excluding_in : OptionWords → CommandOption → Option CommandOption
+excluding_in found Nonce = if is_some (word_in found Wanted) then Some Wanted else None
+excluding_in found Wanted = if is_some (word_in found Nonce) then Some Nonce else None
+excluding_in found option = None
 
 -- the option has this name, the command takes it, it has no word yet, and it may have this one
 pub record IsNextOption (command : CommandName) (found : OptionWords) (name word : List ℕ)

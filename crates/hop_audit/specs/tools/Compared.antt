@@ -1,6 +1,8 @@
 -- What the code makes of the components of two messages. No public clause cites this module.
-use Rattle.std.specs.Prelude.{◌≡◌, ℕ, Option, Some, None, List, take, Result, Ok, Err}
+use Rattle.std.specs.Prelude.{◌≡◌, ℕ, Option, Some, None, IfSome, List, take, Result, Ok, Err}
 use Rattle.std.specs.List.{All}
+use Rattle.sfv_text.specs.Keys.{value_of}
+use Rattle.sfv_text.specs.declared.pair.Pair.{Pair}
 use Rattle.msg_body.specs.Messages.{Message}
 use Rattle.component_ids.specs.declared.id.ComponentId.{ComponentId}
 use Rattle.component_values.specs.Context.{MessageContext, context_of}
@@ -9,6 +11,9 @@ use Rattle.derived_values.specs.declared.lack.Lack.{Lack}
 use Rattle.hop_audit.specs.declared.answer.Answer.{Answer}
 use Rattle.hop_audit.specs.declared.answer.Answer.TheVariants.{Value, Lacks}
 use Rattle.hop_audit.specs.declared.comparison.Comparison.{Comparison}
+use Rattle.hop_audit.specs.declared.comparison.ComponentFate.{ComponentFate}
+use Rattle.hop_audit.specs.declared.comparison.ComponentFate.TheVariants as component
+use Rattle.hop_audit.specs.declared.comparison.Compared.{Compared}
 use Rattle.hop_audit.specs.declared.line.Fate.{Fate}
 use Rattle.hop_audit.specs.declared.line.Fate.TheVariants.{Dropped, Changed, Lacking, Kept}
 use Rattle.hop_audit.specs.Fates.{HasChanged, HasKept, HasStayed, IsFirstOf, LacksValue}
@@ -27,7 +32,20 @@ SaysCompared context other ids (Lacking id) =
     All (HasStayed context other) ids × IsFirstOf (LacksValue context) ids id
 SaysCompared context other ids Kept = All (HasKept context other) ids
 
--- the readings are those of the two messages, whose contexts differ in nothing else
+-- what becomes of a component
+abbrev pub IsComponentFate : MessageContext → Message → ComponentId → ComponentFate → Type 0
+IsComponentFate context other id component.Changed = HasChanged context other id
+IsComponentFate context other id component.Lacking =
+    HasStayed context other id × LacksValue context id
+IsComponentFate context other id component.Kept = HasKept context other id
+
+-- whatever the text of a component, this becomes of it
+abbrev pub AreCompared : MessageContext → Message → List (Pair Compared) → Type 0
+AreCompared context other compared = (text : List ℕ) → IfSome (value_of compared text)
+    (λ own. IsComponentFate context other own.id own.fate)
+
+-- the readings are those of the two messages, whose contexts differ in nothing else, and so is what
+-- was compared
 pub record IsComparison (context : MessageContext) (other : Message) (c : Comparison)
     : Type 0 where
   pub before : context_of c.before.now ≡ context
@@ -39,8 +57,15 @@ pub record IsComparison (context : MessageContext) (other : Message) (c : Compar
   }
   pub was : AreReadOf (context_of c.before.now) c.was
   pub now : AreReadOf (context_of c.after.now) c.now
+  pub compared : AreCompared context other c.compared
 
 -- ---- component by component
+
+-- the first that lacks a value, where this comes next
+abbrev pub lacking_with : Option ComponentId → ComponentFate → ComponentId → Option ComponentId
+lacking_with (Some first) fate id = Some first
+lacking_with None component.Lacking id = Some id
+lacking_with None fate id = None
 
 -- the first that lacks a value is this one, or none of so many does
 abbrev pub LacksSoFar : MessageContext → List ComponentId → ℕ → Option ComponentId → Type 0

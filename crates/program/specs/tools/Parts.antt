@@ -1,13 +1,96 @@
 -- What the parts of a run keep. No public clause cites this module.
-use Rattle.std.specs.Prelude.{◌≡◌, ⊤, ℕ, Result, Err}
-use Rattle.program.specs.Ends.{OneRose}
+use Rattle.std.specs.Prelude.{◌≡◌, ◌⊎◌, ◌+◌, ◌≤◌, ⊤, ℕ, IsTrue, List, Option, Some, None, Result, Err, option_map}
+use Rattle.std.specs.Io.KnownBytes.{Appends, Keeps}
+use Rattle.std.specs.List.{list_all}
+use Rattle.sfv_text.specs.Classes.{is_byte}
+use Rattle.hms_io.specs.Files.{FileMap, KeepsFiles}
+use Rattle.hms_io.specs.declared.status.Status.{Status}
+use Rattle.hms_io.specs.declared.status.Status.TheVariants.{OutOfMemory, WriteFault}
+use Rattle.msg_body.specs.Messages.{Message}
+use Rattle.msg_body.specs.Views.{message_of}
+use Rattle.msg_body.specs.WholeTexts.{reading_for}
+use Rattle.conf.specs.Configuration.{Configuration}
+use Rattle.conf.specs.ConfMeaning.{meaning}
+use Rattle.verdicts.specs.Contexts.{context_for}
+use Rattle.rewrite_script.specs.declared.rewrite.Rewrite.{Rewrite}
 use Rattle.refusals.specs.declared.role.Role.TheVariants.{Input}
 use Rattle.refusals.specs.declared.file.FileRefusal.TheVariants.{Message as NoMessage}
+use Rattle.refusals.specs.declared.refusal.Refusal.{Refusal}
 use Rattle.refusals.specs.declared.refusal.Refusal.TheVariants.{Of, Command}
+use Rattle.command_line.specs.Command.{CommandLine, IsCommand}
+use Rattle.commands.specs.Files.{FileNames, FileRole, file_bytes, file_count}
+use Rattle.commands.specs.Layers.{ReadsThen}
+use Rattle.commands.specs.Messages.{IsInputMessage, IsInputRefused}
+use Rattle.commands.specs.Outcome.{output_of, status_of}
 use Rattle.commands.specs.declared.outcome.Outcome.{Outcome}
 use Rattle.commands.specs.declared.outcome.Outcome.TheVariants.{Done, NotOk, Refused}
 use Rattle.commands.specs.declared.stop.Stop.{Stop}
 use Rattle.commands.specs.declared.stop.Stop.TheVariants.{ReadFault}
+use Rattle.commands.specs.Stops.{IfOutcome}
+use Rattle.program.specs.Commands.{name_of}
+use Rattle.program.specs.Ends.{AppendsPrefix, OneRose}
+use Rattle.program.specs.Intake.{TakenValues, named_count, read_order, roles_until}
+use Rattle.program.specs.Report.{Answers}
+use Rattle.program.specs.declared.intake.FilesRead.{FilesRead}
+
+-- what was read of the files of a command
+pub record FileValues : Type 0 where
+  pub conf : Configuration
+  pub related : Option Message
+  pub wishes : Option Message
+  pub script : List Rewrite
+
+-- what the borrowed parts stand for
+abbrev pub values_of : FilesRead → FileValues
+values_of files = record {
+  conf = meaning files.conf.now;
+  related = option_map (λ view. message_of view.now) files.related;
+  wishes = option_map (λ view. message_of view.now) files.wishes;
+  script = files.script.now;
+}
+
+-- what is taken where the input is this message
+abbrev pub taken_with : FileValues → Message → TakenValues
+taken_with files message = record {
+  conf = files.conf;
+  wishes = files.wishes;
+  script = files.script;
+  context = context_for files.conf message files.related;
+}
+
+-- what comes of an input after these files
+abbrev pub ReportsMessage : Answers → FileValues → List ℕ → Outcome → Type 0
+ReportsMessage Then files input =
+    ReadsThen (IsInputMessage (reading_for files.related) input)
+    (IsInputRefused (reading_for files.related) input) (λ refusal. Of Input refusal)
+    (λ message. Then (taken_with files message))
+
+-- of the files of these names at most so many were asked for, and so many bytes read, and where no
+-- file has a name, the shelf is the same
+pub record Asks (names : FileNames) (before now : Option FileMap)
+    (asked asked_now reached reached_now : ℕ) (Same : Type 0) : Type 0 where
+  pub files : KeepsFiles before now
+  pub asks : asked_now ≤ asked + file_count names
+  pub reaches : reached_now ≤ reached + file_bytes names
+  pub unasked : ((role : FileRole) → names role ≡ None) → Same
+
+-- the files that are read before the outcome is known
+abbrev pub roles_read : Outcome → List FileRole
+roles_read (Refused refusal) = roles_until refusal
+roles_read outcome = read_order
+
+-- where there is an outcome, at most so many files of these names were asked for
+abbrev pub AsksUntil : FileNames → Result Outcome Stop → ℕ → ℕ → Type 0
+AsksUntil names result before now =
+    IfOutcome result (λ outcome. now ≤ before + named_count names (roles_read outcome))
+
+-- the same for arguments, and at any end at most all are asked for
+pub record AsksOf (arguments : List (List ℕ)) (result : Result Outcome Stop) (before now : ℕ)
+    : Type 0 where
+  pub until : (command : CommandLine) → IsCommand arguments command
+      → AsksUntil (name_of command) result before now
+  pub most : (command : CommandLine) → IsCommand arguments command
+      → now ≤ before + file_count (name_of command)
 
 -- only a failed read raises just one of the two counts
 abbrev pub CountsOne : Type 0 → ℕ → ℕ → ℕ → ℕ → Result Outcome Stop → Type 0
@@ -27,3 +110,21 @@ IsOwn (Refused refusal) = ⊥
 abbrev pub IsAfterInput : Outcome → Type 0
 IsAfterInput (Refused (Of Input (NoMessage fault))) = ⊤
 IsAfterInput outcome = IsOwn outcome
+
+-- ---- how an outcome is written
+
+-- the refusal that the outcome is, if it is one
+abbrev pub refusal_of : Outcome → Option Refusal
+refusal_of (Refused refusal) = Some refusal
+refusal_of outcome = None
+
+-- all of the output was written, and a refusal is told; a proper prefix of it was written; or no
+-- memory was found for it, and nothing was written
+abbrev pub IsWritten : Outcome → Option (List ℕ) → Option (List ℕ) → Status → Option Refusal
+    → Type 0
+IsWritten outcome taken now status refusal =
+    ((status ≡ status_of outcome) × (refusal ≡ refusal_of outcome)
+    × Appends taken now (output_of outcome) × IsTrue (list_all is_byte (output_of outcome)))
+    ⊎ (((status ≡ WriteFault) × (refusal ≡ None)
+    × AppendsPrefix taken now (output_of outcome) × IsTrue (list_all is_byte (output_of outcome)))
+    ⊎ ((status ≡ OutOfMemory) × (refusal ≡ None) × Keeps taken now))

@@ -1,15 +1,14 @@
 -- What the code takes of items one by one, and what it answers for their order. No public clause
 -- cites this module.
-use Rattle.std.specs.Prelude.{◌≡◌, ⊤, ℕ, ◌+◌, ◌<◌, ◌≤◌, Bool, true, false, Some, List, [], ◌∷◌, ◌++◌, length, map, take, drop, slice_get, Result, Ok, Err}
+use Rattle.std.specs.Prelude.{◌≡◌, ⊤, ℕ, ◌+◌, ◌-◌, ◌^◌, ◌<◌, ◌≤◌, Bool, true, false, Option, Some, List, [], ◌∷◌, ◌++◌, length, map, take, drop, slice_get, Result, Ok, Err}
 use Rattle.std.specs.List.{flat_map}
 use Rattle.recording.specs.declared.chain.OrderFault.{OrderFault}
 use Rattle.recording.specs.declared.chain.OrderFault.TheVariants.{Memory, Order}
 use Rattle.recording.specs.declared.chain.RecordedChain.{RecordedChain as HeldChain}
 use Rattle.recording.specs.declared.chain.RecordedHop.{RecordedHop as HeldHop}
 use Rattle.recording.specs.declared.limits.TheConstants.{MAX_HOPS}
-use Rattle.recording.specs.declared.order.Items.{Items as HeldItems}
 use Rattle.recording.specs.Chains.{Subject, RecordedHop, RecordedChain, moment_items, related_items, message_item, hop_items, chain_items}
-use Rattle.recording.specs.Items.{Body, Kind, PlacedItem, moment, stored, placed}
+use Rattle.recording.specs.Items.{Body, Kind, PlacedItem, moment, stored}
 use Rattle.recording.specs.RecordedChains.{IsHeldChain, IsOrderCause, hop_meant}
 use Rattle.recording.specs.Recordings.{bodies}
 
@@ -49,9 +48,24 @@ pub record Stops (AreInOrder : List Body → Type 0) (items left : List Body) : 
 
 -- ---- items one by one
 
+-- the items of a recording, and how many of them were taken
+pub record HeldItems : Type 0 where
+  pub items : List PlacedItem
+  pub taken : ℕ
+
+-- the next item and those after it, and the offset of the item that was taken last
+pub record AreAhead (held : HeldItems) (next : Option PlacedItem) (later : List PlacedItem)
+    (last : ℕ) : Type 0 where
+  pub few : length held.items < 2 ^ 63
+  pub within : held.taken ≤ length held.items
+  pub next_is : slice_get held.items held.taken ≡ next
+  pub later_are : drop (held.taken + 1) held.items ≡ later
+  pub last_is : 0 < held.taken → (item : PlacedItem)
+      × (slice_get held.items (held.taken - 1) ≡ Some item) × (last ≡ item.offset)
+
 -- what the items say that weren't taken
 abbrev pub bodies_left : HeldItems → List Body
-bodies_left left = drop left.taken (bodies (map placed left.items.now))
+bodies_left left = drop left.taken (bodies left.items)
 
 -- a moment
 abbrev pub IsMoment : Body → Type 0
@@ -81,11 +95,10 @@ pub record TakesNone (IsSuch : Body → Type 0) (was now : HeldItems) : Type 0 w
 pub record IsAfter (left : HeldItems) (fault : OrderFault) : Type 0 where
   pub index : ℕ
   pub item : PlacedItem
-  pub there : slice_get (map placed left.items.now) index ≡ Some item
+  pub there : slice_get left.items index ≡ Some item
   pub fault_is : fault ≡ Order item.offset
-  pub next : left.taken < length (map placed left.items.now) → index ≡ left.taken
-  pub last : length (map placed left.items.now) ≤ left.taken
-      → index + 1 ≡ length (map placed left.items.now)
+  pub next : left.taken < length left.items → index ≡ left.taken
+  pub last : length left.items ≤ left.taken → index + 1 ≡ length left.items
 
 -- the items aren't in order where they stop
 pub record StopsAt (AreInOrder : List Body → Type 0) (was now : HeldItems) : Type 0 where

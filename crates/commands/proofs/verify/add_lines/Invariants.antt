@@ -1,10 +1,8 @@
-use Rattle.std.proofs.Common.{take}
-use Rattle.verdicts.specs.Verification.{model_of}
-use Rattle.verdicts.specs.Readings.{AreReadFor}
+use Rattle.std.proofs.Common.{◌≡◌, take}
+use Rattle.conf.specs.ConfMeaning.{meaning}
 use Rattle.commands.specs.tools.Verdicts.{AreLinesSoFar}
 use Rattle.commands.proofs.verify.add_lines.Given as goal
 
 abbrev pub invariant-loop-label : goal.invariant-loop-label
 invariant-loop-label g l =
-    let first = model_of l.first in
-    AreLinesSoFar first.conf first.now first.context (take l.label-index l.labels) l.lines l.all_accepted × AreReadFor first.context l.readings
+    AreLinesSoFar (meaning l.verifier.conf.now) l.verifier.moment l.fn.exchange.context (take l.label-index l.labels) l.lines l.all_accepted × (l.exchange.context ≡ l.fn.exchange.context)

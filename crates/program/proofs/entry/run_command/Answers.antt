@@ -1,11 +1,12 @@
 use Rattle.std.proofs.Common.{◌≡◌, ◌+◌, ◌≤◌, map, string_bytes, refl, Ok}
-use Rattle.command_line.specs.Command.{CommandLine, Help, Version, Base, Verify, Sign, Rewrite, Audit, Sample, base_words, verify_words, sign_words, rewrite_words, audit_words, sample_words, line_of}
-use Rattle.commands.specs.Files.{Conf, Request, Script, file_bytes, file_count}
+use Rattle.command_line.specs.Command.{CommandLine, Help, HelpOf, Version, Base, Verify, Sign, Rewrite, Audit, Sample, base_words, verify_words, sign_words, rewrite_words, audit_words, sample_words, line_of}
+use Rattle.commands.specs.Files.{Conf, file_bytes}
 use Rattle.program.specs.Commands.{input_use, name_of, LosesFew}
 use Rattle.command_line.proofs.Moments.{sample_bounded}
+use Rattle.program.proofs.AskedFiles.{asks_of, conf_asked, no_more, none_asked}
 use Rattle.program.proofs.Sampled.{sampled}
 use Rattle.program.proofs.Sources.{none_gone}
-use Rattle.program.proofs.Reports.{alone, never_read, never, no_command, none_named, nothing_named, of_command, spelled}
+use Rattle.program.proofs.Reports.{alone, never_read, never, no_command, nothing_named, of_command, spelled}
 use Rattle.program.proofs.entry.run_command.Goals as goal
 
 pub returns-in_default-clause-report : goal.returns-in_default-clause-report
@@ -17,7 +18,8 @@ pub returns-in_default-clause-few : goal.returns-in_default-clause-few
 returns-in_default-clause-few g c = λ command is. absurd (c.in_default.ensures.none command is)
 
 pub returns-in_default-clause-asked : goal.returns-in_default-clause-asked
-returns-in_default-clause-asked g c = λ command is. absurd (c.in_default.ensures.none command is)
+returns-in_default-clause-asked g c =
+    record { until = λ command is. absurd (c.in_default.ensures.none command is); most = λ command is. absurd (c.in_default.ensures.none command is) }
 
 pub returns-in_default-clause-reached : goal.returns-in_default-clause-reached
 returns-in_default-clause-reached g c = λ command is. absurd (c.in_default.ensures.none command is)
@@ -30,6 +32,23 @@ returns-in_ok-write_help-in-Help-clause-report g c =
     (alone Help (g.F.Shelf.files c.args.shelf.now) (c.args.source.now ≡ c.args.source.now) (g.S.Source.left c.args.source.now) (g.S.Source.left c.args.source.now) outcome refl (nothing_named (g.F.Shelf.files c.args.shelf.now)) refl
     (λ found input. c.in_ok-write_help-in-Help.ensures))
 
+pub returns-in_ok-write_help-in-Help-clause-asked : goal.returns-in_ok-write_help-in-Help-clause-asked
+returns-in_ok-write_help-in-Help-clause-asked g c =
+    asks_of (map string_bytes c.args.arguments.now) Help (rw c.in-Help.is at c.in-Some.ensures.some) (Ok c.in_ok-write_help-in-Help.field-0) (g.F.Shelf.asked c.args.shelf.now) (g.F.Shelf.asked c.args.shelf.now) (none_asked (Ok c.in_ok-write_help-in-Help.field-0) (g.F.Shelf.asked c.args.shelf.now)) (no_more (g.F.Shelf.asked c.args.shelf.now))
+
+pub returns-in_ok-write_help_of-in-HelpOf-clause-report : goal.returns-in_ok-write_help_of-in-HelpOf-clause-report
+returns-in_ok-write_help_of-in-HelpOf-clause-report g c =
+    let outcome = c.in_ok-write_help_of-in-HelpOf.field-0 in
+    let line = HelpOf c.in-HelpOf.name in
+    spelled (map string_bytes c.args.arguments.now) line (rw c.in-HelpOf.is at c.in-Some.ensures.some) (g.F.Shelf.files c.args.shelf.now) (c.args.source.now ≡ c.args.source.now)
+    (g.S.Source.left c.args.source.now) (g.S.Source.left c.args.source.now) (Ok outcome)
+    (alone line (g.F.Shelf.files c.args.shelf.now) (c.args.source.now ≡ c.args.source.now) (g.S.Source.left c.args.source.now) (g.S.Source.left c.args.source.now) outcome refl (nothing_named (g.F.Shelf.files c.args.shelf.now)) refl
+    (λ found input. c.in_ok-write_help_of-in-HelpOf.ensures))
+
+pub returns-in_ok-write_help_of-in-HelpOf-clause-asked : goal.returns-in_ok-write_help_of-in-HelpOf-clause-asked
+returns-in_ok-write_help_of-in-HelpOf-clause-asked g c =
+    asks_of (map string_bytes c.args.arguments.now) (HelpOf c.in-HelpOf.name) (rw c.in-HelpOf.is at c.in-Some.ensures.some) (Ok c.in_ok-write_help_of-in-HelpOf.field-0) (g.F.Shelf.asked c.args.shelf.now) (g.F.Shelf.asked c.args.shelf.now) (none_asked (Ok c.in_ok-write_help_of-in-HelpOf.field-0) (g.F.Shelf.asked c.args.shelf.now)) (no_more (g.F.Shelf.asked c.args.shelf.now))
+
 pub returns-in_ok-write_version-in-Version-clause-report : goal.returns-in_ok-write_version-in-Version-clause-report
 returns-in_ok-write_version-in-Version-clause-report g c =
     let outcome = c.in_ok-write_version-in-Version.field-0 in
@@ -38,111 +57,125 @@ returns-in_ok-write_version-in-Version-clause-report g c =
     (alone Version (g.F.Shelf.files c.args.shelf.now) (c.args.source.now ≡ c.args.source.now) (g.S.Source.left c.args.source.now) (g.S.Source.left c.args.source.now) outcome refl (nothing_named (g.F.Shelf.files c.args.shelf.now)) refl
     (λ found input. c.in_ok-write_version-in-Version.ensures))
 
+pub returns-in_ok-write_version-in-Version-clause-asked : goal.returns-in_ok-write_version-in-Version-clause-asked
+returns-in_ok-write_version-in-Version-clause-asked g c =
+    asks_of (map string_bytes c.args.arguments.now) Version (rw c.in-Version.is at c.in-Some.ensures.some) (Ok c.in_ok-write_version-in-Version.field-0) (g.F.Shelf.asked c.args.shelf.now) (g.F.Shelf.asked c.args.shelf.now) (none_asked (Ok c.in_ok-write_version-in-Version.field-0) (g.F.Shelf.asked c.args.shelf.now)) (no_more (g.F.Shelf.asked c.args.shelf.now))
+
 pub returns-in-Base-clause-report : goal.returns-in-Base-clause-report
 returns-in-Base-clause-report g c =
     spelled (map string_bytes c.args.arguments.now) (Base (base_words c.in-Base.words)) (rw c.in-Base.is at c.in-Some.ensures.some) (g.F.Shelf.files c.args.shelf.now)
-    (c.over_files.new.source ≡ c.args.source.now) (g.S.Source.left c.args.source.now) (g.S.Source.left c.over_files.new.source) c.over_files.result c.over_files.ensures.report
+    (c.over_message.new.source ≡ c.args.source.now) (g.S.Source.left c.args.source.now) (g.S.Source.left c.over_message.new.source) c.over_message.result c.over_message.ensures.report
 
 pub returns-in-Base-clause-few : goal.returns-in-Base-clause-few
 returns-in-Base-clause-few g c =
-    of_command (λ (line : CommandLine). LosesFew (input_use line) (g.S.Source.left c.args.source.now) (g.S.Source.left c.over_files.new.source))
-    (map string_bytes c.args.arguments.now) (Base (base_words c.in-Base.words)) (rw c.in-Base.is at c.in-Some.ensures.some) c.over_files.ensures.few
+    of_command (λ (line : CommandLine). LosesFew (input_use line) (g.S.Source.left c.args.source.now) (g.S.Source.left c.over_message.new.source))
+    (map string_bytes c.args.arguments.now) (Base (base_words c.in-Base.words)) (rw c.in-Base.is at c.in-Some.ensures.some) c.over_message.ensures.few
 
 pub returns-in-Base-clause-asked : goal.returns-in-Base-clause-asked
 returns-in-Base-clause-asked g c =
-    of_command (λ (line : CommandLine). g.F.Shelf.asked c.over_files.new.shelf ≤ g.F.Shelf.asked c.args.shelf.now + file_count (name_of line))
-    (map string_bytes c.args.arguments.now) (Base (base_words c.in-Base.words)) (rw c.in-Base.is at c.in-Some.ensures.some) c.over_files.ensures.asked
+    asks_of (map string_bytes c.args.arguments.now) (Base (base_words c.in-Base.words)) (rw c.in-Base.is at c.in-Some.ensures.some) c.over_message.result (g.F.Shelf.asked c.args.shelf.now) (g.F.Shelf.asked c.over_message.new.shelf)
+    c.over_message.ensures.asked c.over_message.ensures.asks.asks
 
 pub returns-in-Base-clause-reached : goal.returns-in-Base-clause-reached
 returns-in-Base-clause-reached g c =
-    of_command (λ (line : CommandLine). g.F.Shelf.reached c.over_files.new.shelf ≤ g.F.Shelf.reached c.args.shelf.now + file_bytes (name_of line))
-    (map string_bytes c.args.arguments.now) (Base (base_words c.in-Base.words)) (rw c.in-Base.is at c.in-Some.ensures.some) c.over_files.ensures.reached
+    of_command (λ (line : CommandLine). g.F.Shelf.reached c.over_message.new.shelf ≤ g.F.Shelf.reached c.args.shelf.now + file_bytes (name_of line))
+    (map string_bytes c.args.arguments.now) (Base (base_words c.in-Base.words)) (rw c.in-Base.is at c.in-Some.ensures.some) c.over_message.ensures.asks.reaches
 
 pub returns-in-Base-clause-unread : goal.returns-in-Base-clause-unread
 returns-in-Base-clause-unread g c = λ none. never_read _ (none (Base (base_words c.in-Base.words)) (rw c.in-Base.is at c.in-Some.ensures.some))
 
 pub returns-in-Base-clause-unasked : goal.returns-in-Base-clause-unasked
-returns-in-Base-clause-unasked g c = λ named.
-    let none = named (Base (base_words c.in-Base.words)) (rw c.in-Base.is at c.in-Some.ensures.some) in
-    none_named (λ word. word.now) c.in-Base.words.request _ (none Request) (none_named (λ word. word.now) c.in-Base.words.conf _ (none Conf) c.over_files.ensures.unasked)
+returns-in-Base-clause-unasked g c = λ named. c.over_message.ensures.asks.unasked (named (Base (base_words c.in-Base.words)) (rw c.in-Base.is at c.in-Some.ensures.some))
+
+pub returns-in-Base-clause-files : goal.returns-in-Base-clause-files
+returns-in-Base-clause-files g c = c.over_message.ensures.asks.files
 
 pub returns-in-Verify-clause-report : goal.returns-in-Verify-clause-report
 returns-in-Verify-clause-report g c =
     spelled (map string_bytes c.args.arguments.now) (Verify (verify_words c.in-Verify.words)) (rw c.in-Verify.is at c.in-Some.ensures.some) (g.F.Shelf.files c.args.shelf.now)
-    (c.over_files-in-Verify.new.source ≡ c.args.source.now) (g.S.Source.left c.args.source.now) (g.S.Source.left c.over_files-in-Verify.new.source) c.over_files-in-Verify.result c.over_files-in-Verify.ensures.report
+    (c.over_message-in-Verify.new.source ≡ c.args.source.now) (g.S.Source.left c.args.source.now) (g.S.Source.left c.over_message-in-Verify.new.source) c.over_message-in-Verify.result c.over_message-in-Verify.ensures.report
 
 pub returns-in-Verify-clause-few : goal.returns-in-Verify-clause-few
 returns-in-Verify-clause-few g c =
-    of_command (λ (line : CommandLine). LosesFew (input_use line) (g.S.Source.left c.args.source.now) (g.S.Source.left c.over_files-in-Verify.new.source))
-    (map string_bytes c.args.arguments.now) (Verify (verify_words c.in-Verify.words)) (rw c.in-Verify.is at c.in-Some.ensures.some) c.over_files-in-Verify.ensures.few
+    of_command (λ (line : CommandLine). LosesFew (input_use line) (g.S.Source.left c.args.source.now) (g.S.Source.left c.over_message-in-Verify.new.source))
+    (map string_bytes c.args.arguments.now) (Verify (verify_words c.in-Verify.words)) (rw c.in-Verify.is at c.in-Some.ensures.some) c.over_message-in-Verify.ensures.few
 
 pub returns-in-Verify-clause-asked : goal.returns-in-Verify-clause-asked
 returns-in-Verify-clause-asked g c =
-    of_command (λ (line : CommandLine). g.F.Shelf.asked c.over_files-in-Verify.new.shelf ≤ g.F.Shelf.asked c.args.shelf.now + file_count (name_of line))
-    (map string_bytes c.args.arguments.now) (Verify (verify_words c.in-Verify.words)) (rw c.in-Verify.is at c.in-Some.ensures.some) c.over_files-in-Verify.ensures.asked
+    asks_of (map string_bytes c.args.arguments.now) (Verify (verify_words c.in-Verify.words)) (rw c.in-Verify.is at c.in-Some.ensures.some) c.over_message-in-Verify.result (g.F.Shelf.asked c.args.shelf.now) (g.F.Shelf.asked c.over_message-in-Verify.new.shelf)
+    c.over_message-in-Verify.ensures.asked c.over_message-in-Verify.ensures.asks.asks
 
 pub returns-in-Verify-clause-reached : goal.returns-in-Verify-clause-reached
 returns-in-Verify-clause-reached g c =
-    of_command (λ (line : CommandLine). g.F.Shelf.reached c.over_files-in-Verify.new.shelf ≤ g.F.Shelf.reached c.args.shelf.now + file_bytes (name_of line))
-    (map string_bytes c.args.arguments.now) (Verify (verify_words c.in-Verify.words)) (rw c.in-Verify.is at c.in-Some.ensures.some) c.over_files-in-Verify.ensures.reached
+    of_command (λ (line : CommandLine). g.F.Shelf.reached c.over_message-in-Verify.new.shelf ≤ g.F.Shelf.reached c.args.shelf.now + file_bytes (name_of line))
+    (map string_bytes c.args.arguments.now) (Verify (verify_words c.in-Verify.words)) (rw c.in-Verify.is at c.in-Some.ensures.some) c.over_message-in-Verify.ensures.asks.reaches
 
 pub returns-in-Verify-clause-unread : goal.returns-in-Verify-clause-unread
 returns-in-Verify-clause-unread g c = λ none. never_read _ (none (Verify (verify_words c.in-Verify.words)) (rw c.in-Verify.is at c.in-Some.ensures.some))
 
 pub returns-in-Verify-clause-unasked : goal.returns-in-Verify-clause-unasked
-returns-in-Verify-clause-unasked g c = λ named. never c.in-Verify.words.conf.now (named (Verify (verify_words c.in-Verify.words)) (rw c.in-Verify.is at c.in-Some.ensures.some) Conf)
+returns-in-Verify-clause-unasked g c = λ named. c.over_message-in-Verify.ensures.asks.unasked (named (Verify (verify_words c.in-Verify.words)) (rw c.in-Verify.is at c.in-Some.ensures.some))
+
+pub returns-in-Verify-clause-files : goal.returns-in-Verify-clause-files
+returns-in-Verify-clause-files g c = c.over_message-in-Verify.ensures.asks.files
 
 pub returns-in-Sign-clause-report : goal.returns-in-Sign-clause-report
 returns-in-Sign-clause-report g c =
     spelled (map string_bytes c.args.arguments.now) (Sign (sign_words c.in-Sign.words)) (rw c.in-Sign.is at c.in-Some.ensures.some) (g.F.Shelf.files c.args.shelf.now)
-    (c.over_files-in-Sign.new.source ≡ c.args.source.now) (g.S.Source.left c.args.source.now) (g.S.Source.left c.over_files-in-Sign.new.source) c.over_files-in-Sign.result c.over_files-in-Sign.ensures.report
+    (c.over_message-in-Sign.new.source ≡ c.args.source.now) (g.S.Source.left c.args.source.now) (g.S.Source.left c.over_message-in-Sign.new.source) c.over_message-in-Sign.result c.over_message-in-Sign.ensures.report
 
 pub returns-in-Sign-clause-few : goal.returns-in-Sign-clause-few
 returns-in-Sign-clause-few g c =
-    of_command (λ (line : CommandLine). LosesFew (input_use line) (g.S.Source.left c.args.source.now) (g.S.Source.left c.over_files-in-Sign.new.source))
-    (map string_bytes c.args.arguments.now) (Sign (sign_words c.in-Sign.words)) (rw c.in-Sign.is at c.in-Some.ensures.some) c.over_files-in-Sign.ensures.few
+    of_command (λ (line : CommandLine). LosesFew (input_use line) (g.S.Source.left c.args.source.now) (g.S.Source.left c.over_message-in-Sign.new.source))
+    (map string_bytes c.args.arguments.now) (Sign (sign_words c.in-Sign.words)) (rw c.in-Sign.is at c.in-Some.ensures.some) c.over_message-in-Sign.ensures.few
 
 pub returns-in-Sign-clause-asked : goal.returns-in-Sign-clause-asked
 returns-in-Sign-clause-asked g c =
-    of_command (λ (line : CommandLine). g.F.Shelf.asked c.over_files-in-Sign.new.shelf ≤ g.F.Shelf.asked c.args.shelf.now + file_count (name_of line))
-    (map string_bytes c.args.arguments.now) (Sign (sign_words c.in-Sign.words)) (rw c.in-Sign.is at c.in-Some.ensures.some) c.over_files-in-Sign.ensures.asked
+    asks_of (map string_bytes c.args.arguments.now) (Sign (sign_words c.in-Sign.words)) (rw c.in-Sign.is at c.in-Some.ensures.some) c.over_message-in-Sign.result (g.F.Shelf.asked c.args.shelf.now) (g.F.Shelf.asked c.over_message-in-Sign.new.shelf)
+    c.over_message-in-Sign.ensures.asked c.over_message-in-Sign.ensures.asks.asks
 
 pub returns-in-Sign-clause-reached : goal.returns-in-Sign-clause-reached
 returns-in-Sign-clause-reached g c =
-    of_command (λ (line : CommandLine). g.F.Shelf.reached c.over_files-in-Sign.new.shelf ≤ g.F.Shelf.reached c.args.shelf.now + file_bytes (name_of line))
-    (map string_bytes c.args.arguments.now) (Sign (sign_words c.in-Sign.words)) (rw c.in-Sign.is at c.in-Some.ensures.some) c.over_files-in-Sign.ensures.reached
+    of_command (λ (line : CommandLine). g.F.Shelf.reached c.over_message-in-Sign.new.shelf ≤ g.F.Shelf.reached c.args.shelf.now + file_bytes (name_of line))
+    (map string_bytes c.args.arguments.now) (Sign (sign_words c.in-Sign.words)) (rw c.in-Sign.is at c.in-Some.ensures.some) c.over_message-in-Sign.ensures.asks.reaches
 
 pub returns-in-Sign-clause-unread : goal.returns-in-Sign-clause-unread
 returns-in-Sign-clause-unread g c = λ none. never_read _ (none (Sign (sign_words c.in-Sign.words)) (rw c.in-Sign.is at c.in-Some.ensures.some))
 
 pub returns-in-Sign-clause-unasked : goal.returns-in-Sign-clause-unasked
-returns-in-Sign-clause-unasked g c = λ named. never c.in-Sign.words.conf.now (named (Sign (sign_words c.in-Sign.words)) (rw c.in-Sign.is at c.in-Some.ensures.some) Conf)
+returns-in-Sign-clause-unasked g c = λ named. c.over_message-in-Sign.ensures.asks.unasked (named (Sign (sign_words c.in-Sign.words)) (rw c.in-Sign.is at c.in-Some.ensures.some))
+
+pub returns-in-Sign-clause-files : goal.returns-in-Sign-clause-files
+returns-in-Sign-clause-files g c = c.over_message-in-Sign.ensures.asks.files
 
 pub returns-in-Rewrite-clause-report : goal.returns-in-Rewrite-clause-report
 returns-in-Rewrite-clause-report g c =
     spelled (map string_bytes c.args.arguments.now) (Rewrite (rewrite_words c.in-Rewrite.words)) (rw c.in-Rewrite.is at c.in-Some.ensures.some) (g.F.Shelf.files c.args.shelf.now)
-    (c.over_files-in-Rewrite.new.source ≡ c.args.source.now) (g.S.Source.left c.args.source.now) (g.S.Source.left c.over_files-in-Rewrite.new.source) c.over_files-in-Rewrite.result c.over_files-in-Rewrite.ensures.report
+    (c.over_message-in-Rewrite.new.source ≡ c.args.source.now) (g.S.Source.left c.args.source.now) (g.S.Source.left c.over_message-in-Rewrite.new.source) c.over_message-in-Rewrite.result c.over_message-in-Rewrite.ensures.report
 
 pub returns-in-Rewrite-clause-few : goal.returns-in-Rewrite-clause-few
 returns-in-Rewrite-clause-few g c =
-    of_command (λ (line : CommandLine). LosesFew (input_use line) (g.S.Source.left c.args.source.now) (g.S.Source.left c.over_files-in-Rewrite.new.source))
-    (map string_bytes c.args.arguments.now) (Rewrite (rewrite_words c.in-Rewrite.words)) (rw c.in-Rewrite.is at c.in-Some.ensures.some) c.over_files-in-Rewrite.ensures.few
+    of_command (λ (line : CommandLine). LosesFew (input_use line) (g.S.Source.left c.args.source.now) (g.S.Source.left c.over_message-in-Rewrite.new.source))
+    (map string_bytes c.args.arguments.now) (Rewrite (rewrite_words c.in-Rewrite.words)) (rw c.in-Rewrite.is at c.in-Some.ensures.some) c.over_message-in-Rewrite.ensures.few
 
 pub returns-in-Rewrite-clause-asked : goal.returns-in-Rewrite-clause-asked
 returns-in-Rewrite-clause-asked g c =
-    of_command (λ (line : CommandLine). g.F.Shelf.asked c.over_files-in-Rewrite.new.shelf ≤ g.F.Shelf.asked c.args.shelf.now + file_count (name_of line))
-    (map string_bytes c.args.arguments.now) (Rewrite (rewrite_words c.in-Rewrite.words)) (rw c.in-Rewrite.is at c.in-Some.ensures.some) c.over_files-in-Rewrite.ensures.asked
+    asks_of (map string_bytes c.args.arguments.now) (Rewrite (rewrite_words c.in-Rewrite.words)) (rw c.in-Rewrite.is at c.in-Some.ensures.some) c.over_message-in-Rewrite.result (g.F.Shelf.asked c.args.shelf.now) (g.F.Shelf.asked c.over_message-in-Rewrite.new.shelf)
+    c.over_message-in-Rewrite.ensures.asked c.over_message-in-Rewrite.ensures.asks.asks
 
 pub returns-in-Rewrite-clause-reached : goal.returns-in-Rewrite-clause-reached
 returns-in-Rewrite-clause-reached g c =
-    of_command (λ (line : CommandLine). g.F.Shelf.reached c.over_files-in-Rewrite.new.shelf ≤ g.F.Shelf.reached c.args.shelf.now + file_bytes (name_of line))
-    (map string_bytes c.args.arguments.now) (Rewrite (rewrite_words c.in-Rewrite.words)) (rw c.in-Rewrite.is at c.in-Some.ensures.some) c.over_files-in-Rewrite.ensures.reached
+    of_command (λ (line : CommandLine). g.F.Shelf.reached c.over_message-in-Rewrite.new.shelf ≤ g.F.Shelf.reached c.args.shelf.now + file_bytes (name_of line))
+    (map string_bytes c.args.arguments.now) (Rewrite (rewrite_words c.in-Rewrite.words)) (rw c.in-Rewrite.is at c.in-Some.ensures.some) c.over_message-in-Rewrite.ensures.asks.reaches
 
 pub returns-in-Rewrite-clause-unread : goal.returns-in-Rewrite-clause-unread
 returns-in-Rewrite-clause-unread g c = λ none. never_read _ (none (Rewrite (rewrite_words c.in-Rewrite.words)) (rw c.in-Rewrite.is at c.in-Some.ensures.some))
 
 pub returns-in-Rewrite-clause-unasked : goal.returns-in-Rewrite-clause-unasked
-returns-in-Rewrite-clause-unasked g c = λ named. never c.in-Rewrite.words.script.now (named (Rewrite (rewrite_words c.in-Rewrite.words)) (rw c.in-Rewrite.is at c.in-Some.ensures.some) Script)
+returns-in-Rewrite-clause-unasked g c = λ named. c.over_message-in-Rewrite.ensures.asks.unasked (named (Rewrite (rewrite_words c.in-Rewrite.words)) (rw c.in-Rewrite.is at c.in-Some.ensures.some))
+
+pub returns-in-Rewrite-clause-files : goal.returns-in-Rewrite-clause-files
+returns-in-Rewrite-clause-files g c = c.over_message-in-Rewrite.ensures.asks.files
 
 pub returns-in-Audit-clause-report : goal.returns-in-Audit-clause-report
 returns-in-Audit-clause-report g c =
@@ -156,8 +189,8 @@ returns-in-Audit-clause-few g c =
 
 pub returns-in-Audit-clause-asked : goal.returns-in-Audit-clause-asked
 returns-in-Audit-clause-asked g c =
-    of_command (λ (line : CommandLine). g.F.Shelf.asked c.over_recording.new.shelf ≤ g.F.Shelf.asked c.args.shelf.now + file_count (name_of line))
-    (map string_bytes c.args.arguments.now) (Audit (audit_words c.in-Audit.words)) (rw c.in-Audit.is at c.in-Some.ensures.some) c.over_recording.ensures.asked
+    asks_of (map string_bytes c.args.arguments.now) (Audit (audit_words c.in-Audit.words)) (rw c.in-Audit.is at c.in-Some.ensures.some) c.over_recording.result (g.F.Shelf.asked c.args.shelf.now) (g.F.Shelf.asked c.over_recording.new.shelf)
+    (conf_asked c.in-Audit.words.conf.now c.over_recording.result (g.F.Shelf.asked c.args.shelf.now) (g.F.Shelf.asked c.over_recording.new.shelf) c.over_recording.ensures.asked) c.over_recording.ensures.asked
 
 pub returns-in-Audit-clause-reached : goal.returns-in-Audit-clause-reached
 returns-in-Audit-clause-reached g c =
@@ -189,3 +222,7 @@ pub returns-in-Sample-clause-few : goal.returns-in-Sample-clause-few
 returns-in-Sample-clause-few g c =
     of_command (λ (line : CommandLine). LosesFew (input_use line) (g.S.Source.left c.args.source.now) (g.S.Source.left c.args.source.now))
     (map string_bytes c.args.arguments.now) (Sample (sample_words c.in-Sample.words)) (rw c.in-Sample.is at c.in-Some.ensures.some) (none_gone 0 (g.S.Source.left c.args.source.now) (g.S.Source.left c.args.source.now) refl)
+
+pub returns-in-Sample-clause-asked : goal.returns-in-Sample-clause-asked
+returns-in-Sample-clause-asked g c =
+    asks_of (map string_bytes c.args.arguments.now) (Sample (sample_words c.in-Sample.words)) (rw c.in-Sample.is at c.in-Some.ensures.some) c.write_sample.result (g.F.Shelf.asked c.args.shelf.now) (g.F.Shelf.asked c.args.shelf.now) (none_asked c.write_sample.result (g.F.Shelf.asked c.args.shelf.now)) (no_more (g.F.Shelf.asked c.args.shelf.now))

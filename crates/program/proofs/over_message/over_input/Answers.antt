@@ -1,10 +1,9 @@
-use Rattle.std.specs.Prelude.{option_map}
 use Rattle.std.proofs.Common.{subst, sym}
-use Rattle.component_values.specs.Context.{HasWholeMessage, context_of}
-use Rattle.conf.specs.ConfMeaning.{meaning}
+use Rattle.component_values.specs.Context.{HasWholeMessage}
 use Rattle.msg_body.specs.Views.{message_of}
 use Rattle.commands.specs.Messages.{IsInputMessage}
 use Rattle.msg_body.specs.declared.whole.Reading.{Reading}
+use Rattle.program.specs.tools.Parts.{values_of}
 use Rattle.program.proofs.Sources.{after_answer, after_refusal, spelled_input}
 use Rattle.std.proofs.lemmas.Result.{err_from_is_err_and}
 use Rattle.program.proofs.over_message.over_input.Goals as goal
@@ -19,7 +18,7 @@ returns-clause-after g c = after_answer c.answer.result c.answer.ensures.own
 
 pub answer-requires-clause-whole : goal.answer-requires-clause-whole
 answer-requires-clause-whole g c =
-    let related = option_map (λ view. message_of view.now) c.args.related in
+    let related = (values_of c.args.files).related in
     let is = subst (λ (r : Reading). IsInputMessage r c.args.input.now (message_of c.in_ok-message.message)) c.of_input-reading.ensures c.in_ok-message.ensures.ok in
     subst HasWholeMessage (sym c.context_for-context.ensures)
     (spelled_input related c.args.input.now (message_of c.in_ok-message.message) is).is

@@ -8,13 +8,13 @@ use Rattle.samples.proofs.chain.sample_by.Goals as goal
 pub report_on-requires-clause-made : goal.report_on-requires-clause-made
 report_on-requires-clause-made c =
     let own = c.in_ok-first.ensures in
-    let is = is_made c.args.seed c.args.count c.in_ok-first.first own c.in_ok-made.made c.as_slice-hops.result.now c.as_slice-hops.ensures (c.in_ok-made.ensures own.signed own.spells) in
+    let is = is_made c.args.seed c.args.count c.in_ok-first.first own c.in_ok-made.made c.as_slice-hops.result.now c.as_slice-hops.ensures (c.in_ok-made.ensures own) in
     (c.args.seed, c.args.count, c.requires.count, is)
 
 pub summary_of-requires : goal.summary_of-requires
 summary_of-requires c =
     let own = c.in_ok-first.ensures in
-    let is = is_made c.args.seed c.args.count c.in_ok-first.first own c.in_ok-made.made c.as_slice-hops.result.now c.as_slice-hops.ensures (c.in_ok-made.ensures own.signed own.spells) in
+    let is = is_made c.args.seed c.args.count c.in_ok-first.first own c.in_ok-made.made c.as_slice-hops.result.now c.as_slice-hops.ensures (c.in_ok-made.ensures own) in
     let long = made_count c.args.seed c.args.count c.in_ok-first.first is.own c.as_slice-hops.result.now is.are in
     let few = c.requires.count in
     omega (arith, long, few)
@@ -23,7 +23,7 @@ pub returns : goal.returns
 returns c =
     let own = c.in_ok-first.ensures in
     let slice = c.as_slice-hops.result.now in
-    let is = is_made c.args.seed c.args.count c.in_ok-first.first own c.in_ok-made.made slice c.as_slice-hops.ensures (c.in_ok-made.ensures own.signed own.spells) in
+    let is = is_made c.args.seed c.args.count c.in_ok-first.first own c.in_ok-made.made slice c.as_slice-hops.ensures (c.in_ok-made.ensures own) in
     sample_is c.args.seed c.args.count c.in_ok-first.first is.own slice is.are c.in_ok-lines.lines c.summary_of.result
     (c.in_ok-lines.ensures c.args.seed c.args.count c.requires.count is)
     (summary_fits c.args.seed c.args.count c.in_ok-first.first is.own slice is.are c.in_ok-lines.lines c.summary_of.result

@@ -1,9 +1,11 @@
 use Rattle.std.proofs.Common.{refl}
 use Rattle.std.proofs.lemmas.Bool.{false≢true}
+use Rattle.sig_base.specs.SignatureBase.{signature_base}
 use Rattle.verdicts.proofs.mac.judge_tag.Goals as goal
 
-pub returns-then-is_tag : goal.returns-then-is_tag
-returns-then-is_tag c = (c.if-is_tag.ensures c.args.key.now c.hmac.ensures.absorbed).0 refl
+pub returns-then-has_tag : goal.returns-then-has_tag
+returns-then-has_tag c = λ params values key absorbed. (c.if-has_tag.ensures key (signature_base params values) absorbed).0 refl
 
-pub returns-else-is_tag : goal.returns-else-is_tag
-returns-else-is_tag c = (refl, refl, λ e. false≢true ((c.if-is_tag.ensures c.args.key.now c.hmac.ensures.absorbed).1 e))
+pub returns-else-has_tag : goal.returns-else-has_tag
+returns-else-has_tag c = λ params values key absorbed.
+    (refl, refl, λ e. false≢true ((c.if-has_tag.ensures key (signature_base params values) absorbed).1 e))

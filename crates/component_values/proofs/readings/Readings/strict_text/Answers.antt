@@ -3,11 +3,11 @@ use Rattle.msg_head.specs.Values.{joined_value}
 use Rattle.component_ids.specs.Types.{kind_in}
 use Rattle.component_ids.specs.declared.types.FieldKind.{FieldKind}
 use Rattle.component_values.specs.Context.{context_of}
-use Rattle.component_values.specs.Readings.{text_at}
+use Rattle.component_values.specs.Readings.{field_of, text_at}
 use Rattle.component_values.specs.tools.Rows.{field_meant}
 use Rattle.component_values.specs.Values.{KindRow}
 use Rattle.component_values.specs.declared.context_field.ContextField.{ContextField}
-use Rattle.component_values.proofs.FieldAnswers.{strict_more}
+use Rattle.component_values.proofs.FieldAnswers.{after_each, has_kept, has_new, strict_more}
 use Rattle.component_values.proofs.readings.Readings.strict_text.Goals as goal
 
 pub returns-clause-readings : goal.returns-clause-readings
@@ -22,3 +22,13 @@ returns-clause-readings c =
       texts = rw c.in_ok-keep.ensures.ok (strict_more context c.args.self.now.texts (field_meant c.of-field.result) c.in_ok-answer.answer text c.requires.readings.texts is row);
       dicts = c.requires.readings.dicts;
     }
+
+pub returns-in-Some-clause-kept : goal.returns-in-Some-clause-kept
+returns-in-Some-clause-kept c =
+    after_each c.copied_text.result
+    (has_kept c.args.self.now.texts (field_meant c.of-field.result) (field_of c.args.id.now) c.in-Some.answer.now (rw c.as_slice.ensures at c.in-Some.ensures.some) c.of-field.ensures)
+
+pub returns-clause-kept : goal.returns-clause-kept
+returns-clause-kept c =
+    after_each c.copied_text-text.result
+    (rw c.in_ok-keep.ensures.ok (has_new c.args.self.now.texts (field_meant c.of-field.result) (field_of c.args.id.now) c.in_ok-answer.answer c.of-field.ensures))

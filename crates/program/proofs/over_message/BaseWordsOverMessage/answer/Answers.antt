@@ -1,4 +1,4 @@
-use Rattle.component_values.specs.Context.{context_of}
+use Rattle.program.specs.Intake.{taken_of}
 use Rattle.program.proofs.Layers.{went_on}
 use Rattle.program.proofs.Sources.{own_of_base}
 use Rattle.program.proofs.over_message.BaseWordsOverMessage.answer.Goals as goal
@@ -8,4 +8,4 @@ returns-clause-report c = rw c.as_bytes.ensures.value at c.write_base.ensures.re
 
 pub returns-clause-own : goal.returns-clause-own
 returns-clause-own c =
-    went_on (own_of_base c.as_bytes.result.now (context_of c.args.context.now)) c.write_base.result c.write_base.ensures.report
+    went_on (own_of_base c.as_bytes.result.now (taken_of c.args.taken.now).context) c.write_base.result c.write_base.ensures.report

@@ -1,9 +1,9 @@
 use Rattle.std.specs.Prelude.{option_map}
-use Rattle.component_values.specs.Context.{context_of}
+use Rattle.program.specs.Intake.{taken_of}
 use Rattle.program.proofs.Layers.{went_on}
 use Rattle.program.proofs.Sources.{own_of_rewriting}
 use Rattle.program.proofs.over_message.RewriteWordsOverMessage.answer.Goals as goal
 
 pub returns-clause-own : goal.returns-clause-own
 returns-clause-own c =
-    went_on (own_of_rewriting (option_map (λ word. word.now) c.args.self.now.label) c.args.script.now (context_of c.args.context.now)) c.write_rewritten.result c.write_rewritten.ensures.report
+    went_on (own_of_rewriting (option_map (λ word. word.now) c.args.self.now.label) (taken_of c.args.taken.now).script (taken_of c.args.taken.now).context) c.write_rewritten.result c.write_rewritten.ensures.report

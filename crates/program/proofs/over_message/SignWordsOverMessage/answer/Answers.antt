@@ -1,20 +1,19 @@
 use Rattle.std.proofs.Common.{Some, None}
 use Rattle.std.specs.Prelude.{option_map}
-use Rattle.component_values.specs.Context.{context_of}
-use Rattle.conf.specs.ConfMeaning.{meaning}
 use Rattle.msg_body.specs.Views.{message_of}
+use Rattle.program.specs.Intake.{taken_of}
 use Rattle.program.proofs.Layers.{went_on}
 use Rattle.program.proofs.Sources.{own_of_signing}
 use Rattle.program.proofs.over_message.SignWordsOverMessage.answer.Goals as goal
 
 pub returns-in-None-clause-own : goal.returns-in-None-clause-own
 returns-in-None-clause-own c =
-    went_on (own_of_signing (option_map (λ word. word.now) c.args.self.now.nonce) c.args.self.now.now (meaning c.args.conf.now) None (context_of c.args.context.now)) c.write_signed.result c.write_signed.ensures.report
+    went_on (own_of_signing (option_map (λ word. word.now) c.args.self.now.nonce) c.args.self.now.now (taken_of c.args.taken.now).conf None (taken_of c.args.taken.now).context) c.write_signed.result c.write_signed.ensures.report
 
 pub returns-in-Some-clause-own : goal.returns-in-Some-clause-own
 returns-in-Some-clause-own c =
-    went_on (own_of_signing (option_map (λ word. word.now) c.args.self.now.nonce) c.args.self.now.now (meaning c.args.conf.now) (Some (message_of c.in-Some.wishes.now)) (context_of c.args.context.now)) c.write_wished.result
-    c.write_wished.ensures.report
+    went_on (own_of_signing (option_map (λ word. word.now) c.args.self.now.nonce) c.args.self.now.now (taken_of c.args.taken.now).conf (Some (message_of c.in-Some.wishes.now)) (taken_of c.args.taken.now).context)
+    c.write_wished.result c.write_wished.ensures.report
 
 pub returns-in-None-clause-report : goal.returns-in-None-clause-report
 returns-in-None-clause-report c = rw c.in-None.is c.write_signed.ensures.report

@@ -1,0 +1,11 @@
+use Rattle.std.proofs.Common.{List, ℕ, map, string_bytes, subst, sym}
+use Rattle.command_line.specs.tools.After.{NoneAfter}
+use Rattle.command_line.proofs.OptionLists.{if_none}
+use Rattle.command_line.proofs.SomeCommand.{name_is}
+use Rattle.command_line.proofs.command.read_named.Goals as goal
+
+pub returns-in-Some-clause-none : goal.returns-in-Some-clause-none
+returns-in-Some-clause-none c =
+    if_none c.read_command.result
+    (λ none. subst (λ (word : List ℕ). NoneAfter word (map string_bytes c.args.words.now)) (sym (name_is c.args.name.now c.in-Some.command (sym c.in-Some.ensures))) none)
+    c.read_command.ensures.none

@@ -1,0 +1,5 @@
+pub mod Contexts
+pub mod ContentDigests
+pub mod Exchanges
+pub mod MessageSignatures
+pub mod tools

@@ -1,0 +1,188 @@
+-- How many files are asked for.
+use Rattle.std.proofs.Common.{◌≡◌, ◌+◌, ◌≤◌, ◌∙◌, inl, inr, arith, ℕ, List, [], ◌∷◌, Option, Some, None, Result, Ok, Err, refl, sym, ap, subst}
+use Rattle.std.specs.Prelude.{option_map}
+use Rattle.hms_io.specs.Files.{FileMap}
+use Rattle.hms_io.specs.declared.read_write.FillError.{FillError}
+use Rattle.hms_io.specs.declared.read_write.FillError.TheVariants.{Memory as NoFillMemory, Failed, TooLong as Longer}
+use Rattle.hms_io.specs.declared.status.Status.{Status}
+use Rattle.command_line.specs.Command.{CommandLine, IsCommand}
+use Rattle.commands.specs.Files.{FileNames, FileRole, Conf, Request, Wanted, file_count, file_names}
+use Rattle.commands.specs.Stops.{IfOutcome, stop_of_fill}
+use Rattle.commands.specs.declared.outcome.Outcome.{Outcome}
+use Rattle.commands.specs.declared.outcome.Outcome.TheVariants.{Done, NotOk, Refused}
+use Rattle.commands.specs.declared.stop.Stop.{Stop}
+use Rattle.commands.specs.declared.stop.Stop.TheVariants.{Memory, ReadFault, Refused as IsRefused}
+use Rattle.refusals.specs.declared.file.FileRefusal.{FileRefusal}
+use Rattle.refusals.specs.declared.refusal.TheConstants.{MAX_CONF_BYTES, MAX_INPUT_BYTES}
+use Rattle.refusals.specs.declared.refusal.Refusal.{Refusal}
+use Rattle.refusals.specs.declared.refusal.Refusal.TheVariants.{Arguments, Of, Command}
+use Rattle.refusals.specs.declared.role.Role.{Role}
+use Rattle.refusals.specs.declared.role.Role.TheVariants as role
+use Rattle.program.specs.Commands.{name_of}
+use Rattle.program.specs.Ends.{AsksFor, AsksForNamed}
+use Rattle.program.specs.Intake.{named_count, read_order, roles_until}
+use Rattle.program.specs.declared.intake.FileWords.{FileWords}
+use Rattle.program.specs.tools.Parts.{AsksOf, AsksUntil, IsAfterInput, IsWritten, refusal_of, roles_read}
+use Rattle.program.proofs.Reports.{AsksOne, IfRefusedFor, of_command, one_counted, weighed}
+
+-- ---- how many of the first files have a name
+
+count_conf : (a b c d : Option (List ℕ)) → named_count (file_names a b c d) (Conf ∷ []) ≡ weighed 1 a
+count_conf None b c d = refl
+count_conf (Some x) b c d = refl
+
+count_request : (a b c d : Option (List ℕ)) → named_count (file_names a b c d) (Conf ∷ Request ∷ []) ≡ weighed 1 a + weighed 1 b
+count_request None None c d = refl
+count_request None (Some y) c d = refl
+count_request (Some x) None c d = refl
+count_request (Some x) (Some y) c d = refl
+
+count_wanted : (a b c d : Option (List ℕ)) → named_count (file_names a b c d) (Conf ∷ Request ∷ Wanted ∷ []) ≡ weighed 1 a + (weighed 1 b + weighed 1 c)
+count_wanted None None None d = refl
+count_wanted None None (Some z) d = refl
+count_wanted None (Some y) None d = refl
+count_wanted None (Some y) (Some z) d = refl
+count_wanted (Some x) None None d = refl
+count_wanted (Some x) None (Some z) d = refl
+count_wanted (Some x) (Some y) None d = refl
+count_wanted (Some x) (Some y) (Some z) d = refl
+
+-- ---- the files of words, in order
+
+two_summed : (total u v a b c : ℕ) → total ≡ u + v → b ≤ a + u → c ≤ b + v → c ≤ a + total
+two_summed total u v a b c is one two = omega (arith, is, one, two)
+
+three_summed : (total u v w a b c d : ℕ) → total ≡ u + (v + w) → b ≤ a + u → c ≤ b + v → d ≤ c + w → d ≤ a + total
+three_summed total u v w a b c d is one two three = omega (arith, is, one, two, three)
+
+module _ {X S : Type 0} (files : S → Option FileMap) (asked reached : S → ℕ) (f : X → List ℕ) (conf request wanted script : Option X) (a b c d : S) (one : AsksOne files asked reached (MAX_CONF_BYTES + 1) conf a b) where
+  pub asked_conf : asked b ≤ asked a + named_count (file_names (option_map f conf) (option_map f request) (option_map f wanted) (option_map f script)) (Conf ∷ [])
+  asked_conf =
+      subst (λ (n : ℕ). asked b ≤ asked a + n) (sym (count_conf (option_map f conf) (option_map f request) (option_map f wanted) (option_map f script))) (one_counted asked f 1 conf a b one.unasked one.asks)
+
+  pub asked_request : AsksOne files asked reached (MAX_INPUT_BYTES + 1) request b c
+      → asked c ≤ asked a + named_count (file_names (option_map f conf) (option_map f request) (option_map f wanted) (option_map f script)) (Conf ∷ Request ∷ [])
+  asked_request two =
+      two_summed (named_count (file_names (option_map f conf) (option_map f request) (option_map f wanted) (option_map f script)) (Conf ∷ Request ∷ [])) (weighed 1 (option_map f conf)) (weighed 1 (option_map f request)) (asked a) (asked b) (asked c)
+      (count_request (option_map f conf) (option_map f request) (option_map f wanted) (option_map f script)) (one_counted asked f 1 conf a b one.unasked one.asks) (one_counted asked f 1 request b c two.unasked two.asks)
+
+  pub asked_wanted : AsksOne files asked reached (MAX_INPUT_BYTES + 1) request b c → AsksOne files asked reached (MAX_INPUT_BYTES + 1) wanted c d
+      → asked d ≤ asked a + named_count (file_names (option_map f conf) (option_map f request) (option_map f wanted) (option_map f script)) (Conf ∷ Request ∷ Wanted ∷ [])
+  asked_wanted two three =
+      three_summed (named_count (file_names (option_map f conf) (option_map f request) (option_map f wanted) (option_map f script)) (Conf ∷ Request ∷ Wanted ∷ [])) (weighed 1 (option_map f conf)) (weighed 1 (option_map f request)) (weighed 1 (option_map f wanted))
+      (asked a) (asked b) (asked c) (asked d) (count_wanted (option_map f conf) (option_map f request) (option_map f wanted) (option_map f script)) (one_counted asked f 1 conf a b one.unasked one.asks)
+      (one_counted asked f 1 request b c two.unasked two.asks) (one_counted asked f 1 wanted c d three.unasked three.asks)
+
+-- ---- until an outcome
+
+-- a run that is refused by a file of this role, after so many files
+pub asked_until : (shelf : Option FileMap) (words : FileWords) (which : FileRole) (Causes : Option (List ℕ) → Option (List ℕ) → FileRefusal → Type 0) (own : Role) (stop : Stop) → IfRefusedFor shelf words which Causes own stop
+    → (roles : List FileRole) → ((cause : FileRefusal) → roles_until (Of own cause) ≡ roles) → (names : FileNames) (before now : ℕ) → now ≤ before + named_count names roles → AsksUntil names (Err stop) before now
+asked_until shelf words which Causes own Memory has roles until names before now is = tt
+asked_until shelf words which Causes own ReadFault has roles until names before now is = tt
+asked_until shelf words which Causes own (IsRefused refusal) has roles until names before now is =
+    let cause = has.holds in
+    let same : roles_until refusal ≡ roles = ap roles_until cause.2 ∙ until cause.0 in
+    subst (λ (rs : List FileRole). now ≤ before + named_count names rs) (sym same) is
+
+pub until_conf : (cause : FileRefusal) → roles_until (Of role.Conf cause) ≡ Conf ∷ []
+until_conf cause = refl
+
+pub until_request : (cause : FileRefusal) → roles_until (Of role.Request cause) ≡ Conf ∷ Request ∷ []
+until_request cause = refl
+
+pub until_wanted : (cause : FileRefusal) → roles_until (Of role.Wanted cause) ≡ Conf ∷ Request ∷ Wanted ∷ []
+until_wanted cause = refl
+
+pub until_script : (cause : FileRefusal) → roles_until (Of role.Script cause) ≡ read_order
+until_script cause = refl
+
+-- ---- once all files are read
+
+pub fill_late : (limit : ℕ) (error : FillError) → IfOutcome (Err (stop_of_fill limit error)) (λ outcome. roles_read outcome ≡ read_order)
+fill_late limit NoFillMemory = tt
+fill_late limit Failed = tt
+fill_late limit Longer = refl
+
+late : (outcome : Outcome) → IsAfterInput outcome → roles_read outcome ≡ read_order
+late (Done text) after = refl
+late (NotOk text) after = refl
+late (Refused Arguments) after = refl
+late (Refused (Of role.Conf r)) after = absurd after
+late (Refused (Of role.Request r)) after = absurd after
+late (Refused (Of role.Wanted r)) after = absurd after
+late (Refused (Of role.Script r)) after = refl
+late (Refused (Of role.Input r)) after = refl
+late (Refused (Of (role.Item n) r)) after = refl
+late (Refused (Command r)) after = refl
+
+pub answer_late : (result : Result Outcome Stop) → IfOutcome result IsAfterInput → IfOutcome result (λ outcome. roles_read outcome ≡ read_order)
+answer_late (Ok outcome) after = late outcome after
+answer_late (Err Memory) after = tt
+answer_late (Err ReadFault) after = tt
+answer_late (Err (IsRefused refusal)) after = late (Refused refusal) after
+
+pub late_asked : (names : FileNames) (before now : ℕ) → now ≤ before + file_count names → (result : Result Outcome Stop) → IfOutcome result (λ outcome. roles_read outcome ≡ read_order)
+    → AsksUntil names result before now
+late_asked names before now is (Ok outcome) same = subst (λ (rs : List FileRole). now ≤ before + named_count names rs) (sym same) is
+late_asked names before now is (Err Memory) same = tt
+late_asked names before now is (Err ReadFault) same = tt
+late_asked names before now is (Err (IsRefused refusal)) same = subst (λ (rs : List FileRole). now ≤ before + named_count names rs) (sym same) is
+
+-- ---- a command that names no file, or a configuration alone
+
+by_roles : (P : List FileRole → Type 0) → P (Conf ∷ []) → P (Conf ∷ Request ∷ []) → P (Conf ∷ Request ∷ Wanted ∷ []) → P read_order → (outcome : Outcome) → P (roles_read outcome)
+by_roles P one two three all (Done text) = all
+by_roles P one two three all (NotOk text) = all
+by_roles P one two three all (Refused Arguments) = all
+by_roles P one two three all (Refused (Of role.Conf r)) = one
+by_roles P one two three all (Refused (Of role.Request r)) = two
+by_roles P one two three all (Refused (Of role.Wanted r)) = three
+by_roles P one two three all (Refused (Of role.Script r)) = all
+by_roles P one two three all (Refused (Of role.Input r)) = all
+by_roles P one two three all (Refused (Of (role.Item n) r)) = all
+by_roles P one two three all (Refused (Command r)) = all
+
+on_outcome : (P : Outcome → Type 0) → ((outcome : Outcome) → P outcome) → (result : Result Outcome Stop) → IfOutcome result P
+on_outcome P holds (Ok outcome) = holds outcome
+on_outcome P holds (Err Memory) = tt
+on_outcome P holds (Err ReadFault) = tt
+on_outcome P holds (Err (IsRefused refusal)) = holds (Refused refusal)
+
+pub no_more : (count : ℕ) → count ≤ count + 0
+no_more count = omega arith
+
+pub none_asked : (result : Result Outcome Stop) (count : ℕ) → AsksUntil (file_names None None None None) result count count
+none_asked result count =
+    on_outcome (λ (o : Outcome). count ≤ count + named_count (file_names None None None None) (roles_read o))
+    (by_roles (λ (rs : List FileRole). count ≤ count + named_count (file_names None None None None) rs) (no_more count) (no_more count) (no_more count) (no_more count)) result
+
+pub conf_asked : (conf : List ℕ) (result : Result Outcome Stop) (before now : ℕ) → now ≤ before + 1 → AsksUntil (file_names (Some conf) None None None) result before now
+conf_asked conf result before now is =
+    on_outcome (λ (o : Outcome). now ≤ before + named_count (file_names (Some conf) None None None) (roles_read o))
+    (by_roles (λ (rs : List FileRole). now ≤ before + named_count (file_names (Some conf) None None None) rs) is is is is) result
+
+-- ---- for arguments
+
+pub asks_of : (arguments : List (List ℕ)) (command : CommandLine) → IsCommand arguments command → (result : Result Outcome Stop) (before now : ℕ) → AsksUntil (name_of command) result before now
+    → now ≤ before + file_count (name_of command) → AsksOf arguments result before now
+asks_of arguments command is result before now until most = record {
+  until = of_command (λ (line : CommandLine). AsksUntil (name_of line) result before now) arguments command is until;
+  most = of_command (λ (line : CommandLine). now ≤ before + file_count (name_of line)) arguments command is most;
+}
+
+-- by how the run ends
+asks_whole : (names : FileNames) (before now : ℕ) (outcome : Outcome) → now ≤ before + named_count names (roles_read outcome) → AsksFor names (refusal_of outcome) before now
+asks_whole names before now (Done text) is = is
+asks_whole names before now (NotOk text) is = is
+asks_whole names before now (Refused refusal) is = is
+
+pub asks_written : (arguments : List (List ℕ)) (outcome : Outcome) (taken now : Option (List ℕ)) (status : Status) (refusal : Option Refusal) (asked asked_now : ℕ) → IsWritten outcome taken now status refusal
+    → ((command : CommandLine) → IsCommand arguments command → asked_now ≤ asked + named_count (name_of command) (roles_read outcome))
+    → ((command : CommandLine) → IsCommand arguments command → asked_now ≤ asked + file_count (name_of command)) → AsksForNamed arguments refusal asked asked_now
+asks_written arguments outcome taken now status refusal asked asked_now (inl (is, told, all, bytes)) until most command spells =
+    subst (λ (r : Option Refusal). AsksFor (name_of command) r asked asked_now) (sym told) (asks_whole (name_of command) asked asked_now outcome (until command spells))
+asks_written arguments outcome taken now status refusal asked asked_now (inr (inl (is, none, prefix, bytes))) until most command spells =
+    subst (λ (r : Option Refusal). AsksFor (name_of command) r asked asked_now) (sym none) (most command spells)
+asks_written arguments outcome taken now status refusal asked asked_now (inr (inr (is, none, keeps))) until most command spells =
+    subst (λ (r : Option Refusal). AsksFor (name_of command) r asked asked_now) (sym none) (most command spells)

@@ -1,0 +1,21 @@
+-- The counts of faults where a file isn't taken, or isn't read.
+use Rattle.std.proofs.Common.{◌≡◌, ◌∙◌, inl, ℕ, Err, refl, subst}
+use Rattle.hms_io.specs.Cause.{Rose}
+use Rattle.commands.specs.Stops.{CountsStop, IfRefused}
+use Rattle.commands.specs.declared.stop.Stop.{Stop}
+use Rattle.commands.specs.declared.stop.Stop.TheVariants.{Memory, ReadFault, Refused as IsRefused}
+use Rattle.refusals.specs.declared.refusal.Refusal.{Refusal}
+use Rattle.program.specs.tools.Parts.{CountsOne}
+
+-- where a file isn't taken, only a failed read raises the shelf's count, and the source is untouched
+pub shelf_counts : (T Same : Type 0) (shelf middle shelf_now source : ℕ) (stop : Stop) → middle ≡ shelf → CountsStop {T = T} middle shelf_now (Err stop) → Same
+    → CountsOne Same shelf shelf_now source source (Err stop)
+shelf_counts T Same shelf middle shelf_now source Memory before counts same = (counts ∙ before, refl)
+shelf_counts T Same shelf middle shelf_now source ReadFault before counts same = inl (subst (λ (n : ℕ). Rose n shelf_now) before counts, same)
+shelf_counts T Same shelf middle shelf_now source (IsRefused refusal) before counts same = (counts ∙ before, refl)
+
+-- a text that is refused raises none
+pub text_counts : (Same : Type 0) (shelf shelf_now source : ℕ) (stop : Stop) (P : Refusal → Type 0) → IfRefused stop P → shelf_now ≡ shelf → CountsOne Same shelf shelf_now source source (Err stop)
+text_counts Same shelf shelf_now source Memory P is same = (same, refl)
+text_counts Same shelf shelf_now source ReadFault P is same = absurd is
+text_counts Same shelf shelf_now source (IsRefused refusal) P is same = (same, refl)

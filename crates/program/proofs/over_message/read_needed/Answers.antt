@@ -1,0 +1,20 @@
+use Rattle.std.specs.Prelude.{option_map}
+use Rattle.std.proofs.lemmas.Result.{err_from_is_err_and}
+use Rattle.conf.specs.ConfMeaning.{meaning}
+use Rattle.program.proofs.Reports.{conf_lacking, needed_had, table_lacking}
+use Rattle.program.proofs.over_message.read_needed.Goals as goal
+
+pub returns-in_err-conf-clause-refused : goal.returns-in_err-conf-clause-refused
+returns-in_err-conf-clause-refused g c =
+    let p = err_from_is_err_and c.from_residual.result c.from_residual.ensures.1 in
+    rw (p.1, p.2) (conf_lacking c.args.needs (g.F.Shelf.files c.args.shelf.now) (option_map (λ word. word.now) c.args.name) c.in_err-conf.field-0.0 c.in_err-conf.ensures.refused)
+
+pub returns-in_err-check_tables-clause-refused : goal.returns-in_err-check_tables-clause-refused
+returns-in_err-check_tables-clause-refused g c =
+    let p = err_from_is_err_and c.from_residual-in_err-check_tables.result c.from_residual-in_err-check_tables.ensures.1 in
+    rw (p.1, p.2) (table_lacking c.args.needs (g.F.Shelf.files c.args.shelf.now) (option_map (λ word. word.now) c.args.name) (meaning c.in_ok-conf.conf) c.in_err-check_tables.field-0.0
+    c.in_ok-conf.ensures.ok c.in_err-check_tables.ensures.refused)
+
+pub returns-clause-ok : goal.returns-clause-ok
+returns-clause-ok g c =
+    needed_had c.args.needs (g.F.Shelf.files c.args.shelf.now) (option_map (λ word. word.now) c.args.name) (meaning c.in_ok-conf.conf) c.in_ok-conf.ensures.ok c.in_ok-check_tables.ensures.ok

@@ -1,9 +1,0 @@
-use Rattle.std.proofs.Common.{length}
-use Rattle.recording.specs.tools.Judged.{AreRead}
-use Rattle.recording.proofs.read.read_items.Given as goal
-
-abbrev pub invariant-items : goal.invariant-items
-invariant-items l = AreRead l.text l.items l.last l.left
-
-abbrev pub decreases-items : goal.decreases-items
-decreases-items l = length l.left
