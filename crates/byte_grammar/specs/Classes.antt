@@ -1,6 +1,6 @@
 -- Classes of bytes that several formats share.
 use Rattle.std.specs.Prelude.{ℕ, Bool, ◌&&◌, ◌||◌, ◌==◌, not, nat_lt, List, length, codes}
-use Rattle.std.specs.Char.{is_ascii_alphabetic, is_ascii_alphanumeric, is_ascii_digit, is_ascii_graphic}
+use Rattle.std.specs.Char.{is_ascii_alphabetic, is_ascii_alphanumeric, is_ascii_digit, is_ascii_graphic, is_ascii_uppercase}
 use Rattle.std.specs.List.{list_all, list_any}
 use Rattle.std.specs.Str.{byte}
 use Rattle.byte_grammar.specs.declared.class.Class.{Class}
@@ -37,6 +37,14 @@ is_tchar c = is_ascii_alphanumeric c || is_one_of (codes "!#$%&'*+-.^_`|~") c
 -- token: one tchar or more (RFC 9110 section 5.6.2)
 abbrev pub is_token : List ℕ → Bool
 is_token text = nat_lt 0 (length text) && list_all is_tchar text
+
+-- a tchar that is no upper-case letter
+abbrev pub is_name_byte : ℕ → Bool
+is_name_byte c = is_tchar c && not (is_ascii_uppercase c)
+
+-- a field name in lower case (RFC 9421 section 2.1)
+abbrev pub is_field_name : List ℕ → Bool
+is_field_name name = nat_lt 0 (length name) && list_all is_name_byte name
 
 -- any byte but NUL, CR and LF, which a line may have between its ends (RFC 9110 section 5.5, RFC
 -- 9112 section 2.2)

@@ -8,3 +8,6 @@ pub mod Finding
 pub mod Outcomes
 pub mod Answered
 pub mod NextChunks
+pub mod SizeDigits
+pub mod SizeLaws
+pub mod SizedChunks

@@ -1,9 +1,10 @@
 -- Laws of chunks.
-use Rattle.std.specs.Prelude.{◌≡◌, ◌⊎◌, ℕ, ◌<◌, ◌≤◌, false, List, length, take}
+use Rattle.std.specs.Prelude.{◌≡◌, ◌↔◌, ◌⊎◌, ℕ, ◌<◌, ◌≤◌, false, IsTrue, List, length, take}
 use Rattle.std.specs.Fmt.{digits}
 use Rattle.chunks.specs.declared.limits.TheConstants.{MAX_CONTENT_BYTES}
 use Rattle.chunks.specs.Chunks.{Chunks, IsChunkLine, AreChunksText, SpellsChunks}
 use Rattle.chunks.specs.Causes.{BeginsChunks, IsChunksError, AreChunksUnfinished}
+use Rattle.chunks.specs.Sizes.{IsInChunks, add_up_to, sized_chunks}
 use Rattle.chunks.specs.declared.error.ChunkError.{ChunkError}
 
 -- Bytes begin with at most one text of chunks, whatever the length of its content, and it is that
@@ -50,3 +51,9 @@ NoChunksAnswerYet =
 -- The hexadecimal digits of a size, without zeros before them, are a chunk line of that size.
 abbrev pub IsLineOfSize : Type 0
 IsLineOfSize = (size : ℕ) → size ≤ MAX_CONTENT_BYTES → IsChunkLine (digits 16 false size) size
+
+-- Content is in chunks of sizes where they add up to its length, and then in one way.
+abbrev pub IsInChunksWhereSized : Type 0
+IsInChunksWhereSized =
+    (sizes content : List ℕ) (chunks : Chunks) → IsInChunks sizes content chunks
+    ↔ (IsTrue (add_up_to (length content) sizes) × (chunks ≡ sized_chunks sizes content))

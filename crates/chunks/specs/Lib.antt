@@ -1,4 +1,5 @@
 pub mod Chunks
+pub mod Sizes
 pub mod Causes
 pub mod Words
 pub mod Views

@@ -22,11 +22,16 @@ mod line;
 mod pieces;
 mod read;
 mod view;
+mod write;
 
 pub use error::ChunkError;
-pub use laws::{chunks_have_one_answer, chunks_laws, sizes_have_a_line};
+pub use laws::{
+    bytes_begin_with_one_list_of_chunks, chunks_have_one_answer,
+    content_has_one_list_of_sized_chunks, sizes_have_a_line,
+};
 pub use limit_laws::limits_are_these;
 pub use limits::{MAX_CONTENT_BYTES, MAX_EXTENSION_BYTES, MAX_SIZE_DIGITS};
 pub use pieces::ChunkPieces;
 pub use read::{ChunksRead, read_chunks};
 pub use view::ChunksView;
+pub use write::{append_chunks, are_chunk_sizes};

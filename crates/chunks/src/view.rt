@@ -46,6 +46,18 @@ impl<'m> ChunksView<'m> {
         }
     }
 
+    /// The same view once more.
+    pub fn again(&self) -> ChunksView<'m>
+        ensures { result ≡ self.now }
+    {
+        ChunksView {
+            bytes: self.bytes,
+            last: self.last,
+            count: self.count,
+            content: self.content,
+        }
+    }
+
     /// How many chunks there are, the last one, which has no data, aside.
     pub fn chunk_count(&self) -> usize
         ensures { result ≡ length self.now.spans }

@@ -1,11 +1,6 @@
 -- What is read at each layer is a value, or has a cause to be refused.
-use Rattle.std.proofs.Common.{◌≡◌, ◌≤◌, inl, inr, ℕ, List, [], ◌∷◌, length, Option, Some, None, refl, sym, subst, arith}
-use Rattle.std.specs.Prelude.{IsTrue}
-use Rattle.std.specs.List.{list_all}
+use Rattle.std.proofs.Common.{◌≡◌, ◌≤◌, inl, inr, ℕ, List, [], ◌∷◌, length, Option, Some, None, refl, sym, subst}
 use Rattle.std.proofs.lemmas.Bool.{cases_lt}
-use Rattle.std.proofs.Math.Nat.{eq-or-lt_of_le}
-use Rattle.std.proofs.lemmas.List.{take_all}
-use Rattle.sfv_text.specs.Classes.{is_byte}
 use Rattle.sfv_text.specs.declared.value.InnerList.{InnerList}
 use Rattle.sfv_read.specs.Fault.{IsSfError}
 use Rattle.sfv_read.specs.Reads.{ReadsInner}
@@ -14,8 +9,7 @@ use Rattle.sfv_read.specs.declared.error.SfError.TheVariants as error
 use Rattle.component_ids.specs.declared.id.ComponentId.{ComponentId}
 use Rattle.component_values.specs.Context.{MessageContext}
 use Rattle.component_values.specs.Values.{Lacks as LacksSo}
-use Rattle.msg_body.specs.Messages.{Message, Spells, SpellsMessage, is_expected}
-use Rattle.msg_body.specs.declared.error.MessageFault.TheVariants.{Refused, Truncated, Trailing}
+use Rattle.msg_body.specs.Messages.{Message}
 use Rattle.conf.specs.Configuration.{Configuration}
 use Rattle.settings.specs.Standard.{standard_configuration}
 use Rattle.verdicts.specs.declared.outcome.Verdict.{Verdict}
@@ -24,10 +18,8 @@ use Rattle.commands.specs.Configured.{IsConfText, IsConfTextRefused}
 use Rattle.commands.specs.Covered.{ReadsParams}
 use Rattle.commands.specs.Laws.{HasConfiguration, HasMessage, HaveParams, HaveValuesOrLack, HaveSomeOutcome}
 use Rattle.commands.specs.Layers.{HasAnswer, ReadsFound, IsFileRefused}
-use Rattle.commands.specs.Messages.{IsInputMessage, IsInputRefused}
 use Rattle.commands.specs.Verify.{AreAsked, AreVerdicts, verdicts_outcome}
 use Rattle.verdicts.specs.Verification.{or_no_label, verification_for}
-use Rattle.msg_body.specs.declared.whole.Reading.{Reading}
 use Rattle.refusals.specs.declared.refusal.TheConstants.{MAX_CONF_BYTES, MAX_INPUT_BYTES}
 use Rattle.refusals.specs.declared.file.FileRefusal.{FileRefusal}
 use Rattle.refusals.specs.declared.file.FileRefusal.TheVariants.{Missing, TooLong, Message as NoMessage, Conf}

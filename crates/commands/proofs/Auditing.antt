@@ -1,5 +1,5 @@
 -- What `audit` comes to is one outcome, and some.
-use Rattle.std.proofs.Common.{◌≡◌, ◌≤◌, ℕ, inl, inr, List, length, Result, Ok, Err, refl, sym, ap, subst, ◌∙◌}
+use Rattle.std.proofs.Common.{◌≡◌, ◌≤◌, ℕ, inl, inr, List, Err, refl, sym, ap, subst, ◌∙◌}
 use Rattle.byte_grammar.specs.Causes.{AnswersWhere}
 use Rattle.conf.specs.Configuration.{Configuration}
 use Rattle.rewrite_script.specs.declared.limits.TheConstants.{MAX_SCRIPT_BYTES}
@@ -10,14 +10,13 @@ use Rattle.hop_audit.specs.declared.fault.ChainFault.{ChainFault}
 use Rattle.hop_audit.specs.declared.fault.ChainFault.TheVariants as chain
 use Rattle.recording.specs.declared.limits.TheConstants.{MAX_HOPS}
 use Rattle.hop_audit.specs.declared.line.AuditLine.{AuditLine}
-use Rattle.commands.specs.Audit.{IsRecordingText, IsRecordingRefused, IsChainRefused, ReportsChain, ReportsAudit, audit_outcome}
+use Rattle.commands.specs.Audit.{IsRecordingText, IsChainRefused, ReportsChain, ReportsAudit, audit_outcome}
 use Rattle.commands.specs.Laws.{HasOneAuditing, HasSomeAuditing, IsChainDecided, HasAudit}
 use Rattle.commands.specs.Stops.{IfOutcome, stop_of_chain}
 use Rattle.commands.specs.declared.outcome.Outcome.{Outcome}
 use Rattle.commands.specs.declared.outcome.Outcome.TheVariants.{Refused}
 use Rattle.refusals.specs.declared.file.FileRefusal.{FileRefusal}
 use Rattle.refusals.specs.declared.file.FileRefusal.TheVariants.{Missing, TooLong, Message, Conf as NoConf, Script, Recording, Order, TooManyHops}
-use Rattle.refusals.specs.declared.refusal.TheConstants.{MAX_RECORDING_BYTES}
 use Rattle.refusals.specs.declared.refusal.Refusal.{Refusal}
 use Rattle.refusals.specs.declared.refusal.Refusal.TheVariants.{Arguments, Of, Command}
 use Rattle.refusals.specs.declared.role.Role.TheVariants.{Conf, Request, Wanted, Script as OfScript, Input, Item}

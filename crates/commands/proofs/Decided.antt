@@ -1,6 +1,5 @@
 -- What is read at each layer is one value, or has one cause to be refused.
 use Rattle.std.proofs.Common.{◌≡◌, ℕ, List, sym, ap, subst, ◌∙◌, arith}
-use Rattle.byte_grammar.specs.FaultOffset.{IsFaultOffset}
 use Rattle.byte_grammar.proofs.OffsetLaws.{one_offset}
 use Rattle.sfv_text.specs.declared.value.InnerList.{InnerList}
 use Rattle.sfv_read.specs.Reads.{ReadsInner}

@@ -1,7 +1,6 @@
 -- Laws of the crates below that something is read or has a fault, in the form that the proofs here
 -- use.
-use Rattle.std.proofs.Common.{◌⊎◌, ◌≤◌, ℕ, List, length, refl}
-use Rattle.std.specs.Prelude.{IsTrue}
+use Rattle.std.proofs.Common.{◌⊎◌, ◌≤◌, refl}
 use Rattle.sfv_read.specs.Laws.{HasValueOrNone, HasFault}
 use Rattle.sfv_read.specs.Reads.{ReadsInner}
 use Rattle.sfv_read.proofs.Readings.{inner_is_decided, inner_judges}
@@ -10,9 +9,6 @@ use Rattle.component_ids.specs.Laws.{HasAnswer as HasIdsAnswer}
 use Rattle.component_ids.proofs.Judged as ids
 use Rattle.component_values.specs.Laws.{HaveOrLack}
 use Rattle.component_values.proofs.FirstLacks.{have_or_lack}
-use Rattle.msg_body.specs.Causes.{IsMessageError, IsMessageUnfinished}
-use Rattle.msg_body.specs.Messages.{Message, SpellsMessage, is_expected}
-use Rattle.msg_body.specs.declared.error.MessageError.{MessageError}
 use Rattle.msg_body.specs.Laws.{IsWholeOrNot}
 use Rattle.msg_body.proofs.WholeTexts.{is_whole_or_not}
 use Rattle.conf.specs.Laws.{HasConfAnswer, IsStandardOfEmpty}
@@ -24,7 +20,6 @@ use Rattle.signatures.proofs.Reading.{has_labels}
 use Rattle.verdicts.specs.Laws.{HasVerdict}
 use Rattle.verdicts.proofs.Judging.{has_verdict}
 use Rattle.msg_body.specs.declared.whole.Reading.{Reading}
-use Rattle.refusals.specs.declared.refusal.TheConstants.{MAX_INPUT_BYTES}
 
 pub conf_answer_of : HasConfAnswer
 conf_answer_of = conf.has_answer

@@ -1,17 +1,16 @@
 -- What comes of a walk whose steps are judged by the signature of a label.
-use Rattle.std.proofs.Common.{◌≡◌, ◌+◌, ℕ, zero, List, [], ◌∷◌, ◌++◌, length, take, drop, Option, Some, None, Result, Ok, Err, refl, sym, ap, subst, ◌∙◌, inl, inr, arith, length-take}
+use Rattle.std.proofs.Common.{◌≡◌, ◌+◌, ℕ, List, [], ◌∷◌, ◌++◌, length, take, drop, Option, Some, None, Ok, Err, refl, sym, ap, subst, ◌∙◌, inl, inr, arith, length-take}
 use Rattle.std.specs.Prelude.{IfSome, slice_get}
 use Rattle.std.specs.List.{FoldsTo}
 use Rattle.std.proofs.lemmas.Option.{get_or_from_slice_get, slice_get_within}
 use Rattle.std.proofs.lemmas.List.{append-nil, drop_more, take-append-drop}
 use Rattle.byte_grammar.specs.Causes.{AnswersWhere}
 use Rattle.msg_body.specs.Messages.{Message, IsMessage}
-use Rattle.component_ids.specs.declared.params.SigParams.{SigParams}
 use Rattle.component_values.specs.Context.{MessageContext, answers_head, context_with}
 use Rattle.rewrite_script.specs.declared.rewrite.Rewrite.{Rewrite}
 use Rattle.rewrites.specs.Permitted.{Permits}
 use Rattle.rewrites.specs.Steps.{Step}
-use Rattle.rewrites.specs.Walks.{EndsAt, IsForbiddenStep, IsInapplicableStep, IsWatchedStep, ReportsWalk, Walks}
+use Rattle.rewrites.specs.Walks.{EndsAt, IsForbiddenStep, IsInapplicableStep, IsWatchedStep, ReportsWalk}
 use Rattle.rewrites.specs.declared.watcher.Judgement.{Judgement}
 use Rattle.rewrites.specs.declared.watcher.Judgement.TheVariants.{Permitted, Forbidden, Unjudged}
 use Rattle.rewrites.specs.declared.fault.WalkFault.{WalkFault}
@@ -26,7 +25,6 @@ use Rattle.commands.specs.Rewrite.{IsRead, IsTaken, IsStepRefused, ReportsSteps}
 use Rattle.commands.specs.Stops.{IfOutcome, ReadsNothing, stop_of_walk}
 use Rattle.commands.specs.declared.outcome.Outcome.{Outcome}
 use Rattle.commands.specs.declared.outcome.Outcome.TheVariants.{Done, Refused}
-use Rattle.commands.specs.declared.stop.Stop.{Stop}
 use Rattle.commands.specs.tools.Rewritten.{HasRead, IsJudged}
 use Rattle.refusals.specs.declared.refusal.Refusal.TheVariants.{Command}
 use Rattle.refusals.specs.declared.refusal.CommandRefusal.TheVariants.{NotTaken}

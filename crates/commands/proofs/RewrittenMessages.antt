@@ -1,17 +1,16 @@
 -- What is rewritten is a message, and under a label it keeps the label's verdict.
-use Rattle.std.proofs.Common.{◌≡◌, ◌+◌, ℕ, Bool, true, Option, Some, None, List, [], ◌∷◌, inl, inr, refl, sym, ap, subst, ◌∙◌}
+use Rattle.std.proofs.Common.{◌≡◌, ◌+◌, ℕ, Bool, Option, Some, None, List, [], ◌∷◌, inl, inr, refl, subst, ◌∙◌}
 use Rattle.std.specs.Prelude.{IsTrue}
 use Rattle.std.specs.List.{list_all, list_any, FoldsTo}
 use Rattle.std.proofs.lemmas.Bool.{or_left, or_right}
 use Rattle.framing.specs.Framings.{is_request}
 use Rattle.msg_body.specs.Messages.{Message, IsMessage, Spells, message_text}
-use Rattle.component_ids.specs.declared.params.SigParams.{SigParams}
 use Rattle.component_values.specs.Context.{MessageContext, answers_head, context_with}
 use Rattle.conf.specs.Configuration.{Configuration}
 use Rattle.rewrite_script.specs.Lines.{is_writable}
 use Rattle.rewrite_script.specs.Scripts.{HaveValues}
 use Rattle.rewrite_script.specs.declared.rewrite.Rewrite.{Rewrite}
-use Rattle.permissions.specs.Laws.{IsReadAs}
+use Rattle.whole_rewrites.specs.Laws.{IsReadAs}
 use Rattle.rewrites.specs.Laws.{AgreeFor, DependsOnMessages, GivesKind, HasSameVerdict, IsPermittedStep, KeepsOverSteps, rests_on_conf}
 use Rattle.rewrites.specs.Steps.{Step, Steps}
 use Rattle.verdicts.specs.Contexts.{context_for}

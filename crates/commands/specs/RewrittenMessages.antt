@@ -8,7 +8,7 @@ use Rattle.conf.specs.Configuration.{Configuration}
 use Rattle.rewrite_script.specs.Lines.{is_writable}
 use Rattle.rewrite_script.specs.Scripts.{HaveValues}
 use Rattle.rewrite_script.specs.declared.rewrite.Rewrite.{Rewrite}
-use Rattle.permissions.specs.Laws.{IsReadAs}
+use Rattle.whole_rewrites.specs.Laws.{IsReadAs}
 use Rattle.rewrites.specs.Laws.{HasSameVerdict, rests_on_conf}
 use Rattle.verdicts.specs.Contexts.{context_for}
 use Rattle.commands.specs.Rewrite.{ReportsRewriting}

@@ -5,12 +5,8 @@ use Rattle.rewrite_script.specs.declared.limits.TheConstants.{MAX_SCRIPT_BYTES}
 use Rattle.refusals.specs.declared.file.FileRefusal.{FileRefusal}
 use Rattle.refusals.specs.declared.file.FileRefusal.TheVariants.{TooLong, Script}
 use Rattle.rewrite_script.specs.Causes.{IsScriptFault}
-use Rattle.rewrite_script.specs.Scripts.{SpellsScript}
+pub use Rattle.rewrite_script.specs.Scripts.{IsScriptText}
 use Rattle.rewrite_script.specs.declared.rewrite.Rewrite.{Rewrite}
-
--- the text is within the limit, and is that of the script
-abbrev pub IsScriptText : List ℕ → List Rewrite → Type 0
-IsScriptText text script = (length text ≤ MAX_SCRIPT_BYTES) × SpellsScript text script
 
 -- why the text is refused as one
 abbrev pub IsScriptTextRefused : List ℕ → FileRefusal → Type 0

@@ -15,7 +15,7 @@ use sfv_text::Text;
 use std::alloc::Global;
 
 /// The report on the chain that these bytes record, by the configuration.
-pub fn write_audit(alloc: Global, conf: &Conf, input: &[u8]) -> Result<Outcome, Stop>
+pub fn audit_outcome(alloc: Global, conf: &Conf, input: &[u8]) -> Result<Outcome, Stop>
     requires { length input.now ≤ MAX_RECORDING_BYTES }
     ensures report { IfOutcome result (ReportsAudit (meaning conf.now) input.now) }
     ensures reads_nothing { ReadsNothing result }

@@ -49,7 +49,11 @@ fn base_of(alloc: Global, sig: &SigParams, context: &Context<'_, '_>) -> Result<
 /// The signature base of the context's message over the components that PARAMS cover. They are an
 /// Inner List, as a member of a `Signature-Input` field is (RFC 9421 section 4.1). Where no related
 /// request is known, a component of one (section 2.4) lacks its value.
-pub fn write_base(alloc: Global, params: &[u8], context: &Context<'_, '_>) -> Result<Outcome, Stop>
+pub fn base_outcome(
+    alloc: Global,
+    params: &[u8],
+    context: &Context<'_, '_>,
+) -> Result<Outcome, Stop>
     ensures report { IfOutcome result (ReportsBase params.now (context_of context.now)) }
     ensures reads_nothing { ReadsNothing result }
 {

@@ -128,7 +128,7 @@ fn append_commands(commands: &[CommandName], text: &mut Text) -> Result<(), Memo
 }
 
 /// The text of `--help`: what the program does, its words and its statuses.
-pub fn write_help(alloc: Global) -> Result<Outcome, Memory>
+pub fn help_outcome(alloc: Global) -> Result<Outcome, Memory>
     ensures { IfOk result ReportsHelp }
 {
     let mut text = Text::from_bytes(alloc, TITLE_TEXT.as_bytes())?;
@@ -147,7 +147,7 @@ pub fn write_help_of(alloc: Global, command: CommandName) -> Result<Outcome, Mem
 }
 
 /// The text of `--version`.
-pub fn write_version(alloc: Global) -> Result<Outcome, Memory>
+pub fn version_outcome(alloc: Global) -> Result<Outcome, Memory>
     ensures { IfOk result ReportsVersion }
 {
     Ok(Outcome::Done(Text::from_bytes(alloc, VERSION_TEXT.as_bytes())?))

@@ -9,12 +9,12 @@
 //!
 //! ```text
 //! let conf = read_configuration(alloc, Some("hms.toml"), &mut shelf)?;
-//! let text = take_message(alloc, Role::Request, Some("request.http"), &mut shelf)?;
-//! let request = read_taken(alloc, Role::Request, Reading::of_request(), text.as_ref())?;
+//! let text = fetch_message(alloc, Role::Request, Some("request.http"), &mut shelf)?;
+//! let request = fetched_message(alloc, Role::Request, Reading::of_request(), text.as_ref())?;
 //! let reading = Reading::of_input(request.as_ref());
-//! let message = read_input(alloc, reading, Role::Input, input)?;
+//! let message = message_of_role(alloc, reading, Role::Input, input)?;
 //! let context = context_for(&conf, &message, request.as_ref());
-//! let outcome = write_base(alloc, b"(\"@authority\")", &context)?;
+//! let outcome = base_outcome(alloc, b"(\"@authority\")", &context)?;
 //! outcome.status()             // Status::Done
 //! outcome.into_output(alloc)?  // the line of `@authority`, and that of the signature parameters
 //! ```
@@ -37,27 +37,27 @@ mod stop;
 mod tables;
 mod verify;
 
-pub use audit::write_audit;
-pub use base::write_base;
+pub use audit::audit_outcome;
+pub use base::base_outcome;
 pub use configured::read_configuration;
 pub use help::{
     AUDIT_TEXT, BASE_TEXT, COMMANDS, END_TEXT, REWRITE_TEXT, SAMPLE_TEXT, SIGN_TEXT, TITLE_TEXT,
-    VERIFY_TEXT, VERSION_TEXT, write_help, write_help_of, write_version,
+    VERIFY_TEXT, VERSION_TEXT, help_outcome, version_outcome, write_help_of,
 };
 pub use laws::{
     auditing_has_one_outcome, each_layer_has_an_answer, each_layer_is_decided,
     rewriting_has_one_outcome, signing_has_one_outcome, verdicts_have_one_outcome,
     what_is_rewritten_keeps_its_verdict, what_is_signed_is_rightly_signed,
 };
-pub use message::read_input;
-pub use message_file::{read_taken, take_message};
+pub use message::message_of_role;
+pub use message_file::{fetch_message, fetched_message};
 pub use msg_body::Reading;
 pub use outcome::Outcome;
-pub use rewrite::write_rewritten;
-pub use sample::write_sample;
+pub use rewrite::rewrite_outcome;
+pub use sample::sample_outcome;
 pub use script_file::read_script_file;
-pub use sign::{write_signed, write_wished};
+pub use sign::{sign_outcome, wished_outcome};
 pub use stop::Stop;
 pub use tables::{Needs, check_tables};
 pub use verdicts::context_for;
-pub use verify::write_verdicts;
+pub use verify::verify_outcome;

@@ -13,7 +13,7 @@ use refusals::Role;
 use std::alloc::Global;
 
 /// Reads the text of this role as one whole message.
-pub fn read_input<'m>(
+pub fn message_of_role<'m>(
     alloc: Global,
     reading: Reading,
     role: Role,

@@ -11,7 +11,7 @@ ghost use Rattle.commands.specs.MessageFiles.{IsTaken, IsMessageFileRefused, IsM
 ghost use Rattle.msg_body.specs.declared.whole.Reading.{Reading};
 ghost use Rattle.commands.specs.Stops.{IfStopped, IfRefused, IsRefusalFor, CountsStop};
 
-use crate::message::read_input;
+use crate::message::message_of_role;
 use crate::stop::Stop;
 use hms_io::{Shelf, take_file};
 use msg_body::{MessageView, Reading};
@@ -40,7 +40,7 @@ fn take_named<F: Shelf>(alloc: Global, role: Role, name: &str, shelf: &mut F) ->
 }
 
 /// Takes the named file of this role whole, where one is named.
-pub fn take_message<F: Shelf>(
+pub fn fetch_message<F: Shelf>(
     alloc: Global,
     role: Role,
     name: Option<&str>,
@@ -69,7 +69,7 @@ pub fn take_message<F: Shelf>(
 }
 
 /// Reads the text that was taken as one whole message.
-pub fn read_taken<'m>(
+pub fn fetched_message<'m>(
     alloc: Global,
     role: Role,
     reading: Reading,
@@ -84,5 +84,5 @@ pub fn read_taken<'m>(
     let Some(text) = text else {
         return Ok(None);
     };
-    Ok(Some(read_input(alloc, reading, role, text.bytes())?))
+    Ok(Some(message_of_role(alloc, reading, role, text.bytes())?))
 }

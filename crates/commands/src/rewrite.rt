@@ -69,7 +69,7 @@ impl<'l> Watcher for ByLabel<'l> {
 /// The message of the context after the steps of the script, each taken on the message that the one
 /// before it gave. Where a label is given, its signature in the message that a step meets has to
 /// permit the step.
-pub fn write_rewritten(
+pub fn rewrite_outcome(
     alloc: Global,
     label: Option<&str>,
     script: &[Rewrite],

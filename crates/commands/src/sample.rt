@@ -12,7 +12,7 @@ use sfv_text::Text;
 use std::alloc::Global;
 
 /// The summary of the report on the chain of this seed, with so many hops.
-pub fn write_sample(alloc: Global, seed: u64, count: usize) -> Result<Outcome, Stop>
+pub fn sample_outcome(alloc: Global, seed: u64, count: usize) -> Result<Outcome, Stop>
     requires seed { seed < 1_000_000_000 }
     requires count { count ≤ MAX_HOPS }
     ensures report { IfOutcome result (ReportsSample seed count) }

@@ -128,7 +128,7 @@ fn asked_spec(
 
 /// The message of the context with the signature that the configuration asks for. The moment is in
 /// seconds since the epoch.
-pub fn write_signed(
+pub fn sign_outcome(
     alloc: Global,
     conf: &Conf,
     now: u64,
@@ -149,7 +149,7 @@ pub fn write_signed(
 
 /// The message of the context with each signature that another message wishes, in order, each over
 /// the message that the one before it gave. The moment is in seconds since the epoch.
-pub fn write_wished(
+pub fn wished_outcome(
     alloc: Global,
     conf: &Conf,
     now: u64,

@@ -10,9 +10,9 @@ ghost use Rattle.commands.specs.tools.Verdicts.{AreLinesSoFar, WritesVerdict, Re
 use crate::outcome::Outcome;
 use component_values::Context;
 use conf::Conf;
-use exchange::Exchange;
 use nonces::Steps;
 use sfv_text::{Memory, Text};
+use signatures::Exchange;
 use std::alloc::Global;
 use std::marker::Brand;
 use std::sync::ledger::{Blank, Ledger};
@@ -121,7 +121,7 @@ fn asked_labels(
 /// The lines of the verdicts on the labels that are asked for: on the given one, whether or not the
 /// message has it, or else on each that the message has, and on `-` where it has none. The moment
 /// is in seconds since the epoch. No nonce is remembered.
-pub fn write_verdicts(
+pub fn verify_outcome(
     alloc: Global,
     conf: &Conf,
     now: u64,

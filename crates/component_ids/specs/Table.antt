@@ -1,11 +1,10 @@
 -- The names of components and the parameters that go with them (RFC 9421 sections 2 to 2.4).
-use Rattle.std.specs.Prelude.{ℕ, Bool, ◌&&◌, ◌||◌, not, Option, Some, None, is_some, unwrap_or, List, [], ◌∷◌, length, nat_lt, codes, if◌then◌else◌}
-use Rattle.std.specs.Char.{is_ascii_uppercase}
-use Rattle.std.specs.List.{list_all, list_any}
+use Rattle.std.specs.Prelude.{ℕ, Bool, ◌&&◌, ◌||◌, not, Option, Some, None, is_some, unwrap_or, List, [], ◌∷◌, codes, if◌then◌else◌}
+use Rattle.std.specs.List.{list_any}
 use Rattle.std.specs.Str.{bytes_eq}
 use Rattle.sfv_text.specs.Keys.{value_of}
 use Rattle.sfv_text.specs.Parts.{is_string, is_true}
-use Rattle.byte_grammar.specs.Classes.{is_tchar}
+pub use Rattle.byte_grammar.specs.Classes.{is_name_byte, is_field_name}
 use Rattle.sfv_text.specs.declared.pair.Pair.{Pair}
 use Rattle.sfv_text.specs.declared.value.BareItem.{BareItem}
 
@@ -14,14 +13,6 @@ use Rattle.sfv_text.specs.declared.value.BareItem.{BareItem}
 -- the text is one of the texts
 abbrev pub is_listed : List (List ℕ) → List ℕ → Bool
 is_listed texts text = list_any (bytes_eq text) texts
-
--- a tchar that is no upper-case letter
-abbrev pub is_name_byte : ℕ → Bool
-is_name_byte c = is_tchar c && not (is_ascii_uppercase c)
-
--- a field name in lower case (section 2.1)
-abbrev pub is_field_name : List ℕ → Bool
-is_field_name name = nat_lt 0 (length name) && list_all is_name_byte name
 
 -- the derived components of a request without a parameter of their own (section 2.2)
 abbrev pub request_names : List (List ℕ)

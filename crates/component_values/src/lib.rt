@@ -40,4 +40,5 @@ pub use laws::{
 };
 pub use prepared::Prepared;
 pub use readings::Readings;
+pub use strict::strict_answer;
 pub use value::component_text;

@@ -83,8 +83,9 @@ fn strict_text(
     }
 }
 
-/// What the combined value of the lines comes to as a strict text, by the kind of their field.
-pub(crate) fn strict_answer(
+/// What the combined value of the lines comes to as a strict text, by the kind of their field (RFC
+/// 9421 section 2.1.1).
+pub fn strict_answer(
     alloc: Global,
     kind: Option<FieldKind>,
     lines: NamedFieldLines<'_, '_>,

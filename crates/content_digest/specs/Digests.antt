@@ -1,5 +1,5 @@
 -- The field Content-Digest: RFC 9530 section 2.
-use Rattle.std.specs.Prelude.{ℕ, Bool, true, false, ◌||◌, not, IsTrue, Option, Some, None, is_some, List, [], ◌∷◌}
+use Rattle.std.specs.Prelude.{ℕ, Bool, true, false, ◌||◌, not, IsTrue, Option, Some, None, is_some, List, [], ◌∷◌, codes}
 use Rattle.std.specs.List.{list_all, list_any}
 use Rattle.std.specs.Str.{bytes_eq}
 use Rattle.sfv_text.specs.declared.pair.Pair.{Pair}
@@ -32,6 +32,10 @@ abbrev pub agrees : List ℕ → Pair Member → Bool
 agrees content member = is_digest content (algorithm_of member.key) (byte_sequence_in member.value)
 
 -- ---- the field
+
+-- the name of the field that has the digests of the content
+abbrev pub digest_name : List ℕ
+digest_name = codes "content-digest"
 
 -- the field's value is a Dictionary with a member of a known algorithm at least, and each such
 -- member is the content's digest

@@ -3,7 +3,7 @@
 ghost use Rattle.content_digest.specs.Laws.{HasDigestAnswer, NoFaultWhereHolds, OneDigestFault, DependsOnItsDict};
 
 /// Digests are those of the content, or have one fault, and not both.
-pub fn digest_laws()
+pub fn digests_hold_or_have_one_fault()
     ensures answer { HasDigestAnswer }
     ensures either { NoFaultWhereHolds }
     ensures one { OneDigestFault }

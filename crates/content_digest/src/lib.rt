@@ -25,5 +25,5 @@ mod member;
 pub use algorithm::Algorithm;
 pub use check::check_digest;
 pub use fault::DigestFault;
-pub use laws::{digest_laws, digests_depend_on_their_dictionary};
+pub use laws::{digests_depend_on_their_dictionary, digests_hold_or_have_one_fault};
 pub use make::make_digest;

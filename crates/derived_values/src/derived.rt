@@ -54,13 +54,15 @@ pub enum DerivedName {
     OfTarget(TargetName),
 }
 
-/// A request, and the scheme that is configured.
+/// A request, the scheme that is configured, and the parameters of the component that is asked
+/// for.
 #[derive(Clone, Copy)]
 pub(crate) struct Request<'a, 'm> {
     pub message: &'a MessageView<'m>,
     pub method: &'m [u8],
     pub target: &'m [u8],
     pub scheme: Scheme,
+    pub params: &'a Params,
 }
 
 fn target_name_of(name: &[u8]) -> Option<TargetName>
@@ -103,23 +105,13 @@ fn derived_of(name: &[u8]) -> Option<DerivedName>
 }
 
 /// The scheme that is configured, in lower case.
-fn scheme_text(scheme: Scheme) -> &'static [u8]
-    ensures { str_to_ascii_lowercase result.now ≡ scheme_text scheme }
+pub fn scheme_text(scheme: Scheme) -> &'static [u8]
+    ensures is { result.now ≡ scheme_text scheme }
+    ensures lower { str_to_ascii_lowercase result.now ≡ scheme_text scheme }
 {
     match scheme {
         Scheme::Http => b"http",
         Scheme::Https => b"https",
-    }
-}
-
-/// `@scheme`, in whatever case it is written.
-fn scheme_of<'m>(request: Request<'_, 'm>, target: &Target<'m>) -> &'m [u8]
-    ensures { str_to_ascii_lowercase result.now
-        ≡ scheme_of (request_parts request.entry) (parts_of target.now) }
-{
-    match target.scheme {
-        Some(text) => text,
-        None => scheme_text(request.scheme),
     }
 }
 
@@ -164,18 +156,6 @@ fn host_authority<'m>(message: &MessageView<'m>, scheme: &[u8]) -> Result<Author
     }
 }
 
-/// `@authority`.
-fn authority_value<'m>(request: Request<'_, 'm>, target: &Target<'m>) -> Result<Authority<'m>, Lack>
-    ensures { GivesAuthority (TargetAuthorityRow (request_parts request.entry)
-        (parts_of target.now)) result }
-{
-    let scheme = scheme_of(request, target);
-    match target.authority {
-        Some(text) => judge_authority(text, scheme),
-        None => host_authority(request.message, scheme),
-    }
-}
-
 /// `@path`.
 fn path_value<'m>(target: &Target<'m>) -> Result<Parts<'m>, Lack>
     ensures { GivesParts (λ answer. answer ≡ path_value (parts_of target.now)) result }
@@ -196,25 +176,8 @@ fn query_value<'m>(target: &Target<'m>) -> Result<Parts<'m>, Lack>
     }
 }
 
-/// `@target-uri`.
-fn target_uri<'m>(request: Request<'_, 'm>, target: &Target<'m>) -> Result<Parts<'m>, Lack>
-    ensures { GivesParts (TargetUriRow (path_of (parts_of target.now))
-        (request_parts request.entry) (parts_of target.now)) result }
-{
-    let Some(path) = path_of(target) else {
-        return Err(Lack::Underivable);
-    };
-    let authority = authority_value(request, target)?;
-    Ok(Parts::TargetUri(TargetUri {
-        scheme: scheme_of(request, target),
-        authority,
-        path,
-        query: target.query,
-    }))
-}
-
 /// The String that the parameter `name` is.
-fn param_name(params: &Params) -> &[u8]
+pub fn param_name(params: &Params) -> &[u8]
     ensures { result.now ≡ param_name params.now }
 {
     match params.string(b"name") {
@@ -223,79 +186,120 @@ fn param_name(params: &Params) -> &[u8]
     }
 }
 
-/// `@query-param`.
-fn param_value(
-    alloc: Global,
-    params: &Params,
-    target: &Target<'_>,
-    kept: &mut Option<QueryParams>,
-) -> Result<Text, NoValue>
-    ensures { AnswersRow (λ answer. answer
-        ≡ param_value (query_of (parts_of target.now)) params.now) result }
-{
-    let Some(query) = query_of(target) else {
-        return Err(NoValue::Lacks(Lack::Underivable));
-    };
-    match query_param_in(alloc, query.unwrap_or(b""), param_name(params), kept)? {
-        ParamFound::None => Err(NoValue::Lacks(Lack::Absent)),
-        ParamFound::One(text) => Ok(text),
-        ParamFound::Many => Err(NoValue::Lacks(Lack::Ambiguous)),
+impl<'a, 'm> Request<'a, 'm> {
+    /// `@scheme`, in whatever case it is written.
+    fn scheme_of(self, target: &Target<'m>) -> &'m [u8]
+        ensures { str_to_ascii_lowercase result.now
+            ≡ scheme_of (request_parts self.entry) (parts_of target.now) }
+    {
+        match target.scheme {
+            Some(text) => text,
+            None => scheme_text(self.scheme),
+        }
     }
-}
 
-/// What is drawn from the parts of a target.
-fn target_value<'m>(
-    alloc: Global,
-    name: TargetName,
-    params: &Params,
-    request: Request<'_, 'm>,
-    target: &Target<'m>,
-    kept: &mut Option<QueryParams>,
-) -> Result<Parts<'m>, NoValue>
-    ensures { AnswersParts (TargetRow name params.now (request_parts request.entry)
-        (parts_of target.now)) result }
-{
-    match name {
-        TargetName::TargetUri => Ok(target_uri(request, target)?),
-        TargetName::Authority => Ok(Parts::Authority(authority_value(request, target)?)),
-        TargetName::Scheme => Ok(Parts::Scheme(scheme_of(request, target))),
-        TargetName::Path => Ok(path_value(target)?),
-        TargetName::Query => Ok(query_value(target)?),
-        TargetName::QueryParam => Ok(Parts::Text(param_value(alloc, params, target, kept)?)),
+    /// `@authority`.
+    fn authority_value(self, target: &Target<'m>) -> Result<Authority<'m>, Lack>
+        ensures { GivesAuthority (TargetAuthorityRow (request_parts self.entry)
+            (parts_of target.now)) result }
+    {
+        let scheme = self.scheme_of(target);
+        match target.authority {
+            Some(text) => judge_authority(text, scheme),
+            None => host_authority(self.message, scheme),
+        }
     }
-}
 
-/// What is drawn from a target that may be in no form.
-fn formed_value<'m>(
-    alloc: Global,
-    name: TargetName,
-    params: &Params,
-    request: Request<'_, 'm>,
-    kept: &mut Option<QueryParams>,
-) -> Result<Parts<'m>, NoValue>
-    ensures { AnswersParts (FormedRow name params.now (request_parts request.entry)) result }
-{
-    let Some(target) = cut_target(request.method, request.target) else {
-        return Err(NoValue::Lacks(Lack::Underivable));
-    };
-    target_value(alloc, name, params, request, &target, kept)
-}
+    /// `@target-uri`.
+    fn target_uri(self, target: &Target<'m>) -> Result<Parts<'m>, Lack>
+        ensures { GivesParts (TargetUriRow (path_of (parts_of target.now))
+            (request_parts self.entry) (parts_of target.now)) result }
+    {
+        let Some(path) = path_of(target) else {
+            return Err(Lack::Underivable);
+        };
+        let authority = self.authority_value(target)?;
+        Ok(Parts::TargetUri(TargetUri {
+            scheme: self.scheme_of(target),
+            authority,
+            path,
+            query: target.query,
+        }))
+    }
 
-/// A derived component of a request.
-fn request_value<'m>(
-    alloc: Global,
-    derived: DerivedName,
-    params: &Params,
-    request: Request<'_, 'm>,
-    kept: &mut Option<QueryParams>,
-) -> Result<Parts<'m>, NoValue>
-    ensures { AnswersParts (RequestRow derived params.now (request_parts request.entry)) result }
-{
-    match derived {
-        DerivedName::Method => Ok(Parts::Bytes(request.method)),
-        DerivedName::RequestTarget => Ok(Parts::Bytes(request.target)),
-        DerivedName::Status => Err(NoValue::Lacks(Lack::Underivable)),
-        DerivedName::OfTarget(name) => formed_value(alloc, name, params, request, kept),
+    /// `@query-param`.
+    fn param_value(
+        self,
+        alloc: Global,
+        target: &Target<'m>,
+        kept: &mut Option<QueryParams>,
+    ) -> Result<Text, NoValue>
+        ensures { AnswersRow (λ answer. answer
+            ≡ param_value (query_of (parts_of target.now)) self.entry.params.now) result }
+    {
+        let Some(query) = query_of(target) else {
+            return Err(NoValue::Lacks(Lack::Underivable));
+        };
+        match query_param_in(alloc, query.unwrap_or(b""), param_name(self.params), kept)? {
+            ParamFound::None => Err(NoValue::Lacks(Lack::Absent)),
+            ParamFound::One(text) => Ok(text),
+            ParamFound::Many => Err(NoValue::Lacks(Lack::Ambiguous)),
+        }
+    }
+
+    /// What is drawn from the parts of a target.
+    fn target_value(
+        self,
+        alloc: Global,
+        name: TargetName,
+        target: &Target<'m>,
+        kept: &mut Option<QueryParams>,
+    ) -> Result<Parts<'m>, NoValue>
+        ensures { AnswersParts (TargetRow name self.entry.params.now (request_parts self.entry)
+            (parts_of target.now)) result }
+    {
+        match name {
+            TargetName::TargetUri => Ok(self.target_uri(target)?),
+            TargetName::Authority => Ok(Parts::Authority(self.authority_value(target)?)),
+            TargetName::Scheme => Ok(Parts::Scheme(self.scheme_of(target))),
+            TargetName::Path => Ok(path_value(target)?),
+            TargetName::Query => Ok(query_value(target)?),
+            TargetName::QueryParam => Ok(Parts::Text(self.param_value(alloc, target, kept)?)),
+        }
+    }
+
+    /// What is drawn from a target that may be in no form.
+    fn formed_value(
+        self,
+        alloc: Global,
+        name: TargetName,
+        kept: &mut Option<QueryParams>,
+    ) -> Result<Parts<'m>, NoValue>
+        ensures { AnswersParts (FormedRow name self.entry.params.now (request_parts self.entry))
+            result }
+    {
+        let Some(target) = cut_target(self.method, self.target) else {
+            return Err(NoValue::Lacks(Lack::Underivable));
+        };
+        self.target_value(alloc, name, &target, kept)
+    }
+
+    /// A derived component of a request.
+    fn value(
+        self,
+        alloc: Global,
+        derived: DerivedName,
+        kept: &mut Option<QueryParams>,
+    ) -> Result<Parts<'m>, NoValue>
+        ensures { AnswersParts (RequestRow derived self.entry.params.now
+            (request_parts self.entry)) result }
+    {
+        match derived {
+            DerivedName::Method => Ok(Parts::Bytes(self.method)),
+            DerivedName::RequestTarget => Ok(Parts::Bytes(self.target)),
+            DerivedName::Status => Err(NoValue::Lacks(Lack::Underivable)),
+            DerivedName::OfTarget(name) => self.formed_value(alloc, name, kept),
+        }
     }
 }
 
@@ -310,11 +314,11 @@ fn response_value(derived: DerivedName, code: &[u8]) -> Result<Parts<'_>, NoValu
 }
 
 /// What the value of a derived component of the message is made of.
-fn derived_parts<'m>(
+fn derived_parts<'a, 'm>(
     alloc: Global,
-    message: &MessageView<'m>,
+    message: &'a MessageView<'m>,
     scheme: Scheme,
-    id: &ComponentId,
+    id: &'a ComponentId,
     kept: &mut Option<QueryParams>,
 ) -> Result<Parts<'m>, NoValue>
     ensures { AnswersParts (DerivedRow (derived_of id.now.name) id.now.params scheme
@@ -330,8 +334,9 @@ fn derived_parts<'m>(
                 method,
                 target,
                 scheme,
+                params: &id.params,
             };
-            request_value(alloc, derived, &id.params, request, kept)
+            request.value(alloc, derived, kept)
         }
         Start::Status { code, .. } => response_value(derived, code),
     }

@@ -15,7 +15,9 @@ mod lack;
 mod laws;
 mod value;
 
-pub use derived::{DerivedName, TargetName, derived_value, derived_value_in};
+pub use derived::{
+    DerivedName, TargetName, derived_value, derived_value_in, param_name, scheme_text,
+};
 pub use lack::{Lack, NoValue};
 pub use laws::components_depend_on_their_parts;
 pub use value::Derived;

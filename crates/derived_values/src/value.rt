@@ -1,10 +1,11 @@
 //! The value of a derived component.
 
-ghost use Rattle.std.specs.Prelude.{◌++◌, ◌∷◌, ℕ, List};
+ghost use Rattle.std.specs.Prelude.{◌≡◌, ◌++◌, ◌∷◌, ℕ, List, IfOk};
 ghost use Rattle.std.specs.Str.{byte};
 ghost use Rattle.derived_values.specs.tools.Values.{target_uri_text};
 
-use sfv_text::{Absorb, Text};
+use sfv_text::{Absorb, FedText, Memory, Text};
+use std::alloc::Global;
 use std::marker::Model;
 use targets::{Authority, feed_lowered, feed_marked};
 
@@ -76,6 +77,15 @@ fn feed_query<A: Absorb>(query: &[u8], into: &mut A)
 }
 
 impl<'m> Derived<'m> {
+    /// The text of the value.
+    pub fn text(&self, alloc: Global) -> Result<Text, Memory>
+        ensures { IfOk result (λ text. text ≡ self.now) }
+    {
+        let mut fed = FedText::new(alloc);
+        self.feed(&mut fed);
+        fed.into_text()
+    }
+
     /// Feeds the value. It takes no memory and can't fail.
     pub fn feed<A: Absorb>(&self, into: &mut A)
         ensures { (fed : List ℕ) → A.absorbed into.old fed

@@ -4,7 +4,7 @@ ghost use Rattle.field_values.specs.Laws.{ForgetsSpacingAtEnds, TakesFoldForSpac
 
 /// The laws of raw values: what in one may change so that its value stays the same, and the values
 /// of parts and of joined values.
-pub fn raw_value_laws()
+pub fn raw_values_keep_their_value()
     ensures ends { ForgetsSpacingAtEnds }
     ensures fold { TakesFoldForSpace }
     ensures parts { IsValueOfParts }
@@ -15,7 +15,7 @@ pub fn raw_value_laws()
 
 /// The laws of lists of field lines: what in one may change so that the values of its names, or
 /// their combined values, stay the same.
-pub fn field_line_laws()
+pub fn lists_of_lines_keep_their_values()
     ensures other { TakesLineForOther }
     ensures others { KeepsOtherNamesAround }
     ensures order { ForgetsOrderOfNames }

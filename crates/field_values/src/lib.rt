@@ -19,7 +19,7 @@ mod value;
 
 pub use combined::Combined;
 pub use field::{combined_pieces, joined_pieces, line_pieces};
-pub use laws::{field_line_laws, raw_value_laws};
+pub use laws::{lists_of_lines_keep_their_values, raw_values_keep_their_value};
 pub use lines::count_lines;
 pub use text::combined_text;
 pub use value::{FieldValue, joined_value};

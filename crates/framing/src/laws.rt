@@ -4,7 +4,7 @@ ghost use Rattle.framing.specs.Laws.{HasFramingAnswer, NoErrorWhereFramable, One
 
 /// A head is framable or has one error, and not both. The length of one that is framable is
 /// bounded.
-pub fn framing_laws()
+pub fn a_head_is_framable_or_has_one_error()
     ensures answer { HasFramingAnswer }
     ensures either { NoErrorWhereFramable }
     ensures one { OneFramingError }

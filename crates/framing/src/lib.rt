@@ -26,7 +26,7 @@ mod read;
 
 pub use error::FramingError;
 pub use kind::{Framing, is_head_request, is_request};
-pub use laws::framing_laws;
+pub use laws::a_head_is_framable_or_has_one_error;
 pub use limit_laws::limits_are_these;
 pub use limits::MAX_LENGTH_DIGITS;
 pub use read::{Framed, read_framing};

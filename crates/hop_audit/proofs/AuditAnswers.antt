@@ -1,29 +1,30 @@
 -- What an audit answers: the first fault, or the report of items that have none.
-use Rattle.std.proofs.Common.{◌≡◌, ◌≢◌, ◌-◌, ℕ, List, length, Option, Some, Result, Ok, Err, refl, sym, ap, subst, ◌∙◌, inl, inr, arith}
-use Rattle.std.specs.Prelude.{IfOk}
+use Rattle.std.proofs.Common.{◌≡◌, ◌≢◌, ◌+◌, ◌-◌, ℕ, List, length, Option, Some, Result, Ok, Err, refl, sym, ap, subst, ◌∙◌, inl, inr, arith}
+use Rattle.std.specs.Prelude.{IfOk, unwrap_or}
 use Rattle.byte_grammar.specs.Causes.{AnswersWhere}
-use Rattle.component_values.specs.Context.{HasWholeMessage, MessageContext, answers_head, context_of, context_with}
-use Rattle.msg_body.specs.Messages.{IsMessage, Message}
+use Rattle.component_values.specs.Context.{answers_head}
+use Rattle.msg_body.specs.Messages.{Message}
 use Rattle.msg_body.specs.declared.whole.Reading.{Reading}
 use Rattle.recording.specs.Items.{PlacedItem}
+use Rattle.rewrite_script.specs.declared.rewrite.Rewrite.{Rewrite}
 use Rattle.settings.specs.ConfMeaning.{meaning}
 use Rattle.settings.specs.Configuration.{Configuration}
-use Rattle.verdicts.specs.Contexts.{context_for}
 use Rattle.hop_audit.specs.declared.chain_audit.ChainAudit.{ChainAudit}
 use Rattle.hop_audit.specs.declared.fault.ChainFault.{ChainFault}
 use Rattle.hop_audit.specs.declared.fault.ChainFault.TheVariants.{Memory, Order, TooManyHops, Message as NoMessage, Script as NoScript, ScriptTooLong}
-use Rattle.hop_audit.specs.declared.hop_lines.End.{End}
 use Rattle.hop_audit.specs.declared.line.AuditLine.{AuditLine}
 use Rattle.recording.specs.declared.chain.RecordedChain.{RecordedChain as HeldChain}
+use Rattle.recording.specs.declared.chain.RecordedHop.{RecordedHop as HeldHop}
 use Rattle.hop_audit.specs.ChainFaults.{IsChainFault}
 use Rattle.hop_audit.specs.Report.{IsAudit}
 use Rattle.recording.specs.Chains.{Subject, requests, responses, related_items, role_of}
-use Rattle.hop_audit.specs.ChainValues.{AnswersRequest, one_request, reading_of}
-use Rattle.hop_audit.specs.tools.Judged.{SaysRelated, SaysReport}
-use Rattle.hop_audit.specs.tools.Read.{IsStageOf, SaysMessage}
+use Rattle.hop_audit.specs.ChainValues.{AnswersRequest, IsScriptItem, one_request, reading_of}
+use Rattle.hop_audit.specs.tools.Judged.{AddsNext, SaysNext, SaysRelated, SaysReport, SaysStage}
+use Rattle.hop_audit.specs.tools.Read.{SaysMessage}
+use Rattle.hop_audit.specs.tools.Stages.{StageState}
+use Rattle.hop_audit.specs.tools.Written.{AddsHopLines, AddsMessageLines}
 use Rattle.recording.specs.RecordedChains.{IsHeldChain, chain_meant, subject_meant}
 use Rattle.hop_audit.specs.tools.Recorded.{SaysOrder}
-use Rattle.hop_audit.specs.tools.Written.{AreEnds}
 use Rattle.hop_audit.proofs.FirstFaults.{fault_of_number, fault_of_order, fault_of_related, no_fault_where_audited, one_fault}
 
 -- ---- a hop's messages
@@ -33,21 +34,24 @@ pub same_head : (subject : Subject) (related : Option Message) → AnswersReques
 same_head requests related is = rw is refl
 same_head (responses text) related is = refl
 
-pub are_ends : (before after : End) (conf : Configuration) (was now : Message) (related : Option Message)
-    → context_of before.context.now ≡ context_for conf was related → context_of after.context.now ≡ context_for conf now related
-    → IsStageOf was before.stage.now → IsStageOf now after.stage.now
-    → IsMessage (answers_head related) was → IsMessage (answers_head related) now → AreEnds before after
-are_ends before after conf was now related is also stage other whole more = record {
-  before_is = record {
-    stage = subst (λ (m : Message). IsStageOf m before.stage.now) (sym (ap (λ (c : MessageContext). c.message) is)) stage;
-    whole = subst HasWholeMessage (sym is) whole;
-  };
-  after_is = record {
-    stage = subst (λ (m : Message). IsStageOf m after.stage.now) (sym (ap (λ (c : MessageContext). c.message) also)) other;
-    whole = subst HasWholeMessage (sym also) more;
-  };
-  alike = also ∙ sym (λ i. context_with (is i) (also i).message);
-}
+-- the lines of a hop and of the message after it are added
+pub next_made : (audit : ChainAudit) (index : ℕ) (before : StageState) (hop : HeldHop) (was between now : List AuditLine) (script slice : List Rewrite) (moment own : ℕ) (made middle after : StageState)
+    → IsScriptItem hop.script.now script → slice ≡ script → own ≡ before.moment → moment ≡ unwrap_or hop.moment own → SaysStage audit (hop.item + 1) moment hop.message.now (Ok made)
+    → AddsHopLines before.context index slice made.context.message was between → middle ≡ made → AddsMessageLines middle.conf middle.context index middle.moment between now → after ≡ middle
+    → SaysNext audit index before hop was now (Ok after)
+next_made audit index before hop was between now script slice moment own made middle after is same own_is moment_is says hops middle_is adds after_is =
+    let at : moment ≡ unwrap_or hop.moment before.moment = moment_is ∙ ap (λ (m : ℕ). unwrap_or hop.moment m) own_is in
+    let of_made = subst (λ (s : StageState). AddsMessageLines s.conf s.context index s.moment between now) middle_is adds in
+    let of_audit = subst (λ (conf : Configuration). AddsMessageLines conf made.context index made.moment between now) says.1.conf_is of_made in
+    subst (λ (s : StageState). AddsNext audit index before hop was now s) (sym (after_is ∙ middle_is))
+    (record {
+      script = script;
+      script_is = is;
+      stage = subst (λ (m : ℕ). SaysStage audit (hop.item + 1) m hop.message.now (Ok made)) at says;
+      between = between;
+      hop_lines = subst (λ (steps : List Rewrite). AddsHopLines before.context index steps made.context.message was between) same hops;
+      added = subst (λ (m : ℕ). AddsMessageLines (meaning audit.conf.now) made.context index m between now) (says.0 ∙ at) of_audit;
+    })
 
 -- ---- the related request
 

@@ -4,33 +4,30 @@ use Rattle.std.specs.Prelude.{IsTrue, IfSome, unwrap_or, slice_get}
 use Rattle.std.specs.List.{AllZip, flat_map}
 use Rattle.std.proofs.lemmas.List.{drop_more, drop_all, append-nil, length-map}
 use Rattle.std.proofs.lemmas.Option.{get_or_from_slice_get, slice_get-get_or, slice_get-map, slice_get_within}
-use Rattle.msg_body.specs.Messages.{IsMessage}
-use Rattle.msg_body.specs.Views.{message_of}
 use Rattle.msg_body.specs.WholeTexts.{IsMessageFault, IsWhole}
 use Rattle.msg_body.specs.declared.whole.Reading.{Reading}
 use Rattle.nonces.specs.declared.limits.TheConstants.{MAX_MOMENT}
 use Rattle.recording.specs.Items.{PlacedItem}
+use Rattle.component_values.specs.Context.{MessageContext}
 use Rattle.rewrite_script.specs.declared.rewrite.Rewrite.{Rewrite}
 use Rattle.settings.specs.ConfMeaning.{meaning}
 use Rattle.hop_audit.specs.declared.chain_audit.ChainAudit.{ChainAudit}
-use Rattle.hop_audit.specs.declared.chain_audit.Reached.{Reached}
 use Rattle.hop_audit.specs.declared.fault.ChainFault.{ChainFault}
 use Rattle.hop_audit.specs.declared.fault.ChainFault.TheVariants.{Memory, Order, TooManyHops, Message as NoMessage, Script as NoScript, ScriptTooLong}
 use Rattle.hop_audit.specs.declared.line.AuditLine.{AuditLine}
 use Rattle.recording.specs.declared.chain.RecordedChain.{RecordedChain as HeldChain}
 use Rattle.recording.specs.declared.chain.RecordedHop.{RecordedHop as HeldHop}
-use Rattle.hop_audit.specs.declared.stage.Stage.{Stage}
 use Rattle.hop_audit.specs.ChainFaults.{IsChainFault}
 use Rattle.recording.specs.Chains.{RecordedHop, related_items, role_of}
 use Rattle.hop_audit.specs.ChainValues.{AnswersRequest, Chain, Hop, IsChainOf, IsHop, IsScriptItem, reading_of}
 use Rattle.hop_audit.specs.Hops.{PlacedHop, places_from}
-use Rattle.hop_audit.specs.Report.{AreHopLines, IsReport}
+use Rattle.hop_audit.specs.Report.{AreHopLines, AreMessageLines, IsReport}
 use Rattle.hop_audit.specs.Lines.{are_lines_in_range}
-use Rattle.hop_audit.specs.tools.Carried.{KnowTags}
-use Rattle.hop_audit.specs.tools.Judged.{AddsFirst, AddsHop, AddsNext, IsSizedHop, SaysHop, SaysReport, SaysStage, context_of_audit, related_of}
-use Rattle.hop_audit.specs.tools.Read.{IsStageOf, SaysMessage, SaysScript}
+use Rattle.hop_audit.specs.tools.Judged.{AddsNext, IsStageIn, SaysFirst, SaysNext, SaysReport, context_of_audit, related_of}
+use Rattle.hop_audit.specs.tools.Read.{SaysMessage, SaysScript}
+use Rattle.hop_audit.specs.tools.Stages.{StageState}
 use Rattle.recording.specs.RecordedChains.{IsHeldChain, chain_meant, hop_meant, items_up_to, subject_meant}
-use Rattle.hop_audit.specs.tools.Written.{AddsMessageLines}
+use Rattle.hop_audit.specs.tools.Written.{AddsLinesOf}
 use Rattle.hop_audit.proofs.FirstFaults.{IsClean, clean_first, clean_hops, clean_hop, fault_of_first, fault_of_script, long_script, fault_of_message}
 use Rattle.hop_audit.proofs.ReportLines.{joined_in_range, hop_in_range}
 
@@ -45,16 +42,13 @@ pub record IsAuditOf (audit : ChainAudit) (chain : HeldChain) : Type 0 where
   pub related : AnswersRequest (subject_meant chain.subject) (related_of audit)
   pub reading : audit.reading ≡ reading_of (related_of audit) (role_of (subject_meant chain.subject))
 
--- so many hops are reported, and the last message has this moment
-pub record IsAuditedSoFar (audit : ChainAudit) (chain : HeldChain) (count moment : ℕ) (stage : Stage) (lines : List AuditLine) : Type 0 where
-  pub whole : IsMessage audit.reading.to_head (message_of stage.message)
-  pub stage_is : IsStageOf (message_of stage.message) stage
-  pub known : KnowTags (meaning audit.conf.now) (context_of_audit audit (message_of stage.message)) stage.known
-  pub now : moment ≤ MAX_MOMENT
+-- so many hops are reported, and the last message is this one
+pub record IsAuditedSoFar (audit : ChainAudit) (chain : HeldChain) (count : ℕ) (stage : StageState) (lines : List AuditLine) : Type 0 where
+  pub stage_in : IsStageIn audit stage
   pub in_range : IsTrue (are_lines_in_range lines)
   pub clean : (items : List PlacedItem) → IsHeldChain items chain → IsClean items (chain_meant chain) (length (items_up_to (chain_meant chain) count))
   pub others : (hops : List Hop) (parts : List (List AuditLine)) → AllZip (IsHop audit.reading) (drop count (map hop_meant chain.hops)) hops
-      → AllZip (AreHopLines (meaning audit.conf.now) (related_of audit)) (places_from count moment (message_of stage.message) hops) parts
+      → AllZip (AreHopLines (meaning audit.conf.now) (related_of audit)) (places_from count stage.moment stage.context.message hops) parts
       → IsReported audit chain (lines ++ flat_map (λ part. part) parts)
 
 -- the default of a list of hops
@@ -80,41 +74,36 @@ module _ (audit : ChainAudit) (chain : HeldChain) (of : IsAuditOf audit chain) w
 
   -- ---- message 0
 
-  pub first_reported : (stage : Stage) (lines : List AuditLine) → chain.moment ≤ MAX_MOMENT → SaysStage chain.item audit.reading chain.first.now (Ok stage)
-      → AddsMessageLines (meaning audit.conf.now) (context_of_audit audit (message_of stage.message)) 0 chain.moment [] lines
-      → KnowTags (meaning audit.conf.now) (context_of_audit audit (message_of stage.message)) stage.known → IsAuditedSoFar audit chain 0 chain.moment stage lines
-  first_reported stage lines short says added known = record {
-    whole = says.0.spells.is;
-    stage_is = says.1;
-    known = known;
-    now = short;
-    in_range = subst (λ (ls : List AuditLine). IsTrue (are_lines_in_range ls)) (sym added.added) added.in_range;
-    clean = λ items held.
-        clean_hops items (chain_meant chain) (related_of audit) (message_of stage.message)
-        (clean_first items (chain_meant chain) (related_of audit) held.is held.few of.related) of.related
-        (as_chain (λ r. IsWhole r chain.first.now (message_of stage.message)) says.0);
-    others = λ hops parts are each. record {
-      values = record { moment = chain.moment; related = related_of audit; message = message_of stage.message; hops = hops };
-      are = record {
-        moment = refl;
-        related = of.related;
-        message = as_chain (λ r. IsWhole r chain.first.now (message_of stage.message)) says.0;
-        hops = as_chain (λ r. AllZip (IsHop r) (map hop_meant chain.hops) hops) are;
-      };
-      report = record {
-        first = added.lines;
-        first_are = added.are;
-        parts = parts;
-        each = each;
-        joined = ap (λ (ls : List AuditLine). ls ++ flat_map (λ part. part) parts) added.added;
-      };
-    };
-  }
-
-  pub first_reached : (reached : Reached) (lines : List AuditLine) → chain.moment ≤ MAX_MOMENT → AddsFirst audit chain [] lines reached
-      → IsAuditedSoFar audit chain 0 reached.moment reached.stage lines
-  first_reached reached lines short says =
-      subst (λ (m : ℕ). IsAuditedSoFar audit chain 0 m reached.stage lines) (sym says.moment_is) (first_reported reached.stage lines short says.stage says.added says.known)
+  pub first_reached : (stage : StageState) (lines : List AuditLine) → SaysFirst audit chain [] lines (Ok stage) → IsAuditedSoFar audit chain 0 stage lines
+  first_reached stage lines says =
+      let message = stage.context.message in
+      let moment_is = says.0.0 in
+      let within = says.0.1 in
+      let whole = as_chain (λ r. IsWhole r chain.first.now message) says.0.2 in
+      let added = says.1 in
+      record {
+        stage_in = within;
+        in_range = subst (λ (ls : List AuditLine). IsTrue (are_lines_in_range ls)) (sym added.added) added.in_range;
+        clean = λ items held.
+            clean_hops items (chain_meant chain) (related_of audit) message (clean_first items (chain_meant chain) (related_of audit) held.is held.few of.related) of.related whole;
+        others = λ hops parts are each. record {
+          values = record { moment = stage.moment; related = related_of audit; message = message; hops = hops };
+          are = record {
+            moment = moment_is;
+            related = of.related;
+            message = whole;
+            hops = as_chain (λ r. AllZip (IsHop r) (map hop_meant chain.hops) hops) are;
+          };
+          report = record {
+            first = added.lines;
+            first_are = subst (λ (m : ℕ). AreMessageLines (meaning audit.conf.now) (context_of_audit audit message) 0 m added.lines) (sym moment_is)
+                (subst (λ (c : MessageContext). AreMessageLines (meaning audit.conf.now) c 0 chain.moment added.lines) within.context_is added.are);
+            parts = parts;
+            each = each;
+            joined = ap (λ (ls : List AuditLine). ls ++ flat_map (λ part. part) parts) added.added;
+          };
+        };
+      }
 
   -- why the item of message 0 is none
   pub first_refused : (fault : ChainFault) → SaysMessage chain.item audit.reading chain.first.now (Err fault) → SaysReport audit chain (Err fault)
@@ -131,8 +120,7 @@ module _ (audit : ChainAudit) (chain : HeldChain) (of : IsAuditOf audit chain) w
 
   -- ---- one more hop
 
-  module _ (count moment : ℕ) (before : Stage) (lines : List AuditLine) (hop : HeldHop) (there : slice_get chain.hops count ≡ Some hop)
-      (so_far : IsAuditedSoFar audit chain count moment before lines) where
+  module _ (count : ℕ) (before : StageState) (lines : List AuditLine) (hop : HeldHop) (there : slice_get chain.hops count ≡ Some hop) (so_far : IsAuditedSoFar audit chain count before lines) where
     hop_there : slice_get (map hop_meant chain.hops) count ≡ Some (hop_meant hop)
     hop_there = slice_get-map hop_meant chain.hops count ∙ ap (λ (o : Option HeldHop). elim o as (λ _. Option RecordedHop) [ None ↦ None | Some h ↦ Some (hop_meant h) ]) there
 
@@ -141,23 +129,27 @@ module _ (audit : ChainAudit) (chain : HeldChain) (of : IsAuditOf audit chain) w
         drop_more (map hop_meant chain.hops) count (hop_meant hop) (slice_get_within (map hop_meant chain.hops) count (hop_meant hop) hop_there)
         ∙ ap (λ (h : RecordedHop). h ∷ drop (count + 1) (map hop_meant chain.hops)) (get_or_from_slice_get (map hop_meant chain.hops) count (hop_meant hop) (hop_meant hop) hop_there)
 
-    pub hop_reported : (more all : List AuditLine) (after : Stage) → IsSizedHop hop → AddsHop audit (count + 1) before hop lines more after
-        → AddsMessageLines (meaning audit.conf.now) (context_of_audit audit (message_of after.message)) (count + 1) (unwrap_or hop.moment moment) more all
-        → KnowTags (meaning audit.conf.now) (context_of_audit audit (message_of after.message)) after.known → IsAuditedSoFar audit chain (count + 1) (unwrap_or hop.moment moment) after all
-    hop_reported more all after short says added known =
-        let context = context_of_audit audit (message_of before.message) in
+    pub next_reached : (all : List AuditLine) (after : StageState) → AddsNext audit (count + 1) before hop lines all after → IsAuditedSoFar audit chain (count + 1) after all
+    next_reached all after says =
+        let conf = meaning audit.conf.now in
+        let message = after.context.message in
+        let context = context_of_audit audit before.context.message in
+        let within = says.stage.1 in
         let place : PlacedHop = record {
           index = count + 1;
-          was = moment;
-          before = message_of before.message;
+          was = before.moment;
+          before = before.context.message;
           script = says.script;
-          now = unwrap_or hop.moment moment;
-          after = message_of after.message;
+          now = unwrap_or hop.moment before.moment;
+          after = message;
         } in
-        let own = says.added place (record { index_is = refl; before_is = refl; script_is = refl; after_is = refl }) in
-        let value : Hop = record { moment = hop.moment; script = says.script; message = message_of after.message } in
+        let own : AddsLinesOf context place lines says.between =
+        subst (λ (c : MessageContext). AddsLinesOf c place lines says.between) so_far.stage_in.context_is
+        (says.hop_lines place (record { index_is = refl; before_is = refl; script_is = refl; after_is = refl })) in
+        let added = says.added in
+        let value : Hop = record { moment = hop.moment; script = says.script; message = message } in
         let part : List AuditLine = own.line ∷ (own.own ++ added.lines) in
-        let part_is : AreHopLines (meaning audit.conf.now) (related_of audit) place part = record {
+        let part_is : AreHopLines conf (related_of audit) place part = record {
           line = own.line;
           is = own.is;
           labels = own.labels;
@@ -165,28 +157,25 @@ module _ (audit : ChainAudit) (chain : HeldChain) (of : IsAuditOf audit chain) w
           own = own.own;
           each = own.each;
           after = added.lines;
-          after_are = added.are;
+          after_are = subst (λ (c : MessageContext). AreMessageLines conf c (count + 1) (unwrap_or hop.moment before.moment) added.lines) within.context_is added.are;
           joined = refl;
         } in
         let all_is : all ≡ lines ++ part =
         added.added ∙ (ap (λ (ls : List AuditLine). ls ++ added.lines) own.added ∙ append_assoc lines (own.line ∷ own.own) added.lines) in
         record {
-          whole = says.stage.0.spells.is;
-          stage_is = says.stage.1;
-          known = known;
-          now = moment_short hop.moment moment so_far.now short.moment;
+          stage_in = within;
           in_range = subst (λ (ls : List AuditLine). IsTrue (are_lines_in_range ls)) (sym all_is)
               (joined_in_range lines part so_far.in_range (joined_in_range (own.line ∷ own.own) added.lines (hop_in_range context place own.line own.labels own.own own.is own.each) added.in_range));
           clean = λ items held.
-              clean_hop items (chain_meant chain) (related_of audit) count (hop_meant hop) says.script (message_of after.message) (so_far.clean items held) of.related hop_there says.script_is
-              (as_chain (λ r. IsWhole r hop.message.now (message_of after.message)) says.stage.0);
+              clean_hop items (chain_meant chain) (related_of audit) count (hop_meant hop) says.script message (so_far.clean items held) of.related hop_there says.script_is
+              (as_chain (λ r. IsWhole r hop.message.now message) says.stage.2);
           others = λ hops parts are each.
               subst (λ (ls : List AuditLine). IsReported audit chain ls)
               (sym (append_assoc lines part (flat_map (λ p. p) parts)) ∙ ap (λ (ls : List AuditLine). ls ++ flat_map (λ p. p) parts) (sym all_is))
               (so_far.others (value ∷ hops) (part ∷ parts)
               (subst (λ (rs : List RecordedHop). AllZip (IsHop audit.reading) rs (value ∷ hops)) (sym next_is)
-              (record { moment = refl; script = says.script_is; message = says.stage.0 }, are))
-              (part_is, each));
+              (record { moment = refl; script = says.script_is; message = says.stage.2 }, are))
+              (part_is, subst (λ (m : ℕ). AllZip (AreHopLines conf (related_of audit)) (places_from (count + 1) m message hops) parts) says.stage.0 each));
         }
 
     -- why its script is none
@@ -220,7 +209,7 @@ module _ (audit : ChainAudit) (chain : HeldChain) (of : IsAuditOf audit chain) w
     either fault (inl says) = script_refused fault says
     either fault (inr says) = message_refused says.0 fault says.1 says.2
 
-    pub hop_refused : (more : List AuditLine) (fault : ChainFault) → SaysHop audit (count + 1) before hop lines more (Err fault) → SaysReport audit chain (Err fault)
+    pub hop_refused : (more : List AuditLine) (fault : ChainFault) → SaysNext audit (count + 1) before hop lines more (Err fault) → SaysReport audit chain (Err fault)
     hop_refused more Memory says = tt
     hop_refused more (Order offset) says = either (Order offset) says
     hop_refused more TooManyHops says = either TooManyHops says
@@ -228,19 +217,10 @@ module _ (audit : ChainAudit) (chain : HeldChain) (of : IsAuditOf audit chain) w
     hop_refused more (NoScript index fault) says = either (NoScript index fault) says
     hop_refused more (ScriptTooLong index) says = either (ScriptTooLong index) says
 
-  pub next_reached : (count : ℕ) (before : Reached) (lines : List AuditLine) (hop : HeldHop) → slice_get chain.hops count ≡ Some hop
-      → IsAuditedSoFar audit chain count before.moment before.stage lines
-      → (all : List AuditLine) (after : Reached) → IsSizedHop hop → AddsNext audit (count + 1) before hop lines all after
-      → IsAuditedSoFar audit chain (count + 1) after.moment after.stage all
-  next_reached count before lines hop there so_far all after short says =
-      subst (λ (m : ℕ). IsAuditedSoFar audit chain (count + 1) m after.stage all) (sym says.moment_is)
-      (hop_reported count before.moment before.stage lines hop there so_far says.between all after.stage short says.hop_lines says.added says.known)
-
   -- ---- all hops
 
-  pub all_reported : (count moment : ℕ) (stage : Stage) (lines : List AuditLine) → length chain.hops ≤ count → IsAuditedSoFar audit chain count moment stage lines
-      → SaysReport audit chain (Ok lines)
-  all_reported count moment stage lines past so_far =
+  pub all_reported : (count : ℕ) (stage : StageState) (lines : List AuditLine) → length chain.hops ≤ count → IsAuditedSoFar audit chain count stage lines → SaysReport audit chain (Ok lines)
+  all_reported count stage lines past so_far =
       let none : drop count (map hop_meant chain.hops) ≡ [] = drop_all count (map hop_meant chain.hops) (omega (arith, length-map chain.hops hop_meant)) in
       let reported = so_far.others [] [] (subst (λ (rs : List RecordedHop). AllZip (IsHop audit.reading) rs []) (sym none) tt) tt in
       let own : IsReported audit chain lines = subst (λ (ls : List AuditLine). IsReported audit chain ls) (append-nil lines) reported in

@@ -1,48 +1,41 @@
 -- What becomes of components, one after another.
-use Rattle.std.proofs.Common.{◌≡◌, ◌≢◌, ◌<◌, ◌≤◌, ◌+◌, ℕ, Bool, true, false, Option, Some, None, List, [], inl, inr, length, get_or, take, Result, Ok, Err, refl, sym, subst, ap, ◌∙◌}
-use Rattle.std.specs.Prelude.{◌↔◌, IfOk, IsTrue, OnErr, OnOk, is_err, slice_get}
+use Rattle.std.proofs.Common.{◌≡◌, ◌≢◌, ◌<◌, ◌≤◌, ◌+◌, ℕ, Bool, true, false, Option, Some, None, List, inl, inr, length, get_or, take, Result, Ok, Err, refl, sym, subst, ap, ◌∙◌}
+use Rattle.std.specs.Prelude.{◌↔◌, IfOk, IsTrue, is_err, slice_get}
 use Rattle.std.specs.Str.{bytes_eq}
 use Rattle.std.specs.List.{All}
 use Rattle.std.proofs.lemmas.Bool.{cases_Bool, false≢true}
 use Rattle.std.proofs.lemmas.List.Elements.{All-more, All-weaker, All-same}
 use Rattle.std.proofs.lemmas.List.{take_all}
 use Rattle.std.proofs.lemmas.Option.{slice_get-get_or}
+use Rattle.std.proofs.lemmas.Slice.Eq.{bytes_eq-Decides}
 use Rattle.sfv_text.specs.Keys.{put, value_of}
 use Rattle.sfv_text.specs.declared.pair.Pair.{Pair}
 use Rattle.sfv_text.proofs.PutLaws.{put_value}
+use Rattle.sfv_read.specs.Reads.{ReadsItem}
+use Rattle.sfv_read.proofs.Readings.{item_has_one_value}
+use Rattle.sfv_read.proofs.StrictReads.{item_text_reads}
 use Rattle.msg_body.specs.Messages.{Message}
+use Rattle.component_ids.specs.Identifiers.{id_of, id_text, is_id_in_range, item_of}
 use Rattle.component_ids.specs.declared.id.ComponentId.{ComponentId}
 use Rattle.component_ids.specs.declared.params.SigParams.{SigParams}
 use Rattle.derived_values.specs.declared.lack.Lack.{Lack}
-use Rattle.component_values.specs.Context.{MessageContext, context_of, context_with}
+use Rattle.component_values.specs.Context.{MessageContext, context_with}
 use Rattle.component_values.specs.Values.{ComesTo}
 use Rattle.component_values.proofs.RowLaws.{lacks_no_value}
-use Rattle.signatures.specs.Rules.{IsLabelUnread}
+use Rattle.signatures.specs.Exchanges.{ExchangeState}
 use Rattle.signatures.specs.Signatures.{HasSignature}
-use Rattle.signatures.specs.declared.place.Place.{Place}
-use Rattle.signatures.specs.declared.rule.Rule.{Rule}
-use Rattle.signatures.proofs.Reading.{has_no_failure_where_read, has_one_signature}
+use Rattle.signatures.proofs.Reading.{has_one_signature}
 use Rattle.byte_grammar.specs.declared.memory.Memory.{Memory}
-use Rattle.hop_audit.specs.declared.comparison.Compared.{Compared}
-use Rattle.hop_audit.specs.declared.comparison.Comparison.{Comparison}
 use Rattle.hop_audit.specs.declared.comparison.ComponentFate.{ComponentFate}
 use Rattle.hop_audit.specs.declared.comparison.ComponentFate.TheVariants as component
 use Rattle.hop_audit.specs.declared.line.Fate.{Fate}
 use Rattle.hop_audit.specs.declared.line.Fate.TheVariants.{Dropped, Changed, Lacking, Kept}
 use Rattle.hop_audit.specs.Fates.{ComesToBoth, HasChanged, HasStayed, IsFate, LacksValue}
-use Rattle.hop_audit.specs.tools.Compared.{AreCompared, AreComparedSoFar, IsComparison, IsComponentFate, LacksSoFar, SaysCompared, lacking_with}
+use Rattle.hop_audit.specs.tools.Compared.{AreCompared, AreComparedSoFar, IsComponentFate, LacksSoFar, SaysCompared, lacking_with}
 use Rattle.hop_audit.proofs.Fates.{all_kept, stays_unchanged}
 
 abbrev Answer : Type 0
 Answer = Result (List ℕ) Lack
-
--- what the component comes to in the two messages
-pub comes_to_both : (context : MessageContext) (other : Message) (c : Comparison) (id : ComponentId) (was now : Answer) → IsComparison context other c
-    → ComesTo (context_of c.before.now) id was → ComesTo (context_of c.after.now) id now → ComesToBoth context other id was now
-comes_to_both context other c id was now is before after = record {
-  before = subst (λ (m : MessageContext). ComesTo m id was) is.before before;
-  after = subst (λ (m : MessageContext). ComesTo m id now) is.after after;
-}
 
 -- ---- a component by itself
 
@@ -62,27 +55,32 @@ module _ (context : MessageContext) (other : Message) (id : ComponentId) where
   kept_in_both (Ok value) now both same has = (value, same_in_both (Ok value) now both same)
   kept_in_both (Err lack) now both same has = absurd (false≢true (sym has))
 
--- nothing was compared
-pub none_compared : (context : MessageContext) (other : Message) → AreCompared context other []
-none_compared context other text = tt
+-- ---- by the texts of identifiers
 
--- one more was
-pub compared_more : (context : MessageContext) (other : Message) (pairs : List (Pair Compared)) (text : List ℕ) (own : Compared) → AreCompared context other pairs → IsComponentFate context other own.id own.fate
-    → AreCompared context other (put pairs text own)
-compared_more context other pairs text own are is name = elim (cases_Bool (bytes_eq text name)) [
+-- an identifier in range has a text of its own
+one_id : (a b : ComponentId) → is_id_in_range a ≡ true → is_id_in_range b ≡ true → id_text a ≡ id_text b → a ≡ b
+one_id a b fits also same =
+    ap id_of
+    (item_has_one_value (id_text a) (item_of a) (item_of b) (item_text_reads (item_of a) fits)
+    (subst (λ (t : List ℕ). ReadsItem t (item_of b)) (sym same) (item_text_reads (item_of b) also)))
+
+-- one component more was compared
+pub compared_more : (context : MessageContext) (other : Message) (pairs : List (Pair ComponentFate)) (id : ComponentId) (text : List ℕ) (fate : ComponentFate) → AreCompared context other pairs
+    → is_id_in_range id ≡ true → text ≡ id_text id → IsComponentFate context other id fate → AreCompared context other (put pairs text fate)
+compared_more context other pairs id text fate are fits printed is own ranged = elim (cases_Bool (bytes_eq text (id_text own))) [
   | inl same ↦
-      let there : value_of (put pairs text own) name ≡ Some own = put_value text own name pairs ∙ rw same refl in
-      rw there is
+      let there : value_of (put pairs text fate) (id_text own) ≡ Some fate = put_value text fate (id_text own) pairs ∙ rw same refl in
+      let one : id ≡ own = one_id id own fits ranged (sym printed ∙ (bytes_eq-Decides text (id_text own)).0 same) in
+      rw there (subst (λ (i : ComponentId). IsComponentFate context other i fate) one is)
   | inr apart ↦
-      let there : value_of (put pairs text own) name ≡ value_of pairs name = put_value text own name pairs ∙ rw apart refl in
-      rw there (are name)
+      let there : value_of (put pairs text fate) (id_text own) ≡ value_of pairs (id_text own) = put_value text fate (id_text own) pairs ∙ rw apart refl in
+      rw there (are own ranged)
 ]
 
--- whether it could be kept or not
-pub compared_after : {R E : Type 0} (context : MessageContext) (other : Message) (pairs now : List (Pair Compared)) (text : List ℕ) (own : Compared) (result : Result R E) → AreCompared context other pairs
-    → IsComponentFate context other own.id own.fate → OnOk result (now ≡ put pairs text own) → OnErr result (now ≡ pairs) → AreCompared context other now
-compared_after context other pairs now text own (Ok value) are is added same = rw added (compared_more context other pairs text own are is)
-compared_after context other pairs now text own (Err fault) are is added same = rw same are
+-- what holds of exchanges holds of the same ones
+pub at_same : (Holds : MessageContext → Message → Type 0) (before was after now : ExchangeState) → before ≡ was → after ≡ now → Holds before.context after.context.message → Holds was.context now.context.message
+at_same Holds before was after now b a holds =
+    subst (λ (e : ExchangeState). Holds e.context now.context.message) b (subst (λ (e : ExchangeState). Holds before.context e.context.message) a holds)
 
 module _ (context : MessageContext) (other : Message) (ids : List ComponentId) where
   -- ---- at the next component
@@ -153,12 +151,6 @@ same_signature message label own params tag other same has both = (
   λ yes. subst (λ (t : List ℕ). HasSignature message label params t) (both.0 yes).1 (subst (λ (p : SigParams). HasSignature message label p tag) (both.0 yes).0 has),
   λ is. both.1 (has_one_signature message label own params tag other has is),
 )
-
--- a label that isn't read has none
-pub none_signed : (message : Message) (label : List ℕ) (params : SigParams) (tag : List ℕ) (rule : Rule) (place : Place) → IsLabelUnread message label rule place
-    → IsTrue false ↔ HasSignature message label params tag
-none_signed message label params tag rule place unread =
-    (λ yes. absurd (false≢true yes), λ has. absurd (has_no_failure_where_read message label params tag rule place has unread.holds))
 
 -- so is what was answered of its components
 pub fate_by : (context : MessageContext) (other : Message) (label : List ℕ) (params : SigParams) (tag : List ℕ) (ids : List ComponentId) (result : Result Fate Memory) → HasSignature other label params tag

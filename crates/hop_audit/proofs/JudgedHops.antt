@@ -1,21 +1,23 @@
 -- The lines of a hop: whether it is explained, and what is judged of the labels before it.
 use Rattle.std.proofs.Common.{◌≡◌, ◌<◌, ◌≤◌, ◌+◌, ℕ, Bool, true, false, ◌&&◌, Bor, Option, Some, None, List, [], ◌∷◌, ◌++◌, length, get_or, take, refl, sym, subst, ap, ◌∙◌, append_assoc, arith}
-use Rattle.std.specs.Prelude.{◌↔◌, Result, Ok, Err, OnOk, IsTrue, IsSomeAnd, MatchOption, is_some, slice_get}
-use Rattle.std.specs.List.{AllZip}
+use Rattle.std.specs.Prelude.{◌↔◌, Result, Ok, Err, OnOk, IfSome, IsTrue, IsSomeAnd, MatchOption, is_some, slice_get}
+use Rattle.std.specs.List.{All, AllZip}
 use Rattle.std.proofs.lemmas.Bool.{false≢true}
-use Rattle.std.proofs.lemmas.List.Elements.{All-cons, All-nil}
+use Rattle.std.proofs.lemmas.List.Elements.{All-cons, All-head, All-nil, All-tail}
 use Rattle.std.proofs.lemmas.List.{append-nil, take_all, take_more}
 use Rattle.std.proofs.lemmas.Option.{get_or_from_slice_get, slice_get-get_or, slice_get_within}
 use Rattle.std.proofs.lemmas.Slice.Zip.{AllZip-long, AllZip-right}
 use Rattle.byte_grammar.proofs.Indices.{some_and_parts}
 use Rattle.msg_body.specs.Messages.{Message, Spells, message_text}
 use Rattle.msg_body.proofs.OneMessages.{one_message_law}
+use Rattle.component_ids.specs.SignatureParams.{are_sig_params_in_range}
 use Rattle.component_ids.specs.declared.params.SigParams.{SigParams}
 use Rattle.component_values.specs.Context.{MessageContext, answers_head}
 use Rattle.rewrite_script.specs.declared.rewrite.Rewrite.{Rewrite}
 use Rattle.rewrites.specs.Steps.{Step, Steps}
 use Rattle.signatures.specs.Signatures.{AreLabels, HasSignature}
 use Rattle.signatures.specs.declared.label.LabelRead.{LabelRead}
+use Rattle.signatures.proofs.InRange.{is_signature_in_range}
 use Rattle.hop_audit.specs.declared.line.AuditLine.{AuditLine}
 use Rattle.hop_audit.specs.declared.line.AuditLine.TheVariants.{Hop as HopLine, Unread as UnreadLine, Label as LabelLine}
 use Rattle.hop_audit.specs.declared.line.Fate.{Fate}
@@ -26,7 +28,7 @@ use Rattle.hop_audit.specs.Fates.{IsFate}
 use Rattle.hop_audit.specs.Hops.{IsExplanation, IsPermission, IsPermitted, IsStoppedAt, PlacedHop}
 use Rattle.hop_audit.specs.Report.{IsLabelLine}
 use Rattle.hop_audit.specs.tools.HopLines.{AreAddedSoFar, AreJudged, IsJudged, SaysExplained}
-use Rattle.hop_audit.specs.tools.Walked.{AreMarksOf, HoldSignatures, HoldsSignature, IsMarkOf, IsMarkRead, IsMarkedAfter, IsSameMark, SaysWalked}
+use Rattle.hop_audit.specs.tools.Walked.{AreMarksOf, HoldSignatures, HoldsSignature, IsMarkInRange, IsMarkOf, IsMarkRead, IsMarkedAfter, IsSameMark, SaysWalked}
 use Rattle.hop_audit.specs.tools.Written.{AddsHopLines, IsHopBetween}
 use Rattle.hop_audit.proofs.StepLists.{one_explanation, permitted_leads}
 
@@ -214,6 +216,33 @@ hold_signatures message (label ∷ labels) (mark ∷ marks) are =
     holds None none same is = absurd (false≢true (sym same ∙ is))
     holds (Some read) has same is = has
 
+-- what is read of the labels is in range
+pub marks_in_range : (message : Message) (labels : List (List ℕ)) (marks : List Mark) → AreMarksOf message labels marks → All IsMarkInRange marks
+marks_in_range message [] [] are = All-nil IsMarkInRange
+marks_in_range message [] (mark ∷ marks) are = absurd are
+marks_in_range message (label ∷ labels) [] are = absurd are
+marks_in_range message (label ∷ labels) (mark ∷ marks) are =
+    All-cons IsMarkInRange mark marks (fits mark.read are.0.read) (marks_in_range message labels marks are.1)
+  where
+    fits : (read : Option (Bor LabelRead)) → IsMarkRead message label read → IfSome read (λ read. IsTrue (are_sig_params_in_range read.now.params))
+    fits None none = tt
+    fits (Some read) has = is_signature_in_range message label read.now.params read.now.tag has
+
+still_in_range : (R : Mark → Mark → Type 0) → ((was now : Mark) → R was now → IsSameMark was now) → (was now : List Mark) → AllZip R was now → All IsMarkInRange was → All IsMarkInRange now
+still_in_range R same [] [] each fits = All-nil IsMarkInRange
+still_in_range R same [] (n ∷ now) each fits = absurd each
+still_in_range R same (w ∷ was) [] each fits = absurd each
+still_in_range R same (w ∷ was) (n ∷ now) each fits =
+    let read = (same w n each.0).read in
+    let here = subst (λ (r : Option (Bor LabelRead)). IfSome r (λ read. IsTrue (are_sig_params_in_range read.now.params))) (sym read) (All-head IsMarkInRange w was fits) in
+    All-cons IsMarkInRange n now here (still_in_range R same was now each.1 (All-tail IsMarkInRange w was fits))
+
+-- so it is after the walk
+pub walked_in_range : (context : MessageContext) (script : List Rewrite) (was now : List Mark) (walked : Walked) → SaysWalked context script was now walked → All IsMarkInRange was → All IsMarkInRange now
+walked_in_range context script was now (To text) leads fits =
+    still_in_range (IsMarkedAfter context script leads.0) (λ w n marked. marked.same) was now leads.3 fits
+walked_in_range context script was now (Stopped index) leads fits = still_in_range IsSameMark (λ w n same. same) was now leads.1 fits
+
 pub more_marks : (message : Message) (labels : List (List ℕ)) (n : ℕ) (label : List ℕ) (marks : List Mark) (mark : Mark) → n < length labels → label ≡ get_or labels n label
     → AreMarksOf message (take n labels) marks → IsMarkOf message label mark → AreMarksOf message (take (n + 1) labels) (marks ++ mark ∷ [])
 more_marks message labels n label marks mark lt is all one =
@@ -265,6 +294,10 @@ hop_added context index script after labels explained stopped was first now labe
       each = own.1;
       added = own.2 ∙ ap (λ (l : List AuditLine). l ++ own.0) begins ∙ append_assoc was (line ∷ []) own.0;
     }
+
+-- what holds in a context and of another message holds in the same ones
+pub in_same : (Holds : MessageContext → Message → Type 0) (was now : MessageContext) (before after : Message) → Holds was before → was ≡ now → before ≡ after → Holds now after
+in_same Holds was now before after holds w b = subst (λ (m : MessageContext). Holds m after) w (subst (λ (o : Message). Holds was o) b holds)
 
 pub on_ok_too : {T E P : Type 0} (result : Result T E) → P → OnOk result P
 on_ok_too (Ok value) holds = holds

@@ -18,5 +18,4 @@ pub mod OneBases
 mod Comparing
 mod JudgedHops
 mod CarriedTags
-mod ReadLabels
 mod LineTexts

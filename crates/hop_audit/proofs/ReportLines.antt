@@ -1,5 +1,5 @@
 -- The lines of a message label by label, and whether those of a hop can be written.
-use Rattle.std.proofs.Common.{None, ◌≡◌, ◌+◌, ◌<◌, ◌≤◌, ℕ, Bool, true, false, ◌&&◌, List, [], ◌∷◌, ◌++◌, length, get_or, take, refl, sym, ap, subst, ◌∙◌, append_assoc}
+use Rattle.std.proofs.Common.{◌≡◌, ◌+◌, ◌<◌, ◌≤◌, ℕ, Bool, true, false, ◌&&◌, List, [], ◌∷◌, ◌++◌, length, get_or, take, refl, sym, ap, subst, ◌∙◌, append_assoc, arith}
 use Rattle.std.specs.Prelude.{IsTrue, ◌&&◌}
 use Rattle.std.specs.List.{AllZip, list_all}
 use Rattle.std.proofs.lemmas.Bool.{and_parts}
@@ -16,6 +16,7 @@ use Rattle.component_ids.specs.declared.params.SigParams.{SigParams}
 use Rattle.byte_grammar.proofs.Indices.{all_at}
 use Rattle.signatures.specs.Signatures.{HasSignature}
 use Rattle.signatures.proofs.InRange.{is_signature_in_range}
+use Rattle.signatures.proofs.Reading.{has_one_list_of_labels}
 use Rattle.hop_audit.specs.declared.line.AuditLine.{AuditLine}
 use Rattle.hop_audit.specs.declared.line.AuditLine.TheVariants.{Message as MessageLine, Hop as HopLine, Unread as UnreadLine, Label as LabelLine}
 use Rattle.hop_audit.specs.declared.line.Fate.{Fate}
@@ -24,6 +25,7 @@ use Rattle.hop_audit.specs.Fates.{IsFate}
 use Rattle.hop_audit.specs.Hops.{PlacedHop}
 use Rattle.hop_audit.specs.Lines.{are_lines_in_range, is_fate_in_range, is_line_in_range}
 use Rattle.hop_audit.specs.Report.{IsHopLine, IsLabelLine, IsMessageLine}
+use Rattle.hop_audit.specs.tools.Stages.{StageState, judged}
 use Rattle.hop_audit.specs.tools.Written.{AddsLinesFor, AddsMessageLine, AddsMessageLines}
 
 both_true : (a b : Bool) → a ≡ true → b ≡ true → (a && b) ≡ true
@@ -37,20 +39,6 @@ joined_in_range lines more is also =
 
 pub one_in_range : (line : AuditLine) → IsTrue (is_line_in_range line) → IsTrue (are_lines_in_range (line ∷ []))
 one_in_range line is = both_true (is_line_in_range line) true is refl
-
--- what another label is judged by
-of_label : (first own : Verification) (label bytes : List ℕ)
-    → own ≡ record { context = first.context; label = bytes; conf = first.conf; now = first.now; seen = first.seen } → bytes ≡ label → first.seen ≡ None
-    → own ≡ verification_for first.conf first.now first.context label
-of_label first own label bytes is same unseen =
-    is ∙ (λ i. record { context = first.context; label = same i; conf = first.conf; now = first.now; seen = unseen i })
-
--- its line
-pub label_added : (first own : Verification) (label bytes : List ℕ) (index : ℕ) (was now : List AuditLine)
-    → own ≡ record { context = first.context; label = bytes; conf = first.conf; now = first.now; seen = first.seen } → bytes ≡ label → first.seen ≡ None
-    → AddsMessageLine own index was now → AddsMessageLine (verification_for first.conf first.now first.context label) index was now
-label_added first own label bytes index was now is same unseen adds =
-    subst (λ (v : Verification). AddsMessageLine v index was now) (of_label first own label bytes is same unseen) adds
 
 -- the line of one more label
 pub more_label : (conf : Configuration) (context : MessageContext) (index moment : ℕ) (labels : List (List ℕ)) (n : ℕ) (label : List ℕ) (start was now : List AuditLine)
@@ -100,6 +88,51 @@ one_label v index labels was now are none label adds = record {
   in_range = one_in_range adds.line adds.in_range;
   added = adds.added;
 }
+
+-- ---- label by label
+
+-- the lines of so many labels of the stage's message are added
+pub record AreAddedFor (stage : StageState) (index count place : ℕ) (was now : List AuditLine) : Type 0 where
+  pub labels : List (List ℕ)
+  pub are : AreLabels stage.context.message labels
+  pub count_is : count ≡ length labels
+  pub added : AddsLinesFor stage.conf stage.context index stage.moment (take place labels) was now
+
+module _ (stage : StageState) (index count : ℕ) where
+  pub none_added : (labels : List (List ℕ)) (lines : List AuditLine) → AreLabels stage.context.message labels → count ≡ length labels → AreAddedFor stage index count 0 lines lines
+  none_added labels lines are counted = record { labels = labels; are = are; count_is = counted; added = no_labels stage.conf stage.context index stage.moment lines }
+
+  -- there is a label at each place
+  pub within_labels : (place : ℕ) (was now : List AuditLine) (labels : List (List ℕ)) → AreAddedFor stage index count place was now → AreLabels stage.context.message labels → place < count → place < length labels
+  within_labels place was now labels so_far are lt =
+      subst (λ (ls : List (List ℕ)). place < length ls) (has_one_list_of_labels stage.context.message so_far.labels labels so_far.are are) (subst (λ (n : ℕ). place < n) so_far.count_is lt)
+
+  pub one_more_added : (place : ℕ) (was now all : List AuditLine) (labels : List (List ℕ)) (label : List ℕ) → AreAddedFor stage index count place was now → AreLabels stage.context.message labels → place < count
+      → label ≡ get_or labels place label → AddsMessageLine (judged stage label) index now all → AreAddedFor stage index count (place + 1) was all
+  one_more_added place was now all labels label so_far are lt is more =
+      let same = has_one_list_of_labels stage.context.message labels so_far.labels are so_far.are in
+      record {
+        labels = so_far.labels;
+        are = so_far.are;
+        count_is = so_far.count_is;
+        added = more_label stage.conf stage.context index stage.moment so_far.labels place label was now all (subst (λ (n : ℕ). place < n) so_far.count_is lt)
+            (subst (λ (ls : List (List ℕ)). label ≡ get_or ls place label) same is) so_far.added more;
+      }
+
+  pub all_added : (place : ℕ) (was now : List AuditLine) → AreAddedFor stage index count place was now → ¬ (count ≡ 0) → count ≤ place
+      → AddsMessageLines stage.conf stage.context index stage.moment was now
+  all_added place was now so_far some past =
+      all_labels stage.conf stage.context index stage.moment so_far.labels place was now so_far.are (λ none. some (so_far.count_is ∙ ap (λ (ls : List (List ℕ)). length ls) none))
+      (subst (λ (n : ℕ). n ≤ place) so_far.count_is past) so_far.added
+
+  -- the message has no label
+  pub only_none_added : (labels : List (List ℕ)) (label : List ℕ) (was now : List AuditLine) → AreLabels stage.context.message labels → count ≡ length labels → count ≡ 0 → label ≡ no_label
+      → AddsMessageLine (judged stage label) index was now → AddsMessageLines stage.conf stage.context index stage.moment was now
+  only_none_added labels label was now are counted none is adds = one_label (judged stage label) index labels was now are (no_length labels (sym counted ∙ none)) is adds
+    where
+      no_length : (ls : List (List ℕ)) → length ls ≡ 0 → ls ≡ []
+      no_length [] e = refl
+      no_length (l ∷ ls) e = absurd (omega (arith, e))
 
 -- ---- lines of a hop
 

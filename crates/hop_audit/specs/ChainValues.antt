@@ -1,21 +1,17 @@
 -- What the items of a chain say: its messages and its scripts.
-use Rattle.std.specs.Prelude.{◌≡◌, ◌≤◌, ℕ, false, Option, Some, None, unwrap_or, IsSomeAnd, List, [], ◌∷◌, length}
+use Rattle.std.specs.Prelude.{◌≡◌, ℕ, Option, Some, None, unwrap_or, IsSomeAnd, List, [], ◌∷◌}
 use Rattle.std.specs.List.{AllZip}
 use Rattle.msg_body.specs.Messages.{Message}
-use Rattle.msg_body.specs.declared.expect.Expect.TheVariants.{Request as OneRequest, Response as OneResponse}
+use Rattle.msg_body.specs.declared.expect.Expect.TheVariants.{Response as OneResponse}
 use Rattle.component_values.specs.Context.{answers_head}
-use Rattle.rewrite_script.specs.Scripts.{SpellsScript}
+pub use Rattle.rewrite_script.specs.Scripts.{IsScriptText as IsScriptItem}
 use Rattle.rewrite_script.specs.declared.rewrite.Rewrite.{Rewrite}
-use Rattle.rewrite_script.specs.declared.limits.TheConstants.{MAX_SCRIPT_BYTES}
 use Rattle.recording.specs.declared.item.Role.{Role}
 use Rattle.recording.specs.declared.item.Role.TheVariants.{Request, Response, Related}
 use Rattle.recording.specs.Chains.{Subject, requests, responses, RecordedHop, RecordedChain, role_of}
 use Rattle.msg_body.specs.WholeTexts.{IsWhole}
+pub use Rattle.msg_body.specs.WholeTexts.{one_request}
 use Rattle.msg_body.specs.declared.whole.Reading.{Reading}
-
--- how a request is read
-abbrev pub one_request : Reading
-one_request = record { expect = OneRequest; to_head = false }
 
 -- How the message of a role is read. A response has no content where the request that it answers
 -- has the method HEAD (RFC 9112 section 6.3).
@@ -30,10 +26,6 @@ abbrev pub AnswersRequest : Subject → Option Message → Type 0
 AnswersRequest requests related = related ≡ None
 AnswersRequest (responses None) related = related ≡ None
 AnswersRequest (responses (Some text)) related = IsSomeAnd related (IsWhole one_request text)
-
--- the text is that of the script, and no longer than a script may be
-abbrev pub IsScriptItem : List ℕ → List Rewrite → Type 0
-IsScriptItem text script = (length text ≤ MAX_SCRIPT_BYTES) × SpellsScript text script
 
 -- ---- values
 

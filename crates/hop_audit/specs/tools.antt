@@ -1,6 +1,7 @@
 pub mod Carried
 pub mod Recorded
 pub mod Read
+pub mod Stages
 pub mod Written
 pub mod Walked
 pub mod Compared

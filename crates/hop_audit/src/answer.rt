@@ -1,8 +1,9 @@
 //! What a component comes to.
 
 use component_ids::ComponentId;
-use component_values::{Context, Lack, NoValue, Readings, component_text};
+use component_values::{Lack, NoValue};
 use sfv_text::{Memory, Text};
+use signatures::Exchange;
 use std::alloc::Global;
 
 /// What a component comes to.
@@ -16,24 +17,20 @@ pub(crate) enum Answer {
 
 impl Answer {
     ghost use Rattle.std.specs.Prelude.{◌≡◌, ◌↔◌, IsTrue, IfOk, is_err};
-    ghost use Rattle.component_values.specs.Context.{context_of};
-    ghost use Rattle.component_values.specs.Readings.{AreReadOf};
     ghost use Rattle.component_values.specs.Values.{ComesTo};
     ghost use Rattle.hop_audit.specs.tools.Compared.{answer_of};
 
-    /// What the component of the context comes to. What is read for it is kept among the readings.
+    /// What the component of the exchange comes to.
     pub(crate) fn of(
         alloc: Global,
-        context: &Context<'_, '_>,
+        exchange: &mut Exchange<'_, '_>,
         id: &ComponentId,
-        readings: &mut Readings,
     ) -> Result<Answer, Memory>
-        requires { AreReadOf (context_of context.now) readings.old }
         ensures is { IfOk result (λ answer.
-            ComesTo (context_of context.now) id.now (answer_of answer)) }
-        ensures readings { AreReadOf (context_of context.now) readings.new }
+            ComesTo exchange.old.context id.now (answer_of answer)) }
+        ensures same { exchange.new ≡ exchange.old }
     {
-        match component_text(alloc, context, id, readings) {
+        match exchange.component_text(alloc, id) {
             Ok(text) => Ok(Answer::Value(text)),
             Err(NoValue::Lacks(lack)) => Ok(Answer::Lacks(lack)),
             Err(NoValue::Memory) => Err(Memory),

@@ -14,18 +14,16 @@ ghost use Rattle.hop_audit.specs.declared.fault.ChainFault.{ChainFault};
 ghost use Rattle.hop_audit.specs.tools.Judged.{IsHeldFor, SaysRelated, SaysReport};
 
 use crate::fault::ChainFault;
-use crate::hop_lines::{End, add_hop_lines};
-use crate::known_tags::KnownTags;
+use crate::hop_lines::add_hop_lines;
 use crate::line::AuditReport;
-use crate::message_lines::add_message_lines;
 use crate::order::chain_of;
 use crate::read::{item_message, item_script, reading_of};
 use crate::stage::Stage;
 use msg_body::{MessageView, Reading};
 use recording::{RecordedChain, RecordedHop, Recording, Role, Subject, role_of};
 use settings::Conf;
+use signatures::Exchange;
 use std::alloc::Global;
-use verdicts::context_for;
 
 /// The request that the messages answer, where it is recorded.
 fn related_request<'r>(
@@ -45,13 +43,6 @@ fn related_request<'r>(
     }
 }
 
-/// A message of the chain that was judged: its moment, and what was read of it.
-#[derive(Drop)]
-struct Reached<'r> {
-    moment: u64,
-    stage: Stage<'r>,
-}
-
 /// The parts of an audit: how its messages are read, and what they are judged by.
 #[derive(Drop)]
 struct ChainAudit<'a, 'r> {
@@ -61,21 +52,14 @@ struct ChainAudit<'a, 'r> {
 }
 
 impl<'a, 'r> ChainAudit<'a, 'r> {
-    ghost use Rattle.std.specs.Prelude.{◌≡◌, ◌≤◌, length, [], Err, IfOk, OnOk, OnErr};
+    ghost use Rattle.std.specs.Prelude.{◌≡◌, ◌≤◌, length};
     ghost use Rattle.component_values.specs.Context.{answers_head};
-    ghost use Rattle.msg_body.specs.Messages.{IsMessage, Message};
-    ghost use Rattle.msg_body.specs.Views.{message_of};
     ghost use Rattle.msg_body.specs.declared.limits.TheConstants.{MAX_MESSAGE_BYTES};
     ghost use Rattle.nonces.specs.declared.limits.TheConstants.{MAX_MOMENT};
-    ghost use Rattle.settings.specs.ConfMeaning.{meaning};
     ghost use Rattle.recording.specs.Chains.{role_of};
-    ghost use Rattle.hop_audit.specs.ChainValues.{AnswersRequest, reading_of};
-    ghost use Rattle.hop_audit.specs.declared.fault.ChainFault.{ChainFault};
-    ghost use Rattle.hop_audit.specs.tools.Carried.{KnowTags};
-    ghost use Rattle.hop_audit.specs.tools.Judged.{IsHeldFor, IsSizedHop, SaysFirst, SaysHop, SaysNext, SaysReport, SaysStage, context_of_audit, related_of};
-    ghost use Rattle.hop_audit.specs.tools.Read.{IsStageOf};
     ghost use Rattle.recording.specs.RecordedChains.{subject_meant};
-    ghost use Rattle.hop_audit.specs.tools.Written.{AddsMessageLines};
+    ghost use Rattle.hop_audit.specs.ChainValues.{AnswersRequest, reading_of};
+    ghost use Rattle.hop_audit.specs.tools.Judged.{IsHeldFor, IsSizedHop, IsStageIn, SaysFirst, SaysNext, SaysReport, SaysStage, related_of};
 
     /// The parts for the messages of a chain, which are these.
     fn of(
@@ -95,75 +79,22 @@ impl<'a, 'r> ChainAudit<'a, 'r> {
         }
     }
 
-    /// The message of the item with this index, with its labels.
-    fn stage(&self, alloc: Global, item: usize, text: &'r [u8]) -> Result<Stage<'r>, ChainFault>
-        requires { length text.now ≤ MAX_MESSAGE_BYTES }
-        ensures is { SaysStage item self.now.reading text.now result }
-        ensures unknown { IfOk result (λ stage. stage.known ≡ []) }
+    /// The message of the item with this index, at this moment.
+    fn stage(
+        &self,
+        alloc: Global,
+        item: usize,
+        moment: u64,
+        text: &'r [u8],
+    ) -> Result<Stage<'a, 'r>, ChainFault>
+        requires sized { length text.now ≤ MAX_MESSAGE_BYTES }
+        requires now { moment ≤ MAX_MOMENT }
+        requires reading { self.now.reading.to_head ≡ answers_head (related_of self.now) }
+        ensures { SaysStage self.now item moment text.now result }
     {
         let message = item_message(alloc, item, self.reading, text)?;
-        Ok(Stage::of(alloc, message)?)
-    }
-
-    /// Adds the lines of the message with this index, at this moment. It answers what is known of
-    /// the message's tags then.
-    fn add_message<'x>(
-        &'x self,
-        alloc: Global,
-        index: usize,
-        moment: u64,
-        stage: &'x Stage<'r>,
-        lines: &mut AuditReport,
-    ) -> Result<KnownTags, ChainFault>
-        requires stage { (message : Message) × IsStageOf message stage.now }
-        requires known { KnowTags (meaning self.now.conf.now)
-            (context_of_audit self.now (message_of stage.now.message)) stage.now.known }
-        requires now { moment ≤ MAX_MOMENT }
-        ensures ok { OnOk result (AddsMessageLines (meaning self.now.conf.now)
-            (context_of_audit self.now (message_of stage.now.message)) index moment
-            lines.old lines.new) }
-        ensures known { IfOk result (KnowTags (meaning self.now.conf.now)
-            (context_of_audit self.now (message_of stage.now.message))) }
-        ensures err { OnErr result (result ≡ Err ChainFault.Memory) }
-    {
-        let context = context_for(self.conf, &stage.message, self.related);
-        Ok(add_message_lines(alloc, self.conf, &context, index, moment, stage, lines)?)
-    }
-
-    /// Adds the lines of the hop with this index. It answers the message after it.
-    fn add_hop<'x>(
-        &'x self,
-        alloc: Global,
-        index: usize,
-        before: &'x Stage<'r>,
-        hop: &RecordedHop<'r>,
-        lines: &mut AuditReport,
-    ) -> Result<Stage<'r>, ChainFault>
-        requires whole { IsMessage (answers_head (related_of self.now))
-            (message_of before.now.message) }
-        requires stage { IsStageOf (message_of before.now.message) before.now }
-        requires known { KnowTags (meaning self.now.conf.now)
-            (context_of_audit self.now (message_of before.now.message)) before.now.known }
-        requires reading { self.now.reading.to_head ≡ answers_head (related_of self.now) }
-        requires sized { IsSizedHop hop.now }
-        ensures is { SaysHop self.now index before.now hop.now lines.old lines.new result }
-        ensures known { IfOk result (λ after. KnowTags (meaning self.now.conf.now)
-            (context_of_audit self.now (message_of after.message)) after.known) }
-    {
-        let script = item_script(alloc, hop.item, hop.script)?;
-        let mut after = self.stage(alloc, hop.item + 1, hop.message)?;
-        let was = context_for(self.conf, &before.message, self.related);
-        let now = context_for(self.conf, &after.message, self.related);
-        let from = End {
-            context: &was,
-            stage: before,
-        };
-        let to = End {
-            context: &now,
-            stage: &after,
-        };
-        after.known = add_hop_lines(alloc, index, &from, script.as_slice(), &to, lines)?;
-        Ok(after)
+        let exchange = Exchange::of(alloc, message, self.related, self.conf);
+        Ok(Stage::of(alloc, self.conf, moment, exchange)?)
     }
 
     /// Adds the lines of the first message of the chain.
@@ -172,16 +103,14 @@ impl<'a, 'r> ChainAudit<'a, 'r> {
         alloc: Global,
         chain: &RecordedChain<'r>,
         lines: &mut AuditReport,
-    ) -> Result<Reached<'r>, ChainFault>
-        requires { IsHeldFor chain.now }
+    ) -> Result<Stage<'a, 'r>, ChainFault>
+        requires held { IsHeldFor chain.now }
+        requires reading { self.now.reading.to_head ≡ answers_head (related_of self.now) }
         ensures { SaysFirst self.now chain.now lines.old lines.new result }
     {
-        let mut stage = self.stage(alloc, chain.item, chain.first)?;
-        stage.known = (&*self).add_message(alloc, 0, chain.moment, &stage, lines)?;
-        Ok(Reached {
-            moment: chain.moment,
-            stage,
-        })
+        let mut stage = self.stage(alloc, chain.item, chain.moment, chain.first)?;
+        stage.add_lines(alloc, 0, lines)?;
+        Ok(stage)
     }
 
     /// Adds the lines of the hop with this index, and those of the message after it.
@@ -189,25 +118,21 @@ impl<'a, 'r> ChainAudit<'a, 'r> {
         &self,
         alloc: Global,
         index: usize,
-        before: &Reached<'r>,
+        before: &mut Stage<'a, 'r>,
         hop: &RecordedHop<'r>,
         lines: &mut AuditReport,
-    ) -> Result<Reached<'r>, ChainFault>
-        requires now { before.now.moment ≤ MAX_MOMENT }
-        requires whole { IsMessage (answers_head (related_of self.now))
-            (message_of before.now.stage.message) }
-        requires stage { IsStageOf (message_of before.now.stage.message) before.now.stage }
-        requires known { KnowTags (meaning self.now.conf.now)
-            (context_of_audit self.now (message_of before.now.stage.message))
-            before.now.stage.known }
+    ) -> Result<Stage<'a, 'r>, ChainFault>
+        requires stage { IsStageIn self.now before.old }
         requires reading { self.now.reading.to_head ≡ answers_head (related_of self.now) }
         requires sized { IsSizedHop hop.now }
-        ensures { SaysNext self.now index before.now hop.now lines.old lines.new result }
+        ensures { SaysNext self.now index before.old hop.now lines.old lines.new result }
     {
         let moment = hop.moment.unwrap_or(before.moment);
-        let mut stage = (&*self).add_hop(alloc, index, &before.stage, hop, lines)?;
-        stage.known = (&*self).add_message(alloc, index, moment, &stage, lines)?;
-        Ok(Reached { moment, stage })
+        let script = item_script(alloc, hop.item, hop.script)?;
+        let mut after = self.stage(alloc, hop.item + 1, moment, hop.message)?;
+        add_hop_lines(alloc, index, before, script.as_slice(), &mut after, lines)?;
+        after.add_lines(alloc, index, lines)?;
+        Ok(after)
     }
 
     /// The lines of the chain.
@@ -221,7 +146,7 @@ impl<'a, 'r> ChainAudit<'a, 'r> {
         let mut lines = AuditReport::new(alloc);
         let mut reached = self.first(alloc, chain, &mut lines)?;
         for (count, hop) in chain.hops.as_slice().iter().enumerate() {
-            reached = self.next(alloc, count + 1, &reached, hop, &mut lines)?;
+            reached = self.next(alloc, count + 1, &mut reached, hop, &mut lines)?;
         }
         Ok(lines)
     }

@@ -1,24 +1,21 @@
 //! What becomes of a signature at a hop.
 
-ghost use Rattle.std.specs.Prelude.{◌≡◌, ◌↔◌, ℕ, List, IsTrue, IfOk, option_map};
-ghost use Rattle.component_ids.specs.Identifiers.{id_text};
+ghost use Rattle.std.specs.Prelude.{◌≡◌, ◌↔◌, ℕ, List, IsTrue, option_map};
 ghost use Rattle.component_ids.specs.declared.id.ComponentId.{ComponentId};
 ghost use Rattle.component_values.specs.Context.{MessageContext};
 ghost use Rattle.msg_body.specs.Messages.{Message};
 ghost use Rattle.signatures.specs.Signatures.{HasSignature};
-ghost use Rattle.hop_audit.specs.Fates.{ComesToBoth, IsFate};
+ghost use Rattle.hop_audit.specs.Fates.{ComesToBoth};
 ghost use Rattle.hop_audit.specs.declared.comparison.ComponentFate.TheVariants.{Changed};
-ghost use Rattle.hop_audit.specs.tools.Compared.{IsComparison, IsComponentFate, answer_of, lacking_with};
-ghost use Rattle.hop_audit.specs.tools.Read.{IsStageOf};
+ghost use Rattle.hop_audit.specs.tools.Compared.{IsComponentFate, answer_of, lacking_with};
 ghost use Rattle.hop_audit.specs.tools.Walked.{IsMarkRead};
 
 use crate::answer::Answer;
 use crate::line::Fate;
 use crate::stage::Stage;
-use component_ids::ComponentId;
-use component_values::{Context, Readings};
-use sfv_text::{Memory, Pairs, Text, append_string_item};
-use signatures::LabelRead;
+use component_ids::{ComponentId, print_id};
+use sfv_text::{Memory, Pairs};
+use signatures::{Exchange, LabelRead};
 use std::alloc::Global;
 
 /// What becomes of a component at a hop.
@@ -74,122 +71,88 @@ fn first_lacking<'i>(
     }
 }
 
-/// The strict text of the component's identifier (RFC 9421 section 2.5).
-fn text_of(alloc: Global, id: &ComponentId) -> Result<Text, Memory>
-    ensures { IfOk result (λ text. text ≡ id_text id.now) }
-{
-    let mut text = Text::new(alloc);
-    append_string_item(id.name.bytes(), &id.params, &mut text)?;
-    Ok(text)
-}
-
-/// A component that was compared, and what becomes of it.
+/// What becomes of components from one exchange to another: each is valued, and compared, once for
+/// all labels.
 #[derive(Drop)]
-pub(crate) struct Compared {
-    pub(crate) id: ComponentId,
-    pub(crate) fate: ComponentFate,
+pub(crate) struct Comparison {
+    /// The components that were compared, by the texts of their identifiers.
+    compared: Pairs<ComponentFate>,
 }
 
-/// Two messages of a chain, what was read of each for the components before, and what becomes of
-/// these: each is valued, and compared, once for all labels.
-#[derive(Drop)]
-pub(crate) struct Comparison<'c, 'a, 'm> {
-    pub(crate) before: &'c Context<'a, 'm>,
-    pub(crate) after: &'c Context<'a, 'm>,
-    pub(crate) was: Readings,
-    pub(crate) now: Readings,
-    /// Those that were compared, by the texts of their identifiers.
-    pub(crate) compared: Pairs<Compared>,
-}
-
-impl<'c, 'a, 'm> Comparison<'c, 'a, 'm> {
-    ghost use Rattle.std.specs.Prelude.{IfOk, IfSome};
+impl Comparison {
+    ghost use Rattle.std.specs.Prelude.{◌≡◌, IfOk, IsTrue};
+    ghost use Rattle.std.specs.List.{list_all};
+    ghost use Rattle.component_ids.specs.Identifiers.{is_id_in_range};
+    ghost use Rattle.component_ids.specs.SignatureParams.{are_sig_params_in_range};
     ghost use Rattle.component_values.specs.Context.{MessageContext};
     ghost use Rattle.msg_body.specs.Messages.{Message};
-    ghost use Rattle.hop_audit.specs.tools.Compared.{IsComparison, IsComponentFate, SaysCompared};
+    ghost use Rattle.hop_audit.specs.Fates.{IsFate};
+    ghost use Rattle.hop_audit.specs.tools.Compared.{AreCompared, IsComponentFate, SaysCompared};
+    ghost use Rattle.hop_audit.specs.tools.Stages.{AreAlike};
 
-    /// Compares a component.
-    fn compare(&mut self, alloc: Global, id: &ComponentId) -> Result<ComponentFate, Memory>
-        requires { (context : MessageContext) × (other : Message)
-            × IsComparison context other self.old }
-        ensures fate { (context : MessageContext) (other : Message)
-            → IsComparison context other self.old
-            → IfOk result (IsComponentFate context other id.now) }
-        ensures kept { (context : MessageContext) (other : Message)
-            → IsComparison context other self.old → IsComparison context other self.new }
-    {
-        let was = Answer::of(alloc, self.before, id, &mut self.was)?;
-        let now = Answer::of(alloc, self.after, id, &mut self.now)?;
-        Ok(fate_between(&was, &now))
-    }
-
-    /// What becomes of the component with this text, where it was compared.
-    fn known_fate(&self, text: &[u8], id: &ComponentId) -> Option<ComponentFate>
+    /// Nothing was compared.
+    pub(crate) fn new(alloc: Global) -> Comparison
         ensures { (context : MessageContext) (other : Message)
-            → IsComparison context other self.entry.now
-            → IfSome result (IsComponentFate context other id.now) }
+            → AreCompared context other result.compared }
     {
-        match self.compared.find(text) {
-            Some(own) => {
-                if own.id.is_equal(id) {
-                    Some(own.fate)
-                } else {
-                    None
-                }
-            }
-            None => None,
+        Comparison {
+            compared: Pairs::new(alloc),
         }
-    }
-
-    /// Keeps what becomes of the component with this text.
-    fn keep(
-        &mut self,
-        alloc: Global,
-        text: Text,
-        id: &ComponentId,
-        fate: ComponentFate,
-    ) -> Result<(), Memory>
-        ensures { (context : MessageContext) (other : Message)
-            → IsComparison context other self.old → IsComponentFate context other id.now fate
-            → IsComparison context other self.new }
-    {
-        let id = id.copy(alloc)?;
-        self.compared.put(text, Compared { id, fate })
     }
 
     /// What becomes of a component.
-    fn component_fate(&mut self, alloc: Global, id: &ComponentId) -> Result<ComponentFate, Memory>
-        requires { (context : MessageContext) × (other : Message)
-            × IsComparison context other self.old }
-        ensures fate { (context : MessageContext) (other : Message)
-            → IsComparison context other self.old
-            → IfOk result (IsComponentFate context other id.now) }
-        ensures kept { (context : MessageContext) (other : Message)
-            → IsComparison context other self.old → IsComparison context other self.new }
+    fn component_fate(
+        &mut self,
+        alloc: Global,
+        id: &ComponentId,
+        before: &mut Exchange<'_, '_>,
+        after: &mut Exchange<'_, '_>,
+    ) -> Result<ComponentFate, Memory>
+        requires in_range { IsTrue (is_id_in_range id.now) }
+        requires alike { AreAlike before.old.context after.old.context }
+        requires compared { AreCompared before.old.context after.old.context.message
+            self.old.compared }
+        ensures fate { IfOk result
+            (IsComponentFate before.old.context after.old.context.message id.now) }
+        ensures compared { AreCompared before.old.context after.old.context.message
+            self.new.compared }
+        ensures before { before.new ≡ before.old }
+        ensures after { after.new ≡ after.old }
     {
-        let text = text_of(alloc, id)?;
-        if let Some(fate) = self.known_fate(text.bytes(), id) {
-            return Ok(fate);
+        let text = print_id(alloc, id)?;
+        if let Some(fate) = self.compared.find(text.bytes()) {
+            return Ok(*fate);
         }
-        let fate = self.compare(alloc, id)?;
-        self.keep(alloc, text, id, fate)?;
+        let was = Answer::of(alloc, before, id)?;
+        let now = Answer::of(alloc, after, id)?;
+        let fate = fate_between(&was, &now);
+        self.compared.put(text, fate)?;
         Ok(fate)
     }
 
     /// What becomes of the components: the first that has changed, or else the first that lacks a
     /// value, or else each is kept.
-    fn of_components(&mut self, alloc: Global, ids: &[ComponentId]) -> Result<Fate, Memory>
-        requires { (context : MessageContext) × (other : Message)
-            × IsComparison context other self.old }
-        ensures fate { (context : MessageContext) (other : Message)
-            → IsComparison context other self.old
-            → IfOk result (SaysCompared context other ids.now) }
-        ensures kept { (context : MessageContext) (other : Message)
-            → IsComparison context other self.old → IsComparison context other self.new }
+    fn of_components(
+        &mut self,
+        alloc: Global,
+        ids: &[ComponentId],
+        before: &mut Exchange<'_, '_>,
+        after: &mut Exchange<'_, '_>,
+    ) -> Result<Fate, Memory>
+        requires in_range { IsTrue (list_all is_id_in_range ids.now) }
+        requires alike { AreAlike before.old.context after.old.context }
+        requires compared { AreCompared before.old.context after.old.context.message
+            self.old.compared }
+        ensures fate { IfOk result
+            (SaysCompared before.old.context after.old.context.message ids.now) }
+        ensures compared { AreCompared before.old.context after.old.context.message
+            self.new.compared }
+        ensures before { before.new ≡ before.old }
+        ensures after { after.new ≡ after.old }
     {
         let mut lacking = None;
         for id in ids {
-            let fate = self.component_fate(alloc, id)?;
+            let fate = self.component_fate(alloc, id, before, after)?;
             if is_changed(fate) {
                 return Ok(Fate::Changed(id.copy(alloc)?));
             }
@@ -199,6 +162,38 @@ impl<'c, 'a, 'm> Comparison<'c, 'a, 'm> {
             Some(id) => Ok(Fate::Lacking(id.copy(alloc)?)),
             None => Ok(Fate::Kept),
         }
+    }
+
+    /// What becomes of the signature that the label has in the message before, of which this is the
+    /// message after.
+    pub(crate) fn fate_of(
+        &mut self,
+        alloc: Global,
+        label: &[u8],
+        read: &LabelRead,
+        before: &mut Exchange<'_, '_>,
+        after: &mut Stage<'_, '_>,
+    ) -> Result<Fate, Memory>
+        requires in_range { IsTrue (are_sig_params_in_range read.now.params) }
+        requires alike { AreAlike before.old.context after.old.context }
+        requires compared { AreCompared before.old.context after.old.context.message
+            self.old.compared }
+        ensures fate { IfOk result (IsFate before.old.context after.old.context.message
+            label.now read.now.params read.now.tag) }
+        ensures compared { AreCompared before.old.context after.old.context.message
+            self.new.compared }
+        ensures before { before.new ≡ before.old }
+        ensures after { after.new ≡ after.old }
+    {
+        if !has_same_signature(after.signatures.find(label), read) {
+            return Ok(Fate::Dropped);
+        }
+        self.of_components(
+            alloc,
+            read.params.ids.as_slice(),
+            before,
+            &mut after.exchange,
+        )
     }
 }
 
@@ -220,27 +215,4 @@ fn has_same_signature(own: Option<&LabelRead>, read: &LabelRead) -> bool
         Some(own) => is_same(own, read),
         None => false,
     }
-}
-
-/// What becomes of the signature that the label has in the message before, of which this is the
-/// message after.
-pub(crate) fn fate_of(
-    alloc: Global,
-    label: &[u8],
-    read: &LabelRead,
-    after: &Stage<'_>,
-    comparison: &mut Comparison<'_, '_, '_>,
-) -> Result<Fate, Memory>
-    requires { (context : MessageContext) × (other : Message)
-        × IsComparison context other comparison.old × IsStageOf other after.now }
-    ensures fate { (context : MessageContext) (other : Message)
-        → IsComparison context other comparison.old → IsStageOf other after.now
-        → IfOk result (IsFate context other label.now read.now.params read.now.tag) }
-    ensures kept { (context : MessageContext) (other : Message)
-        → IsComparison context other comparison.old → IsComparison context other comparison.new }
-{
-    if !has_same_signature(after.signature(label), read) {
-        return Ok(Fate::Dropped);
-    }
-    comparison.of_components(alloc, read.params.ids.as_slice())
 }

@@ -1,49 +1,41 @@
 //! The lines of a hop.
 
-ghost use Rattle.std.specs.Prelude.{◌≡◌, ◌≤◌, ℕ, length, List, Bool, OnOk, IfOk, IsTrue, Option};
-ghost use Rattle.std.specs.List.{list_all};
-ghost use Rattle.component_values.specs.Context.{MessageContext, context_of};
+ghost use Rattle.std.specs.Prelude.{◌≡◌, ◌≤◌, ℕ, length, List, OnOk, IfOk, IsTrue};
+ghost use Rattle.std.specs.List.{All, list_all};
+ghost use Rattle.component_values.specs.Context.{MessageContext};
+ghost use Rattle.signatures.specs.MessageSignatures.{AreSignaturesOf};
 ghost use Rattle.msg_body.specs.Messages.{Message};
-ghost use Rattle.msg_body.specs.Views.{message_of};
 ghost use Rattle.rewrite_script.specs.Lines.{is_writable};
 ghost use Rattle.rewrite_script.specs.Scripts.{HaveValues};
 ghost use Rattle.rewrite_script.specs.declared.rewrite.Rewrite.{Rewrite};
-ghost use Rattle.settings.specs.Configuration.{Configuration};
 ghost use Rattle.hop_audit.specs.Hops.{PlacedHop};
 ghost use Rattle.hop_audit.specs.Report.{IsLabelLine};
-ghost use Rattle.hop_audit.specs.tools.Carried.{KnowTags};
-ghost use Rattle.hop_audit.specs.tools.Compared.{IsComparison};
-ghost use Rattle.hop_audit.specs.tools.Read.{IsStageOf};
+ghost use Rattle.hop_audit.specs.tools.Compared.{AreCompared};
 ghost use Rattle.hop_audit.specs.tools.HopLines.{AddsLabelLines, AreJudged, IsJudged, SaysExplained};
-ghost use Rattle.hop_audit.specs.tools.Walked.{AreMarksOf};
-ghost use Rattle.hop_audit.specs.tools.Written.{AddsHopLines, AreEnds};
+ghost use Rattle.hop_audit.specs.tools.Stages.{AreAlike};
+ghost use Rattle.hop_audit.specs.tools.Walked.{AreMarksIn, IsMarkInRange};
+ghost use Rattle.hop_audit.specs.tools.Written.{AddsHopLines};
 
-use crate::comparison::{Comparison, fate_of};
-use crate::known_tags::{KnownTags, known_after};
+use crate::comparison::Comparison;
+use crate::known_tags::known_after;
 use crate::line::{AuditLine, AuditReport};
 use crate::stage::Stage;
 use crate::walk::{Mark, Marks, Walked, walk};
-use component_values::{Context, Readings};
 use rewrite_script::Rewrite;
-use sfv_text::{Memory, Pairs, Text};
+use sfv_text::{Memory, Text};
+use signatures::{Exchange, MessageSignatures};
 use std::alloc::Global;
 
-/// A message of a hop: its context, and what was read of its signatures.
-#[derive(Clone, Copy)]
-pub(crate) struct End<'c, 'a, 'm> {
-    pub(crate) context: &'c Context<'a, 'm>,
-    pub(crate) stage: &'c Stage<'m>,
-}
-
 /// Each label of the message before the hop, with its signature, where it has one.
-fn marks_of<'s>(alloc: Global, before: &'s Stage<'_>) -> Result<Vec<Mark<'s>>, Memory>
-    ensures { (message : Message) → IsStageOf message before.now
-        → IfOk result (λ marks. AreMarksOf message before.now.labels marks.items) }
+fn marks_of<'s>(alloc: Global, signatures: &'s MessageSignatures) -> Result<Marks<'s>, Memory>
+    ensures { (message : Message) → AreSignaturesOf message signatures.now
+        → IfOk result (λ made. AreMarksIn message made.marks.items) }
 {
-    let mut marks = Vec::with_capacity(alloc, before.labels.len())?;
-    for label in before.labels.as_slice() {
+    let labels = signatures.labels();
+    let mut marks = Vec::with_capacity(alloc, labels.len())?;
+    for label in labels {
         let label = label.bytes();
-        let read = before.signature(label);
+        let read = signatures.find(label);
         let permitted = read.is_some();
         marks.push(Mark {
             label,
@@ -51,7 +43,7 @@ fn marks_of<'s>(alloc: Global, before: &'s Stage<'_>) -> Result<Vec<Mark<'s>>, M
             permitted,
         })?;
     }
-    Ok(marks)
+    Ok(Marks { marks })
 }
 
 /// Whether the steps lead to the message of these bytes; else the step that isn't applicable, where
@@ -65,31 +57,41 @@ fn explanation(walked: &Walked, bytes: &[u8]) -> (bool, Option<usize>)
     }
 }
 
-fn label_line(
-    alloc: Global,
+/// A hop whose script was walked.
+#[derive(Clone, Copy)]
+struct WalkedHop {
     index: usize,
     explained: bool,
+}
+
+fn label_line(
+    alloc: Global,
+    hop: WalkedHop,
     mark: &Mark<'_>,
-    after: &End<'_, '_, '_>,
-    comparison: &mut Comparison<'_, '_, '_>,
+    before: &mut Exchange<'_, '_>,
+    after: &mut Stage<'_, '_>,
+    comparison: &mut Comparison,
 ) -> Result<AuditLine, Memory>
-    requires after { IsStageOf (context_of after.now.context.now).message after.now.stage.now }
-    requires comparison { (context : MessageContext) × IsComparison context
-        (context_of after.now.context.now).message comparison.old }
-    ensures line { (context : MessageContext) (hop : PlacedHop)
-        → IsJudged context hop (context_of after.now.context.now).message index explained mark.now
-        → IsComparison context (context_of after.now.context.now).message comparison.old
-        → IfOk result (IsLabelLine context hop mark.now.label.now) }
-    ensures kept { (context : MessageContext)
-        → IsComparison context (context_of after.now.context.now).message comparison.old
-        → IsComparison context (context_of after.now.context.now).message comparison.new }
+    requires in_range { IsMarkInRange mark.now }
+    requires alike { AreAlike before.old.context after.old.context }
+    requires compared { AreCompared before.old.context after.old.context.message
+        comparison.old.compared }
+    ensures line { (placed : PlacedHop)
+        → IsJudged before.old.context placed after.old.context.message hop.index
+        hop.explained mark.now
+        → IfOk result (IsLabelLine before.old.context placed mark.now.label.now) }
+    ensures compared { AreCompared before.old.context after.old.context.message
+        comparison.new.compared }
+    ensures before { before.new ≡ before.old }
+    ensures after { after.new ≡ after.old }
 {
+    let index = hop.index;
     let label = Text::from_bytes(alloc, mark.label)?;
     let Some(read) = mark.read else {
         return Ok(AuditLine::Unread { index, label });
     };
-    let fate = fate_of(alloc, mark.label, read, after.stage, comparison)?;
-    let permitted = explained && mark.permitted;
+    let fate = comparison.fate_of(alloc, mark.label, read, before, after)?;
+    let permitted = hop.explained && mark.permitted;
     Ok(AuditLine::Label {
         index,
         label,
@@ -98,117 +100,85 @@ fn label_line(
     })
 }
 
+/// Adds the line of each label.
 fn add_label_lines(
     alloc: Global,
-    index: usize,
-    explained: bool,
+    hop: WalkedHop,
     marks: &[Mark<'_>],
-    after: &End<'_, '_, '_>,
-    comparison: &mut Comparison<'_, '_, '_>,
+    before: &mut Exchange<'_, '_>,
+    after: &mut Stage<'_, '_>,
     lines: &mut AuditReport,
 ) -> Result<(), Memory>
-    requires after { IsStageOf (context_of after.now.context.now).message after.now.stage.now }
-    requires comparison { (context : MessageContext) × IsComparison context
-        (context_of after.now.context.now).message comparison.old }
-    ensures { (context : MessageContext) (script : List Rewrite) (labels : List (List ℕ))
-        → AreJudged context index script (context_of after.now.context.now).message labels marks.now
-        explained
-        → IsComparison context (context_of after.now.context.now).message comparison.old
-        → OnOk result (AddsLabelLines context index script
-        (context_of after.now.context.now).message labels lines.old lines.new) }
+    requires in_range { All IsMarkInRange marks.now }
+    requires alike { AreAlike before.old.context after.old.context }
+    ensures lines { (script : List Rewrite) (labels : List (List ℕ))
+        → AreJudged before.old.context hop.index script after.old.context.message labels
+        marks.now hop.explained
+        → OnOk result (AddsLabelLines before.old.context hop.index script
+        after.old.context.message labels lines.old lines.new) }
+    ensures before { before.new ≡ before.old }
+    ensures after { after.new ≡ after.old }
 {
+    let mut comparison = Comparison::new(alloc);
     for mark in marks {
-        let line = label_line(alloc, index, explained, mark, after, comparison)?;
+        let line = label_line(alloc, hop, mark, before, after, &mut comparison)?;
         lines.push(line)?;
     }
     Ok(())
 }
 
-/// Adds the line of each label, beside a comparison of both messages that begins here.
-fn add_compared_lines<'c, 'a, 'm>(
-    alloc: Global,
-    index: usize,
-    explained: bool,
-    marks: &[Mark<'_>],
-    before: &End<'c, 'a, 'm>,
-    after: &End<'c, 'a, 'm>,
-    lines: &mut AuditReport,
-) -> Result<(), Memory>
-    requires ends { AreEnds before.now after.now }
-    ensures { (script : List Rewrite) (labels : List (List ℕ))
-        → AreJudged (context_of before.now.context.now) index script
-        (context_of after.now.context.now).message labels marks.now explained
-        → OnOk result (AddsLabelLines (context_of before.now.context.now) index script
-        (context_of after.now.context.now).message labels lines.old lines.new) }
-{
-    let mut comparison = Comparison {
-        before: before.context,
-        after: after.context,
-        was: Readings::new(alloc),
-        now: Readings::new(alloc),
-        compared: Pairs::new(alloc),
-    };
-    add_label_lines(
-        alloc,
-        index,
-        explained,
-        marks,
-        after,
-        &mut comparison,
-        lines,
-    )
-}
-
 /// Adds the hop's line, and a line for each label of the message before it.
-fn add_own_lines<'c, 'a, 'm>(
+fn add_own_lines(
     alloc: Global,
     index: usize,
-    before: &End<'c, 'a, 'm>,
+    before: &mut Stage<'_, '_>,
     script: &[Rewrite],
-    after: &End<'c, 'a, 'm>,
+    after: &mut Stage<'_, '_>,
     lines: &mut AuditReport,
 ) -> Result<(), Memory>
     requires writable { IsTrue (list_all is_writable script.now) }
     requires values { HaveValues script.now }
-    requires ends { AreEnds before.now after.now }
-    ensures lines { OnOk result (AddsHopLines (context_of before.now.context.now) index script.now
-        (context_of after.now.context.now).message lines.old lines.new) }
+    requires alike { AreAlike before.old.context after.old.context }
+    ensures lines { OnOk result (AddsHopLines before.old.context index script.now
+        after.old.context.message lines.old lines.new) }
     ensures longer { OnOk result (length lines.old ≤ length lines.new) }
+    ensures before { before.new ≡ before.old }
+    ensures after { after.new ≡ after.old }
 {
-    let mut marks = Marks {
-        marks: marks_of(alloc, before.stage)?,
-    };
-    let walked = walk(alloc, before.context, script, &mut marks)?;
-    let (explained, stopped) = explanation(&walked, after.context.message.bytes());
+    let mut marks = marks_of(alloc, &before.signatures)?;
+    let walked = walk(alloc, &before.exchange.context(), script, &mut marks)?;
+    let (explained, stopped) = explanation(&walked, after.exchange.message().bytes());
     lines.push(AuditLine::Hop {
         index,
         explained,
         stopped,
     })?;
+    let hop = WalkedHop { index, explained };
     let marks = marks.marks.as_slice();
-    add_compared_lines(alloc, index, explained, marks, before, after, lines)
+    add_label_lines(alloc, hop, marks, &mut before.exchange, after, lines)
 }
 
-/// The same. It answers what is known of the tags of the message after the hop: where it keeps a
-/// label's signature base, what was known of the label's tag.
-pub(crate) fn add_hop_lines<'c, 'a, 'm>(
+/// The same. Of the tags of the message after the hop is known then, where it keeps a label's
+/// signature base, what was known of the label's tag.
+pub(crate) fn add_hop_lines(
     alloc: Global,
     index: usize,
-    before: &End<'c, 'a, 'm>,
+    before: &mut Stage<'_, '_>,
     script: &[Rewrite],
-    after: &End<'c, 'a, 'm>,
+    after: &mut Stage<'_, '_>,
     lines: &mut AuditReport,
-) -> Result<KnownTags, Memory>
+) -> Result<(), Memory>
     requires writable { IsTrue (list_all is_writable script.now) }
     requires values { HaveValues script.now }
-    requires ends { AreEnds before.now after.now }
-    ensures lines { OnOk result (AddsHopLines (context_of before.now.context.now) index script.now
-        (context_of after.now.context.now).message lines.old lines.new) }
-    ensures known { (conf : Configuration)
-        → KnowTags conf (context_of before.now.context.now) before.now.stage.now.known
-        → IfOk result (KnowTags conf (context_of after.now.context.now)) }
+    requires alike { AreAlike before.old.context after.old.context }
+    requires conf { after.old.conf ≡ before.old.conf }
+    ensures lines { OnOk result (AddsHopLines before.old.context index script.now
+        after.old.context.message lines.old lines.new) }
+    ensures before { before.new ≡ before.old }
+    ensures after { after.new ≡ after.old }
 {
     let first = lines.len();
     add_own_lines(alloc, index, before, script, after, lines)?;
-    known_after(alloc, &before.stage.known, &lines.as_slice()[first..])
+    after.known = known_after(alloc, &before.known, &lines.as_slice()[first..])?;
+    Ok(())
 }

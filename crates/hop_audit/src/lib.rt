@@ -20,7 +20,6 @@ mod known_tags;
 mod laws;
 mod line;
 mod line_text;
-mod message_lines;
 mod order;
 mod read;
 mod stage;

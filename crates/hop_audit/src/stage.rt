@@ -1,96 +1,178 @@
-//! A message of a chain, with what was read of its signatures.
+//! A message of a chain as it is audited.
 
-ghost use Rattle.std.specs.Prelude.{IfOk};
-ghost use Rattle.msg_body.specs.Messages.{Message};
-ghost use Rattle.signatures.specs.Fields.{AreFieldsOf};
-ghost use Rattle.signatures.specs.Signatures.{AreLabels};
-ghost use Rattle.hop_audit.specs.tools.Read.{AreReadIn, IsReadOf};
-
-use crate::known_tags::KnownTags;
-use msg_body::MessageView;
-use sfv_text::{Memory, Pairs};
-use signatures::{LabelFault, LabelRead, Labels, SignatureFields};
+use crate::known_tags::{KnownTags, known_after, known_of};
+use crate::line::{AuditLine, AuditReport};
+use nonces::Steps;
+use settings::Conf;
+use sfv_text::{Memory, Pairs, Text};
+use signatures::{Exchange, MessageSignatures};
 use std::alloc::Global;
+use std::marker::{Brand, Model};
+use std::sync::ledger::{Blank, Ledger};
+use verdicts::{SignedLabel, Verdict, Verifier};
 
-/// A message of a chain, its fields of signatures, its labels with the signature of each, where it
-/// has one, and what is known of their tags: each is read once.
+/// A message of a chain with its moment, all that is read of it, each part once, and what is known
+/// of the tags of its labels. A contract sees what its labels are judged by.
 #[derive(Drop)]
-pub(crate) struct Stage<'r> {
-    pub(crate) message: MessageView<'r>,
-    pub(crate) fields: SignatureFields,
-    pub(crate) labels: Labels,
-    signatures: Pairs<Option<LabelRead>>,
+pub(crate) struct Stage<'a, 'r> {
+    conf: &'a Conf,
+    /// In seconds since the epoch.
+    pub(crate) moment: u64,
+    pub(crate) exchange: Exchange<'a, 'r>,
+    pub(crate) signatures: MessageSignatures,
     pub(crate) known: KnownTags,
 }
 
-/// The signature that the label has in the message of these fields, where it has one.
-fn signature_in(
-    alloc: Global,
-    fields: &SignatureFields,
-    label: &[u8],
-) -> Result<Option<LabelRead>, Memory>
-    ensures { (message : Message) → AreFieldsOf message fields.now
-        → IfOk result (IsReadOf message label.now) }
-{
-    match fields.label(alloc, label) {
-        Ok(read) => Ok(Some(read)),
-        Err(LabelFault::Rule(_, _)) => Ok(None),
-        Err(LabelFault::Memory) => Err(Memory),
-    }
+impl<'a, 'r> Model for Stage<'a, 'r> {
+    ghost use Rattle.std.specs.Coded.{codes};
+    ghost use Rattle.component_ids.specs.tools.Kinds.{kinds_code};
+    ghost use Rattle.settings.specs.ConfMeaning.{meaning};
+    ghost use Rattle.settings.specs.tools.KeyEntries.{keys_code};
+    ghost use Rattle.hop_audit.specs.tools.Stages.{IsStage, StageState};
+
+    ghost Value = { StageState };
+
+    ghost coded = { Prim.hlevel (codes, kinds_code, keys_code) };
+
+    ghost view = { λ s. record {
+      conf = meaning s.conf.now;
+      moment = s.moment;
+      context = s.exchange.context;
+    } };
+
+    ghost invariant = { λ s.
+        IsStage (meaning s.conf.now) s.moment s.exchange.context s.signatures s.known };
 }
 
-/// The signatures of these labels in the message of these fields.
-fn signatures_in(
-    alloc: Global,
-    fields: &SignatureFields,
-    labels: &Labels,
-) -> Result<Pairs<Option<LabelRead>>, Memory>
-    ensures { (message : Message) → AreFieldsOf message fields.now → AreLabels message labels.now
-        → IfOk result (AreReadIn message) }
-{
-    let mut signatures = Pairs::new(alloc);
-    for label in labels.as_slice() {
-        let read = signature_in(alloc, fields, label.bytes())?;
-        signatures.put(label.copy(alloc)?, read)?;
-    }
-    Ok(signatures)
-}
+impl<'a, 'r> Stage<'a, 'r> {
+    ghost use Rattle.std.specs.Prelude.{◌≡◌, ◌≤◌, ◌<◌, length, IfOk, IsTrue, OnOk};
+    ghost use Rattle.component_values.specs.Context.{HasWholeMessage};
+    ghost use Rattle.nonces.specs.declared.limits.TheConstants.{MAX_MOMENT};
+    ghost use Rattle.settings.specs.ConfMeaning.{meaning};
+    ghost use Rattle.verdicts.specs.Verdicts.{IsVerdict, is_verdict_in_range};
+    ghost use Rattle.hop_audit.specs.tools.Stages.{judged};
+    ghost use Rattle.hop_audit.specs.tools.Written.{AddsMessageLine, AddsMessageLines};
 
-impl<'r> Stage<'r> {
-    ghost use Rattle.std.specs.Prelude.{◌≡◌, ℕ, List, [], IfOk, IsSomeAnd, MatchOption};
-    ghost use Rattle.component_ids.specs.declared.params.SigParams.{SigParams};
-    ghost use Rattle.msg_body.specs.Messages.{Message};
-    ghost use Rattle.msg_body.specs.Views.{message_of};
-    ghost use Rattle.signatures.specs.Signatures.{HasSignature};
-    ghost use Rattle.hop_audit.specs.tools.Read.{IsStageOf};
-
-    /// The message with its fields of signatures and its labels. Nothing is known of their tags.
-    pub(crate) fn of(alloc: Global, message: MessageView<'r>) -> Result<Stage<'r>, Memory>
-        ensures is { IfOk result (IsStageOf (message_of message.entry)) }
-        ensures unknown { IfOk result (λ stage. stage.known ≡ []) }
+    /// The exchange at this moment. Nothing is known of its tags.
+    pub(crate) fn of(
+        alloc: Global,
+        conf: &'a Conf,
+        moment: u64,
+        exchange: Exchange<'a, 'r>,
+    ) -> Result<Stage<'a, 'r>, Memory>
+        requires whole { HasWholeMessage exchange.context }
+        requires now { moment ≤ MAX_MOMENT }
+        ensures { IfOk result (λ stage. stage ≡ record {
+          conf = meaning conf.now;
+          moment = moment;
+          context = exchange.entry.context;
+        }) }
     {
-        let fields = SignatureFields::read(alloc, &message)?;
-        let labels = fields.labels(alloc)?;
-        let signatures = signatures_in(alloc, &fields, &labels)?;
+        let mut exchange = exchange;
+        let signatures = exchange.signatures(alloc)?;
         Ok(Stage {
-            message,
-            fields,
-            labels,
+            conf,
+            moment,
+            exchange,
             signatures,
             known: Pairs::new(alloc),
         })
     }
 
-    /// The signature of the label, where it has one.
-    pub(crate) fn signature(&self, label: &[u8]) -> Option<&LabelRead>
-        ensures { (message : Message) → IsStageOf message self.now → MatchOption result
-            ((params : SigParams) (tag : List ℕ) → ¬ HasSignature message label.now params tag)
-            (λ read. HasSignature message label.now read.now.params read.now.tag) }
+    /// The verdict on the label. No nonce is remembered.
+    fn verdict<L: Ledger>(
+        &mut self,
+        alloc: Global,
+        label: &[u8],
+        steps: &mut Steps<L>,
+    ) -> Result<Verdict, Memory>
+        ensures is { IfOk result (IsVerdict (judged self.old label.now)) }
+        ensures in_range { IfOk result (λ verdict. IsTrue (is_verdict_in_range verdict)) }
+        ensures same { self.new ≡ self.old }
     {
+        let verifier = Verifier {
+            conf: self.conf,
+            moment: self.moment,
+            seen: None,
+        };
         match self.signatures.find(label) {
-            Some(Some(read)) => Some(read),
-            Some(None) => None,
-            None => None,
+            Some(read) => {
+                let is_right = known_of(&self.known, label);
+                let signed = SignedLabel {
+                    label,
+                    read,
+                    is_right,
+                };
+                verifier.verdict_on(alloc, &mut self.exchange, &signed, steps)
+            }
+            None => verifier.verdict(alloc, &mut self.exchange, label, steps),
         }
+    }
+
+    /// Adds the line of the label of the message with this index.
+    fn add_line<L: Ledger>(
+        &mut self,
+        alloc: Global,
+        index: usize,
+        label: Text,
+        steps: &mut Steps<L>,
+        lines: &mut AuditReport,
+    ) -> Result<(), Memory>
+        ensures line { OnOk result
+            (AddsMessageLine (judged self.old label) index lines.old lines.new) }
+        ensures same { self.new ≡ self.old }
+    {
+        let verdict = self.verdict(alloc, label.bytes(), steps)?;
+        lines.push(AuditLine::Message {
+            index,
+            label,
+            verdict,
+        })
+    }
+
+    /// Adds a line for each label, or for `-`, which no Dictionary has.
+    fn add_each<L: Ledger>(
+        &mut self,
+        alloc: Global,
+        index: usize,
+        blank: Blank,
+        lines: &mut AuditReport,
+    ) -> Result<(), Memory>
+        requires name { blank.name ≡ L.name }
+        requires parts { blank.parts ≡ L.parts }
+        requires some { 0 < blank.parts }
+        ensures lines { OnOk result (AddsMessageLines self.old.conf self.old.context index
+            self.old.moment lines.old lines.new) }
+        ensures same { self.new ≡ self.old }
+    {
+        let mut steps: Steps<L> = Steps::new(blank);
+        let count = self.signatures.labels().len();
+        if count == 0 {
+            let none = Text::from_bytes(alloc, b"-")?;
+            return self.add_line(alloc, index, none, &mut steps, lines);
+        }
+        for place in 0..count {
+            let label = self.signatures.labels()[place].copy(alloc)?;
+            self.add_line(alloc, index, label, &mut steps, lines)?;
+        }
+        Ok(())
+    }
+
+    /// Adds the lines of the message, which has this index (RFC 9421 section 3.2), and keeps what
+    /// its verdicts say of the tags.
+    pub(crate) fn add_lines(
+        &mut self,
+        alloc: Global,
+        index: usize,
+        lines: &mut AuditReport,
+    ) -> Result<(), Memory>
+        ensures lines { OnOk result (AddsMessageLines self.old.conf self.old.context index
+            self.old.moment lines.old lines.new) }
+        ensures same { self.new ≡ self.old }
+    {
+        let first = lines.len();
+        self.add_each::<Brand>(alloc, index, Blank::new(1), lines)?;
+        self.known = known_after(alloc, &self.known, &lines.as_slice()[first..])?;
+        Ok(())
     }
 }

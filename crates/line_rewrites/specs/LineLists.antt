@@ -4,12 +4,9 @@
 use Rattle.std.specs.Prelude.{◌≡◌, ⊤, ◌⊎◌, ℕ, ◌+◌, IsFalse, List, ◌∷◌, ◌++◌, length, codes}
 use Rattle.std.specs.Str.{byte, str_to_ascii_lowercase}
 use Rattle.msg_head.specs.Lines.{FieldLine}
+pub use Rattle.msg_head.specs.Lines.{line_of}
 use Rattle.msg_head.specs.Values.{value, is_there}
 use Rattle.field_values.specs.SameFields.{name_of}
-
--- the line of this name with a space before the text
-abbrev pub line_of : List ℕ → List ℕ → FieldLine
-line_of name text = record { name = name; raw = byte " " ∷ text }
 
 -- ---- one line
 

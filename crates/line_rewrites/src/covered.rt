@@ -1,6 +1,7 @@
 //! Which fields of a message its signature covers.
 
 ghost use Rattle.std.specs.Prelude.{◌≡◌};
+ghost use Rattle.component_values.specs.Alike.{is_own_field};
 ghost use Rattle.msg_head.specs.Views.{field_line_of};
 ghost use Rattle.line_rewrites.specs.Covered.{is_on, is_field_on, is_wrapped_on, covers_field, covers_lines};
 ghost use Rattle.field_values.specs.SameFields.{name_of};
@@ -8,8 +9,15 @@ ghost use Rattle.field_values.specs.SameFields.{name_of};
 use component_ids::{ComponentId, SigParams, has_param, is_field_name};
 use msg_head::{LineView, Side};
 
-/// Whether the lines of the component are those of the side.
-fn is_on(side: Side, id: &ComponentId) -> bool
+/// Whether the component is a field of the message itself (RFC 9421 section 2.1).
+pub fn is_own_field(id: &ComponentId) -> bool
+    ensures { result ≡ is_own_field id.now }
+{
+    is_field_name(id.name.bytes()) && !has_param(&id.params, b"req")
+}
+
+/// Whether the lines of the component are those of the side (RFC 9421 section 2.1.4).
+pub fn is_on(side: Side, id: &ComponentId) -> bool
     ensures { result ≡ is_on side id.now }
 {
     match side {
@@ -22,7 +30,7 @@ fn is_on(side: Side, id: &ComponentId) -> bool
 fn is_field_on(side: Side, line: LineView<'_>, id: &ComponentId) -> bool
     ensures { result ≡ is_field_on side (name_of (field_line_of line.entry)) id.now }
 {
-    if !is_field_name(id.name.bytes()) || has_param(&id.params, b"req") {
+    if !is_own_field(id) {
         return false;
     }
     is_on(side, id) && line.is_named(id.name.bytes())

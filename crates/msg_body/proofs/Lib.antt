@@ -3,6 +3,7 @@ mod Joins
 mod Lower
 mod OneBodies
 pub mod OneMessages
+mod OtherHeads
 mod Outcomes
 mod Readings
 pub mod EachAnswers

@@ -27,6 +27,11 @@ is_expected Any start = true
 abbrev pub message_text : Message → List ℕ
 message_text message = head_text message.head ++ body_text message.body
 
+-- the message with this head in place of its own
+abbrev pub with_head : Message → Head → Message
+with_head message head =
+    record { head = head; framing = message.framing; body = message.body }
+
 -- The parts are those that a message has, within the limits that are set here. A response answers a
 -- HEAD request where `to_head` says so, and has no content then.
 pub record IsMessage (to_head : Bool) (message : Message) : Type 0 where

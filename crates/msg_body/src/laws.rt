@@ -4,7 +4,7 @@ ghost use Rattle.msg_body.specs.Laws.{OneMessage, NoMessageInPrefix, OneMessageA
 
 /// The laws of messages: bytes spell at most one message, and where a proper prefix of a message's
 /// bytes spells one too, the content of both goes to the end.
-pub fn message_laws()
+pub fn bytes_spell_one_message()
     ensures one { OneMessage }
     ensures prefix { NoMessageInPrefix }
 {}

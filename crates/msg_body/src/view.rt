@@ -102,6 +102,13 @@ impl<'m> MessageView<'m> {
         self.framing
     }
 
+    /// What comes after the head.
+    pub(crate) fn body(&self) -> &BodyView<'m>
+        ensures { body_parts result.now ≡ self.now.body }
+    {
+        &self.body
+    }
+
     /// Whether the content is in chunks, so that a trailer section comes after it (RFC 9112 section
     /// 7.1.2).
     pub fn has_trailers(&self) -> bool

@@ -18,3 +18,14 @@ pub record IsLine (line : FieldLine) : Type 0 where
 -- the name, a colon, the raw value, CRLF
 abbrev pub line_text : FieldLine → List ℕ
 line_text line = line.name ++ byte ":" ∷ (line.raw ++ codes "\r\n")
+
+-- ---- lines of a value
+
+-- the line of this name with a space before the text
+abbrev pub line_of : List ℕ → List ℕ → FieldLine
+line_of name text = record { name = name; raw = byte " " ∷ text }
+
+-- the line of a Dictionary of one member, by its key and the text of its value (RFC 9651 section
+-- 3.2)
+abbrev pub member_line : List ℕ → List ℕ → List ℕ → FieldLine
+member_line name key text = line_of name (key ++ byte "=" ∷ text)

@@ -4,7 +4,7 @@ ghost use Rattle.msg_head.specs.Laws.{OneHead, OneHeadOfText, NoHeadInPrefix, En
 
 /// The laws of heads: bytes begin with at most one head, a text is that of at most one head, no
 /// head's text is a proper prefix of another's, and a head ends at the first CRLF CRLF.
-pub fn head_laws()
+pub fn bytes_begin_with_one_head()
     ensures one { OneHead }
     ensures text { OneHeadOfText }
     ensures prefix { NoHeadInPrefix }
@@ -35,14 +35,14 @@ pub fn trailers_have_one_answer()
 
 /// The law of values: a line's raw value has one value, which is the texts of its pieces without
 /// the blanks at their ends, those that are not empty, joined by one space.
-pub fn value_laws()
+pub fn a_line_has_one_value()
     ensures value { RawHasOneValue }
     ensures after_space { HasItsValueAfterSpace }
 {}
 
 /// The laws of lines that come after others: they keep the values of names that they don't have,
 /// and the value of one more line comes last.
-pub fn further_line_laws()
+pub fn further_lines_keep_other_values()
     ensures others { KeepsOtherNames }
     ensures further { CombinesFurtherLine }
 {}

@@ -37,7 +37,8 @@ mod view;
 pub use error::{HeadError, Side};
 pub use head::{HeadRead, read_head};
 pub use laws::{
-    further_line_laws, head_laws, heads_have_one_answer, trailers_have_one_answer, value_laws,
+    a_line_has_one_value, bytes_begin_with_one_head, further_lines_keep_other_values,
+    heads_have_one_answer, trailers_have_one_answer,
 };
 pub use limit_laws::limits_are_these;
 pub use limits::{MAX_HEAD_BYTES, MAX_HEAD_LINES};

@@ -1,14 +1,12 @@
 -- What `audit` writes is a sound report.
 use Rattle.std.proofs.Common.{◌≡◌, inl, inr, ℕ, List, Some, subst}
 use Rattle.hms_io.specs.declared.status.Status.{Status}
-use Rattle.hms_io.specs.declared.status.Status.TheVariants.{Done, NotOk}
-use Rattle.command_line.specs.Command.{CommandLine, Audit, AuditWords, IsCommand}
+use Rattle.command_line.specs.Command.{CommandLine, Audit, AuditWords}
 use Rattle.command_line.proofs.CommandLaws.{one_command}
 use Rattle.conf.specs.Configuration.{Configuration}
 use Rattle.commands.specs.Audit.{ReportsAudit}
 use Rattle.commands.specs.Configured.{IsConfigured}
 use Rattle.commands.specs.Files.{Found, Conf as ConfFile}
-use Rattle.commands.specs.Outcome.{status_of}
 use Rattle.commands.specs.declared.outcome.Outcome.{Outcome}
 use Rattle.commands.specs.declared.outcome.Outcome.TheVariants.{Refused}
 use Rattle.refusals.specs.Laws.{IsOfRefusal}

@@ -9,7 +9,7 @@ use Rattle.msg_body.specs.Messages.{Message, Spells, is_expected}
 use Rattle.component_values.specs.Context.{MessageContext, answers_head}
 use Rattle.conf.specs.Configuration.{Configuration}
 use Rattle.rewrite_script.specs.declared.rewrite.Rewrite.{Rewrite as Rewriting}
-use Rattle.permissions.specs.Laws.{IsReadAs}
+use Rattle.whole_rewrites.specs.Laws.{IsReadAs}
 use Rattle.rewrites.specs.Laws.{rests_on_conf}
 use Rattle.verdicts.specs.Verdicts.{IsVerdict}
 use Rattle.verdicts.specs.declared.outcome.Verdict.{Verdict}

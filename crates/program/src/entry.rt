@@ -18,7 +18,7 @@ use crate::ended::Ended;
 use crate::over_message::over_message;
 use crate::over_recording::over_recording;
 use command_line::{Command, read_words};
-use commands::{Outcome, Stop, write_help, write_help_of, write_sample, write_version};
+use commands::{Outcome, Stop, help_outcome, sample_outcome, version_outcome, write_help_of};
 use hms_io::{Failed, Shelf, Sink, Source, Status, put_all};
 use refusals::Refusal;
 use sfv_text::{Memory, Text};
@@ -54,15 +54,15 @@ fn run_command<F: Shelf, S: Source>(
         return Err(Stop::Refused(Refusal::Arguments));
     };
     match command {
-        Command::Help => Ok(write_help(alloc)?),
+        Command::Help => Ok(help_outcome(alloc)?),
         Command::HelpOf(name) => Ok(write_help_of(alloc, name)?),
-        Command::Version => Ok(write_version(alloc)?),
+        Command::Version => Ok(version_outcome(alloc)?),
         Command::Base(words) => over_message(alloc, &words, shelf, source),
         Command::Verify(words) => over_message(alloc, &words, shelf, source),
         Command::Sign(words) => over_message(alloc, &words, shelf, source),
         Command::Rewrite(words) => over_message(alloc, &words, shelf, source),
         Command::Audit(words) => over_recording(alloc, &words, shelf, source),
-        Command::Sample(words) => write_sample(alloc, words.seed, words.count),
+        Command::Sample(words) => sample_outcome(alloc, words.seed, words.count),
     }
 }
 

@@ -23,9 +23,9 @@ ghost use Rattle.program.specs.tools.Parts.{Asks, AsksUntil, CountsOne, IsAfterI
 use crate::intake::{FileWords, FilesRead, Taken};
 use command_line::{BaseWords, RewriteWords, SignWords, VerifyWords};
 use commands::{
-    Needs, Outcome, Reading, Stop, check_tables, context_for, read_configuration, read_input,
-    read_script_file, read_taken, take_message, write_base, write_rewritten, write_signed,
-    write_verdicts, write_wished,
+    Needs, Outcome, Reading, Stop, base_outcome, check_tables, context_for, fetch_message,
+    fetched_message, message_of_role, read_configuration, read_script_file, rewrite_outcome,
+    sign_outcome, verify_outcome, wished_outcome,
 };
 use conf::Conf;
 use hms_io::{Shelf, Source, fill};
@@ -99,7 +99,7 @@ impl<'a> OverMessage for BaseWords<'a> {
     }
 
     fn answer(&self, alloc: Global, taken: &Taken<'_>) -> Result<Outcome, Stop> {
-        write_base(alloc, self.params.as_bytes(), taken.context)
+        base_outcome(alloc, self.params.as_bytes(), taken.context)
     }
 }
 
@@ -134,7 +134,7 @@ impl<'a> OverMessage for VerifyWords<'a> {
     }
 
     fn answer(&self, alloc: Global, taken: &Taken<'_>) -> Result<Outcome, Stop> {
-        Ok(write_verdicts(alloc, taken.conf, self.now, self.label, taken.context)?)
+        Ok(verify_outcome(alloc, taken.conf, self.now, self.label, taken.context)?)
     }
 }
 
@@ -173,8 +173,8 @@ impl<'a> OverMessage for SignWords<'a> {
 
     fn answer(&self, alloc: Global, taken: &Taken<'_>) -> Result<Outcome, Stop> {
         match taken.wishes {
-            None => write_signed(alloc, taken.conf, self.now, self.nonce, taken.context),
-            Some(wishes) => write_wished(alloc, taken.conf, self.now, wishes, taken.context),
+            None => sign_outcome(alloc, taken.conf, self.now, self.nonce, taken.context),
+            Some(wishes) => wished_outcome(alloc, taken.conf, self.now, wishes, taken.context),
         }
     }
 }
@@ -209,7 +209,7 @@ impl<'a> OverMessage for RewriteWords<'a> {
     }
 
     fn answer(&self, alloc: Global, taken: &Taken<'_>) -> Result<Outcome, Stop> {
-        write_rewritten(alloc, self.label, taken.script, taken.context)
+        rewrite_outcome(alloc, self.label, taken.script, taken.context)
     }
 }
 
@@ -231,7 +231,7 @@ fn over_input<'x, C: OverMessage>(
     ensures reads_nothing { ReadsNothing result }
 {
     let reading = Reading::of_input(files.related);
-    let message = read_input(alloc, reading, Role::Input, input)?;
+    let message = message_of_role(alloc, reading, Role::Input, input)?;
     let context = context_for(files.conf, &message, files.related);
     let taken = Taken {
         conf: files.conf,
@@ -324,15 +324,15 @@ pub fn over_message<C: OverMessage, F: Shelf, S: Source>(
 {
     let names = command.files();
     let conf = read_needed(alloc, command.needs(), names.conf, shelf)?;
-    let request = take_message(alloc, Role::Request, names.request, shelf)?;
-    let related = read_taken(
+    let request = fetch_message(alloc, Role::Request, names.request, shelf)?;
+    let related = fetched_message(
         alloc,
         Role::Request,
         Reading::of_request(),
         request.as_ref(),
     )?;
-    let wanted = take_message(alloc, Role::Wanted, names.wanted, shelf)?;
-    let wishes = read_taken(alloc, Role::Wanted, Reading::of_any(), wanted.as_ref())?;
+    let wanted = fetch_message(alloc, Role::Wanted, names.wanted, shelf)?;
+    let wishes = fetched_message(alloc, Role::Wanted, Reading::of_any(), wanted.as_ref())?;
     let script = read_script_file(alloc, names.script, shelf)?;
     let files = FilesRead {
         conf: &conf,

@@ -14,7 +14,7 @@ ghost use Rattle.program.specs.Report.{ReportsConfigured};
 ghost use Rattle.program.specs.tools.Parts.{CountsOne};
 
 use command_line::AuditWords;
-use commands::{Outcome, Stop, read_configuration, write_audit};
+use commands::{Outcome, Stop, audit_outcome, read_configuration};
 use conf::Conf;
 use hms_io::{Shelf, Source, fill};
 use refusals::MAX_RECORDING_BYTES;
@@ -34,7 +34,7 @@ fn audit_source<S: Source>(alloc: Global, conf: &Conf, source: &mut S) -> Result
         Ok(input) => input,
         Err(error) => return Err(Stop::of_fill(MAX_RECORDING_BYTES, error)),
     };
-    write_audit(alloc, conf, input.bytes())
+    audit_outcome(alloc, conf, input.bytes())
 }
 
 /// Audits what the source gives, by the named configuration.

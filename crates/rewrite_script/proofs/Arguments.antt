@@ -14,7 +14,7 @@ use Rattle.byte_grammar.proofs.ListLaws.{all_implied}
 use Rattle.sfv_text.specs.Classes.{is_key, is_key_first, is_key_rest}
 use Rattle.msg_head.specs.declared.error.Side.{Side}
 use Rattle.msg_head.specs.declared.error.Side.TheVariants.{Header, Trailer}
-use Rattle.rewrite_script.specs.Lines.{side_word, blank_letter, blanks_word, are_blanks, ends_in_space, is_base64_byte, is_list_text, is_lower_name, is_lower_tchar, is_query_byte, is_query_text}
+use Rattle.rewrite_script.specs.Lines.{side_word, blank_letter, blanks_word, are_blanks, ends_in_space, is_base64_byte, is_list_text, is_lower_name, is_lower_tchar, is_visible_query_byte, is_query_text}
 use Rattle.rewrite_script.specs.tools.LineWalk.{side_read, is_blank_letter, are_blank_letters, blank_of, blanks_read, name_read, text_read, lower_name_read, query_text_read, key_read, tag_read, params_read}
 use Rattle.rewrite_script.proofs.Cuts.{but}
 use Rattle.rewrite_script.proofs.Exactness.{IsExact, choice, itself_exact, line_byte_of, some_if_is, some_is}
@@ -176,7 +176,7 @@ lower_name_exact = itself_exact is_lower_name (λ name is. all_implied is_tchar 
 
 pub query_text_exact : IsExact (λ text. text) is_query_text query_text_read
 unfolding query_text_read
-query_text_exact = itself_exact is_query_text (λ text is. all_implied is_query_byte is_line_byte (line_byte_of is_query_byte refl) text (and_parts (starts_in (λ c. eqb c 63) text) (list_all is_query_byte text) is).1)
+query_text_exact = itself_exact is_query_text (λ text is. all_implied is_visible_query_byte is_line_byte (line_byte_of is_visible_query_byte refl) text (and_parts (starts_in (λ c. eqb c 63) text) (list_all is_visible_query_byte text) is).1)
 
 -- ---- labels, tags and parameters
 

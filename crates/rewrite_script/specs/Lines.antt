@@ -2,13 +2,14 @@
 -- between two of them. Only the last argument of `add`, `add-label` and `host` may itself have SP
 -- in it.
 use Rattle.std.specs.Prelude.{◌≡◌, ⊤, ℕ, ◌^◌, Bool, true, ◌&&◌, ◌||◌, ◌==◌, not, nat_lt, nat_le, List, [], ◌∷◌, length, reverse, map, codes, Option, Some, None, IsTrue, if◌then◌else◌}
-use Rattle.std.specs.Char.{is_ascii_uppercase}
 use Rattle.std.specs.Fmt.{decimal}
 use Rattle.std.specs.List.{join_by, list_all}
 use Rattle.std.specs.Str.{byte}
 use Rattle.base64.specs.Engines.{standard}
 use Rattle.base64.specs.GeneralPurpose.{IsBytes, encode_of}
-use Rattle.byte_grammar.specs.Classes.{is_alpha, is_blank, is_digit, is_line_byte, is_one_of, is_tchar, is_token, is_visible}
+use Rattle.byte_grammar.specs.Classes.{is_alpha, is_blank, is_digit, is_line_byte, is_one_of, is_token, is_visible}
+pub use Rattle.byte_grammar.specs.Classes.{is_name_byte as is_lower_tchar}
+pub use Rattle.byte_grammar.specs.Classes.{is_field_name as is_lower_name}
 use Rattle.byte_grammar.specs.Language.{starts_in}
 use Rattle.sfv_text.specs.Classes.{is_key}
 use Rattle.sfv_text.specs.declared.value.InnerList.{InnerList}
@@ -111,25 +112,17 @@ is_list_text text = list_all is_line_byte text
     && (starts_in (λ c. c == byte "(") text && not (ends_in_space text))
 
 -- any visible byte but `#`, with which a fragment begins (RFC 3986 section 3.5)
-abbrev pub is_query_byte : ℕ → Bool
-is_query_byte c = is_visible c && not (c == byte "#")
+abbrev pub is_visible_query_byte : ℕ → Bool
+is_visible_query_byte c = is_visible c && not (c == byte "#")
 
 -- `?` and the bytes of a query
 abbrev pub is_query_text : List ℕ → Bool
-is_query_text text = starts_in (λ c. c == byte "?") text && list_all is_query_byte text
+is_query_text text = starts_in (λ c. c == byte "?") text && list_all is_visible_query_byte text
 
 -- a new query, or none where the query goes
 abbrev pub is_query : Option (List ℕ) → Bool
 is_query (Some text) = is_query_text text
 is_query None = true
-
--- a tchar that is no letter in upper case
-abbrev pub is_lower_tchar : ℕ → Bool
-is_lower_tchar c = is_tchar c && not (is_ascii_uppercase c)
-
--- a field name in lower case (RFC 9421 section 2.1)
-abbrev pub is_lower_name : List ℕ → Bool
-is_lower_name name = nat_lt 0 (length name) && list_all is_lower_tchar name
 
 -- A line can write the rewriting of field lines: its numbers have few digits, its blanks are few,
 -- its name is a field name (RFC 9110 section 5.1), and its text has no NUL, CR or LF (section 5.5).

@@ -3,7 +3,7 @@ use Rattle.std.specs.Prelude.{◌≡◌, ⊤, ℕ, ◌+◌, ◌≤◌, Bool, ◌
 use Rattle.std.specs.List.{count_by, flat_map, list_all}
 use Rattle.std.specs.Str.{byte}
 use Rattle.byte_grammar.specs.Language.{starts_in}
-use Rattle.rewrite_script.specs.declared.limits.TheConstants.{MAX_SCRIPT_LINES}
+use Rattle.rewrite_script.specs.declared.limits.TheConstants.{MAX_SCRIPT_BYTES, MAX_SCRIPT_LINES}
 use Rattle.rewrite_script.specs.declared.rewrite.Rewrite.{Rewrite}
 use Rattle.rewrite_script.specs.Lines.{HasValues, is_writable, rewrite_line}
 
@@ -26,6 +26,10 @@ pub record SpellsScript (text : List ℕ) (script : List Rewrite) : Type 0 where
   pub values : HaveValues script
   pub few : length script ≤ MAX_SCRIPT_LINES
   pub lines : text ≡ script_text script
+
+-- the text is that of the script, and no longer than a script may be
+abbrev pub IsScriptText : List ℕ → List Rewrite → Type 0
+IsScriptText text script = (length text ≤ MAX_SCRIPT_BYTES) × SpellsScript text script
 
 -- ---- lines of any text
 

@@ -6,7 +6,7 @@ ghost use Rattle.std.specs.List.{list_all};
 ghost use Rattle.std.specs.Str.{byte};
 ghost use Rattle.std.specs.Str.Parse.{digits_value};
 ghost use Rattle.byte_grammar.specs.Classes.{is_digit, is_line_byte, is_tchar, is_token};
-ghost use Rattle.rewrite_script.specs.Lines.{is_lower_name, is_lower_tchar, is_query_byte, is_query_text};
+ghost use Rattle.rewrite_script.specs.Lines.{is_lower_name, is_lower_tchar, is_visible_query_byte, is_query_text};
 ghost use Rattle.rewrite_script.specs.declared.fault.LineFault.TheVariants.{NotSpelled};
 ghost use Rattle.rewrite_script.specs.tools.LineWalk.{cut_read, side_read, is_number_word, has_leading_zero, number_read, is_blank_letter, are_blank_letters, blank_of, blanks_read, name_read, text_read, lower_name_read, query_text_read, sizes_read, some_if};
 ghost use Rattle.rewrite_script.specs.tools.Gives.{Gives};
@@ -269,16 +269,16 @@ pub(crate) fn lower_name_of(alloc: Global, word: &[u8]) -> Result<Text, LineFaul
     text_where(alloc, is_lower_name(word), word)
 }
 
-fn is_query_byte(byte: u8) -> bool
-    ensures { result ≡ is_query_byte byte }
+fn is_visible_query_byte(byte: u8) -> bool
+    ensures { result ≡ is_visible_query_byte byte }
 {
     Class::Visible.allows(byte) && byte != b'#'
 }
 
 fn are_query_bytes(bytes: &[u8]) -> bool
-    ensures { result ≡ list_all is_query_byte bytes.now }
+    ensures { result ≡ list_all is_visible_query_byte bytes.now }
 {
-    bytes.iter().all(|byte| is_query_byte(*byte))
+    bytes.iter().all(|byte| is_visible_query_byte(*byte))
 }
 
 /// Whether the text is `?` and the bytes of a query.

@@ -36,12 +36,12 @@ use Rattle.line_rewrites.specs.Covered.{covers_field}
 use Rattle.line_rewrites.specs.LineLists.{line_of}
 use Rattle.line_rewrites.specs.Steps.{with_head}
 use Rattle.rewrites.specs.Laws.{IsAlikeAfter, IsAlikeForLabel}
-use Rattle.rewrites.specs.Lines.{IsOtherHost}
-use Rattle.permissions.specs.Permitted.{IsSameHost}
+use Rattle.whole_rewrites.specs.Lines.{IsOtherHost}
+use Rattle.whole_rewrites.specs.Permitted.{IsSameHost}
 use Rattle.rewrites.proofs.AlikeParts.{come_to_same, field_of_values, read_alike, signed_as_well, no_values, one_value, values_parts}
 use Rattle.rewrites.proofs.AlikeTargets.{authority_rows, derived_kept, of_line}
 use Rattle.rewrites.proofs.CoveredFields.{field_is_covered, same_in_form}
-use Rattle.rewrites.proofs.FieldValues.{keeps_others_than_host}
+use Rattle.whole_rewrites.proofs.FieldValues.{keeps_others_than_host}
 
 -- ---- the one line `Host`
 

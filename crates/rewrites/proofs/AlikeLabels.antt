@@ -62,10 +62,10 @@ use Rattle.rewrite_script.specs.Lines.{IsBase64, ReadsAsInner, ends_in_space, is
 use Rattle.rewrite_script.specs.declared.rewrite.WholeRewrite.TheVariants.{AddLabel}
 use Rattle.line_rewrites.specs.Covered.{is_field_on, is_on}
 use Rattle.line_rewrites.specs.Steps.{with_lines_on}
-use Rattle.permissions.specs.Covered.{is_of_other, rests_on_label}
+use Rattle.whole_rewrites.specs.Covered.{is_of_other, rests_on_label}
 use Rattle.rewrites.specs.Laws.{IsAlikeAfter, IsAlikeForLabel}
-use Rattle.rewrites.specs.Lines.{label_lines, member_line}
-use Rattle.permissions.specs.Permitted.{LacksLabel, MayAddLabel}
+use Rattle.whole_rewrites.specs.Lines.{label_lines, member_line}
+use Rattle.whole_rewrites.specs.Permitted.{LacksLabel, MayAddLabel}
 use Rattle.rewrites.proofs.AlikeParts.{all_at, come_to_same, derived_as_well, field_as_well, field_of_values, field_row_kept, read_alike, side_is}
 use Rattle.rewrites.proofs.CoveredFields.{own_field}
 

@@ -35,7 +35,7 @@ use Rattle.component_values.proofs.LineLaws.{depends_on_its_lines, depends_on_ki
 use Rattle.signatures.specs.Signatures.{HasSignature, input_name, signature_name}
 use Rattle.signatures.proofs.SameFields.{have_same_signature}
 use Rattle.line_rewrites.specs.Covered.{is_on}
-use Rattle.permissions.specs.Covered.{covers_one_of, is_own_of}
+use Rattle.whole_rewrites.specs.Covered.{covers_one_of, is_own_of}
 use Rattle.sfv_read.specs.Laws.{ReadAlike}
 use Rattle.rewrites.proofs.CoveredFields.{same_in_form}
 

@@ -51,14 +51,14 @@ use Rattle.line_rewrites.specs.Covered.{is_field_on, is_on}
 use Rattle.line_rewrites.specs.LineLists.{line_of}
 use Rattle.line_rewrites.specs.Permitted.{counted_names}
 use Rattle.line_rewrites.specs.Steps.{with_lines_on, with_trailers}
-use Rattle.permissions.specs.Covered.{covers_unread, is_unread_on}
+use Rattle.whole_rewrites.specs.Covered.{covers_unread, is_unread_on}
 use Rattle.sfv_read.specs.Laws.{ReadAlike}
 use Rattle.rewrites.specs.Laws.{IsAlikeAfter, IsAlikeForLabel}
-use Rattle.rewrites.specs.Lines.{IsStrict}
+use Rattle.whole_rewrites.specs.Lines.{IsStrict}
 use Rattle.rewrites.proofs.AlikeParts.{all_at, come_to_same, derived_as_well, field_as_well, field_of_values, field_row_kept, read_alike, no_values, one_value, values_parts, side_is}
 use Rattle.rewrites.proofs.CoveredFields.{own_field}
-use Rattle.rewrites.proofs.FieldParts.{is_named, there_at}
-use Rattle.rewrites.proofs.FieldValues.{keeps_others_in_one_line, without}
+use Rattle.whole_rewrites.proofs.FieldParts.{is_named, there_at}
+use Rattle.whole_rewrites.proofs.FieldValues.{keeps_others_in_one_line, without}
 
 -- ---- a side that changes
 

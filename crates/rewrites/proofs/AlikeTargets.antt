@@ -44,13 +44,12 @@ use Rattle.component_values.specs.Values.{side_of}
 use Rattle.component_values.proofs.LineLaws.{depends_on_its_row, depends_on_own_lines}
 use Rattle.signatures.specs.Signatures.{HasSignature, input_name, signature_name}
 use Rattle.verdicts.specs.ContentDigest.{digest_text}
-use Rattle.rewrite_script.specs.Lines.{is_query, is_query_byte as is_written_byte}
+use Rattle.rewrite_script.specs.Lines.{is_query, is_visible_query_byte as is_written_byte}
 use Rattle.rewrite_script.specs.declared.rewrite.WholeRewrite.TheVariants.{Query, Origin, Absolute}
 use Rattle.line_rewrites.specs.Steps.{with_head}
 use Rattle.rewrites.specs.Laws.{IsAlikeAfter, IsAlikeForLabel}
-use Rattle.permissions.specs.Permitted.{HasSameMatches, MayChangeQuery, MayChangeTarget, NamesHost, whole_query_names}
-use Rattle.permissions.specs.Targets.{query_in, HasTarget}
-use Rattle.rewrites.specs.Targets.{HasOtherQuery, IsAbsoluteOf, IsOriginOf, with_target}
+use Rattle.whole_rewrites.specs.Permitted.{HasSameMatches, MayChangeQuery, MayChangeTarget, NamesHost, whole_query_names}
+use Rattle.whole_rewrites.specs.Targets.{query_in, HasTarget, HasOtherQuery, IsAbsoluteOf, IsOriginOf, with_target}
 use Rattle.rewrites.proofs.AlikeParts.{come_to_same, derived_name, derived_named, field_itself, is_not_listed, read_alike, signed_as_well}
 use Rattle.rewrites.proofs.CoveredFields.{same_in_form}
 
@@ -355,7 +354,7 @@ module _ (context : MessageContext) (line : RequestLine) (parts : TargetParts) (
   abbrev line_after : RequestParts
   line_after = of_line context context.message.head.lines (with_target line target)
 
-  module _ (change : IsOriginOf line parts target) (named : NamesHost context line parts) where
+  module _ (change : IsOriginOf parts target) (named : NamesHost context parts) where
     abbrev shortened : TargetParts
     shortened = record { form = OriginForm; scheme = None; authority = None; path = change.path; query = parts.query }
 
@@ -476,7 +475,7 @@ origin_alike context label params tag made writable values has gives may =
     let is = gives.makes in
     let of_target = may.1 in
     let same = one_of context.message is.line of_target.0 is.parts of_target.1 is.has of_target.2 in
-    let named = subst (λ (p : TargetParts). NamesHost context is.line p) same.1 (subst (λ (l : RequestLine). NamesHost context l of_target.1) same.0 of_target.3) in
+    let named = subst (λ (p : TargetParts). NamesHost context p) same.1 of_target.3 in
     subst (λ (m : Message). IsAlikeForLabel context label params tag m) (sym is.made_is)
     (alike_changed context is.line is.parts is.target is.has (shortened context is.line is.parts is.target is.has is.change named)
     (shortened_same context is.line is.parts is.target is.has is.change named) label params tag has

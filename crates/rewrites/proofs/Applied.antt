@@ -1,7 +1,7 @@
 -- The text that a step makes tells what the step gives: the message that it is a text of, with as much content.
-use Rattle.std.proofs.Common.{◌≡◌, ℕ, true, Result, Ok, Err, IfOk, List, length, refl, sym, subst, inl, inr}
+use Rattle.std.proofs.Common.{◌≡◌, ℕ, true, Result, Ok, Err, IfOk, List, length, refl, subst, inl, inr}
 use Rattle.byte_grammar.specs.Causes.{AnswersWhere}
-use Rattle.msg_body.specs.Messages.{IsMessage, Message, Spells}
+use Rattle.msg_body.specs.Messages.{Message, Spells}
 use Rattle.msg_body.specs.Views.{message_content}
 use Rattle.msg_body.proofs.OneMessages.{one_message_law}
 use Rattle.component_ids.specs.declared.params.SigParams.{SigParams}
@@ -9,45 +9,14 @@ use Rattle.component_values.specs.Context.{MessageContext, answers_head}
 use Rattle.signatures.specs.Signatures.{HasSignature}
 use Rattle.rewrite_script.specs.Lines.{HasValues, is_writable}
 use Rattle.rewrite_script.specs.declared.rewrite.Rewrite.{Rewrite}
-use Rattle.rewrite_script.specs.declared.rewrite.Rewrite.TheVariants.{Whole}
-use Rattle.rewrite_script.specs.declared.rewrite.WholeRewrite.{WholeRewrite}
 use Rattle.line_rewrites.specs.declared.fault.ApplyFault.{ApplyFault}
 use Rattle.line_rewrites.specs.declared.fault.ApplyFault.TheVariants.{Memory, NotApplicable}
 use Rattle.line_rewrites.specs.Sized.{HasNoSized, SpellsSized}
 use Rattle.rewrites.specs.Laws.{KeepsSignature, KeepsWherePermitted}
 use Rattle.rewrites.specs.Permitted.{Permits}
-use Rattle.rewrites.specs.Steps.{GivesWhole, IsNotApplicable, Makes, Rewrites, SpellsStep, Step}
-use Rattle.rewrites.specs.tools.Judged.{ExplainsStep, IsOffered, Offers}
-use Rattle.rewrites.proofs.WholeKinds.{exact}
-use Rattle.rewrites.proofs.StepLaws.{message_is, spelled_where_message}
+use Rattle.rewrites.specs.Steps.{IsNotApplicable, Rewrites, SpellsStep, Step}
+use Rattle.rewrites.specs.tools.Judged.{ExplainsStep}
 use Rattle.rewrites.proofs.StepKinds.{gives_kind}
-
--- ---- the text that a step makes
-
-module _ (context : MessageContext) (step : WholeRewrite) (text : List ℕ) (offered : IsOffered context step text) where
-  pub offered_spells : SpellsStep context (Whole step) text
-  offered_spells after = (gives_spelled, spelled_gives)
-    where
-      gives_spelled : GivesWhole context step after → SpellsSized (answers_head context.related) text (length (message_content context.message)) after
-      gives_spelled gives =
-          let same = (exact step).one context offered.made after offered.makes gives.makes in
-          let message = subst (λ (m : Message). IsMessage (answers_head context.related) m) (sym same) gives.message in
-          let here = spelled_where_message context step offered.made offered.makes message in
-          subst (λ (m : Message). SpellsSized (answers_head context.related) text (length (message_content context.message)) m) same
-          (subst (λ (t : List ℕ). SpellsSized (answers_head context.related) t (length (message_content context.message)) offered.made) (sym offered.text_is) here)
-
-      spelled_gives : SpellsSized (answers_head context.related) text (length (message_content context.message)) after → GivesWhole context step after
-      spelled_gives spelled =
-          let here = subst (λ (t : List ℕ). SpellsSized (answers_head context.related) t (length (message_content context.message)) after) offered.text_is spelled in
-          let is = message_is context step offered.made offered.makes offered.sound after here in
-          record { makes = subst (λ (m : Message). Makes context step m) (sym is) offered.makes; message = spelled.spells.is }
-
-pub whole_spells : (context : MessageContext) (step : WholeRewrite) (result : Result (List ℕ) ApplyFault) → Offers context step result → IfOk result (SpellsStep context (Whole step))
-whole_spells context step (Ok text) offered = offered_spells context step text offered
-whole_spells context step (Err fault) none = tt
-
-pub whole_fault : (context : MessageContext) (step : WholeRewrite) (result : Result (List ℕ) ApplyFault) → Offers context step result → result ≡ Err NotApplicable → IsNotApplicable context (Whole step)
-whole_fault context step result offers is = λ after gives. (rw is at offers) after gives.makes gives.message
 
 -- ---- the message of the text
 

@@ -7,7 +7,7 @@ use Rattle.rewrites.proofs.AlikeHosts.{host_alike}
 use Rattle.rewrites.proofs.AlikeLabels.{label_alike}
 use Rattle.rewrites.proofs.AlikeStrict.{resf_alike}
 use Rattle.rewrites.proofs.AlikeTargets.{absolute_alike, origin_alike, query_alike}
-use Rattle.rewrites.proofs.ContentSame.{chunk_same, dechunk_same, rechunk_same}
+use Rattle.whole_rewrites.proofs.ContentSame.{chunk_same, dechunk_same, rechunk_same}
 use Rattle.rewrites.proofs.Keeping.{keeps_where_alike, keeps_where_same}
 use Rattle.rewrites.proofs.KeptSteps.{keeps_over_steps as keeps_over}
 

@@ -4,7 +4,7 @@ use Rattle.component_ids.specs.declared.params.SigParams.{SigParams}
 use Rattle.component_values.specs.Context.{MessageContext}
 use Rattle.rewrite_script.specs.declared.rewrite.Rewrite.{Rewrite}
 use Rattle.line_rewrites.specs.Conditions as lines
-use Rattle.permissions.specs.Conditions as whole
+use Rattle.whole_rewrites.specs.Conditions as whole
 use Rattle.rewrites.specs.Permitted.{Permits}
 use Rattle.rewrites.specs.declared.permit.StepCondition.{StepCondition}
 use Rattle.rewrites.specs.declared.permit.StepCondition.TheVariants.{Lines, Whole}

@@ -23,9 +23,10 @@ use Rattle.rewrite_script.specs.declared.rewrite.Rewrite.{Rewrite}
 use Rattle.rewrite_script.specs.declared.rewrite.Rewrite.TheVariants.{Lines, Whole}
 use Rattle.rewrite_script.specs.declared.rewrite.WholeRewrite.{WholeRewrite}
 use Rattle.line_rewrites.specs.SameFor.{SameFor}
-use Rattle.permissions.specs.Laws.{IsOfMessages, IsReadAs, whole_rests_on_conf}
-use Rattle.permissions.specs.Permitted.{PermitsWhole}
-use Rattle.rewrites.specs.Steps.{GivesWhole, Step, Steps}
+use Rattle.whole_rewrites.specs.Laws.{IsOfMessages, IsReadAs, whole_rests_on_conf}
+use Rattle.whole_rewrites.specs.Permitted.{PermitsWhole}
+use Rattle.whole_rewrites.specs.Steps.{GivesWhole}
+use Rattle.rewrites.specs.Steps.{Step, Steps}
 use Rattle.rewrites.specs.Permitted.{Permits}
 
 -- ---- what is kept

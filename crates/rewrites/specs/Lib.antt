@@ -1,6 +1,3 @@
-pub mod Lines
-pub mod Content
-pub mod Targets
 pub mod Steps
 pub mod Walks
 pub mod Permitted

@@ -6,7 +6,7 @@ use Rattle.component_values.specs.Context.{MessageContext}
 use Rattle.rewrite_script.specs.declared.rewrite.Rewrite.{Rewrite}
 use Rattle.rewrite_script.specs.declared.rewrite.Rewrite.TheVariants.{Lines, Whole}
 use Rattle.line_rewrites.specs.Permitted.{PermitsLines}
-use Rattle.permissions.specs.Permitted.{PermitsWhole}
+use Rattle.whole_rewrites.specs.Permitted.{PermitsWhole}
 
 -- the label's signature with these parameters permits the step
 abbrev pub Permits : MessageContext → Rewrite → List ℕ → SigParams → Type 0

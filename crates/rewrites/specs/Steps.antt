@@ -1,56 +1,15 @@
--- The message that a rewriting gives: a row for each kind. A step that has no such message isn't
--- applicable.
-use Rattle.std.specs.Prelude.{◌≡◌, ◌↔◌, List, ℕ, IsTrue, length}
+-- The message that a step gives: one of field lines, or one of the whole message. A step that has
+-- no such message isn't applicable.
+use Rattle.std.specs.Prelude.{◌≡◌, ◌↔◌, List, ℕ, length}
 use Rattle.std.specs.List.{FoldsTo}
-use Rattle.msg_head.specs.declared.error.Side.{Side}
-use Rattle.msg_head.specs.declared.error.Side.TheVariants.{Header}
-use Rattle.msg_head.specs.Lines.{FieldLine}
-use Rattle.framing.specs.Framings.{is_request}
-use Rattle.msg_body.specs.Messages.{Message, IsMessage, message_text}
-use Rattle.msg_body.specs.Views.{lines_on, message_content}
-use Rattle.component_ids.specs.Types.{kind_in}
+use Rattle.msg_body.specs.Messages.{Message, message_text}
+use Rattle.msg_body.specs.Views.{message_content}
 use Rattle.component_values.specs.Context.{MessageContext, answers_head, context_with}
 use Rattle.rewrite_script.specs.declared.rewrite.Rewrite.{Rewrite}
 use Rattle.rewrite_script.specs.declared.rewrite.Rewrite.TheVariants.{Lines, Whole}
-use Rattle.rewrite_script.specs.declared.rewrite.WholeRewrite.{WholeRewrite}
-use Rattle.rewrite_script.specs.declared.rewrite.WholeRewrite.TheVariants.{AddLabel, Rechunk, Chunk, Dechunk, Origin, Absolute, Host, Query, Resf}
 use Rattle.line_rewrites.specs.Sized.{SpellsSized}
-use Rattle.line_rewrites.specs.Steps.{LineStep, with_lines_on}
-use Rattle.rewrites.specs.Lines.{IsLabelled, IsOtherHost, IsStrict}
-use Rattle.rewrites.specs.Content.{IsRechunked, IsChunked, IsDechunked}
-use Rattle.rewrites.specs.Targets.{ChangesTarget, IsOriginOf, IsAbsoluteOf, HasOtherQuery}
-
--- ---- rewritings of the whole message
-
--- the lines of the side become others so, and all else stays
-pub record MakesLines (context : MessageContext) (side : Side)
-    (Change : List FieldLine → List FieldLine → Type 0) (made : Message) : Type 0 where
-  pub lines : List FieldLine
-  pub change : Change (lines_on side context.message) lines
-  pub made_is : made ≡ with_lines_on (answers_head context.related) side context.message lines
-
--- what the rewriting makes of the message; whether that is a message within the limits isn't asked
-abbrev pub Makes : MessageContext → WholeRewrite → Message → Type 0
-Makes context (AddLabel added tag params) made =
-    MakesLines context Header (IsLabelled added tag params) made
-Makes context (Rechunk sizes) made = IsRechunked context sizes made
-Makes context (Chunk sizes) made = IsChunked context sizes made
-Makes context Dechunk made = IsDechunked context made
-Makes context Origin made = ChangesTarget context IsOriginOf made
-Makes context Absolute made = ChangesTarget context (IsAbsoluteOf context) made
-Makes context (Host text) made = IsTrue (is_request context.message.head.start)
-    × MakesLines context Header (IsOtherHost text) made
-Makes context (Query text) made = ChangesTarget context (HasOtherQuery text) made
-Makes context (Resf side name) made =
-    MakesLines context side (IsStrict (kind_in context.types name) name) made
-
--- the rewriting makes the message, within the limits
-pub record GivesWhole (context : MessageContext) (step : WholeRewrite) (after : Message)
-    : Type 0 where
-  pub makes : Makes context step after
-  pub message : IsMessage (answers_head context.related) after
-
--- ---- steps
+use Rattle.line_rewrites.specs.Steps.{LineStep}
+use Rattle.whole_rewrites.specs.Steps.{GivesWhole}
 
 -- the step gives the message
 abbrev pub Step : MessageContext → Rewrite → Message → Type 0

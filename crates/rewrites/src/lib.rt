@@ -8,20 +8,12 @@
 //! ```
 #![tactic(auto)]
 
-mod chunking;
-mod content;
 mod fault;
-mod fed_text;
-mod field;
-mod label;
 mod laws;
 mod permit;
 mod step;
-mod strict;
-mod target;
 mod walks;
 mod watcher;
-mod write;
 
 pub use fault::WalkFault;
 pub use laws::{

@@ -14,10 +14,10 @@ ghost use Rattle.signatures.specs.Signatures.{HasSignature};
 use component_ids::SigParams;
 use component_values::Context;
 use line_rewrites::{LineCondition, line_condition};
-use permissions::{WholeCondition, whole_condition};
 use rewrite_script::Rewrite;
 use sfv_text::Memory;
 use std::alloc::Global;
+use whole_rewrites::{WholeCondition, whole_condition};
 
 /// What a step asks of a signature that is to stay, where all is judged that rests on no signature:
 /// made once for a message and a step, it is a look at the parameters of each label.

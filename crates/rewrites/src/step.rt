@@ -13,12 +13,12 @@ ghost use Rattle.rewrites.specs.Steps.{IsNotApplicable, Rewrites, SpellsStep};
 ghost use Rattle.rewrites.specs.tools.Judged.{ExplainsStep};
 ghost use Rattle.signatures.specs.Signatures.{HasSignature};
 
-use crate::write::made;
 use component_values::Context;
 use line_rewrites::{ApplyFault, make_lines, sized_message};
 use rewrite_script::Rewrite;
 use sfv_text::Text;
 use std::alloc::Global;
+use whole_rewrites::make_whole;
 
 /// The text that the step writes. It isn't read: the message that it spells, with as much content
 /// as that of the context has, is what the step gives, and where it spells none the step isn't
@@ -32,7 +32,7 @@ pub fn make(alloc: Global, context: &Context<'_, '_>, step: &Rewrite) -> Result<
 {
     match step {
         Rewrite::Lines(step) => make_lines(alloc, context, step),
-        Rewrite::Whole(step) => made(alloc, context, step),
+        Rewrite::Whole(step) => make_whole(alloc, context, step),
     }
 }
 

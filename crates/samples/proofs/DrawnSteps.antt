@@ -24,12 +24,12 @@ use Rattle.rewrite_script.specs.declared.rewrite.Rewrite.TheVariants.{Lines, Who
 use Rattle.rewrite_script.specs.declared.rewrite.WholeRewrite.TheVariants.{Rechunk}
 use Rattle.line_rewrites.specs.LineLists.{ChangesRaw, IsMoved, Replaces}
 use Rattle.line_rewrites.specs.RawValues.{IsPadded}
-use Rattle.rewrites.specs.Content.{IsInChunks}
+use Rattle.chunks.specs.Sizes.{IsInChunks, are_some, sized_chunks as chunks_in}
 use Rattle.rewrites.specs.Permitted.{Permits}
 use Rattle.rewrites.specs.Steps.{Step, Steps}
-use Rattle.rewrites.specs.tools.Chunking.{add_up_to, are_some, chunks_in}
-use Rattle.rewrites.proofs.ContentKinds.{in_chunks_content, in_chunks_sound}
-use Rattle.rewrites.proofs.ContentLists.{in_chunks}
+use Rattle.chunks.specs.tools.Written.{adds_up as add_up_to}
+use Rattle.chunks.proofs.SizedChunks.{in_chunks_content, in_chunks_sound}
+use Rattle.chunks.proofs.SizeLaws.{in_chunks_of as in_chunks}
 use Rattle.samples.specs.Chains.{sample_context}
 use Rattle.samples.specs.Draws.{draw}
 use Rattle.samples.specs.Scripts.{hop_steps, sizes_of}

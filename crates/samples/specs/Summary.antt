@@ -8,6 +8,7 @@ use Rattle.hop_audit.specs.Lines.{finds_fault, is_kept}
 use Rattle.hop_audit.specs.Report.{IsReport}
 use Rattle.hop_audit.specs.declared.line.AuditLine.{AuditLine}
 use Rattle.hop_audit.specs.declared.line.AuditLine.TheVariants.{Message as MessageLine, Label}
+pub use Rattle.recording.specs.Items.{number_line}
 use Rattle.samples.specs.Chains.{IsSampleChain}
 use Rattle.samples.specs.Requests.{sample_configuration}
 use Rattle.samples.specs.declared.summary.Summary.{Summary}

@@ -11,6 +11,7 @@ pub mod InnerLists
 pub mod SeparatedTexts
 pub mod Members
 pub mod Readings
+pub mod KeyReads
 pub mod InRange
 pub mod StrictReads
 pub mod MoreMembers

@@ -33,4 +33,4 @@ pub use laws::{
     a_text_is_read_or_not, a_text_not_read_has_a_fault, strict_texts_are_distinct,
     strict_texts_read_as_the_same_dictionary, strict_texts_read_back, values_read_are_in_range,
 };
-pub use read::{read_dict, read_inner, read_item, read_list};
+pub use read::{has_key, read_dict, read_inner, read_item, read_list};

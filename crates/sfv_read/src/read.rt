@@ -1,6 +1,7 @@
 //! Readers of the four kinds of structured field.
 
-ghost use Rattle.std.specs.Prelude.{List as Listed, IfOk, IfErr, IsTrue};
+ghost use Rattle.std.specs.Prelude.{◌≡◌, List as Listed, is_some, IfOk, IfErr, IsTrue};
+ghost use Rattle.sfv_text.specs.Keys.{value_of};
 ghost use Rattle.sfv_text.specs.declared.value.Item.{Item};
 ghost use Rattle.sfv_text.specs.declared.value.InnerList.{InnerList};
 ghost use Rattle.sfv_text.specs.declared.value.Member.{Member};
@@ -10,8 +11,8 @@ ghost use Rattle.sfv_read.specs.Fault.{IsRead, IsSfError};
 ghost use Rattle.sfv_read.specs.Reads.{ReadsItem, ReadsInner, ReadsList, ReadsDict};
 
 use crate::error::SfError;
-use crate::field::{AsInnerList, AsItem, read_field};
-use crate::separated::{AsDict, AsList};
+use crate::field::{answer, read_padded_inner, read_padded_item};
+use crate::separated::{AsDict, AsList, HasKey, read_separated};
 use sfv_text::{Dict, InnerList, Item, List, Member};
 use std::alloc::Global;
 
@@ -22,7 +23,7 @@ pub fn read_item(alloc: Global, text: &[u8]) -> Result<Item, SfError>
     ensures only { (value : Item) → ReadsItem text.now value → IsRead result value }
     ensures fault { IfErr result (λ e. IsSfError ReadsItem text.now e) }
 {
-    read_field(alloc, &AsItem, text)
+    answer(text, read_padded_item(alloc, text))
 }
 
 /// Reads an Inner List (RFC 9651 section 4.2.1.2) alone, with spaces at both ends.
@@ -32,7 +33,7 @@ pub fn read_inner(alloc: Global, text: &[u8]) -> Result<InnerList, SfError>
     ensures only { (value : InnerList) → ReadsInner text.now value → IsRead result value }
     ensures fault { IfErr result (λ e. IsSfError ReadsInner text.now e) }
 {
-    read_field(alloc, &AsInnerList, text)
+    answer(text, read_padded_inner(alloc, text))
 }
 
 /// Reads a List (RFC 9651 section 4.2.1), with spaces at both ends. A text of spaces alone is the
@@ -43,7 +44,7 @@ pub fn read_list(alloc: Global, text: &[u8]) -> Result<List, SfError>
     ensures only { (value : Listed Member) → ReadsList text.now value → IsRead result value }
     ensures fault { IfErr result (λ e. IsSfError ReadsList text.now e) }
 {
-    read_field(alloc, &AsList, text)
+    answer(text, read_separated(alloc, &AsList, text))
 }
 
 /// Reads a Dictionary (RFC 9651 section 4.2.2), with spaces at both ends. A text of spaces alone is
@@ -54,5 +55,16 @@ pub fn read_dict(alloc: Global, text: &[u8]) -> Result<Dict, SfError>
     ensures only { (value : Listed (Pair Member)) → ReadsDict text.now value → IsRead result value }
     ensures fault { IfErr result (λ e. IsSfError ReadsDict text.now e) }
 {
-    read_field(alloc, &AsDict, text)
+    answer(text, read_separated(alloc, &AsDict, text))
+}
+
+/// Whether the Dictionary of the text has a member of the key. It fails where `read_dict` does.
+pub fn has_key(alloc: Global, text: &[u8], key: &[u8]) -> Result<bool, SfError>
+    ensures ok { IfOk result (λ has. (dict : Listed (Pair Member))
+        × ReadsDict text.now dict × (has ≡ is_some (value_of dict key.now))) }
+    ensures only { (dict : Listed (Pair Member)) → ReadsDict text.now dict
+        → IsRead result (is_some (value_of dict key.now)) }
+    ensures fault { IfErr result (λ e. IsSfError ReadsDict text.now e) }
+{
+    answer(text, read_separated(alloc, &HasKey(key), text))
 }

@@ -1,7 +1,8 @@
 //! Lists and Dictionaries: members separated by commas (RFC 9651 sections 4.2.1 and 4.2.2).
 
-ghost use Rattle.std.specs.Prelude.{◌≡◌, ◌≤◌, ◌<◌, ℕ, List as Listed, [], Option, Some, None, Result, Ok, length, OnOk, IfErr};
+ghost use Rattle.std.specs.Prelude.{◌≡◌, ◌≤◌, ◌<◌, ◌||◌, ℕ, List as Listed, [], false, Option, Some, None, Result, Ok, length, OnOk, IfErr};
 ghost use Rattle.byte_grammar.specs.tools.Walks.{with_state, IsLoop};
+ghost use Rattle.sfv_text.specs.Keys.{has_key};
 ghost use Rattle.sfv_read.specs.Item.{put_pair};
 ghost use Rattle.sfv_read.specs.tools.Gives.{GivesUnlessMemory, IfMemory};
 ghost use Rattle.sfv_read.specs.tools.MemberWalk.{member_read, dict_member_read, with_last, further_read, next_member_read, members_read, some_members_read, separated_read};
@@ -46,7 +47,6 @@ pub trait Separated {
         ensures { GivesUnlessMemory (λ x. (x.0, x.1.now)) result (reading bytes.now) };
 }
 
-#[derive(Clone, Copy)]
 pub struct AsList;
 
 impl Separated for AsList {
@@ -77,7 +77,6 @@ impl Separated for AsList {
     }
 }
 
-#[derive(Clone, Copy)]
 pub struct AsDict;
 
 impl Separated for AsDict {
@@ -97,6 +96,39 @@ impl Separated for AsDict {
 
     fn add(&self, dict: &mut Dict, part: Pair<Member>) -> Result<(), Memory> {
         dict.put(part.key, part.value)
+    }
+
+    fn read_part<'t>(
+        &self,
+        alloc: Global,
+        bytes: &'t [u8],
+    ) -> Result<(Pair<Member>, &'t [u8]), PartError> {
+        read_pair(alloc, bytes)
+    }
+}
+
+/// Whether a Dictionary has the key.
+#[derive(Clone, Copy)]
+pub struct HasKey<'k>(pub &'k [u8]);
+
+impl Separated for HasKey<'_> {
+    type Part = Pair<Member>;
+
+    type Kept = bool;
+
+    ghost reading = { λ bytes. dict_member_read bytes };
+
+    ghost nothing = { false };
+
+    ghost with_part = { λ kind has p. has_key kind.0.now p || has };
+
+    fn empty(&self, alloc: Global) -> bool {
+        false
+    }
+
+    fn add(&self, has: &mut bool, part: Pair<Member>) -> Result<(), Memory> {
+        *has = part.key.bytes() == self.0 || *has;
+        Ok(())
     }
 
     fn read_part<'t>(

@@ -2,3 +2,6 @@ pub mod Numbers
 pub mod InRange
 pub mod Reading
 pub mod SameFields
+mod Answering
+mod Digesting
+mod ReadLabels

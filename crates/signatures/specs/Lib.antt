@@ -5,3 +5,7 @@ pub mod Rules
 pub mod Words
 pub mod Laws
 pub mod tools
+pub mod Contexts
+pub mod ContentDigests
+pub mod Exchanges
+pub mod MessageSignatures

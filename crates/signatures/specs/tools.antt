@@ -1,1 +1,4 @@
 pub mod Answered
+pub mod Held
+pub mod Kept
+pub mod Reading

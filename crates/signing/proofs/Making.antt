@@ -1,19 +1,13 @@
 -- What the signed message is made of.
-use Rattle.std.proofs.Common.{◌≡◌, ◌≤◌, ◌<◌, ◌+◌, ℕ, Bool, true, false, nat_lt, List, [], ◌++◌, length, Option, Some, None, is_some, Result, Ok, refl, sym, ap, subst, ◌∙◌, append_assoc, arith, inl, inr, if◌then◌else◌}
+use Rattle.std.proofs.Common.{◌≡◌, ◌≤◌, ◌<◌, ◌+◌, ℕ, Bool, true, false, nat_lt, List, [], ◌++◌, length, Option, Some, None, is_some, refl, sym, ap, ◌∙◌, append_assoc, arith, inl, inr, if◌then◌else◌}
 use Rattle.std.specs.List.{flat_map}
 use Rattle.std.proofs.lemmas.Bool.{cases_Bool, le-ltb, lt-ltb, ltb-false}
 use Rattle.std.proofs.lemmas.List.{append-nil, length-append, nil_from_length}
-use Rattle.std.proofs.Math.Seq.{take-length}
 use Rattle.msg_head.specs.Heads.{head_text}
 use Rattle.msg_head.specs.Lines.{FieldLine, line_text}
 use Rattle.msg_head.specs.declared.limits.TheConstants.{MAX_HEAD_BYTES, MAX_HEAD_LINES}
-use Rattle.msg_body.specs.Messages.{Message, IsMessage, Spells, SpellsMessage, message_text}
-use Rattle.msg_body.specs.Outcome.{IsMessageUnlessMemory}
-use Rattle.msg_body.specs.Views.{MessageParts, message_of}
-use Rattle.msg_body.specs.declared.error.MessageError.{MessageError}
+use Rattle.msg_body.specs.Messages.{Message, IsMessage, Spells, message_text}
 use Rattle.msg_body.specs.declared.limits.TheConstants.{MAX_MESSAGE_BYTES}
-use Rattle.msg_body.specs.declared.read.MessageRead.{MessageRead}
-use Rattle.msg_body.specs.declared.read.MessageRead.TheVariants.{Whole, Partial}
 use Rattle.component_values.specs.Context.{MessageContext}
 use Rattle.content_digest.specs.declared.algorithm.Algorithm.{Algorithm}
 use Rattle.signing.specs.SignCauses.{any_tag, passed_limit}
@@ -26,25 +20,6 @@ use Rattle.signing.specs.tools.Parts.{ArePartsOf}
 use Rattle.signing.proofs.Inserting.{flat_joined}
 use Rattle.signing.proofs.AddedLines.{digest_are_lines, digest_frame_nothing}
 use Rattle.signing.proofs.Lengthened.{is_lengthened}
-
--- ---- the message that is read again
-
-whole_spelled : (to_head : Bool) (message : Message) (bytes : List ℕ) → Spells to_head message bytes → SpellsMessage to_head message (length bytes) bytes
-whole_spelled to_head message bytes spells = record {
-  within = omega arith;
-  spells = subst (λ (t : List ℕ). Spells to_head message t) (sym (take-length bytes)) spells;
-  all = λ _. refl;
-}
-
-pub found_again : (asked to_head : Bool) (message : Message) (bytes : List ℕ) → asked ≡ to_head → Spells to_head message bytes → SpellsMessage asked message (length bytes) bytes
-found_again asked to_head message bytes same spells = subst (λ (b : Bool). SpellsMessage b message (length bytes) bytes) (sym same) (whole_spelled to_head message bytes spells)
-
-pub not_partial : (result : Result MessageRead MessageError) (message : Message) (used : ℕ) → IsMessageUnlessMemory result message used → ¬ (result ≡ Ok Partial)
-not_partial result message used is e = subst (λ (r : Result MessageRead MessageError). IsMessageUnlessMemory r message used) e is
-
-pub read_again : (result : Result MessageRead MessageError) (message : Message) (used count : ℕ) (view : MessageParts) → IsMessageUnlessMemory result message used → result ≡ Ok (Whole view count)
-    → message_of view ≡ message
-read_again result message used count view is e = (subst (λ (r : Result MessageRead MessageError). IsMessageUnlessMemory r message used) e is).0
 
 -- no line changes nothing
 pub with_none : (message : Message) → with_lines message [] ≡ message

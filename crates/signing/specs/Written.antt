@@ -1,15 +1,16 @@
 -- Messages with further header lines, and the lines that signing adds.
 use Rattle.std.specs.Prelude.{ℕ, Option, Some, None, List, [], ◌∷◌, ◌++◌, codes, if◌then◌else◌}
-use Rattle.std.specs.Str.{byte}
 use Rattle.sfv_text.specs.Strict.{bytes_text, dict_text}
 use Rattle.msg_head.specs.declared.error.Side.TheVariants.{Header}
 use Rattle.msg_head.specs.Lines.{FieldLine}
+pub use Rattle.msg_head.specs.Lines.{line_of, member_line}
 use Rattle.msg_head.specs.Values.{is_there}
 use Rattle.msg_body.specs.Messages.{Message}
 use Rattle.msg_body.specs.Views.{lines_on, message_content}
 use Rattle.component_ids.specs.SignatureParams.{sig_params_text}
 use Rattle.component_values.specs.Context.{MessageContext, context_with}
 use Rattle.content_digest.specs.Digests.{digest_dict}
+pub use Rattle.content_digest.specs.Digests.{digest_name}
 use Rattle.content_digest.specs.declared.algorithm.Algorithm.{Algorithm}
 use Rattle.signing.specs.declared.spec.SignSpec.{SignSpec}
 
@@ -25,14 +26,6 @@ with_lines message lines = record {
 
 -- ---- lines
 
--- the line of a field of this value
-abbrev pub line_of : List ℕ → List ℕ → FieldLine
-line_of name value = record { name = name; raw = byte " " ∷ value }
-
--- the field that has the digests of the content (RFC 9530 section 2)
-abbrev pub digest_name : List ℕ
-digest_name = codes "content-digest"
-
 -- the line of the content's digest, where one is asked for and the header has no such line (RFC
 -- 9530 section 2)
 abbrev pub digest_lines : Message → Option Algorithm → List FieldLine
@@ -41,10 +34,6 @@ digest_lines message (Some algorithm) =
     if is_there (lines_on Header message) digest_name then []
     else line_of (codes "Content-Digest")
     (dict_text (digest_dict algorithm (message_content message))) ∷ []
-
--- the line of a Dictionary of one member, by its key and the strict text of its value
-abbrev pub member_line : List ℕ → List ℕ → List ℕ → FieldLine
-member_line name key value = line_of name (key ++ byte "=" ∷ value)
 
 -- the label's signature parameters and its tag (RFC 9421 sections 4.1 and 4.2)
 abbrev pub signature_lines : SignSpec → List ℕ → List FieldLine

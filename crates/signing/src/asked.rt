@@ -1,6 +1,6 @@
 //! What a configuration asks to be signed.
 
-ghost use Rattle.std.specs.Prelude.{◌≡◌, ◌≤◌, Option, Some, None, [], option_map, option_copied, IfOk, IfSome, IsSome, IsTrue, OnOk, if◌then◌else◌};
+ghost use Rattle.std.specs.Prelude.{◌≡◌, ◌≤◌, Some, None, [], option_map, option_copied, IfOk, IfSome, IsSome, IsTrue, OnOk, if◌then◌else◌};
 ghost use Rattle.std.specs.List.{list_all};
 ghost use Rattle.sfv_text.specs.Range.{is_string_byte};
 ghost use Rattle.sfv_text.specs.declared.value.BareItem.TheVariants.{Str};

@@ -3,7 +3,7 @@
 //!
 //! ```text
 //! let spec = spec_of(alloc, conf, true, 1618884473, None)?; // what the configuration asks for
-//! let text = sign(alloc, bytes, &context, &spec)?;          // the message with its signature
+//! let text = sign(alloc, &context, &spec)?;                 // the message with its signature
 //! for spec in wanted(alloc, view, conf, now)?.iter() { .. } // one for each wish of the field
 //! ```
 #![tactic(auto)]

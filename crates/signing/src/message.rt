@@ -20,7 +20,7 @@ use crate::parts::{Parts, parts_of};
 use crate::refuse::judge_label;
 use crate::spec::SignSpec;
 use component_values::{Context, Prepared, prepare};
-use msg_body::{Expect, MessageRead, read_message};
+use msg_body::read_other_head;
 use sfv_text::{Memory, Text};
 use std::alloc::Global;
 
@@ -100,17 +100,14 @@ fn make_of_bytes(
     ensures { ExplainsSign (context_of context.now) spec.now
         (IsMade (context_of context.now) spec.now) result }
 {
-    match read_message(alloc, bytes, Expect::Any, context.answers_head()) {
-        Ok(MessageRead::Whole(message, _)) => {
+    match read_other_head(alloc, context.message, bytes) {
+        Ok(message) => {
             let with_digest = Context {
                 message: &message,
-                related: context.related,
-                scheme: context.scheme,
-                types: context.types,
+                ..*context
             };
             make_of_context(alloc, &with_digest, spec, parts, digest)
         }
-        Ok(MessageRead::Partial) => unreachable!(),
         Err(_) => Err(SignFault::Memory),
     }
 }

@@ -12,7 +12,7 @@ use Rattle.byte_grammar.proofs.ChoiceLaws.{of_each}
 use Rattle.byte_grammar.proofs.ListLaws.{all_joined, all_implied}
 use Rattle.targets.specs.UriBytes.{is_authority_byte, is_host_byte, is_literal_byte, is_unreserved_or_delim}
 use Rattle.targets.specs.Authorities.{IsAuthority, IsHost, IsLiteral, is_default_port, kept_port, port_text}
-use Rattle.targets.specs.Laws.{HasItselfForValue, IsAuthorityInTarget}
+use Rattle.targets.specs.Laws.{HasItselfForValue, HasPartsInValue, IsAuthorityInTarget}
 use Rattle.targets.proofs.Schemes.{lowered_twice}
 use Rattle.targets.proofs.Visible.{host_passes}
 
@@ -90,6 +90,13 @@ has_itself_for_value scheme text value (parts, (port, is, kept), same) =
       (parts.port, record { is_host = host_is_lowered parts.host is.is_host; is_port = digits; joined = same }, again),
       same ∙ ap (λ (text : List ℕ). text ++ port_text parts.port) (sym (lowered_twice parts.host)),
     )
+
+pub has_parts_in_value : HasPartsInValue
+has_parts_in_value scheme text parts (port, is, kept) = record {
+  is_host = host_is_lowered parts.host is.is_host;
+  is_port = subst AreDigits (sym kept) (kept_digits scheme port is.is_port);
+  joined = refl;
+}
 
 letter_in_target : (c : ℕ) → is_ascii_alphanumeric c ≡ true → is_authority_byte c ≡ true
 letter_in_target c is = grind (arith, nat_tests)

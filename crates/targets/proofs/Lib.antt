@@ -3,6 +3,7 @@ mod Runs
 pub mod TargetParts
 pub mod AuthorityParts
 pub mod Decided
+pub mod StartTargets
 pub mod Visible
 mod EncodingLaws
 pub mod ValueLaws

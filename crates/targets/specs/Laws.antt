@@ -3,8 +3,9 @@ use Rattle.std.specs.Prelude.{◌≡◌, ◌⊎◌, ℕ, IsTrue, List, Option, I
 use Rattle.std.specs.List.{list_all}
 use Rattle.byte_grammar.specs.Classes.{is_visible}
 use Rattle.targets.specs.UriBytes.{is_authority_byte}
-use Rattle.targets.specs.Targets.{TargetParts, SpellsTarget}
-use Rattle.targets.specs.Authorities.{AuthorityParts, IsAuthority, IsAuthorityFor, IsAuthorityValue}
+use Rattle.msg_head.specs.Starts.{RequestLine, StartLine}
+use Rattle.targets.specs.Targets.{IsRequestOf, TargetParts, SpellsTarget}
+use Rattle.targets.specs.Authorities.{AuthorityParts, IsAuthority, IsAuthorityFor, IsAuthorityValue, authority_text}
 use Rattle.std.specs.Str.{str_to_ascii_lowercase}
 
 -- A method and a target spell at most one target's parts.
@@ -39,6 +40,12 @@ HasItselfForValue =
     (scheme text value : List ℕ) →
     IsAuthorityValue scheme text value → IsAuthorityValue scheme value value
 
+-- The value is an authority of the host in lower case and of the port that is kept.
+abbrev pub HasPartsInValue : Type 0
+HasPartsInValue =
+    (scheme text : List ℕ) (parts : AuthorityParts) → IsAuthorityFor scheme text parts
+    → IsAuthority (authority_text parts) (str_to_ascii_lowercase parts.host) parts.port
+
 -- The value of an authority can be the authority in a target (RFC 3986 section 3.2).
 abbrev pub IsAuthorityInTarget : Type 0
 IsAuthorityInTarget =
@@ -58,6 +65,22 @@ abbrev pub AuthorityIsDecided : Type 0
 AuthorityIsDecided =
     (scheme text : List ℕ) → ((value : List ℕ) × IsAuthorityValue scheme text value)
     ⊎ ((value : List ℕ) → ¬ IsAuthorityValue scheme text value)
+
+-- ---- start lines
+
+-- A start line is at most one request line, of one target's parts.
+abbrev pub IsOneRequest : Type 0
+IsOneRequest =
+    (start : StartLine) (line other : RequestLine) (parts others : TargetParts)
+    → IsRequestOf start line parts → IsRequestOf start other others
+    → (line ≡ other) × (parts ≡ others)
+
+-- A start line is a request line of some target's parts, or isn't.
+abbrev pub IsRequestOrNot : Type 0
+IsRequestOrNot =
+    (start : StartLine)
+    → ((line : RequestLine) × (parts : TargetParts) × IsRequestOf start line parts)
+    ⊎ ((line : RequestLine) (parts : TargetParts) → ¬ IsRequestOf start line parts)
 
 -- ---- no value breaks a line
 

@@ -4,6 +4,7 @@ use Rattle.std.specs.List.{list_all}
 use Rattle.std.specs.Str.{byte}
 use Rattle.byte_grammar.specs.Classes.{is_alpha}
 use Rattle.byte_grammar.specs.Language.{starts_in}
+use Rattle.msg_head.specs.Starts.{RequestLine, StartLine, request}
 use Rattle.targets.specs.declared.target.Form.{Form}
 use Rattle.targets.specs.declared.target.Form.TheVariants.{Origin, Absolute, Authority, Asterisk}
 use Rattle.targets.specs.UriBytes.{is_scheme_byte, is_authority_byte, is_path_byte, is_query_byte}
@@ -100,6 +101,11 @@ abbrev pub SpellsTarget : List ℕ → List ℕ → TargetParts → Type 0
 SpellsTarget method target parts =
     ((method ≡ codes "CONNECT") × IsAuthorityForm target parts)
     ⊎ ((method ≢ codes "CONNECT") × IsOtherForm target parts)
+
+-- the start line is this request line, whose target is in a form and has these parts
+pub record IsRequestOf (start : StartLine) (line : RequestLine) (parts : TargetParts) : Type 0 where
+  pub start_is : start ≡ request line
+  pub spells : SpellsTarget line.method line.target parts
 
 -- ---- the path and the query
 

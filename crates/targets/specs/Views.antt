@@ -1,6 +1,8 @@
 -- What borrowed parts stand for.
 use Rattle.std.specs.Prelude.{option_map}
+use Rattle.msg_head.specs.Starts.{RequestLine}
 use Rattle.targets.specs.declared.target.Target.{Target}
+use Rattle.targets.specs.declared.line.TargetLine.{TargetLine}
 use Rattle.targets.specs.declared.authority.Authority.{Authority}
 use Rattle.targets.specs.Targets.{TargetParts}
 use Rattle.targets.specs.Authorities.{AuthorityParts}
@@ -14,6 +16,11 @@ parts_of target = record {
   path = target.path.now;
   query = option_map (λ text. text.now) target.query;
 }
+
+-- the request line that the borrowed texts stand for
+abbrev pub request_line_of : TargetLine → RequestLine
+request_line_of line =
+    record { method = line.method.now; target = line.target.now; version = line.version.now }
 
 -- the host and the port that the borrowed texts stand for
 abbrev pub authority_parts : Authority → AuthorityParts

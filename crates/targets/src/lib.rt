@@ -18,6 +18,7 @@
 mod authority;
 mod feed;
 mod laws;
+mod line;
 mod parts;
 mod query;
 mod query_params;
@@ -26,7 +27,11 @@ mod uri_byte;
 
 pub use authority::{Authority, authority_of};
 pub use feed::{feed_lowered, feed_marked};
-pub use laws::{target_laws, targets_are_decided, values_are_authorities, values_are_visible};
+pub use laws::{
+    a_start_line_is_of_one_target, a_target_has_one_reading, targets_are_decided,
+    values_are_authorities, values_are_visible,
+};
+pub use line::{TargetLine, target_line};
 pub use query::{ParamFound, encoded_texts_are_printable, query_param};
 pub use query_params::{ComparedQueries, QueryParams, query_param_in};
 pub use target::{Form, Target, cut_target, path_of, query_of};

@@ -1,6 +1,6 @@
 //! The parameters of a query, read once for all names.
 
-ghost use Rattle.std.specs.Prelude.{◌≡◌, ◌↔◌, ◌∷◌, ◌++◌, [], IsTrue, IfOk, OnOk, List};
+ghost use Rattle.std.specs.Prelude.{◌≡◌, ◌↔◌, ◌∷◌, ◌++◌, [], Some, IsTrue, IfOk, OnOk, List};
 ghost use Rattle.targets.specs.Query.{QueryPair, IsFound, decoded_pair, matches};
 ghost use Rattle.targets.specs.tools.Params.{AreListedIn, SaysWhichAreSame};
 
@@ -113,7 +113,8 @@ pub fn query_param_in(
     name: &[u8],
     kept: &mut Option<QueryParams>,
 ) -> Result<ParamFound, Memory>
-    ensures { IfOk result (IsFound (matches query.now name.now)) }
+    ensures found { IfOk result (IsFound (matches query.now name.now)) }
+    ensures kept { OnOk result (kept.new ≡ Some query.now) }
 {
     if let Some(params) = kept {
         if params.are_of(query) {

@@ -1,7 +1,8 @@
 // Tests of refusals and commands.
 
 use commands::{
-    Outcome, Reading, context_for, read_configuration, read_input, write_base, write_verdicts,
+    Outcome, Reading, base_outcome, context_for, message_of_role, read_configuration,
+    verify_outcome,
 };
 use component_values::Context;
 use conf::Conf;
@@ -107,7 +108,7 @@ fn message_of(alloc: Global, input: &[u8]) -> Option<MessageView<'_>> {
         expect: Expect::Request,
         to_head: false,
     };
-    match read_input(alloc, reading, Role::Input, input) {
+    match message_of_role(alloc, reading, Role::Input, input) {
         Ok(view) => Some(view),
         Err(_) => None,
     }
@@ -123,14 +124,14 @@ fn is_outcome(alloc: Global, outcome: Outcome, status: Status, output: &[u8]) ->
 }
 
 fn has_base(alloc: Global, context: &Context<'_, '_>, run: &Run) -> bool {
-    match write_base(alloc, run.params, context) {
+    match base_outcome(alloc, run.params, context) {
         Ok(outcome) => is_outcome(alloc, outcome, Status::Done, run.base),
         Err(_) => false,
     }
 }
 
 fn has_verdicts(alloc: Global, conf: &Conf, context: &Context<'_, '_>, run: &Run) -> bool {
-    match write_verdicts(alloc, conf, 0, None, context) {
+    match verify_outcome(alloc, conf, 0, None, context) {
         Ok(outcome) => is_outcome(alloc, outcome, Status::NotOk, run.lines),
         Err(_) => false,
     }

@@ -4,7 +4,7 @@ use SfError::Syntax;
 use byte_grammar::{
     Byte, ByteClass, Class, Left, is_tchar, read_all, read_byte, read_run, read_word, starts_with,
 };
-use sfv_read::{SfError, read_dict, read_inner, read_item, read_list};
+use sfv_read::{SfError, has_key, read_dict, read_inner, read_item, read_list};
 use sfv_text::{Text, print_dict, print_inner, print_item, print_list};
 use std::alloc::Global;
 
@@ -244,4 +244,27 @@ fn texts_are_refused_at_the_exact_offset(rt: HostRuntime) {
     for row in &REFUSES {
         assert!(rt; are_refused(rt.alloc(), row));
     }
+}
+
+// Of a Dictionary with a repeated key, and of a text that is none.
+fn is_answered(alloc: Global, key: &[u8], has: bool) -> bool {
+    match has_key(alloc, b" a=1, b, a=2", key) {
+        Ok(found) => found == has,
+        Err(_) => false,
+    }
+}
+
+fn is_unanswered(alloc: Global, text: &[u8], fault: SfError) -> bool {
+    match has_key(alloc, text, b"a") {
+        Ok(_) => false,
+        Err(found) => found == fault,
+    }
+}
+
+#[test]
+fn a_dictionary_is_asked_for_one_key(rt: HostRuntime) {
+    assert!(rt; is_answered(rt.alloc(), b"a", true));
+    assert!(rt; is_answered(rt.alloc(), b"b", true));
+    assert!(rt; is_answered(rt.alloc(), b"c", false));
+    assert!(rt; is_unanswered(rt.alloc(), b"a=1,", Syntax(4)));
 }

@@ -4,7 +4,7 @@ ghost use Rattle.std.specs.Prelude.{IfSome};
 ghost use Rattle.signing.specs.Specs.{IsValidSpec};
 
 use crate::components::message_of;
-use commands::{Reading, read_input};
+use commands::{Reading, message_of_role};
 use component_ids::print_params;
 use component_values::Context;
 use conf::{Conf, read_conf};
@@ -214,7 +214,7 @@ fn comes_to(alloc: Global, conf: &Conf, spec: &SignSpec, row: &Signed) -> bool
     if row.message.len() > 1_000 {
         return false;
     }
-    let Ok(view) = read_input(alloc, Reading::of_any(), Role::Input, row.message) else {
+    let Ok(view) = message_of_role(alloc, Reading::of_any(), Role::Input, row.message) else {
         return false;
     };
     let context = Context::of_message(&view, conf.scheme(), conf.types());

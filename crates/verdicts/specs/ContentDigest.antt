@@ -15,7 +15,8 @@ use Rattle.content_digest.specs.Faults.{IsDigestFault}
 use Rattle.content_digest.specs.declared.fault.DigestFault.{DigestFault}
 use Rattle.signatures.specs.declared.place.DigestReason.{DigestReason}
 use Rattle.signatures.specs.declared.place.DigestReason.TheVariants.{Uncovered}
-pub use Rattle.exchange.specs.ContentDigests.{digest_name, digest_text, digest_reason}
+pub use Rattle.content_digest.specs.Digests.{digest_name}
+pub use Rattle.signatures.specs.ContentDigests.{digest_text, digest_reason}
 
 -- the digest has to be covered: always, or where the content has a byte
 abbrev pub asks_digest : DigestUse → List ℕ → Bool

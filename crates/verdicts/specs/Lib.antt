@@ -8,5 +8,4 @@ pub mod KnownTags
 pub mod VerdictLine
 pub mod Laws
 pub mod tools
-pub mod Readings
 pub mod Contexts

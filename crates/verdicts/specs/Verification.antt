@@ -7,7 +7,6 @@ use Rattle.settings.specs.Configuration.{Configuration}
 use Rattle.settings.specs.declared.policy.Policy.{Policy}
 use Rattle.settings.specs.ConfMeaning.{meaning}
 use Rattle.nonces.specs.Books.{Book}
-use Rattle.verdicts.specs.declared.verification.Verification.{Verification as Borrowed}
 use Rattle.verdicts.specs.declared.verifier.Verifier.{Verifier}
 
 -- what the values of components are drawn from, the label, the configuration, the moment in seconds
@@ -28,11 +27,6 @@ verification_of context label conf now seen = record {
   now = now;
   seen = seen;
 }
-
--- the verification that the borrowed parts stand for
-abbrev pub model_of : Borrowed → Verification
-model_of v =
-    verification_of v.context.now v.label.now (meaning v.conf.now) v.now (option_copied v.seen)
 
 -- what a label of the message of this context is judged by, where the verifier is this one
 abbrev pub verification_by : Verifier → MessageContext → List ℕ → Verification

@@ -4,18 +4,17 @@ ghost use Rattle.std.specs.Prelude.{◌≡◌, IsTrue};
 ghost use Rattle.std.specs.List.{list_all};
 ghost use Rattle.content_digest.specs.Digests.{DigestHolds};
 ghost use Rattle.msg_body.specs.Views.{message_of, message_content};
-ghost use Rattle.exchange.specs.ContentDigests.{digest_text};
-ghost use Rattle.exchange.specs.Exchanges.{StillKnows};
+ghost use Rattle.signatures.specs.ContentDigests.{digest_text};
+ghost use Rattle.signatures.specs.Exchanges.{StillKnows};
 ghost use Rattle.verdicts.specs.ContentDigest.{asks_digest, keeps_whole, is_whole_digest, covers_digest, HasDigest};
 ghost use Rattle.signatures.specs.tools.Answered.{Explains};
 ghost use Rattle.verdicts.specs.tools.Judged.{FailsByField, FailsByDigest};
 
 use component_ids::{ComponentId, SigParams};
-use exchange::Exchange;
 use msg_body::MessageView;
 use settings::DigestUse;
 use sfv_text::{BareItem, Pair, Params};
-use signatures::{DigestReason, LabelFault, Place, Rule};
+use signatures::{DigestReason, Exchange, LabelFault, Place, Rule};
 use std::alloc::Global;
 
 /// Whether the digest of the content has to be covered.

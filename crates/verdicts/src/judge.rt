@@ -1,7 +1,7 @@
 //! The verdict on a label.
 
 ghost use Rattle.std.specs.Prelude.{◌≡◌, ◌≤◌, ℕ, List, Some, IsTrue, IfOk, length, option_copied};
-ghost use Rattle.exchange.specs.Exchanges.{StillKnows};
+ghost use Rattle.signatures.specs.Exchanges.{StillKnows};
 ghost use Rattle.settings.specs.ConfMeaning.{meaning};
 ghost use Rattle.nonces.specs.declared.limits.TheConstants.{MAX_KEYID_BYTES};
 ghost use Rattle.component_ids.specs.SignatureParams.{are_sig_params_in_range};
@@ -26,12 +26,11 @@ use crate::policy::{judge_policy, policy_of};
 use crate::verifier::Verifier;
 use component_ids::SigParams;
 use component_values::Context;
-use exchange::Exchange;
 use hmac_sha256::HmacKey;
 use nonces::{NonceBook, Steps};
 use settings::{Conf, Policy};
 use sfv_text::{Memory, Text};
-use signatures::{LabelFault, Place, Rule};
+use signatures::{Exchange, LabelFault, Place, Rule};
 use std::alloc::Global;
 use std::sync::ledger::Ledger;
 

@@ -20,15 +20,11 @@ mod line;
 mod mac;
 mod nonce;
 mod outcome;
-mod parts;
 mod policy;
-mod readings;
 mod tag_param;
 mod times;
-mod verification;
 mod verifier;
 
-pub use exchange::context_for;
 pub use judge::verdict;
 pub use known_tag::{SignedLabel, known_with};
 pub use laws::{
@@ -39,11 +35,8 @@ pub use line::append_verdict_line;
 pub use mac::tag_matches;
 pub use nonces::MAX_MOMENT;
 pub use outcome::Verdict;
-pub use parts::{Signed, verdict_in, verdict_on};
-pub use readings::LabelReadings;
 pub use signatures::{
     DigestReason, LabelFault, LabelRead, Labels, Place, Rule, SignatureFields,
-    a_label_has_one_reading, a_message_has_one_list_of_labels, labels_of, read_label,
+    a_label_has_one_reading, a_message_has_one_list_of_labels, context_for, labels_of, read_label,
 };
-pub use verification::Verification;
 pub use verifier::Verifier;

@@ -14,10 +14,9 @@ ghost use Rattle.verdicts.specs.tools.Judged.{ExplainsMac, FailsByTag, IsTagOf, 
 use crate::known_tag::SignedLabel;
 use component_ids::ComponentId;
 use component_values::{Lack, Prepared, ValueFault};
-use exchange::Exchange;
 use hmac_sha256::{Hmac, HmacKey, same_tag};
 use sig_base::feed_base;
-use signatures::{LabelFault, LabelRead, Place, Rule};
+use signatures::{Exchange, LabelFault, LabelRead, Place, Rule};
 use std::alloc::Global;
 
 /// The rule of a component that lacks a value so.

@@ -17,11 +17,10 @@ use crate::tag_param::judge_tag_param;
 use crate::times::{judge_created, judge_expires};
 use crate::verifier::Verifier;
 use component_ids::{ComponentId, SigParams};
-use exchange::Exchange;
 use framing::is_request;
 use nonces::Steps;
 use settings::{Conf, Policy};
-use signatures::LabelFault;
+use signatures::{Exchange, LabelFault};
 use std::alloc::Global;
 use std::sync::ledger::Ledger;
 

@@ -3,10 +3,10 @@
 use crate::judge::{judge, judge_signature, verdict_of};
 use crate::known_tag::SignedLabel;
 use crate::outcome::Verdict;
-use exchange::Exchange;
 use nonces::{NonceBook, Steps};
 use settings::Conf;
 use sfv_text::Memory;
+use signatures::Exchange;
 use std::alloc::Global;
 use std::sync::ledger::Ledger;
 
@@ -24,7 +24,7 @@ pub struct Verifier<'v> {
 impl<'v> Verifier<'v> {
     ghost use Rattle.std.specs.Prelude.{◌≡◌, ◌≤◌, IsTrue, IfOk, option_copied};
     ghost use Rattle.component_ids.specs.SignatureParams.{are_sig_params_in_range};
-    ghost use Rattle.exchange.specs.Exchanges.{StillKnows};
+    ghost use Rattle.signatures.specs.Exchanges.{StillKnows};
     ghost use Rattle.settings.specs.ConfMeaning.{meaning};
     ghost use Rattle.signatures.specs.Signatures.{HasSignature};
     ghost use Rattle.verdicts.specs.KnownTags.{KnowsTag};

@@ -1,19 +1,17 @@
 -- What the code makes of the components of two messages. No public clause cites this module.
-use Rattle.std.specs.Prelude.{◌≡◌, ℕ, Option, Some, None, IfSome, List, take, Result, Ok, Err}
+use Rattle.std.specs.Prelude.{ℕ, Option, Some, None, IfSome, IsTrue, List, take, Result, Ok, Err}
 use Rattle.std.specs.List.{All}
 use Rattle.sfv_text.specs.Keys.{value_of}
 use Rattle.sfv_text.specs.declared.pair.Pair.{Pair}
 use Rattle.msg_body.specs.Messages.{Message}
+use Rattle.component_ids.specs.Identifiers.{id_text, is_id_in_range}
 use Rattle.component_ids.specs.declared.id.ComponentId.{ComponentId}
-use Rattle.component_values.specs.Context.{MessageContext, context_of}
-use Rattle.component_values.specs.Readings.{AreReadOf}
+use Rattle.component_values.specs.Context.{MessageContext}
 use Rattle.derived_values.specs.declared.lack.Lack.{Lack}
 use Rattle.hop_audit.specs.declared.answer.Answer.{Answer}
 use Rattle.hop_audit.specs.declared.answer.Answer.TheVariants.{Value, Lacks}
-use Rattle.hop_audit.specs.declared.comparison.Comparison.{Comparison}
 use Rattle.hop_audit.specs.declared.comparison.ComponentFate.{ComponentFate}
 use Rattle.hop_audit.specs.declared.comparison.ComponentFate.TheVariants as component
-use Rattle.hop_audit.specs.declared.comparison.Compared.{Compared}
 use Rattle.hop_audit.specs.declared.line.Fate.{Fate}
 use Rattle.hop_audit.specs.declared.line.Fate.TheVariants.{Dropped, Changed, Lacking, Kept}
 use Rattle.hop_audit.specs.Fates.{HasChanged, HasKept, HasStayed, IsFirstOf, LacksValue}
@@ -39,25 +37,10 @@ IsComponentFate context other id component.Lacking =
     HasStayed context other id × LacksValue context id
 IsComponentFate context other id component.Kept = HasKept context other id
 
--- whatever the text of a component, this becomes of it
-abbrev pub AreCompared : MessageContext → Message → List (Pair Compared) → Type 0
-AreCompared context other compared = (text : List ℕ) → IfSome (value_of compared text)
-    (λ own. IsComponentFate context other own.id own.fate)
-
--- the readings are those of the two messages, whose contexts differ in nothing else, and so is what
--- was compared
-pub record IsComparison (context : MessageContext) (other : Message) (c : Comparison)
-    : Type 0 where
-  pub before : context_of c.before.now ≡ context
-  pub after : context_of c.after.now ≡ record {
-    message = other;
-    related = context.related;
-    scheme = context.scheme;
-    types = context.types;
-  }
-  pub was : AreReadOf (context_of c.before.now) c.was
-  pub now : AreReadOf (context_of c.after.now) c.now
-  pub compared : AreCompared context other c.compared
+-- where a fate stands by the text of a component's identifier, it is what becomes of the component
+abbrev pub AreCompared : MessageContext → Message → List (Pair ComponentFate) → Type 0
+AreCompared context other compared = (id : ComponentId) → IsTrue (is_id_in_range id)
+    → IfSome (value_of compared (id_text id)) (IsComponentFate context other id)
 
 -- ---- component by component
 

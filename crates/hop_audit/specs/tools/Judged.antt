@@ -6,14 +6,11 @@ use Rattle.component_values.specs.Context.{MessageContext}
 use Rattle.rewrite_script.specs.declared.rewrite.Rewrite.{Rewrite}
 use Rattle.settings.specs.ConfMeaning.{meaning}
 use Rattle.hop_audit.specs.declared.chain_audit.ChainAudit.{ChainAudit}
-use Rattle.hop_audit.specs.declared.chain_audit.Reached.{Reached}
 use Rattle.hop_audit.specs.declared.fault.ChainFault.{ChainFault}
 use Rattle.hop_audit.specs.declared.fault.ChainFault.TheVariants.{Memory}
 use Rattle.hop_audit.specs.declared.line.AuditLine.{AuditLine}
-use Rattle.msg_body.specs.declared.whole.Reading.{Reading}
 use Rattle.recording.specs.declared.chain.RecordedHop.{RecordedHop as HeldHop}
 use Rattle.recording.specs.declared.chain.RecordedChain.{RecordedChain as HeldChain}
-use Rattle.hop_audit.specs.declared.stage.Stage.{Stage}
 use Rattle.recording.specs.declared.limits.TheConstants.{MAX_HOPS}
 use Rattle.hop_audit.specs.ChainFaults.{IsChainFault}
 use Rattle.recording.specs.Chains.{Subject, requests, responses}
@@ -25,8 +22,8 @@ use Rattle.msg_body.specs.WholeTexts.{IsWhole}
 use Rattle.verdicts.specs.Contexts.{context_for}
 use Rattle.hop_audit.specs.Lines.{are_lines_in_range}
 use Rattle.hop_audit.specs.Report.{IsAudit}
-use Rattle.hop_audit.specs.tools.Carried.{KnowTags}
-use Rattle.hop_audit.specs.tools.Read.{IsStageOf, SaysMessage, SaysScript}
+use Rattle.hop_audit.specs.tools.Read.{SaysMessage, SaysScript}
+use Rattle.hop_audit.specs.tools.Stages.{StageState}
 use Rattle.recording.specs.RecordedChains.{IsHeldChain, subject_meant}
 use Rattle.hop_audit.specs.tools.Written.{AddsHopLines, AddsMessageLines}
 
@@ -69,67 +66,49 @@ SaysRelated chain (Err Memory) = ⊤
 SaysRelated chain (Err fault) = (items : List PlacedItem) → IsHeldChain items chain
     → IsChainFault items fault
 
--- the message of the item with this index, and what was read of its signatures; or why it is none
-abbrev pub SaysStage : ℕ → Reading → List ℕ → Result Stage ChainFault → Type 0
-SaysStage item reading text (Ok stage) = IsWhole reading text (message_of stage.message)
-    × IsStageOf (message_of stage.message) stage
-SaysStage item reading text (Err fault) = SaysMessage item reading text (Err fault)
+-- the stage is judged by the configuration of the audit, and its message answers the same request
+pub record IsStageIn (audit : ChainAudit) (stage : StageState) : Type 0 where
+  pub conf_is : stage.conf ≡ meaning audit.conf.now
+  pub context_is : stage.context ≡ context_of_audit audit stage.context.message
 
--- the lines of the hop are added, and this is the message after it
-pub record AddsHop (audit : ChainAudit) (index : ℕ) (before : Stage) (hop : HeldHop)
-    (was now : List AuditLine) (after : Stage) : Type 0 where
-  pub script : List Rewrite
-  pub script_is : IsScriptItem hop.script.now script
-  pub stage : SaysStage (hop.item + 1) audit.reading hop.message.now (Ok after)
-  pub added : AddsHopLines (context_of_audit audit (message_of before.message)) index script
-      (message_of after.message) was now
+-- the message of the item with this index, at this moment; or why it is none
+abbrev pub SaysStage : ChainAudit → ℕ → ℕ → List ℕ → Result StageState ChainFault → Type 0
+SaysStage audit item moment text (Ok stage) = (stage.moment ≡ moment) × IsStageIn audit stage
+    × IsWhole audit.reading text stage.context.message
+SaysStage audit item moment text (Err fault) = SaysMessage item audit.reading text (Err fault)
 
--- the same, or why its script or its message is none
-abbrev pub SaysHop : ChainAudit → ℕ → Stage → HeldHop → List AuditLine → List AuditLine
-    → Result Stage ChainFault → Type 0
-SaysHop audit index before hop was now (Ok after) = AddsHop audit index before hop was now after
-SaysHop audit index before hop was now (Err Memory) = ⊤
-SaysHop audit index before hop was now (Err fault) =
-    SaysScript hop.item hop.script.now (Err fault)
-    ⊎ ((script : List Rewrite) × IsScriptItem hop.script.now script
-    × SaysMessage (hop.item + 1) audit.reading hop.message.now (Err fault))
-
--- the lines of the first message are added, and this is what was read of it
-pub record AddsFirst (audit : ChainAudit) (chain : HeldChain) (was now : List AuditLine)
-    (reached : Reached) : Type 0 where
-  pub moment_is : reached.moment ≡ chain.moment
-  pub stage : SaysStage chain.item audit.reading chain.first.now (Ok reached.stage)
-  pub added : AddsMessageLines (meaning audit.conf.now)
-      (context_of_audit audit (message_of reached.stage.message)) 0 chain.moment was now
-  pub known : KnowTags (meaning audit.conf.now)
-      (context_of_audit audit (message_of reached.stage.message)) reached.stage.known
-
--- the same, or why its item is none
+-- the lines of the first message are added, and this was read of it; or why its item is none
 abbrev pub SaysFirst : ChainAudit → HeldChain → List AuditLine → List AuditLine
-    → Result Reached ChainFault → Type 0
-SaysFirst audit chain was now (Ok reached) = AddsFirst audit chain was now reached
+    → Result StageState ChainFault → Type 0
+SaysFirst audit chain was now (Ok stage) =
+    SaysStage audit chain.item chain.moment chain.first.now (Ok stage)
+    × AddsMessageLines (meaning audit.conf.now) stage.context 0 chain.moment was now
 SaysFirst audit chain was now (Err fault) =
     SaysMessage chain.item audit.reading chain.first.now (Err fault)
 
 -- the lines of the hop and those of the message after it are added, and this was read of that
-pub record AddsNext (audit : ChainAudit) (index : ℕ) (before : Reached) (hop : HeldHop)
-    (was now : List AuditLine) (after : Reached) : Type 0 where
+pub record AddsNext (audit : ChainAudit) (index : ℕ) (before : StageState) (hop : HeldHop)
+    (was now : List AuditLine) (after : StageState) : Type 0 where
+  pub script : List Rewrite
+  pub script_is : IsScriptItem hop.script.now script
+  pub stage : SaysStage audit (hop.item + 1) (unwrap_or hop.moment before.moment)
+      hop.message.now (Ok after)
   pub between : List AuditLine
-  pub moment_is : after.moment ≡ unwrap_or hop.moment before.moment
-  pub hop_lines : AddsHop audit index before.stage hop was between after.stage
-  pub added : AddsMessageLines (meaning audit.conf.now)
-      (context_of_audit audit (message_of after.stage.message)) index
+  pub hop_lines : AddsHopLines before.context index script after.context.message
+      was between
+  pub added : AddsMessageLines (meaning audit.conf.now) after.context index
       (unwrap_or hop.moment before.moment) between now
-  pub known : KnowTags (meaning audit.conf.now)
-      (context_of_audit audit (message_of after.stage.message)) after.stage.known
 
 -- the same, or why its script or its message is none
-abbrev pub SaysNext : ChainAudit → ℕ → Reached → HeldHop → List AuditLine → List AuditLine
-    → Result Reached ChainFault → Type 0
+abbrev pub SaysNext : ChainAudit → ℕ → StageState → HeldHop → List AuditLine → List AuditLine
+    → Result StageState ChainFault → Type 0
 SaysNext audit index before hop was now (Ok after) =
     AddsNext audit index before hop was now after
+SaysNext audit index before hop was now (Err Memory) = ⊤
 SaysNext audit index before hop was now (Err fault) =
-    SaysHop audit index before.stage hop was now (Err fault)
+    SaysScript hop.item hop.script.now (Err fault)
+    ⊎ ((script : List Rewrite) × IsScriptItem hop.script.now script
+    × SaysMessage (hop.item + 1) audit.reading hop.message.now (Err fault))
 
 -- the report on the items of the chain, which can be written, or their fault, where the related
 -- request was read

@@ -1,14 +1,15 @@
 -- What the code makes of the steps of a script. No public clause cites this module.
-use Rattle.std.specs.Prelude.{◌≡◌, ◌↔◌, ℕ, IsTrue, Option, IsSomeAnd, MatchOption, is_some, List, take, drop}
+use Rattle.std.specs.Prelude.{◌≡◌, ◌↔◌, ℕ, IsTrue, Option, IfSome, IsSomeAnd, MatchOption, is_some, List, take, drop}
 use Rattle.std.specs.Borrow.{Bor}
 use Rattle.std.specs.List.{All, AllZip}
 use Rattle.msg_body.specs.Messages.{Message, Spells}
+use Rattle.component_ids.specs.SignatureParams.{are_sig_params_in_range}
 use Rattle.component_ids.specs.declared.params.SigParams.{SigParams}
 use Rattle.component_values.specs.Context.{MessageContext, answers_head}
 use Rattle.rewrite_script.specs.declared.rewrite.Rewrite.{Rewrite}
 use Rattle.rewrites.specs.Permitted.{Permits}
 use Rattle.rewrites.specs.Steps.{Step, Steps}
-use Rattle.signatures.specs.Signatures.{HasSignature}
+use Rattle.signatures.specs.Signatures.{AreLabels, HasSignature}
 use Rattle.signatures.specs.declared.label.LabelRead.{LabelRead}
 use Rattle.rewrites.specs.declared.watcher.Judgement.{Judgement}
 use Rattle.rewrites.specs.declared.watcher.Judgement.TheVariants.{Permitted}
@@ -34,6 +35,16 @@ pub record IsMarkOf (message : Message) (label : List ℕ) (mark : Mark) : Type 
 -- each label has its mark
 abbrev pub AreMarksOf : Message → List (List ℕ) → List Mark → Type 0
 AreMarksOf message labels marks = AllZip (IsMarkOf message) labels marks
+
+-- each label of the message has its mark
+pub record AreMarksIn (message : Message) (marks : List Mark) : Type 0 where
+  pub labels : List (List ℕ)
+  pub are : AreLabels message labels
+  pub each : AreMarksOf message labels marks
+
+-- where the label has a signature, its parameters can be written as a structured field
+abbrev pub IsMarkInRange : Mark → Type 0
+IsMarkInRange mark = IfSome mark.read (λ read. IsTrue (are_sig_params_in_range read.now.params))
 
 -- where the signature has permitted all so far, the message has it
 abbrev pub HoldsSignature : Message → Mark → Type 0

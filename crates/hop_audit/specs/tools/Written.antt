@@ -7,13 +7,10 @@ use Rattle.rewrite_script.specs.declared.rewrite.Rewrite.{Rewrite}
 use Rattle.settings.specs.Configuration.{Configuration}
 use Rattle.signatures.specs.Signatures.{AreLabels}
 use Rattle.verdicts.specs.Verification.{Verification}
-use Rattle.component_values.specs.Context.{HasWholeMessage, context_of, context_with}
-use Rattle.hop_audit.specs.declared.hop_lines.End.{End}
 use Rattle.hop_audit.specs.declared.line.AuditLine.{AuditLine}
 use Rattle.hop_audit.specs.Hops.{PlacedHop}
 use Rattle.hop_audit.specs.Lines.{are_lines_in_range, is_line_in_range}
 use Rattle.hop_audit.specs.Report.{AreMessageLines, IsHopLine, IsLabelLine, IsMessageLine}
-use Rattle.hop_audit.specs.tools.Read.{IsStageOf}
 
 -- the line of a label of the message with this index is added
 pub record AddsMessageLine (v : Verification) (index : ℕ) (was now : List AuditLine)
@@ -64,15 +61,3 @@ abbrev pub AddsHopLines : MessageContext → ℕ → List Rewrite → Message �
 AddsHopLines context index script after was now =
     (hop : PlacedHop) → IsHopBetween context index script after hop
     → AddsLinesOf context hop was now
-
--- what was read is of the context's message, which is a whole one
-pub record IsEnd (end : End) : Type 0 where
-  pub stage : IsStageOf (context_of end.context.now).message end.stage.now
-  pub whole : HasWholeMessage (context_of end.context.now)
-
--- both ends of a hop, whose contexts differ in the message alone
-pub record AreEnds (before after : End) : Type 0 where
-  pub before_is : IsEnd before
-  pub after_is : IsEnd after
-  pub alike : context_of after.context.now
-      ≡ context_with (context_of before.context.now) (context_of after.context.now).message

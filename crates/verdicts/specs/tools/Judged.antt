@@ -24,7 +24,7 @@ use Rattle.verdicts.specs.Policies.{IsFirstUncovered, IsAhead, IsTooOld, asks_ne
 use Rattle.verdicts.specs.Verification.{Verification, policy_of}
 use Rattle.msg_body.specs.Messages.{Message}
 use Rattle.verdicts.specs.ContentDigest.{HasDigest, LacksDigest}
-use Rattle.exchange.specs.ContentDigests.{IsDigestAnswer}
+use Rattle.signatures.specs.ContentDigests.{IsDigestAnswer}
 use Rattle.signatures.specs.declared.place.DigestReason.{DigestReason}
 use Rattle.signatures.specs.declared.label.LabelFault.{LabelFault}
 use Rattle.signatures.specs.declared.label.LabelFault.TheVariants.{Memory, Rule as Refused}

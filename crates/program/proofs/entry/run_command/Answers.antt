@@ -1,5 +1,5 @@
 use Rattle.std.proofs.Common.{◌≡◌, ◌+◌, ◌≤◌, map, string_bytes, refl, Ok}
-use Rattle.command_line.specs.Command.{CommandLine, Help, HelpOf, Version, Base, Verify, Sign, Rewrite, Audit, Sample, base_words, verify_words, sign_words, rewrite_words, audit_words, sample_words, line_of}
+use Rattle.command_line.specs.Command.{CommandLine, Help, HelpOf, Version, Base, Verify, Sign, Rewrite, Audit, Sample, base_words, verify_words, sign_words, rewrite_words, audit_words, sample_words}
 use Rattle.commands.specs.Files.{Conf, file_bytes}
 use Rattle.program.specs.Commands.{input_use, name_of, LosesFew}
 use Rattle.command_line.proofs.Moments.{sample_bounded}
@@ -24,17 +24,17 @@ returns-in_default-clause-asked g c =
 pub returns-in_default-clause-reached : goal.returns-in_default-clause-reached
 returns-in_default-clause-reached g c = λ command is. absurd (c.in_default.ensures.none command is)
 
-pub returns-in_ok-write_help-in-Help-clause-report : goal.returns-in_ok-write_help-in-Help-clause-report
-returns-in_ok-write_help-in-Help-clause-report g c =
-    let outcome = c.in_ok-write_help-in-Help.field-0 in
+pub returns-in_ok-help_outcome-in-Help-clause-report : goal.returns-in_ok-help_outcome-in-Help-clause-report
+returns-in_ok-help_outcome-in-Help-clause-report g c =
+    let outcome = c.in_ok-help_outcome-in-Help.field-0 in
     spelled (map string_bytes c.args.arguments.now) Help (rw c.in-Help.is at c.in-Some.ensures.some) (g.F.Shelf.files c.args.shelf.now) (c.args.source.now ≡ c.args.source.now)
     (g.S.Source.left c.args.source.now) (g.S.Source.left c.args.source.now) (Ok outcome)
     (alone Help (g.F.Shelf.files c.args.shelf.now) (c.args.source.now ≡ c.args.source.now) (g.S.Source.left c.args.source.now) (g.S.Source.left c.args.source.now) outcome refl (nothing_named (g.F.Shelf.files c.args.shelf.now)) refl
-    (λ found input. c.in_ok-write_help-in-Help.ensures))
+    (λ found input. c.in_ok-help_outcome-in-Help.ensures))
 
-pub returns-in_ok-write_help-in-Help-clause-asked : goal.returns-in_ok-write_help-in-Help-clause-asked
-returns-in_ok-write_help-in-Help-clause-asked g c =
-    asks_of (map string_bytes c.args.arguments.now) Help (rw c.in-Help.is at c.in-Some.ensures.some) (Ok c.in_ok-write_help-in-Help.field-0) (g.F.Shelf.asked c.args.shelf.now) (g.F.Shelf.asked c.args.shelf.now) (none_asked (Ok c.in_ok-write_help-in-Help.field-0) (g.F.Shelf.asked c.args.shelf.now)) (no_more (g.F.Shelf.asked c.args.shelf.now))
+pub returns-in_ok-help_outcome-in-Help-clause-asked : goal.returns-in_ok-help_outcome-in-Help-clause-asked
+returns-in_ok-help_outcome-in-Help-clause-asked g c =
+    asks_of (map string_bytes c.args.arguments.now) Help (rw c.in-Help.is at c.in-Some.ensures.some) (Ok c.in_ok-help_outcome-in-Help.field-0) (g.F.Shelf.asked c.args.shelf.now) (g.F.Shelf.asked c.args.shelf.now) (none_asked (Ok c.in_ok-help_outcome-in-Help.field-0) (g.F.Shelf.asked c.args.shelf.now)) (no_more (g.F.Shelf.asked c.args.shelf.now))
 
 pub returns-in_ok-write_help_of-in-HelpOf-clause-report : goal.returns-in_ok-write_help_of-in-HelpOf-clause-report
 returns-in_ok-write_help_of-in-HelpOf-clause-report g c =
@@ -49,17 +49,17 @@ pub returns-in_ok-write_help_of-in-HelpOf-clause-asked : goal.returns-in_ok-writ
 returns-in_ok-write_help_of-in-HelpOf-clause-asked g c =
     asks_of (map string_bytes c.args.arguments.now) (HelpOf c.in-HelpOf.name) (rw c.in-HelpOf.is at c.in-Some.ensures.some) (Ok c.in_ok-write_help_of-in-HelpOf.field-0) (g.F.Shelf.asked c.args.shelf.now) (g.F.Shelf.asked c.args.shelf.now) (none_asked (Ok c.in_ok-write_help_of-in-HelpOf.field-0) (g.F.Shelf.asked c.args.shelf.now)) (no_more (g.F.Shelf.asked c.args.shelf.now))
 
-pub returns-in_ok-write_version-in-Version-clause-report : goal.returns-in_ok-write_version-in-Version-clause-report
-returns-in_ok-write_version-in-Version-clause-report g c =
-    let outcome = c.in_ok-write_version-in-Version.field-0 in
+pub returns-in_ok-version_outcome-in-Version-clause-report : goal.returns-in_ok-version_outcome-in-Version-clause-report
+returns-in_ok-version_outcome-in-Version-clause-report g c =
+    let outcome = c.in_ok-version_outcome-in-Version.field-0 in
     spelled (map string_bytes c.args.arguments.now) Version (rw c.in-Version.is at c.in-Some.ensures.some) (g.F.Shelf.files c.args.shelf.now) (c.args.source.now ≡ c.args.source.now)
     (g.S.Source.left c.args.source.now) (g.S.Source.left c.args.source.now) (Ok outcome)
     (alone Version (g.F.Shelf.files c.args.shelf.now) (c.args.source.now ≡ c.args.source.now) (g.S.Source.left c.args.source.now) (g.S.Source.left c.args.source.now) outcome refl (nothing_named (g.F.Shelf.files c.args.shelf.now)) refl
-    (λ found input. c.in_ok-write_version-in-Version.ensures))
+    (λ found input. c.in_ok-version_outcome-in-Version.ensures))
 
-pub returns-in_ok-write_version-in-Version-clause-asked : goal.returns-in_ok-write_version-in-Version-clause-asked
-returns-in_ok-write_version-in-Version-clause-asked g c =
-    asks_of (map string_bytes c.args.arguments.now) Version (rw c.in-Version.is at c.in-Some.ensures.some) (Ok c.in_ok-write_version-in-Version.field-0) (g.F.Shelf.asked c.args.shelf.now) (g.F.Shelf.asked c.args.shelf.now) (none_asked (Ok c.in_ok-write_version-in-Version.field-0) (g.F.Shelf.asked c.args.shelf.now)) (no_more (g.F.Shelf.asked c.args.shelf.now))
+pub returns-in_ok-version_outcome-in-Version-clause-asked : goal.returns-in_ok-version_outcome-in-Version-clause-asked
+returns-in_ok-version_outcome-in-Version-clause-asked g c =
+    asks_of (map string_bytes c.args.arguments.now) Version (rw c.in-Version.is at c.in-Some.ensures.some) (Ok c.in_ok-version_outcome-in-Version.field-0) (g.F.Shelf.asked c.args.shelf.now) (g.F.Shelf.asked c.args.shelf.now) (none_asked (Ok c.in_ok-version_outcome-in-Version.field-0) (g.F.Shelf.asked c.args.shelf.now)) (no_more (g.F.Shelf.asked c.args.shelf.now))
 
 pub returns-in-Base-clause-report : goal.returns-in-Base-clause-report
 returns-in-Base-clause-report g c =
@@ -203,20 +203,20 @@ returns-in-Audit-clause-unread g c = λ none. never_read _ (none (Audit (audit_w
 pub returns-in-Audit-clause-unasked : goal.returns-in-Audit-clause-unasked
 returns-in-Audit-clause-unasked g c = λ named. never c.in-Audit.words.conf.now (named (Audit (audit_words c.in-Audit.words)) (rw c.in-Audit.is at c.in-Some.ensures.some) Conf)
 
-pub write_sample-requires-clause-seed : goal.write_sample-requires-clause-seed
-write_sample-requires-clause-seed g c =
+pub sample_outcome-requires-clause-seed : goal.sample_outcome-requires-clause-seed
+sample_outcome-requires-clause-seed g c =
     (sample_bounded (map string_bytes c.args.arguments.now) (sample_words c.in-Sample.words) (rw c.in-Sample.is at c.in-Some.ensures.some)).0
 
-pub write_sample-requires-clause-count : goal.write_sample-requires-clause-count
-write_sample-requires-clause-count g c =
+pub sample_outcome-requires-clause-count : goal.sample_outcome-requires-clause-count
+sample_outcome-requires-clause-count g c =
     (sample_bounded (map string_bytes c.args.arguments.now) (sample_words c.in-Sample.words) (rw c.in-Sample.is at c.in-Some.ensures.some)).1
 
 pub returns-in-Sample-clause-report : goal.returns-in-Sample-clause-report
 returns-in-Sample-clause-report g c =
     spelled (map string_bytes c.args.arguments.now) (Sample (sample_words c.in-Sample.words)) (rw c.in-Sample.is at c.in-Some.ensures.some) (g.F.Shelf.files c.args.shelf.now)
-    (c.args.source.now ≡ c.args.source.now) (g.S.Source.left c.args.source.now) (g.S.Source.left c.args.source.now) c.write_sample.result
-    (sampled (sample_words c.in-Sample.words) (g.F.Shelf.files c.args.shelf.now) (c.args.source.now ≡ c.args.source.now) (g.S.Source.left c.args.source.now) (g.S.Source.left c.args.source.now) refl c.write_sample.result
-    c.write_sample.ensures.report)
+    (c.args.source.now ≡ c.args.source.now) (g.S.Source.left c.args.source.now) (g.S.Source.left c.args.source.now) c.sample_outcome.result
+    (sampled (sample_words c.in-Sample.words) (g.F.Shelf.files c.args.shelf.now) (c.args.source.now ≡ c.args.source.now) (g.S.Source.left c.args.source.now) (g.S.Source.left c.args.source.now) refl c.sample_outcome.result
+    c.sample_outcome.ensures.report)
 
 pub returns-in-Sample-clause-few : goal.returns-in-Sample-clause-few
 returns-in-Sample-clause-few g c =
@@ -225,4 +225,4 @@ returns-in-Sample-clause-few g c =
 
 pub returns-in-Sample-clause-asked : goal.returns-in-Sample-clause-asked
 returns-in-Sample-clause-asked g c =
-    asks_of (map string_bytes c.args.arguments.now) (Sample (sample_words c.in-Sample.words)) (rw c.in-Sample.is at c.in-Some.ensures.some) c.write_sample.result (g.F.Shelf.asked c.args.shelf.now) (g.F.Shelf.asked c.args.shelf.now) (none_asked c.write_sample.result (g.F.Shelf.asked c.args.shelf.now)) (no_more (g.F.Shelf.asked c.args.shelf.now))
+    asks_of (map string_bytes c.args.arguments.now) (Sample (sample_words c.in-Sample.words)) (rw c.in-Sample.is at c.in-Some.ensures.some) c.sample_outcome.result (g.F.Shelf.asked c.args.shelf.now) (g.F.Shelf.asked c.args.shelf.now) (none_asked c.sample_outcome.result (g.F.Shelf.asked c.args.shelf.now)) (no_more (g.F.Shelf.asked c.args.shelf.now))

@@ -60,11 +60,11 @@ returns-in_err-request-clause-few g c = none_gone _ (g.S.Source.left c.args.sour
 pub returns-in_err-request-clause-asks : goal.returns-in_err-request-clause-asks
 returns-in_err-request-clause-asks g c =
     let words = c.files-names.result in
-    rw (c.files-names.ensures) (asks_all g.F.Shelf.files g.F.Shelf.asked g.F.Shelf.reached (λ word. word.now) words.conf words.request words.wanted words.script c.args.shelf.now c.read_needed.new.shelf c.take_message.new.shelf c.take_message.new.shelf c.take_message.new.shelf
+    rw (c.files-names.ensures) (asks_all g.F.Shelf.files g.F.Shelf.asked g.F.Shelf.reached (λ word. word.now) words.conf words.request words.wanted words.script c.args.shelf.now c.read_needed.new.shelf c.fetch_message.new.shelf c.fetch_message.new.shelf c.fetch_message.new.shelf
     (record { keeps = c.in_ok-conf.ensures.files; asks = c.in_ok-conf.ensures.asked; reaches = c.in_ok-conf.ensures.reached; unasked = c.in_ok-conf.ensures.unasked })
     (record { keeps = c.in_err-request.ensures.files; asks = c.in_err-request.ensures.asked; reaches = c.in_err-request.ensures.reached; unasked = c.in_err-request.ensures.unasked })
-    (asks_none g.F.Shelf.files g.F.Shelf.asked g.F.Shelf.reached (MAX_INPUT_BYTES + 1) words.wanted c.take_message.new.shelf)
-    (asks_none g.F.Shelf.files g.F.Shelf.asked g.F.Shelf.reached (MAX_SCRIPT_BYTES + 1) words.script c.take_message.new.shelf))
+    (asks_none g.F.Shelf.files g.F.Shelf.asked g.F.Shelf.reached (MAX_INPUT_BYTES + 1) words.wanted c.fetch_message.new.shelf)
+    (asks_none g.F.Shelf.files g.F.Shelf.asked g.F.Shelf.reached (MAX_SCRIPT_BYTES + 1) words.script c.fetch_message.new.shelf))
 
 pub returns-in_err-related-clause-report : goal.returns-in_err-related-clause-report
 returns-in_err-related-clause-report g c =
@@ -85,11 +85,11 @@ returns-in_err-related-clause-few g c = none_gone _ (g.S.Source.left c.args.sour
 pub returns-in_err-related-clause-asks : goal.returns-in_err-related-clause-asks
 returns-in_err-related-clause-asks g c =
     let words = c.files-names.result in
-    rw (c.files-names.ensures) (asks_all g.F.Shelf.files g.F.Shelf.asked g.F.Shelf.reached (λ word. word.now) words.conf words.request words.wanted words.script c.args.shelf.now c.read_needed.new.shelf c.take_message.new.shelf c.take_message.new.shelf c.take_message.new.shelf
+    rw (c.files-names.ensures) (asks_all g.F.Shelf.files g.F.Shelf.asked g.F.Shelf.reached (λ word. word.now) words.conf words.request words.wanted words.script c.args.shelf.now c.read_needed.new.shelf c.fetch_message.new.shelf c.fetch_message.new.shelf c.fetch_message.new.shelf
     (record { keeps = c.in_ok-conf.ensures.files; asks = c.in_ok-conf.ensures.asked; reaches = c.in_ok-conf.ensures.reached; unasked = c.in_ok-conf.ensures.unasked })
     (record { keeps = c.in_ok-request.ensures.files; asks = c.in_ok-request.ensures.asked; reaches = c.in_ok-request.ensures.reached; unasked = c.in_ok-request.ensures.unasked })
-    (asks_none g.F.Shelf.files g.F.Shelf.asked g.F.Shelf.reached (MAX_INPUT_BYTES + 1) words.wanted c.take_message.new.shelf)
-    (asks_none g.F.Shelf.files g.F.Shelf.asked g.F.Shelf.reached (MAX_SCRIPT_BYTES + 1) words.script c.take_message.new.shelf))
+    (asks_none g.F.Shelf.files g.F.Shelf.asked g.F.Shelf.reached (MAX_INPUT_BYTES + 1) words.wanted c.fetch_message.new.shelf)
+    (asks_none g.F.Shelf.files g.F.Shelf.asked g.F.Shelf.reached (MAX_SCRIPT_BYTES + 1) words.script c.fetch_message.new.shelf))
 
 pub returns-in_err-wanted-clause-report : goal.returns-in_err-wanted-clause-report
 returns-in_err-wanted-clause-report g c =
@@ -102,7 +102,7 @@ returns-in_err-wanted-clause-report g c =
     let first = g.F.Shelf.files c.read_needed.new.shelf in
     let related = option_map (λ view. message_of view) c.in_ok-related.related in
     let requested = message_had shelf words Request one_request c.in_ok-request.request _ _ related first c.in_ok-conf.ensures.files c.of_request.ensures c.as_ref.ensures.value c.in_ok-request.ensures.ok c.in_ok-related.ensures.ok in
-    let second = g.F.Shelf.files c.take_message.new.shelf in
+    let second = g.F.Shelf.files c.fetch_message.new.shelf in
     let kept = keeps_both shelf first second c.in_ok-conf.ensures.files c.in_ok-request.ensures.files in
     rw (p.1, p.2, c.files-names.ensures) (wishes_stopped (g.C.OverMessage.tables c.args.command.now) (g.C.OverMessage.reports c.args.command.now) words shelf (c.args.source.now ≡ c.args.source.now) (g.S.Source.left c.args.source.now) (g.S.Source.left c.args.source.now)
     conf configured related requested stop refl (refused_before shelf words Wanted IsWantedRefused OfWanted stop second kept (c.in_err-wanted.ensures.refused any_message)))
@@ -113,11 +113,11 @@ returns-in_err-wanted-clause-few g c = none_gone _ (g.S.Source.left c.args.sourc
 pub returns-in_err-wanted-clause-asks : goal.returns-in_err-wanted-clause-asks
 returns-in_err-wanted-clause-asks g c =
     let words = c.files-names.result in
-    rw (c.files-names.ensures) (asks_all g.F.Shelf.files g.F.Shelf.asked g.F.Shelf.reached (λ word. word.now) words.conf words.request words.wanted words.script c.args.shelf.now c.read_needed.new.shelf c.take_message.new.shelf c.take_message-2.new.shelf c.take_message-2.new.shelf
+    rw (c.files-names.ensures) (asks_all g.F.Shelf.files g.F.Shelf.asked g.F.Shelf.reached (λ word. word.now) words.conf words.request words.wanted words.script c.args.shelf.now c.read_needed.new.shelf c.fetch_message.new.shelf c.fetch_message-2.new.shelf c.fetch_message-2.new.shelf
     (record { keeps = c.in_ok-conf.ensures.files; asks = c.in_ok-conf.ensures.asked; reaches = c.in_ok-conf.ensures.reached; unasked = c.in_ok-conf.ensures.unasked })
     (record { keeps = c.in_ok-request.ensures.files; asks = c.in_ok-request.ensures.asked; reaches = c.in_ok-request.ensures.reached; unasked = c.in_ok-request.ensures.unasked })
     (record { keeps = c.in_err-wanted.ensures.files; asks = c.in_err-wanted.ensures.asked; reaches = c.in_err-wanted.ensures.reached; unasked = c.in_err-wanted.ensures.unasked })
-    (asks_none g.F.Shelf.files g.F.Shelf.asked g.F.Shelf.reached (MAX_SCRIPT_BYTES + 1) words.script c.take_message-2.new.shelf))
+    (asks_none g.F.Shelf.files g.F.Shelf.asked g.F.Shelf.reached (MAX_SCRIPT_BYTES + 1) words.script c.fetch_message-2.new.shelf))
 
 pub returns-in_err-wishes-clause-report : goal.returns-in_err-wishes-clause-report
 returns-in_err-wishes-clause-report g c =
@@ -130,7 +130,7 @@ returns-in_err-wishes-clause-report g c =
     let first = g.F.Shelf.files c.read_needed.new.shelf in
     let related = option_map (λ view. message_of view) c.in_ok-related.related in
     let requested = message_had shelf words Request one_request c.in_ok-request.request _ _ related first c.in_ok-conf.ensures.files c.of_request.ensures c.as_ref.ensures.value c.in_ok-request.ensures.ok c.in_ok-related.ensures.ok in
-    let second = g.F.Shelf.files c.take_message.new.shelf in
+    let second = g.F.Shelf.files c.fetch_message.new.shelf in
     let kept = keeps_both shelf first second c.in_ok-conf.ensures.files c.in_ok-request.ensures.files in
     rw (p.1, p.2, c.files-names.ensures) (wishes_stopped (g.C.OverMessage.tables c.args.command.now) (g.C.OverMessage.reports c.args.command.now) words shelf (c.args.source.now ≡ c.args.source.now) (g.S.Source.left c.args.source.now) (g.S.Source.left c.args.source.now)
     conf configured related requested stop refl
@@ -142,11 +142,11 @@ returns-in_err-wishes-clause-few g c = none_gone _ (g.S.Source.left c.args.sourc
 pub returns-in_err-wishes-clause-asks : goal.returns-in_err-wishes-clause-asks
 returns-in_err-wishes-clause-asks g c =
     let words = c.files-names.result in
-    rw (c.files-names.ensures) (asks_all g.F.Shelf.files g.F.Shelf.asked g.F.Shelf.reached (λ word. word.now) words.conf words.request words.wanted words.script c.args.shelf.now c.read_needed.new.shelf c.take_message.new.shelf c.take_message-2.new.shelf c.take_message-2.new.shelf
+    rw (c.files-names.ensures) (asks_all g.F.Shelf.files g.F.Shelf.asked g.F.Shelf.reached (λ word. word.now) words.conf words.request words.wanted words.script c.args.shelf.now c.read_needed.new.shelf c.fetch_message.new.shelf c.fetch_message-2.new.shelf c.fetch_message-2.new.shelf
     (record { keeps = c.in_ok-conf.ensures.files; asks = c.in_ok-conf.ensures.asked; reaches = c.in_ok-conf.ensures.reached; unasked = c.in_ok-conf.ensures.unasked })
     (record { keeps = c.in_ok-request.ensures.files; asks = c.in_ok-request.ensures.asked; reaches = c.in_ok-request.ensures.reached; unasked = c.in_ok-request.ensures.unasked })
     (record { keeps = c.in_ok-wanted.ensures.files; asks = c.in_ok-wanted.ensures.asked; reaches = c.in_ok-wanted.ensures.reached; unasked = c.in_ok-wanted.ensures.unasked })
-    (asks_none g.F.Shelf.files g.F.Shelf.asked g.F.Shelf.reached (MAX_SCRIPT_BYTES + 1) words.script c.take_message-2.new.shelf))
+    (asks_none g.F.Shelf.files g.F.Shelf.asked g.F.Shelf.reached (MAX_SCRIPT_BYTES + 1) words.script c.fetch_message-2.new.shelf))
 
 pub returns-in_err-script-clause-report : goal.returns-in_err-script-clause-report
 returns-in_err-script-clause-report g c =
@@ -159,11 +159,11 @@ returns-in_err-script-clause-report g c =
     let first = g.F.Shelf.files c.read_needed.new.shelf in
     let related = option_map (λ view. message_of view) c.in_ok-related.related in
     let requested = message_had shelf words Request one_request c.in_ok-request.request _ _ related first c.in_ok-conf.ensures.files c.of_request.ensures c.as_ref.ensures.value c.in_ok-request.ensures.ok c.in_ok-related.ensures.ok in
-    let second = g.F.Shelf.files c.take_message.new.shelf in
+    let second = g.F.Shelf.files c.fetch_message.new.shelf in
     let kept = keeps_both shelf first second c.in_ok-conf.ensures.files c.in_ok-request.ensures.files in
     let wishes = option_map (λ view. message_of view) c.in_ok-wishes.wishes in
     let wished = message_had shelf words Wanted any_message c.in_ok-wanted.wanted _ _ wishes second kept c.of_any.ensures c.as_ref-2.ensures.value c.in_ok-wanted.ensures.ok c.in_ok-wishes.ensures.ok in
-    let third = g.F.Shelf.files c.take_message-2.new.shelf in
+    let third = g.F.Shelf.files c.fetch_message-2.new.shelf in
     let all_kept = keeps_both shelf second third kept c.in_ok-wanted.ensures.files in
     rw (p.1, p.2, c.files-names.ensures) (script_stopped (g.C.OverMessage.tables c.args.command.now) (g.C.OverMessage.reports c.args.command.now) words shelf (c.args.source.now ≡ c.args.source.now) (g.S.Source.left c.args.source.now) (g.S.Source.left c.args.source.now)
     conf configured related requested wishes wished stop refl (refused_before shelf words Script IsScriptRefused OfScript stop third all_kept c.in_err-script.ensures.refused))
@@ -174,7 +174,7 @@ returns-in_err-script-clause-few g c = none_gone _ (g.S.Source.left c.args.sourc
 pub returns-in_err-script-clause-asks : goal.returns-in_err-script-clause-asks
 returns-in_err-script-clause-asks g c =
     let words = c.files-names.result in
-    rw (c.files-names.ensures) (asks_all g.F.Shelf.files g.F.Shelf.asked g.F.Shelf.reached (λ word. word.now) words.conf words.request words.wanted words.script c.args.shelf.now c.read_needed.new.shelf c.take_message.new.shelf c.take_message-2.new.shelf c.read_script_file.new.shelf
+    rw (c.files-names.ensures) (asks_all g.F.Shelf.files g.F.Shelf.asked g.F.Shelf.reached (λ word. word.now) words.conf words.request words.wanted words.script c.args.shelf.now c.read_needed.new.shelf c.fetch_message.new.shelf c.fetch_message-2.new.shelf c.read_script_file.new.shelf
     (record { keeps = c.in_ok-conf.ensures.files; asks = c.in_ok-conf.ensures.asked; reaches = c.in_ok-conf.ensures.reached; unasked = c.in_ok-conf.ensures.unasked })
     (record { keeps = c.in_ok-request.ensures.files; asks = c.in_ok-request.ensures.asked; reaches = c.in_ok-request.ensures.reached; unasked = c.in_ok-request.ensures.unasked })
     (record { keeps = c.in_ok-wanted.ensures.files; asks = c.in_ok-wanted.ensures.asked; reaches = c.in_ok-wanted.ensures.reached; unasked = c.in_ok-wanted.ensures.unasked })
@@ -183,22 +183,22 @@ returns-in_err-script-clause-asks g c =
 pub returns-in_err-related-clause-cause : goal.returns-in_err-related-clause-cause
 returns-in_err-related-clause-cause g c =
     let p = err_from_is_err_and c.from_residual-in_err-related.result c.from_residual-in_err-related.ensures.1 in
-    rw (p.1, p.2) (text_counts (c.args.source.now ≡ c.args.source.now) (g.F.Shelf.faults c.args.shelf.now) (g.F.Shelf.faults c.take_message.new.shelf) (g.S.Source.faults c.args.source.now) c.in_err-related.field-0.0 _ c.in_err-related.ensures.refused (c.in_ok-request.ensures.cause ∙ c.in_ok-conf.ensures.cause))
+    rw (p.1, p.2) (text_counts (c.args.source.now ≡ c.args.source.now) (g.F.Shelf.faults c.args.shelf.now) (g.F.Shelf.faults c.fetch_message.new.shelf) (g.S.Source.faults c.args.source.now) c.in_err-related.field-0.0 _ c.in_err-related.ensures.refused (c.in_ok-request.ensures.cause ∙ c.in_ok-conf.ensures.cause))
 
 pub returns-in_err-wanted-clause-cause : goal.returns-in_err-wanted-clause-cause
 returns-in_err-wanted-clause-cause g c =
     let p = err_from_is_err_and c.from_residual-in_err-wanted.result c.from_residual-in_err-wanted.ensures.1 in
-    rw (p.1, p.2) (shelf_counts (Option (List ℕ)) (c.args.source.now ≡ c.args.source.now) (g.F.Shelf.faults c.args.shelf.now) (g.F.Shelf.faults c.take_message.new.shelf) (g.F.Shelf.faults c.take_message-2.new.shelf) (g.S.Source.faults c.args.source.now) c.in_err-wanted.field-0.0 (c.in_ok-request.ensures.cause ∙ c.in_ok-conf.ensures.cause) c.in_err-wanted.ensures.cause refl)
+    rw (p.1, p.2) (shelf_counts (Option (List ℕ)) (c.args.source.now ≡ c.args.source.now) (g.F.Shelf.faults c.args.shelf.now) (g.F.Shelf.faults c.fetch_message.new.shelf) (g.F.Shelf.faults c.fetch_message-2.new.shelf) (g.S.Source.faults c.args.source.now) c.in_err-wanted.field-0.0 (c.in_ok-request.ensures.cause ∙ c.in_ok-conf.ensures.cause) c.in_err-wanted.ensures.cause refl)
 
 pub returns-in_err-wishes-clause-cause : goal.returns-in_err-wishes-clause-cause
 returns-in_err-wishes-clause-cause g c =
     let p = err_from_is_err_and c.from_residual-in_err-wishes.result c.from_residual-in_err-wishes.ensures.1 in
-    rw (p.1, p.2) (text_counts (c.args.source.now ≡ c.args.source.now) (g.F.Shelf.faults c.args.shelf.now) (g.F.Shelf.faults c.take_message-2.new.shelf) (g.S.Source.faults c.args.source.now) c.in_err-wishes.field-0.0 _ c.in_err-wishes.ensures.refused (c.in_ok-wanted.ensures.cause ∙ (c.in_ok-request.ensures.cause ∙ c.in_ok-conf.ensures.cause)))
+    rw (p.1, p.2) (text_counts (c.args.source.now ≡ c.args.source.now) (g.F.Shelf.faults c.args.shelf.now) (g.F.Shelf.faults c.fetch_message-2.new.shelf) (g.S.Source.faults c.args.source.now) c.in_err-wishes.field-0.0 _ c.in_err-wishes.ensures.refused (c.in_ok-wanted.ensures.cause ∙ (c.in_ok-request.ensures.cause ∙ c.in_ok-conf.ensures.cause)))
 
 pub returns-in_err-script-clause-cause : goal.returns-in_err-script-clause-cause
 returns-in_err-script-clause-cause g c =
     let p = err_from_is_err_and c.from_residual-in_err-script.result c.from_residual-in_err-script.ensures.1 in
-    rw (p.1, p.2) (shelf_counts (List Rewrite) (c.args.source.now ≡ c.args.source.now) (g.F.Shelf.faults c.args.shelf.now) (g.F.Shelf.faults c.take_message-2.new.shelf) (g.F.Shelf.faults c.read_script_file.new.shelf) (g.S.Source.faults c.args.source.now) c.in_err-script.field-0.0 (c.in_ok-wanted.ensures.cause ∙ (c.in_ok-request.ensures.cause ∙ c.in_ok-conf.ensures.cause)) c.in_err-script.ensures.cause refl)
+    rw (p.1, p.2) (shelf_counts (List Rewrite) (c.args.source.now ≡ c.args.source.now) (g.F.Shelf.faults c.args.shelf.now) (g.F.Shelf.faults c.fetch_message-2.new.shelf) (g.F.Shelf.faults c.read_script_file.new.shelf) (g.S.Source.faults c.args.source.now) c.in_err-script.field-0.0 (c.in_ok-wanted.ensures.cause ∙ (c.in_ok-request.ensures.cause ∙ c.in_ok-conf.ensures.cause)) c.in_err-script.ensures.cause refl)
 
 pub over_source-requires-clause-tables : goal.over_source-requires-clause-tables
 over_source-requires-clause-tables g c = rw c.needs.ensures at c.in_ok-conf.ensures.ok.holds.tables
@@ -207,7 +207,7 @@ pub over_source-requires-clause-writable : goal.over_source-requires-clause-writ
 over_source-requires-clause-writable g c =
     let name = option_map (λ word. word.now) c.files-names.result.script in
     subst (λ (s : List Rewrite). IsTrue (list_all is_writable s)) (sym c.as_slice.ensures)
-    (script_writable (g.F.Shelf.files c.take_message-2.new.shelf) name c.in_ok-script.script c.in_ok-script.ensures.ok)
+    (script_writable (g.F.Shelf.files c.fetch_message-2.new.shelf) name c.in_ok-script.script c.in_ok-script.ensures.ok)
 
 pub returns-clause-report : goal.returns-clause-report
 returns-clause-report g c =
@@ -218,11 +218,11 @@ returns-clause-report g c =
     let first = g.F.Shelf.files c.read_needed.new.shelf in
     let related = option_map (λ view. message_of view) c.in_ok-related.related in
     let requested = message_had shelf words Request one_request c.in_ok-request.request _ _ related first c.in_ok-conf.ensures.files c.of_request.ensures c.as_ref.ensures.value c.in_ok-request.ensures.ok c.in_ok-related.ensures.ok in
-    let second = g.F.Shelf.files c.take_message.new.shelf in
+    let second = g.F.Shelf.files c.fetch_message.new.shelf in
     let kept = keeps_both shelf first second c.in_ok-conf.ensures.files c.in_ok-request.ensures.files in
     let wishes = option_map (λ view. message_of view) c.in_ok-wishes.wishes in
     let wished = message_had shelf words Wanted any_message c.in_ok-wanted.wanted _ _ wishes second kept c.of_any.ensures c.as_ref-2.ensures.value c.in_ok-wanted.ensures.ok c.in_ok-wishes.ensures.ok in
-    let third = g.F.Shelf.files c.take_message-2.new.shelf in
+    let third = g.F.Shelf.files c.fetch_message-2.new.shelf in
     let all_kept = keeps_both shelf second third kept c.in_ok-wanted.ensures.files in
     let scripted = read_before shelf words Script IsScripted c.in_ok-script.script third all_kept c.in_ok-script.ensures.ok in
     let same = same_related (λ view. view.now) c.as_ref-3.result c.in_ok-related.related c.as_ref-3.ensures.value in
@@ -240,7 +240,7 @@ returns-clause-cause g c =
 pub returns-clause-asks : goal.returns-clause-asks
 returns-clause-asks g c =
     let words = c.files-names.result in
-    rw (c.files-names.ensures) (asks_all g.F.Shelf.files g.F.Shelf.asked g.F.Shelf.reached (λ word. word.now) words.conf words.request words.wanted words.script c.args.shelf.now c.read_needed.new.shelf c.take_message.new.shelf c.take_message-2.new.shelf c.read_script_file.new.shelf
+    rw (c.files-names.ensures) (asks_all g.F.Shelf.files g.F.Shelf.asked g.F.Shelf.reached (λ word. word.now) words.conf words.request words.wanted words.script c.args.shelf.now c.read_needed.new.shelf c.fetch_message.new.shelf c.fetch_message-2.new.shelf c.read_script_file.new.shelf
     (record { keeps = c.in_ok-conf.ensures.files; asks = c.in_ok-conf.ensures.asked; reaches = c.in_ok-conf.ensures.reached; unasked = c.in_ok-conf.ensures.unasked })
     (record { keeps = c.in_ok-request.ensures.files; asks = c.in_ok-request.ensures.asked; reaches = c.in_ok-request.ensures.reached; unasked = c.in_ok-request.ensures.unasked })
     (record { keeps = c.in_ok-wanted.ensures.files; asks = c.in_ok-wanted.ensures.asked; reaches = c.in_ok-wanted.ensures.reached; unasked = c.in_ok-wanted.ensures.unasked })
@@ -267,8 +267,8 @@ returns-in_err-request-clause-asked g c =
     let shelf = g.F.Shelf.files c.args.shelf.now in
     let first = g.F.Shelf.files c.read_needed.new.shelf in
     rw (p.1, p.2, c.files-names.ensures) (asked_until shelf words Request IsRequestRefused OfRequest stop (refused_before shelf words Request IsRequestRefused OfRequest stop first c.in_ok-conf.ensures.files (c.in_err-request.ensures.refused one_request))
-    (Conf ∷ Request ∷ []) until_request (names_of words) (g.F.Shelf.asked c.args.shelf.now) (g.F.Shelf.asked c.take_message.new.shelf)
-    (asked_request g.F.Shelf.files g.F.Shelf.asked g.F.Shelf.reached (λ word. word.now) words.conf words.request words.wanted words.script c.args.shelf.now c.read_needed.new.shelf c.take_message.new.shelf c.take_message.new.shelf
+    (Conf ∷ Request ∷ []) until_request (names_of words) (g.F.Shelf.asked c.args.shelf.now) (g.F.Shelf.asked c.fetch_message.new.shelf)
+    (asked_request g.F.Shelf.files g.F.Shelf.asked g.F.Shelf.reached (λ word. word.now) words.conf words.request words.wanted words.script c.args.shelf.now c.read_needed.new.shelf c.fetch_message.new.shelf c.fetch_message.new.shelf
     (record { keeps = c.in_ok-conf.ensures.files; asks = c.in_ok-conf.ensures.asked; reaches = c.in_ok-conf.ensures.reached; unasked = c.in_ok-conf.ensures.unasked })
     (record { keeps = c.in_err-request.ensures.files; asks = c.in_err-request.ensures.asked; reaches = c.in_err-request.ensures.reached; unasked = c.in_err-request.ensures.unasked })))
 
@@ -280,8 +280,8 @@ returns-in_err-related-clause-asked g c =
     let shelf = g.F.Shelf.files c.args.shelf.now in
     let first = g.F.Shelf.files c.read_needed.new.shelf in
     rw (p.1, p.2, c.files-names.ensures) (asked_until shelf words Request IsRequestRefused OfRequest stop (message_refused shelf words Request one_request OfRequest c.in_ok-request.request _ _ stop first c.in_ok-conf.ensures.files c.of_request.ensures c.as_ref.ensures.value c.in_ok-request.ensures.ok c.in_err-related.ensures.refused)
-    (Conf ∷ Request ∷ []) until_request (names_of words) (g.F.Shelf.asked c.args.shelf.now) (g.F.Shelf.asked c.take_message.new.shelf)
-    (asked_request g.F.Shelf.files g.F.Shelf.asked g.F.Shelf.reached (λ word. word.now) words.conf words.request words.wanted words.script c.args.shelf.now c.read_needed.new.shelf c.take_message.new.shelf c.take_message.new.shelf
+    (Conf ∷ Request ∷ []) until_request (names_of words) (g.F.Shelf.asked c.args.shelf.now) (g.F.Shelf.asked c.fetch_message.new.shelf)
+    (asked_request g.F.Shelf.files g.F.Shelf.asked g.F.Shelf.reached (λ word. word.now) words.conf words.request words.wanted words.script c.args.shelf.now c.read_needed.new.shelf c.fetch_message.new.shelf c.fetch_message.new.shelf
     (record { keeps = c.in_ok-conf.ensures.files; asks = c.in_ok-conf.ensures.asked; reaches = c.in_ok-conf.ensures.reached; unasked = c.in_ok-conf.ensures.unasked })
     (record { keeps = c.in_ok-request.ensures.files; asks = c.in_ok-request.ensures.asked; reaches = c.in_ok-request.ensures.reached; unasked = c.in_ok-request.ensures.unasked })))
 
@@ -292,11 +292,11 @@ returns-in_err-wanted-clause-asked g c =
     let words = c.files-names.result in
     let shelf = g.F.Shelf.files c.args.shelf.now in
     let first = g.F.Shelf.files c.read_needed.new.shelf in
-    let second = g.F.Shelf.files c.take_message.new.shelf in
+    let second = g.F.Shelf.files c.fetch_message.new.shelf in
     let kept = keeps_both shelf first second c.in_ok-conf.ensures.files c.in_ok-request.ensures.files in
     rw (p.1, p.2, c.files-names.ensures) (asked_until shelf words Wanted IsWantedRefused OfWanted stop (refused_before shelf words Wanted IsWantedRefused OfWanted stop second kept (c.in_err-wanted.ensures.refused any_message))
-    (Conf ∷ Request ∷ Wanted ∷ []) until_wanted (names_of words) (g.F.Shelf.asked c.args.shelf.now) (g.F.Shelf.asked c.take_message-2.new.shelf)
-    (asked_wanted g.F.Shelf.files g.F.Shelf.asked g.F.Shelf.reached (λ word. word.now) words.conf words.request words.wanted words.script c.args.shelf.now c.read_needed.new.shelf c.take_message.new.shelf c.take_message-2.new.shelf
+    (Conf ∷ Request ∷ Wanted ∷ []) until_wanted (names_of words) (g.F.Shelf.asked c.args.shelf.now) (g.F.Shelf.asked c.fetch_message-2.new.shelf)
+    (asked_wanted g.F.Shelf.files g.F.Shelf.asked g.F.Shelf.reached (λ word. word.now) words.conf words.request words.wanted words.script c.args.shelf.now c.read_needed.new.shelf c.fetch_message.new.shelf c.fetch_message-2.new.shelf
     (record { keeps = c.in_ok-conf.ensures.files; asks = c.in_ok-conf.ensures.asked; reaches = c.in_ok-conf.ensures.reached; unasked = c.in_ok-conf.ensures.unasked })
     (record { keeps = c.in_ok-request.ensures.files; asks = c.in_ok-request.ensures.asked; reaches = c.in_ok-request.ensures.reached; unasked = c.in_ok-request.ensures.unasked })
     (record { keeps = c.in_err-wanted.ensures.files; asks = c.in_err-wanted.ensures.asked; reaches = c.in_err-wanted.ensures.reached; unasked = c.in_err-wanted.ensures.unasked })))
@@ -308,11 +308,11 @@ returns-in_err-wishes-clause-asked g c =
     let words = c.files-names.result in
     let shelf = g.F.Shelf.files c.args.shelf.now in
     let first = g.F.Shelf.files c.read_needed.new.shelf in
-    let second = g.F.Shelf.files c.take_message.new.shelf in
+    let second = g.F.Shelf.files c.fetch_message.new.shelf in
     let kept = keeps_both shelf first second c.in_ok-conf.ensures.files c.in_ok-request.ensures.files in
     rw (p.1, p.2, c.files-names.ensures) (asked_until shelf words Wanted IsWantedRefused OfWanted stop (message_refused shelf words Wanted any_message OfWanted c.in_ok-wanted.wanted _ _ stop second kept c.of_any.ensures c.as_ref-2.ensures.value c.in_ok-wanted.ensures.ok c.in_err-wishes.ensures.refused)
-    (Conf ∷ Request ∷ Wanted ∷ []) until_wanted (names_of words) (g.F.Shelf.asked c.args.shelf.now) (g.F.Shelf.asked c.take_message-2.new.shelf)
-    (asked_wanted g.F.Shelf.files g.F.Shelf.asked g.F.Shelf.reached (λ word. word.now) words.conf words.request words.wanted words.script c.args.shelf.now c.read_needed.new.shelf c.take_message.new.shelf c.take_message-2.new.shelf
+    (Conf ∷ Request ∷ Wanted ∷ []) until_wanted (names_of words) (g.F.Shelf.asked c.args.shelf.now) (g.F.Shelf.asked c.fetch_message-2.new.shelf)
+    (asked_wanted g.F.Shelf.files g.F.Shelf.asked g.F.Shelf.reached (λ word. word.now) words.conf words.request words.wanted words.script c.args.shelf.now c.read_needed.new.shelf c.fetch_message.new.shelf c.fetch_message-2.new.shelf
     (record { keeps = c.in_ok-conf.ensures.files; asks = c.in_ok-conf.ensures.asked; reaches = c.in_ok-conf.ensures.reached; unasked = c.in_ok-conf.ensures.unasked })
     (record { keeps = c.in_ok-request.ensures.files; asks = c.in_ok-request.ensures.asked; reaches = c.in_ok-request.ensures.reached; unasked = c.in_ok-request.ensures.unasked })
     (record { keeps = c.in_ok-wanted.ensures.files; asks = c.in_ok-wanted.ensures.asked; reaches = c.in_ok-wanted.ensures.reached; unasked = c.in_ok-wanted.ensures.unasked })))
@@ -324,13 +324,13 @@ returns-in_err-script-clause-asked g c =
     let words = c.files-names.result in
     let shelf = g.F.Shelf.files c.args.shelf.now in
     let first = g.F.Shelf.files c.read_needed.new.shelf in
-    let second = g.F.Shelf.files c.take_message.new.shelf in
+    let second = g.F.Shelf.files c.fetch_message.new.shelf in
     let kept = keeps_both shelf first second c.in_ok-conf.ensures.files c.in_ok-request.ensures.files in
-    let third = g.F.Shelf.files c.take_message-2.new.shelf in
+    let third = g.F.Shelf.files c.fetch_message-2.new.shelf in
     let all_kept = keeps_both shelf second third kept c.in_ok-wanted.ensures.files in
     rw (p.1, p.2, c.files-names.ensures) (asked_until shelf words Script IsScriptRefused OfScript stop (refused_before shelf words Script IsScriptRefused OfScript stop third all_kept c.in_err-script.ensures.refused)
     read_order until_script (names_of words) (g.F.Shelf.asked c.args.shelf.now) (g.F.Shelf.asked c.read_script_file.new.shelf)
-    (asks_all g.F.Shelf.files g.F.Shelf.asked g.F.Shelf.reached (λ word. word.now) words.conf words.request words.wanted words.script c.args.shelf.now c.read_needed.new.shelf c.take_message.new.shelf c.take_message-2.new.shelf c.read_script_file.new.shelf
+    (asks_all g.F.Shelf.files g.F.Shelf.asked g.F.Shelf.reached (λ word. word.now) words.conf words.request words.wanted words.script c.args.shelf.now c.read_needed.new.shelf c.fetch_message.new.shelf c.fetch_message-2.new.shelf c.read_script_file.new.shelf
     (record { keeps = c.in_ok-conf.ensures.files; asks = c.in_ok-conf.ensures.asked; reaches = c.in_ok-conf.ensures.reached; unasked = c.in_ok-conf.ensures.unasked })
     (record { keeps = c.in_ok-request.ensures.files; asks = c.in_ok-request.ensures.asked; reaches = c.in_ok-request.ensures.reached; unasked = c.in_ok-request.ensures.unasked })
     (record { keeps = c.in_ok-wanted.ensures.files; asks = c.in_ok-wanted.ensures.asked; reaches = c.in_ok-wanted.ensures.reached; unasked = c.in_ok-wanted.ensures.unasked })
@@ -339,7 +339,7 @@ returns-in_err-script-clause-asked g c =
 pub returns-clause-asked : goal.returns-clause-asked
 returns-clause-asked g c =
     let words = c.files-names.result in
-    rw (c.files-names.ensures) (late_asked (names_of words) (g.F.Shelf.asked c.args.shelf.now) (g.F.Shelf.asked c.read_script_file.new.shelf) (asks_all g.F.Shelf.files g.F.Shelf.asked g.F.Shelf.reached (λ word. word.now) words.conf words.request words.wanted words.script c.args.shelf.now c.read_needed.new.shelf c.take_message.new.shelf c.take_message-2.new.shelf c.read_script_file.new.shelf
+    rw (c.files-names.ensures) (late_asked (names_of words) (g.F.Shelf.asked c.args.shelf.now) (g.F.Shelf.asked c.read_script_file.new.shelf) (asks_all g.F.Shelf.files g.F.Shelf.asked g.F.Shelf.reached (λ word. word.now) words.conf words.request words.wanted words.script c.args.shelf.now c.read_needed.new.shelf c.fetch_message.new.shelf c.fetch_message-2.new.shelf c.read_script_file.new.shelf
     (record { keeps = c.in_ok-conf.ensures.files; asks = c.in_ok-conf.ensures.asked; reaches = c.in_ok-conf.ensures.reached; unasked = c.in_ok-conf.ensures.unasked })
     (record { keeps = c.in_ok-request.ensures.files; asks = c.in_ok-request.ensures.asked; reaches = c.in_ok-request.ensures.reached; unasked = c.in_ok-request.ensures.unasked })
     (record { keeps = c.in_ok-wanted.ensures.files; asks = c.in_ok-wanted.ensures.asked; reaches = c.in_ok-wanted.ensures.reached; unasked = c.in_ok-wanted.ensures.unasked })

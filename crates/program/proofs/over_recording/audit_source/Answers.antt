@@ -16,7 +16,7 @@ returns-in-Err-clause-report g c =
 pub returns-clause-report : goal.returns-clause-report
 returns-clause-report g c =
     recording_outcome (meaning c.args.conf.now) (c.fill.new.source ≡ c.args.source.now) c.in-Ok.input c.bytes.result.now (g.S.Source.left c.args.source.now) (g.S.Source.left c.fill.new.source)
-    c.bytes.ensures c.in-Ok.ensures.whole c.in-Ok.ensures.within c.write_audit.result c.write_audit.ensures.report
+    c.bytes.ensures c.in-Ok.ensures.whole c.in-Ok.ensures.within c.audit_outcome.result c.audit_outcome.ensures.report
 
 pub returns-clause-few : goal.returns-clause-few
 returns-clause-few g c =

@@ -1,4 +1,4 @@
-use Rattle.std.proofs.Common.{◌≡◌, Some, sym, ap, ◌∙◌}
+use Rattle.std.proofs.Common.{Some, sym, ap, ◌∙◌}
 use Rattle.std.proofs.lemmas.Result.{err_from_is_err_and}
 use Rattle.sfv_text.specs.declared.value.Member.{Member}
 use Rattle.signatures.proofs.Reading.{not_in_input, not_in_signature, not_a_list, not_bytes, no_params, params_fail}

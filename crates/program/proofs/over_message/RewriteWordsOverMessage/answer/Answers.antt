@@ -6,4 +6,4 @@ use Rattle.program.proofs.over_message.RewriteWordsOverMessage.answer.Goals as g
 
 pub returns-clause-own : goal.returns-clause-own
 returns-clause-own c =
-    went_on (own_of_rewriting (option_map (λ word. word.now) c.args.self.now.label) (taken_of c.args.taken.now).script (taken_of c.args.taken.now).context) c.write_rewritten.result c.write_rewritten.ensures.report
+    went_on (own_of_rewriting (option_map (λ word. word.now) c.args.self.now.label) (taken_of c.args.taken.now).script (taken_of c.args.taken.now).context) c.rewrite_outcome.result c.rewrite_outcome.ensures.report

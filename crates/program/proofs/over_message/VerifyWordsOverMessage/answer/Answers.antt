@@ -4,4 +4,4 @@ use Rattle.program.proofs.over_message.VerifyWordsOverMessage.answer.Goals as go
 
 pub returns-clause-own : goal.returns-clause-own
 returns-clause-own c =
-    own_of_verdicts _ _ (taken_of c.args.taken.now).conf (taken_of c.args.taken.now).context c.in_ok-write_verdicts.field-0 c.in_ok-write_verdicts.ensures
+    own_of_verdicts _ _ (taken_of c.args.taken.now).conf (taken_of c.args.taken.now).context c.in_ok-verify_outcome.field-0 c.in_ok-verify_outcome.ensures

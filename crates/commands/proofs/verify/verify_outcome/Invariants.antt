@@ -1,0 +1,4 @@
+use Rattle.commands.proofs.verify.verify_outcome.Given as goal
+
+abbrev pub ghosts-write_lines : goal.ghosts-write_lines
+ghosts-write_lines a = record { name = a.blank.name; parts = a.blank.parts }

@@ -1,4 +1,0 @@
-use Rattle.commands.proofs.verify.write_verdicts.Given as goal
-
-abbrev pub ghosts-write_lines : goal.ghosts-write_lines
-ghosts-write_lines a = record { name = a.blank.name; parts = a.blank.parts }

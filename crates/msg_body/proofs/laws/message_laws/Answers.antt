@@ -1,8 +1,0 @@
-use Rattle.msg_body.proofs.OneMessages.{one_message_law, no_message_in_prefix_law}
-use Rattle.msg_body.proofs.laws.message_laws.Goals as goal
-
-pub returns-clause-one : goal.returns-clause-one
-returns-clause-one c = one_message_law
-
-pub returns-clause-prefix : goal.returns-clause-prefix
-returns-clause-prefix c = no_message_in_prefix_law

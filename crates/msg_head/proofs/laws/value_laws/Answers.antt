@@ -1,6 +1,0 @@
-use Rattle.msg_head.proofs.MoreLines.{value_after_space}
-use Rattle.msg_head.proofs.Unfolded.{raw_has_one_value}
-use Rattle.msg_head.proofs.laws.value_laws.Goals as goal
-
-pub returns : goal.returns
-returns c = record { value = raw_has_one_value; after_space = value_after_space }

@@ -1,5 +1,0 @@
-use Rattle.permissions.proofs.TargetPermitTests.{if_none}
-use Rattle.permissions.proofs.target.request_query.Goals as goal
-
-pub returns-in_err-target-clause-none : goal.returns-in_err-target-clause-none
-returns-in_err-target-clause-none c = if_none c.from_residual.result (λ query of. c.in_err-target.ensures.none of.0 of.1 of.2)

@@ -1,6 +1,0 @@
-use Rattle.rewrites.proofs.TargetOffers.{front_before}
-use Rattle.targets.specs.Views.{parts_of}
-use Rattle.rewrites.proofs.target.query_target.Goals as goal
-
-pub before_query-requires : goal.before_query-requires
-before_query-requires c = front_before c.args.line.now.method.now c.args.line.now.target.now (parts_of c.args.line.now.parts) _ c.requires c.in-Some.ensures

@@ -1,6 +1,0 @@
-use Rattle.byte_grammar.proofs.Laws.{left_less}
-use Rattle.sfv_read.proofs.Members.{meets_dict}
-use Rattle.sfv_read.proofs.field.AsDictField.read.Goals as goal
-
-pub returns-clause-within : goal.returns-clause-within
-returns-clause-within c = left_less meets_dict c.args.text.now

@@ -1,0 +1,9 @@
+pub mod Targets
+pub mod Lines
+pub mod Content
+pub mod Steps
+pub mod Covered
+pub mod Permitted
+pub mod Conditions
+pub mod Laws
+pub mod tools
