@@ -74,9 +74,7 @@ fn signed_again(
         Ok(MessageRead::Whole(message, _)) => {
             let context = Context {
                 message: &message,
-                related: context.related,
-                scheme: context.scheme,
-                types: context.types,
+                ..*context
             };
             signed_text(alloc, &context, spec)
         }

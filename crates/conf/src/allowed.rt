@@ -12,8 +12,9 @@ ghost use Rattle.conf.specs.declared.table.TableName.TheVariants.{Policy};
 ghost use Rattle.conf.specs.Table.{entries_of, members_at, members_in};
 ghost use Rattle.conf.specs.tools.Entries.{passes};
 ghost use Rattle.conf.specs.Values.{are_strings, clashes, has_type, is_allowed, is_integer_allowed, is_standard_field, is_table_allowed, is_text_allowed, is_type, is_within, window};
+ghost use Rattle.conf.specs.tools.Views.{AreTables};
 
-use crate::members::{member, number_or, table_in};
+use crate::members::{FixedTables, member, table_in};
 use crate::table::{TableName, ValueRule};
 use byte_grammar::is_listed;
 use component_ids::is_field_name;
@@ -195,21 +196,24 @@ pub(crate) fn is_allowed(document: &Table, rule: ValueRule, value: &Value) -> bo
 
 // ---- values that don't go together
 
-fn has_long_window(document: &Table) -> bool
-    ensures { result ≡ nat_lt MAX_WINDOW (window (members_at (table_view document.now) Policy)) }
+fn has_long_window(tables: FixedTables) -> bool
+    requires { AreTables tables }
+    ensures { result ≡ nat_lt MAX_WINDOW
+        (window (members_at (table_view tables.entry.document.now) Policy)) }
 {
-    let max_age = number_or(document, TableName::Policy, "max-age", DEFAULT_MAX_AGE);
-    let skew = number_or(document, TableName::Policy, "skew", DEFAULT_SKEW);
+    let max_age = tables.number_or(TableName::Policy, "max-age", DEFAULT_MAX_AGE);
+    let skew = tables.number_or(TableName::Policy, "skew", DEFAULT_SKEW);
     max_age.saturating_add(skew.saturating_mul(2)) > MAX_WINDOW
 }
 
 /// Whether the values of several keys don't go together, of which the rule's key is the first:
 /// whether `max-age` and twice `skew` are more than `MAX_WINDOW`.
-pub(crate) fn clashes(document: &Table, rule: ValueRule) -> bool
-    ensures { result ≡ clashes (table_view document.now) rule }
+pub(crate) fn clashes(tables: FixedTables, rule: ValueRule) -> bool
+    requires { AreTables tables }
+    ensures { result ≡ clashes (table_view tables.entry.document.now) rule }
 {
     match rule {
-        ValueRule::MaxAge => has_long_window(document),
+        ValueRule::MaxAge => has_long_window(tables),
         _ => false,
     }
 }

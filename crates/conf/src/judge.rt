@@ -10,10 +10,11 @@ ghost use Rattle.conf.specs.Values.{is_allowed};
 ghost use Rattle.conf.specs.Rows.{fails, is_ill_typed, is_out_of_range};
 ghost use Rattle.conf.specs.tools.Judged.{fault_of, first_path, first_place, is_refused, row_fault_number, IsJudged, IsFirstIn, IsCauseNumbered};
 ghost use Rattle.conf.specs.tools.TableRows.{row_of};
+ghost use Rattle.conf.specs.tools.Views.{AreTables};
 
 use crate::allowed::{clashes, has_type, is_allowed};
 use crate::fault::ConfFault;
-use crate::members::{table_at, value_at};
+use crate::members::FixedTables;
 use crate::table::{PLACES, ROWS, Row, TableName, is_table_key};
 use sfv_text::Text;
 use std::alloc::Global;
@@ -33,34 +34,38 @@ fn has_unknown_in(table: &Table, place: TableName) -> bool
     false
 }
 
-fn has_unknown(document: &Table, place: TableName) -> bool
-    ensures { result ≡ has_unknown (table_view document.now) place }
+fn has_unknown(tables: FixedTables, place: TableName) -> bool
+    requires { AreTables tables }
+    ensures { result ≡ has_unknown (table_view tables.entry.document.now) place }
 {
-    match table_at(document, place) {
+    match tables.at(place) {
         None => false,
         Some(table) => has_unknown_in(table, place),
     }
 }
 
 /// The path of the first of the places that has an unknown key.
-fn first_unknown(document: &Table, places: &[TableName]) -> Option<&'static str>
+fn first_unknown(tables: FixedTables, places: &[TableName]) -> Option<&'static str>
+    requires { AreTables tables }
     ensures { option_copied result
-        ≡ first_place (has_unknown (table_view document.now)) places.now }
+        ≡ first_place (has_unknown (table_view tables.entry.document.now)) places.now }
 {
     for place in places {
-        if has_unknown(document, *place) {
+        if has_unknown(tables, *place) {
             return Some(place.path());
         }
     }
     None
 }
 
-fn judge_keys(alloc: Global, document: &Table) -> Result<(), ConfFault>
+fn judge_keys(alloc: Global, tables: FixedTables) -> Result<(), ConfFault>
+    requires { AreTables tables }
     ensures ok { OnOk result
-        (HoldsOfNone (λ place. IsTrue (has_unknown (table_view document.now) place)) places) }
-    ensures err { IfErr result (IsCauseNumbered 3 (table_view document.now)) }
+        (HoldsOfNone (λ place. IsTrue (has_unknown (table_view tables.entry.document.now) place))
+        places) }
+    ensures err { IfErr result (IsCauseNumbered 3 (table_view tables.entry.document.now)) }
 {
-    match first_unknown(document, &PLACES) {
+    match first_unknown(tables, &PLACES) {
         None => Ok(()),
         Some(path) => Err(ConfFault::UnknownKey(Text::from_bytes(alloc, path.as_bytes())?)),
     }
@@ -88,56 +93,62 @@ impl RowFault {
     }
 }
 
-fn is_ill_typed(document: &Table, row: &Row) -> bool
-    ensures { result ≡ is_ill_typed (table_view document.now) (row_of row.now) }
+fn is_ill_typed(tables: FixedTables, row: &Row) -> bool
+    requires { AreTables tables }
+    ensures { result ≡ is_ill_typed (table_view tables.entry.document.now) (row_of row.now) }
 {
-    match value_at(document, row.place, row.key) {
+    match tables.value_at(row.place, row.key) {
         None => false,
         Some(value) => !has_type(row.rule, value),
     }
 }
 
-fn has_refused_value(document: &Table, row: &Row) -> bool
-    ensures { result ≡ fails (is_allowed (table_view document.now) row.now.rule)
-        (row_value (table_view document.now) (row_of row.now)) }
+fn has_refused_value(tables: FixedTables, row: &Row) -> bool
+    requires { AreTables tables }
+    ensures { result ≡ fails (is_allowed (table_view tables.entry.document.now) row.now.rule)
+        (row_value (table_view tables.entry.document.now) (row_of row.now)) }
 {
-    match value_at(document, row.place, row.key) {
+    match tables.value_at(row.place, row.key) {
         None => false,
-        Some(value) => !is_allowed(document, row.rule, value),
+        Some(value) => !is_allowed(tables.document, row.rule, value),
     }
 }
 
-fn is_out_of_range(document: &Table, row: &Row) -> bool
-    ensures { result ≡ is_out_of_range (table_view document.now) (row_of row.now) }
+fn is_out_of_range(tables: FixedTables, row: &Row) -> bool
+    requires { AreTables tables }
+    ensures { result ≡ is_out_of_range (table_view tables.entry.document.now) (row_of row.now) }
 {
-    clashes(document, row.rule) || has_refused_value(document, row)
+    clashes(tables, row.rule) || has_refused_value(tables, row)
 }
 
-fn is_missing(document: &Table, row: &Row) -> bool
-    ensures { result ≡ is_missing (table_view document.now) (row_of row.now) }
+fn is_missing(tables: FixedTables, row: &Row) -> bool
+    requires { AreTables tables }
+    ensures { result ≡ is_missing (table_view tables.entry.document.now) (row_of row.now) }
 {
-    row.required
-        && table_at(document, row.place).is_some()
-        && value_at(document, row.place, row.key).is_none()
+    row.required && tables.at(row.place).is_some() && tables.value_at(row.place, row.key).is_none()
 }
 
-fn is_refused(row_fault: RowFault, document: &Table, row: &Row) -> bool
-    ensures { result ≡ is_refused row_fault (table_view document.now) (row_of row.now) }
+fn is_refused(row_fault: RowFault, tables: FixedTables, row: &Row) -> bool
+    requires { AreTables tables }
+    ensures { result
+        ≡ is_refused row_fault (table_view tables.entry.document.now) (row_of row.now) }
 {
     match row_fault {
-        RowFault::WrongType => is_ill_typed(document, row),
-        RowFault::OutOfRange => is_out_of_range(document, row),
-        RowFault::Missing => is_missing(document, row),
+        RowFault::WrongType => is_ill_typed(tables, row),
+        RowFault::OutOfRange => is_out_of_range(tables, row),
+        RowFault::Missing => is_missing(tables, row),
     }
 }
 
 /// The path of the first of the rows that is refused.
-fn first_refused(row_fault: RowFault, document: &Table, rows: &[Row]) -> Option<&'static str>
+fn first_refused(row_fault: RowFault, tables: FixedTables, rows: &[Row]) -> Option<&'static str>
+    requires { AreTables tables }
     ensures { option_copied result
-        ≡ first_path (is_refused row_fault (table_view document.now)) (map row_of rows.now) }
+        ≡ first_path (is_refused row_fault (table_view tables.entry.document.now))
+        (map row_of rows.now) }
 {
     for row in rows {
-        if is_refused(row_fault, document, row) {
+        if is_refused(row_fault, tables, row) {
             return Some(row.path);
         }
     }
@@ -148,25 +159,29 @@ fn first_refused(row_fault: RowFault, document: &Table, rows: &[Row]) -> Option<
 pub(crate) fn judge_rows(
     alloc: Global,
     row_fault: RowFault,
-    document: &Table,
+    tables: FixedTables,
 ) -> Result<(), ConfFault>
+    requires { AreTables tables }
     ensures ok { OnOk result
-        (HoldsOfNone (λ row. IsTrue (is_refused row_fault (table_view document.now) row)) rows) }
+        (HoldsOfNone
+        (λ row. IsTrue (is_refused row_fault (table_view tables.entry.document.now) row))
+        rows) }
     ensures err { IfErr result
-        (IsCauseNumbered (row_fault_number row_fault) (table_view document.now)) }
+        (IsCauseNumbered (row_fault_number row_fault) (table_view tables.entry.document.now)) }
 {
-    match first_refused(row_fault, document, &ROWS) {
+    match first_refused(row_fault, tables, &ROWS) {
         None => Ok(()),
         Some(path) => Err(row_fault.fault_at(Text::from_bytes(alloc, path.as_bytes())?)),
     }
 }
 
 /// Judges the keys that are there, and their values.
-pub(crate) fn judge_document(alloc: Global, document: &Table) -> Result<(), ConfFault>
-    ensures ok { OnOk result (IsJudged (table_view document.now)) }
-    ensures err { IfErr result (IsFirstIn (table_view document.now)) }
+pub(crate) fn judge_document(alloc: Global, tables: FixedTables) -> Result<(), ConfFault>
+    requires { AreTables tables }
+    ensures ok { OnOk result (IsJudged (table_view tables.entry.document.now)) }
+    ensures err { IfErr result (IsFirstIn (table_view tables.entry.document.now)) }
 {
-    judge_keys(alloc, document)?;
-    judge_rows(alloc, RowFault::WrongType, document)?;
-    judge_rows(alloc, RowFault::OutOfRange, document)
+    judge_keys(alloc, tables)?;
+    judge_rows(alloc, RowFault::WrongType, tables)?;
+    judge_rows(alloc, RowFault::OutOfRange, tables)
 }

@@ -15,6 +15,7 @@ use crate::fault::ConfFault;
 use crate::judge::judge_document;
 use crate::key_texts::read_keys;
 use crate::kinds::read_types;
+use crate::members::FixedTables;
 use crate::sections::{Sections, read_sections};
 use crate::values::scheme_in;
 use settings::Conf;
@@ -27,10 +28,11 @@ fn conf_of(alloc: Global, document: &Table) -> Result<Conf, ConfFault>
     ensures ok { IfOk result (λ conf. IsConfiguration (table_view document.now) (meaning conf)) }
     ensures err { IfErr result (IsFirstIn (table_view document.now)) }
 {
-    judge_document(alloc, document)?;
+    let tables = FixedTables::of(document);
+    judge_document(alloc, tables)?;
     let keys = read_keys(alloc, document)?;
     let types = read_types(alloc, document)?;
-    let Sections { policy, sign } = read_sections(alloc, document)?;
+    let Sections { policy, sign } = read_sections(alloc, tables)?;
     Ok(Conf::new(scheme_in(document), keys, types, policy, sign))
 }
 

@@ -4,15 +4,16 @@ ghost use Rattle.std.specs.Prelude.{IfErr, IfOk};
 ghost use Rattle.toml.specs.View.{table_view};
 ghost use Rattle.conf.specs.tools.Judged.{IsClearBelow, IsFirstIn, IsJudged};
 ghost use Rattle.conf.specs.tools.SectionReads.{AreSections};
+ghost use Rattle.conf.specs.tools.Views.{AreTables};
 
 use crate::fault::ConfFault;
 use crate::judge::{RowFault, judge_rows};
 use crate::lists::{Lists, read_lists};
+use crate::members::FixedTables;
 use crate::policy_reader::policy_of;
 use crate::sign_reader::sign_of;
 use settings::{Policy, SignConf};
 use std::alloc::Global;
-use toml::Table;
 
 /// How signatures are judged, and how messages are signed.
 #[derive(Drop)]
@@ -22,21 +23,22 @@ pub(crate) struct Sections {
 }
 
 /// What the tables say, where their lists are read and no key is missing.
-pub(crate) fn read_sections(alloc: Global, document: &Table) -> Result<Sections, ConfFault>
-    requires { IsJudged (table_view document.now) }
-    ensures ok { IfOk result (AreSections (table_view document.now)) }
-    ensures err { IfErr result (λ e. IsClearBelow 7 (table_view document.now)
-        → IsFirstIn (table_view document.now) e) }
+pub(crate) fn read_sections(alloc: Global, tables: FixedTables) -> Result<Sections, ConfFault>
+    requires tables { AreTables tables }
+    requires judged { IsJudged (table_view tables.document.now) }
+    ensures ok { IfOk result (AreSections (table_view tables.entry.document.now)) }
+    ensures err { IfErr result (λ e. IsClearBelow 7 (table_view tables.entry.document.now)
+        → IsFirstIn (table_view tables.entry.document.now) e) }
 {
-    let lists = read_lists(alloc, document)?;
-    judge_rows(alloc, RowFault::Missing, document)?;
+    let lists = read_lists(alloc, tables)?;
+    judge_rows(alloc, RowFault::Missing, tables)?;
     let Lists {
         require_request,
         require_response,
         components_request,
         components_response,
     } = lists;
-    let policy = policy_of(alloc, document, require_request, require_response)?;
-    let sign = sign_of(alloc, document, components_request, components_response)?;
+    let policy = policy_of(alloc, tables, require_request, require_response)?;
+    let sign = sign_of(alloc, tables, components_request, components_response)?;
     Ok(Sections { policy, sign })
 }

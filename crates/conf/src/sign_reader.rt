@@ -6,36 +6,37 @@ ghost use Rattle.toml.specs.View.{table_view};
 ghost use Rattle.conf.specs.declared.table.TableName.TheVariants.{Sign};
 ghost use Rattle.conf.specs.Table.{members_at};
 ghost use Rattle.conf.specs.Sections.{AreComponents, IsSignConf, LacksName};
+ghost use Rattle.conf.specs.tools.Views.{AreTables};
 
-use crate::members::text_at;
+use crate::members::FixedTables;
 use crate::table::TableName;
 use crate::values::{digest_in, has_alg, read_tag, seconds_in};
 use component_ids::Ids;
 use settings::SignConf;
 use sfv_text::{Memory, Text};
 use std::alloc::Global;
-use toml::Table;
 
 /// What the table `sign` of the document says, with the components that it lists; none where it has
 /// no label or no keyid.
 pub(crate) fn sign_of(
     alloc: Global,
-    document: &Table,
+    tables: FixedTables,
     request: Ids,
     response: Ids,
 ) -> Result<Option<SignConf>, Memory>
+    requires tables { AreTables tables }
     requires request { AreComponents (get_member (codes "components-request")
-        (members_at (table_view document.now) Sign)) request }
+        (members_at (table_view tables.document.now) Sign)) request }
     requires response { AreComponents (get_member (codes "components-response")
-        (members_at (table_view document.now) Sign)) response }
+        (members_at (table_view tables.document.now) Sign)) response }
     ensures { IfOk result (λ o. MatchOption o
-        (LacksName (members_at (table_view document.now) Sign))
-        (IsSignConf (members_at (table_view document.now) Sign))) }
+        (LacksName (members_at (table_view tables.entry.document.now) Sign))
+        (IsSignConf (members_at (table_view tables.entry.document.now) Sign))) }
 {
-    let Some(label) = text_at(document, TableName::Sign, "label") else {
+    let Some(label) = tables.text_at(TableName::Sign, "label") else {
         return Ok(None);
     };
-    let Some(keyid) = text_at(document, TableName::Sign, "keyid") else {
+    let Some(keyid) = tables.text_at(TableName::Sign, "keyid") else {
         return Ok(None);
     };
     Ok(Some(SignConf {
@@ -43,9 +44,9 @@ pub(crate) fn sign_of(
         keyid: Text::from_bytes(alloc, keyid.as_bytes())?,
         components_request: request,
         components_response: response,
-        expires_after: seconds_in(document),
-        alg: has_alg(document),
-        tag: read_tag(alloc, document, TableName::Sign)?,
-        digest: digest_in(document),
+        expires_after: seconds_in(tables),
+        alg: has_alg(tables),
+        tag: read_tag(alloc, tables, TableName::Sign)?,
+        digest: digest_in(tables),
     }))
 }

@@ -7,8 +7,9 @@ ghost use Rattle.conf.specs.declared.table.TableName.TheVariants.{Policy, Sign};
 ghost use Rattle.conf.specs.Table.{members_at};
 ghost use Rattle.conf.specs.Meaning.{configured_scheme};
 ghost use Rattle.conf.specs.Sections.{digest_of, digest_use_of, is_required, nonce_use_of, seconds_of};
+ghost use Rattle.conf.specs.tools.Views.{AreTables};
 
-use crate::members::{text_at, text_in, value_at};
+use crate::members::{FixedTables, text_in};
 use crate::table::TableName;
 use component_ids::Scheme;
 use settings::{DigestUse, NonceUse, SignDigest, expires_of_word, scheme_of_word};
@@ -29,13 +30,14 @@ pub(crate) fn scheme_in(document: &Table) -> Scheme
 /// The tag that is told at the place.
 pub(crate) fn read_tag(
     alloc: Global,
-    document: &Table,
+    tables: FixedTables,
     place: TableName,
 ) -> Result<Option<Text>, Memory>
+    requires { AreTables tables }
     ensures { IfOk result (λ tag. tag ≡ option_and_then as_str
-        (get_member (codes "tag") (members_at (table_view document.now) place))) }
+        (get_member (codes "tag") (members_at (table_view tables.entry.document.now) place))) }
 {
-    match text_at(document, place, "tag") {
+    match tables.text_at(place, "tag") {
         None => Ok(None),
         Some(tag) => Ok(Some(Text::from_bytes(alloc, tag.as_bytes())?)),
     }
@@ -44,33 +46,36 @@ pub(crate) fn read_tag(
 // ---- the table `policy`
 
 /// Whether `policy` requires the parameter `expires`.
-pub(crate) fn requires_expires(document: &Table) -> bool
+pub(crate) fn requires_expires(tables: FixedTables) -> bool
+    requires { AreTables tables }
     ensures { result ≡ is_required
-        (get_member (codes "expires") (members_at (table_view document.now) Policy)) }
+        (get_member (codes "expires") (members_at (table_view tables.entry.document.now) Policy)) }
 {
-    match text_at(document, TableName::Policy, "expires") {
+    match tables.text_at(TableName::Policy, "expires") {
         None => false,
         Some(word) => expires_of_word(word.as_bytes()).unwrap_or(false),
     }
 }
 
 /// What `policy` asks of the parameter `nonce`.
-pub(crate) fn nonce_use_in(document: &Table) -> NonceUse
+pub(crate) fn nonce_use_in(tables: FixedTables) -> NonceUse
+    requires { AreTables tables }
     ensures { result ≡ nonce_use_of
-        (get_member (codes "nonce") (members_at (table_view document.now) Policy)) }
+        (get_member (codes "nonce") (members_at (table_view tables.entry.document.now) Policy)) }
 {
-    match text_at(document, TableName::Policy, "nonce") {
+    match tables.text_at(TableName::Policy, "nonce") {
         None => NonceUse::Ignore,
         Some(word) => NonceUse::of_word(word.as_bytes()).unwrap_or(NonceUse::Ignore),
     }
 }
 
 /// When `policy` asks for a digest of the content.
-pub(crate) fn digest_use_in(document: &Table) -> DigestUse
+pub(crate) fn digest_use_in(tables: FixedTables) -> DigestUse
+    requires { AreTables tables }
     ensures { result ≡ digest_use_of
-        (get_member (codes "digest") (members_at (table_view document.now) Policy)) }
+        (get_member (codes "digest") (members_at (table_view tables.entry.document.now) Policy)) }
 {
-    match text_at(document, TableName::Policy, "digest") {
+    match tables.text_at(TableName::Policy, "digest") {
         None => DigestUse::Ignore,
         Some(word) => DigestUse::of_word(word.as_bytes()).unwrap_or(DigestUse::Ignore),
     }
@@ -79,22 +84,25 @@ pub(crate) fn digest_use_in(document: &Table) -> DigestUse
 // ---- the table `sign`
 
 /// The digest that `sign` asks for.
-pub(crate) fn digest_in(document: &Table) -> SignDigest
+pub(crate) fn digest_in(tables: FixedTables) -> SignDigest
+    requires { AreTables tables }
     ensures { result ≡ digest_of
-        (get_member (codes "digest") (members_at (table_view document.now) Sign)) }
+        (get_member (codes "digest") (members_at (table_view tables.entry.document.now) Sign)) }
 {
-    match text_at(document, TableName::Sign, "digest") {
+    match tables.text_at(TableName::Sign, "digest") {
         None => SignDigest::No,
         Some(word) => SignDigest::of_word(word.as_bytes()).unwrap_or(SignDigest::No),
     }
 }
 
 /// After how many seconds a signature expires.
-pub(crate) fn seconds_in(document: &Table) -> Option<u64>
+pub(crate) fn seconds_in(tables: FixedTables) -> Option<u64>
+    requires { AreTables tables }
     ensures { result ≡ seconds_of
-        (get_member (codes "expires-after") (members_at (table_view document.now) Sign)) }
+        (get_member (codes "expires-after")
+        (members_at (table_view tables.entry.document.now) Sign)) }
 {
-    let Some(value) = value_at(document, TableName::Sign, "expires-after") else {
+    let Some(value) = tables.value_at(TableName::Sign, "expires-after") else {
         return None;
     };
     match value.as_integer() {
@@ -104,11 +112,12 @@ pub(crate) fn seconds_in(document: &Table) -> Option<u64>
 }
 
 /// Whether the parameter `alg` is given.
-pub(crate) fn has_alg(document: &Table) -> bool
+pub(crate) fn has_alg(tables: FixedTables) -> bool
+    requires { AreTables tables }
     ensures { result ≡ unwrap_or (option_and_then as_bool
-        (get_member (codes "alg") (members_at (table_view document.now) Sign))) false }
+        (get_member (codes "alg") (members_at (table_view tables.entry.document.now) Sign))) false }
 {
-    match value_at(document, TableName::Sign, "alg") {
+    match tables.value_at(TableName::Sign, "alg") {
         None => false,
         Some(value) => value.as_bool().unwrap_or(false),
     }

@@ -144,9 +144,9 @@ fn recording_hint(fault: RecordingFault) -> &'static str
         RecordingFault::Memory => "out of memory",
         RecordingFault::Syntax(_) => {
             "at that offset is something else than a recording has: a line `hms-recording 1`; \
-             first `at SECONDS`, then `request N`, `response N` and `related N`, each with N \
-             bytes and LF after its line, and `hop N` with a script; last a line `end`; each \
-             line ends with LF, without CR"
+             first `at SECONDS`, then `request N`, `response N`, `related N` and `script N`, \
+             each with N bytes and LF after its line; last a line `end`; each line ends with \
+             LF, without CR"
         }
         RecordingFault::ItemTooLong(_) => "the line of an item says more bytes than that",
         RecordingFault::MomentFalls(_) => {

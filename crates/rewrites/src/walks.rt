@@ -90,9 +90,7 @@ fn made_after<W: Watcher>(
     };
     let context = Context {
         message: &message,
-        related: context.related,
-        scheme: context.scheme,
-        types: context.types,
+        ..*context
     };
     made_at(alloc, &context, index + 1, step, watcher)
 }

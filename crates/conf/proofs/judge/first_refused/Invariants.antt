@@ -6,4 +6,4 @@ use Rattle.conf.proofs.judge.first_refused.Given as goal
 
 abbrev pub invariant-loop-row : goal.invariant-loop-row
 invariant-loop-row l =
-    first_path (is_refused l.row_fault (table_view l.document)) (map row_of l.rows) ≡ first_path (is_refused l.row_fault (table_view l.document)) (map row_of (drop l.row-index l.rows))
+    first_path (is_refused l.row_fault (table_view l.tables.document.now)) (map row_of l.rows) ≡ first_path (is_refused l.row_fault (table_view l.tables.document.now)) (map row_of (drop l.row-index l.rows))

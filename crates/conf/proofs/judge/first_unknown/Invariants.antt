@@ -6,4 +6,4 @@ use Rattle.conf.proofs.judge.first_unknown.Given as goal
 
 abbrev pub invariant-loop-place : goal.invariant-loop-place
 invariant-loop-place l =
-    first_place (has_unknown (table_view l.document)) l.places ≡ first_place (has_unknown (table_view l.document)) (drop l.place-index l.places)
+    first_place (has_unknown (table_view l.tables.document.now)) l.places ≡ first_place (has_unknown (table_view l.tables.document.now)) (drop l.place-index l.places)

@@ -8,28 +8,28 @@ use Rattle.conf.proofs.sections.read_sections.Goals as goal
 
 pub returns-in_err-judge_rows-clause-err : goal.returns-in_err-judge_rows-clause-err
 returns-in_err-judge_rows-clause-err c =
-    let document = table_view c.args.document.now in
+    let document = table_view c.args.tables.document.now in
     let fine = lists_fine document c.in_ok-lists.lists c.in_ok-lists.ensures.ok in
     let p = err_from_is_err_and c.from_residual-in_err-judge_rows.result c.from_residual-in_err-judge_rows.ensures.1 in
     rw (p.1, p.2) (λ below. first_is 9 document c.in_err-judge_rows.field-0.0 (below_missing document below fine) c.in_err-judge_rows.ensures.err)
 
 pub policy_of-requires-clause-request : goal.policy_of-requires-clause-request
 policy_of-requires-clause-request c =
-    told_are _ c.in_ok-lists.lists.require_request (require_request_typed (table_view c.args.document.now) c.requires) c.in_ok-lists.ensures.ok.require_request
+    told_are _ c.in_ok-lists.lists.require_request (require_request_typed (table_view c.args.tables.document.now) c.requires.judged) c.in_ok-lists.ensures.ok.require_request
 
 pub policy_of-requires-clause-response : goal.policy_of-requires-clause-response
 policy_of-requires-clause-response c =
-    told_are _ c.in_ok-lists.lists.require_response (require_response_typed (table_view c.args.document.now) c.requires) c.in_ok-lists.ensures.ok.require_response
+    told_are _ c.in_ok-lists.lists.require_response (require_response_typed (table_view c.args.tables.document.now) c.requires.judged) c.in_ok-lists.ensures.ok.require_response
 
 pub sign_of-requires-clause-request : goal.sign_of-requires-clause-request
 sign_of-requires-clause-request c =
-    told_are _ c.in_ok-lists.lists.components_request (request_typed (table_view c.args.document.now) c.requires) c.in_ok-lists.ensures.ok.components_request
+    told_are _ c.in_ok-lists.lists.components_request (request_typed (table_view c.args.tables.document.now) c.requires.judged) c.in_ok-lists.ensures.ok.components_request
 
 pub sign_of-requires-clause-response : goal.sign_of-requires-clause-response
 sign_of-requires-clause-response c =
-    told_are _ c.in_ok-lists.lists.components_response (response_typed (table_view c.args.document.now) c.requires) c.in_ok-lists.ensures.ok.components_response
+    told_are _ c.in_ok-lists.lists.components_response (response_typed (table_view c.args.tables.document.now) c.requires.judged) c.in_ok-lists.ensures.ok.components_response
 
 pub returns-clause-ok : goal.returns-clause-ok
 returns-clause-ok c =
-    tables_say (table_view c.args.document.now) c.in_ok-lists.lists c.in_ok-policy.policy c.in_ok-sign.sign c.requires c.in_ok-judge_rows.ensures.ok
+    tables_say (table_view c.args.tables.document.now) c.in_ok-lists.lists c.in_ok-policy.policy c.in_ok-sign.sign c.requires.judged c.in_ok-judge_rows.ensures.ok
     c.in_ok-lists.ensures.ok c.in_ok-policy.ensures c.in_ok-sign.ensures

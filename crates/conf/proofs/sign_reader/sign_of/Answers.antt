@@ -19,7 +19,7 @@ string_of (Some (table pairs)) text is = absurd cc
 
 pub returns : goal.returns
 returns c =
-    let pairs = members_at (table_view c.args.document.now) Sign in
+    let pairs = members_at (table_view c.args.tables.document.now) Sign in
     let label : option_and_then as_str (get_member (codes "label") pairs) ≡ Some c.in_ok-from_bytes.field-0 =
     search (rules, c.text_at.ensures, c.in-Some.is, c.in_ok-from_bytes.ensures.ok, c.as_bytes.ensures.value) in
     let keyid : option_and_then as_str (get_member (codes "keyid") pairs) ≡ Some c.in_ok-from_bytes-2.field-0 =

@@ -1,7 +1,7 @@
 use Rattle.std.proofs.Common.{◌≡◌, true, sym, ap, ◌∙◌}
 use Rattle.field_values.proofs.FoundLines.{none_there, some_there}
 use Rattle.msg_body.specs.Views.{message_of, lines_on}
-use Rattle.msg_head.specs.Values.{combined_value, is_there, joined_value}
+use Rattle.msg_head.specs.Values.{is_there, joined_value}
 use Rattle.msg_head.specs.declared.error.Side.TheVariants.{Header}
 use Rattle.whole_rewrites.proofs.FieldPermits.{absent_lacks, read_lacks, unread_lacks}
 use Rattle.whole_rewrites.proofs.permit_field.lacks_label.Goals as goal
