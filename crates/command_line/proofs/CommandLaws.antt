@@ -7,7 +7,7 @@ use Rattle.std.proofs.lemmas.Bool.{cases_Bool}
 use Rattle.std.proofs.lemmas.Slice.Eq.{bytes_eq-Decides}
 use Rattle.sfv_text.specs.Keys.{value_of}
 use Rattle.sfv_text.specs.declared.pair.Pair.{Pair}
-use Rattle.command_line.specs.Command.{CommandLine, Help, HelpOf, Version, Base, Verify, Sign, Rewrite, Audit, Sample, BaseWords, VerifyWords, SignWords, RewriteWords, AuditWords, SampleWords, IsCommand, SpellsBase, SpellsVerify, SpellsSign, SpellsRewrite, SpellsAudit, SpellsSample}
+use Rattle.command_line.specs.Command.{CommandLine, Help, HelpOf, Version, Base, Verify, Sign, Rewrite, Audit, Gateway, Sample, BaseWords, VerifyWords, SignWords, RewriteWords, AuditWords, GatewayWords, SampleWords, IsCommand, SpellsBase, SpellsVerify, SpellsSign, SpellsRewrite, SpellsAudit, SpellsGateway, SpellsSample}
 use Rattle.command_line.specs.Laws.{HasOneCommand}
 use Rattle.command_line.specs.Names.{command_of, command_word}
 use Rattle.command_line.specs.Options.{words_of}
@@ -58,6 +58,9 @@ rewrite_in options = record {
 audit_in : List (Pair (List ℕ)) → AuditWords
 audit_in options = record { conf = word_of options (codes "--conf") }
 
+gateway_in : List (Pair (List ℕ)) → GatewayWords
+gateway_in options = record { conf = word_of options (codes "--conf") }
+
 after_base : List (List ℕ) → CommandLine
 after_base [] = Help
 after_base (params ∷ words) = Base (base_in params (options_in words))
@@ -75,6 +78,7 @@ after_name name.Verify words = Verify (verify_in (options_in words))
 after_name name.Sign words = Sign (sign_in (options_in words))
 after_name name.Rewrite words = Rewrite (rewrite_in (options_in words))
 after_name name.Audit words = Audit (audit_in (options_in words))
+after_name name.Gateway words = Gateway (gateway_in (options_in words))
 after_name name.Sample words = after_sample words
 
 -- after `help`
@@ -140,6 +144,12 @@ audit_is arguments audit a =
     let conf : audit.conf ≡ word_of a.options (codes "--conf") = word_is a.options (codes "--conf") audit.conf a.conf_is in
     λ i. record { conf = conf i }
 
+gateway_is : (arguments : List (List ℕ)) (gateway : GatewayWords) (a : SpellsGateway arguments gateway) → gateway ≡ gateway_in a.options
+unfolding gateway_in word_of
+gateway_is arguments gateway a =
+    let conf : gateway.conf ≡ word_of a.options (codes "--conf") = word_is a.options (codes "--conf") gateway.conf a.conf_is in
+    λ i. record { conf = conf i }
+
 sample_is : (arguments : List (List ℕ)) (sample : SampleWords) (a : SpellsSample arguments sample) → sample ≡ sample_in a.seed a.count
 unfolding sample_in
 sample_is arguments sample a = λ i. record { seed = a.seed_is.1 i; count = a.count_is.1 i }
@@ -168,6 +178,7 @@ read_plain name.Verify words isnt = rw isnt refl
 read_plain name.Sign words isnt = rw isnt refl
 read_plain name.Rewrite words isnt = rw isnt refl
 read_plain name.Audit words isnt = rw isnt refl
+read_plain name.Gateway words isnt = rw isnt refl
 read_plain name.Sample words isnt = rw isnt refl
 
 read_help : (command : CommandName) → read (command_word command ∷ codes "--help" ∷ []) ≡ HelpOf command
@@ -177,6 +188,7 @@ read_help name.Verify = refl
 read_help name.Sign = refl
 read_help name.Rewrite = refl
 read_help name.Audit = refl
+read_help name.Gateway = refl
 read_help name.Sample = refl
 
 read_topic : (command : CommandName) → read (codes "help" ∷ command_word command ∷ []) ≡ HelpOf command
@@ -186,6 +198,7 @@ read_topic name.Verify = refl
 read_topic name.Sign = refl
 read_topic name.Rewrite = refl
 read_topic name.Audit = refl
+read_topic name.Gateway = refl
 read_topic name.Sample = refl
 
 is_read : (arguments : List (List ℕ)) (command : CommandLine) → IsCommand arguments command → read arguments ≡ command
@@ -208,6 +221,9 @@ is_read arguments (Rewrite words) a = ap read a.joined
 is_read arguments (Audit words) a = ap read a.joined
     ∙ (read_plain name.Audit a.words (plain a.words a.options a.are.joined)
     ∙ (ap (λ (options : List (Pair (List ℕ))). Audit (audit_in options)) (are_in a.words a.options a.are.joined) ∙ ap Audit (sym (audit_is arguments words a))))
+is_read arguments (Gateway words) a = ap read a.joined
+    ∙ (read_plain name.Gateway a.words (plain a.words a.options a.are.joined)
+    ∙ (ap (λ (options : List (Pair (List ℕ))). Gateway (gateway_in options)) (are_in a.words a.options a.are.joined) ∙ ap Gateway (sym (gateway_is arguments words a))))
 is_read arguments (Sample words) a = ap read a.joined ∙ (read_plain name.Sample (a.seed ∷ a.count ∷ []) refl ∙ ap Sample (sym (sample_is arguments words a)))
 
 pub one_command : HasOneCommand

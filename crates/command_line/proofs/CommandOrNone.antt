@@ -10,7 +10,7 @@ use Rattle.std.proofs.lemmas.Bool.Decides.{nat_tests}
 use Rattle.std.proofs.lemmas.Slice.Eq.{bytes_eq-Decides}
 use Rattle.sfv_text.specs.Keys.{have_distinct_keys, value_of}
 use Rattle.sfv_text.specs.declared.pair.Pair.{Pair}
-use Rattle.command_line.specs.Command.{VerifyWords, SignWords, RewriteWords, AuditWords, SampleWords, SpellsBase, SpellsVerify, SpellsSign, SpellsRewrite, SpellsAudit, SpellsSample}
+use Rattle.command_line.specs.Command.{VerifyWords, SignWords, RewriteWords, AuditWords, GatewayWords, SampleWords, SpellsBase, SpellsVerify, SpellsSign, SpellsRewrite, SpellsAudit, SpellsGateway, SpellsSample}
 use Rattle.command_line.specs.Numbers.{is_number, IsCount, IsSeed}
 use Rattle.command_line.specs.Options.{may_have, takes, words_of, AreOptions}
 use Rattle.command_line.specs.declared.options.CommandName.{CommandName}
@@ -285,6 +285,26 @@ audit_with words options are = elim (has_word (value_of options (codes "--conf")
 
 pub audit_of : (words : List (List ℕ)) → SomeOrNone (SpellsAudit (codes "audit" ∷ words))
 audit_of words = with_or_none (SpellsAudit (codes "audit" ∷ words)) name.Audit words (λ audit is. (is.options, audit_are words audit is)) (audit_with words)
+
+-- ---- `gateway`
+
+gateway_are : (words : List (List ℕ)) (gateway : GatewayWords) (is : SpellsGateway (codes "gateway" ∷ words) gateway) → AreOptions name.Gateway words is.options
+gateway_are words gateway is = are_of name.Gateway (codes "gateway") words is.words is.options is.joined is.are
+
+gateway_with : (words : List (List ℕ)) (options : List (Pair (List ℕ))) → AreOptions name.Gateway words options → SomeOrNone (SpellsGateway (codes "gateway" ∷ words))
+gateway_with words options are = elim (has_word (value_of options (codes "--conf"))) [
+  | inr none ↦ inr (λ gateway is.
+      let same = same_options name.Gateway words options is.options are (gateway_are words gateway is) in
+      no_word (value_of options (codes "--conf")) gateway.conf none
+      (subst (λ (all : List (Pair (List ℕ))). value_of all (codes "--conf") ≡ Some gateway.conf) same is.conf_is))
+  | inl conf ↦ inl (
+    record { conf = conf.0 },
+    record { words = words; options = options; joined = refl; are = are; conf_is = conf.1 },
+  )
+]
+
+pub gateway_of : (words : List (List ℕ)) → SomeOrNone (SpellsGateway (codes "gateway" ∷ words))
+gateway_of words = with_or_none (SpellsGateway (codes "gateway" ∷ words)) name.Gateway words (λ gateway is. (is.options, gateway_are words gateway is)) (gateway_with words)
 
 -- ---- `sample`
 

@@ -175,6 +175,7 @@ needed_addable name.Verify = refl
 needed_addable name.Sign = refl
 needed_addable name.Rewrite = refl
 needed_addable name.Audit = refl
+needed_addable name.Gateway = refl
 needed_addable name.Sample = refl
 
 pub alone_for : (command : CommandName) (options : List (Pair (List ℕ))) → IsAlone options → IsAloneFor command options
@@ -183,6 +184,7 @@ alone_for name.Verify options alone = tt
 alone_for name.Sign options alone = alone
 alone_for name.Rewrite options alone = tt
 alone_for name.Audit options alone = tt
+alone_for name.Gateway options alone = tt
 alone_for name.Sample options alone = tt
 
 -- so right options begin a command

@@ -6,7 +6,7 @@ use Rattle.std.proofs.lemmas.Bool.{false≢true}
 use Rattle.std.proofs.lemmas.Slice.Eq.{bytes_eq-Decides}
 use Rattle.sfv_text.specs.Keys.{value_of}
 use Rattle.sfv_text.specs.declared.pair.Pair.{Pair}
-use Rattle.command_line.specs.Command.{AuditWords, BaseWords, RewriteWords, SampleWords, SignWords, VerifyWords, NoCommand, SpellsAudit, SpellsBase, SpellsRewrite, SpellsSample, SpellsSign, SpellsVerify, CommandLine, Help, HelpOf, Version, Base, Verify, Sign, Rewrite, Audit, Sample, IsCommand}
+use Rattle.command_line.specs.Command.{AuditWords, BaseWords, GatewayWords, RewriteWords, SampleWords, SignWords, VerifyWords, NoCommand, SpellsAudit, SpellsBase, SpellsGateway, SpellsRewrite, SpellsSample, SpellsSign, SpellsVerify, CommandLine, Help, HelpOf, Version, Base, Verify, Sign, Rewrite, Audit, Gateway, Sample, IsCommand}
 use Rattle.command_line.specs.Faults.{IsStart}
 use Rattle.command_line.specs.Names.{command_of, command_word}
 use Rattle.command_line.specs.Numbers.{IsCount, IsSeed}
@@ -82,6 +82,7 @@ command_is name.Verify = refl
 command_is name.Sign = refl
 command_is name.Rewrite = refl
 command_is name.Audit = refl
+command_is name.Gateway = refl
 command_is name.Sample = refl
 
 -- the command isn't help of one
@@ -143,6 +144,10 @@ named word words (Audit line) command is some isnt =
     let others : words ≡ is.words = (first_is word (codes "audit") words is.words is.joined).1 in
     subst (λ (c : CommandName). AfterName c words) (same_command word (codes "audit") words is.words command name.Audit is.joined refl some)
     (record { options = is.options; are = moved name.Audit words is.words is.options others is.are; alone = tt; has = ((line.conf, is.conf_is), tt) })
+named word words (Gateway line) command is some isnt =
+    let others : words ≡ is.words = (first_is word (codes "gateway") words is.words is.joined).1 in
+    subst (λ (c : CommandName). AfterName c words) (same_command word (codes "gateway") words is.words command name.Gateway is.joined refl some)
+    (record { options = is.options; are = moved name.Gateway words is.words is.options others is.are; alone = tt; has = ((line.conf, is.conf_is), tt) })
 named word words (Sample line) command is some isnt =
     let others : words ≡ is.seed ∷ is.count ∷ [] = (first_is word (codes "sample") words (is.seed ∷ is.count ∷ []) is.joined).1 in
     subst (λ (c : CommandName). AfterName c words) (same_command word (codes "sample") words (is.seed ∷ is.count ∷ []) command name.Sample is.joined refl some)
@@ -173,6 +178,7 @@ unnamed word words (Verify line) is none = absurd (some_none word (codes "verify
 unnamed word words (Sign line) is none = absurd (some_none word (codes "sign") words is.words name.Sign is.joined refl none)
 unnamed word words (Rewrite line) is none = absurd (some_none word (codes "rewrite") words is.words name.Rewrite is.joined refl none)
 unnamed word words (Audit line) is none = absurd (some_none word (codes "audit") words is.words name.Audit is.joined refl none)
+unnamed word words (Gateway line) is none = absurd (some_none word (codes "gateway") words is.words name.Gateway is.joined refl none)
 unnamed word words (Sample line) is none = absurd (some_none word (codes "sample") words (is.seed ∷ is.count ∷ []) name.Sample is.joined refl none)
 
 -- after the words before its options come the options of a command
@@ -189,6 +195,8 @@ started name.Rewrite start words line starts is isnt =
     named (codes "rewrite") words line name.Rewrite (subst (λ (s : List (List ℕ)). IsCommand (s ++ words) line) starts is) refl isnt
 started name.Audit start words line starts is isnt =
     named (codes "audit") words line name.Audit (subst (λ (s : List (List ℕ)). IsCommand (s ++ words) line) starts is) refl isnt
+started name.Gateway start words line starts is isnt =
+    named (codes "gateway") words line name.Gateway (subst (λ (s : List (List ℕ)). IsCommand (s ++ words) line) starts is) refl isnt
 started name.Sample start words line starts is isnt = absurd starts
 
 -- the words after those before its options aren't `--help` alone
@@ -209,6 +217,8 @@ started_plain name.Rewrite start words line starts is none =
     no_help (codes "rewrite") words line name.Rewrite (subst (λ (s : List (List ℕ)). IsCommand (s ++ words) line) starts is) refl none
 started_plain name.Audit start words line starts is none =
     no_help (codes "audit") words line name.Audit (subst (λ (s : List (List ℕ)). IsCommand (s ++ words) line) starts is) refl none
+started_plain name.Gateway start words line starts is none =
+    no_help (codes "gateway") words line name.Gateway (subst (λ (s : List (List ℕ)). IsCommand (s ++ words) line) starts is) refl none
 started_plain name.Sample start words line starts is none = absurd starts
 
 -- ---- to a command
@@ -288,6 +298,10 @@ pub audit_spelled : (words : List (List ℕ)) → IsOptionLine name.Audit words 
 audit_spelled words is =
     (record { conf = is.has.0.0 }, record { words = words; options = is.options; joined = refl; are = is.are; conf_is = is.has.0.1 })
 
+pub gateway_spelled : (words : List (List ℕ)) → IsOptionLine name.Gateway words → (line : GatewayWords) × SpellsGateway (codes "gateway" ∷ words) line
+gateway_spelled words is =
+    (record { conf = is.has.0.0 }, record { words = words; options = is.options; joined = refl; are = is.are; conf_is = is.has.0.1 })
+
 -- options with those that the command needs are a command after the words before them
 pub whole : (command : CommandName) (start words : List (List ℕ)) → IsStart command start → IsOptionLine command words → AreCommand (start ++ words)
 whole name.Base start words starts is =
@@ -303,6 +317,8 @@ whole name.Rewrite start words starts is =
     let line = rewrite_spelled words is in subst (λ (s : List (List ℕ)). AreCommand (s ++ words)) (sym starts) (Rewrite line.0, line.1)
 whole name.Audit start words starts is =
     let line = audit_spelled words is in subst (λ (s : List (List ℕ)). AreCommand (s ++ words)) (sym starts) (Audit line.0, line.1)
+whole name.Gateway start words starts is =
+    let line = gateway_spelled words is in subst (λ (s : List (List ℕ)). AreCommand (s ++ words)) (sym starts) (Gateway line.0, line.1)
 whole name.Sample start words starts is = absurd starts
 
 -- ---- no command
@@ -333,6 +349,9 @@ no_rewrite words isnt none = none_after name.Rewrite words isnt (λ is. let line
 
 pub no_audit : (words : List (List ℕ)) → asks_help words ≡ false → ((line : AuditWords) → SpellsAudit (codes "audit" ∷ words) line → ⊥) → NoCommand (codes "audit" ∷ words)
 no_audit words isnt none = none_after name.Audit words isnt (λ is. let line = audit_spelled words is in none line.0 line.1)
+
+pub no_gateway : (words : List (List ℕ)) → asks_help words ≡ false → ((line : GatewayWords) → SpellsGateway (codes "gateway" ∷ words) line → ⊥) → NoCommand (codes "gateway" ∷ words)
+no_gateway words isnt none = none_after name.Gateway words isnt (λ is. let line = gateway_spelled words is in none line.0 line.1)
 
 pub no_sample : (words : List (List ℕ)) → asks_help words ≡ false → ((line : SampleWords) → SpellsSample (codes "sample" ∷ words) line → ⊥) → NoCommand (codes "sample" ∷ words)
 no_sample words isnt none = none_after name.Sample words isnt (λ is.

@@ -156,6 +156,7 @@ not_help name.Verify all done word after more plain joined = plain_at all done w
 not_help name.Sign all done word after more plain joined = plain_at all done word after more plain joined
 not_help name.Rewrite all done word after more plain joined = plain_at all done word after more plain joined
 not_help name.Audit all done word after more plain joined = plain_at all done word after more plain joined
+not_help name.Gateway all done word after more plain joined = plain_at all done word after more plain joined
 not_help name.Sample all done word after more plain joined = plain_at all done word after more plain joined
 
 -- ---- no such option can come next
@@ -199,6 +200,7 @@ both_there Nonce given name.Base found done others p taken excluded are same alo
 both_there Nonce given name.Verify found done others p taken excluded are same alone = false≢true taken
 both_there Nonce given name.Rewrite found done others p taken excluded are same alone = false≢true taken
 both_there Nonce given name.Audit found done others p taken excluded are same alone = false≢true taken
+both_there Nonce given name.Gateway found done others p taken excluded are same alone = false≢true taken
 both_there Nonce given name.Sample found done others p taken excluded are same alone = false≢true taken
 both_there Wanted given name.Sign found done others p taken excluded are same alone =
     let nonce = (if_some (word_in found Nonce) Nonce given excluded).1 in
@@ -210,6 +212,7 @@ both_there Wanted given name.Base found done others p taken excluded are same al
 both_there Wanted given name.Verify found done others p taken excluded are same alone = false≢true taken
 both_there Wanted given name.Rewrite found done others p taken excluded are same alone = false≢true taken
 both_there Wanted given name.Audit found done others p taken excluded are same alone = false≢true taken
+both_there Wanted given name.Gateway found done others p taken excluded are same alone = false≢true taken
 both_there Wanted given name.Sample found done others p taken excluded are same alone = false≢true taken
 
 taken_key : (command : CommandName) (done others : List (Pair (List ℕ))) (p : Pair (List ℕ)) (words : List (List ℕ)) → AreOptions command words (done ++ p ∷ others)
@@ -272,6 +275,7 @@ plain_start name.Verify base sample = refl
 plain_start name.Sign base sample = refl
 plain_start name.Rewrite base sample = refl
 plain_start name.Audit base sample = refl
+plain_start name.Gateway base sample = refl
 plain_start name.Sample base sample = absurd (sample refl)
 
 -- words of which none begins with `--help`
@@ -282,6 +286,7 @@ plain_words name.Verify words plain = plain
 plain_words name.Sign words plain = plain
 plain_words name.Rewrite words plain = plain
 plain_words name.Audit words plain = plain
+plain_words name.Gateway words plain = plain
 plain_words name.Sample words plain = plain
 
 -- ---- the faults
@@ -311,6 +316,7 @@ start_command name.Verify start words starts = ap (λ (s : List (List ℕ)). fir
 start_command name.Sign start words starts = ap (λ (s : List (List ℕ)). first_command (s ++ words)) starts
 start_command name.Rewrite start words starts = ap (λ (s : List (List ℕ)). first_command (s ++ words)) starts
 start_command name.Audit start words starts = ap (λ (s : List (List ℕ)). first_command (s ++ words)) starts
+start_command name.Gateway start words starts = ap (λ (s : List (List ℕ)). first_command (s ++ words)) starts
 start_command name.Sample start words starts = absurd starts
 
 has_option : (command : CommandName) (start : List (List ℕ)) (found : OptionWords) (done : List (Pair (List ℕ))) (option : CommandOption) (word : List ℕ)
@@ -350,6 +356,7 @@ excluded_by Nonce given command found taken excluded =
     sign_takes name.Sign taken = refl
     sign_takes name.Rewrite taken = absurd (false≢true taken)
     sign_takes name.Audit taken = absurd (false≢true taken)
+    sign_takes name.Gateway taken = absurd (false≢true taken)
     sign_takes name.Sample taken = absurd (false≢true taken)
 excluded_by Wanted given command found taken excluded =
     let nonce = if_some (word_in found Nonce) Nonce given excluded in
@@ -361,6 +368,7 @@ excluded_by Wanted given command found taken excluded =
     sign_takes name.Sign taken = refl
     sign_takes name.Rewrite taken = absurd (false≢true taken)
     sign_takes name.Audit taken = absurd (false≢true taken)
+    sign_takes name.Gateway taken = absurd (false≢true taken)
     sign_takes name.Sample taken = absurd (false≢true taken)
 
 -- the word is a reason that the options before it make one

@@ -216,6 +216,7 @@ help_left_over command next after other = record {
     none name.Sign other begun = none_taken name.Sign (next ∷ begun.0) refl (line_of name.Sign begun)
     none name.Rewrite other begun = none_taken name.Rewrite (next ∷ begun.0) refl (line_of name.Rewrite begun)
     none name.Audit other begun = none_taken name.Audit (next ∷ begun.0) refl (line_of name.Audit begun)
+    none name.Gateway other begun = none_taken name.Gateway (next ∷ begun.0) refl (line_of name.Gateway begun)
     none name.Sample other begun =
         let words = line_of name.Sample begun in
         let same : codes "--help" ≡ words.0 = (first_is (codes "--help") words.0 (next ∷ begun.0) (words.1 ∷ []) words.2).0 in

@@ -14,6 +14,7 @@ use Rattle.command_line.specs.declared.command.VerifyWords as verify
 use Rattle.command_line.specs.declared.command.SignWords as sign
 use Rattle.command_line.specs.declared.command.RewriteWords as rewrite
 use Rattle.command_line.specs.declared.command.AuditWords as audit
+use Rattle.command_line.specs.declared.command.GatewayWords as gateway
 use Rattle.command_line.specs.declared.command.SampleWords as sample
 use Rattle.command_line.specs.declared.command.Command.{Command}
 use Rattle.command_line.specs.declared.command.Command.TheVariants as command
@@ -54,6 +55,10 @@ pub record RewriteWords : Type 0 where
 pub record AuditWords : Type 0 where
   pub conf : List ℕ
 
+-- the words of `gateway`: the file of the configuration
+pub record GatewayWords : Type 0 where
+  pub conf : List ℕ
+
 -- the words of `sample`: the seed, and the number of hops
 pub record SampleWords : Type 0 where
   pub seed : ℕ
@@ -80,6 +85,8 @@ pub data CommandLine : Type 0 where
   Rewrite : RewriteWords → CommandLine
   -- the report on a recorded chain of messages, by a configuration
   Audit : AuditWords → CommandLine
+  -- what a gateway makes of each message of a stream, by a configuration
+  Gateway : GatewayWords → CommandLine
   -- the summary of the report on a chain that is drawn from a seed, with so many hops
   Sample : SampleWords → CommandLine
 
@@ -139,6 +146,14 @@ pub record SpellsAudit (arguments : List (List ℕ)) (audit : AuditWords) : Type
   pub are : AreOptions name.Audit words options
   pub conf_is : value_of options (codes "--conf") ≡ Some audit.conf
 
+-- the arguments are `gateway` and its options, with the configuration
+pub record SpellsGateway (arguments : List (List ℕ)) (gateway : GatewayWords) : Type 0 where
+  pub words : List (List ℕ)
+  pub options : List (Pair (List ℕ))
+  pub joined : arguments ≡ codes "gateway" ∷ words
+  pub are : AreOptions name.Gateway words options
+  pub conf_is : value_of options (codes "--conf") ≡ Some gateway.conf
+
 -- the arguments are `sample`, the seed and the number of hops
 pub record SpellsSample (arguments : List (List ℕ)) (sample : SampleWords) : Type 0 where
   pub seed : List ℕ
@@ -159,6 +174,7 @@ IsCommand arguments (Verify words) = SpellsVerify arguments words
 IsCommand arguments (Sign words) = SpellsSign arguments words
 IsCommand arguments (Rewrite words) = SpellsRewrite arguments words
 IsCommand arguments (Audit words) = SpellsAudit arguments words
+IsCommand arguments (Gateway words) = SpellsGateway arguments words
 IsCommand arguments (Sample words) = SpellsSample arguments words
 
 -- the arguments spell no command
@@ -175,6 +191,7 @@ conf_of (Verify words) = Some words.conf
 conf_of (Sign words) = Some words.conf
 conf_of (Rewrite words) = words.conf
 conf_of (Audit words) = Some words.conf
+conf_of (Gateway words) = Some words.conf
 conf_of (Sample words) = None
 
 -- the file of the request that the input answers
@@ -187,6 +204,7 @@ request_of (Verify words) = words.request
 request_of (Sign words) = words.request
 request_of (Rewrite words) = words.request
 request_of (Audit words) = None
+request_of (Gateway words) = None
 request_of (Sample words) = None
 
 -- the file of the message that asks for signatures
@@ -239,6 +257,10 @@ rewrite_words words = record {
 abbrev pub audit_words : audit.AuditWords → AuditWords
 audit_words words = record { conf = words.conf.now }
 
+-- what the borrowed words of `gateway` stand for
+abbrev pub gateway_words : gateway.GatewayWords → GatewayWords
+gateway_words words = record { conf = words.conf.now }
+
 -- what the words of `sample` stand for
 abbrev pub sample_words : sample.SampleWords → SampleWords
 sample_words words = record { seed = words.seed; count = words.count }
@@ -253,6 +275,7 @@ line_of (command.Verify words) = Verify (verify_words words)
 line_of (command.Sign words) = Sign (sign_words words)
 line_of (command.Rewrite words) = Rewrite (rewrite_words words)
 line_of (command.Audit words) = Audit (audit_words words)
+line_of (command.Gateway words) = Gateway (gateway_words words)
 line_of (command.Sample words) = Sample (sample_words words)
 
 -- the moment is one of at most 15 digits

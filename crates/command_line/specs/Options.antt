@@ -8,7 +8,7 @@ use Rattle.sfv_text.specs.declared.pair.Pair.{Pair}
 use Rattle.nonces.specs.declared.limits.TheConstants.{MAX_NONCE_BYTES}
 use Rattle.command_line.specs.Numbers.{is_number}
 use Rattle.command_line.specs.declared.options.CommandName.{CommandName}
-use Rattle.command_line.specs.declared.options.CommandName.TheVariants.{Base, Verify, Sign, Rewrite, Audit, Sample}
+use Rattle.command_line.specs.declared.options.CommandName.TheVariants.{Base, Verify, Sign, Rewrite, Audit, Gateway, Sample}
 use Rattle.command_line.specs.declared.options.CommandOption.{CommandOption}
 use Rattle.command_line.specs.declared.options.CommandOption.TheVariants.{Conf, Now, Label, Request, Nonce, Wanted, Script}
 use Rattle.command_line.specs.declared.options.TheConstants.{MAX_MOMENT_DIGITS}
@@ -36,7 +36,7 @@ pub record OptionRow : Type 0 where
 abbrev pub row_of : CommandOption → OptionRow
 row_of Conf = record {
   word = codes "--conf";
-  commands = Base ∷ Verify ∷ Sign ∷ Rewrite ∷ Audit ∷ [];
+  commands = Base ∷ Verify ∷ Sign ∷ Rewrite ∷ Audit ∷ Gateway ∷ [];
   may_have = is_file_name;
 }
 row_of Now = record { word = codes "--now"; commands = Verify ∷ Sign ∷ []; may_have = is_moment }
@@ -65,6 +65,7 @@ is_same_command Verify Verify = true
 is_same_command Sign Sign = true
 is_same_command Rewrite Rewrite = true
 is_same_command Audit Audit = true
+is_same_command Gateway Gateway = true
 is_same_command Sample Sample = true
 is_same_command command other = false
 

@@ -1,8 +1,8 @@
 //! The arguments of the program.
 
 ghost use Rattle.std.specs.Prelude.{◌≡◌, ◌∷◌, [], drop, false, None, map, codes, IfSome, IfNone, string_bytes};
-ghost use Rattle.command_line.specs.Command.{HasRightNonce, IsCommand, NoCommand, SpellsAudit, SpellsBase, SpellsRewrite, SpellsSample, SpellsSign, SpellsVerify, line_of, IsTimely};
-ghost use Rattle.command_line.specs.Command.{AuditWords as AuditLine, BaseWords as BaseLine, RewriteWords as RewriteLine, SampleWords as SampleLine, SignWords as SignLine, VerifyWords as VerifyLine};
+ghost use Rattle.command_line.specs.Command.{HasRightNonce, IsCommand, NoCommand, SpellsAudit, SpellsBase, SpellsGateway, SpellsRewrite, SpellsSample, SpellsSign, SpellsVerify, line_of, IsTimely};
+ghost use Rattle.command_line.specs.Command.{AuditWords as AuditLine, BaseWords as BaseLine, GatewayWords as GatewayLine, RewriteWords as RewriteLine, SampleWords as SampleLine, SignWords as SignLine, VerifyWords as VerifyLine};
 ghost use Rattle.command_line.specs.Names.{command_of, command_word};
 ghost use Rattle.command_line.specs.tools.Wrong.{asks_help};
 ghost use Rattle.command_line.specs.tools.After.{IsAfter, NoneAfter};
@@ -69,6 +69,13 @@ pub struct AuditWords<'a> {
     pub conf: &'a str,
 }
 
+/// The words of `gateway`. They are borrowed.
+#[derive(Clone, Copy)]
+pub struct GatewayWords<'a> {
+    /// The file of the configuration.
+    pub conf: &'a str,
+}
+
 /// The words of `sample`: what its digits write.
 #[derive(Clone, Copy)]
 pub struct SampleWords {
@@ -98,6 +105,8 @@ pub enum Command<'a> {
     Rewrite(RewriteWords<'a>),
     /// `audit`: what became of the signatures of a recorded chain of messages, hop by hop.
     Audit(AuditWords<'a>),
+    /// `gateway`: what a gateway makes of each message of a stream (RFC 9421 sections 3.1 and 3.2).
+    Gateway(GatewayWords<'a>),
     /// `sample SEED COUNT`: the summary of the report on a chain of COUNT hops that is drawn from
     /// SEED.
     Sample(SampleWords),
@@ -263,6 +272,18 @@ fn read_audit<'a>(words: &'a [String]) -> Option<Command<'a>>
     Some(Command::Audit(AuditWords { conf }))
 }
 
+/// The words after `gateway`.
+fn read_gateway<'a>(words: &'a [String]) -> Option<Command<'a>>
+    ensures some { IfSome result
+        (λ command. IsAfter (codes "gateway") (map string_bytes words.now) (line_of command)) }
+    ensures none { IfNone result ((gateway : GatewayLine)
+        → ¬ SpellsGateway (codes "gateway" ∷ map string_bytes words.now) gateway) }
+{
+    let found = read_options(CommandName::Gateway, words)?;
+    let conf = found.conf?;
+    Some(Command::Gateway(GatewayWords { conf }))
+}
+
 /// The words after `sample`.
 fn read_sample<'a>(words: &'a [String]) -> Option<Command<'a>>
     ensures some { IfSome result
@@ -293,6 +314,7 @@ fn read_command<'a>(command: CommandName, words: &'a [String]) -> Option<Command
         CommandName::Sign => read_sign(words),
         CommandName::Rewrite => read_rewrite(words),
         CommandName::Audit => read_audit(words),
+        CommandName::Gateway => read_gateway(words),
         CommandName::Sample => read_sample(words),
     }
 }

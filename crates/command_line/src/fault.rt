@@ -166,7 +166,7 @@ fn needed(command: CommandName) -> &'static [CommandOption]
         CommandName::Base | CommandName::Sample => &[],
         CommandName::Verify | CommandName::Sign => &[CommandOption::Conf, CommandOption::Now],
         CommandName::Rewrite => &[CommandOption::Script],
-        CommandName::Audit => &[CommandOption::Conf],
+        CommandName::Audit | CommandName::Gateway => &[CommandOption::Conf],
     }
 }
 

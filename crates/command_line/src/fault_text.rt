@@ -19,7 +19,7 @@ impl CommandName {
             CommandName::Rewrite => {
                 "--script SCRIPT [--label LABEL] [--conf FILE] [--request REQ] < MESSAGE"
             }
-            CommandName::Audit => "--conf FILE < RECORDING",
+            CommandName::Audit | CommandName::Gateway => "--conf FILE < RECORDING",
             CommandName::Sample => "SEED COUNT",
         }
     }
@@ -65,7 +65,8 @@ impl WordsReason {
             WordsReason::NoWords => f.write_str("there is no command"),
             WordsReason::NoCommand => write!(
                 f,
-                "{word:?} is no command: first comes base, verify, sign, rewrite, audit or sample"
+                "{word:?} is no command: first comes base, verify, sign, rewrite, audit, gateway \
+                 or sample"
             ),
             WordsReason::LeftOver => write!(f, "{word:?} is a word too many"),
             WordsReason::NotTaken(command) => {

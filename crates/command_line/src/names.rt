@@ -17,6 +17,7 @@ impl CommandName {
             "sign" => Some(CommandName::Sign),
             "rewrite" => Some(CommandName::Rewrite),
             "audit" => Some(CommandName::Audit),
+            "gateway" => Some(CommandName::Gateway),
             "sample" => Some(CommandName::Sample),
             _ => None,
         }
@@ -32,6 +33,7 @@ impl CommandName {
             CommandName::Sign => "sign",
             CommandName::Rewrite => "rewrite",
             CommandName::Audit => "audit",
+            CommandName::Gateway => "gateway",
             CommandName::Sample => "sample",
         }
     }

@@ -29,6 +29,8 @@ pub enum CommandName {
     Rewrite,
     /// `audit`.
     Audit,
+    /// `gateway`.
+    Gateway,
     /// `sample`, which has no options.
     Sample,
 }
@@ -128,7 +130,10 @@ impl CommandOption {
             CommandOption::Conf => !matches!(command, CommandName::Sample),
             CommandOption::Now => matches!(command, CommandName::Verify | CommandName::Sign),
             CommandOption::Label => matches!(command, CommandName::Verify | CommandName::Rewrite),
-            CommandOption::Request => !matches!(command, CommandName::Audit | CommandName::Sample),
+            CommandOption::Request => !matches!(
+                command,
+                CommandName::Audit | CommandName::Gateway | CommandName::Sample
+            ),
             CommandOption::Nonce => matches!(command, CommandName::Sign),
             CommandOption::Wanted => matches!(command, CommandName::Sign),
             CommandOption::Script => matches!(command, CommandName::Rewrite),

@@ -20,7 +20,7 @@ use Rattle.commands.specs.Laws.{IsInputDecided, AreParamsDecided, AreValuesDecid
 use Rattle.commands.specs.Messages.{IsInputMessage, IsInputRefused}
 use Rattle.msg_body.specs.declared.whole.Reading.{Reading}
 use Rattle.refusals.specs.declared.file.FileRefusal.{FileRefusal}
-use Rattle.refusals.specs.declared.file.FileRefusal.TheVariants.{Missing, TooLong, Message as NoMessage, Conf, Script, Recording, Order, TooManyHops}
+use Rattle.refusals.specs.declared.file.FileRefusal.TheVariants.{Missing, TooLong, Message as NoMessage, Conf, Script, Recording, Order, TooManyHops, OutOfPlace, TooManyItems}
 use Rattle.refusals.specs.declared.refusal.CommandRefusal.{CommandRefusal}
 use Rattle.refusals.specs.declared.refusal.CommandRefusal.TheVariants.{Syntax, Ids, Lacks, Sign, Wishes, NotTaken}
 use Rattle.commands.proofs.Lacking.{one_id}
@@ -35,12 +35,16 @@ input_cause r input (Script f) d a b = absurd a
 input_cause r input (Recording f) d a b = absurd a
 input_cause r input (Order i) d a b = absurd a
 input_cause r input (TooManyHops i) d a b = absurd a
+input_cause r input (OutOfPlace i) d a b = absurd a
+input_cause r input (TooManyItems i) d a b = absurd a
 input_cause r input (TooLong n) Missing a b = absurd b
 input_cause r input (TooLong n) (Conf g) a b = absurd b
 input_cause r input (TooLong n) (Script g) a b = absurd b
 input_cause r input (TooLong n) (Recording g) a b = absurd b
 input_cause r input (TooLong n) (Order j) a b = absurd b
 input_cause r input (TooLong n) (TooManyHops j) a b = absurd b
+input_cause r input (TooLong n) (OutOfPlace j) a b = absurd b
+input_cause r input (TooLong n) (TooManyItems j) a b = absurd b
 input_cause r input (TooLong n) (TooLong m) a b = ap (λ (limit : ℕ). TooLong limit) (a.0 ∙ sym b.0)
 input_cause r input (TooLong n) (NoMessage g) a b = absurd (omega (arith, a.1, b.0))
 input_cause r input (NoMessage f) Missing a b = absurd b
@@ -49,6 +53,8 @@ input_cause r input (NoMessage f) (Script g) a b = absurd b
 input_cause r input (NoMessage f) (Recording g) a b = absurd b
 input_cause r input (NoMessage f) (Order j) a b = absurd b
 input_cause r input (NoMessage f) (TooManyHops j) a b = absurd b
+input_cause r input (NoMessage f) (OutOfPlace j) a b = absurd b
+input_cause r input (NoMessage f) (TooManyItems j) a b = absurd b
 input_cause r input (NoMessage f) (TooLong m) a b = absurd (omega (arith, a.0, b.1))
 input_cause r input (NoMessage f) (NoMessage g) a b = ap (λ (h : MessageFault). NoMessage h) (one_message_fault r input f g a.1 b.1)
 
@@ -59,6 +65,8 @@ input_either r input message (Script f) is c = c
 input_either r input message (Recording f) is c = c
 input_either r input message (Order i) is c = c
 input_either r input message (TooManyHops i) is c = c
+input_either r input message (OutOfPlace i) is c = c
+input_either r input message (TooManyItems i) is c = c
 input_either r input message (TooLong n) is c = let within = is.within in omega (arith, within, c.1)
 input_either r input message (NoMessage f) is c = text_no_fault r input message f is.whole c.1
 

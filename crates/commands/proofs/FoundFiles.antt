@@ -78,6 +78,7 @@ text_stop known name text (fault.WrongType p) has short faults = fault_file know
 text_stop known name text (fault.OutOfRange p) has short faults = fault_file known name text (fault.OutOfRange p) has short ((faults (fault.OutOfRange p) (λ e. absurd (cc e))).only refl)
 text_stop known name text (fault.BadKeyText p) has short faults = fault_file known name text (fault.BadKeyText p) has short ((faults (fault.BadKeyText p) (λ e. absurd (cc e))).only refl)
 text_stop known name text (fault.BadComponents p) has short faults = fault_file known name text (fault.BadComponents p) has short ((faults (fault.BadComponents p) (λ e. absurd (cc e))).only refl)
+text_stop known name text (fault.BadScript p) has short faults = fault_file known name text (fault.BadScript p) has short ((faults (fault.BadScript p) (λ e. absurd (cc e))).only refl)
 text_stop known name text (fault.Missing p) has short faults = fault_file known name text (fault.Missing p) has short ((faults (fault.Missing p) (λ e. absurd (cc e))).only refl)
 
 -- the same, of an equal text

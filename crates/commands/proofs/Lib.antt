@@ -1,5 +1,4 @@
 pub mod Answered
-pub mod Asked
 pub mod Auditing
 pub mod Decided
 pub mod DecidedConf

@@ -1,6 +1,6 @@
 -- Laws of the crates below that something is read or has a fault, in the form that the proofs here
 -- use.
-use Rattle.std.proofs.Common.{◌⊎◌, ◌≤◌, refl}
+use Rattle.std.proofs.Common.{refl}
 use Rattle.sfv_read.specs.Laws.{HasValueOrNone, HasFault}
 use Rattle.sfv_read.specs.Reads.{ReadsInner}
 use Rattle.sfv_read.proofs.Readings.{inner_is_decided, inner_judges}
@@ -19,7 +19,6 @@ use Rattle.signatures.specs.Laws.{HasLabels}
 use Rattle.signatures.proofs.Reading.{has_labels}
 use Rattle.verdicts.specs.Laws.{HasVerdict}
 use Rattle.verdicts.proofs.Judging.{has_verdict}
-use Rattle.msg_body.specs.declared.whole.Reading.{Reading}
 
 pub conf_answer_of : HasConfAnswer
 conf_answer_of = conf.has_answer

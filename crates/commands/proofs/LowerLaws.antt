@@ -1,5 +1,5 @@
 -- Laws of the crates below, in the form that the proofs here use.
-use Rattle.std.proofs.Common.{◌≡◌, ℕ, List, refl, ◌∙◌}
+use Rattle.std.proofs.Common.{◌≡◌, ℕ, List, refl}
 use Rattle.sfv_text.specs.declared.value.InnerList.{InnerList}
 use Rattle.sfv_read.specs.Reads.{ReadsInner}
 use Rattle.sfv_read.proofs.Readings.{inner_has_one_value}

@@ -1,5 +1,5 @@
 -- What is rewritten is a message, and under a label it keeps the label's verdict.
-use Rattle.std.proofs.Common.{◌≡◌, ◌+◌, ℕ, Bool, Option, Some, None, List, [], ◌∷◌, inl, inr, refl, subst, ◌∙◌}
+use Rattle.std.proofs.Common.{◌≡◌, ◌+◌, ℕ, Option, Some, None, List, [], ◌∷◌, inl, inr, refl, subst, ◌∙◌}
 use Rattle.std.specs.Prelude.{IsTrue}
 use Rattle.std.specs.List.{list_all, list_any, FoldsTo}
 use Rattle.std.proofs.lemmas.Bool.{or_left, or_right}

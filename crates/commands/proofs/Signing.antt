@@ -10,6 +10,7 @@ use Rattle.msg_body.specs.Messages.{Message, Spells, SpellsMessage, is_expected}
 use Rattle.msg_body.specs.Outcome.{IsMessageUnlessMemory}
 use Rattle.msg_body.specs.Views.{MessageParts, message_of}
 use Rattle.msg_body.specs.declared.error.MessageError.{MessageError}
+use Rattle.msg_body.specs.declared.error.MessageError.TheVariants as message_error
 use Rattle.msg_body.specs.declared.expect.Expect.TheVariants.{Any}
 use Rattle.msg_body.specs.declared.read.MessageRead.{MessageRead}
 use Rattle.msg_body.specs.declared.read.MessageRead.TheVariants.{Whole, Partial}
@@ -174,6 +175,9 @@ module _ (context : MessageContext) (message : Message) (bytes : List ℕ) (spel
 
   pub not_partial : ¬ (result ≡ Ok Partial)
   not_partial is = answered_by (Ok Partial) is
+
+  pub only_memory : (error : MessageError) → result ≡ Err error → error ≡ message_error.Memory
+  only_memory error is = answered_by (Err error) is
 
   -- the message that was read is the one that the bytes spell
   pub same_message : (view : MessageParts) (count : ℕ) → result ≡ Ok (Whole view count) → message_of view ≡ message

@@ -1,22 +1,15 @@
 -- What `verify` comes to, for labels, a moment, a configuration and a context.
-use Rattle.std.specs.Prelude.{◌≡◌, ⊤, ℕ, List, [], ◌∷◌, Option, Some, None, if◌then◌else◌}
+use Rattle.std.specs.Prelude.{◌≡◌, ⊤, ℕ, List, [], ◌∷◌, Option, if◌then◌else◌}
 use Rattle.std.specs.List.{list_all, flat_map, zip}
-use Rattle.msg_body.specs.Messages.{Message}
 use Rattle.component_values.specs.Context.{MessageContext}
 use Rattle.conf.specs.Configuration.{Configuration}
-use Rattle.verdicts.specs.Verification.{or_no_label, verification_for}
-use Rattle.signatures.specs.Signatures.{AreLabels}
+pub use Rattle.verdicts.specs.Asked.{AreAsked}
+use Rattle.verdicts.specs.Verification.{verification_for}
 use Rattle.verdicts.specs.Verdicts.{IsVerdict, is_accepted}
 use Rattle.verdicts.specs.declared.outcome.Verdict.{Verdict}
 use Rattle.verdicts.specs.VerdictLine.{verdict_line}
 use Rattle.commands.specs.declared.outcome.Outcome.{Outcome}
 use Rattle.commands.specs.declared.outcome.Outcome.TheVariants.{Done, NotOk}
-
--- the labels that are asked for: the one that is given, or else those of the message
-abbrev pub AreAsked : Option (List ℕ) → Message → List (List ℕ) → Type 0
-AreAsked (Some label) message labels = labels ≡ label ∷ []
-AreAsked None message labels =
-    (found : List (List ℕ)) × AreLabels message found × (labels ≡ or_no_label found)
 
 -- each label has its verdict
 abbrev pub AreVerdicts : Configuration → ℕ → MessageContext → List (List ℕ) → List Verdict

@@ -64,6 +64,17 @@ pub const AUDIT_TEXT: &str = "
       hms audit --conf conf.toml < chain.rec
 ";
 
+/// What `gateway` does.
+pub const GATEWAY_TEXT: &str = "
+  hms gateway --conf FILE < RECORDING
+      What a gateway makes of each message of a recording, as it comes: it is
+      verified, its nonce is remembered, the steps of FILE that its signature
+      permits are taken, and it is signed by FILE. The line `pass`, with the
+      message, `stop`, `held` or `bad` says which.
+
+      hms gateway --conf gateway.toml < stream.rec
+";
+
 /// What `sample` does.
 pub const SAMPLE_TEXT: &str = "
   hms sample SEED COUNT
@@ -94,12 +105,13 @@ The manual page is hms(1), the whole manual docs/MANUAL.md.
 ";
 
 /// The commands, in the order of the help.
-pub const COMMANDS: [CommandName; 6] = [
+pub const COMMANDS: [CommandName; 7] = [
     CommandName::Verify,
     CommandName::Base,
     CommandName::Sign,
     CommandName::Rewrite,
     CommandName::Audit,
+    CommandName::Gateway,
     CommandName::Sample,
 ];
 
@@ -113,6 +125,7 @@ fn text_of(command: CommandName) -> &'static str
         CommandName::Sign => SIGN_TEXT,
         CommandName::Rewrite => REWRITE_TEXT,
         CommandName::Audit => AUDIT_TEXT,
+        CommandName::Gateway => GATEWAY_TEXT,
         CommandName::Sample => SAMPLE_TEXT,
     }
 }

@@ -41,8 +41,8 @@ pub use audit::audit_outcome;
 pub use base::base_outcome;
 pub use configured::read_configuration;
 pub use help::{
-    AUDIT_TEXT, BASE_TEXT, COMMANDS, END_TEXT, REWRITE_TEXT, SAMPLE_TEXT, SIGN_TEXT, TITLE_TEXT,
-    VERIFY_TEXT, VERSION_TEXT, help_outcome, version_outcome, write_help_of,
+    AUDIT_TEXT, BASE_TEXT, COMMANDS, END_TEXT, GATEWAY_TEXT, REWRITE_TEXT, SAMPLE_TEXT, SIGN_TEXT,
+    TITLE_TEXT, VERIFY_TEXT, VERSION_TEXT, help_outcome, version_outcome, write_help_of,
 };
 pub use laws::{
     auditing_has_one_outcome, each_layer_has_an_answer, each_layer_is_decided,

@@ -23,7 +23,7 @@ use crate::stop::Stop;
 use component_values::{Context, ValueFault};
 use conf::Conf;
 use framing::is_request;
-use msg_body::{Expect, MessageRead, MessageView, read_message};
+use msg_body::{Expect, MessageError, MessageRead, MessageView, read_message};
 use refusals::{CommandRefusal, Refusal};
 use sfv_text::{Memory, Text};
 use signing::{SignFault, SignSpec, sign, spec_of, wanted};
@@ -57,6 +57,17 @@ fn signed_text(alloc: Global, context: &Context<'_, '_>, spec: &SignSpec) -> Res
     }
 }
 
+/// Want of memory, which is the one error of a text that is a message.
+fn only_memory(error: MessageError) -> Stop
+    requires { error ≡ MessageError.Memory }
+    ensures { result ≡ Stop.Memory }
+{
+    match error {
+        MessageError::Memory => Stop::Memory,
+        _ => unreachable!(),
+    }
+}
+
 /// The message of these bytes, in place of the context's, with the signature that is asked for.
 fn signed_again(
     alloc: Global,
@@ -79,7 +90,7 @@ fn signed_again(
             signed_text(alloc, &context, spec)
         }
         Ok(MessageRead::Partial) => unreachable!(),
-        Err(_) => Err(Stop::Memory),
+        Err(error) => Err(only_memory(error)),
     }
 }
 

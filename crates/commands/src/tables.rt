@@ -1,7 +1,9 @@
 //! The tables that a command needs in its configuration.
 
-ghost use Rattle.std.specs.Prelude.{IfOk, IfErr};
+ghost use Rattle.std.specs.Prelude.{IfOk, IfErr, IfSome, IfNone};
 ghost use Rattle.conf.specs.ConfMeaning.{meaning};
+ghost use Rattle.conf.specs.declared.fault.ConfFault.TheVariants.{Missing};
+ghost use Rattle.refusals.specs.declared.file.FileRefusal.TheVariants.{Conf as ConfRefusal};
 ghost use Rattle.refusals.specs.declared.refusal.Refusal.TheVariants.{Of};
 ghost use Rattle.refusals.specs.declared.role.Role.TheVariants.{Conf as OfConf};
 ghost use Rattle.commands.specs.Stops.{IfRefused, IsRefusalFor};
@@ -20,6 +22,23 @@ pub enum Needs {
     Nothing,
     /// The table `sign`, which says what is signed.
     SignTable,
+    /// The tables `gateway` and `sign`.
+    GatewayTables,
+}
+
+/// The first table that is needed and isn't there, in the order of their names' bytes.
+fn missing_table(needs: Needs, conf: &Conf) -> Option<&'static str>
+    ensures some { IfSome result (λ name.
+        IsTableMissing needs (meaning conf.now) (ConfRefusal (Missing name.now))) }
+    ensures none { IfNone result (HasTables needs (meaning conf.now)) }
+{
+    if needs == Needs::GatewayTables && conf.gateway().is_none() {
+        return Some("gateway");
+    }
+    if needs != Needs::Nothing && conf.sign().is_none() {
+        return Some("sign");
+    }
+    None
 }
 
 /// Refuses a configuration that lacks what is needed.
@@ -28,9 +47,9 @@ pub fn check_tables(alloc: Global, needs: Needs, conf: &Conf) -> Result<(), Stop
     ensures refused { IfErr result (λ stop. IfRefused stop (IsRefusalFor
         (IsTableMissing needs (meaning conf.now)) (λ cause. Of OfConf cause))) }
 {
-    if needs == Needs::Nothing || conf.sign().is_some() {
+    let Some(table) = missing_table(needs, conf) else {
         return Ok(());
-    }
-    let fault = ConfFault::Missing(Text::from_bytes(alloc, b"sign")?);
+    };
+    let fault = ConfFault::Missing(Text::from_bytes(alloc, table.as_bytes())?);
     Err(Stop::of_text(Role::Conf, FileRefusal::Conf(fault)))
 }

@@ -89,15 +89,6 @@ fn write_lines<L: Ledger>(
     })
 }
 
-/// A list of one label.
-fn one_label(alloc: Global, label: &[u8]) -> Result<Labels, Memory>
-    ensures { IfOk result (λ labels. labels ≡ label.now ∷ []) }
-{
-    let mut labels = Labels::new(alloc);
-    labels.push(Text::from_bytes(alloc, label)?)?;
-    Ok(labels)
-}
-
 /// The labels that are asked for.
 fn asked_labels(
     alloc: Global,
@@ -108,14 +99,10 @@ fn asked_labels(
         (AreAsked (option_map (λ word. word.now) label.entry) exchange.old.context.message) }
     ensures exchange { exchange.new.context ≡ exchange.old.context }
 {
-    if let Some(label) = label {
-        return one_label(alloc, label.as_bytes());
+    match label {
+        Some(label) => verdicts::asked_labels(alloc, Some(label.as_bytes()), exchange),
+        None => verdicts::asked_labels(alloc, None, exchange),
     }
-    let labels = exchange.labels(alloc)?;
-    if labels.is_empty() {
-        return one_label(alloc, b"-");
-    }
-    Ok(labels)
 }
 
 /// The lines of the verdicts on the labels that are asked for: on the given one, whether or not the

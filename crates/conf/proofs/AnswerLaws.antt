@@ -21,15 +21,17 @@ use Rattle.toml.specs.Data.{Data, Members, string, table, as_bool, as_str, get_m
 use Rattle.toml.specs.Parse.{parse_document}
 use Rattle.nonces.specs.declared.limits.TheConstants.{MAX_ENTRIES}
 use Rattle.settings.specs.declared.limits.TheConstants.{DEFAULT_MAX_AGE, DEFAULT_SKEW}
-use Rattle.conf.specs.declared.table.TableName.TheVariants as place
-use Rattle.conf.specs.declared.table.ValueRule.TheVariants as rule
+use Rattle.conf_keys.specs.declared.table.TableName.TheVariants as place
+use Rattle.conf_keys.specs.declared.table.ValueRule.TheVariants as rule
 use Rattle.settings.specs.Covered.{IsCoveredList, params_of}
 use Rattle.conf.specs.Rows.{fails, is_ill_typed, is_out_of_range}
 use Rattle.conf.specs.Table.{Row, rows, places, place_path, entries_of, has_place, has_unknown, is_missing, members_at, members_in, row_value}
 use Rattle.conf.specs.Values.{has_type, is_type, number_or}
+use Rattle.rewrite_script.specs.declared.rewrite.Rewrite.{Rewrite}
+use Rattle.settings.specs.declared.gateway_conf.GatewayConf.{GatewayConf}
 use Rattle.settings.specs.declared.policy.Policy.{Policy}
 use Rattle.settings.specs.declared.sign_conf.SignConf.{SignConf}
-use Rattle.conf.specs.Sections.{AreComponents, HasSign, IsPolicy, IsSignConf, digest_of, digest_use_of, is_required, nonce_use_of, seconds_of}
+use Rattle.conf.specs.Sections.{AreComponents, AreSteps, HasGateway, HasSign, IsGatewayConf, IsPolicy, IsSignConf, digest_of, digest_use_of, is_required, nonce_use_of, seconds_of}
 use Rattle.conf.specs.declared.fault.ConfFault.{ConfFault}
 use Rattle.conf.specs.declared.fault.ConfFault.TheVariants as fault
 use Rattle.conf.specs.declared.lists.Lists.{Lists}
@@ -41,14 +43,15 @@ use Rattle.conf.specs.tools.Added.{key_in, named_kind, spells_key}
 use Rattle.conf.specs.tools.Judged.{IsClearBelow, IsFirstIn, IsJudged}
 use Rattle.conf.specs.tools.SectionReads.{value_of}
 use Rattle.conf.proofs.AddedLaws.{AllRead, all_of, entry_passes, get_all, or_else}
-use Rattle.conf.proofs.JudgedLaws.{first_is, clear_first, clear_more, below_typed, below_allowed, below_keys, below_missing, keys_clear}
+use Rattle.conf.proofs.JudgedLaws.{first_is, clear_first, clear_more, below_typed, below_allowed, below_keys, below_missing, below_steps, keys_clear}
 use Rattle.conf.proofs.KeyTextLaws.{are_texts, key_of_text, keys_of_document, not_spelled, spelled}
 use Rattle.conf.proofs.LeastLaws.{ascends, found_least, found_none}
 use Rattle.conf.proofs.ListLaws.{not_bad}
 use Rattle.conf.proofs.ReadLaws.{first_of, not_toml}
-use Rattle.conf.proofs.RowFacts.{keys_typed, sign_typed, require_request_typed, require_response_typed, request_typed, response_typed, keyid_typed, label_typed, types_typed, types_allowed, keyid_there, label_there, keys_least, texts_fine, lists_fine_by, require_request_least, require_response_least, request_least, response_least}
+use Rattle.conf.proofs.RowFacts.{keys_typed, gateway_typed, sign_typed, steps_typed, require_request_typed, require_response_typed, request_typed, response_typed, keyid_typed, label_typed, types_typed, types_allowed, keyid_there, label_there, keys_least, texts_fine, lists_fine_by, steps_fine, steps_least, require_request_least, require_response_least, request_least, response_least}
 use Rattle.conf.proofs.RowLaws.{rows_ascend, places_ascend}
 use Rattle.conf.proofs.SectionLaws.{table_or_none}
+use Rattle.conf.proofs.StepLaws.{steps_not_bad, steps_or_bad_of}
 use Rattle.conf.proofs.TypeLaws.{are_types, kind_at, kind_read, types_of_document}
 
 abbrev Answer : List ℕ → Type 0
@@ -228,6 +231,19 @@ has_sign document judged complete request response first second = elim (table_or
       (Some sign, has_table (get_member (codes "sign") document) is.0 sign is.1 says)
 ]
 
+has_gateway_table : (value : Option Data) (pairs : Members) (gateway : GatewayConf) → value ≡ Some (table pairs) → IsGatewayConf pairs gateway → HasGateway value (Some gateway)
+has_gateway_table value pairs gateway is says = rw is says
+
+has_gateway : (document : Members) → IsJudged document → (steps : List Rewrite) → AreSteps (value_of document place.Gateway (codes "steps")) steps
+    → (gateway : Option GatewayConf) × HasGateway (get_member (codes "gateway") document) gateway
+has_gateway document judged steps are = elim (table_or_none (get_member (codes "gateway") document) (gateway_typed document judged)) [
+  | inl none ↦ (None, rw none refl)
+  | inr is ↦
+      let gateway : GatewayConf = record { label = option_and_then as_str (get_member (codes "label") is.0); steps = steps } in
+      let says : IsGatewayConf is.0 gateway = record { label = refl; steps = rw is.1 at are } in
+      (Some gateway, has_gateway_table (get_member (codes "gateway") document) is.0 gateway is.1 says)
+]
+
 -- ---- the types
 
 all_types : (document : Members) → IsJudged document → AreTypes (types_of_document document) (all_of named_kind standard_types (types_of_document document))
@@ -250,16 +266,16 @@ record AreSaid (document : Members) (lists : Lists) : Type 0 where
   components_response : AreComponents (value_of document place.Sign (codes "components-response")) lists.components_response
 
 complete_answer : (text : List ℕ) (document : Members) → IsDocument text document → IsJudged document
-    → ((keyid : List ℕ) (value : Data) → get_member keyid (keys_of_document document) ≡ Some value → spells_key value ≡ true) → IsClearBelow 7 document
-    → (lists : Lists) → AreSaid document lists → Answer text
-complete_answer text document is judged spell below lists said =
-    let fine = lists_fine_by document (not_bad _ lists.require_request said.require_request) (not_bad _ lists.require_response said.require_response)
-    (not_bad _ lists.components_request said.components_request) (not_bad _ lists.components_response said.components_response) in
+    → ((keyid : List ℕ) (value : Data) → get_member keyid (keys_of_document document) ≡ Some value → spells_key value ≡ true) → IsClearBelow 8 document
+    → (lists : Lists) → AreSaid document lists → (steps : List Rewrite) → AreSteps (value_of document place.Gateway (codes "steps")) steps → Answer text
+complete_answer text document is judged spell below lists said steps are =
+    let fine = steps_fine document (steps_not_bad (value_of document place.Gateway (codes "steps")) steps are) in
     elim (first_or_none (λ (row : Row). row.path) (is_missing document) rows rows_ascend) [
       | inr at ↦ refused text document (fault.Missing at.0) is (λ e. absurd cc) (first_is 9 document (fault.Missing at.0) (below_missing document below fine) (refl, at.1))
       | inl complete ↦
           let policy = has_policy (members_at document place.Policy) lists.require_request lists.require_response said.require_request said.require_response in
           let sign = has_sign document judged complete lists.components_request lists.components_response said.components_request said.components_response in
+          let gateway = has_gateway document judged steps are in
           inl (
             record {
               scheme = configured_scheme (get_member (codes "scheme") document);
@@ -267,6 +283,7 @@ complete_answer text document is judged spell below lists said =
               types = all_of named_kind standard_types (types_of_document document);
               policy = policy.0;
               sign = sign.0;
+              gateway = gateway.0;
             },
             (
               document,
@@ -281,9 +298,22 @@ complete_answer text document is judged spell below lists said =
                 types = all_types document judged;
                 policy = policy.1;
                 sign = sign.1;
+                gateway = gateway.1;
               },
             ),
           )
+    ]
+
+steps_answer : (text : List ℕ) (document : Members) → IsDocument text document → IsJudged document
+    → ((keyid : List ℕ) (value : Data) → get_member keyid (keys_of_document document) ≡ Some value → spells_key value ≡ true) → IsClearBelow 7 document
+    → (lists : Lists) → AreSaid document lists → Answer text
+steps_answer text document is judged spell below lists said =
+    let fine = lists_fine_by document (not_bad _ lists.require_request said.require_request) (not_bad _ lists.require_response said.require_response)
+    (not_bad _ lists.components_request said.components_request) (not_bad _ lists.components_response said.components_response) in
+    let clear = below_steps document below fine in
+    elim (steps_or_bad_of (value_of document place.Gateway (codes "steps")) (steps_typed document judged)) [
+      | inr bad ↦ refused text document (fault.BadScript (codes "gateway.steps")) is (λ e. absurd cc) (first_is 8 document (fault.BadScript (codes "gateway.steps")) clear (refl, steps_least document bad))
+      | inl steps ↦ complete_answer text document is judged spell clear lists said steps.0 steps.1
     ]
 
 -- a bad list whose path is the least
@@ -301,7 +331,7 @@ sign_answer text document is judged spell below first second first_is_said secon
       | inr bad ↦ bad_list text document (codes "sign.components-request") is below (request_least document fine also bad)
       | inl request ↦ elim (list_or_bad (value_of document place.Sign (codes "components-response")) (response_typed document judged)) [
         | inr bad ↦ bad_list text document (codes "sign.components-response") is below (response_least document fine also (not_bad _ request.0 request.1) bad)
-        | inl response ↦ complete_answer text document is judged spell below
+        | inl response ↦ steps_answer text document is judged spell below
             (record { require_request = first; require_response = second; components_request = request.0; components_response = response.0 })
             (record { require_request = first_is_said; require_response = second_is_said; components_request = request.1; components_response = response.1 })
       ]

@@ -5,19 +5,21 @@ use Rattle.byte_grammar.specs.tools.Determined.{AreDetermined}
 use Rattle.byte_grammar.proofs.CauseLaws.{first_is_one}
 use Rattle.toml.specs.Data.{Data, Members, string, table, get_member}
 use Rattle.conf.specs.declared.fault.ConfFault.{ConfFault}
-use Rattle.conf.specs.declared.fault.ConfFault.TheVariants.{Memory, NotToml, UnknownKey, WrongType, OutOfRange, BadKeyText, BadComponents, Missing}
+use Rattle.conf.specs.declared.fault.ConfFault.TheVariants.{Memory, NotToml, UnknownKey, WrongType, OutOfRange, BadKeyText, BadComponents, BadScript, Missing}
+use Rattle.settings.specs.declared.gateway_conf.GatewayConf.{GatewayConf}
 use Rattle.settings.specs.declared.sign_conf.SignConf.{SignConf}
-use Rattle.conf.specs.declared.table.ValueRule.TheVariants as rule
-use Rattle.conf.specs.Sections.{HasSign}
+use Rattle.conf_keys.specs.declared.table.ValueRule.TheVariants as rule
+use Rattle.conf.specs.Sections.{HasGateway, HasSign}
 use Rattle.settings.specs.Configuration.{Configuration}
 use Rattle.conf.specs.Meaning.{Configures, HasKey, IsConfiguration, IsDocument}
-use Rattle.conf.specs.Refusals.{HasBadKeyText, IsBadKeyText, IsBadList, IsConfCause, IsCauseIn, IsConfFault, fault_number}
+use Rattle.conf.specs.Refusals.{HasBadKeyText, HasBadStep, IsBadKeyText, IsBadList, IsConfCause, IsCauseIn, IsConfFault, fault_number}
 use Rattle.conf.specs.Table.{members_in, row_value, rows}
 use Rattle.conf.specs.Paths.{HoldsOfNone}
-use Rattle.conf.proofs.JudgedLaws.{known_clear, typed_clear, allowed_clear, keys_clear, lists_clear, complete_clear}
+use Rattle.conf.proofs.JudgedLaws.{known_clear, typed_clear, allowed_clear, keys_clear, lists_clear, steps_clear, complete_clear}
 use Rattle.conf.proofs.LeastLaws.{least_once}
 use Rattle.conf.proofs.ListLaws.{not_bad}
-use Rattle.conf.proofs.RowFacts.{texts_fine, lists_fine_by}
+use Rattle.conf.proofs.RowFacts.{texts_fine, lists_fine_by, steps_fine}
+use Rattle.conf.proofs.StepLaws.{steps_not_bad}
 
 -- ---- one document
 
@@ -44,6 +46,8 @@ determined text (BadKeyText a) (BadKeyText b) e h k =
     ap (λ (path : List ℕ). BadKeyText path) (paths_once text (λ d path. IsCauseIn d (BadKeyText path)) (λ d path other one two. least_once _ path other one two) a b h k)
 determined text (BadComponents a) (BadComponents b) e h k =
     ap (λ (path : List ℕ). BadComponents path) (paths_once text (λ d path. IsCauseIn d (BadComponents path)) (λ d path other one two. least_once _ path other one two) a b h k)
+determined text (BadScript a) (BadScript b) e h k =
+    ap (λ (path : List ℕ). BadScript path) (paths_once text (λ d path. IsCauseIn d (BadScript path)) (λ d path other one two. least_once _ path other one two) a b h k)
 determined text (Missing a) (Missing b) e h k =
     ap (λ (path : List ℕ). Missing path) (paths_once text (λ d path. IsCauseIn d (Missing path)) (λ d path other one two. least_once _ path other one two) a b h k)
 determined text Memory other e h k = absurd h.2
@@ -74,6 +78,11 @@ response_fine (Some (table pairs)) (Some sign) says bad = not_bad (get_member (c
 response_fine (Some (table pairs)) None says bad = says
 response_fine value sign says bad = bad
 
+steps_fine_in : (value : Option Data) (gateway : Option GatewayConf) → HasGateway value gateway → HasBadStep rule.Steps (get_member (codes "steps") (members_in value)) → ⊥
+steps_fine_in (Some (table pairs)) (Some gateway) says bad = steps_not_bad (get_member (codes "steps") pairs) gateway.steps says.steps bad
+steps_fine_in (Some (table pairs)) None says bad = says
+steps_fine_in value gateway says bad = bad
+
 lists_read : (document : Members) (conf : Configuration) → IsConfiguration document conf → HoldsOfNone (λ row. IsBadList row.rule (row_value document row)) rows
 lists_read document conf is =
     lists_fine_by document (not_bad _ conf.policy.require_request is.policy.require_request) (not_bad _ conf.policy.require_response is.policy.require_response)
@@ -87,6 +96,8 @@ no_cause document conf is (BadKeyText path) h =
     keys_clear document (texts_fine document (bad_keys (get_member (codes "keys") document) (λ keyid. (map.get conf.keys keyid, is.keys keyid)))) (BadKeyText path) refl h
 no_cause document conf is (BadComponents path) h =
     lists_clear document (lists_read document conf is) (BadComponents path) refl h
+no_cause document conf is (BadScript path) h =
+    steps_clear document (steps_fine document (steps_fine_in (get_member (codes "gateway") document) conf.gateway is.gateway)) (BadScript path) refl h
 no_cause document conf is (Missing path) h = complete_clear document is.complete (Missing path) refl h
 no_cause document conf is Memory h = h
 no_cause document conf is NotToml h = h
@@ -100,6 +111,7 @@ no_fault text conf (document, is, says) (WrongType path) (other, also, h) = no_c
 no_fault text conf (document, is, says) (OutOfRange path) (other, also, h) = no_cause document conf says (OutOfRange path) (rw (one_document text document other is also) h)
 no_fault text conf (document, is, says) (BadKeyText path) (other, also, h) = no_cause document conf says (BadKeyText path) (rw (one_document text document other is also) h)
 no_fault text conf (document, is, says) (BadComponents path) (other, also, h) = no_cause document conf says (BadComponents path) (rw (one_document text document other is also) h)
+no_fault text conf (document, is, says) (BadScript path) (other, also, h) = no_cause document conf says (BadScript path) (rw (one_document text document other is also) h)
 no_fault text conf (document, is, says) (Missing path) (other, also, h) = no_cause document conf says (Missing path) (rw (one_document text document other is also) h)
 
 pub not_both : (text : List ℕ) (conf : Configuration) (fault : ConfFault) → Configures text conf → ¬ IsConfFault text fault

@@ -10,9 +10,10 @@ use Rattle.component_ids.specs.declared.scheme.Scheme.{Scheme}
 use Rattle.component_ids.specs.SignatureParams.{list_of}
 use Rattle.sfv_read.proofs.InRange.{inner_read_in_range}
 use Rattle.toml.specs.Data.{Data, Members, string, integer, table, as_str, get_member}
+use Rattle.settings.specs.declared.gateway_conf.GatewayConf.{GatewayConf}
 use Rattle.settings.specs.declared.sign_conf.SignConf.{SignConf}
-use Rattle.conf.specs.declared.table.TableName.TheVariants.{Sign}
-use Rattle.conf.specs.declared.table.ValueRule.TheVariants as rule
+use Rattle.conf_keys.specs.declared.table.TableName.TheVariants.{Sign}
+use Rattle.conf_keys.specs.declared.table.ValueRule.TheVariants as rule
 use Rattle.settings.specs.Keys.{KeyMap}
 use Rattle.conf.specs.Sections.{AreComponents, HasSign, IsSignConf, seconds_of}
 use Rattle.settings.specs.Configuration.{Configuration}
@@ -29,6 +30,7 @@ use Rattle.conf.specs.tools.SectionReads.{AreSections, value_of}
 use Rattle.settings.proofs.Covers.{in_range_of}
 use Rattle.settings.proofs.StandardLaws.{none_valid}
 use Rattle.conf.proofs.KeyTextLaws.{keys_of_document, key_is_there, valid_keyids, valid_keys}
+use Rattle.conf.proofs.GatewayLaws.{valid_gateway}
 use Rattle.conf.proofs.PolicyLaws.{valid_policy, valid_tag}
 use Rattle.conf.proofs.RowFacts.{passes, seconds_allowed, keyid_allowed, label_allowed, tag_allowed}
 
@@ -72,13 +74,18 @@ valid_signs document judged keys are (Some s) said request response sign there =
     rw (← same) (valid_sign document judged keys are s said (request s refl) (response s refl))
 
 pub is_valid : (document : Members) → IsJudged document → (scheme : Scheme) (keys : KeyMap) (types : KindMap) (sections : Sections) → AreKeys (keys_of_document document) keys
-    → AreSections document sections → IsValid (record { scheme = scheme; keys = keys; types = types; policy = sections.policy; sign = sections.sign })
+    → AreSections document sections → IsValid (record { scheme = scheme; keys = keys; types = types; policy = sections.policy; sign = sections.sign; gateway = None })
 is_valid document judged scheme keys types sections are say = record {
   keyids = valid_keyids document judged keys are;
   keys = valid_keys document keys are;
   policy = valid_policy document sections.policy judged say.policy say.require_request say.require_response;
   sign = valid_signs document judged keys are sections.sign say.sign say.request say.response;
+  gateway = λ gateway there. absurd cc;
 }
+
+-- a configuration with this gateway
+abbrev pub with_other : Configuration → GatewayConf → Configuration
+with_other conf gateway = record { scheme = conf.scheme; keys = conf.keys; types = conf.types; policy = conf.policy; sign = conf.sign; gateway = Some gateway }
 
 -- what a document says of a configuration it says of an equal one
 pub same_says : (document : Members) (conf other : Configuration) → conf ≡ other → IsConfiguration document other → IsConfiguration document conf
@@ -115,4 +122,5 @@ valid_where_read text conf configures =
       policy = valid_policy document conf.policy judged says.policy (valid_components _ conf.policy.require_request says.policy.require_request)
           (valid_components _ conf.policy.require_response says.policy.require_response);
       sign = valid_signs document judged conf.keys says.keys conf.sign says.sign signed.0 signed.1;
+      gateway = valid_gateway document conf.gateway judged says.gateway;
     }

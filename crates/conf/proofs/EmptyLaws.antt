@@ -59,6 +59,7 @@ standard_says = record {
     digest = refl;
   };
   sign = refl;
+  gateway = refl;
 }
 
 -- the configuration where nothing is said is that of the empty text

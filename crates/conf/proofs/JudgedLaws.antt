@@ -9,7 +9,7 @@ use Rattle.conf.specs.declared.judge.RowFault.TheVariants.{WrongType, OutOfRange
 use Rattle.conf.specs.Table.{Row, rows, places, place_path, row_value, has_unknown, is_missing}
 use Rattle.conf.specs.Paths.{HoldsOfNone}
 use Rattle.conf.specs.Rows.{is_ill_typed, is_out_of_range}
-use Rattle.conf.specs.Refusals.{IsCauseIn, IsLeastRow, HasBadKeyText, IsBadList, fault_number}
+use Rattle.conf.specs.Refusals.{IsCauseIn, IsLeastRow, HasBadKeyText, HasBadStep, IsBadList, fault_number}
 use Rattle.conf.specs.tools.Judged.{fault_of, is_refused, row_fault_number, IsCauseNumbered, IsClearBelow, IsFirstIn, IsJudged}
 use Rattle.conf.proofs.LeastLaws.{none_at}
 
@@ -63,15 +63,9 @@ pub lists_clear : (document : Members) → HoldsOfNone (λ row. IsBadList row.ru
 lists_clear document none (fault.BadComponents path) e h = none_of_rows (λ row. IsBadList row.rule (row_value document row)) path none h
 lists_clear document none other e h = absurd (omega arith)
 
-pub eight_clear : (document : Members) → IsClearAt 8 document
-eight_clear document fault.Memory e h = h
-eight_clear document fault.NotToml e h = h
-eight_clear document (fault.UnknownKey path) e h = absurd (omega (arith, e))
-eight_clear document (fault.WrongType path) e h = absurd (omega (arith, e))
-eight_clear document (fault.OutOfRange path) e h = absurd (omega (arith, e))
-eight_clear document (fault.BadKeyText path) e h = absurd (omega (arith, e))
-eight_clear document (fault.BadComponents path) e h = absurd (omega (arith, e))
-eight_clear document (fault.Missing path) e h = absurd (omega (arith, e))
+pub steps_clear : (document : Members) → HoldsOfNone (λ row. HasBadStep row.rule (row_value document row)) rows → IsClearAt 8 document
+steps_clear document none (fault.BadScript path) e h = none_of_rows (λ row. HasBadStep row.rule (row_value document row)) path none h
+steps_clear document none other e h = absurd (omega arith)
 
 pub complete_clear : (document : Members) → HoldsOfNone (λ row. IsTrue (is_missing document row)) rows → IsClearAt 9 document
 complete_clear document none (fault.Missing path) e h = none_of_rows (λ row. IsTrue (is_missing document row)) path none h
@@ -86,6 +80,7 @@ first_is n document (fault.WrongType path) below h = record { holds = h.1; none_
 first_is n document (fault.OutOfRange path) below h = record { holds = h.1; none_before = λ other lt. below other (omega (arith, lt, h.0)) }
 first_is n document (fault.BadKeyText path) below h = record { holds = h.1; none_before = λ other lt. below other (omega (arith, lt, h.0)) }
 first_is n document (fault.BadComponents path) below h = record { holds = h.1; none_before = λ other lt. below other (omega (arith, lt, h.0)) }
+first_is n document (fault.BadScript path) below h = record { holds = h.1; none_before = λ other lt. below other (omega (arith, lt, h.0)) }
 first_is n document (fault.Missing path) below h = record { holds = h.1; none_before = λ other lt. below other (omega (arith, lt, h.0)) }
 
 -- after what was judged so far, 4 and 5 are next, and then 6
@@ -99,6 +94,9 @@ below_allowed document known typed = clear_more 4 document (below_typed document
 pub below_keys : (document : Members) → IsJudged document → IsClearBelow 6 document
 below_keys document judged = clear_more 5 document (below_allowed document judged.known judged.typed) (allowed_clear document judged.allowed)
 
--- after the texts of keys the lists are next, and then, with nothing between, what is missing
-pub below_missing : (document : Members) → IsClearBelow 7 document → HoldsOfNone (λ row. IsBadList row.rule (row_value document row)) rows → IsClearBelow 9 document
-below_missing document below lists = clear_more 8 document (clear_more 7 document below (lists_clear document lists)) (eight_clear document)
+-- after the texts of keys the lists are next, then the steps, and then what is missing
+pub below_steps : (document : Members) → IsClearBelow 7 document → HoldsOfNone (λ row. IsBadList row.rule (row_value document row)) rows → IsClearBelow 8 document
+below_steps document below lists = clear_more 7 document below (lists_clear document lists)
+
+pub below_missing : (document : Members) → IsClearBelow 8 document → HoldsOfNone (λ row. HasBadStep row.rule (row_value document row)) rows → IsClearBelow 9 document
+below_missing document below steps = clear_more 8 document below (steps_clear document steps)

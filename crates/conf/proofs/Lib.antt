@@ -4,9 +4,11 @@ mod JudgedLaws
 mod KeyLaws
 mod AddedLaws
 mod ListLaws
+mod StepLaws
 mod RowFacts
 mod SectionLaws
 mod PolicyLaws
+mod GatewayLaws
 mod KeyTextLaws
 mod StandardNames
 mod TypeLaws

@@ -4,18 +4,20 @@ use Rattle.std.specs.FinMap as map
 use Rattle.std.proofs.lemmas.Cmp.{nat_list_cmp_total}
 use Rattle.component_ids.specs.Types.{KindMap}
 use Rattle.toml.specs.Data.{Data, Members, string, table, get_member}
-use Rattle.conf.specs.declared.table.TableName.TheVariants as place
+use Rattle.conf_keys.specs.declared.table.TableName.TheVariants as place
 use Rattle.conf.specs.Table.{members_at, members_in}
 use Rattle.conf.specs.Values.{IsKeyText}
+use Rattle.settings.specs.declared.gateway_conf.GatewayConf.{GatewayConf}
 use Rattle.settings.specs.declared.policy.Policy.{Policy}
 use Rattle.settings.specs.declared.sign_conf.SignConf.{SignConf}
-use Rattle.conf.specs.Sections.{HasSign, IsPolicy, IsSignConf}
+use Rattle.conf.specs.Sections.{HasGateway, HasSign, IsGatewayConf, IsPolicy, IsSignConf}
 use Rattle.settings.specs.Configuration.{Configuration}
 use Rattle.settings.specs.Keys.{KeyMap}
 use Rattle.conf.specs.Meaning.{AreKeys, AreTypes, Configures, HasKey, IsConfiguration}
 use Rattle.conf.proofs.CauseLaws.{one_document}
 use Rattle.conf.proofs.KeyLaws.{key_is}
 use Rattle.conf.proofs.ListLaws.{components_are}
+use Rattle.conf.proofs.StepLaws.{steps_are}
 
 -- ---- keys
 
@@ -96,6 +98,19 @@ signs_are (Some (table pairs)) None other first second = absurd first
 signs_are (Some (table pairs)) (Some sign) None first second = absurd second
 signs_are (Some value) sign other first second = absurd first
 
+one_gateway : (pairs : Members) (gateway other : GatewayConf) → IsGatewayConf pairs gateway → IsGatewayConf pairs other → gateway ≡ other
+one_gateway pairs gateway other a b =
+    let label : gateway.label ≡ other.label = a.label ∙ sym b.label in
+    let steps : gateway.steps ≡ other.steps = steps_are _ gateway.steps other.steps a.steps b.steps in
+    λ i. record { label = label i; steps = steps i }
+
+gateways_are : (value : Option Data) (gateway other : Option GatewayConf) → HasGateway value gateway → HasGateway value other → gateway ≡ other
+gateways_are None gateway other first second = first ∙ sym second
+gateways_are (Some (table pairs)) (Some gateway) (Some other) first second = ap (λ (g : GatewayConf). Some g) (one_gateway pairs gateway other first second)
+gateways_are (Some (table pairs)) None other first second = absurd first
+gateways_are (Some (table pairs)) (Some gateway) None first second = absurd second
+gateways_are (Some value) gateway other first second = absurd first
+
 -- ---- the configuration
 
 one_configuration : (document : Members) (conf other : Configuration) → IsConfiguration document conf → IsConfiguration document other → conf ≡ other
@@ -105,7 +120,8 @@ one_configuration document conf other a b =
     let types : conf.types ≡ other.types = types_are (members_in (get_member (codes "types") document)) conf.types other.types a.types b.types in
     let policy : conf.policy ≡ other.policy = one_policy (members_at document place.Policy) conf.policy other.policy a.policy b.policy in
     let sign : conf.sign ≡ other.sign = signs_are (get_member (codes "sign") document) conf.sign other.sign a.sign b.sign in
-    λ i. record { scheme = scheme i; keys = keys i; types = types i; policy = policy i; sign = sign i }
+    let gateway : conf.gateway ≡ other.gateway = gateways_are (get_member (codes "gateway") document) conf.gateway other.gateway a.gateway b.gateway in
+    λ i. record { scheme = scheme i; keys = keys i; types = types i; policy = policy i; sign = sign i; gateway = gateway i }
 
 pub one_meaning : (text : List ℕ) (conf other : Configuration) → Configures text conf → Configures text other → conf ≡ other
 one_meaning text conf other (document, is, says) (also, is_also, says_also) =

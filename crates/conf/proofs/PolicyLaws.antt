@@ -9,9 +9,9 @@ use Rattle.toml.specs.Data.{Data, Members, string, integer, as_str}
 use Rattle.nonces.specs.declared.limits.TheConstants.{MAX_WINDOW}
 use Rattle.nonces.specs.declared.limits.TheConstants.{MAX_ENTRIES}
 use Rattle.settings.specs.declared.limits.TheConstants.{DEFAULT_MAX_AGE, DEFAULT_SKEW, MAX_AGE, MAX_SKEW}
-use Rattle.conf.specs.declared.table.TableName.TheVariants as place
-use Rattle.conf.specs.declared.table.ValueRule.{ValueRule}
-use Rattle.conf.specs.declared.table.ValueRule.TheVariants as rule
+use Rattle.conf_keys.specs.declared.table.TableName.TheVariants as place
+use Rattle.conf_keys.specs.declared.table.ValueRule.{ValueRule}
+use Rattle.conf_keys.specs.declared.table.ValueRule.TheVariants as rule
 use Rattle.conf.specs.Rows.{fails}
 use Rattle.conf.specs.Table.{members_at}
 use Rattle.conf.specs.Values.{is_allowed, is_within, number_or, window}

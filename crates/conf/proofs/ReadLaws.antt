@@ -4,7 +4,7 @@ use Rattle.byte_grammar.specs.Causes.{AnswersWhere, IsFirst}
 use Rattle.toml.specs.Data.{Members}
 use Rattle.settings.specs.declared.conf.Conf.{Conf}
 use Rattle.conf.specs.declared.fault.ConfFault.{ConfFault}
-use Rattle.conf.specs.declared.fault.ConfFault.TheVariants.{Memory, NotToml, UnknownKey, WrongType, OutOfRange, BadKeyText, BadComponents, Missing}
+use Rattle.conf.specs.declared.fault.ConfFault.TheVariants.{Memory, NotToml, UnknownKey, WrongType, OutOfRange, BadKeyText, BadComponents, BadScript, Missing}
 use Rattle.settings.specs.ConfMeaning.{meaning}
 use Rattle.settings.specs.Configuration.{Configuration}
 use Rattle.conf.specs.Meaning.{Configures, IsConfiguration, IsDocument}
@@ -24,6 +24,7 @@ before text document fault (WrongType path) is first lt (also, is_also, h) = fir
 before text document fault (OutOfRange path) is first lt (also, is_also, h) = first.none_before (OutOfRange path) lt (rw (one_document text document also is is_also) h)
 before text document fault (BadKeyText path) is first lt (also, is_also, h) = first.none_before (BadKeyText path) lt (rw (one_document text document also is is_also) h)
 before text document fault (BadComponents path) is first lt (also, is_also, h) = first.none_before (BadComponents path) lt (rw (one_document text document also is is_also) h)
+before text document fault (BadScript path) is first lt (also, is_also, h) = first.none_before (BadScript path) lt (rw (one_document text document also is is_also) h)
 before text document fault (Missing path) is first lt (also, is_also, h) = first.none_before (Missing path) lt (rw (one_document text document also is is_also) h)
 
 pub first_of : (text : List ℕ) (document : Members) (fault : ConfFault) → IsDocument text document → IsFirstIn document fault → (fault ≡ Memory) ⊎ IsConfFault text fault
@@ -34,6 +35,7 @@ first_of text document (WrongType path) is h = inr (record { holds = (document, 
 first_of text document (OutOfRange path) is h = inr (record { holds = (document, is, h.holds); none_before = λ other. before text document (OutOfRange path) other is h })
 first_of text document (BadKeyText path) is h = inr (record { holds = (document, is, h.holds); none_before = λ other. before text document (BadKeyText path) other is h })
 first_of text document (BadComponents path) is h = inr (record { holds = (document, is, h.holds); none_before = λ other. before text document (BadComponents path) other is h })
+first_of text document (BadScript path) is h = inr (record { holds = (document, is, h.holds); none_before = λ other. before text document (BadScript path) other is h })
 first_of text document (Missing path) is h = inr (record { holds = (document, is, h.holds); none_before = λ other. before text document (Missing path) other is h })
 
 nothing_before : (text : List ℕ) (other : ConfFault) → fault_number other < 2 → ¬ IsConfCause text other

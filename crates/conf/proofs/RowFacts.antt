@@ -5,16 +5,16 @@ use Rattle.std.specs.List.{filter, find}
 use Rattle.std.specs.Str.{bytes_eq}
 use Rattle.std.proofs.lemmas.Bool.{cases_Bool, false≢true}
 use Rattle.toml.specs.Data.{Data, Members, get_member}
-use Rattle.conf.specs.declared.table.TableName.{TableName}
-use Rattle.conf.specs.declared.table.TableName.TheVariants.{Policy, Sign}
-use Rattle.conf.specs.declared.table.ValueRule.{ValueRule}
-use Rattle.conf.specs.declared.table.ValueRule.TheVariants as rule
+use Rattle.conf_keys.specs.declared.table.TableName.{TableName}
+use Rattle.conf_keys.specs.declared.table.TableName.TheVariants.{Gateway, Policy, Sign}
+use Rattle.conf_keys.specs.declared.table.ValueRule.{ValueRule}
+use Rattle.conf_keys.specs.declared.table.ValueRule.TheVariants as rule
 use Rattle.conf.specs.Rows.{fails, is_ill_typed, is_out_of_range}
-use Rattle.conf.specs.Table.{Row, rows, at_policy, at_sign, at_top, row_value, has_place, is_missing}
+use Rattle.conf.specs.Table.{Row, rows, at_gateway, at_policy, at_sign, at_top, row_value, has_place, is_missing}
 use Rattle.conf.specs.Values.{clashes, has_type, is_allowed}
 use Rattle.conf.specs.declared.lists.Lists.{Lists}
 use Rattle.conf.specs.Paths.{HoldsOfNone}
-use Rattle.conf.specs.Refusals.{HasBadKeyText, IsBadList, IsLeastRow}
+use Rattle.conf.specs.Refusals.{HasBadKeyText, HasBadStep, IsBadList, IsLeastRow}
 use Rattle.conf.specs.tools.Judged.{IsJudged}
 use Rattle.conf.specs.tools.SectionReads.{AreLists, value_of}
 use Rattle.conf.proofs.LeastLaws.{least_at}
@@ -88,6 +88,14 @@ pub types_typed : (document : Members) → IsJudged document → (IsTrue (fails 
 unfolding rows
 types_typed document judged = none_of_path (λ (row : Row). IsTrue (is_ill_typed document row)) (codes "types") _ refl judged.typed
 
+pub gateway_typed : (document : Members) → IsJudged document → (IsTrue (fails (has_type rule.Table) (get_member (codes "gateway") document)) → ⊥)
+unfolding rows
+gateway_typed document judged = none_of_path (λ (row : Row). IsTrue (is_ill_typed document row)) (codes "gateway") _ refl judged.typed
+
+pub steps_typed : (document : Members) → IsJudged document → (IsTrue (fails (has_type rule.Steps) (value_of document Gateway (codes "steps"))) → ⊥)
+unfolding rows
+steps_typed document judged = none_of_path (λ (row : Row). IsTrue (is_ill_typed document row)) (codes "gateway.steps") _ refl judged.typed
+
 -- ---- ranges
 
 pub keys_allowed : (document : Members) → IsJudged document → (IsTrue (fails (is_allowed document rule.Keys) (get_member (codes "keys") document)) → ⊥)
@@ -144,6 +152,14 @@ pub types_allowed : (document : Members) → IsJudged document → (IsTrue (fail
 unfolding rows
 types_allowed document judged = none_of_path (λ (row : Row). IsTrue (is_out_of_range document row)) (codes "types") _ refl judged.allowed
 
+pub gateway_label_allowed : (document : Members) → IsJudged document → (IsTrue (fails (is_allowed document rule.Label) (value_of document Gateway (codes "label"))) → ⊥)
+unfolding rows
+gateway_label_allowed document judged = none_of_path (λ (row : Row). IsTrue (is_out_of_range document row)) (codes "gateway.label") _ refl judged.allowed
+
+pub steps_allowed : (document : Members) → IsJudged document → (IsTrue (fails (is_allowed document rule.Steps) (value_of document Gateway (codes "steps"))) → ⊥)
+unfolding rows
+steps_allowed document judged = none_of_path (λ (row : Row). IsTrue (is_out_of_range document row)) (codes "gateway.steps") _ refl judged.allowed
+
 -- ---- keys that are there
 
 there : (has : Bool) (value : Option Data) → has ≡ true → (IsTrue (has && is_none value) → ⊥) → is_some value ≡ true
@@ -176,7 +192,8 @@ texts_fine document fine =
 pub keys_least : (document : Members) → HasBadKeyText rule.Keys (get_member (codes "keys") document) → IsLeastRow (λ row. HasBadKeyText row.rule (row_value document row)) (codes "keys")
 unfolding rows
 keys_least document bad =
-    least_at (λ (row : Row). row.path) (λ (row : Row). HasBadKeyText row.rule (row_value document row)) [] (at_top (codes "keys") rule.Keys) (drop 1 rows) rows_ascend tt bad
+    least_at (λ (row : Row). row.path) (λ (row : Row). HasBadKeyText row.rule (row_value document row)) (take 3 rows) (at_top (codes "keys") rule.Keys) (drop 4 rows) rows_ascend
+    (none_but (λ (row : Row). HasBadKeyText row.rule (row_value document row)) (λ (row : Row). is_keys row.rule) (take 3 rows) (λ row bad. only_keys row.rule (row_value document row) bad) tt) bad
 
 -- ---- lists
 
@@ -217,23 +234,44 @@ lists_fine document lists are =
 pub require_request_least : (document : Members) → IsBad document Policy (codes "require-request") → IsLeastRow (λ row. IsBadList row.rule (row_value document row)) (codes "policy.require-request")
 unfolding rows
 require_request_least document bad =
-    bad_is_least document (take 7 rows) (at_policy (codes "policy.require-request") (codes "require-request") rule.Components) (drop 8 rows) refl tt bad
+    bad_is_least document (take 10 rows) (at_policy (codes "policy.require-request") (codes "require-request") rule.Components) (drop 11 rows) refl tt bad
 
 pub require_response_least : (document : Members) → (IsBad document Policy (codes "require-request") → ⊥) → IsBad document Policy (codes "require-response")
     → IsLeastRow (λ row. IsBadList row.rule (row_value document row)) (codes "policy.require-response")
 unfolding rows
 require_response_least document first bad =
-    bad_is_least document (take 8 rows) (at_policy (codes "policy.require-response") (codes "require-response") rule.Components) (drop 9 rows) refl (first, tt) bad
+    bad_is_least document (take 11 rows) (at_policy (codes "policy.require-response") (codes "require-response") rule.Components) (drop 12 rows) refl (first, tt) bad
 
 pub request_least : (document : Members) → (IsBad document Policy (codes "require-request") → ⊥) → (IsBad document Policy (codes "require-response") → ⊥)
     → IsBad document Sign (codes "components-request") → IsLeastRow (λ row. IsBadList row.rule (row_value document row)) (codes "sign.components-request")
 unfolding rows
 request_least document first second bad =
-    bad_is_least document (take 14 rows) (at_sign (codes "sign.components-request") (codes "components-request") rule.Components) (drop 15 rows) refl (first, (second, tt)) bad
+    bad_is_least document (take 17 rows) (at_sign (codes "sign.components-request") (codes "components-request") rule.Components) (drop 18 rows) refl (first, (second, tt)) bad
 
 pub response_least : (document : Members) → (IsBad document Policy (codes "require-request") → ⊥) → (IsBad document Policy (codes "require-response") → ⊥)
     → (IsBad document Sign (codes "components-request") → ⊥) → IsBad document Sign (codes "components-response")
     → IsLeastRow (λ row. IsBadList row.rule (row_value document row)) (codes "sign.components-response")
 unfolding rows
 response_least document first second third bad =
-    bad_is_least document (take 15 rows) (at_sign (codes "sign.components-response") (codes "components-response") rule.Components) (drop 16 rows) refl (first, (second, (third, tt))) bad
+    bad_is_least document (take 18 rows) (at_sign (codes "sign.components-response") (codes "components-response") rule.Components) (drop 19 rows) refl (first, (second, (third, tt))) bad
+
+-- ---- steps
+
+abbrev is_steps : ValueRule → Bool
+is_steps rule.Steps = true
+is_steps other = false
+
+only_steps : (r : ValueRule) (value : Option Data) → HasBadStep r value → is_steps r ≡ true
+only_steps rule.Steps value bad = refl
+only_steps r value bad = absurd bad
+
+pub steps_fine : (document : Members) → (HasBadStep rule.Steps (value_of document Gateway (codes "steps")) → ⊥) → HoldsOfNone (λ row. HasBadStep row.rule (row_value document row)) rows
+unfolding rows
+steps_fine document fine =
+    none_but (λ (row : Row). HasBadStep row.rule (row_value document row)) (λ (row : Row). is_steps row.rule) rows (λ row bad. only_steps row.rule (row_value document row) bad) (fine, tt)
+
+pub steps_least : (document : Members) → HasBadStep rule.Steps (value_of document Gateway (codes "steps")) → IsLeastRow (λ row. HasBadStep row.rule (row_value document row)) (codes "gateway.steps")
+unfolding rows
+steps_least document bad =
+    least_at (λ (row : Row). row.path) (λ (row : Row). HasBadStep row.rule (row_value document row)) (take 2 rows) (at_gateway (codes "gateway.steps") (codes "steps") rule.Steps) (drop 3 rows) rows_ascend
+    (none_but (λ (row : Row). HasBadStep row.rule (row_value document row)) (λ (row : Row). is_steps row.rule) (take 2 rows) (λ row bad. only_steps row.rule (row_value document row) bad) tt) bad

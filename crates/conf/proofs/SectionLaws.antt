@@ -3,19 +3,20 @@ use Rattle.std.proofs.Common.{◌≡◌, ◌⊎◌, ℕ, true, List, Option, Som
 use Rattle.std.specs.Prelude.{option_and_then, is_some}
 use Rattle.std.proofs.lemmas.Bool.{false≢true}
 use Rattle.toml.specs.Data.{Data, Members, no_members, string, table, as_str, get_member}
-use Rattle.conf.specs.declared.table.TableName.TheVariants as place
-use Rattle.conf.specs.declared.table.ValueRule.TheVariants as rule
+use Rattle.conf_keys.specs.declared.table.TableName.TheVariants as place
+use Rattle.conf_keys.specs.declared.table.ValueRule.TheVariants as rule
 use Rattle.conf.specs.Rows.{fails}
 use Rattle.conf.specs.Table.{rows, has_place, is_missing, members_at, row_value}
 use Rattle.conf.specs.Values.{has_type}
+use Rattle.settings.specs.declared.gateway_conf.GatewayConf.{GatewayConf}
 use Rattle.settings.specs.declared.policy.Policy.{Policy}
 use Rattle.settings.specs.declared.sign_conf.SignConf.{SignConf}
-use Rattle.conf.specs.Sections.{HasSign, IsPolicy, IsSignConf, LacksName}
+use Rattle.conf.specs.Sections.{HasGateway, HasSign, IsPolicy, IsSignConf, LacksName}
 use Rattle.conf.specs.declared.fault.ConfFault.{ConfFault}
 use Rattle.conf.specs.declared.fault.ConfFault.TheVariants as fault
 use Rattle.conf.specs.declared.lists.Lists.{Lists}
 use Rattle.conf.specs.Paths.{HoldsOfNone}
-use Rattle.conf.specs.Refusals.{IsBadList, IsLeastRow}
+use Rattle.conf.specs.Refusals.{HasBadStep, IsBadList, IsLeastRow}
 use Rattle.conf.specs.tools.Judged.{IsCauseNumbered, IsJudged}
 use Rattle.conf.specs.tools.SectionReads.{AreLists, AreSections, IsListFault, value_of}
 use Rattle.conf.proofs.ListLaws.{valid_as_told}
@@ -75,13 +76,15 @@ sign_is : (pairs : Members) (o : Option SignConf) (sign : SignConf) → o ≡ So
 sign_is pairs None sign there read = absurd cc
 sign_is pairs (Some s) sign there read = let same : s ≡ sign = cc in rw (← same) read
 
--- ---- both tables
+-- ---- all tables
 
-pub tables_say : (document : Members) (lists : Lists) (policy : Policy) (sign : Option SignConf) → IsJudged document → HoldsOfNone (λ row. IsTrue (is_missing document row)) rows
-    → AreLists document lists → IsPolicy (members_at document place.Policy) policy
-    → MatchOption sign (LacksName (members_at document place.Sign)) (IsSignConf (members_at document place.Sign)) → AreSections document (record { policy = policy; sign = sign })
-tables_say document lists policy sign judged complete are says read = record {
+pub tables_say : (document : Members) (lists : Lists) (policy : Policy) (sign : Option SignConf) (gateway : Option GatewayConf) → IsJudged document
+    → HoldsOfNone (λ row. IsTrue (is_missing document row)) rows → AreLists document lists → HoldsOfNone (λ row. HasBadStep row.rule (row_value document row)) rows
+    → IsPolicy (members_at document place.Policy) policy → MatchOption sign (LacksName (members_at document place.Sign)) (IsSignConf (members_at document place.Sign))
+    → HasGateway (get_member (codes "gateway") document) gateway → AreSections document (record { policy = policy; sign = sign; gateway = gateway })
+tables_say document lists policy sign gateway judged complete are steps says read has = record {
   lists = lists_fine document lists are;
+  steps = steps;
   complete = complete;
   policy = says;
   require_request = valid_as_told (value_of document place.Policy (codes "require-request")) lists.require_request policy.require_request (require_request_typed document judged)
@@ -93,4 +96,5 @@ tables_say document lists policy sign judged complete are says read = record {
       are.components_request (sign_is (members_at document place.Sign) sign s there read).components_request;
   response = λ s there. valid_as_told (value_of document place.Sign (codes "components-response")) lists.components_response s.components_response (response_typed document judged)
       are.components_response (sign_is (members_at document place.Sign) sign s there read).components_response;
+  gateway = has;
 }

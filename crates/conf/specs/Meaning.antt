@@ -7,12 +7,12 @@ use Rattle.component_ids.specs.Types.{KindMap, kind_in, standard_types}
 use Rattle.component_ids.specs.declared.types.FieldKind.{FieldKind}
 use Rattle.component_ids.specs.declared.scheme.Scheme.{Scheme}
 use Rattle.component_ids.specs.declared.scheme.Scheme.TheVariants.{Https}
-use Rattle.conf.specs.declared.table.TableName.TheVariants.{Policy}
+use Rattle.conf_keys.specs.declared.table.TableName.TheVariants.{Policy}
 use Rattle.conf.specs.Table.{rows, places, members_at, members_in, has_unknown, is_missing}
 use Rattle.settings.specs.Words.{kind_of_word, scheme_of_word}
 use Rattle.conf.specs.Values.{IsKeyText}
 use Rattle.conf.specs.Rows.{is_ill_typed, is_out_of_range}
-use Rattle.conf.specs.Sections.{HasSign, IsPolicy}
+use Rattle.conf.specs.Sections.{HasGateway, HasSign, IsPolicy}
 use Rattle.settings.specs.Configuration.{Configuration}
 use Rattle.settings.specs.Keys.{KeyMap}
 use Rattle.conf.specs.Paths.{HoldsOfNone}
@@ -63,6 +63,7 @@ pub record IsConfiguration (document : Members) (conf : Configuration) : Type 0 
   pub types : AreTypes (members_in (get_member (codes "types") document)) conf.types
   pub policy : IsPolicy (members_at document Policy) conf.policy
   pub sign : HasSign (get_member (codes "sign") document) conf.sign
+  pub gateway : HasGateway (get_member (codes "gateway") document) conf.gateway
 
 -- the text is that of a document that is this configuration
 abbrev pub Configures : List ℕ → Configuration → Type 0

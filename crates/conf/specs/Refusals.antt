@@ -1,18 +1,19 @@
 -- When a text is no configuration, and for what fault.
 use Rattle.std.specs.Prelude.{ℕ, Option, Some, None, IsTrue, List, ◌∷◌, ◌++◌, codes}
+use Rattle.std.specs.List.{Any}
 use Rattle.std.specs.Fmt.{decimal}
 use Rattle.std.specs.Str.{byte}
 use Rattle.byte_grammar.specs.Causes.{IsFirst}
 use Rattle.byte_grammar.specs.Displayed.{displayed}
 use Rattle.component_ids.specs.declared.id.ComponentId.{ComponentId}
-use Rattle.toml.specs.Data.{Data, Members, string, table, get_member}
+use Rattle.toml.specs.Data.{Data, Members, string, array, table, get_member}
 use Rattle.conf.specs.declared.fault.ConfFault.{ConfFault}
-use Rattle.conf.specs.declared.fault.ConfFault.TheVariants.{Memory, NotToml, UnknownKey, WrongType, OutOfRange, BadKeyText, BadComponents, Missing}
-use Rattle.conf.specs.declared.table.ValueRule.{ValueRule}
-use Rattle.conf.specs.declared.table.ValueRule.TheVariants.{Keys, Components}
+use Rattle.conf.specs.declared.fault.ConfFault.TheVariants.{Memory, NotToml, UnknownKey, WrongType, OutOfRange, BadKeyText, BadComponents, BadScript, Missing}
+use Rattle.conf_keys.specs.declared.table.ValueRule.{ValueRule}
+use Rattle.conf_keys.specs.declared.table.ValueRule.TheVariants.{Keys, Components, Steps}
 use Rattle.conf.specs.Table.{Row, rows, places, place_path, row_value, has_unknown, is_missing}
 use Rattle.settings.specs.Covered.{IsCoveredList}
-use Rattle.conf.specs.Values.{IsKeyText}
+use Rattle.conf.specs.Values.{IsBadStep, IsKeyText, values_of}
 use Rattle.conf.specs.Paths.{HoldsAtPath, IsLeast}
 use Rattle.conf.specs.Rows.{is_ill_typed, is_out_of_range}
 use Rattle.conf.specs.Meaning.{IsDocument}
@@ -37,6 +38,11 @@ abbrev pub IsBadList : ValueRule → Option Data → Type 0
 IsBadList Components (Some (string text)) = (ids : List ComponentId) → ¬ IsCoveredList text ids
 IsBadList rule value = ⊥
 
+-- one of the strings is the line of no step
+abbrev pub HasBadStep : ValueRule → Option Data → Type 0
+HasBadStep Steps (Some (array items)) = Any IsBadStep (values_of items)
+HasBadStep rule value = ⊥
+
 -- the fact for which the fault is answered, of a document
 abbrev pub IsCauseIn : Members → ConfFault → Type 0
 IsCauseIn document (UnknownKey path) =
@@ -48,6 +54,8 @@ IsCauseIn document (BadKeyText path) =
     IsLeastRow (λ row. HasBadKeyText row.rule (row_value document row)) path
 IsCauseIn document (BadComponents path) =
     IsLeastRow (λ row. IsBadList row.rule (row_value document row)) path
+IsCauseIn document (BadScript path) =
+    IsLeastRow (λ row. HasBadStep row.rule (row_value document row)) path
 IsCauseIn document (Missing path) = IsLeastRow (λ row. IsTrue (is_missing document row)) path
 IsCauseIn document fault = ⊥
 
@@ -65,6 +73,7 @@ fault_number (WrongType path) = 4
 fault_number (OutOfRange path) = 5
 fault_number (BadKeyText path) = 6
 fault_number (BadComponents path) = 7
+fault_number (BadScript path) = 8
 fault_number (Missing path) = 9
 
 -- the fault's cause is the first that holds
@@ -80,6 +89,7 @@ fault_path (WrongType path) = Some path
 fault_path (OutOfRange path) = Some path
 fault_path (BadKeyText path) = Some path
 fault_path (BadComponents path) = Some path
+fault_path (BadScript path) = Some path
 fault_path (Missing path) = Some path
 
 -- a number, and a path after a space

@@ -1,12 +1,15 @@
 -- What the tables of a configuration say.
 use Rattle.std.specs.Prelude.{◌≡◌, ◌⊎◌, ℕ, pos, Bool, false, Option, Some, None, IsSomeAnd, option_and_then, unwrap_or, List, [], codes}
-use Rattle.toml.specs.Data.{Data, Members, string, integer, table, as_str, as_bool, get_member}
+use Rattle.std.specs.List.{AllZip}
+use Rattle.toml.specs.Data.{Data, Members, string, integer, array, table, as_str, as_bool, get_member}
 use Rattle.component_ids.specs.declared.id.ComponentId.{ComponentId}
 use Rattle.nonces.specs.declared.limits.TheConstants.{MAX_ENTRIES}
 use Rattle.settings.specs.declared.limits.TheConstants.{DEFAULT_MAX_AGE, DEFAULT_SKEW}
 use Rattle.settings.specs.Covered.{IsCoveredList}
 use Rattle.settings.specs.Words.{digest_use_of_word, expires_of_word, nonce_use_of_word, sign_digest_of_word}
-use Rattle.conf.specs.Values.{number_or}
+use Rattle.rewrite_script.specs.declared.rewrite.Rewrite.{Rewrite}
+use Rattle.conf.specs.Values.{IsStepText, number_or, values_of}
+use Rattle.settings.specs.declared.gateway_conf.GatewayConf.{GatewayConf}
 use Rattle.settings.specs.declared.policy.Policy.{Policy}
 use Rattle.settings.specs.declared.policy.NonceUse.{NonceUse}
 use Rattle.settings.specs.declared.policy.NonceUse.TheVariants as nonce
@@ -83,6 +86,23 @@ abbrev pub HasSign : Option Data → Option SignConf → Type 0
 HasSign None sign = sign ≡ None
 HasSign (Some (table pairs)) sign = IsSomeAnd sign (IsSignConf pairs)
 HasSign (Some value) sign = ⊥
+
+-- the values are the lines of the steps, in order; none where nothing is said
+abbrev pub AreSteps : Option Data → List Rewrite → Type 0
+AreSteps None steps = steps ≡ []
+AreSteps (Some (array items)) steps = AllZip IsStepText (values_of items) steps
+AreSteps (Some value) steps = ⊥
+
+-- what the table `gateway` says
+pub record IsGatewayConf (pairs : Members) (gateway : GatewayConf) : Type 0 where
+  pub label : gateway.label ≡ option_and_then as_str (get_member (codes "label") pairs)
+  pub steps : AreSteps (get_member (codes "steps") pairs) gateway.steps
+
+-- what the table `gateway` says, or nothing where there is none
+abbrev pub HasGateway : Option Data → Option GatewayConf → Type 0
+HasGateway None gateway = gateway ≡ None
+HasGateway (Some (table pairs)) gateway = IsSomeAnd gateway (IsGatewayConf pairs)
+HasGateway (Some value) gateway = ⊥
 
 -- the table `sign` has no text for its label, or none for its keyid
 abbrev pub LacksName : Members → Type 0

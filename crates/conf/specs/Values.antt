@@ -1,18 +1,21 @@
 -- The values that the keys of a configuration take.
-use Rattle.std.specs.Prelude.{◌≡◌, ◌+◌, ◌*◌, ℕ, ℤ, pos, negsuc, Bool, true, false, ◌&&◌, nat_le, nat_lt, Option, Some, is_some, List, codes, if◌then◌else◌}
+use Rattle.std.specs.Prelude.{◌≡◌, ◌+◌, ◌*◌, ℕ, ℤ, pos, negsuc, Bool, true, false, ◌&&◌, nat_le, nat_lt, Option, Some, is_some, IsSomeAnd, List, [], ◌∷◌, length, codes, if◌then◌else◌}
 use Rattle.std.specs.List.{list_all}
 use Rattle.std.specs.Str.{bytes_eq}
 use Rattle.base64.specs.Engines.{standard}
 use Rattle.base64.specs.GeneralPurpose.{encode_of, IsBytes}
-use Rattle.toml.specs.Data.{Data, Members, string, integer, table, as_str, as_integer, as_bool, as_table, get_member}
+use Rattle.toml.specs.Data.{Data, Items, Members, no_items, item, string, integer, array, table, as_str, as_integer, as_bool, as_table, get_member}
 use Rattle.sfv_text.specs.Range.{is_string_byte, is_key}
 use Rattle.component_ids.specs.Table.{is_field_name}
 use Rattle.component_ids.specs.Types.{kind_in, standard_types}
 use Rattle.nonces.specs.declared.limits.TheConstants.{MAX_ENTRIES, MAX_WINDOW}
+use Rattle.rewrite_script.specs.Lines.{IsNoLine, SpellsLine}
+use Rattle.rewrite_script.specs.declared.limits.TheConstants.{MAX_SCRIPT_LINES}
+use Rattle.rewrite_script.specs.declared.rewrite.Rewrite.{Rewrite}
 use Rattle.settings.specs.declared.limits.TheConstants.{MAX_EXPIRES_AFTER, MAX_AGE, MAX_SKEW, DEFAULT_MAX_AGE, DEFAULT_SKEW}
-use Rattle.conf.specs.declared.table.ValueRule.{ValueRule}
-use Rattle.conf.specs.declared.table.ValueRule.TheVariants.{Version, Scheme, Keys, Types, Table, Label, Keyid, Seconds, Flag, Tag, Digest, MaxAge, Skew, Nonces, Expires, NonceUse, DigestUse}
-use Rattle.conf.specs.declared.table.TableName.TheVariants.{Policy}
+use Rattle.conf_keys.specs.declared.table.ValueRule.{ValueRule}
+use Rattle.conf_keys.specs.declared.table.ValueRule.TheVariants.{Version, Scheme, Keys, Types, Table, Label, Keyid, Seconds, Flag, Tag, Digest, MaxAge, Skew, Nonces, Expires, NonceUse, DigestUse, Steps}
+use Rattle.conf_keys.specs.declared.table.TableName.TheVariants.{Policy}
 use Rattle.settings.specs.Keys.{IsHmacKey, is_keyid}
 use Rattle.settings.specs.Words.{digest_use_of_word, expires_of_word, kind_of_word, nonce_use_of_word, scheme_of_word, sign_digest_of_word}
 use Rattle.conf.specs.Table.{members_in, members_at, entries_of}
@@ -25,6 +28,20 @@ are_strings (table pairs) =
     list_all (λ entry. is_some (as_str entry.1)) (entries_of pairs)
 are_strings value = false
 
+-- the values of an array, in order
+abbrev pub values_of : Items → List Data
+values_of no_items = []
+values_of (item value items) = value ∷ values_of items
+
+-- each value of the array is a string
+abbrev pub are_texts : Items → Bool
+are_texts items = list_all (λ value. is_some (as_str value)) (values_of items)
+
+-- the value is an array of strings
+abbrev pub is_text_array : Data → Bool
+is_text_array (array items) = are_texts items
+is_text_array value = false
+
 -- the value has the type that the rule asks for; what isn't named here is a string
 abbrev pub has_type : ValueRule → Data → Bool
 has_type Version value = is_some (as_integer value)
@@ -36,6 +53,7 @@ has_type Flag value = is_some (as_bool value)
 has_type Table value = is_some (as_table value)
 has_type Keys value = are_strings value
 has_type Types value = are_strings value
+has_type Steps value = is_text_array value
 has_type rule value = is_some (as_str value)
 
 -- ---- ranges
@@ -86,12 +104,18 @@ is_table_allowed Keys pairs = list_all (λ entry. is_keyid entry.0) (entries_of 
 is_table_allowed Types pairs = list_all (λ entry. is_type entry.0 entry.1) (entries_of pairs)
 is_table_allowed rule pairs = true
 
+-- an array that the rule allows: so many steps as a script may have
+abbrev pub is_array_allowed : ValueRule → Items → Bool
+is_array_allowed Steps items = nat_le (length (values_of items)) MAX_SCRIPT_LINES
+is_array_allowed rule items = true
+
 -- the value is one that the rule allows in this document; of a value of another type nothing is
 -- asked here
 abbrev pub is_allowed : Members → ValueRule → Data → Bool
 is_allowed document rule (string text) = is_text_allowed document rule text
 is_allowed document rule (integer z) = is_integer_allowed rule z
 is_allowed document rule (table pairs) = is_table_allowed rule pairs
+is_allowed document rule (array items) = is_array_allowed rule items
 is_allowed document rule value = true
 
 -- ---- values that don't go together
@@ -120,3 +144,11 @@ pub record IsKeyText (text key : List ℕ) : Type 0 where
   pub bytes : IsBytes key
   pub spelled : text ≡ encode_of standard key
   pub is_key : IsHmacKey key
+
+-- the value is a string, the line of the step
+abbrev pub IsStepText : Data → Rewrite → Type 0
+IsStepText value step = IsSomeAnd (as_str value) (λ line. SpellsLine line step)
+
+-- the value is a string, and the line of no step
+abbrev pub IsBadStep : Data → Type 0
+IsBadStep value = IsSomeAnd (as_str value) IsNoLine

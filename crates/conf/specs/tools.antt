@@ -1,7 +1,7 @@
 pub mod Judged
-pub mod TableRows
 pub mod Views
 pub mod Added
+pub mod GatewayReads
 pub mod KeyFaults
 pub mod SectionReads
 pub mod Explained

@@ -4,25 +4,27 @@ ghost use Rattle.std.specs.Prelude.{◌≡◌, is_some, codes, nat_lt, if◌then
 ghost use Rattle.std.specs.List.{list_all};
 ghost use Rattle.std.specs.Str.{bytes_eq};
 ghost use Rattle.toml.specs.Data.{as_str, get_member};
-ghost use Rattle.toml.specs.View.{table_view, view};
+ghost use Rattle.toml.specs.View.{array_view, table_view, view};
 ghost use Rattle.nonces.specs.declared.limits.TheConstants.{MAX_WINDOW};
 ghost use Rattle.settings.specs.Keys.{is_keyid};
 ghost use Rattle.settings.specs.Words.{kind_of_word};
-ghost use Rattle.conf.specs.declared.table.TableName.TheVariants.{Policy};
+ghost use Rattle.conf_keys.specs.declared.table.TableName.TheVariants.{Policy};
 ghost use Rattle.conf.specs.Table.{entries_of, members_at, members_in};
 ghost use Rattle.conf.specs.tools.Entries.{passes};
-ghost use Rattle.conf.specs.Values.{are_strings, clashes, has_type, is_allowed, is_integer_allowed, is_standard_field, is_table_allowed, is_text_allowed, is_type, is_within, window};
+ghost use Rattle.conf.specs.Values.{are_strings, are_texts, clashes, has_type, is_allowed, is_array_allowed, is_integer_allowed, is_standard_field, is_table_allowed, is_text_allowed, is_text_array, is_type, is_within, window};
 ghost use Rattle.conf.specs.tools.Views.{AreTables};
 
 use crate::members::{FixedTables, member, table_in};
-use crate::table::{TableName, ValueRule};
 use byte_grammar::is_listed;
 use component_ids::is_field_name;
+use conf_keys::{TableName, ValueRule};
+use rewrite_script::MAX_SCRIPT_LINES;
 use settings::{
     DEFAULT_MAX_AGE, DEFAULT_SKEW, DigestUse, MAX_AGE, MAX_ENTRIES, MAX_EXPIRES_AFTER, MAX_SKEW,
     MAX_WINDOW, NonceUse, SignDigest, expires_of_word, is_keyid, kind_of_word, scheme_of_word,
 };
 use sfv_text::{are_string_bytes, is_key};
+use toml::value::Array;
 use toml::{Table, Value};
 
 // ---- entries
@@ -105,6 +107,27 @@ fn are_strings(value: &Value) -> bool
     }
 }
 
+/// Whether each value of the array is a text.
+fn are_texts(array: &Array) -> bool
+    ensures { result ≡ are_texts (array_view array.now) }
+{
+    for value in array {
+        if !value.is_str() {
+            return false;
+        }
+    }
+    true
+}
+
+fn is_text_array(value: &Value) -> bool
+    ensures { result ≡ is_text_array (view value.now) }
+{
+    match value.as_array() {
+        None => false,
+        Some(array) => are_texts(array),
+    }
+}
+
 /// Whether the value has the type that the rule asks for.
 pub(crate) fn has_type(rule: ValueRule, value: &Value) -> bool
     ensures { result ≡ has_type rule (view value.now) }
@@ -118,6 +141,7 @@ pub(crate) fn has_type(rule: ValueRule, value: &Value) -> bool
         ValueRule::Flag => value.is_bool(),
         ValueRule::Table => value.is_table(),
         ValueRule::Keys | ValueRule::Types => are_strings(value),
+        ValueRule::Steps => is_text_array(value),
         _ => value.is_str(),
     }
 }
@@ -182,6 +206,15 @@ fn is_table_allowed(rule: ValueRule, table: &Table) -> bool
     }
 }
 
+fn is_array_allowed(rule: ValueRule, array: &Array) -> bool
+    ensures { result ≡ is_array_allowed rule (array_view array.now) }
+{
+    match rule {
+        ValueRule::Steps => array.len() <= MAX_SCRIPT_LINES,
+        _ => true,
+    }
+}
+
 /// Whether the value is one that the rule allows in this document, or of another type.
 pub(crate) fn is_allowed(document: &Table, rule: ValueRule, value: &Value) -> bool
     ensures { result ≡ is_allowed (table_view document.now) rule (view value.now) }
@@ -190,6 +223,7 @@ pub(crate) fn is_allowed(document: &Table, rule: ValueRule, value: &Value) -> bo
         Value::String(text) => is_text_allowed(document, rule, text.as_str()),
         Value::Integer(number) => is_integer_allowed(rule, *number),
         Value::Table(table) => is_table_allowed(rule, table),
+        Value::Array(array) => is_array_allowed(rule, array),
         _ => true,
     }
 }

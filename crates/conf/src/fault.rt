@@ -27,6 +27,8 @@ pub enum ConfFault {
     BadKeyText(Text),
     /// A text is no Inner List of covered components without parameters of its own.
     BadComponents(Text),
+    /// A text is no line of a script.
+    BadScript(Text),
     /// A table lacks a key that it has to have.
     Missing(Text),
 }
@@ -44,6 +46,7 @@ impl ConfFault {
             ConfFault::OutOfRange(_) => 5,
             ConfFault::BadKeyText(_) => 6,
             ConfFault::BadComponents(_) => 7,
+            ConfFault::BadScript(_) => 8,
             ConfFault::Missing(_) => 9,
         }
     }
@@ -59,6 +62,7 @@ impl ConfFault {
             | ConfFault::OutOfRange(path)
             | ConfFault::BadKeyText(path)
             | ConfFault::BadComponents(path)
+            | ConfFault::BadScript(path)
             | ConfFault::Missing(path) => Some(path.bytes()),
         }
     }
@@ -80,6 +84,7 @@ impl fmt::Display for ConfFault {
             | ConfFault::OutOfRange(path)
             | ConfFault::BadKeyText(path)
             | ConfFault::BadComponents(path)
+            | ConfFault::BadScript(path)
             | ConfFault::Missing(path) => write!(f, "{number} {path}"),
         }
     }

@@ -9,13 +9,13 @@ ghost use Rattle.conf.specs.Table.{entries_of, has_unknown, is_table_key, is_mis
 ghost use Rattle.conf.specs.Values.{is_allowed};
 ghost use Rattle.conf.specs.Rows.{fails, is_ill_typed, is_out_of_range};
 ghost use Rattle.conf.specs.tools.Judged.{fault_of, first_path, first_place, is_refused, row_fault_number, IsJudged, IsFirstIn, IsCauseNumbered};
-ghost use Rattle.conf.specs.tools.TableRows.{row_of};
+ghost use Rattle.conf_keys.specs.Table.{row_of};
 ghost use Rattle.conf.specs.tools.Views.{AreTables};
 
 use crate::allowed::{clashes, has_type, is_allowed};
 use crate::fault::ConfFault;
 use crate::members::FixedTables;
-use crate::table::{PLACES, ROWS, Row, TableName, is_table_key};
+use conf_keys::{Row, TableName, is_table_key, places, rows};
 use sfv_text::Text;
 use std::alloc::Global;
 use toml::Table;
@@ -65,7 +65,7 @@ fn judge_keys(alloc: Global, tables: FixedTables) -> Result<(), ConfFault>
         places) }
     ensures err { IfErr result (IsCauseNumbered 3 (table_view tables.entry.document.now)) }
 {
-    match first_unknown(tables, &PLACES) {
+    match first_unknown(tables, places()) {
         None => Ok(()),
         Some(path) => Err(ConfFault::UnknownKey(Text::from_bytes(alloc, path.as_bytes())?)),
     }
@@ -169,7 +169,7 @@ pub(crate) fn judge_rows(
     ensures err { IfErr result
         (IsCauseNumbered (row_fault_number row_fault) (table_view tables.entry.document.now)) }
 {
-    match first_refused(row_fault, tables, &ROWS) {
+    match first_refused(row_fault, tables, rows()) {
         None => Ok(()),
         Some(path) => Err(row_fault.fault_at(Text::from_bytes(alloc, path.as_bytes())?)),
     }

@@ -15,6 +15,7 @@
 mod allowed;
 mod document;
 mod fault;
+mod gateway_reader;
 mod judge;
 mod key_texts;
 mod kinds;
@@ -25,7 +26,6 @@ mod policy_reader;
 mod read;
 mod sections;
 mod sign_reader;
-mod table;
 mod values;
 
 pub use fault::ConfFault;
@@ -34,6 +34,6 @@ pub use laws::{
 };
 pub use read::{empty_conf, read_conf};
 pub use settings::{
-    Conf, DigestUse, MAX_AGE, MAX_ENTRIES, MAX_EXPIRES_AFTER, MAX_KEY_BYTES, MAX_KEYID_BYTES,
-    MAX_SKEW, MAX_WINDOW, NonceUse, Policy, SignConf, SignDigest, is_keyid,
+    Conf, DigestUse, GatewayConf, MAX_AGE, MAX_ENTRIES, MAX_EXPIRES_AFTER, MAX_KEY_BYTES,
+    MAX_KEYID_BYTES, MAX_SKEW, MAX_WINDOW, NonceUse, Policy, SignConf, SignDigest, is_keyid,
 };

@@ -8,8 +8,8 @@ ghost use Rattle.conf.specs.tools.Views.{AreTables};
 
 use crate::fault::ConfFault;
 use crate::members::FixedTables;
-use crate::table::TableName;
 use component_ids::Ids;
+use conf_keys::TableName;
 use settings::read_covered;
 use sfv_text::Text;
 use std::alloc::Global;

@@ -7,7 +7,7 @@ ghost use Rattle.conf.specs.Table.{has_place, members_at, members_in};
 ghost use Rattle.conf.specs.Values.{number_or};
 ghost use Rattle.conf.specs.tools.Views.{AreTables, table_members};
 
-use crate::table::TableName;
+use conf_keys::TableName;
 use toml::{Table, Value};
 
 /// The value of that name in the table.
@@ -71,6 +71,7 @@ fn number_of(value: &Value, other: u64) -> u64
 #[derive(Clone, Copy)]
 pub(crate) struct FixedTables<'d> {
     pub(crate) document: &'d Table,
+    pub(crate) gateway: Option<&'d Table>,
     pub(crate) policy: Option<&'d Table>,
     pub(crate) sign: Option<&'d Table>,
 }
@@ -82,6 +83,7 @@ impl<'d> FixedTables<'d> {
     {
         FixedTables {
             document,
+            gateway: table_in(document, "gateway"),
             policy: table_in(document, "policy"),
             sign: table_in(document, "sign"),
         }
@@ -96,6 +98,7 @@ impl<'d> FixedTables<'d> {
     {
         match place {
             TableName::Top => Some(self.document),
+            TableName::Gateway => self.gateway,
             TableName::Policy => self.policy,
             TableName::Sign => self.sign,
         }

@@ -3,15 +3,15 @@
 ghost use Rattle.std.specs.Prelude.{IfOk, codes};
 ghost use Rattle.toml.specs.Data.{get_member};
 ghost use Rattle.toml.specs.View.{table_view};
-ghost use Rattle.conf.specs.declared.table.TableName.TheVariants as place;
+ghost use Rattle.conf_keys.specs.declared.table.TableName.TheVariants as place;
 ghost use Rattle.conf.specs.Table.{members_at};
 ghost use Rattle.conf.specs.Sections.{AreComponents, IsPolicy};
 ghost use Rattle.conf.specs.tools.Views.{AreTables};
 
 use crate::members::FixedTables;
-use crate::table::TableName;
 use crate::values::{digest_use_in, nonce_use_in, read_tag, requires_expires};
 use component_ids::Ids;
+use conf_keys::TableName;
 use settings::{DEFAULT_MAX_AGE, DEFAULT_SKEW, MAX_ENTRIES, Policy};
 use sfv_text::Memory;
 use std::alloc::Global;

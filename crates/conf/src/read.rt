@@ -32,8 +32,16 @@ fn conf_of(alloc: Global, document: &Table) -> Result<Conf, ConfFault>
     judge_document(alloc, tables)?;
     let keys = read_keys(alloc, document)?;
     let types = read_types(alloc, document)?;
-    let Sections { policy, sign } = read_sections(alloc, tables)?;
-    Ok(Conf::new(scheme_in(document), keys, types, policy, sign))
+    let Sections {
+        policy,
+        sign,
+        gateway,
+    } = read_sections(alloc, tables)?;
+    let conf = Conf::new(scheme_in(document), keys, types, policy, sign);
+    match gateway {
+        None => Ok(conf),
+        Some(gateway) => Ok(conf.with_gateway(gateway)),
+    }
 }
 
 /// Reads the text of a configuration.

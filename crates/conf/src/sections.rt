@@ -1,4 +1,4 @@
-//! What the tables `policy` and `sign` of a document say.
+//! What the tables `policy`, `sign` and `gateway` of a document say.
 
 ghost use Rattle.std.specs.Prelude.{IfErr, IfOk};
 ghost use Rattle.toml.specs.View.{table_view};
@@ -7,19 +7,21 @@ ghost use Rattle.conf.specs.tools.SectionReads.{AreSections};
 ghost use Rattle.conf.specs.tools.Views.{AreTables};
 
 use crate::fault::ConfFault;
+use crate::gateway_reader::{gateway_of, read_steps};
 use crate::judge::{RowFault, judge_rows};
 use crate::lists::{Lists, read_lists};
 use crate::members::FixedTables;
 use crate::policy_reader::policy_of;
 use crate::sign_reader::sign_of;
-use settings::{Policy, SignConf};
+use settings::{GatewayConf, Policy, SignConf};
 use std::alloc::Global;
 
-/// How signatures are judged, and how messages are signed.
+/// How signatures are judged, how messages are signed, and what a gateway does.
 #[derive(Drop)]
 pub(crate) struct Sections {
     pub(crate) policy: Policy,
     pub(crate) sign: Option<SignConf>,
+    pub(crate) gateway: Option<GatewayConf>,
 }
 
 /// What the tables say, where their lists are read and no key is missing.
@@ -31,6 +33,7 @@ pub(crate) fn read_sections(alloc: Global, tables: FixedTables) -> Result<Sectio
         → IsFirstIn (table_view tables.entry.document.now) e) }
 {
     let lists = read_lists(alloc, tables)?;
+    let steps = read_steps(alloc, tables)?;
     judge_rows(alloc, RowFault::Missing, tables)?;
     let Lists {
         require_request,
@@ -40,5 +43,10 @@ pub(crate) fn read_sections(alloc: Global, tables: FixedTables) -> Result<Sectio
     } = lists;
     let policy = policy_of(alloc, tables, require_request, require_response)?;
     let sign = sign_of(alloc, tables, components_request, components_response)?;
-    Ok(Sections { policy, sign })
+    let gateway = gateway_of(alloc, tables, steps)?;
+    Ok(Sections {
+        policy,
+        sign,
+        gateway,
+    })
 }

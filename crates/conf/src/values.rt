@@ -3,15 +3,15 @@
 ghost use Rattle.std.specs.Prelude.{◌≡◌, false, codes, option_and_then, unwrap_or, IfOk};
 ghost use Rattle.toml.specs.Data.{as_bool, as_str, get_member};
 ghost use Rattle.toml.specs.View.{table_view};
-ghost use Rattle.conf.specs.declared.table.TableName.TheVariants.{Policy, Sign};
+ghost use Rattle.conf_keys.specs.declared.table.TableName.TheVariants.{Policy, Sign};
 ghost use Rattle.conf.specs.Table.{members_at};
 ghost use Rattle.conf.specs.Meaning.{configured_scheme};
 ghost use Rattle.conf.specs.Sections.{digest_of, digest_use_of, is_required, nonce_use_of, seconds_of};
 ghost use Rattle.conf.specs.tools.Views.{AreTables};
 
 use crate::members::{FixedTables, text_in};
-use crate::table::TableName;
 use component_ids::Scheme;
+use conf_keys::TableName;
 use settings::{DigestUse, NonceUse, SignDigest, expires_of_word, scheme_of_word};
 use sfv_text::{Memory, Text};
 use std::alloc::Global;

@@ -40,6 +40,16 @@ impl HmacKey {
         })
     }
 
+    /// An equal one of its own.
+    pub fn copy(&self, alloc: Global) -> Result<HmacKey, Memory>
+        ensures { IfOk result (λ k. k ≡ self.now) }
+    {
+        Ok(HmacKey {
+            key: self.key.copy(alloc)?,
+            empty: self.empty.copy(),
+        })
+    }
+
     /// Its bytes.
     pub fn bytes(&self) -> &[u8]
         ensures { result.now ≡ self.now }

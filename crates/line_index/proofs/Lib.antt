@@ -3,4 +3,5 @@ mod FirstBytes
 pub mod Filtered
 pub mod ByName
 mod NameOrder
+mod NamedPart
 mod NamedLists

@@ -6,7 +6,7 @@ use Rattle.std.specs.List.Sorted.{IsSortedBy, IsPartitionedBy, IsPartitionPoint}
 use Rattle.std.specs.Ordering.{is_lt, is_gt, ordering_then, nat_cmp}
 use Rattle.std.specs.Cmp.{IsTotalOrder, IsStrictWeakOrder, nat_cmp_is}
 use Rattle.std.specs.Char.{to_ascii_lowercase}
-use Rattle.std.specs.Str.{bytes_eq, str_to_ascii_lowercase}
+use Rattle.std.specs.Str.{bytes_eq}
 use Rattle.std.proofs.lemmas.Bool.{cases_Bool, cases_order, false≢true, eq-eqb, eqb-true, lt-ltb, ltb-true, ltb-false}
 use Rattle.std.proofs.lemmas.Cmp.{nat_list_cmp_total, nat_cmp_total, on_total, then_total, tied_itself}
 use Rattle.std.proofs.lemmas.List.{drop_all, length-map}
@@ -15,9 +15,9 @@ use Rattle.std.proofs.lemmas.Map.Lookups.{exact_bytes}
 use Rattle.std.proofs.lemmas.Slice.Eq.{bytes_eq-Decides}
 use Rattle.line_index.specs.declared.span.LineSpan.{LineSpan}
 use Rattle.line_index.specs.declared.index.IndexEntry.{IndexEntry}
-use Rattle.line_index.specs.tools.Index.{no_span, first_bytes, after_first, lowered_name, text_cmp, comes_before, is_below, name_cmp, key_cmp, rest_of_name, entry_cmp, name_by, is_key_below, is_named, is_rest_named, IsEntry, IsIndexOf}
-use Rattle.line_index.proofs.ByName.{all_right, below_first, names_up, up_far}
-use Rattle.line_index.proofs.FirstBytes.{AreBytes, lowered_bytes, lowered_part}
+use Rattle.line_index.specs.tools.Index.{no_span, first_bytes, after_first, lowered_name, text_cmp, comes_before, name_cmp, key_cmp, entry_key, rest_of_name, entry_cmp, name_by, is_key_below, is_named, is_rest_named, IsEntry, IsIndexOf}
+use Rattle.line_index.proofs.ByName.{all_right, below_from, names_up, up_far}
+use Rattle.line_index.proofs.FirstBytes.{AreBytes, lowered_part}
 
 -- ---- two numbers by a first digit and what is below it
 
@@ -162,7 +162,7 @@ lowered_line bytes spans line are =
     lowered_part bytes span.name span.colon are
 
 -- the keys are in a total order
-key_total : IsTotalOrder key_cmp
+pub key_total : IsTotalOrder key_cmp
 key_total =
     let others : IsTotalOrder (λ (x y : ℕ × List ℕ). name_cmp x.1 y.1) = then_total (on_total (λ (key : ℕ × List ℕ). after_first key.1) nat_list_cmp_total) (on_total (λ (key : ℕ × List ℕ). length key.1) nat_cmp_total) in
     then_total (on_total (λ (key : ℕ × List ℕ). key.0) nat_cmp_total) others
@@ -210,22 +210,24 @@ sorted_is bytes spans index are right up k d low high =
     let here = slice_index_or index k d in
     sym (before_is bytes spans next here are (right (k + 1) d high) (right k d (omega (arith, high)))) ∙ up k d low high
 
--- the code has an entry before a name where its name is
-below_is : (bytes : List ℕ) (spans : List LineSpan) (name : List ℕ) (first : ℕ) (entry : IndexEntry) → AreBytes bytes → AreBytes name → first ≡ first_bytes (str_to_ascii_lowercase name) → IsEntry bytes spans entry → is_key_below bytes spans (first, str_to_ascii_lowercase name) entry ≡ is_below bytes spans name entry
-below_is bytes spans name first entry are too e right =
-    let x = lowered_name bytes spans entry.line in
-    let y = str_to_ascii_lowercase name in
-    ap (λ n. is_lt (key_cmp (n, x) (first, y))) right.first
-    ∙ ap (λ n. is_lt (key_cmp (first_bytes x, x) (n, y))) e
-    ∙ ap is_lt (keys_are x y (lowered_line bytes spans entry.line are) (lowered_bytes name too))
+-- the keys of entries are in the order of their names
+pub entry_keys : (bytes : List ℕ) (spans : List LineSpan) (one other : IndexEntry) → AreBytes bytes → IsEntry bytes spans one → IsEntry bytes spans other → key_cmp (entry_key bytes spans one) (entry_key bytes spans other) ≡ text_cmp (lowered_name bytes spans one.line) (lowered_name bytes spans other.line)
+entry_keys bytes spans one other are right too =
+    let x = lowered_name bytes spans one.line in
+    let y = lowered_name bytes spans other.line in
+    ap (λ n. key_cmp (n, x) (other.first_bytes, y)) right.first
+    ∙ ap (λ n. key_cmp (first_bytes x, x) (n, y)) too.first
+    ∙ keys_are x y (lowered_line bytes spans one.line are) (lowered_line bytes spans other.line are)
 
--- so where it parts the index by a name, the names do
-pub split_is : (bytes : List ℕ) (spans : List LineSpan) (name : List ℕ) (first : ℕ) (index : List IndexEntry) (n : ℕ) → AreBytes bytes → AreBytes name → first ≡ first_bytes (str_to_ascii_lowercase name) → IsIndexOf bytes spans index → n ≤ length index → (IsPartitionedBy (is_key_below bytes spans (first, str_to_ascii_lowercase name)) index → IsPartitionPoint (λ entry. is_key_below bytes spans (first, str_to_ascii_lowercase name) entry ≡ true) (λ entry. is_key_below bytes spans (first, str_to_ascii_lowercase name) entry ≡ false) index n) → IsPartitionPoint (λ entry. is_below bytes spans name entry ≡ true) (λ entry. is_below bytes spans name entry ≡ false) index n
-split_is bytes spans name first index n are too e is within split =
+-- so a key parts the index
+pub key_parted : (bytes : List ℕ) (spans : List LineSpan) (key : ℕ × List ℕ) (index : List IndexEntry) → AreBytes bytes → IsIndexOf bytes spans index → IsPartitionedBy (is_key_below bytes spans key) index
+key_parted bytes spans key index are is i j d low high passes =
+    let a = slice_index_or index i d in
+    let b = slice_index_or index j d in
     let right = all_right bytes spans index is.each in
-    let same : (k : ℕ) (d : IndexEntry) → k < length index → is_key_below bytes spans (first, str_to_ascii_lowercase name) (slice_index_or index k d) ≡ is_below bytes spans name (slice_index_or index k d) = λ k d less. below_is bytes spans name first (slice_index_or index k d) are too e (right k d less) in
-    let parted = split (λ i j d low high passes. same i d (omega (arith, low, high)) ∙ below_first bytes spans name index is.sorted i j d low high (sym (same j d high) ∙ passes)) in
-    (λ k d low high. sym (same k d (omega (arith, high, within))) ∙ parted.0 k d low high, λ k d low high. sym (same k d high) ∙ parted.1 k d low high)
+    let up = names_up bytes spans a b (up_far bytes spans index is.sorted i j d low high) in
+    let same = entry_keys bytes spans a b are (right i d (omega (arith, low, high))) (right j d high) in
+    below_from key_cmp key_total (entry_key bytes spans a) (entry_key bytes spans b) key (ap is_gt same ∙ up) passes
 
 -- a name that isn't above another has no greater first bytes
 first_up : (one other : List ℕ) → AreBytes one → AreBytes other → is_gt (text_cmp one other) ≡ false → first_bytes one ≤ first_bytes other
@@ -250,18 +252,16 @@ first_parted bytes spans first index are is i j d low high passes =
 key_below : (bytes : List ℕ) (spans : List LineSpan) (first : ℕ) (text : List ℕ) (entry : IndexEntry) → entry.first_bytes < first → is_key_below bytes spans (first, text) entry ≡ true
 key_below bytes spans first text entry less = rw (lower entry.first_bytes first less) refl
 
--- where they part the index, the names do, if the name there doesn't come before the name
-pub first_split : (bytes : List ℕ) (spans : List LineSpan) (name : List ℕ) (first : ℕ) (index : List IndexEntry) (n : ℕ) → AreBytes bytes → AreBytes name → first ≡ first_bytes (str_to_ascii_lowercase name) → IsIndexOf bytes spans index → n ≤ length index → (IsPartitionedBy (λ (entry : IndexEntry). nat_lt entry.first_bytes first) index → IsPartitionPoint (λ (entry : IndexEntry). nat_lt entry.first_bytes first ≡ true) (λ (entry : IndexEntry). nat_lt entry.first_bytes first ≡ false) index n) → ((d : IndexEntry) → n < length index → is_key_below bytes spans (first, str_to_ascii_lowercase name) (slice_index_or index n d) ≡ false) → IsPartitionPoint (λ entry. is_below bytes spans name entry ≡ true) (λ entry. is_below bytes spans name entry ≡ false) index n
-first_split bytes spans name first index n are too e is within split stops =
-    let text = str_to_ascii_lowercase name in
-    let right = all_right bytes spans index is.each in
-    let same : (k : ℕ) (d : IndexEntry) → k < length index → is_key_below bytes spans (first, text) (slice_index_or index k d) ≡ is_below bytes spans name (slice_index_or index k d) = λ k d less. below_is bytes spans name first (slice_index_or index k d) are too e (right k d less) in
+-- where they part the index, the key does, if the entry there doesn't come before it
+pub first_split : (bytes : List ℕ) (spans : List LineSpan) (first : ℕ) (text : List ℕ) (index : List IndexEntry) (n : ℕ) → AreBytes bytes → IsIndexOf bytes spans index → n ≤ length index → (IsPartitionedBy (λ (entry : IndexEntry). nat_lt entry.first_bytes first) index → IsPartitionPoint (λ (entry : IndexEntry). nat_lt entry.first_bytes first ≡ true) (λ (entry : IndexEntry). nat_lt entry.first_bytes first ≡ false) index n) → ((d : IndexEntry) → n < length index → is_key_below bytes spans (first, text) (slice_index_or index n d) ≡ false) → IsPartitionPoint (λ entry. is_key_below bytes spans (first, text) entry ≡ true) (λ entry. is_key_below bytes spans (first, text) entry ≡ false) index n
+first_split bytes spans first text index n are is within split stops =
+    let below = is_key_below bytes spans (first, text) in
     let parted = split (first_parted bytes spans first index are is) in (
-      λ k d low high. sym (same k d (omega (arith, high, within))) ∙ key_below bytes spans first text (slice_index_or index k d) (ltb-true _ first (parted.0 k d low high)),
-      λ k d low high. elim (cases_Bool (is_below bytes spans name (slice_index_or index k d))) [
+      λ k d low high. key_below bytes spans first text (slice_index_or index k d) (ltb-true _ first (parted.0 k d low high)),
+      λ k d low high. elim (cases_Bool (below (slice_index_or index k d))) [
         | inl passes ↦
-            let under = below_first bytes spans name index is.sorted n k d low high passes in
-            absurd (false≢true (sym (stops d (omega (arith, low, high))) ∙ same n d (omega (arith, low, high)) ∙ under))
+            let under = key_parted bytes spans (first, text) index are is n k d low high passes in
+            absurd (false≢true (sym (stops d (omega (arith, low, high))) ∙ under))
         | inr not ↦ not
       ],
     )

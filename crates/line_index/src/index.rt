@@ -220,7 +220,8 @@ fn is_named(bytes: &[u8], spans: &[LineSpan], name: &[u8], first: u128, entry: I
 }
 
 // The entries from the first on whose line's name doesn't come before the name. Where no other name
-// begins as it does, the first bytes decide.
+// begins as it does, the first bytes decide. They are those of the name as it is written: where one
+// is in upper case, no line has the name, wherever it is looked for.
 fn rest_from_name<'h>(
     bytes: &[u8],
     spans: &[LineSpan],
@@ -229,7 +230,7 @@ fn rest_from_name<'h>(
     first: u128,
 ) -> &'h [IndexEntry]
     requires right { IsIndexOf bytes.now spans.now index.now }
-    requires first { first ≡ first_bytes (str_to_ascii_lowercase name.now) }
+    requires first { first ≡ first_bytes name.now }
     ensures { IsRestFrom bytes.now spans.now name.now index.now result.now }
 {
     let begin = index.partition_point(|entry| entry.first_bytes < first);
@@ -252,10 +253,10 @@ pub(crate) fn named_part<'h>(
     requires { IsIndexOf bytes.now spans.now index.now }
     ensures { result.now ≡ filter (is_named bytes.now spans.now name.now) index.now }
 {
-    let rest = rest_from_name(bytes, spans, index, name, lowered_first_bytes(name));
-    let written = first_bytes(name);
+    let first = first_bytes(name);
+    let rest = rest_from_name(bytes, spans, index, name, first);
     for (count, entry) in rest.iter().enumerate() {
-        if !is_named(bytes, spans, name, written, *entry) {
+        if !is_named(bytes, spans, name, first, *entry) {
             return rest.split_at(count).0;
         }
     }

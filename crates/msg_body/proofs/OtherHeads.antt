@@ -1,9 +1,10 @@
 -- A message with another head: what its text begins and ends with, and what is read of it.
 use Rattle.std.proofs.Common.{◌≡◌, ◌≤◌, ℕ, ◌-◌, Bool, List, ◌++◌, length, take, drop, refl, sym, ap, subst, ◌∙◌, append_assoc, length-append, arith}
-use Rattle.std.specs.Prelude.{Result, Ok}
+use Rattle.std.specs.Prelude.{Result, Ok, Err}
 use Rattle.std.proofs.lemmas.List.{take_all}
 use Rattle.std.proofs.Math.Seq.{take-append_seam, drop-append_seam}
 use Rattle.msg_head.specs.declared.error.HeadError.{HeadError}
+use Rattle.msg_head.specs.declared.error.HeadError.TheVariants.{Memory}
 use Rattle.msg_head.specs.declared.head.HeadRead.{HeadRead}
 use Rattle.msg_head.specs.declared.head.HeadRead.TheVariants as head
 use Rattle.msg_head.specs.declared.trailer.TrailerRead.{TrailerRead}
@@ -76,11 +77,18 @@ section_within lines text before cut = omega (arith, ap (λ (t : List ℕ). leng
 pub no_partial_head : (result : Result HeadRead HeadError) (own : Head) (used : ℕ) → IsHeadUnlessMemory result own used → ¬ (result ≡ Ok head.Partial)
 no_partial_head result own used is e = subst (λ (r : Result HeadRead HeadError). IsHeadUnlessMemory r own used) e is
 
+-- and no other fault than want of memory
+pub head_fault : (result : Result HeadRead HeadError) (own : Head) (used : ℕ) → IsHeadUnlessMemory result own used → (error : HeadError) → result ≡ Err error → error ≡ Memory
+head_fault result own used is error e = subst (λ (r : Result HeadRead HeadError). IsHeadUnlessMemory r own used) e is
+
 pub head_read : (result : Result HeadRead HeadError) (own : Head) (used count : ℕ) (view : View) → IsHeadUnlessMemory result own used → result ≡ Ok (head.Whole view count) → head_of view ≡ own
 head_read result own used count view is e = (subst (λ (r : Result HeadRead HeadError). IsHeadUnlessMemory r own used) e is).0
 
 pub no_partial_trailer : (result : Result TrailerRead HeadError) (lines : List FieldLine) (used : ℕ) → IsTrailerUnlessMemory result lines used → ¬ (result ≡ Ok trailer.Partial)
 no_partial_trailer result lines used is e = subst (λ (r : Result TrailerRead HeadError). IsTrailerUnlessMemory r lines used) e is
+
+pub trailer_fault : (result : Result TrailerRead HeadError) (lines : List FieldLine) (used : ℕ) → IsTrailerUnlessMemory result lines used → (error : HeadError) → result ≡ Err error → error ≡ Memory
+trailer_fault result lines used is error e = subst (λ (r : Result TrailerRead HeadError). IsTrailerUnlessMemory r lines used) e is
 
 pub trailer_read : (result : Result TrailerRead HeadError) (lines : List FieldLine) (used count : ℕ) (view : TrailerParts) → IsTrailerUnlessMemory result lines used → result ≡ Ok (trailer.Whole view count)
     → trailer_lines_of view ≡ lines

@@ -10,8 +10,19 @@ ghost use Rattle.msg_body.specs.tools.Trailed.{EndsWithTrailer};
 use crate::body::BodyView;
 use crate::error::MessageError;
 use crate::view::MessageView;
-use msg_head::{HeadRead, TrailerRead, read_head, read_trailer};
+use msg_head::{HeadError, HeadRead, TrailerRead, read_head, read_trailer};
 use std::alloc::Global;
+
+/// Want of memory, which is the one error where a head or a trailer section is there.
+fn only_memory(error: HeadError) -> MessageError
+    requires { error ≡ HeadError.Memory }
+    ensures { result ≡ MessageError.Memory }
+{
+    match error {
+        HeadError::Memory => MessageError::Memory,
+        _ => unreachable!(),
+    }
+}
 
 /// The body once more, with which the text ends. Its chunks aren't read again.
 fn body_again<'m>(
@@ -30,7 +41,7 @@ fn body_again<'m>(
             match read_trailer(alloc, section) {
                 Ok(TrailerRead::Whole(lines, _)) => Ok(BodyView::Chunked(chunks.again(), lines)),
                 Ok(TrailerRead::Partial) => unreachable!(),
-                Err(_) => Err(MessageError::Memory),
+                Err(error) => Err(only_memory(error)),
             }
         }
     }
@@ -56,6 +67,6 @@ pub fn read_other_head<'m>(
             Ok(MessageView::new(text, head, message.framing(), body))
         }
         Ok(HeadRead::Partial) => unreachable!(),
-        Err(_) => Err(MessageError::Memory),
+        Err(error) => Err(only_memory(error)),
     }
 }

@@ -22,7 +22,7 @@ use Rattle.program.specs.Commands.{name_of}
 use Rattle.program.specs.Ends.{AsksFor, AsksForNamed}
 use Rattle.program.specs.Intake.{named_count, read_order, roles_until}
 use Rattle.program.specs.declared.intake.FileWords.{FileWords}
-use Rattle.program.specs.tools.Parts.{AsksOf, AsksUntil, IsAfterInput, IsWritten, refusal_of, roles_read}
+use Rattle.program.specs.tools.Parts.{AsksOf, AsksUntil, IsAfterInput, IsWritten, IsWrittenStop, refusal_of, roles_read}
 use Rattle.program.proofs.Reports.{AsksOne, IfRefusedFor, of_command, one_counted, weighed}
 
 -- ---- how many of the first files have a name
@@ -186,3 +186,16 @@ asks_written arguments outcome taken now status refusal asked asked_now (inr (in
     subst (λ (r : Option Refusal). AsksFor (name_of command) r asked asked_now) (sym none) (most command spells)
 asks_written arguments outcome taken now status refusal asked asked_now (inr (inr (is, none, keeps))) until most command spells =
     subst (λ (r : Option Refusal). AsksFor (name_of command) r asked asked_now) (sym none) (most command spells)
+
+-- where a run is stopped
+pub asks_stopped : (arguments : List (List ℕ)) (stop : Stop) (taken now : Option (List ℕ)) (status : Status) (refusal : Option Refusal) (asked asked_now : ℕ) → IsWrittenStop stop taken now status refusal
+    → AsksOf arguments (Err stop) asked asked_now → AsksForNamed arguments refusal asked asked_now
+asks_stopped arguments (IsRefused r) taken now status refusal asked asked_now written asks = asks_written arguments (Refused r) taken now status refusal asked asked_now written asks.until asks.most
+asks_stopped arguments ReadFault taken now status refusal asked asked_now (keeps, is, none) asks = λ command spells. subst (λ (r : Option Refusal). AsksFor (name_of command) r asked asked_now) (sym none) (asks.most command spells)
+asks_stopped arguments Memory taken now status refusal asked asked_now (keeps, is, none) asks = λ command spells. subst (λ (r : Option Refusal). AsksFor (name_of command) r asked asked_now) (sym none) (asks.most command spells)
+
+-- a command that names a configuration alone asks for one file, whatever is told
+pub conf_told : (conf : List ℕ) (told : Option Refusal) (before now : ℕ) → now ≤ before + 1 → AsksFor (file_names (Some conf) None None None) told before now
+conf_told conf None before now is = is
+conf_told conf (Some refusal) before now is =
+    by_roles (λ (rs : List FileRole). now ≤ before + named_count (file_names (Some conf) None None None) rs) is is is is (Refused refusal)

@@ -19,3 +19,9 @@ pub text_counts : (Same : Type 0) (shelf shelf_now source : ℕ) (stop : Stop) (
 text_counts Same shelf shelf_now source Memory P is same = (same, refl)
 text_counts Same shelf shelf_now source ReadFault P is same = absurd is
 text_counts Same shelf shelf_now source (IsRefused refusal) P is same = (same, refl)
+
+-- nor does what is refused without a read
+pub refused_counts : (T : Type 0) (P : Refusal → Type 0) (stop : Stop) (before now : ℕ) → IfRefused stop P → now ≡ before → CountsStop {T = T} before now (Err stop)
+refused_counts T P Memory before now is same = same
+refused_counts T P ReadFault before now is same = absurd is
+refused_counts T P (IsRefused refusal) before now is same = same

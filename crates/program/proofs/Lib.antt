@@ -10,10 +10,14 @@ mod AskedFiles
 mod AuditLines
 mod AuditedInputs
 mod FaultCounts
+mod GatewayLaws
 mod Meanings
 mod OneLines
 mod RewrittenInputs
 mod Sampled
+mod ServableStreams
 mod SignedInputs
+mod StreamRecords
+mod StreamRuns
 mod VerdictLines
 mod WrittenOutcomes

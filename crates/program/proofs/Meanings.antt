@@ -6,7 +6,7 @@ use Rattle.std.specs.List.{Contains, list_all, zip}
 use Rattle.hms_io.specs.Files.{FileMap}
 use Rattle.hms_io.specs.declared.status.Status.{Status}
 use Rattle.hms_io.specs.declared.status.Status.TheVariants.{Done, NotOk}
-use Rattle.command_line.specs.Command.{CommandLine, Help, HelpOf, Version, Base, Verify, Sign, Rewrite, Audit, Sample, BaseWords, VerifyWords, AuditWords, IsCommand}
+use Rattle.command_line.specs.Command.{CommandLine, Base, Verify, Audit, BaseWords, VerifyWords, AuditWords, IsCommand}
 use Rattle.command_line.proofs.CommandLaws.{one_command}
 use Rattle.sfv_text.specs.Classes.{is_key}
 use Rattle.msg_body.specs.Messages.{Message}
@@ -44,7 +44,7 @@ use Rattle.commands.specs.declared.outcome.Outcome.TheVariants.{Done as Written,
 use Rattle.refusals.specs.Laws.{IsOfRefusal}
 use Rattle.refusals.specs.declared.refusal.Refusal.{Refusal}
 use Rattle.refusals.proofs.Statuses.{status_of_refusal}
-use Rattle.program.specs.Commands.{AreFoundFor, ReadsWhole, input_use, is_whole, name_of}
+use Rattle.program.specs.Commands.{AreFoundFor, name_of}
 use Rattle.program.specs.Intake.{IsIntake, TakenValues}
 use Rattle.program.specs.Ends.{Ends, HasReport}
 use Rattle.program.specs.Meanings.{HasOneBase, HasOneChain, HasOneMeaning, HasWritten, HaveOneMeaning, RunsAgreeWhereOneTag, TellsOneBase, TellsOneChain, TellsVerdicts, WritesOneBase, WritesOneChain, WritesSigned, WritesVerdicts}
@@ -219,21 +219,6 @@ runs_agree words other_words found other_found input other_input output other_ou
     (one.ok label keyid ok).one _ other_keyid second.accepts second.messages tag key
 
 -- ---- of a run
-
--- each command writes nothing before it has read all
-reads_whole : (command : CommandLine) → IsTrue (is_whole (input_use command))
-reads_whole Help = refl
-reads_whole (HelpOf command) = refl
-reads_whole Version = refl
-reads_whole (Base words) = refl
-reads_whole (Verify words) = refl
-reads_whole (Sign words) = refl
-reads_whole (Rewrite words) = refl
-reads_whole (Audit words) = refl
-reads_whole (Sample words) = refl
-
-pub all_read_whole : (arguments : List (List ℕ)) → ReadsWhole arguments
-all_read_whole arguments command is = reads_whole command
 
 -- an outcome of this status is a text
 written_is : (outcome : Outcome) → status_of outcome ≡ Done → outcome ≡ Written (output_of outcome)

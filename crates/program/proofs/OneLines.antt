@@ -35,7 +35,7 @@ use Rattle.msg_body.specs.Messages.{Message}
 use Rattle.msg_body.specs.WholeTexts.{any_message, one_request, reading_for}
 use Rattle.msg_body.specs.declared.whole.Reading.{Reading}
 use Rattle.framing.specs.Framings.{is_request}
-use Rattle.command_line.specs.Command.{CommandLine, Help, HelpOf, Version, Base, Verify, Sign, Rewrite, Audit, Sample, SignWords, IsCommand, NoCommand}
+use Rattle.command_line.specs.Command.{CommandLine, Help, HelpOf, Version, Base, Verify, Sign, Rewrite, Audit, Gateway, Sample, SignWords, IsCommand, NoCommand}
 use Rattle.conf.specs.Configuration.{Configuration}
 use Rattle.conf.specs.Paths.{HoldsAtPath}
 use Rattle.conf.specs.Refusals.{IsConfFault}
@@ -74,11 +74,11 @@ use Rattle.commands.specs.Verify.{ReportsVerdicts, verdicts_outcome}
 use Rattle.commands.specs.declared.outcome.Outcome.{Outcome}
 use Rattle.commands.specs.declared.outcome.Outcome.TheVariants.{Done, Refused}
 use Rattle.commands.specs.declared.tables.Needs.{Needs}
-use Rattle.commands.specs.declared.tables.Needs.TheVariants.{Nothing, SignTable}
+use Rattle.commands.specs.declared.tables.Needs.TheVariants.{Nothing, SignTable, GatewayTables}
 use Rattle.refusals.specs.Laws.{is_clean, is_clean_file}
 use Rattle.refusals.proofs.Lines.{is_line_of_refusal, number_clean}
 use Rattle.refusals.specs.declared.file.FileRefusal.{FileRefusal}
-use Rattle.refusals.specs.declared.file.FileRefusal.TheVariants.{Missing, TooLong, Message as NoMessage, Conf as NoConf, Script as NoScript, Recording as NoRecording, Order, TooManyHops}
+use Rattle.refusals.specs.declared.file.FileRefusal.TheVariants.{Missing, TooLong, Message as NoMessage, Conf as NoConf, Script as NoScript, Recording as NoRecording, Order, TooManyHops, OutOfPlace, TooManyItems}
 use Rattle.refusals.specs.declared.refusal.CommandRefusal.{CommandRefusal}
 use Rattle.refusals.specs.declared.refusal.CommandRefusal.TheVariants.{Ids, Lacks, NotTaken}
 use Rattle.refusals.specs.declared.refusal.Refusal.{Refusal}
@@ -207,6 +207,7 @@ conf_clean text (conf_fault.WrongType path) is = path_in (λ (row : Row). row.pa
 conf_clean text (conf_fault.OutOfRange path) is = path_in (λ (row : Row). row.path) _ rows path is.holds.2.holds rows_clean
 conf_clean text (conf_fault.BadKeyText path) is = path_in (λ (row : Row). row.path) _ rows path is.holds.2.holds rows_clean
 conf_clean text (conf_fault.BadComponents path) is = path_in (λ (row : Row). row.path) _ rows path is.holds.2.holds rows_clean
+conf_clean text (conf_fault.BadScript path) is = path_in (λ (row : Row). row.path) _ rows path is.holds.2.holds rows_clean
 conf_clean text (conf_fault.Missing path) is = path_in (λ (row : Row). row.path) _ rows path is.holds.2.holds rows_clean
 
 conf_refused : (name found : Option (List ℕ)) (refusal : FileRefusal) → IsConfRefused name found refusal → is_clean_file refusal ≡ true
@@ -220,6 +221,8 @@ conf_refused (Some name) (Some text) (NoScript f) is = refl
 conf_refused (Some name) (Some text) (NoRecording f) is = refl
 conf_refused (Some name) (Some text) (Order i) is = refl
 conf_refused (Some name) (Some text) (TooManyHops i) is = refl
+conf_refused (Some name) (Some text) (OutOfPlace i) is = refl
+conf_refused (Some name) (Some text) (TooManyItems i) is = refl
 
 -- a refusal for no configuration
 abbrev IsOfNoConf : FileRefusal → Type 0
@@ -234,6 +237,8 @@ no_conf (NoScript f) other = refl
 no_conf (NoRecording f) other = refl
 no_conf (Order i) other = refl
 no_conf (TooManyHops i) other = refl
+no_conf (OutOfPlace i) other = refl
+no_conf (TooManyItems i) other = refl
 
 input_refused : (reading : Reading) (input : List ℕ) (refusal : FileRefusal) → IsInputRefused reading input refusal → is_clean_file refusal ≡ true
 input_refused reading input refusal is = no_conf refusal (λ f same. subst (λ (r : FileRefusal). IsInputRefused reading input r) same is)
@@ -264,6 +269,8 @@ chain_refused items (Of (Item i) r) is = no_conf r (λ f same. subst (λ (s : Fi
 table_missing : (needs : Needs) (conf : Configuration) (refusal : FileRefusal) → IsTableMissing needs conf refusal → is_clean_file refusal ≡ true
 table_missing Nothing conf refusal is = absurd is
 table_missing SignTable conf refusal is = rw is.1 refl
+table_missing GatewayTables conf refusal (inl is) = rw is.1 refl
+table_missing GatewayTables conf refusal (inr is) = rw is.2 refl
 
 intake_refused : (needs : Needs) (names : FileNames) (found : Found) (input : List ℕ) (refusal : Refusal) → IsIntakeRefused needs names found input refusal → is_clean refusal ≡ true
 intake_refused needs names found input Arguments is = absurd is
@@ -378,6 +385,7 @@ module _ (refusal : Refusal) where
   command_refused arguments (Audit words) is found input =
       of_layer (IsConfigured (Some words.conf) (found ConfFile)) (IsConfRefused (Some words.conf) (found ConfFile)) (λ r. Of Conf r) (λ conf. ReportsAudit conf input) (conf_refused (Some words.conf) (found ConfFile))
       (λ conf configured. audit_refused conf input)
+  command_refused arguments (Gateway words) is found input = λ reports. absurd reports
   command_refused arguments (Sample words) is found input = λ reports. absurd (summary_not reports.0 reports.0.finds_fault refl reports.2)
 
 pub is_line_where_refused : IsLineWhereRefused

@@ -1,7 +1,7 @@
 -- Arguments, files and an input have one outcome.
 use Rattle.std.proofs.Common.{◌≡◌, List, ℕ, Some, refl, sym, ◌∙◌}
 use Rattle.std.specs.Prelude.{⊤}
-use Rattle.command_line.specs.Command.{CommandLine, Help, HelpOf, Version, Base, Verify, Sign, Rewrite, Audit, Sample, IsCommand, NoCommand}
+use Rattle.command_line.specs.Command.{CommandLine, Help, HelpOf, Version, Base, Verify, Sign, Rewrite, Audit, Gateway, Sample, IsCommand, NoCommand}
 use Rattle.command_line.proofs.CommandLaws.{one_command}
 use Rattle.component_values.specs.Context.{MessageContext}
 use Rattle.component_ids.specs.declared.params.SigParams.{SigParams}
@@ -56,6 +56,7 @@ one_of_command (Sign words) found input =
 one_of_command (Rewrite words) found input =
     one_of_files Nothing (λ taken. ReportsRewriting words.label taken.script taken.context) (λ taken _. rewriting_law words.label taken.script taken.context) (name_of (Rewrite words)) found input
 one_of_command (Audit words) found input = one_of_layers _ _ _ _ (conf_decided (Some words.conf) (found ConfFile)) (λ conf _. auditing_law conf input)
+one_of_command (Gateway words) found input = λ one other a b. absurd a
 one_of_command (Sample words) found input = sampling_law words.seed words.count
 
 pub one_report_law : HasOneReport

@@ -18,7 +18,7 @@ use Rattle.commands.specs.declared.outcome.Outcome.TheVariants.{Refused}
 use Rattle.commands.specs.declared.stop.Stop.{Stop}
 use Rattle.commands.specs.declared.stop.Stop.TheVariants.{Memory, ReadFault, Refused as IsRefused}
 use Rattle.refusals.specs.declared.file.FileRefusal.{FileRefusal}
-use Rattle.refusals.specs.declared.file.FileRefusal.TheVariants.{Missing, TooLong, Message, Conf as NoConf, Script as NoScript, Recording, Order, TooManyHops}
+use Rattle.refusals.specs.declared.file.FileRefusal.TheVariants.{Missing, TooLong, Message, Conf as NoConf, Script as NoScript, Recording, Order, TooManyHops, OutOfPlace, TooManyItems}
 use Rattle.refusals.specs.declared.refusal.Refusal.{Refusal}
 use Rattle.refusals.specs.declared.refusal.Refusal.TheVariants.{Arguments, Of, Command}
 use Rattle.refusals.specs.declared.refusal.TheConstants.{MAX_RECORDING_BYTES}
@@ -55,6 +55,8 @@ module _ (Same : Type 0) (before now : Option (List ℕ)) (none : IfSome before 
   refused_leaves input (Recording f) short is = none
   refused_leaves input (Order n) short is = none
   refused_leaves input (TooManyHops n) short is = none
+  refused_leaves input (OutOfPlace n) short is = none
+  refused_leaves input (TooManyItems n) short is = none
   refused_leaves input (TooLong n) short is = absurd (omega (arith, short, is.1))
 
   chain_leaves : (items : List PlacedItem) (refusal : Refusal) → IsChainRefused items refusal → LeavesRecording Same before now (Refused refusal)
@@ -72,6 +74,8 @@ module _ (Same : Type 0) (before now : Option (List ℕ)) (none : IfSome before 
   chain_leaves items (Of Input (Recording f)) is = none
   chain_leaves items (Of Input (Order n)) is = none
   chain_leaves items (Of Input (TooManyHops n)) is = none
+  chain_leaves items (Of Input (OutOfPlace n)) is = none
+  chain_leaves items (Of Input (TooManyItems n)) is = none
   chain_leaves items (Of Input (TooLong n)) is = absurd is
 
   lines_leave : (lines : List AuditLine) (found : Bool) → finds_fault lines ≡ found → LeavesRecording Same before now (audit_outcome lines)

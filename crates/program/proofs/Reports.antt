@@ -80,7 +80,7 @@ all_found shelf conf request wanted script conf_text request_text wanted_text sc
 all_found shelf conf request wanted script conf_text request_text wanted_text script_text is also other last Other = tt
 
 -- what is there under a name that isn't asked for
-some_found : (shelf : Option FileMap) (name : Option (List ℕ)) → (text : Option (List ℕ)) × IsFound shelf name text
+pub some_found : (shelf : Option FileMap) (name : Option (List ℕ)) → (text : Option (List ℕ)) × IsFound shelf name text
 some_found shelf None = (None, tt)
 some_found None (Some name) = (None, tt)
 some_found (Some files) (Some name) = (map.get files name, refl)

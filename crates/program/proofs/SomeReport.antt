@@ -4,7 +4,7 @@ use Rattle.std.proofs.Common.{◌≡◌, ◌+◌, ◌++◌, inl, inr, ℕ, Bool,
 use Rattle.std.specs.Prelude.{⊤, IsTrue, IsSome}
 use Rattle.std.specs.List.{list_all}
 use Rattle.sfv_text.specs.Classes.{is_byte}
-use Rattle.command_line.specs.Command.{CommandLine, Help, HelpOf, Version, Base, Verify, Sign, Rewrite, Audit, Sample, IsCommand, NoCommand}
+use Rattle.command_line.specs.Command.{CommandLine, Help, HelpOf, Version, Base, Verify, Sign, Rewrite, Audit, Gateway, Sample, IsCommand, NoCommand}
 use Rattle.command_line.proofs.SomeCommand.{command_or_none}
 use Rattle.component_ids.specs.declared.params.SigParams.{SigParams}
 use Rattle.component_values.specs.Context.{MessageContext, answers_head, context_with}
@@ -37,7 +37,7 @@ use Rattle.commands.specs.declared.outcome.Outcome.{Outcome}
 use Rattle.commands.specs.declared.outcome.Outcome.TheVariants.{Done, Refused}
 use Rattle.refusals.specs.declared.refusal.Refusal.{Refusal}
 use Rattle.program.specs.Laws.{HasSomeReport, IsBaseDone, CanSignEach, IsSignDone, IsRewriteDone, IsServed, HasAll, IsAnswered, IsComplete}
-use Rattle.program.specs.Commands.{name_of}
+use Rattle.program.specs.Commands.{input_use, is_whole, name_of}
 use Rattle.program.specs.Intake.{IsConfRead, TakenValues}
 use Rattle.program.specs.Report.{Answers, ReportsCommand, ReportsFiles}
 use Rattle.program.proofs.CommandLaws.{conf_answer, params_answer, values_answer, verdicts_answer, signing_answer, rewriting_answer, auditing_answer, audit_answer, sampling_answer, writable_where_scripted, valid_where_configured}
@@ -85,23 +85,24 @@ some_of_signing nonce now name text taken read writable is =
     let sign = some_sign taken.conf read.tables in
     signing_answer nonce now taken.conf taken.wishes taken.context sign.0 sign.1 ((valid_where_configured name text taken.conf read.configured).sign sign.0 sign.1).keyid
 
-some_of_command : (command : CommandLine) (found : Found) (input : List ℕ) → AreOfBytes found → IsTrue (list_all is_byte input) → HasSome (ReportsCommand command found input)
-some_of_command Help found input files bytes = (Done help_text, refl)
-some_of_command (HelpOf command) found input files bytes = (Done (TITLE_TEXT.now ++ text_of command), refl)
-some_of_command Version found input files bytes = (Done VERSION_TEXT.now, refl)
-some_of_command (Base words) found input files bytes =
+some_of_command : (command : CommandLine) → IsTrue (is_whole (input_use command)) → (found : Found) (input : List ℕ) → AreOfBytes found → IsTrue (list_all is_byte input) → HasSome (ReportsCommand command found input)
+some_of_command Help whole found input files bytes = (Done help_text, refl)
+some_of_command (HelpOf command) whole found input files bytes = (Done (TITLE_TEXT.now ++ text_of command), refl)
+some_of_command Version whole found input files bytes = (Done VERSION_TEXT.now, refl)
+some_of_command (Base words) whole found input files bytes =
     some_of_files Nothing (λ taken. ReportsBase words.params taken.context) (name_of (Base words)) found input (λ taken _ _ _. some_of_base words.params taken.context) files bytes
-some_of_command (Verify words) found input files bytes =
+some_of_command (Verify words) whole found input files bytes =
     some_of_files Nothing (λ taken. ReportsVerdicts words.label words.now taken.conf taken.context) (name_of (Verify words)) found input
     (λ taken _ _ _. verdicts_answer words.label words.now taken.conf taken.context) files bytes
-some_of_command (Sign words) found input files bytes =
+some_of_command (Sign words) whole found input files bytes =
     some_of_files SignTable (λ taken. ReportsSigning words.nonce words.now taken.conf taken.wishes taken.context) (name_of (Sign words)) found input
     (some_of_signing words.nonce words.now (Some words.conf) (found ConfFile)) files bytes
-some_of_command (Rewrite words) found input files bytes =
+some_of_command (Rewrite words) whole found input files bytes =
     some_of_files Nothing (λ taken. ReportsRewriting words.label taken.script taken.context) (name_of (Rewrite words)) found input
     (λ taken _ writable message. rewriting_answer words.label taken.script taken.context writable message) files bytes
-some_of_command (Audit words) found input files bytes = some_of_layers _ _ _ _ (conf_answer (Some words.conf) (found ConfFile)) (λ conf _. auditing_answer conf input bytes)
-some_of_command (Sample words) found input files bytes = let some = sampling_answer words.seed words.count in (some.0, some.1)
+some_of_command (Audit words) whole found input files bytes = some_of_layers _ _ _ _ (conf_answer (Some words.conf) (found ConfFile)) (λ conf _. auditing_answer conf input bytes)
+some_of_command (Gateway words) whole found input files bytes = absurd (cc whole)
+some_of_command (Sample words) whole found input files bytes = let some = sampling_answer words.seed words.count in (some.0, some.1)
 
 arguments_answer : (arguments : List (List ℕ)) → HasAnswer (IsCommand arguments) (λ (_ : ⊤). NoCommand arguments)
 arguments_answer arguments = elim (command_or_none arguments) [
@@ -110,7 +111,7 @@ arguments_answer arguments = elim (command_or_none arguments) [
 ]
 
 pub some_report_law : HasSomeReport
-some_report_law arguments found input files bytes = some_of_layers _ _ _ _ (arguments_answer arguments) (λ command _. some_of_command command found input files bytes)
+some_report_law arguments found input whole files bytes = some_of_layers _ _ _ _ (arguments_answer arguments) (λ command is. some_of_command command (whole command is) found input files bytes)
 
 -- ---- where nothing is refused
 
@@ -188,6 +189,7 @@ command_answered (Rewrite words) found input has =
 command_answered (Audit words) found input has =
     let next = audit_answered has.conf input has.items has.recorded has.none in
     (next.0, inl (has.conf, has.configured, next.1), next.2)
+command_answered (Gateway words) found input has = absurd has
 command_answered (Sample words) found input has = sampling_answer words.seed words.count
 
 pub complete_law : IsComplete

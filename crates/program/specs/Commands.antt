@@ -1,8 +1,8 @@
 -- What each command reads: the files that it names, and its input.
-use Rattle.std.specs.Prelude.{◌≡◌, ◌+◌, ◌≤◌, ℕ, Bool, true, IsTrue, List, Option, None}
+use Rattle.std.specs.Prelude.{◌≡◌, ◌+◌, ◌≤◌, ℕ, Bool, true, false, IsTrue, List, Option, None}
 use Rattle.hms_io.specs.Files.{FileMap}
 use Rattle.hms_io.specs.Reading.{LosesPrefix}
-use Rattle.command_line.specs.Command.{CommandLine, Help, HelpOf, Version, Base, Verify, Sign, Rewrite, Audit, Sample, IsCommand, conf_of, request_of, wanted_of, script_of}
+use Rattle.command_line.specs.Command.{CommandLine, Help, HelpOf, Version, Base, Verify, Sign, Rewrite, Audit, Gateway, Sample, IsCommand, conf_of, request_of, wanted_of, script_of}
 use Rattle.commands.specs.Files.{FileRole, FileNames, Found, AreFound, file_names, file_bytes}
 use Rattle.refusals.specs.declared.refusal.TheConstants.{MAX_INPUT_BYTES, MAX_RECORDING_BYTES}
 
@@ -17,6 +17,8 @@ pub data InputUse : Type 0 where
   Unread : InputUse
   -- to its end before anything is written, and at most so many bytes of it
   Whole : ℕ → InputUse
+  -- item by item, and what is written of an item before more is read
+  Streamed : InputUse
 
 abbrev pub input_use : CommandLine → InputUse
 input_use Help = Unread
@@ -27,21 +29,24 @@ input_use (Verify words) = Whole MAX_INPUT_BYTES
 input_use (Sign words) = Whole MAX_INPUT_BYTES
 input_use (Rewrite words) = Whole MAX_INPUT_BYTES
 input_use (Audit words) = Whole MAX_RECORDING_BYTES
+input_use (Gateway words) = Streamed
 input_use (Sample words) = Unread
 
 -- what the command comes to is known before anything is written
 abbrev pub is_whole : InputUse → Bool
 is_whole Unread = true
 is_whole (Whole limit) = true
+is_whole Streamed = false
 
 -- at most so many bytes are gone, the first ones
 abbrev pub LosesAtMost : ℕ → Option (List ℕ) → Option (List ℕ) → Type 0
 LosesAtMost most before now = (n : ℕ) × (n ≤ most) × LosesPrefix before now n
 
--- of an input at most one byte past the limit is gone
+-- of an input at most one byte past the limit is gone; of a stream any number
 abbrev pub LosesFew : InputUse → Option (List ℕ) → Option (List ℕ) → Type 0
 LosesFew Unread before now = LosesAtMost 0 before now
 LosesFew (Whole limit) before now = LosesAtMost (limit + 1) before now
+LosesFew Streamed before now = (n : ℕ) × LosesPrefix before now n
 
 -- ---- the same for arguments
 

@@ -13,7 +13,7 @@ use Rattle.commands.specs.Files.{FileNames, Found}
 use Rattle.commands.specs.Outcome.{status_of, output_of}
 use Rattle.commands.specs.declared.outcome.Outcome.{Outcome}
 use Rattle.commands.specs.declared.outcome.Outcome.TheVariants.{Refused}
-use Rattle.program.specs.Commands.{InputUse, Unread, Whole, input_use, name_of, AreFoundFor}
+use Rattle.program.specs.Commands.{InputUse, Unread, Whole, Streamed, input_use, name_of, AreFoundFor}
 use Rattle.program.specs.Intake.{named_count, read_order, roles_until}
 use Rattle.program.specs.Report.{Reports}
 use Rattle.refusals.specs.Laws.{IsOfRefusal}
@@ -30,9 +30,11 @@ abbrev pub LeavesNothing : Option (List ℕ) → Option (List ℕ) → Type 0
 LeavesNothing before now = IfSome before (λ _. now ≡ Some [])
 
 -- The input is unread where no input is due, or what comes before it is refused; all but one byte
--- more than the limit is left where it is too long; and else nothing.
+-- more than the limit is left where it is too long; and else nothing. Of a stream it is said with
+-- what was written of it.
 abbrev pub Leaves : InputUse → Type 0 → Option (List ℕ) → Option (List ℕ) → Outcome → Type 0
 Leaves Unread Same before now outcome = Same
+Leaves Streamed Same before now outcome = Unit {0}
 Leaves (Whole limit) Same before now (Refused (Of Input (TooLong _))) =
     LosesPrefix before now (limit + 1)
 Leaves (Whole limit) Same before now (Refused (Of Input refusal)) = LeavesNothing before now
@@ -96,14 +98,19 @@ Ends arguments shelf Same before left taken now status =
 
 -- ---- why a run is refused
 
--- What is told of a refusal: it is the outcome, its status is that of the run, and its line was
--- added to the known bytes. Where none is told, no refusal gives the status: what was asked for was
--- written, a device failed, or no memory was found.
-abbrev pub TellsWhy : (Outcome → Type 0) → Option (List ℕ) → Option (List ℕ) → Status
-    → Option Refusal → Type 0
-TellsWhy Has taken now status (Some refusal) = Has (Refused refusal)
-    × (refusal_status refusal ≡ status) × Appends taken now (refusal_line refusal)
-TellsWhy Has taken now status None = ¬ IsOfRefusal status
+-- the refusal is the outcome, and its line was added to the known bytes
+abbrev pub WritesRefusal : (Outcome → Type 0) → Option (List ℕ) → Option (List ℕ) → Refusal
+    → Type 0
+WritesRefusal Has taken now refusal =
+    Has (Refused refusal) × Appends taken now (refusal_line refusal)
+
+-- What is told of a refusal: the run is refused so, and its status is that of the run. Where none
+-- is told, no refusal gives the status: what was asked for was written, a device failed, or no
+-- memory was found.
+abbrev pub TellsWhy : (Refusal → Type 0) → Status → Option Refusal → Type 0
+TellsWhy IsRefusedSo status (Some refusal) =
+    IsRefusedSo refusal × (refusal_status refusal ≡ status)
+TellsWhy IsRefusedSo status None = ¬ IsOfRefusal status
 
 -- ---- the files that are asked for
 

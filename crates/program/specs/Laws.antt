@@ -1,9 +1,10 @@
 -- Laws of what the program answers.
 use Rattle.std.specs.Prelude.{◌≡◌, ◌⊎◌, ⊤, ℕ, IsTrue, IsFalse, List, [], ◌∷◌, Option, Some, None}
 use Rattle.std.specs.List.{list_all, list_any}
+use Rattle.hms_io.specs.declared.status.Status.{Status}
 use Rattle.hms_io.specs.declared.status.Status.TheVariants.{Done, NotOk}
 use Rattle.sfv_text.specs.Classes.{is_byte}
-use Rattle.command_line.specs.Command.{CommandLine, Help, HelpOf, Version, Base, Verify, Sign, Rewrite, Audit, Sample, SignWords, VerifyWords, RewriteWords, AuditWords, IsCommand}
+use Rattle.command_line.specs.Command.{CommandLine, Help, HelpOf, Version, Base, Verify, Sign, Rewrite, Audit, Gateway, Sample, SignWords, VerifyWords, RewriteWords, AuditWords, GatewayWords, IsCommand}
 use Rattle.component_ids.specs.declared.params.SigParams.{SigParams}
 use Rattle.component_values.specs.Context.{MessageContext, context_with}
 use Rattle.component_values.specs.Values.{HaveValues}
@@ -24,10 +25,13 @@ use Rattle.commands.specs.Verify.{verdicts_outcome}
 use Rattle.commands.specs.declared.outcome.Outcome.{Outcome}
 use Rattle.commands.specs.declared.outcome.Outcome.TheVariants.{Done as Written, Refused}
 use Rattle.commands.specs.declared.tables.Needs.{Needs}
-use Rattle.commands.specs.declared.tables.Needs.TheVariants.{Nothing, SignTable}
+use Rattle.commands.specs.declared.tables.Needs.TheVariants.{Nothing, SignTable, GatewayTables}
 use Rattle.framing.specs.Framings.{is_request}
 use Rattle.rewrite_script.specs.declared.rewrite.Rewrite.{Rewrite as Rewriting}
 use Rattle.recording.specs.Items.{PlacedItem}
+use Rattle.settings.specs.declared.gateway_conf.GatewayConf.{GatewayConf}
+use Rattle.gateway.specs.Streams.{IsServed as IsServedWhole}
+use Rattle.gateway.specs.declared.gateway_record.GatewayRecord.{GatewayRecord}
 use Rattle.hop_audit.specs.ChainValues.{Chain}
 use Rattle.hop_audit.specs.Laws.{IsSoundReport}
 use Rattle.hop_audit.specs.Report.{AreItemsOf, IsReport}
@@ -45,9 +49,10 @@ use Rattle.verdicts.specs.Laws.{is_rule_of_signing}
 use Rattle.verdicts.specs.Rules.{key_in}
 use Rattle.verdicts.specs.declared.outcome.Verdict.{Verdict}
 use Rattle.verdicts.specs.declared.outcome.Verdict.TheVariants.{Ok as Accepted, Rule as Failing}
-use Rattle.program.specs.Commands.{name_of}
-use Rattle.program.specs.Intake.{IsIntake, IsIntakeRefused, TakenValues}
+use Rattle.program.specs.Commands.{ReadsWhole, name_of}
+use Rattle.program.specs.Intake.{IsConfRead, IsIntake, IsIntakeRefused, TakenValues}
 use Rattle.program.specs.Report.{Reports}
+use Rattle.program.specs.StreamEnds.{EndsBefore, EndsServed}
 
 -- of the files of these names and an input at most one value is taken, or it is refused for at most
 -- one cause
@@ -69,10 +74,11 @@ HasOneReport =
     (arguments : List (List ℕ)) (found : Found) (input : List ℕ) (one other : Outcome) →
     Reports arguments found input one → Reports arguments found input other → one ≡ other
 
--- they have some outcome, where the files and the input are of bytes
+-- they have some outcome, where the files and the input are of bytes, and the command writes
+-- nothing before it has read all
 abbrev pub HasSomeReport : Type 0
 HasSomeReport =
-    (arguments : List (List ℕ)) (found : Found) (input : List ℕ)
+    (arguments : List (List ℕ)) (found : Found) (input : List ℕ) → ReadsWhole arguments
     → ((role : FileRole) → IsOfBytes (found role)) → IsTrue (list_all is_byte input)
     → (outcome : Outcome) × Reports arguments found input outcome
 
@@ -130,7 +136,7 @@ pub record IsAuditable (words : AuditWords) (found : Found) (input : List ℕ) :
   pub recorded : IsRecordingText input items
   pub none : (refusal : Refusal) → ¬ IsChainRefused items refusal
 
--- the command has all that it needs
+-- the command has all that it needs; of `gateway` it is said with what it writes
 abbrev pub HasAll : CommandLine → Found → List ℕ → Type 0
 HasAll Help found input = ⊤
 HasAll (HelpOf command) found input = ⊤
@@ -147,6 +153,7 @@ HasAll (Rewrite words) found input =
     IsServed Nothing (name_of (Rewrite words)) found input
     (λ taken. IsRewriteDone words.label taken.script taken.context)
 HasAll (Audit words) found input = IsAuditable words found input
+HasAll (Gateway words) found input = ⊥
 HasAll (Sample words) found input = ⊤
 
 -- the outcome is what was asked for, and no refusal
@@ -263,3 +270,26 @@ IsKeptWherePermitted =
     → Reports arguments found input outcome → IsAnswered outcome
     → (conf : Configuration) × IsConfigured (Some words.conf) (found ConfFile) conf
     × IsSoundAudit conf input outcome
+
+-- ---- a stream
+
+-- the file of this name says a configuration with all that a gateway needs, and by it the input is
+-- the recording of messages in their places
+pub record IsServable (words : GatewayWords) (found : Found) (input : List ℕ) : Type 0 where
+  pub conf : Configuration
+  pub read : IsConfRead GatewayTables (Some words.conf) (found ConfFile) conf
+  pub settings : GatewayConf
+  pub settings_are : conf.gateway ≡ Some settings
+  pub records : List GatewayRecord
+  pub served : IsServedWhole conf settings input records
+
+-- A run of `gateway` over it isn't refused: it is done, whether each message passes or not, a
+-- device failed, or no memory was found.
+abbrev pub IsServedInPlace : Type 0
+IsServedInPlace =
+    (words : GatewayWords) (found : Found) (input : List ℕ)
+    (left_now taken now : Option (List ℕ)) (status : Status) (told : Option Refusal)
+    → IsServable words found input
+    → EndsBefore words found taken now status told
+    ⊎ EndsServed words found (Some input) left_now taken now status told
+    → told ≡ None

@@ -4,4 +4,6 @@ pub mod Intake
 pub mod Laws
 pub mod Meanings
 pub mod Report
+pub mod StreamEnds
+pub mod StreamMeanings
 pub mod tools

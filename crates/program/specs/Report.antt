@@ -1,7 +1,7 @@
 -- What the program answers for its arguments, what was found in its files, and its input, and for
 -- nothing else.
 use Rattle.std.specs.Prelude.{⊤, ℕ, List}
-use Rattle.command_line.specs.Command.{CommandLine, Help, HelpOf, Version, Base, Verify, Sign, Rewrite, Audit, Sample, IsCommand, NoCommand}
+use Rattle.command_line.specs.Command.{CommandLine, Help, HelpOf, Version, Base, Verify, Sign, Rewrite, Audit, Gateway, Sample, IsCommand, NoCommand}
 use Rattle.conf.specs.Configuration.{Configuration}
 use Rattle.commands.specs.Audit.{ReportsAudit}
 use Rattle.commands.specs.Base.{ReportsBase}
@@ -38,7 +38,8 @@ ReportsConfigured Then names found =
     ReadsThen (IsConfigured (names ConfFile) (found ConfFile))
     (IsConfRefused (names ConfFile) (found ConfFile)) (λ refusal. Of Conf refusal) Then
 
--- what a command comes to over what was found and an input
+-- What a command comes to over what was found and an input. What `gateway` writes isn't known
+-- before its input is read, so it has no outcome of this kind.
 abbrev pub ReportsCommand : CommandLine → Found → List ℕ → Outcome → Type 0
 ReportsCommand Help found input = ReportsHelp
 ReportsCommand (HelpOf command) found input = ReportsHelpOf command
@@ -59,6 +60,7 @@ ReportsCommand (Rewrite words) found input =
     (name_of (Rewrite words)) found input
 ReportsCommand (Audit words) found input =
     ReportsConfigured (λ conf. ReportsAudit conf input) (name_of (Audit words)) found
+ReportsCommand (Gateway words) found input = λ outcome. ⊥
 ReportsCommand (Sample words) found input = ReportsSample words.seed words.count
 
 -- The outcome for these arguments, what was found and this input. The arguments are judged first,

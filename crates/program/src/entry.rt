@@ -1,23 +1,26 @@
 //! The top call: all that the program does.
 
-ghost use Rattle.std.specs.Prelude.{◌≡◌, ◌⊎◌, ◌≤◌, Err, IfOk, IsTrue, map, string_bytes};
+ghost use Rattle.std.specs.Prelude.{◌≡◌, ◌⊎◌, ◌≤◌, Err, IfOk, IfSome, IfNone, IsTrue, map, string_bytes};
 ghost use Rattle.std.specs.List.{list_all};
 ghost use Rattle.sfv_text.specs.Classes.{is_byte};
 ghost use Rattle.hms_io.specs.Files.{KeepsFiles};
-ghost use Rattle.command_line.specs.Command.{NoCommand};
+ghost use Rattle.command_line.specs.Command.{Gateway, IsCommand, NoCommand, gateway_words};
 ghost use Rattle.program.specs.Commands.{NamesNoFile, ReadsNoInput, ReadsWhole, ReachesNamed, ReadsFew};
-ghost use Rattle.program.specs.Ends.{AsksForNamed, HasReport, Ends, TellsWhy, CountsFaults, CountsReads};
+ghost use Rattle.program.specs.Ends.{AsksForNamed, HasReport, Ends, TellsWhy, WritesRefusal, CountsFaults, CountsReads};
+ghost use Rattle.program.specs.StreamEnds.{IsRefusedFor, WritesStream};
+ghost use Rattle.program.specs.StreamMeanings.{WritesPassed};
 ghost use Rattle.program.specs.Meanings.{WritesOneBase, WritesOneChain, WritesSigned, WritesVerdicts};
 ghost use Rattle.refusals.specs.declared.refusal.Refusal.TheVariants.{Arguments};
 ghost use Rattle.commands.specs.declared.stop.Stop.TheVariants.{Refused};
 ghost use Rattle.commands.specs.Outcome.{output_of};
 ghost use Rattle.commands.specs.Stops.{IfOutcome};
-ghost use Rattle.program.specs.tools.Parts.{AsksOf, CountsOne, IsWritten, refusal_of};
+ghost use Rattle.program.specs.tools.Parts.{AsksOf, CountsOne, IsWritten, IsWrittenStop, refusal_of};
 
 use crate::ended::Ended;
 use crate::over_message::over_message;
 use crate::over_recording::over_recording;
-use command_line::{Command, read_words};
+use crate::over_stream::over_stream;
+use command_line::{Command, GatewayWords, read_words};
 use commands::{Outcome, Stop, help_outcome, sample_outcome, version_outcome, write_help_of};
 use hms_io::{Failed, Shelf, Sink, Source, Status, put_all};
 use refusals::Refusal;
@@ -31,6 +34,7 @@ fn run_command<F: Shelf, S: Source>(
     shelf: &mut F,
     source: &mut S,
 ) -> Result<Outcome, Stop>
+    requires { ReadsWhole (map string_bytes arguments.now) }
     ensures report { IfOutcome result (HasReport (map string_bytes arguments.now)
         (F.files shelf.old) (source.new ≡ source.old) (S.left source.old) (S.left source.new)) }
     ensures cause { CountsOne (source.new ≡ source.old) (F.faults shelf.old) (F.faults shelf.new)
@@ -62,6 +66,8 @@ fn run_command<F: Shelf, S: Source>(
         Command::Sign(words) => over_message(alloc, &words, shelf, source),
         Command::Rewrite(words) => over_message(alloc, &words, shelf, source),
         Command::Audit(words) => over_recording(alloc, &words, shelf, source),
+        // what it writes isn't known before all is read
+        Command::Gateway(_) => unreachable!(),
         Command::Sample(words) => sample_outcome(alloc, words.seed, words.count),
     }
 }
@@ -90,7 +96,7 @@ fn output_and_refusal(alloc: Global, outcome: Outcome) -> Result<(Text, Option<R
 }
 
 /// Writes the outcome.
-fn write_outcome<K: Sink>(alloc: Global, outcome: Outcome, out: &mut K) -> Ended
+pub(crate) fn write_outcome<K: Sink>(alloc: Global, outcome: Outcome, out: &mut K) -> Ended
     ensures ends { IsWritten outcome (K.taken out.old) (K.taken out.new)
         result.status result.refusal }
     ensures writes { CountsFaults Status.WriteFault result.status
@@ -103,6 +109,79 @@ fn write_outcome<K: Sink>(alloc: Global, outcome: Outcome, out: &mut K) -> Ended
     match put_all(out, of_bytes(output.bytes())) {
         Ok(()) => Ended { status, refusal },
         Err(Failed) => Ended::of_status(Status::WriteFault),
+    }
+}
+
+/// How a run ends that is stopped before anything is written.
+pub(crate) fn end_stopped<K: Sink>(alloc: Global, stop: Stop, out: &mut K) -> Ended
+    ensures ends { IsWrittenStop stop (K.taken out.old) (K.taken out.new)
+        result.status result.refusal }
+    ensures writes { CountsFaults Status.WriteFault result.status
+        (K.faults out.old) (K.faults out.new) }
+{
+    match stop {
+        Stop::Refused(refusal) => write_outcome(alloc, Outcome::Refused(refusal), out),
+        Stop::ReadFault => Ended::of_status(Status::ReadFault),
+        Stop::Memory => Ended::of_status(Status::OutOfMemory),
+    }
+}
+
+/// The words of the command that writes before it has read all, if the arguments are of that one.
+fn stream_words<'a>(arguments: &'a [String]) -> Option<GatewayWords<'a>>
+    ensures some { IfSome result (λ words.
+        IsCommand (map string_bytes arguments.now) (Gateway (gateway_words words))) }
+    ensures none { IfNone result (ReadsWhole (map string_bytes arguments.now)) }
+{
+    match read_words(arguments)? {
+        Command::Gateway(words) => Some(words),
+        _ => None,
+    }
+}
+
+/// Does what the arguments ask for, where nothing is written before all is read.
+fn run_whole<F: Shelf, S: Source, K: Sink>(
+    alloc: Global,
+    arguments: &[String],
+    shelf: &mut F,
+    source: &mut S,
+    out: &mut K,
+) -> Ended
+    requires { ReadsWhole (map string_bytes arguments.now) }
+    ensures ends { Ends (map string_bytes arguments.now) (F.files shelf.old)
+        (source.new ≡ source.old) (S.left source.old) (S.left source.new)
+        (K.taken out.old) (K.taken out.new) result.status }
+    ensures why { TellsWhy (WritesRefusal (HasReport (map string_bytes arguments.now)
+        (F.files shelf.old) (source.new ≡ source.old) (S.left source.old) (S.left source.new))
+        (K.taken out.old) (K.taken out.new)) result.status result.refusal }
+    ensures base { WritesOneBase (map string_bytes arguments.now) (F.files shelf.old)
+        (S.left source.old) (K.taken out.old) (K.taken out.new) result.status }
+    ensures verify { WritesVerdicts (map string_bytes arguments.now) (F.files shelf.old)
+        (S.left source.old) (K.taken out.old) (K.taken out.new) result.status }
+    ensures sign { WritesSigned (map string_bytes arguments.now) (F.files shelf.old)
+        (S.left source.old) (K.taken out.old) (K.taken out.new) result.status }
+    ensures audit { WritesOneChain (map string_bytes arguments.now) (F.files shelf.old)
+        (S.left source.old) (K.taken out.old) (K.taken out.new) result.status }
+    ensures refused { NoCommand (map string_bytes arguments.now)
+        → (result.status ≡ Status.BadArguments)
+        ⊎ ((result.status ≡ Status.WriteFault) ⊎ (result.status ≡ Status.OutOfMemory)) }
+    ensures unread { ReadsNoInput (map string_bytes arguments.now) → source.new ≡ source.old }
+    ensures unasked { NamesNoFile (map string_bytes arguments.now) → shelf.new ≡ shelf.old }
+    ensures files { KeepsFiles (F.files shelf.old) (F.files shelf.new) }
+    ensures few { ReadsFew (map string_bytes arguments.now)
+        (S.left source.old) (S.left source.new) }
+    ensures ended { S.ended source.old ≡ 0 → S.ended source.new ≤ 1 }
+    ensures asked { AsksForNamed (map string_bytes arguments.now) result.refusal
+        (F.asked shelf.old) (F.asked shelf.new) }
+    ensures reached { ReachesNamed (map string_bytes arguments.now)
+        (F.reached shelf.old) (F.reached shelf.new) }
+    ensures reads { CountsReads (source.new ≡ source.old) result.status
+        (F.faults shelf.old) (F.faults shelf.new) (S.faults source.old) (S.faults source.new) }
+    ensures writes { CountsFaults Status.WriteFault result.status
+        (K.faults out.old) (K.faults out.new) }
+{
+    match run_command(alloc, arguments, shelf, source) {
+        Ok(outcome) => write_outcome(alloc, outcome, out),
+        Err(stop) => end_stopped(alloc, stop, out),
     }
 }
 
@@ -123,15 +202,23 @@ pub fn run<F: Shelf, S: Source, K: Sink>(
         (source.new ≡ source.old) (S.left source.old) (S.left source.new)
         (K.taken out.old) (K.taken out.new) result.status }
 
-    // A refusal is told where it is the outcome and its line was written, at the statuses that only
-    // a refusal gives, and at no other.
-    ensures why { TellsWhy (HasReport (map string_bytes arguments.now) (F.files shelf.old)
-        (source.new ≡ source.old) (S.left source.old) (S.left source.new))
+    // What `gateway` wrote, item by item: the records of its stream, and then the refusal that is
+    // told, if any.
+    ensures gateway { WritesStream (map string_bytes arguments.now) (F.files shelf.old)
+        (source.new ≡ source.old) (S.left source.old) (S.left source.new)
         (K.taken out.old) (K.taken out.new) result.status result.refusal }
+
+    // A refusal is told where it is the outcome, or that of a stream, and its line was written, at
+    // the statuses that only a refusal gives, and at no other.
+    ensures why { TellsWhy (IsRefusedFor (map string_bytes arguments.now) (F.files shelf.old)
+        (source.new ≡ source.old) (S.left source.old) (S.left source.new)
+        (K.taken out.old) (K.taken out.new)) result.status result.refusal }
 
     // What these commands wrote tells what it was made of: equal bases have equal parameters and
     // values, labels that are accepted with one tag under one key agree, each label that was there
-    // or is signed is there, and what is kept at a hop has one base on both sides of it.
+    // or is signed is there, what is kept at a hop has one base on both sides of it, and a message
+    // that passes keeps the accepted signature, beside that of the gateway; no nonce is accepted
+    // twice.
     ensures base { WritesOneBase (map string_bytes arguments.now) (F.files shelf.old)
         (S.left source.old) (K.taken out.old) (K.taken out.new) result.status }
     ensures verify { WritesVerdicts (map string_bytes arguments.now) (F.files shelf.old)
@@ -140,6 +227,9 @@ pub fn run<F: Shelf, S: Source, K: Sink>(
         (S.left source.old) (K.taken out.old) (K.taken out.new) result.status }
     ensures audit { WritesOneChain (map string_bytes arguments.now) (F.files shelf.old)
         (S.left source.old) (K.taken out.old) (K.taken out.new) result.status }
+    ensures passed { WritesPassed (map string_bytes arguments.now) (F.files shelf.old)
+        (source.new ≡ source.old) (S.left source.old) (S.left source.new)
+        (K.taken out.old) (K.taken out.new) result.status result.refusal }
 
     // Where the arguments are no command, or one without an input, the source isn't read, and where
     // they name no file, none is asked for. The files stay as they are.
@@ -150,9 +240,9 @@ pub fn run<F: Shelf, S: Source, K: Sink>(
     ensures unasked { NamesNoFile (map string_bytes arguments.now) → shelf.new ≡ shelf.old }
     ensures files { KeepsFiles (F.files shelf.old) (F.files shelf.new) }
 
-    // At any status at most one byte past the limit is read, of the input and of each file, the
-    // source isn't read after its end, and at most so many files are asked for as the command
-    // names: after one that is refused no other.
+    // At any status at most one byte past the limit is read, of the input, unless it is a stream,
+    // and of each file, the source isn't read after its end, and at most so many files are asked
+    // for as the command names: after one that is refused no other.
     ensures few { ReadsFew (map string_bytes arguments.now)
         (S.left source.old) (S.left source.new) }
     ensures ended { S.ended source.old ≡ 0 → S.ended source.new ≤ 1 }
@@ -167,10 +257,8 @@ pub fn run<F: Shelf, S: Source, K: Sink>(
     ensures writes { CountsFaults Status.WriteFault result.status
         (K.faults out.old) (K.faults out.new) }
 {
-    match run_command(alloc, arguments, shelf, source) {
-        Ok(outcome) => write_outcome(alloc, outcome, out),
-        Err(Stop::Refused(refusal)) => write_outcome(alloc, Outcome::Refused(refusal), out),
-        Err(Stop::ReadFault) => Ended::of_status(Status::ReadFault),
-        Err(Stop::Memory) => Ended::of_status(Status::OutOfMemory),
+    match stream_words(arguments) {
+        Some(words) => over_stream(alloc, &words, shelf, source, out),
+        None => run_whole(alloc, arguments, shelf, source, out),
     }
 }

@@ -1,6 +1,6 @@
 //! Laws of what the program answers. Each function does nothing; its contract is the law.
 
-ghost use Rattle.program.specs.Laws.{HasIntake, HasOneReport, HasSomeReport, IsComplete, IsIntakeDecided, IsAcceptedWhereSigned, IsVerdictKept, IsKeptWherePermitted, IsLineWhereRefused};
+ghost use Rattle.program.specs.Laws.{HasIntake, HasOneReport, HasSomeReport, IsComplete, IsServedInPlace, IsIntakeDecided, IsAcceptedWhereSigned, IsVerdictKept, IsKeptWherePermitted, IsLineWhereRefused};
 ghost use Rattle.program.specs.Meanings.{HasOneBase, HasOneChain, HasSigned, HaveOneMeaning, RunsAgreeWhereOneTag};
 
 /// For given arguments, files and input there is one outcome, and so one status and one output. So
@@ -27,6 +27,12 @@ pub fn a_refusal_is_one_line()
 /// or 1.
 pub fn a_command_that_has_all_is_answered()
     ensures { IsComplete }
+{}
+
+/// A run of `gateway` over a recording of messages in their places isn't refused: it is served to
+/// its end, unless a device fails or no memory is found.
+pub fn a_stream_in_its_place_is_served()
+    ensures { IsServedInPlace }
 {}
 
 /// What `verify` writes says of which labels it is `ok`: each is accepted, and any two messages in

@@ -21,11 +21,13 @@ mod intake;
 mod laws;
 mod over_message;
 mod over_recording;
+mod over_stream;
 
 pub use ended::Ended;
 pub use entry::run;
 pub use laws::{
-    a_base_has_one_meaning, a_command_that_has_all_is_answered, a_refusal_is_one_line, one_report,
-    one_tag_has_one_meaning, the_intake_is_decided, what_is_kept_has_one_base,
-    what_is_permitted_is_kept, what_is_rewritten_keeps_its_verdict, what_is_signed_is_accepted,
+    a_base_has_one_meaning, a_command_that_has_all_is_answered, a_refusal_is_one_line,
+    a_stream_in_its_place_is_served, one_report, one_tag_has_one_meaning, the_intake_is_decided,
+    what_is_kept_has_one_base, what_is_permitted_is_kept, what_is_rewritten_keeps_its_verdict,
+    what_is_signed_is_accepted,
 };

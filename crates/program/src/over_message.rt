@@ -271,7 +271,7 @@ fn over_source<C: OverMessage, S: Source>(
 
 /// Reads the configuration in the named file, or that of the empty text, and refuses one that lacks
 /// what is needed.
-fn read_needed<F: Shelf>(
+pub(crate) fn read_needed<F: Shelf>(
     alloc: Global,
     needs: Needs,
     name: Option<&str>,

@@ -7,7 +7,8 @@ use Rattle.std.specs.List.Sorted.{IsNonDecreasing}
 use Rattle.recording.specs.Items.{Body, moment, stored, IsShort}
 use Rattle.recording.specs.Recordings.{AreItems, AreAllowed, moments}
 use Rattle.recording.specs.Causes.{HasLineAt, IsLongLine, IsFallingLine}
-use Rattle.recording.specs.tools.Running.{AreAllowedAfter, last_moment, IsLongAfter, IsFallingAfter, HasLineAfter}
+use Rattle.recording.specs.Readers.{IsLastMoment}
+use Rattle.recording.specs.tools.Running.{IsAllowedAfter, moment_after, AreAllowedAfter, last_moment, IsLongAfter, IsFallingAfter, HasLineAfter}
 
 -- ---- order
 
@@ -74,6 +75,29 @@ last_or_is : (xs : List ℕ) (a d : ℕ) → last_or (xs ++ a ∷ []) d ≡ a
 unfolding last_or
 last_or_is [] a d = refl
 last_or_is (x ∷ xs) a d = last_or_is xs a x
+
+-- the last one, or 0 where there is none
+pub is_last : (items : List Body) → IsLastMoment (moments items) (last_moment 0 items)
+is_last items = ends 0 items
+
+pub last_moment_is : (items : List Body) (last : ℕ) → IsLastMoment (moments items) last → last ≡ last_moment 0 items
+last_moment_is items last m =
+    let e = ends 0 items in
+    sym (last_or_is m.0 last 0) ∙ ap (λ (xs : List ℕ). last_or xs 0) (sym m.1 ∙ e.1) ∙ last_or_is e.0 (last_moment 0 items) 0
+
+-- ---- one more item
+
+pub last_snoc : (last : ℕ) (items : List Body) (item : Body) → last_moment last (items ++ item ∷ []) ≡ moment_after (last_moment last items) item
+last_snoc last [] item = refl
+last_snoc last (b ∷ items) item = last_snoc (moment_after last b) items item
+
+pub allowed_snoc : (last : ℕ) (items : List Body) (item : Body) → AreAllowedAfter last items → IsAllowedAfter (last_moment last items) item → AreAllowedAfter last (items ++ item ∷ [])
+allowed_snoc last [] item a own = (own, tt)
+allowed_snoc last (b ∷ items) item a own = (a.0, allowed_snoc (moment_after last b) items item a.1 own)
+
+pub allowed_last : (last : ℕ) (items : List Body) (item : Body) → AreAllowedAfter last (items ++ item ∷ []) → IsAllowedAfter (last_moment last items) item
+allowed_last last [] item a = a.0
+allowed_last last (b ∷ items) item a = allowed_last (moment_after last b) items item a.1
 
 -- ---- lines
 

@@ -16,10 +16,10 @@ use Rattle.recording.proofs.FormLaws.{is_number_of}
 
 -- ---- one more item
 
-text_snoc : (items : List Body) (item : Body) → flat_map body_text (items ++ item ∷ []) ≡ flat_map body_text items ++ body_text item
+pub text_snoc : (items : List Body) (item : Body) → flat_map body_text (items ++ item ∷ []) ≡ flat_map body_text items ++ body_text item
 text_snoc items item = flat_map-append body_text items (item ∷ []) ∙ ap (λ (y : List ℕ). flat_map body_text items ++ y) (append-nil (body_text item))
 
-begin_snoc : (items : List Body) (item : Body) → BeginWithMoment items → BeginWithMoment (items ++ item ∷ [])
+pub begin_snoc : (items : List Body) (item : Body) → BeginWithMoment items → BeginWithMoment (items ++ item ∷ [])
 begin_snoc [] item begin = absurd begin
 begin_snoc (moment n ∷ items) item begin = tt
 begin_snoc (stored kind d ∷ items) item begin = absurd begin

@@ -11,7 +11,13 @@ mod ReadLaws
 mod ViewLaws
 mod LeftLaws
 mod AllowedLaws
-mod RestLaws
+pub mod RestLaws
+mod SizeLaws
+mod StaysLaws
+mod ReaderLaws
+mod FoundLaws
+mod HeldLaws
+mod PieceLaws
 pub mod OneChain
 mod Stopping
 pub mod OrderFaults

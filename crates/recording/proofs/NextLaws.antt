@@ -1,5 +1,5 @@
 -- The next item, or the last line, as its reader says it.
-use Rattle.std.proofs.Common.{◌≡◌, ℕ, ◌+◌, ◌-◌, List, ◌++◌, length, take, drop, Option, Some, None, Result, Ok, Err, sym, ap, subst, ◌∙◌, arith}
+use Rattle.std.proofs.Common.{◌≡◌, ℕ, ◌+◌, ◌-◌, ◌≤◌, List, ◌++◌, length, take, drop, Option, Some, None, Result, Ok, Err, sym, ap, subst, ◌∙◌, arith}
 use Rattle.std.specs.Prelude.{MatchResult}
 use Rattle.std.proofs.lemmas.List.{length-append, length-drop, take-append-drop, take_at}
 use Rattle.byte_grammar.specs.Language.{Begins}
@@ -8,11 +8,13 @@ use Rattle.recording.specs.declared.read.Stop.{Stop}
 use Rattle.recording.specs.declared.read.Stop.TheVariants as stop
 use Rattle.recording.specs.Items.{Body}
 use Rattle.recording.specs.tools.RecordingTexts.{IsTurn}
-use Rattle.recording.specs.tools.RecordingWalk.{turn_read, item_step}
-use Rattle.recording.specs.tools.NextItems.{BeginsWithNext, IsUnread, IsStop}
+use Rattle.recording.specs.tools.RecordingWalk.{turn_read, form_read, item_step, first_step}
+use Rattle.recording.specs.tools.NextItems.{BeginsWithFirst, BeginsWithNext, IsUnread, IsStop, bytes_left}
 use Rattle.recording.specs.tools.Judged.{Gives}
 use Rattle.recording.proofs.FormLaws.{meets_turn}
 use Rattle.recording.proofs.WalkLaws.{Says, step_says, step_some, step_item, step_end}
+use Rattle.recording.proofs.WholeLaws.{FirstSays, first_says}
+use Rattle.recording.proofs.RecordingLaws.{stopped_within}
 
 unread : (bytes : List ℕ) (n : ℕ) → turn_read bytes ≡ Err n → IsUnread bytes n
 unread bytes n e =
@@ -36,7 +38,7 @@ abbrev NextSays : ℕ → List ℕ → Result (Option Body × List ℕ) Stop →
 NextSays last bytes (Ok x) = BeginsWithNext last x.0 x.1 bytes
 NextSays last bytes (Err s) = IsStop last bytes s
 
-next_says : (last : ℕ) (bytes : List ℕ) (r : Result (Option Body × List ℕ) Stop) → item_step last bytes ≡ r → NextSays last bytes r
+pub next_says : (last : ℕ) (bytes : List ℕ) (r : Result (Option Body × List ℕ) Stop) → item_step last bytes ≡ r → NextSays last bytes r
 next_says last bytes r e = at r e (subst (λ (s : Result (Option Body × List ℕ) Stop). Says last bytes (turn_read bytes) s) e (step_says last bytes))
   where
     at : (r : Result (Option Body × List ℕ) Stop) → item_step last bytes ≡ r → Says last bytes (turn_read bytes) r → NextSays last bytes r
@@ -50,7 +52,7 @@ step_next : (last : ℕ) (next : Option Body) (rest bytes : List ℕ) → Begins
 step_next last None rest bytes b = ap (item_step last) b.joined ∙ step_end last rest
 step_next last (Some item) rest bytes b = ap (item_step last) b.joined ∙ step_item last item rest b.number b.allowed
 
-pair_is : (x y : Option Body × List ℕ) → ◌≡◌ {A = Result (Option Body × List ℕ) Stop} (Ok x) (Ok y) → x ≡ y
+pub pair_is : (x y : Option Body × List ℕ) → ◌≡◌ {A = Result (Option Body × List ℕ) Stop} (Ok x) (Ok y) → x ≡ y
 pair_is x y e = cc
 
 no_stop : (s : Stop) (x : Option Body × List ℕ) → ◌≡◌ {A = Result (Option Body × List ℕ) Stop} (Err s) (Ok x) → ⊥
@@ -70,3 +72,17 @@ module _ {R : Type 0} (next : R → Option Body) (rest : R → List ℕ) (last :
       of : (result : Result R Stop) → Gives (λ (x : R). (next x, rest x)) result (item_step last bytes) → item_step last bytes ≡ Ok (n, more) → MatchResult result (λ x. (next x ≡ n) × (rest x ≡ more)) (λ _. ⊥)
       of (Ok x) g e = let pair = pair_is (next x, rest x) (n, more) (sym g ∙ e) in (ap (λ (y : Option Body × List ℕ). y.0) pair, ap (λ (y : Option Body × List ℕ). y.1) pair)
       of (Err s) g e = no_stop s (n, more) (sym g ∙ e)
+
+-- what the reader of the first item says
+pub first_given : {R : Type 0} (first : R → ℕ) (rest : R → List ℕ) (text : List ℕ) (result : Result R Stop) → Gives (λ (x : R). (first x, rest x)) result (first_step text)
+    → MatchResult result (λ x. BeginsWithFirst (first x) (rest x) text) (λ s. bytes_left s ≤ length text)
+first_given {R} first rest text result g = of result g
+  where
+    says : (r : Result (ℕ × List ℕ) Stop) → first_step text ≡ r → FirstSays text (form_read text) r
+    says r e = subst (λ (r : Result (ℕ × List ℕ) Stop). FirstSays text (form_read text) r) e (first_says text)
+
+    of : (result : Result R Stop) → Gives (λ (x : R). (first x, rest x)) result (first_step text) → MatchResult result (λ x. BeginsWithFirst (first x) (rest x) text) (λ s. bytes_left s ≤ length text)
+    of (Ok x) g = let s = says (Ok (first x, rest x)) g in record { joined = s.1; number = s.2 }
+    of (Err (stop.Left n)) g = stopped_within text n (says (Err (stop.Left n)) g)
+    of (Err (stop.TooLong n)) g = absurd (says (Err (stop.TooLong n)) g)
+    of (Err (stop.MomentFalls n)) g = absurd (says (Err (stop.MomentFalls n)) g)

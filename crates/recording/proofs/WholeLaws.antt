@@ -134,7 +134,7 @@ first_says text = go (literal_read (codes "hms-recording 1\n") text) refl
     go (Err k) e = refl
     go (Ok (v, l)) e = at_word l v e (literal_read (codes "at ") l) refl
 
-first_is : (n : ℕ) (rest : List ℕ) → IsNumber n → first_step (codes "hms-recording 1\n" ++ (number_line (codes "at ") n ++ rest)) ≡ Ok (n, rest)
+pub first_is : (n : ℕ) (rest : List ℕ) → IsNumber n → first_step (codes "hms-recording 1\n" ++ (number_line (codes "at ") n ++ rest)) ≡ Ok (n, rest)
 unfolding first_step
 first_is n rest is =
     let line : List ℕ = number_line (codes "at ") n ++ rest in

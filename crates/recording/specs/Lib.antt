@@ -6,4 +6,5 @@ pub mod Laws
 pub mod Chains
 pub mod RecordedChains
 pub mod ChainLaws
+pub mod Readers
 pub mod tools

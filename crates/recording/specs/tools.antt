@@ -5,3 +5,5 @@ pub mod RecordingTexts
 pub mod NextItems
 pub mod Judged
 pub mod Ordered
+pub mod ReaderViews
+pub mod ReaderSteps

@@ -1,6 +1,6 @@
 //! Reads recordings.
 
-ghost use Rattle.std.specs.Prelude.{◌≡◌, ◌≢◌, ℕ, Option, List, Ok, Err, option_map, IfOk, MatchResult};
+ghost use Rattle.std.specs.Prelude.{◌≡◌, ◌≢◌, ◌≤◌, ℕ, Option, List, Ok, Err, length, option_map, IfOk, MatchResult};
 ghost use Rattle.byte_grammar.specs.Causes.{AnswersWhere};
 ghost use Rattle.byte_grammar.specs.Gives.{Gives as ReadGives};
 ghost use Rattle.recording.specs.Items.{Body, PlacedItem, body_of};
@@ -8,7 +8,7 @@ ghost use Rattle.recording.specs.Recordings.{SpellsRecording};
 ghost use Rattle.recording.specs.Causes.{IsRecordingFault};
 ghost use Rattle.recording.specs.tools.Running.{moment_after};
 ghost use Rattle.recording.specs.tools.RecordingWalk.{bytes_read, text_read, moment_step, stored_step, item_step, first_step, recording_step};
-ghost use Rattle.recording.specs.tools.NextItems.{BeginsWithNext, IsStop};
+ghost use Rattle.recording.specs.tools.NextItems.{BeginsWithFirst, BeginsWithNext, IsStop, bytes_left};
 ghost use Rattle.recording.specs.tools.Judged.{Gives, Explains};
 
 use crate::fault::RecordingFault;
@@ -22,6 +22,9 @@ use std::alloc::Global;
 
 // The line that names the format.
 pub(crate) const FIRST_LINE: &[u8] = b"hms-recording 1\n";
+
+// The line after which nothing comes.
+pub(crate) const LAST_LINE: &[u8] = b"end\n";
 
 // Why no items are read. A number is that of the bytes that were left: where it stopped, or before
 // the line.
@@ -127,14 +130,24 @@ pub(crate) fn read_item(last: u64, bytes: &[u8]) -> Result<(Option<ItemBody<'_>>
     read_next(last, bytes)
 }
 
-// Reads the line that names the format and the first item, which is a moment.
+// Reads the line that names the format and a moment.
 #[tactic(auto, unfolding(crate::specs::tools::RecordingWalk::first_step))]
-fn read_first(text: &[u8]) -> Result<(u64, &[u8]), Stop>
+fn read_begin(text: &[u8]) -> Result<(u64, &[u8]), Stop>
     ensures { Gives (λ x. (x.0, x.1.now)) result (first_step text.now) }
 {
     let rest = read_literal(FIRST_LINE, text)?;
     let rest = read_literal(b"at ", rest)?;
     Ok(read_number_line(rest)?)
+}
+
+// Reads the line that names the format and the first item, which is a moment. Where it stops with
+// no byte left, more bytes may make it one.
+pub(crate) fn read_first(text: &[u8]) -> Result<(u64, &[u8]), Stop>
+    ensures gives { Gives (λ x. (x.0, x.1.now)) result (first_step text.now) }
+    ensures is { MatchResult result (λ x. BeginsWithFirst x.0 x.1.now text.now)
+        (λ stop. bytes_left stop ≤ length text.now) }
+{
+    read_begin(text)
 }
 
 // Goes over the items, up to and with the last line. It answers what comes after it.

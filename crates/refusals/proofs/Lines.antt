@@ -33,7 +33,7 @@ use Rattle.refusals.specs.Laws.{IsLineOfRefusal, is_clean, is_clean_command, is_
 use Rattle.refusals.specs.Refusal.{command_text, refusal_text, step_text}
 use Rattle.refusals.specs.Texts.{file_text, path_text, role_text}
 use Rattle.refusals.specs.declared.file.FileRefusal.{FileRefusal}
-use Rattle.refusals.specs.declared.file.FileRefusal.TheVariants.{Missing, TooLong, Message, Conf, Script, Recording, Order, TooManyHops}
+use Rattle.refusals.specs.declared.file.FileRefusal.TheVariants.{Missing, TooLong, Message, Conf, Script, Recording, Order, TooManyHops, OutOfPlace, TooManyItems}
 use Rattle.refusals.specs.declared.refusal.CommandRefusal.{CommandRefusal}
 use Rattle.refusals.specs.declared.refusal.CommandRefusal.TheVariants.{Syntax, Ids, Lacks, Sign, Wishes, NotTaken}
 use Rattle.refusals.specs.declared.refusal.Refusal.{Refusal}
@@ -126,6 +126,8 @@ file_clean (Script f) clean = script_clean f
 file_clean (Recording f) clean = recording_clean f
 file_clean (Order offset) clean = worded (codes "chain ") offset refl
 file_clean (TooManyHops limit) clean = worded (codes "hops ") limit refl
+file_clean (OutOfPlace offset) clean = worded (codes "chain ") offset refl
+file_clean (TooManyItems limit) clean = worded (codes "items ") limit refl
 
 role_clean : (r : Role) → IsClean (role_text r)
 role_clean role.Conf = refl

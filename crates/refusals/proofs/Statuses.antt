@@ -9,7 +9,7 @@ use Rattle.refusals.specs.Laws.{IsOfRefusal, HasStatusOfRefusal}
 use Rattle.refusals.specs.Refusal.{command_status, sign_status}
 use Rattle.refusals.specs.Texts.{message_status, fault_status, script_status, recording_status, file_status}
 use Rattle.refusals.specs.declared.file.FileRefusal.{FileRefusal}
-use Rattle.refusals.specs.declared.file.FileRefusal.TheVariants.{Missing, TooLong, Message, Conf, Script, Recording, Order, TooManyHops}
+use Rattle.refusals.specs.declared.file.FileRefusal.TheVariants.{Missing, TooLong, Message, Conf, Script, Recording, Order, TooManyHops, OutOfPlace, TooManyItems}
 use Rattle.refusals.specs.declared.refusal.Refusal.TheVariants.{Arguments, Of, Command}
 use Rattle.refusals.specs.declared.refusal.CommandRefusal.{CommandRefusal}
 use Rattle.refusals.specs.declared.refusal.CommandRefusal.TheVariants.{Syntax, Ids, Lacks, Sign, Wishes, NotTaken}
@@ -56,6 +56,8 @@ of_file (Script f) = of_script f
 of_file (Recording f) = of_recording f
 of_file (Order offset) = tt
 of_file (TooManyHops limit) = tt
+of_file (OutOfPlace offset) = tt
+of_file (TooManyItems limit) = tt
 
 of_sign : (f : SignFault) → IsOfRefusal (sign_status f)
 of_sign sign.Memory = tt

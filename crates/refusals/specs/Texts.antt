@@ -19,7 +19,7 @@ use Rattle.recording.specs.declared.fault.RecordingFault.TheVariants as recordin
 use Rattle.refusals.specs.declared.role.Role.{Role}
 use Rattle.refusals.specs.declared.role.Role.TheVariants as role
 use Rattle.refusals.specs.declared.file.FileRefusal.{FileRefusal}
-use Rattle.refusals.specs.declared.file.FileRefusal.TheVariants.{Missing, TooLong, Message, Conf, Script, Recording, Order, TooManyHops}
+use Rattle.refusals.specs.declared.file.FileRefusal.TheVariants.{Missing, TooLong, Message, Conf, Script, Recording, Order, TooManyHops, OutOfPlace, TooManyItems}
 
 -- how output calls the text
 abbrev pub role_text : Role → List ℕ
@@ -36,7 +36,8 @@ path_text None = []
 path_text (Some path) = byte " " ∷ path
 
 -- why the text is refused: no such file, its limit, its fault, its fault and the path of that, the
--- first item out of order, or the limit of hops
+-- first item out of order, the limit of hops, the first item out of its place, or the limit of
+-- items
 abbrev pub file_text : FileRefusal → List ℕ
 file_text Missing = codes "missing"
 file_text (TooLong limit) = codes "bytes " ++ decimal limit
@@ -46,6 +47,8 @@ file_text (Script fault) = script_fault_text fault
 file_text (Recording fault) = recording_fault_text fault
 file_text (Order offset) = codes "chain " ++ decimal offset
 file_text (TooManyHops limit) = codes "hops " ++ decimal limit
+file_text (OutOfPlace offset) = codes "chain " ++ decimal offset
+file_text (TooManyItems limit) = codes "items " ++ decimal limit
 
 -- a message that passes a limit, or else a bad input
 abbrev pub message_status : MessageError → Status
@@ -69,8 +72,8 @@ abbrev pub recording_status : RecordingFault → Status
 recording_status (recording.ItemTooLong offset) = LimitPassed
 recording_status fault = BadInput
 
--- a missing file, a limit that is passed, or a bad message, configuration, script, recording or
--- chain
+-- a missing file, a limit that is passed, or a bad message, configuration, script, recording, chain
+-- or stream
 abbrev pub file_status : FileRefusal → Status
 file_status Missing = FileMissing
 file_status (TooLong limit) = LimitPassed
@@ -80,3 +83,5 @@ file_status (Script fault) = script_status fault
 file_status (Recording fault) = recording_status fault
 file_status (Order offset) = BadInput
 file_status (TooManyHops limit) = LimitPassed
+file_status (OutOfPlace offset) = BadInput
+file_status (TooManyItems limit) = LimitPassed

@@ -32,6 +32,11 @@ pub enum FileRefusal {
     Order(u64),
     /// It is the recording of a chain of more hops than this limit.
     TooManyHops(usize),
+    /// It is a recording, but of no stream of messages. The line of the item that isn't in its
+    /// place is at this offset.
+    OutOfPlace(u64),
+    /// It is a recording of more items than this limit.
+    TooManyItems(usize),
 }
 
 impl FileRefusal {
@@ -48,6 +53,8 @@ impl FileRefusal {
             FileRefusal::Recording(fault) => recording_status(*fault),
             FileRefusal::Order(_) => Status::BadInput,
             FileRefusal::TooManyHops(_) => Status::LimitPassed,
+            FileRefusal::OutOfPlace(_) => Status::BadInput,
+            FileRefusal::TooManyItems(_) => Status::LimitPassed,
         }
     }
 }
@@ -125,5 +132,7 @@ pub fn append_file(alloc: Global, refusal: &FileRefusal, line: &mut Text) -> Res
         }
         FileRefusal::Order(offset) => append_number(alloc, b"chain ", *offset as usize, line),
         FileRefusal::TooManyHops(limit) => append_number(alloc, b"hops ", *limit, line),
+        FileRefusal::OutOfPlace(offset) => append_number(alloc, b"chain ", *offset as usize, line),
+        FileRefusal::TooManyItems(limit) => append_number(alloc, b"items ", *limit, line),
     }
 }

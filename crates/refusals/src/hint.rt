@@ -172,6 +172,11 @@ fn file_hint(role: Role, refusal: &FileRefusal) -> &'static str
              was done to the first"
         }
         FileRefusal::TooManyHops(_) => "there are more hops than that",
+        FileRefusal::OutOfPlace(_) => {
+            "an item isn't in its place: a stream has `at`, `request`, `response` and `related`, \
+             and directly after a `related` comes the `response` to it; a `script` is for audit"
+        }
+        FileRefusal::TooManyItems(_) => "there are more items than that",
     }
 }
 

@@ -19,8 +19,11 @@ fn keys_hint(path: &[u8]) -> &'static str
         return "`sign` has a key that isn't known; it takes label, keyid, components-request, \
             components-response, expires-after, alg, tag and digest";
     }
+    if path == b"gateway".as_slice() {
+        return "`gateway` has a key that isn't known; it takes label and steps";
+    }
     "there is a key that isn't known before the first table, or a table that isn't; version, \
-     scheme and the tables keys, types, policy and sign are"
+     scheme and the tables keys, types, policy, sign and gateway are"
 }
 
 /// What the value of a key of `policy` has to be.
@@ -80,6 +83,18 @@ fn sign_hint(path: &[u8]) -> &'static str
      parentheses, as components-request = '(\"@method\" \"date\")', and no parameters after it"
 }
 
+/// What the value of a key of `gateway` has to be.
+fn gateway_hint(path: &[u8]) -> &'static str
+    ensures { IsTrue (list_all is_line_byte result.now) }
+{
+    if path == b"gateway.label".as_slice() {
+        return "gateway.label is a label in quotes: lower-case letters, digits and _-.*, with a \
+            letter or * first";
+    }
+    "gateway.steps is an array of at most 256 texts in quotes, each the line of a step, as \
+     steps = [\"remove h 1\", \"add h 0 Via 1.1 gw\"]"
+}
+
 /// What the value of a key of the document has to be.
 fn top_hint(path: &[u8]) -> &'static str
     ensures { IsTrue (list_all is_line_byte result.now) }
@@ -100,7 +115,7 @@ fn top_hint(path: &[u8]) -> &'static str
             \"list\" or \"dictionary\"; what comes after the line [types] belongs to it, so a \
             key of another table, as of policy, comes before it or after a line [policy]";
     }
-    "policy and sign are tables: a line [policy], and its keys in the lines after it"
+    "policy, sign and gateway are tables: a line [policy], and its keys in the lines after it"
 }
 
 /// What the value of a key has to be.
@@ -112,6 +127,9 @@ fn value_hint(path: &[u8]) -> &'static str
     }
     if path.starts_with(b"sign.") {
         return sign_hint(path);
+    }
+    if path.starts_with(b"gateway.") {
+        return gateway_hint(path);
     }
     top_hint(path)
 }
@@ -135,6 +153,10 @@ pub(crate) fn conf_hint(fault: &ConfFault) -> &'static str
              line [keys] belongs to it, so version and scheme come before it"
         }
         ConfFault::BadComponents(path) => value_hint(path.bytes()),
+        ConfFault::BadScript(_) => {
+            "a text of gateway.steps isn't the line of a step: words with one space between them, \
+             and no LF, as \"remove h 1\"; the steps are those of a script, which hms rewrite takes"
+        }
         ConfFault::Missing(path) => missing_key_hint(path),
     }
 }
@@ -144,8 +166,12 @@ fn missing_key_hint(path: &Text) -> &'static str
     ensures { IsTrue (list_all is_line_byte result.now) }
 {
     if path.bytes() == b"sign".as_slice() {
-        return "the command sign needs a table sign with label and keyid: a line [sign], and \
+        return "the command needs a table sign with label and keyid: a line [sign], and \
             then label = \"sig1\" and keyid = \"..\" of one of keys";
+    }
+    if path.bytes() == b"gateway".as_slice() {
+        return "the command gateway needs a table gateway, which may be empty: a line [gateway], \
+            and after it label or steps; and a table sign";
     }
     "a table sign has to have label and keyid, a label in quotes and one of the keyids of keys"
 }

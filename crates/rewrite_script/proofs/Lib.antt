@@ -8,3 +8,4 @@ pub mod ValueLaws
 pub mod ScriptLaws
 pub mod Judged
 pub mod Printing
+pub mod StepLaws

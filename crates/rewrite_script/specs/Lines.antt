@@ -189,3 +189,7 @@ pub record SpellsLine (text : List ℕ) (rewrite : Rewrite) : Type 0 where
   pub writable : IsTrue (is_writable rewrite)
   pub values : HasValues rewrite
   pub line : text ≡ rewrite_line rewrite
+
+-- the text is the line of no rewriting
+abbrev pub IsNoLine : List ℕ → Type 0
+IsNoLine text = (rewrite : Rewrite) → ¬ SpellsLine text rewrite

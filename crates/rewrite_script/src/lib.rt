@@ -41,6 +41,7 @@ mod line;
 mod print;
 mod rewrite;
 mod script;
+mod step;
 
 pub use fault::ScriptFault;
 pub use laws::{a_line_has_one_rewriting, a_text_is_a_script_or_has_a_fault};
@@ -49,3 +50,4 @@ pub use limits::{MAX_BLANKS, MAX_NUMBER_DIGITS, MAX_SCRIPT_BYTES, MAX_SCRIPT_LIN
 pub use print::print_script;
 pub use rewrite::{LineRewrite, Rewrite, Script, Sizes, WholeRewrite};
 pub use script::read_script;
+pub use step::read_step;

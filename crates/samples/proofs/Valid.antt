@@ -64,31 +64,33 @@ policy_is : (p : Policy) → p ≡ standard_policy → always p ≡ sample_confi
 policy_is p is = ap always is
 
 pub conf_valid : (keys : KeyMap) (types : KindMap) (policy : Policy) → keys ≡ map.empty → policy ≡ standard_policy
-    → IsValid (record { scheme = Https; keys = keys; types = types; policy = always policy; sign = None })
+    → IsValid (record { scheme = Https; keys = keys; types = types; policy = always policy; sign = None; gateway = None })
 conf_valid keys types policy keys_are policy_is_standard = record {
   keyids = λ keyid key there. absurd (cc (no_key keys keys_are keyid, there));
   keys = λ keyid key there. absurd (cc (no_key keys keys_are keyid, there));
   policy = rw policy_is_standard policy_valid;
   sign = λ sign there. absurd cc;
+  gateway = λ gateway there. absurd cc;
 }
 
 pub without_key : (conf : Configuration) (keys : KeyMap) (types : KindMap) (policy : Policy)
-    → conf ≡ record { scheme = Https; keys = keys; types = types; policy = policy; sign = None } → keys ≡ map.empty → conf.keys ≡ map.empty
+    → conf ≡ record { scheme = Https; keys = keys; types = types; policy = policy; sign = None; gateway = None } → keys ≡ map.empty → conf.keys ≡ map.empty
 without_key conf keys types policy is empty = ap (λ (c : Configuration). c.keys) is ∙ empty
 
 -- a configuration of these parts, and then with the key
 pub conf_is : (conf old : Configuration) (keys : KeyMap) (types : KindMap) (policy : Policy)
-    → old ≡ record { scheme = Https; keys = keys; types = types; policy = always policy; sign = None }
+    → old ≡ record { scheme = Https; keys = keys; types = types; policy = always policy; sign = None; gateway = None }
     → keys ≡ map.empty → types ≡ standard_types → policy ≡ standard_policy
     → conf.keys ≡ map.insert old.keys sample_keyid sample_key → conf.scheme ≡ old.scheme → conf.types ≡ old.types → conf.policy ≡ old.policy
-    → conf.sign ≡ old.sign → conf ≡ sample_configuration
-conf_is conf old keys types policy is empty types_are policy_is_standard new scheme types_stay policy_stays sign =
+    → conf.sign ≡ old.sign → conf.gateway ≡ old.gateway → conf ≡ sample_configuration
+conf_is conf old keys types policy is empty types_are policy_is_standard new scheme types_stay policy_stays sign gateway =
     let keys_are = new ∙ ap (λ (m : KeyMap). map.insert m sample_keyid sample_key) (without_key old keys types (always policy) is empty) in
     let types_is = types_stay ∙ (ap (λ (c : Configuration). c.types) is ∙ types_are) in
     let policy_same = policy_stays ∙ (ap (λ (c : Configuration). c.policy) is ∙ policy_is policy policy_is_standard) in
     let scheme_is = scheme ∙ ap (λ (c : Configuration). c.scheme) is in
     let sign_is = sign ∙ ap (λ (c : Configuration). c.sign) is in
-    λ i. record { scheme = scheme_is i; keys = keys_are i; types = types_is i; policy = policy_same i; sign = sign_is i }
+    let gateway_is = gateway ∙ ap (λ (c : Configuration). c.gateway) is in
+    λ i. record { scheme = scheme_is i; keys = keys_are i; types = types_is i; policy = policy_same i; sign = sign_is i; gateway = gateway_is i }
 
 -- ---- the parameters of the signature
 

@@ -80,4 +80,5 @@ sample_configuration = record {
     digest = Always;
   };
   sign = None;
+  gateway = None;
 }

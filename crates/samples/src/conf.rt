@@ -7,6 +7,7 @@ ghost use Rattle.samples.specs.Requests.{plain, sample_configuration, sample_par
 use crate::limits::MOMENT;
 use component_ids::{ComponentId, Ids, Scheme, SigParams, Types};
 use content_digest::Algorithm;
+use hmac_sha256::HmacKey;
 use settings::{Conf, DigestUse, Keys, Policy};
 use sfv_text::{BareItem, Memory, Params, Text};
 use signing::SignSpec;
@@ -67,7 +68,7 @@ pub(crate) fn sample_spec(alloc: Global) -> Result<SignSpec, Memory>
     Ok(SignSpec {
         label: Text::from_bytes(alloc, b"s")?,
         params: sample_params(alloc)?,
-        key: Text::from_bytes(alloc, &SAMPLE_KEY)?,
+        key: HmacKey::of(alloc, &SAMPLE_KEY)?,
         digest: Some(Algorithm::Sha256),
     })
 }

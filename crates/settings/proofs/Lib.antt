@@ -3,3 +3,4 @@ mod KeyEntryLaws
 pub mod Names
 mod ValidLaws
 pub mod StandardLaws
+pub mod ValidInside

@@ -1,5 +1,5 @@
 -- The configuration where nothing is said is valid.
-use Rattle.std.proofs.Common.{◌≡◌, ℕ, List, [], None, IsTrue, Some, refl, ap, ◌∙◌, arith}
+use Rattle.std.proofs.Common.{◌≡◌, ℕ, List, [], None, Some, refl, ap, ◌∙◌, arith}
 use Rattle.std.specs.FinMap as map
 use Rattle.std.specs.Ordering.{nat_cmp}
 use Rattle.std.specs.Cmp.Lexicographic.{slice_cmp}
@@ -36,10 +36,11 @@ no_key keys is keyid key there =
     absurd (cc (gone, there))
 
 pub standard_valid : (keys : KeyMap) (types : KindMap) (policy : Policy) → keys ≡ map.empty → policy ≡ standard_policy
-    → IsValid (record { scheme = Https; keys = keys; types = types; policy = policy; sign = None })
+    → IsValid (record { scheme = Https; keys = keys; types = types; policy = policy; sign = None; gateway = None })
 standard_valid keys types policy keys_are policy_is = record {
   keyids = λ keyid key there. absurd (no_key keys keys_are keyid key there);
   keys = λ keyid key there. absurd (no_key keys keys_are keyid key there);
   policy = rw policy_is policy_valid;
   sign = λ sign there. absurd cc;
+  gateway = λ gateway there. absurd cc;
 }

@@ -11,4 +11,5 @@ meaning conf =
       types = conf.types;
       policy = conf.policy;
       sign = conf.sign;
+      gateway = conf.gateway;
     }

@@ -2,6 +2,7 @@
 use Rattle.std.specs.Prelude.{Option}
 use Rattle.component_ids.specs.Types.{KindMap}
 use Rattle.component_ids.specs.declared.scheme.Scheme.{Scheme}
+use Rattle.settings.specs.declared.gateway_conf.GatewayConf.{GatewayConf}
 use Rattle.settings.specs.declared.policy.Policy.{Policy}
 use Rattle.settings.specs.declared.sign_conf.SignConf.{SignConf}
 use Rattle.settings.specs.Keys.{KeyMap}
@@ -13,3 +14,4 @@ pub record Configuration : Type 0 where
   pub types : KindMap
   pub policy : Policy
   pub sign : Option SignConf
+  pub gateway : Option GatewayConf

@@ -34,4 +34,5 @@ standard_configuration =
       types = standard_types;
       policy = standard_policy;
       sign = None;
+      gateway = None;
     }

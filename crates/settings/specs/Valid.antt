@@ -6,7 +6,7 @@ use Rattle.std.specs.List.{list_all}
 use Rattle.sfv_text.specs.Range.{is_string_byte, is_key}
 use Rattle.settings.specs.Keys.{IsHmacKey, is_keyid}
 use Rattle.settings.specs.declared.sign_conf.SignConf.{SignConf}
-use Rattle.settings.specs.ValidSections.{AreValidComponents, AreValidSeconds, IsValidPolicy}
+use Rattle.settings.specs.ValidSections.{AreValidComponents, AreValidSeconds, IsValidGateway, IsValidPolicy}
 use Rattle.settings.specs.Configuration.{Configuration}
 use Rattle.settings.specs.Keys.{KeyMap}
 
@@ -25,3 +25,4 @@ pub record IsValid (conf : Configuration) : Type 0 where
   pub keys : (keyid key : List ℕ) → map.get conf.keys keyid ≡ Some key → IsHmacKey key
   pub policy : IsValidPolicy conf.policy
   pub sign : ForSome conf.sign (IsValidSign conf.keys)
+  pub gateway : ForSome conf.gateway IsValidGateway

@@ -1,14 +1,18 @@
--- What holds of every policy, and of what messages are signed by.
-use Rattle.std.specs.Prelude.{◌≤◌, ◌+◌, ◌*◌, ℕ, IsTrue, List}
+-- What holds of every policy, of what messages are signed by, and of what a gateway does.
+use Rattle.std.specs.Prelude.{◌≤◌, ◌+◌, ◌*◌, ℕ, IsTrue, List, length}
 use Rattle.std.specs.Option.{ForSome}
 use Rattle.std.specs.List.{list_all}
-use Rattle.sfv_text.specs.Range.{is_string_byte}
+use Rattle.sfv_text.specs.Range.{is_key, is_string_byte}
 use Rattle.component_ids.specs.declared.id.ComponentId.{ComponentId}
 use Rattle.component_ids.specs.Identifiers.{is_id_in_range}
 use Rattle.component_ids.specs.SignatureParams.{IsSigParams}
 use Rattle.nonces.specs.declared.limits.TheConstants.{MAX_ENTRIES, MAX_WINDOW}
+use Rattle.rewrite_script.specs.Lines.{is_writable}
+use Rattle.rewrite_script.specs.Scripts.{HaveValues}
+use Rattle.rewrite_script.specs.declared.limits.TheConstants.{MAX_SCRIPT_LINES}
 use Rattle.settings.specs.declared.limits.TheConstants.{MAX_AGE, MAX_EXPIRES_AFTER, MAX_SKEW}
 use Rattle.settings.specs.Covered.{params_of}
+use Rattle.settings.specs.declared.gateway_conf.GatewayConf.{GatewayConf}
 use Rattle.settings.specs.declared.policy.Policy.{Policy}
 
 -- components that signature parameters can cover, with values that a structured field can hold
@@ -32,3 +36,10 @@ pub record IsValidPolicy (policy : Policy) : Type 0 where
   pub least_nonces : 1 ≤ policy.nonces
   pub most_nonces : policy.nonces ≤ MAX_ENTRIES
   pub tag : ForSome policy.tag (λ tag. IsTrue (list_all is_string_byte tag))
+
+-- the label is a key of a Dictionary, and the steps are those of a script
+pub record IsValidGateway (gateway : GatewayConf) : Type 0 where
+  pub label : ForSome gateway.label (λ label. IsTrue (is_key label))
+  pub writable : IsTrue (list_all is_writable gateway.steps)
+  pub values : HaveValues gateway.steps
+  pub few : length gateway.steps ≤ MAX_SCRIPT_LINES

@@ -1,14 +1,15 @@
 //! What a configuration is asked for.
 
-ghost use Rattle.std.specs.Prelude.{◌≡◌, None, IfOk, IfSome, OnOk, OnErr, IsTrue, option_copied};
+ghost use Rattle.std.specs.Prelude.{◌≡◌, None, Some, IfOk, IfSome, OnOk, OnErr, IsTrue, option_copied};
 ghost use Rattle.std.specs.FinMap as map;
 ghost use Rattle.settings.specs.ConfMeaning.{meaning};
 ghost use Rattle.settings.specs.Keys.{IsHmacKey, is_keyid};
 ghost use Rattle.settings.specs.Standard.{standard_configuration};
 ghost use Rattle.settings.specs.Valid.{IsValid, IsValidSign};
-ghost use Rattle.settings.specs.ValidSections.{IsValidPolicy};
+ghost use Rattle.settings.specs.ValidSections.{IsValidGateway, IsValidPolicy};
 
 use crate::conf::Conf;
+use crate::gateway_conf::GatewayConf;
 use crate::keys::Keys;
 use crate::policy::Policy;
 use crate::sign_conf::SignConf;
@@ -18,7 +19,7 @@ use sfv_text::Memory;
 use std::alloc::Global;
 
 impl Conf {
-    /// The configuration of these parts.
+    /// The configuration of these parts, without a gateway.
     pub fn new(
         scheme: Scheme,
         keys: Keys,
@@ -32,6 +33,7 @@ impl Conf {
           types = types;
           policy = policy;
           sign = sign;
+          gateway = None;
         }) }
         ensures { meaning result ≡ record {
           scheme = scheme;
@@ -39,6 +41,7 @@ impl Conf {
           types = types;
           policy = policy;
           sign = sign;
+          gateway = None;
         } }
     {
         Conf {
@@ -47,6 +50,30 @@ impl Conf {
             types,
             policy,
             sign,
+            gateway: None,
+        }
+    }
+
+    /// The same configuration with a gateway, in place of the one that it has.
+    pub fn with_gateway(self, gateway: GatewayConf) -> Conf
+        requires { IsValidGateway gateway }
+        ensures { meaning result ≡ record (meaning self) { gateway = Some gateway } }
+    {
+        let Conf {
+            scheme,
+            keys,
+            types,
+            policy,
+            sign,
+            gateway: _,
+        } = self;
+        Conf {
+            scheme,
+            keys,
+            types,
+            policy,
+            sign,
+            gateway: Some(gateway),
         }
     }
 
@@ -89,6 +116,14 @@ impl Conf {
         self.sign.as_ref()
     }
 
+    /// What a gateway does, where it is configured.
+    pub fn gateway(&self) -> Option<&GatewayConf>
+        ensures is { option_copied result ≡ (meaning self.now).gateway }
+        ensures valid { IfSome result (λ gateway. IsValidGateway gateway.now) }
+    {
+        self.gateway.as_ref()
+    }
+
     /// The key of the keyid, where it has one. It takes no memory.
     pub fn key(&self, keyid: &[u8]) -> Option<&[u8]>
         ensures is { option_copied result ≡ map.get (meaning self.now).keys keyid.now }
@@ -122,6 +157,7 @@ impl Conf {
         ensures types { (meaning self.new).types ≡ (meaning self.old).types }
         ensures policy { (meaning self.new).policy ≡ (meaning self.old).policy }
         ensures sign { (meaning self.new).sign ≡ (meaning self.old).sign }
+        ensures gateway { (meaning self.new).gateway ≡ (meaning self.old).gateway }
     {
         self.keys.add(keyid, key)
     }

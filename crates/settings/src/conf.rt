@@ -2,6 +2,7 @@
 
 ghost use Rattle.settings.specs.Valid.{IsValid};
 
+use crate::gateway_conf::GatewayConf;
 use crate::keys::Keys;
 use crate::policy::Policy;
 use crate::sign_conf::SignConf;
@@ -11,7 +12,7 @@ use component_ids::{Scheme, Types};
 ///
 /// Its keyids have 1 to `MAX_KEYID_BYTES` printable bytes of ASCII, its keys 1 to `MAX_KEY_BYTES`
 /// bytes. How signatures are judged and messages are signed is valid: `max-age` and twice `skew`
-/// are at most `MAX_WINDOW`, `sign.keyid` has a key, and so on.
+/// are at most `MAX_WINDOW`, `sign.keyid` has a key, a line can write each step, and so on.
 ///
 /// It has no `Debug`, since that would print its keys.
 #[derive(Drop)]
@@ -21,11 +22,13 @@ pub struct Conf {
     pub(crate) types: Types,
     pub(crate) policy: Policy,
     pub(crate) sign: Option<SignConf>,
-    ghost valid: { IsValid (record {
+    pub(crate) gateway: Option<GatewayConf>,
+    ghost valid: { ∥ IsValid (record {
       scheme = scheme;
       keys = keys;
       types = types;
       policy = policy;
       sign = sign;
-    }) },
+      gateway = gateway;
+    }) ∥₁ },
 }

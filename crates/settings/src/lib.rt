@@ -14,6 +14,7 @@
 mod calls;
 mod conf;
 mod covered;
+mod gateway_conf;
 mod keyid;
 mod keys;
 mod limit_laws;
@@ -24,6 +25,7 @@ mod words;
 
 pub use conf::Conf;
 pub use covered::read_covered;
+pub use gateway_conf::GatewayConf;
 pub use keyid::is_keyid;
 pub use keys::Keys;
 pub use limit_laws::limits_are_these;

@@ -210,7 +210,7 @@ pub fn spec_of(
     let Some(sign) = conf.sign() else {
         unreachable!()
     };
-    let Some(key) = conf.key(sign.keyid.bytes()) else {
+    let Some(key) = conf.hmac_key(sign.keyid.bytes()) else {
         unreachable!()
     };
     let params = asked_sig_params(alloc, sign, of_request, now, nonce)?;

@@ -6,7 +6,7 @@ ghost use Rattle.sig_base.specs.SignatureBase.{signature_base};
 
 use crate::fault::SignFault;
 use component_values::{Prepared, ValueFault};
-use hmac_sha256::Hmac;
+use hmac_sha256::HmacKey;
 use sig_base::feed_base;
 
 /// How many bytes a tag has (RFC 9421 section 3.3.3).
@@ -28,11 +28,11 @@ impl From<ValueFault> for SignFault {
 }
 
 /// The HMAC of the signature base of prepared components (RFC 9421 section 3.3.3).
-pub(crate) fn tag_of(prepared: &Prepared<'_, '_>, key: &[u8]) -> [u8; TAG_BYTES]
+pub(crate) fn tag_of(prepared: &Prepared<'_, '_>, key: &HmacKey) -> [u8; TAG_BYTES]
     ensures { result ≡ hmac key.now
         (signature_base prepared.now.params prepared.now.values) }
 {
-    let mut mac = Hmac::new(key);
+    let mut mac = key.hmac();
     feed_base(prepared, &mut mac);
     mac.finish()
 }

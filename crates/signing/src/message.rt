@@ -55,7 +55,7 @@ fn make_of_prepared(
     if let Some(limit) = limit_of_signed(spec, parts, digest, params) {
         return Err(SignFault::TooLong(limit));
     }
-    let tag = tag_of(prepared, spec.key.bytes());
+    let tag = tag_of(prepared, &spec.key);
     let signature = signature_lines(alloc, spec, params, &tag)?;
     Ok(text_of(alloc, parts, digest.text.bytes(), signature.bytes())?)
 }

@@ -34,8 +34,9 @@ fn covers_itself(label: &[u8], id: &ComponentId) -> bool
         && is_label_or_none(label, id)
 }
 
-/// The index of the first component that covers the new signature.
-pub(crate) fn first_self_cover(label: &[u8], ids: &[ComponentId]) -> Option<usize>
+/// The index of the first component that covers what a new signature of the label changes: one of
+/// the header's two fields of signatures, whole, or its member of the label.
+pub fn first_self_cover(label: &[u8], ids: &[ComponentId]) -> Option<usize>
     ensures some { IfSome result (IsFirstSelfCover label.now ids.now) }
     ensures none { IfNone result (list_any (covers_itself label.now) ids.now ≡ false) }
 {

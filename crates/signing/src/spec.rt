@@ -2,6 +2,7 @@
 
 use component_ids::SigParams;
 use content_digest::Algorithm;
+use hmac_sha256::HmacKey;
 use sfv_text::{Memory, Sequence, Text};
 use std::alloc::Global;
 
@@ -13,7 +14,7 @@ pub struct SignSpec {
     /// The covered components and the parameters (RFC 9421 section 2.3).
     pub params: SigParams,
     /// The key of HMAC.
-    pub key: Text,
+    pub key: HmacKey,
     /// The algorithm of the digest of the content that is added, where one is (RFC 9530 section 2).
     pub digest: Option<Algorithm>,
 }
@@ -26,7 +27,7 @@ impl SignSpec {
         alloc: Global,
         label: &Text,
         params: SigParams,
-        key: &[u8],
+        key: &HmacKey,
         digest: Option<Algorithm>,
     ) -> Result<SignSpec, Memory>
         ensures { IfOk result (λ spec. spec ≡ record {
@@ -39,7 +40,7 @@ impl SignSpec {
         Ok(SignSpec {
             label: label.copy(alloc)?,
             params,
-            key: Text::from_bytes(alloc, key)?,
+            key: key.copy(alloc)?,
             digest,
         })
     }

@@ -13,6 +13,7 @@ ghost use Rattle.signing.specs.tools.Wished.{created_filled, expires_filled, fau
 use crate::asked::{digest_algorithm, expires_at, moment_item};
 use crate::spec::SignSpec;
 use component_ids::{IdFault, Ids, SigParams, has_param, is_string_key, read_params};
+use hmac_sha256::HmacKey;
 use settings::{Conf, SignConf};
 use sfv_text::{BareItem, InnerList, Items, Member, Memory, Pair, Params, Text};
 use signatures::{SUPPORTED_ALGORITHM, is_refused_algorithm};
@@ -202,7 +203,11 @@ fn wished_keyid<'a>(sign: &'a SignConf, params: &'a Params) -> &'a [u8]
 }
 
 /// The key of a wish whose components are read, or the first cause for which it isn't met.
-fn key_of_wish<'a>(conf: &'a Conf, sign: &SignConf, list: &InnerList) -> Result<&'a [u8], WishFault>
+fn key_of_wish<'a>(
+    conf: &'a Conf,
+    sign: &SignConf,
+    list: &InnerList,
+) -> Result<&'a HmacKey, WishFault>
     ensures ok { IfOk result (λ key. IsKeyOfWish (meaning conf.now) sign.now list.now key.now) }
     ensures fault { IfErr result (IsFaultOfParams (meaning conf.now) sign.now list.now) }
 {
@@ -212,7 +217,7 @@ fn key_of_wish<'a>(conf: &'a Conf, sign: &SignConf, list: &InnerList) -> Result<
     if let Err(fault) = judge_algorithm(&list.params) {
         return Err(fault);
     }
-    match conf.key(wished_keyid(sign, &list.params)) {
+    match conf.hmac_key(wished_keyid(sign, &list.params)) {
         Some(key) => Ok(key),
         None => Err(WishFault::KeyUnknown),
     }

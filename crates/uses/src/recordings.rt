@@ -1,6 +1,7 @@
 // Tests of recordings.
 
-use recording::{ItemBody, RecordingFault, Role, read_recording};
+use hms_io::MemSource;
+use recording::{ItemBody, ItemFault, ItemReader, RecordingFault, Role, read_recording};
 use std::alloc::Global;
 
 #[derive(Clone, Copy)]
@@ -201,4 +202,37 @@ fn has_parts(alloc: Global) -> bool {
 #[test]
 fn items_have_their_places(rt: HostRuntime) {
     assert!(rt; has_parts(rt.alloc()));
+}
+
+// How many items come, or why no further one; either is answered again.
+fn count_items(alloc: Global, source: &mut MemSource) -> Result<usize, ItemFault> {
+    let mut reader = ItemReader::new(alloc);
+    let mut count = 0usize;
+    'items: while reader.next(source)? {
+        count = count.saturating_add(1);
+    }
+    if reader.next(source)? {
+        return Err(ItemFault::Failed);
+    }
+    Ok(count)
+}
+
+fn is_read_in_pieces(alloc: Global, row: &Row, piece: usize) -> bool {
+    let Ok(mut source) = MemSource::new(alloc, row.text, piece, &[]) else {
+        return false;
+    };
+    match count_items(alloc, &mut source) {
+        Ok(count) => row.read == Ok(count),
+        Err(ItemFault::Recording(fault)) => row.read == Err(fault),
+        Err(_) => false,
+    }
+}
+
+#[test]
+fn items_come_in_any_pieces(rt: HostRuntime) {
+    for row in &ROWS {
+        for piece in 1..45 {
+            assert!(rt; is_read_in_pieces(rt.alloc(), row, piece));
+        }
+    }
 }

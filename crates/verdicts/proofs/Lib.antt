@@ -9,3 +9,4 @@ pub mod RightlySigned
 pub mod AlikeMessages
 pub mod OneTags
 pub mod KnownTagLaws
+pub mod AskedLabels

@@ -1,4 +1,5 @@
 pub mod Verification
+pub mod Asked
 pub mod Parameters
 pub mod Policies
 pub mod ContentDigest

@@ -11,6 +11,7 @@
 #![tactic(auto)]
 
 mod algorithm;
+mod asked;
 mod coverage;
 mod digest;
 mod judge;
@@ -25,6 +26,7 @@ mod tag_param;
 mod times;
 mod verifier;
 
+pub use asked::asked_labels;
 pub use judge::verdict;
 pub use known_tag::{SignedLabel, known_with};
 pub use laws::{
@@ -33,6 +35,7 @@ pub use laws::{
 };
 pub use line::append_verdict_line;
 pub use mac::tag_matches;
+pub use nonce::asks_new;
 pub use nonces::MAX_MOMENT;
 pub use outcome::Verdict;
 pub use signatures::{

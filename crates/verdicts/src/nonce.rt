@@ -34,7 +34,7 @@ fn is_replay<L: Ledger>(
 }
 
 /// Whether a nonce that is there has to be new.
-fn asks_new(nonce: NonceUse) -> bool
+pub fn asks_new(nonce: NonceUse) -> bool
     ensures { result ≡ asks_new nonce }
 {
     match nonce {

@@ -47,6 +47,7 @@ needed name.Verify = Conf ∷ Now ∷ []
 needed name.Sign = Conf ∷ Now ∷ []
 needed name.Rewrite = Script ∷ []
 needed name.Audit = Conf ∷ []
+needed name.Gateway = Conf ∷ []
 needed name.Sample = []
 
 -- no options were found that can't be beside one another

@@ -7,7 +7,7 @@ use Rattle.conf.specs.declared.fault.ConfFault.{ConfFault}
 use Rattle.conf.specs.declared.fault.ConfFault.TheVariants as fault
 use Rattle.conf.specs.declared.judge.RowFault.{RowFault}
 use Rattle.conf.specs.declared.judge.RowFault.TheVariants.{WrongType, OutOfRange, Missing}
-use Rattle.conf.specs.declared.table.TableName.{TableName}
+use Rattle.conf_keys.specs.declared.table.TableName.{TableName}
 use Rattle.conf.specs.Table.{Row, rows, places, place_path, has_unknown, is_missing}
 use Rattle.conf.specs.Paths.{HoldsOfNone}
 use Rattle.conf.specs.Rows.{is_ill_typed, is_out_of_range}

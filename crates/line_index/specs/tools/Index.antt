@@ -49,11 +49,6 @@ line_cmp bytes spans one other = ordering_then
 abbrev pub comes_before : List ℕ → List LineSpan → IndexEntry → IndexEntry → Bool
 comes_before bytes spans one other = is_lt (line_cmp bytes spans one.line other.line)
 
--- whether the name of the entry's line comes before the name
-abbrev pub is_below : List ℕ → List LineSpan → List ℕ → IndexEntry → Bool
-is_below bytes spans name entry =
-    is_lt (text_cmp (lowered_name bytes spans entry.line) (str_to_ascii_lowercase name))
-
 -- whether the line with the index has the name
 abbrev pub is_line_named : List ℕ → List LineSpan → List ℕ → ℕ → Bool
 is_line_named bytes spans name index = is_span_named bytes name (span_by spans index)
@@ -81,14 +76,6 @@ pub record IsIndexOf (bytes : List ℕ) (spans : List LineSpan) (index : List In
     : Type 0 where
   pub each : IsPermutation (map (entry_of bytes spans) (range_with_len 0 (length spans))) index
   pub sorted : IsSortedBy (comes_before bytes spans) index
-
--- those of lines whose names don't come before the name
-pub record IsRestFrom (bytes : List ℕ) (spans : List LineSpan) (name : List ℕ)
-    (index rest : List IndexEntry) : Type 0 where
-  pub sorted : IsSortedBy (comes_before bytes spans) rest
-  pub above : All (λ entry. IsFalse (is_below bytes spans name entry)) rest
-  pub right : All (IsEntry bytes spans) rest
-  pub all : filter (is_named bytes spans name) rest ≡ filter (is_named bytes spans name) index
 
 -- where the field line of the entry is
 abbrev pub entry_span : List LineSpan → IndexEntry → LineSpan
@@ -139,6 +126,18 @@ entry_cmp bytes spans one other =
 -- whether it has the entry's name before the name in lower case with those first bytes
 abbrev pub is_key_below : List ℕ → List LineSpan → ℕ × List ℕ → IndexEntry → Bool
 is_key_below bytes spans key entry = is_lt (key_cmp (entry_key bytes spans entry) key)
+
+-- the first bytes of the name as it is written, and the name in lower case
+abbrev pub name_key : List ℕ → ℕ × List ℕ
+name_key name = (first_bytes name, str_to_ascii_lowercase name)
+
+-- those that it doesn't have before the name, among them all of lines that have the name
+pub record IsRestFrom (bytes : List ℕ) (spans : List LineSpan) (name : List ℕ)
+    (index rest : List IndexEntry) : Type 0 where
+  pub sorted : IsSortedBy (comes_before bytes spans) rest
+  pub above : All (λ entry. IsFalse (is_key_below bytes spans (name_key name) entry)) rest
+  pub right : All (IsEntry bytes spans) rest
+  pub all : filter (is_named bytes spans name) rest ≡ filter (is_named bytes spans name) index
 
 -- whether two names of which the first sixteen bytes are the same are the same
 abbrev pub is_rest_named : List ℕ → List ℕ → Bool

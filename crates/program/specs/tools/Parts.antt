@@ -5,7 +5,7 @@ use Rattle.std.specs.List.{list_all}
 use Rattle.sfv_text.specs.Classes.{is_byte}
 use Rattle.hms_io.specs.Files.{FileMap, KeepsFiles}
 use Rattle.hms_io.specs.declared.status.Status.{Status}
-use Rattle.hms_io.specs.declared.status.Status.TheVariants.{OutOfMemory, WriteFault}
+use Rattle.hms_io.specs.declared.status.Status.TheVariants.{OutOfMemory, ReadFault as ReadFailed, WriteFault}
 use Rattle.msg_body.specs.Messages.{Message}
 use Rattle.msg_body.specs.Views.{message_of}
 use Rattle.msg_body.specs.WholeTexts.{reading_for}
@@ -13,6 +13,8 @@ use Rattle.conf.specs.Configuration.{Configuration}
 use Rattle.conf.specs.ConfMeaning.{meaning}
 use Rattle.verdicts.specs.Contexts.{context_for}
 use Rattle.rewrite_script.specs.declared.rewrite.Rewrite.{Rewrite}
+use Rattle.gateway.specs.declared.fault.StreamFault.{StreamFault}
+use Rattle.gateway.specs.declared.fault.StreamFault.TheVariants.{NotWritten}
 use Rattle.refusals.specs.declared.role.Role.TheVariants.{Input}
 use Rattle.refusals.specs.declared.file.FileRefusal.TheVariants.{Message as NoMessage}
 use Rattle.refusals.specs.declared.refusal.Refusal.{Refusal}
@@ -25,10 +27,10 @@ use Rattle.commands.specs.Outcome.{output_of, status_of}
 use Rattle.commands.specs.declared.outcome.Outcome.{Outcome}
 use Rattle.commands.specs.declared.outcome.Outcome.TheVariants.{Done, NotOk, Refused}
 use Rattle.commands.specs.declared.stop.Stop.{Stop}
-use Rattle.commands.specs.declared.stop.Stop.TheVariants.{ReadFault}
+use Rattle.commands.specs.declared.stop.Stop.TheVariants.{ReadFault, Memory as NoMemory, Refused as StopRefused}
 use Rattle.commands.specs.Stops.{IfOutcome}
 use Rattle.program.specs.Commands.{name_of}
-use Rattle.program.specs.Ends.{AppendsPrefix, OneRose}
+use Rattle.program.specs.Ends.{AppendsPrefix, CountsFaults, OneRose}
 use Rattle.program.specs.Intake.{TakenValues, named_count, read_order, roles_until}
 use Rattle.program.specs.Report.{Answers}
 use Rattle.program.specs.declared.intake.FilesRead.{FilesRead}
@@ -128,3 +130,18 @@ IsWritten outcome taken now status refusal =
     ⊎ (((status ≡ WriteFault) × (refusal ≡ None)
     × AppendsPrefix taken now (output_of outcome) × IsTrue (list_all is_byte (output_of outcome)))
     ⊎ ((status ≡ OutOfMemory) × (refusal ≡ None) × Keeps taken now))
+
+-- what was written where a run is stopped: the line of a refusal, or nothing
+abbrev pub IsWrittenStop : Stop → Option (List ℕ) → Option (List ℕ) → Status → Option Refusal
+    → Type 0
+IsWrittenStop (StopRefused refusal) taken now status told =
+    IsWritten (Refused refusal) taken now status told
+IsWrittenStop ReadFault taken now status told =
+    Keeps taken now × (status ≡ ReadFailed) × (told ≡ None)
+IsWrittenStop NoMemory taken now status told =
+    Keeps taken now × (status ≡ OutOfMemory) × (told ≡ None)
+
+-- only a write of what comes after the records raises the count of faults further
+abbrev pub CountsAfter : StreamFault → Status → ℕ → ℕ → Type 0
+CountsAfter NotWritten status before now = (status ≡ WriteFault) × (now ≡ before)
+CountsAfter fault status before now = CountsFaults WriteFault status before now

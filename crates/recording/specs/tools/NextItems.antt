@@ -3,7 +3,7 @@ use Rattle.std.specs.Prelude.{◌≡◌, ℕ, ◌+◌, ◌-◌, ◌<◌, ◌≤�
 use Rattle.byte_grammar.specs.Language.{Begins}
 use Rattle.recording.specs.declared.read.Stop.{Stop}
 use Rattle.recording.specs.declared.read.Stop.TheVariants as stop
-use Rattle.recording.specs.Items.{Body, body_text, number_of, IsNumber}
+use Rattle.recording.specs.Items.{Body, moment, body_text, number_of, IsNumber}
 use Rattle.recording.specs.tools.Running.{IsAllowedAfter, IsLongAfter, IsFallingAfter}
 use Rattle.recording.specs.tools.RecordingTexts.{IsTurn}
 
@@ -29,6 +29,17 @@ pub record IsUnread (bytes : List ℕ) (left : ℕ) : Type 0 where
 abbrev pub BeginsWithLine : (ℕ → List ℕ → Type 0) → ℕ → List ℕ → Type 0
 BeginsWithLine IsSuch last bytes =
     (line more : List ℕ) × (bytes ≡ line ++ more) × IsSuch last line
+
+-- the bytes begin with the line that names the format, and an item that is this moment
+pub record BeginsWithFirst (first : ℕ) (rest bytes : List ℕ) : Type 0 where
+  pub joined : bytes ≡ codes "hms-recording 1\n" ++ (body_text (moment first) ++ rest)
+  pub number : IsNumber first
+
+-- how many bytes were left
+abbrev pub bytes_left : Stop → ℕ
+bytes_left (stop.Left n) = n
+bytes_left (stop.TooLong n) = n
+bytes_left (stop.MomentFalls n) = n
 
 -- why nothing is read after this moment, and where
 abbrev pub IsStop : ℕ → List ℕ → Stop → Type 0

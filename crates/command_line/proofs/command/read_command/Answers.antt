@@ -2,7 +2,7 @@ use Rattle.std.proofs.Common.{map, string_bytes, subst, sym}
 use Rattle.command_line.specs.Names.{command_word}
 use Rattle.command_line.specs.declared.options.CommandName.{CommandName}
 use Rattle.command_line.specs.tools.After.{NoneAfter}
-use Rattle.command_line.proofs.FirstWords.{help_asked, no_audit, no_base, no_rewrite, no_sample, no_sign, no_verify}
+use Rattle.command_line.proofs.FirstWords.{help_asked, no_audit, no_base, no_gateway, no_rewrite, no_sample, no_sign, no_verify}
 use Rattle.command_line.proofs.OptionLists.{if_none}
 use Rattle.command_line.proofs.command.read_command.Goals as goal
 
@@ -38,6 +38,12 @@ returns-in-Audit-clause-none c =
     if_none c.read_audit.result
     (λ none. subst (λ (command : CommandName). NoneAfter (command_word command) (map string_bytes c.args.words.now)) (sym c.in-Audit.is)
     (no_audit (map string_bytes c.args.words.now) (sym c.if-asks_help.ensures) none)) c.read_audit.ensures.none
+
+pub returns-in-Gateway-clause-none : goal.returns-in-Gateway-clause-none
+returns-in-Gateway-clause-none c =
+    if_none c.read_gateway.result
+    (λ none. subst (λ (command : CommandName). NoneAfter (command_word command) (map string_bytes c.args.words.now)) (sym c.in-Gateway.is)
+    (no_gateway (map string_bytes c.args.words.now) (sym c.if-asks_help.ensures) none)) c.read_gateway.ensures.none
 
 pub returns-in-Sample-clause-none : goal.returns-in-Sample-clause-none
 returns-in-Sample-clause-none c =

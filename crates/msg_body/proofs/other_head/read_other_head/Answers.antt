@@ -4,7 +4,7 @@ use Rattle.msg_body.specs.Content.{body_parts}
 use Rattle.msg_body.specs.Messages.{Message, message_text, with_head}
 use Rattle.msg_body.specs.Views.{BodyParts, MessageParts, body_of, message_of}
 use Rattle.msg_body.specs.tools.Trailed.{EndsWithTrailer}
-use Rattle.msg_body.proofs.OtherHeads.{begins, ends, head_read, no_partial_head, other_is}
+use Rattle.msg_body.proofs.OtherHeads.{begins, ends, head_fault, head_read, no_partial_head, other_is}
 use Rattle.msg_body.proofs.other_head.read_other_head.Goals as goal
 
 pub body_again-requires : goal.body_again-requires
@@ -28,6 +28,13 @@ unreachable-requires c =
     let head = c.requires.1 in
     let found = c.read_head.ensures.found head (length (head_text head)) (begins c.requires.0 (with_head message head) c.args.text.now c.requires.2) in
     no_partial_head c.read_head.result head (length (head_text head)) found (c.in-Ok-Partial.is ∙ ap Ok c.in-Ok-Partial.field-0-is)
+
+pub only_memory-requires : goal.only_memory-requires
+only_memory-requires c =
+    let message = message_of c.args.message.now in
+    let head = c.requires.1 in
+    let found = c.read_head.ensures.found head (length (head_text head)) (begins c.requires.0 (with_head message head) c.args.text.now c.requires.2) in
+    head_fault c.read_head.result head (length (head_text head)) found c.in-Err.error c.in-Err.is
 
 pub returns-in_ok-body-in-Ok-Whole-clause-ok : goal.returns-in_ok-body-in-Ok-Whole-clause-ok
 returns-in_ok-body-in-Ok-Whole-clause-ok c = λ to_head head spells.

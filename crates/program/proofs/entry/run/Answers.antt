@@ -1,99 +1,86 @@
-use Rattle.std.proofs.Common.{◌≡◌, map, string_bytes}
-use Rattle.commands.specs.declared.outcome.Outcome.TheVariants.{Refused}
-use Rattle.program.specs.Ends.{HasReport}
-use Rattle.program.proofs.AskedFiles.{asks_written}
-use Rattle.program.proofs.Meanings.{all_read_whole, writes_one_base, writes_one_chain, writes_signed, writes_verdicts}
-use Rattle.program.proofs.WrittenOutcomes.{ends_written, reads_written, why_written}
+use Rattle.std.proofs.Common.{◌≡◌, ◌⊎◌, ◌+◌, ◌≤◌, inl, map, string_bytes, ap}
+use Rattle.command_line.specs.Command.{CommandLine, Base, Verify, Sign, Audit, Gateway, GatewayWords, gateway_words}
+use Rattle.command_line.proofs.CommandLaws.{one_command}
+use Rattle.commands.specs.Files.{Found, AreFound, Conf, file_bytes}
+use Rattle.program.specs.Commands.{LosesFew, input_use, name_of}
+use Rattle.program.specs.Ends.{AsksFor, HasReport, WritesRefusal}
+use Rattle.program.specs.StreamEnds.{EndsStream}
+use Rattle.program.specs.StreamMeanings.{TellsStream}
+use Rattle.program.proofs.AskedFiles.{conf_told}
+use Rattle.program.proofs.Reports.{never, of_command}
+use Rattle.program.proofs.StreamRecords.{told_rightly}
+use Rattle.program.proofs.StreamRuns.{for_gateway, stream_few, why_stream, why_whole_told}
 use Rattle.program.proofs.entry.run.Goals as goal
 
--- ---- an outcome
+-- ---- `gateway`
 
-pub returns-in-Ok-clause-ends : goal.returns-in-Ok-clause-ends
-returns-in-Ok-clause-ends g c =
-    λ whole. ends_written (map string_bytes c.args.arguments.now) (g.F.Shelf.files c.args.shelf.now) (c.run_command.new.source ≡ c.args.source.now) (g.S.Source.left c.args.source.now) (g.S.Source.left c.run_command.new.source)
-    (g.K.Sink.taken c.args.out.now) (g.K.Sink.taken c.write_outcome.new.out) c.in-Ok.outcome c.write_outcome.result.status c.write_outcome.result.refusal (c.in-Ok.ensures.report) c.write_outcome.ensures.ends
+pub returns-in-Some-clause-ends : goal.returns-in-Some-clause-ends
+returns-in-Some-clause-ends g c = λ whole. absurd (cc (whole (Gateway (gateway_words c.in-Some.words)) c.in-Some.ensures.some))
 
-pub returns-in-Ok-clause-why : goal.returns-in-Ok-clause-why
-returns-in-Ok-clause-why g c =
-    why_written (HasReport (map string_bytes c.args.arguments.now) (g.F.Shelf.files c.args.shelf.now) (c.run_command.new.source ≡ c.args.source.now) (g.S.Source.left c.args.source.now) (g.S.Source.left c.run_command.new.source))
-    (g.K.Sink.taken c.args.out.now) (g.K.Sink.taken c.write_outcome.new.out) c.in-Ok.outcome c.write_outcome.result.status c.write_outcome.result.refusal (c.in-Ok.ensures.report) c.write_outcome.ensures.ends
+pub returns-in-Some-clause-gateway : goal.returns-in-Some-clause-gateway
+returns-in-Some-clause-gateway g c =
+    for_gateway (λ (words : GatewayWords). EndsStream words (g.F.Shelf.files c.args.shelf.now) (c.over_stream.new.source ≡ c.args.source.now) (g.S.Source.left c.args.source.now) (g.S.Source.left c.over_stream.new.source)
+    (g.K.Sink.taken c.args.out.now) (g.K.Sink.taken c.over_stream.new.out) c.over_stream.result.status c.over_stream.result.refusal) (map string_bytes c.args.arguments.now) (gateway_words c.in-Some.words) c.in-Some.ensures.some c.over_stream.ensures.ends
 
-pub returns-in-Ok-clause-base : goal.returns-in-Ok-clause-base
-returns-in-Ok-clause-base g c =
-    writes_one_base (map string_bytes c.args.arguments.now) (g.F.Shelf.files c.args.shelf.now) (c.run_command.new.source ≡ c.args.source.now) (g.S.Source.left c.args.source.now) (g.S.Source.left c.run_command.new.source)
-    (g.K.Sink.taken c.args.out.now) (g.K.Sink.taken c.write_outcome.new.out) c.write_outcome.result.status (returns-in-Ok-clause-ends g c (all_read_whole (map string_bytes c.args.arguments.now)))
+pub returns-in-Some-clause-why : goal.returns-in-Some-clause-why
+returns-in-Some-clause-why g c =
+    why_stream (map string_bytes c.args.arguments.now) (gateway_words c.in-Some.words) c.in-Some.ensures.some (g.F.Shelf.files c.args.shelf.now) (c.over_stream.new.source ≡ c.args.source.now)
+    (g.S.Source.left c.args.source.now) (g.S.Source.left c.over_stream.new.source) (g.K.Sink.taken c.args.out.now) (g.K.Sink.taken c.over_stream.new.out) c.over_stream.result.status c.over_stream.result.refusal c.over_stream.ensures.ends
 
-pub returns-in-Ok-clause-verify : goal.returns-in-Ok-clause-verify
-returns-in-Ok-clause-verify g c =
-    writes_verdicts (map string_bytes c.args.arguments.now) (g.F.Shelf.files c.args.shelf.now) (c.run_command.new.source ≡ c.args.source.now) (g.S.Source.left c.args.source.now) (g.S.Source.left c.run_command.new.source)
-    (g.K.Sink.taken c.args.out.now) (g.K.Sink.taken c.write_outcome.new.out) c.write_outcome.result.status (returns-in-Ok-clause-ends g c (all_read_whole (map string_bytes c.args.arguments.now)))
+pub returns-in-Some-clause-passed : goal.returns-in-Some-clause-passed
+returns-in-Some-clause-passed g c =
+    for_gateway (λ (words : GatewayWords). (found : Found) × AreFound (g.F.Shelf.files c.args.shelf.now) (name_of (Gateway words)) found × ((c.over_stream.new.source ≡ c.args.source.now) ⊎ TellsStream words found (g.S.Source.left c.args.source.now) (g.S.Source.left c.over_stream.new.source)
+    (g.K.Sink.taken c.args.out.now) (g.K.Sink.taken c.over_stream.new.out) c.over_stream.result.status c.over_stream.result.refusal)) (map string_bytes c.args.arguments.now) (gateway_words c.in-Some.words) c.in-Some.ensures.some
+    (told_rightly (gateway_words c.in-Some.words) (g.F.Shelf.files c.args.shelf.now) (c.over_stream.new.source ≡ c.args.source.now) (g.S.Source.left c.args.source.now) (g.S.Source.left c.over_stream.new.source)
+    (g.K.Sink.taken c.args.out.now) (g.K.Sink.taken c.over_stream.new.out) c.over_stream.result.status c.over_stream.result.refusal c.over_stream.ensures.ends)
 
-pub returns-in-Ok-clause-sign : goal.returns-in-Ok-clause-sign
-returns-in-Ok-clause-sign g c =
-    writes_signed (map string_bytes c.args.arguments.now) (g.F.Shelf.files c.args.shelf.now) (c.run_command.new.source ≡ c.args.source.now) (g.S.Source.left c.args.source.now) (g.S.Source.left c.run_command.new.source)
-    (g.K.Sink.taken c.args.out.now) (g.K.Sink.taken c.write_outcome.new.out) c.write_outcome.result.status (returns-in-Ok-clause-ends g c (all_read_whole (map string_bytes c.args.arguments.now)))
+pub returns-in-Some-clause-base : goal.returns-in-Some-clause-base
+returns-in-Some-clause-base g c = λ words is done. absurd (cc (one_command (map string_bytes c.args.arguments.now) (Gateway (gateway_words c.in-Some.words)) (Base words) c.in-Some.ensures.some is))
 
-pub returns-in-Ok-clause-audit : goal.returns-in-Ok-clause-audit
-returns-in-Ok-clause-audit g c =
-    writes_one_chain (map string_bytes c.args.arguments.now) (g.F.Shelf.files c.args.shelf.now) (c.run_command.new.source ≡ c.args.source.now) (g.S.Source.left c.args.source.now) (g.S.Source.left c.run_command.new.source)
-    (g.K.Sink.taken c.args.out.now) (g.K.Sink.taken c.write_outcome.new.out) c.write_outcome.result.status (returns-in-Ok-clause-ends g c (all_read_whole (map string_bytes c.args.arguments.now)))
+pub returns-in-Some-clause-verify : goal.returns-in-Some-clause-verify
+returns-in-Some-clause-verify g c = λ words is done. absurd (cc (one_command (map string_bytes c.args.arguments.now) (Gateway (gateway_words c.in-Some.words)) (Verify words) c.in-Some.ensures.some is))
 
-pub returns-in-Ok-clause-reads : goal.returns-in-Ok-clause-reads
-returns-in-Ok-clause-reads g c =
-    reads_written (c.run_command.new.source ≡ c.args.source.now) c.in-Ok.outcome (g.K.Sink.taken c.args.out.now) (g.K.Sink.taken c.write_outcome.new.out) c.write_outcome.result.status c.write_outcome.result.refusal (g.F.Shelf.faults c.args.shelf.now) (g.F.Shelf.faults c.run_command.new.shelf)
-    (g.S.Source.faults c.args.source.now) (g.S.Source.faults c.run_command.new.source) c.write_outcome.ensures.ends (c.in-Ok.ensures.cause)
+pub returns-in-Some-clause-sign : goal.returns-in-Some-clause-sign
+returns-in-Some-clause-sign g c = λ words is done. absurd (cc (one_command (map string_bytes c.args.arguments.now) (Gateway (gateway_words c.in-Some.words)) (Sign words) c.in-Some.ensures.some is))
 
--- ---- a refusal
+pub returns-in-Some-clause-audit : goal.returns-in-Some-clause-audit
+returns-in-Some-clause-audit g c = λ words is done. absurd (cc (one_command (map string_bytes c.args.arguments.now) (Gateway (gateway_words c.in-Some.words)) (Audit words) c.in-Some.ensures.some is))
 
-pub returns-in-Err-Refused-clause-ends : goal.returns-in-Err-Refused-clause-ends
-returns-in-Err-Refused-clause-ends g c =
-    λ whole. ends_written (map string_bytes c.args.arguments.now) (g.F.Shelf.files c.args.shelf.now) (c.run_command.new.source ≡ c.args.source.now) (g.S.Source.left c.args.source.now) (g.S.Source.left c.run_command.new.source)
-    (g.K.Sink.taken c.args.out.now) (g.K.Sink.taken c.write_outcome-in-Err-Refused.new.out) (Refused c.in-Err-Refused.refusal) c.write_outcome-in-Err-Refused.result.status c.write_outcome-in-Err-Refused.result.refusal (rw c.in-Err-Refused.field-0-is at c.in-Err-Refused.ensures.report) c.write_outcome-in-Err-Refused.ensures.ends
+pub returns-in-Some-clause-refused : goal.returns-in-Some-clause-refused
+returns-in-Some-clause-refused g c = λ none. absurd (none (Gateway (gateway_words c.in-Some.words)) c.in-Some.ensures.some)
 
-pub returns-in-Err-Refused-clause-why : goal.returns-in-Err-Refused-clause-why
-returns-in-Err-Refused-clause-why g c =
-    why_written (HasReport (map string_bytes c.args.arguments.now) (g.F.Shelf.files c.args.shelf.now) (c.run_command.new.source ≡ c.args.source.now) (g.S.Source.left c.args.source.now) (g.S.Source.left c.run_command.new.source))
-    (g.K.Sink.taken c.args.out.now) (g.K.Sink.taken c.write_outcome-in-Err-Refused.new.out) (Refused c.in-Err-Refused.refusal) c.write_outcome-in-Err-Refused.result.status c.write_outcome-in-Err-Refused.result.refusal (rw c.in-Err-Refused.field-0-is at c.in-Err-Refused.ensures.report) c.write_outcome-in-Err-Refused.ensures.ends
+pub returns-in-Some-clause-unread : goal.returns-in-Some-clause-unread
+returns-in-Some-clause-unread g c = λ none. absurd (cc (none (Gateway (gateway_words c.in-Some.words)) c.in-Some.ensures.some))
 
-pub returns-in-Err-Refused-clause-base : goal.returns-in-Err-Refused-clause-base
-returns-in-Err-Refused-clause-base g c =
-    writes_one_base (map string_bytes c.args.arguments.now) (g.F.Shelf.files c.args.shelf.now) (c.run_command.new.source ≡ c.args.source.now) (g.S.Source.left c.args.source.now) (g.S.Source.left c.run_command.new.source)
-    (g.K.Sink.taken c.args.out.now) (g.K.Sink.taken c.write_outcome-in-Err-Refused.new.out) c.write_outcome-in-Err-Refused.result.status (returns-in-Err-Refused-clause-ends g c (all_read_whole (map string_bytes c.args.arguments.now)))
+pub returns-in-Some-clause-unasked : goal.returns-in-Some-clause-unasked
+returns-in-Some-clause-unasked g c = λ named. never c.in-Some.words.conf.now (named (Gateway (gateway_words c.in-Some.words)) c.in-Some.ensures.some Conf)
 
-pub returns-in-Err-Refused-clause-verify : goal.returns-in-Err-Refused-clause-verify
-returns-in-Err-Refused-clause-verify g c =
-    writes_verdicts (map string_bytes c.args.arguments.now) (g.F.Shelf.files c.args.shelf.now) (c.run_command.new.source ≡ c.args.source.now) (g.S.Source.left c.args.source.now) (g.S.Source.left c.run_command.new.source)
-    (g.K.Sink.taken c.args.out.now) (g.K.Sink.taken c.write_outcome-in-Err-Refused.new.out) c.write_outcome-in-Err-Refused.result.status (returns-in-Err-Refused-clause-ends g c (all_read_whole (map string_bytes c.args.arguments.now)))
+pub returns-in-Some-clause-few : goal.returns-in-Some-clause-few
+returns-in-Some-clause-few g c =
+    of_command (λ (line : CommandLine). LosesFew (input_use line) (g.S.Source.left c.args.source.now) (g.S.Source.left c.over_stream.new.source)) (map string_bytes c.args.arguments.now) (Gateway (gateway_words c.in-Some.words)) c.in-Some.ensures.some
+    (stream_few (gateway_words c.in-Some.words) (g.F.Shelf.files c.args.shelf.now) (c.over_stream.new.source ≡ c.args.source.now) (g.S.Source.left c.args.source.now) (g.S.Source.left c.over_stream.new.source)
+    (g.K.Sink.taken c.args.out.now) (g.K.Sink.taken c.over_stream.new.out) c.over_stream.result.status c.over_stream.result.refusal c.over_stream.ensures.ends (λ same. ap g.S.Source.left same))
 
-pub returns-in-Err-Refused-clause-sign : goal.returns-in-Err-Refused-clause-sign
-returns-in-Err-Refused-clause-sign g c =
-    writes_signed (map string_bytes c.args.arguments.now) (g.F.Shelf.files c.args.shelf.now) (c.run_command.new.source ≡ c.args.source.now) (g.S.Source.left c.args.source.now) (g.S.Source.left c.run_command.new.source)
-    (g.K.Sink.taken c.args.out.now) (g.K.Sink.taken c.write_outcome-in-Err-Refused.new.out) c.write_outcome-in-Err-Refused.result.status (returns-in-Err-Refused-clause-ends g c (all_read_whole (map string_bytes c.args.arguments.now)))
+pub returns-in-Some-clause-asked : goal.returns-in-Some-clause-asked
+returns-in-Some-clause-asked g c =
+    of_command (λ (line : CommandLine). AsksFor (name_of line) c.over_stream.result.refusal (g.F.Shelf.asked c.args.shelf.now) (g.F.Shelf.asked c.over_stream.new.shelf)) (map string_bytes c.args.arguments.now) (Gateway (gateway_words c.in-Some.words)) c.in-Some.ensures.some
+    (conf_told c.in-Some.words.conf.now c.over_stream.result.refusal (g.F.Shelf.asked c.args.shelf.now) (g.F.Shelf.asked c.over_stream.new.shelf) c.over_stream.ensures.asked)
 
-pub returns-in-Err-Refused-clause-audit : goal.returns-in-Err-Refused-clause-audit
-returns-in-Err-Refused-clause-audit g c =
-    writes_one_chain (map string_bytes c.args.arguments.now) (g.F.Shelf.files c.args.shelf.now) (c.run_command.new.source ≡ c.args.source.now) (g.S.Source.left c.args.source.now) (g.S.Source.left c.run_command.new.source)
-    (g.K.Sink.taken c.args.out.now) (g.K.Sink.taken c.write_outcome-in-Err-Refused.new.out) c.write_outcome-in-Err-Refused.result.status (returns-in-Err-Refused-clause-ends g c (all_read_whole (map string_bytes c.args.arguments.now)))
+pub returns-in-Some-clause-reached : goal.returns-in-Some-clause-reached
+returns-in-Some-clause-reached g c =
+    of_command (λ (line : CommandLine). g.F.Shelf.reached c.over_stream.new.shelf ≤ g.F.Shelf.reached c.args.shelf.now + file_bytes (name_of line)) (map string_bytes c.args.arguments.now) (Gateway (gateway_words c.in-Some.words)) c.in-Some.ensures.some c.over_stream.ensures.reached
 
-pub returns-in-Err-Refused-clause-reads : goal.returns-in-Err-Refused-clause-reads
-returns-in-Err-Refused-clause-reads g c =
-    reads_written (c.run_command.new.source ≡ c.args.source.now) (Refused c.in-Err-Refused.refusal) (g.K.Sink.taken c.args.out.now) (g.K.Sink.taken c.write_outcome-in-Err-Refused.new.out) c.write_outcome-in-Err-Refused.result.status c.write_outcome-in-Err-Refused.result.refusal (g.F.Shelf.faults c.args.shelf.now) (g.F.Shelf.faults c.run_command.new.shelf)
-    (g.S.Source.faults c.args.source.now) (g.S.Source.faults c.run_command.new.source) c.write_outcome-in-Err-Refused.ensures.ends (rw c.in-Err-Refused.field-0-is at c.in-Err-Refused.ensures.cause)
+-- ---- the other commands
 
-pub returns-in-Ok-clause-asked : goal.returns-in-Ok-clause-asked
-returns-in-Ok-clause-asked g c =
-    let asks = c.in-Ok.ensures.asked in
-    asks_written (map string_bytes c.args.arguments.now) c.in-Ok.outcome (g.K.Sink.taken c.args.out.now) (g.K.Sink.taken c.write_outcome.new.out) c.write_outcome.result.status c.write_outcome.result.refusal
-    (g.F.Shelf.asked c.args.shelf.now) (g.F.Shelf.asked c.run_command.new.shelf) c.write_outcome.ensures.ends asks.until asks.most
+pub returns-in-None-clause-gateway : goal.returns-in-None-clause-gateway
+returns-in-None-clause-gateway g c = λ words is. absurd (cc (c.in-None.ensures.none (Gateway words) is))
 
-pub returns-in-Err-Refused-clause-asked : goal.returns-in-Err-Refused-clause-asked
-returns-in-Err-Refused-clause-asked g c =
-    let asks = rw c.in-Err-Refused.field-0-is at c.in-Err-Refused.ensures.asked in
-    asks_written (map string_bytes c.args.arguments.now) (Refused c.in-Err-Refused.refusal) (g.K.Sink.taken c.args.out.now) (g.K.Sink.taken c.write_outcome-in-Err-Refused.new.out) c.write_outcome-in-Err-Refused.result.status c.write_outcome-in-Err-Refused.result.refusal
-    (g.F.Shelf.asked c.args.shelf.now) (g.F.Shelf.asked c.run_command.new.shelf) c.write_outcome-in-Err-Refused.ensures.ends asks.until asks.most
+pub returns-in-None-clause-why : goal.returns-in-None-clause-why
+returns-in-None-clause-why g c =
+    why_whole_told (map string_bytes c.args.arguments.now) (g.F.Shelf.files c.args.shelf.now) (c.run_whole.new.source ≡ c.args.source.now) (g.S.Source.left c.args.source.now) (g.S.Source.left c.run_whole.new.source)
+    (g.K.Sink.taken c.args.out.now) (g.K.Sink.taken c.run_whole.new.out) c.run_whole.result.status c.run_whole.result.refusal
+    (WritesRefusal (HasReport (map string_bytes c.args.arguments.now) (g.F.Shelf.files c.args.shelf.now) (c.run_whole.new.source ≡ c.args.source.now) (g.S.Source.left c.args.source.now) (g.S.Source.left c.run_whole.new.source))
+    (g.K.Sink.taken c.args.out.now) (g.K.Sink.taken c.run_whole.new.out)) (λ refusal is. inl is) c.run_whole.ensures.why
 
-pub returns-in-Err-ReadFault-clause-asked : goal.returns-in-Err-ReadFault-clause-asked
-returns-in-Err-ReadFault-clause-asked g c = rw (c.of_status.ensures) c.in-Err-ReadFault.ensures.asked.most
-
-pub returns-in-Err-Memory-clause-asked : goal.returns-in-Err-Memory-clause-asked
-returns-in-Err-Memory-clause-asked g c = rw (c.of_status-in-Err-Memory.ensures) c.in-Err-Memory.ensures.asked.most
+pub returns-in-None-clause-passed : goal.returns-in-None-clause-passed
+returns-in-None-clause-passed g c = λ words is. absurd (cc (c.in-None.ensures.none (Gateway words) is))

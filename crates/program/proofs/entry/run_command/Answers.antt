@@ -1,5 +1,5 @@
 use Rattle.std.proofs.Common.{◌≡◌, ◌+◌, ◌≤◌, map, string_bytes, refl, Ok}
-use Rattle.command_line.specs.Command.{CommandLine, Help, HelpOf, Version, Base, Verify, Sign, Rewrite, Audit, Sample, base_words, verify_words, sign_words, rewrite_words, audit_words, sample_words}
+use Rattle.command_line.specs.Command.{CommandLine, Help, HelpOf, Version, Base, Verify, Sign, Rewrite, Audit, Gateway, Sample, base_words, verify_words, sign_words, rewrite_words, audit_words, gateway_words, sample_words}
 use Rattle.commands.specs.Files.{Conf, file_bytes}
 use Rattle.program.specs.Commands.{input_use, name_of, LosesFew}
 use Rattle.command_line.proofs.Moments.{sample_bounded}
@@ -226,3 +226,7 @@ returns-in-Sample-clause-few g c =
 pub returns-in-Sample-clause-asked : goal.returns-in-Sample-clause-asked
 returns-in-Sample-clause-asked g c =
     asks_of (map string_bytes c.args.arguments.now) (Sample (sample_words c.in-Sample.words)) (rw c.in-Sample.is at c.in-Some.ensures.some) c.sample_outcome.result (g.F.Shelf.asked c.args.shelf.now) (g.F.Shelf.asked c.args.shelf.now) (none_asked c.sample_outcome.result (g.F.Shelf.asked c.args.shelf.now)) (no_more (g.F.Shelf.asked c.args.shelf.now))
+
+pub unreachable-requires : goal.unreachable-requires
+unreachable-requires g c =
+    cc (c.requires (Gateway (gateway_words c.in-Gateway.field-0)) (rw c.in-Gateway.is at c.in-Some.ensures.some))

@@ -180,6 +180,11 @@ returns-in_err-script-clause-asks g c =
     (record { keeps = c.in_ok-wanted.ensures.files; asks = c.in_ok-wanted.ensures.asked; reaches = c.in_ok-wanted.ensures.reached; unasked = c.in_ok-wanted.ensures.unasked })
     (record { keeps = c.in_err-script.ensures.files; asks = c.in_err-script.ensures.asked; reaches = c.in_err-script.ensures.reached; unasked = c.in_err-script.ensures.unasked }))
 
+pub returns-in_err-request-clause-cause : goal.returns-in_err-request-clause-cause
+returns-in_err-request-clause-cause g c =
+    let p = err_from_is_err_and c.from_residual-in_err-request.result c.from_residual-in_err-request.ensures.1 in
+    rw (p.1, p.2) (shelf_counts (Option (List ℕ)) (c.args.source.now ≡ c.args.source.now) (g.F.Shelf.faults c.args.shelf.now) (g.F.Shelf.faults c.read_needed.new.shelf) (g.F.Shelf.faults c.fetch_message.new.shelf) (g.S.Source.faults c.args.source.now) c.in_err-request.field-0.0 c.in_ok-conf.ensures.cause c.in_err-request.ensures.cause refl)
+
 pub returns-in_err-related-clause-cause : goal.returns-in_err-related-clause-cause
 returns-in_err-related-clause-cause g c =
     let p = err_from_is_err_and c.from_residual-in_err-related.result c.from_residual-in_err-related.ensures.1 in

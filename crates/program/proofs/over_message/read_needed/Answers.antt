@@ -1,6 +1,12 @@
 use Rattle.std.specs.Prelude.{option_map}
 use Rattle.std.proofs.lemmas.Result.{err_from_is_err_and}
 use Rattle.conf.specs.ConfMeaning.{meaning}
+use Rattle.std.proofs.Common.{ℕ}
+use Rattle.refusals.specs.declared.refusal.Refusal.TheVariants.{Of}
+use Rattle.refusals.specs.declared.role.Role.TheVariants.{Conf as OfConf}
+use Rattle.commands.specs.Stops.{IsRefusalFor}
+use Rattle.commands.specs.Tables.{IsTableMissing}
+use Rattle.program.proofs.FaultCounts.{refused_counts}
 use Rattle.program.proofs.Reports.{conf_lacking, needed_had, table_lacking}
 use Rattle.program.proofs.over_message.read_needed.Goals as goal
 
@@ -14,6 +20,12 @@ returns-in_err-check_tables-clause-refused g c =
     let p = err_from_is_err_and c.from_residual-in_err-check_tables.result c.from_residual-in_err-check_tables.ensures.1 in
     rw (p.1, p.2) (table_lacking c.args.needs (g.F.Shelf.files c.args.shelf.now) (option_map (λ word. word.now) c.args.name) (meaning c.in_ok-conf.conf) c.in_err-check_tables.field-0.0
     c.in_ok-conf.ensures.ok c.in_err-check_tables.ensures.refused)
+
+pub returns-in_err-check_tables-clause-cause : goal.returns-in_err-check_tables-clause-cause
+returns-in_err-check_tables-clause-cause g c =
+    let p = err_from_is_err_and c.from_residual-in_err-check_tables.result c.from_residual-in_err-check_tables.ensures.1 in
+    rw (p.1, p.2) (refused_counts ℕ (IsRefusalFor (IsTableMissing c.args.needs (meaning c.in_ok-conf.conf)) (λ cause. Of OfConf cause)) c.in_err-check_tables.field-0.0
+    (g.F.Shelf.faults c.args.shelf.now) (g.F.Shelf.faults c.read_configuration.new.shelf) c.in_err-check_tables.ensures.refused c.in_ok-conf.ensures.cause)
 
 pub returns-clause-ok : goal.returns-clause-ok
 returns-clause-ok g c =

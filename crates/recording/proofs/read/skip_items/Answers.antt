@@ -4,10 +4,10 @@ use Rattle.recording.proofs.read.skip_items.Goals as goal
 
 pub returns-in_err-last : goal.returns-in_err-last
 returns-in_err-last c =
-    first_err _ c.args.text.now c.from_residual.result c.in_err-last.field-0.0 c.from_residual.ensures.1 c.in_err-last.ensures
+    first_err _ c.args.text.now c.from_residual.result c.in_err-last.field-0.0 c.from_residual.ensures.1 c.in_err-last.ensures.gives
 
 pub items-init : goal.items-init
-items-init c = first_item c.args.text.now c.in_ok-last.last c.in_ok-last.left.now c.in_ok-last.ensures
+items-init c = first_item c.args.text.now c.in_ok-last.last c.in_ok-last.left.now c.in_ok-last.ensures.gives
 
 pub returns-in_err-item : goal.returns-in_err-item
 returns-in_err-item c =

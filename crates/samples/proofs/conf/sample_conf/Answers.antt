@@ -14,4 +14,4 @@ pub returns : goal.returns
 returns c =
     conf_is (meaning c.add_key.new.self) (meaning c.new-conf.result) c.new.result c.in_ok-types.types c.standard-policy.result
     c.new-conf.ensures c.new.ensures c.in_ok-types.ensures c.standard-policy.ensures
-    c.in_ok-add_key.ensures.keys c.add_key.ensures.scheme c.add_key.ensures.types c.add_key.ensures.policy c.add_key.ensures.sign
+    c.in_ok-add_key.ensures.keys c.add_key.ensures.scheme c.add_key.ensures.types c.add_key.ensures.policy c.add_key.ensures.sign c.add_key.ensures.gateway

@@ -6,4 +6,4 @@ pub returns : goal.returns
 returns c =
     let key = c.args.key.now in
     let base = signature_base c.args.prepared.now.params c.args.prepared.now.values in
-    c.finish.ensures.absorbed key base (c.feed_base.ensures (key_block key) c.new-mac.ensures.absorbed)
+    c.finish.ensures.absorbed key base (c.feed_base.ensures (key_block key) c.hmac-mac.ensures.absorbed)

@@ -13,7 +13,7 @@ returns-in-Some c = λ context are have.
 
 pub signature_lines-requires-clause-bytes : goal.signature_lines-requires-clause-bytes
 signature_lines-requires-clause-bytes c =
-    tag_bytes c.tag_of-tag.result c.bytes.result.now (signature_base c.args.prepared.now.params c.args.prepared.now.values) c.tag_of-tag.ensures
+    tag_bytes c.tag_of-tag.result c.args.spec.now.key (signature_base c.args.prepared.now.params c.args.prepared.now.values) c.tag_of-tag.ensures
 
 pub returns : goal.returns
 returns c = λ context are have.
@@ -21,6 +21,6 @@ returns c = λ context are have.
     let tag = c.tag_of-tag.result in
     let values = c.args.prepared.now.values in
     made context spec (fits context spec are.none (sym (c.limit_of_signed.ensures context.message are.parts_are are.digest_is) ∙ c.in_default.is)) values tag c.in_ok-text_of.field-0 have
-    (c.tag_of-tag.ensures ∙ (ap (λ k. hmac k (signature_base c.args.prepared.now.params values)) c.bytes.ensures ∙ ap (λ (p : SigParams). hmac spec.key (signature_base p values)) c.requires))
-    (rw (c.bytes-2.ensures, c.bytes-3.ensures) at c.in_ok-text_of.ensures
+    (c.tag_of-tag.ensures ∙ ap (λ (p : SigParams). hmac spec.key (signature_base p values)) c.requires)
+    (rw (c.bytes.ensures, c.bytes-2.ensures) at c.in_ok-text_of.ensures
     ∙ text_is context.message c.args.parts are.parts_are (digest_lines context.message spec.digest) (signature_lines spec tag) c.args.digest.now c.in_ok-signature.signature are.digest_is c.in_ok-signature.ensures)

@@ -1,0 +1,65 @@
+use Rattle.std.proofs.Common.{Bool, false, true, ◌&&◌, refl, sym, ap, ◌∙◌}
+use Rattle.recording.specs.Items.{placed}
+use Rattle.gateway.specs.Served.{Serves}
+use Rattle.gateway.specs.Streams.{stream_fault_of}
+use Rattle.gateway.proofs.ServedItems.{done_can, done_kept_sink, done_more, done_passed, done_unmet, done_unread, done_waiting, none_done, reads_as}
+use Rattle.gateway.proofs.WrittenParts.{as_fault}
+use Rattle.gateway.proofs.serving.serve_items.Goals as goal
+
+pub items-init : goal.items-init
+items-init g c = record {
+  done = none_done c.args.stream.now.conf (g.S.Source.left c.args.source.now) (g.K.Sink.taken c.args.sink.now) c.args.reader.now c.args.stream.now c.requires.begin c.requires.unread c.requires.gateway;
+  source = refl;
+  sink = refl;
+  unended = λ e. e;
+}
+
+pub returns-in_err-next-clause-served : goal.returns-in_err-next-clause-served
+returns-in_err-next-clause-served g c = λ settings is.
+    as_fault (Serves c.args.stream.now.conf settings (g.S.Source.left c.args.source.now) (g.S.Source.left c.next.new.source) (g.K.Sink.taken c.args.sink.now) (g.K.Sink.taken c.items.sink))
+    (stream_fault_of c.in_err-next.field-0.0) c.from_residual.result c.from_residual.ensures.1
+    (done_unread _ _ _ (g.S.Source.left c.next.new.source) _ _ _ c.next.new.self _ _ c.items.invariant.done c.in_err-next.field-0.0 c.in_err-next.ensures.reads settings is)
+
+pub serve_item-requires : goal.serve_item-requires
+serve_item-requires g c =
+    let reads = reads_as c.items.reader c.next.new.self (g.S.Source.left c.items.source) (g.S.Source.left c.next.new.source) c.in_ok-next.field-0 true c.if-branch.true c.in_ok-next.ensures.reads in
+    done_can _ _ _ (g.S.Source.left c.next.new.source) _ _ _ c.next.new.self _ _ c.items.invariant.done (placed c.item.result) reads c.next.ensures.within c.item.ensures
+
+pub returns-in_err-passes-clause-served : goal.returns-in_err-passes-clause-served
+returns-in_err-passes-clause-served g c = λ settings is.
+    let reads = reads_as c.items.reader c.next.new.self (g.S.Source.left c.items.source) (g.S.Source.left c.next.new.source) c.in_ok-next.field-0 true c.if-branch.true c.in_ok-next.ensures.reads in
+    as_fault (Serves c.args.stream.now.conf settings (g.S.Source.left c.args.source.now) (g.S.Source.left c.next.new.source) (g.K.Sink.taken c.args.sink.now) (g.K.Sink.taken c.serve_item.new.sink))
+    c.in_err-passes.field-0.0 c.from_residual-in_err-passes.result c.from_residual-in_err-passes.ensures.1
+    (done_unmet _ _ _ (g.S.Source.left c.next.new.source) _ _ _ c.next.new.self _ _ c.items.invariant.done (placed c.item.result) reads c.next.ensures.within c.item.ensures c.serve_item.new.stream (g.K.Sink.taken c.serve_item.new.sink) c.in_err-passes.field-0.0 c.in_err-passes.ensures.meets settings is)
+
+pub items-preserved-then-all_pass : goal.items-preserved-then-all_pass
+items-preserved-then-all_pass g c =
+    let reads = reads_as c.items.reader c.next.new.self (g.S.Source.left c.items.source) (g.S.Source.left c.next.new.source) c.in_ok-next.field-0 true c.if-branch.true c.in_ok-next.ensures.reads in
+    record {
+      done = done_more _ _ _ (g.S.Source.left c.next.new.source) _ _ _ c.next.new.self _ _ c.items.invariant.done (placed c.item.result) reads c.next.ensures.within c.item.ensures c.serve_item.new.stream (g.K.Sink.taken c.serve_item.new.sink) c.in_ok-passes.passes c.in_ok-passes.passes (ap (λ (b : Bool). b && c.in_ok-passes.passes) (sym c.if-all_pass.true)) c.in_ok-passes.ensures.meets;
+      source = c.in_ok-next.ensures.faults ∙ c.items.invariant.source;
+      sink = done_kept_sink _ _ _ (g.S.Source.left c.next.new.source) _ _ _ c.next.new.self _ _ c.items.invariant.done (placed c.item.result) reads c.next.ensures.within c.item.ensures c.serve_item.new.stream (g.K.Sink.taken c.serve_item.new.sink) (g.K.Sink.faults c.items.sink) (g.K.Sink.faults c.serve_item.new.sink) c.in_ok-passes.passes c.in_ok-passes.ensures.faults ∙ c.items.invariant.sink;
+      unended = λ e. c.in_ok-next.ensures.unended c.if-branch.true (c.items.invariant.unended e);
+    }
+
+pub items-preserved : goal.items-preserved
+items-preserved g c =
+    let reads = reads_as c.items.reader c.next.new.self (g.S.Source.left c.items.source) (g.S.Source.left c.next.new.source) c.in_ok-next.field-0 true c.if-branch.true c.in_ok-next.ensures.reads in
+    record {
+      done = done_more _ _ _ (g.S.Source.left c.next.new.source) _ _ _ c.next.new.self _ _ c.items.invariant.done (placed c.item.result) reads c.next.ensures.within c.item.ensures c.serve_item.new.stream (g.K.Sink.taken c.serve_item.new.sink) c.in_ok-passes.passes c.items.all_pass (c.if-all_pass.false ∙ ap (λ (b : Bool). b && c.in_ok-passes.passes) (sym c.if-all_pass.false)) c.in_ok-passes.ensures.meets;
+      source = c.in_ok-next.ensures.faults ∙ c.items.invariant.source;
+      sink = done_kept_sink _ _ _ (g.S.Source.left c.next.new.source) _ _ _ c.next.new.self _ _ c.items.invariant.done (placed c.item.result) reads c.next.ensures.within c.item.ensures c.serve_item.new.stream (g.K.Sink.taken c.serve_item.new.sink) (g.K.Sink.faults c.items.sink) (g.K.Sink.faults c.serve_item.new.sink) c.in_ok-passes.passes c.in_ok-passes.ensures.faults ∙ c.items.invariant.sink;
+      unended = λ e. c.in_ok-next.ensures.unended c.if-branch.true (c.items.invariant.unended e);
+    }
+
+pub returns-in_err-finish-clause-served : goal.returns-in_err-finish-clause-served
+returns-in_err-finish-clause-served g c = λ settings is.
+    let reads = reads_as c.items.reader c.next.new.self (g.S.Source.left c.items.source) (g.S.Source.left c.next.new.source) c.in_ok-next.field-0 false c.if-branch.false c.in_ok-next.ensures.reads in
+    as_fault (Serves c.args.stream.now.conf settings (g.S.Source.left c.args.source.now) (g.S.Source.left c.next.new.source) (g.K.Sink.taken c.args.sink.now) (g.K.Sink.taken c.items.sink))
+    c.in_err-finish.field-0.0 c.from_residual-in_err-finish.result c.from_residual-in_err-finish.ensures.1
+    (done_waiting _ _ _ (g.S.Source.left c.next.new.source) _ _ _ c.next.new.self _ _ c.items.invariant.done c.in_err-finish.field-0.0 reads c.in_err-finish.ensures settings is)
+
+pub returns-clause-served : goal.returns-clause-served
+returns-clause-served g c = λ settings is.
+    let reads = reads_as c.items.reader c.next.new.self (g.S.Source.left c.items.source) (g.S.Source.left c.next.new.source) c.in_ok-next.field-0 false c.if-branch.false c.in_ok-next.ensures.reads in
+    done_passed _ _ _ (g.S.Source.left c.next.new.source) _ _ _ c.next.new.self _ _ c.items.invariant.done reads c.in_ok-finish.ensures settings is

@@ -1,0 +1,10 @@
+pub mod Arrivals
+pub mod Accepted
+pub mod Seen
+pub mod Forwarded
+pub mod Records
+pub mod RecordTexts
+pub mod Streams
+pub mod Served
+pub mod Laws
+pub mod tools

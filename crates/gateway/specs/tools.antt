@@ -1,0 +1,4 @@
+pub mod HeldStreams
+pub mod Held
+pub mod Judged
+pub mod Walked

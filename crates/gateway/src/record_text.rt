@@ -1,0 +1,117 @@
+//! The text of a record. Each function adds its part at the end of the line.
+
+ghost use Rattle.std.specs.Prelude.{◌≡◌, ◌≤◌, ◌++◌, IfOk, IsTrue, OnOk};
+ghost use Rattle.signing.specs.Words.{sign_fault_text};
+ghost use Rattle.gateway.specs.Records.{is_pass};
+ghost use Rattle.gateway.specs.RecordTexts.{bad_text, held_text, is_held_in_range, is_record_in_range, record_line, record_text};
+ghost use Rattle.gateway.specs.Served.{CountsSink};
+ghost use Rattle.gateway.specs.tools.HeldStreams.{WritesText};
+
+use crate::fault::StreamFault;
+use crate::gateway_record::{BadFault, GatewayRecord, HeldFault};
+use component_ids::print_id;
+use hms_io::{Sink, put_all};
+use sfv_text::{Memory, Text, append_number, append_words};
+use signing::SignFault;
+use std::alloc::Global;
+use verdicts::append_verdict_line;
+
+fn append_sign_fault(alloc: Global, fault: SignFault, line: &mut Text) -> Result<(), Memory>
+    ensures { OnOk result (line.new ≡ line.old ++ sign_fault_text fault) }
+{
+    let text = format!(in alloc; "{fault}")?;
+    line.append(text.as_bytes())
+}
+
+/// Adds why a message is held.
+fn append_held(alloc: Global, fault: &HeldFault, line: &mut Text) -> Result<(), Memory>
+    requires { IsTrue (is_held_in_range fault.now) }
+    ensures { OnOk result (line.new ≡ line.old ++ held_text fault.now) }
+{
+    match fault {
+        HeldFault::Sign(fault) => append_sign_fault(alloc, *fault, line),
+        HeldFault::Lacks(lack, id) => {
+            let id = print_id(alloc, id)?;
+            line.append(lack.word().as_bytes())?;
+            append_words(b" ", id.bytes(), line)
+        }
+        HeldFault::Covered => line.append(b"covered"),
+    }
+}
+
+/// Adds why a message is bad.
+fn append_bad(alloc: Global, fault: BadFault, line: &mut Text) -> Result<(), Memory>
+    ensures { OnOk result (line.new ≡ line.old ++ bad_text fault) }
+{
+    match fault {
+        BadFault::Related => line.append(b"related"),
+        BadFault::Message(fault) => {
+            let text = format!(in alloc; "{fault}")?;
+            line.append(text.as_bytes())
+        }
+    }
+}
+
+/// The line of a record. That of a message that passes says how many bytes come after it.
+fn line_of(alloc: Global, answer: &GatewayRecord) -> Result<Text, Memory>
+    requires { IsTrue (is_record_in_range answer.now) }
+    ensures { IfOk result (λ line. line ≡ record_line answer.now) }
+{
+    let mut line = Text::new(alloc);
+    match answer {
+        GatewayRecord::Pass {
+            index,
+            label,
+            message,
+        } => {
+            append_number(alloc, b"pass ", *index, &mut line)?;
+            append_words(b" ", label.bytes(), &mut line)?;
+            append_number(alloc, b" ", message.bytes().len(), &mut line)?;
+            line.append(b"\n")?;
+        }
+        GatewayRecord::Stop {
+            index,
+            label,
+            verdict,
+        } => {
+            append_number(alloc, b"stop ", *index, &mut line)?;
+            line.append(b" ")?;
+            append_verdict_line(alloc, label.bytes(), verdict, &mut line)?;
+        }
+        GatewayRecord::Held { index, fault } => {
+            append_number(alloc, b"held ", *index, &mut line)?;
+            line.append(b" ")?;
+            append_held(alloc, fault, &mut line)?;
+            line.append(b"\n")?;
+        }
+        GatewayRecord::Bad { index, fault } => {
+            append_number(alloc, b"bad ", *index, &mut line)?;
+            line.append(b" ")?;
+            append_bad(alloc, *fault, &mut line)?;
+            line.append(b"\n")?;
+        }
+    }
+    Ok(line)
+}
+
+/// Writes the record, and answers whether the message passes. Out of memory nothing is written.
+pub(crate) fn write_record<K: Sink>(
+    alloc: Global,
+    answer: &GatewayRecord,
+    sink: &mut K,
+) -> Result<bool, StreamFault>
+    requires { IsTrue (is_record_in_range answer.now) }
+    ensures writes { WritesText (record_text answer.now) (K.taken sink.old) (K.taken sink.new)
+        result }
+    ensures passes { IfOk result (λ passes. passes ≡ is_pass answer.now) }
+    ensures faults { CountsSink (K.faults sink.old) (K.faults sink.new) result }
+    ensures later { K.faults sink.old ≤ K.faults sink.new }
+{
+    let line = line_of(alloc, answer)?;
+    put_all(sink, line.bytes())?;
+    if let GatewayRecord::Pass { message, .. } = answer {
+        put_all(sink, message.bytes())?;
+        put_all(sink, b"\n")?;
+    }
+    Ok(answer.is_pass())
+}
