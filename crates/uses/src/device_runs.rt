@@ -368,7 +368,7 @@ struct Serving {
 fn serves_so(alloc: Global, row: &Serving) -> Result<bool, Memory> {
     let mut shelf = MemShelf::new(alloc, row.shelf)?;
     shelf.put("c", STREAM_CONF)?;
-    let mut source = MemSource::new(alloc, STREAM, row.piece, row.source)?;
+    let mut source = MemSource::new(alloc, STREAM, row.piece.max(1), row.source)?;
     let mut sink = MemSink::new(alloc, 1_000, 10, row.sink)?;
     let arguments = arguments_of(alloc, &["gateway", "--conf", "c"])?;
     let ended = run(
