@@ -7,7 +7,7 @@ use Rattle.std.proofs.lemmas.Bool.{cases_Bool}
 use Rattle.std.proofs.lemmas.Slice.Eq.{bytes_eq-Decides}
 use Rattle.sfv_text.specs.Keys.{value_of}
 use Rattle.sfv_text.specs.declared.pair.Pair.{Pair}
-use Rattle.command_line.specs.Command.{CommandLine, Help, HelpOf, Version, Base, Verify, Sign, Rewrite, Audit, Gateway, Sample, BaseWords, VerifyWords, SignWords, RewriteWords, AuditWords, GatewayWords, SampleWords, IsCommand, SpellsBase, SpellsVerify, SpellsSign, SpellsRewrite, SpellsAudit, SpellsGateway, SpellsSample}
+use Rattle.command_line.specs.Command.{CommandLine, Help, HelpOf, Version, Base, Verify, Sign, Rewrite, Explain, Audit, Gateway, Sample, BaseWords, VerifyWords, SignWords, RewriteWords, ExplainWords, AuditWords, GatewayWords, SampleWords, IsCommand, SpellsBase, SpellsVerify, SpellsSign, SpellsRewrite, SpellsExplain, SpellsAudit, SpellsGateway, SpellsSample}
 use Rattle.command_line.specs.Laws.{HasOneCommand}
 use Rattle.command_line.specs.Names.{command_of, command_word}
 use Rattle.command_line.specs.Options.{words_of}
@@ -55,6 +55,14 @@ rewrite_in options = record {
   request = value_of options (codes "--request");
 }
 
+explain_in : List (Pair (List ℕ)) → ExplainWords
+explain_in options = record {
+  label = word_of options (codes "--label");
+  other = word_of options (codes "--other");
+  conf = value_of options (codes "--conf");
+  request = value_of options (codes "--request");
+}
+
 audit_in : List (Pair (List ℕ)) → AuditWords
 audit_in options = record { conf = word_of options (codes "--conf") }
 
@@ -77,6 +85,7 @@ after_name name.Base words = after_base words
 after_name name.Verify words = Verify (verify_in (options_in words))
 after_name name.Sign words = Sign (sign_in (options_in words))
 after_name name.Rewrite words = Rewrite (rewrite_in (options_in words))
+after_name name.Explain words = Explain (explain_in (options_in words))
 after_name name.Audit words = Audit (audit_in (options_in words))
 after_name name.Gateway words = Gateway (gateway_in (options_in words))
 after_name name.Sample words = after_sample words
@@ -138,6 +147,13 @@ rewrite_is arguments rewrite a =
     let script : rewrite.script ≡ word_of a.options (codes "--script") = word_is a.options (codes "--script") rewrite.script a.script_is in
     λ i. record { script = script i; conf = a.conf_is i; label = a.label_is i; request = a.request_is i }
 
+explain_is : (arguments : List (List ℕ)) (explain : ExplainWords) (a : SpellsExplain arguments explain) → explain ≡ explain_in a.options
+unfolding explain_in word_of
+explain_is arguments explain a =
+    let label : explain.label ≡ word_of a.options (codes "--label") = word_is a.options (codes "--label") explain.label a.label_is in
+    let other : explain.other ≡ word_of a.options (codes "--other") = word_is a.options (codes "--other") explain.other a.other_is in
+    λ i. record { label = label i; other = other i; conf = a.conf_is i; request = a.request_is i }
+
 audit_is : (arguments : List (List ℕ)) (audit : AuditWords) (a : SpellsAudit arguments audit) → audit ≡ audit_in a.options
 unfolding audit_in word_of
 audit_is arguments audit a =
@@ -177,6 +193,7 @@ read_plain name.Base words isnt = rw isnt refl
 read_plain name.Verify words isnt = rw isnt refl
 read_plain name.Sign words isnt = rw isnt refl
 read_plain name.Rewrite words isnt = rw isnt refl
+read_plain name.Explain words isnt = rw isnt refl
 read_plain name.Audit words isnt = rw isnt refl
 read_plain name.Gateway words isnt = rw isnt refl
 read_plain name.Sample words isnt = rw isnt refl
@@ -187,6 +204,7 @@ read_help name.Base = refl
 read_help name.Verify = refl
 read_help name.Sign = refl
 read_help name.Rewrite = refl
+read_help name.Explain = refl
 read_help name.Audit = refl
 read_help name.Gateway = refl
 read_help name.Sample = refl
@@ -197,6 +215,7 @@ read_topic name.Base = refl
 read_topic name.Verify = refl
 read_topic name.Sign = refl
 read_topic name.Rewrite = refl
+read_topic name.Explain = refl
 read_topic name.Audit = refl
 read_topic name.Gateway = refl
 read_topic name.Sample = refl
@@ -218,6 +237,9 @@ is_read arguments (Sign words) a = ap read a.joined
 is_read arguments (Rewrite words) a = ap read a.joined
     ∙ (read_plain name.Rewrite a.words (plain a.words a.options a.are.joined)
     ∙ (ap (λ (options : List (Pair (List ℕ))). Rewrite (rewrite_in options)) (are_in a.words a.options a.are.joined) ∙ ap Rewrite (sym (rewrite_is arguments words a))))
+is_read arguments (Explain words) a = ap read a.joined
+    ∙ (read_plain name.Explain a.words (plain a.words a.options a.are.joined)
+    ∙ (ap (λ (options : List (Pair (List ℕ))). Explain (explain_in options)) (are_in a.words a.options a.are.joined) ∙ ap Explain (sym (explain_is arguments words a))))
 is_read arguments (Audit words) a = ap read a.joined
     ∙ (read_plain name.Audit a.words (plain a.words a.options a.are.joined)
     ∙ (ap (λ (options : List (Pair (List ℕ))). Audit (audit_in options)) (are_in a.words a.options a.are.joined) ∙ ap Audit (sym (audit_is arguments words a))))

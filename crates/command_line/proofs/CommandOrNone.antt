@@ -10,7 +10,7 @@ use Rattle.std.proofs.lemmas.Bool.Decides.{nat_tests}
 use Rattle.std.proofs.lemmas.Slice.Eq.{bytes_eq-Decides}
 use Rattle.sfv_text.specs.Keys.{have_distinct_keys, value_of}
 use Rattle.sfv_text.specs.declared.pair.Pair.{Pair}
-use Rattle.command_line.specs.Command.{VerifyWords, SignWords, RewriteWords, AuditWords, GatewayWords, SampleWords, SpellsBase, SpellsVerify, SpellsSign, SpellsRewrite, SpellsAudit, SpellsGateway, SpellsSample}
+use Rattle.command_line.specs.Command.{VerifyWords, SignWords, RewriteWords, ExplainWords, AuditWords, GatewayWords, SampleWords, SpellsBase, SpellsVerify, SpellsSign, SpellsRewrite, SpellsExplain, SpellsAudit, SpellsGateway, SpellsSample}
 use Rattle.command_line.specs.Numbers.{is_number, IsCount, IsSeed}
 use Rattle.command_line.specs.Options.{may_have, takes, words_of, AreOptions}
 use Rattle.command_line.specs.declared.options.CommandName.{CommandName}
@@ -265,6 +265,47 @@ rewrite_with words options are = elim (has_word (value_of options (codes "--scri
 pub rewrite_of : (words : List (List ℕ)) → SomeOrNone (SpellsRewrite (codes "rewrite" ∷ words))
 rewrite_of words =
     with_or_none (SpellsRewrite (codes "rewrite" ∷ words)) name.Rewrite words (λ rewrite is. (is.options, rewrite_are words rewrite is)) (rewrite_with words)
+
+-- ---- `explain`
+
+explain_are : (words : List (List ℕ)) (explain : ExplainWords) (is : SpellsExplain (codes "explain" ∷ words) explain) → AreOptions name.Explain words is.options
+explain_are words explain is = are_of name.Explain (codes "explain") words is.words is.options is.joined is.are
+
+explain_with : (words : List (List ℕ)) (options : List (Pair (List ℕ))) → AreOptions name.Explain words options → SomeOrNone (SpellsExplain (codes "explain" ∷ words))
+explain_with words options are = elim (has_word (value_of options (codes "--label"))) [
+  | inr none ↦ inr (λ explain is.
+      let same = same_options name.Explain words options is.options are (explain_are words explain is) in
+      no_word (value_of options (codes "--label")) explain.label none
+      (subst (λ (all : List (Pair (List ℕ))). value_of all (codes "--label") ≡ Some explain.label) same is.label_is))
+  | inl label ↦ elim (has_word (value_of options (codes "--other"))) [
+    | inr none ↦ inr (λ explain is.
+        let same = same_options name.Explain words options is.options are (explain_are words explain is) in
+        no_word (value_of options (codes "--other")) explain.other none
+        (subst (λ (all : List (Pair (List ℕ))). value_of all (codes "--other") ≡ Some explain.other) same is.other_is))
+    | inl other ↦ inl (
+      record {
+        label = label.0;
+        other = other.0;
+        conf = value_of options (codes "--conf");
+        request = value_of options (codes "--request");
+      },
+      record {
+        words = words;
+        options = options;
+        joined = refl;
+        are = are;
+        label_is = label.1;
+        other_is = other.1;
+        conf_is = refl;
+        request_is = refl;
+      },
+    )
+  ]
+]
+
+pub explain_of : (words : List (List ℕ)) → SomeOrNone (SpellsExplain (codes "explain" ∷ words))
+explain_of words =
+    with_or_none (SpellsExplain (codes "explain" ∷ words)) name.Explain words (λ explain is. (is.options, explain_are words explain is)) (explain_with words)
 
 -- ---- `audit`
 

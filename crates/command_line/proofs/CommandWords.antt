@@ -4,7 +4,7 @@ use Rattle.std.specs.Prelude.{IsSomeAnd, codes}
 use Rattle.std.specs.Str.Parse.{digits_value}
 use Rattle.sfv_text.specs.Keys.{value_of}
 use Rattle.sfv_text.specs.declared.pair.Pair.{Pair}
-use Rattle.command_line.specs.Command.{CommandLine, Help, HelpOf, Version, Base, Verify, Sign, Rewrite, Audit, Gateway, Sample, IsCommand, IsTimely, HasRightNonce}
+use Rattle.command_line.specs.Command.{CommandLine, Help, HelpOf, Version, Base, Verify, Sign, Rewrite, Explain, Audit, Gateway, Sample, IsCommand, IsTimely, HasRightNonce}
 use Rattle.command_line.specs.Options.{AreOptions}
 use Rattle.command_line.specs.declared.options.CommandName.{CommandName}
 use Rattle.command_line.proofs.Moments.{is_below}
@@ -26,6 +26,7 @@ timely arguments (Base words) is = tt
 timely arguments (Verify words) is = moment_below _ is.words is.options is.are words.now is.now_is
 timely arguments (Sign words) is = moment_below _ is.words is.options is.are words.now is.now_is
 timely arguments (Rewrite words) is = tt
+timely arguments (Explain words) is = tt
 timely arguments (Audit words) is = tt
 timely arguments (Gateway words) is = tt
 timely arguments (Sample words) is = tt
@@ -38,6 +39,7 @@ right_nonce arguments (Base words) is = tt
 right_nonce arguments (Verify words) is = tt
 right_nonce arguments (Sign words) is = word_had (codes "--nonce") is.options words.nonce is.are.had is.nonce_is
 right_nonce arguments (Rewrite words) is = tt
+right_nonce arguments (Explain words) is = tt
 right_nonce arguments (Audit words) is = tt
 right_nonce arguments (Gateway words) is = tt
 right_nonce arguments (Sample words) is = tt

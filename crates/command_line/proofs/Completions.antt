@@ -13,7 +13,7 @@ use Rattle.command_line.specs.Options.{is_taken_by, may_have, option_of, row_of,
 use Rattle.command_line.specs.declared.options.CommandName.{CommandName}
 use Rattle.command_line.specs.declared.options.CommandName.TheVariants as name
 use Rattle.command_line.specs.declared.options.CommandOption.{CommandOption}
-use Rattle.command_line.specs.declared.options.CommandOption.TheVariants.{Conf, Now, Label, Request, Nonce, Wanted, Script}
+use Rattle.command_line.specs.declared.options.CommandOption.TheVariants.{Conf, Now, Label, Request, Nonce, Wanted, Script, Other}
 use Rattle.command_line.specs.tools.Wrong.{needed, AreCommand}
 use Rattle.command_line.proofs.CommandOrNone.{has_word}
 use Rattle.command_line.proofs.FirstWords.{HasAll, HasOne, IsAlone, IsAloneFor, whole}
@@ -34,6 +34,7 @@ option_is Request = refl
 option_is Nonce = refl
 option_is Wanted = refl
 option_is Script = refl
+option_is Other = refl
 
 example_had : (option : CommandOption) → (row_of option).may_have (example option) ≡ true
 example_had Conf = refl
@@ -43,6 +44,7 @@ example_had Request = refl
 example_had Nonce = refl
 example_had Wanted = refl
 example_had Script = refl
+example_had Other = refl
 
 abbrev pub pair_of : CommandOption → List ℕ → Pair (List ℕ)
 pair_of option word = record { key = (row_of option).word; value = word }
@@ -78,6 +80,7 @@ same_name Request = refl
 same_name Nonce = refl
 same_name Wanted = refl
 same_name Script = refl
+same_name Other = refl
 
 has_with : (done : List (Pair (List ℕ))) (option : CommandOption) (word : List ℕ) → list_any (has_key (row_of option).word) done ≡ false
     → HasOne (done ++ pair_of option word ∷ []) option
@@ -103,6 +106,7 @@ apart Request plain = (refl, refl)
 apart Nonce plain = absurd (false≢true plain)
 apart Wanted plain = absurd (false≢true plain)
 apart Script plain = (refl, refl)
+apart Other plain = (refl, refl)
 
 pub alone_with : (done : List (Pair (List ℕ))) (option : CommandOption) (word : List ℕ) → list_any (has_key (row_of option).word) done ≡ false
     → is_plain option ≡ true → IsAlone done → IsAlone (done ++ pair_of option word ∷ [])
@@ -174,6 +178,7 @@ needed_addable name.Base = refl
 needed_addable name.Verify = refl
 needed_addable name.Sign = refl
 needed_addable name.Rewrite = refl
+needed_addable name.Explain = refl
 needed_addable name.Audit = refl
 needed_addable name.Gateway = refl
 needed_addable name.Sample = refl
@@ -183,6 +188,7 @@ alone_for name.Base options alone = tt
 alone_for name.Verify options alone = tt
 alone_for name.Sign options alone = alone
 alone_for name.Rewrite options alone = tt
+alone_for name.Explain options alone = tt
 alone_for name.Audit options alone = tt
 alone_for name.Gateway options alone = tt
 alone_for name.Sample options alone = tt

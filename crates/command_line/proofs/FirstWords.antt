@@ -6,7 +6,7 @@ use Rattle.std.proofs.lemmas.Bool.{false≢true}
 use Rattle.std.proofs.lemmas.Slice.Eq.{bytes_eq-Decides}
 use Rattle.sfv_text.specs.Keys.{value_of}
 use Rattle.sfv_text.specs.declared.pair.Pair.{Pair}
-use Rattle.command_line.specs.Command.{AuditWords, BaseWords, GatewayWords, RewriteWords, SampleWords, SignWords, VerifyWords, NoCommand, SpellsAudit, SpellsBase, SpellsGateway, SpellsRewrite, SpellsSample, SpellsSign, SpellsVerify, CommandLine, Help, HelpOf, Version, Base, Verify, Sign, Rewrite, Audit, Gateway, Sample, IsCommand}
+use Rattle.command_line.specs.Command.{AuditWords, BaseWords, ExplainWords, GatewayWords, RewriteWords, SampleWords, SignWords, VerifyWords, NoCommand, SpellsAudit, SpellsBase, SpellsExplain, SpellsGateway, SpellsRewrite, SpellsSample, SpellsSign, SpellsVerify, CommandLine, Help, HelpOf, Version, Base, Verify, Sign, Rewrite, Explain, Audit, Gateway, Sample, IsCommand}
 use Rattle.command_line.specs.Faults.{IsStart}
 use Rattle.command_line.specs.Names.{command_of, command_word}
 use Rattle.command_line.specs.Numbers.{IsCount, IsSeed}
@@ -81,6 +81,7 @@ command_is name.Base = refl
 command_is name.Verify = refl
 command_is name.Sign = refl
 command_is name.Rewrite = refl
+command_is name.Explain = refl
 command_is name.Audit = refl
 command_is name.Gateway = refl
 command_is name.Sample = refl
@@ -140,6 +141,10 @@ named word words (Rewrite line) command is some isnt =
     let others : words ≡ is.words = (first_is word (codes "rewrite") words is.words is.joined).1 in
     subst (λ (c : CommandName). AfterName c words) (same_command word (codes "rewrite") words is.words command name.Rewrite is.joined refl some)
     (record { options = is.options; are = moved name.Rewrite words is.words is.options others is.are; alone = tt; has = ((line.script, is.script_is), tt) })
+named word words (Explain line) command is some isnt =
+    let others : words ≡ is.words = (first_is word (codes "explain") words is.words is.joined).1 in
+    subst (λ (c : CommandName). AfterName c words) (same_command word (codes "explain") words is.words command name.Explain is.joined refl some)
+    (record { options = is.options; are = moved name.Explain words is.words is.options others is.are; alone = tt; has = ((line.label, is.label_is), ((line.other, is.other_is), tt)) })
 named word words (Audit line) command is some isnt =
     let others : words ≡ is.words = (first_is word (codes "audit") words is.words is.joined).1 in
     subst (λ (c : CommandName). AfterName c words) (same_command word (codes "audit") words is.words command name.Audit is.joined refl some)
@@ -177,6 +182,7 @@ unnamed word words (Base line) is none = absurd (some_none word (codes "base") w
 unnamed word words (Verify line) is none = absurd (some_none word (codes "verify") words is.words name.Verify is.joined refl none)
 unnamed word words (Sign line) is none = absurd (some_none word (codes "sign") words is.words name.Sign is.joined refl none)
 unnamed word words (Rewrite line) is none = absurd (some_none word (codes "rewrite") words is.words name.Rewrite is.joined refl none)
+unnamed word words (Explain line) is none = absurd (some_none word (codes "explain") words is.words name.Explain is.joined refl none)
 unnamed word words (Audit line) is none = absurd (some_none word (codes "audit") words is.words name.Audit is.joined refl none)
 unnamed word words (Gateway line) is none = absurd (some_none word (codes "gateway") words is.words name.Gateway is.joined refl none)
 unnamed word words (Sample line) is none = absurd (some_none word (codes "sample") words (is.seed ∷ is.count ∷ []) name.Sample is.joined refl none)
@@ -193,6 +199,8 @@ started name.Sign start words line starts is isnt =
     named (codes "sign") words line name.Sign (subst (λ (s : List (List ℕ)). IsCommand (s ++ words) line) starts is) refl isnt
 started name.Rewrite start words line starts is isnt =
     named (codes "rewrite") words line name.Rewrite (subst (λ (s : List (List ℕ)). IsCommand (s ++ words) line) starts is) refl isnt
+started name.Explain start words line starts is isnt =
+    named (codes "explain") words line name.Explain (subst (λ (s : List (List ℕ)). IsCommand (s ++ words) line) starts is) refl isnt
 started name.Audit start words line starts is isnt =
     named (codes "audit") words line name.Audit (subst (λ (s : List (List ℕ)). IsCommand (s ++ words) line) starts is) refl isnt
 started name.Gateway start words line starts is isnt =
@@ -215,6 +223,8 @@ started_plain name.Sign start words line starts is none =
     no_help (codes "sign") words line name.Sign (subst (λ (s : List (List ℕ)). IsCommand (s ++ words) line) starts is) refl none
 started_plain name.Rewrite start words line starts is none =
     no_help (codes "rewrite") words line name.Rewrite (subst (λ (s : List (List ℕ)). IsCommand (s ++ words) line) starts is) refl none
+started_plain name.Explain start words line starts is none =
+    no_help (codes "explain") words line name.Explain (subst (λ (s : List (List ℕ)). IsCommand (s ++ words) line) starts is) refl none
 started_plain name.Audit start words line starts is none =
     no_help (codes "audit") words line name.Audit (subst (λ (s : List (List ℕ)). IsCommand (s ++ words) line) starts is) refl none
 started_plain name.Gateway start words line starts is none =
@@ -294,6 +304,26 @@ rewrite_spelled words is = (
   },
 )
 
+pub explain_spelled : (words : List (List ℕ)) → IsOptionLine name.Explain words → (line : ExplainWords) × SpellsExplain (codes "explain" ∷ words) line
+explain_spelled words is = (
+  record {
+    label = is.has.0.0;
+    other = is.has.1.0.0;
+    conf = value_of is.options (codes "--conf");
+    request = value_of is.options (codes "--request");
+  },
+  record {
+    words = words;
+    options = is.options;
+    joined = refl;
+    are = is.are;
+    label_is = is.has.0.1;
+    other_is = is.has.1.0.1;
+    conf_is = refl;
+    request_is = refl;
+  },
+)
+
 pub audit_spelled : (words : List (List ℕ)) → IsOptionLine name.Audit words → (line : AuditWords) × SpellsAudit (codes "audit" ∷ words) line
 audit_spelled words is =
     (record { conf = is.has.0.0 }, record { words = words; options = is.options; joined = refl; are = is.are; conf_is = is.has.0.1 })
@@ -315,6 +345,8 @@ whole name.Sign start words starts is =
     let line = sign_spelled words is in subst (λ (s : List (List ℕ)). AreCommand (s ++ words)) (sym starts) (Sign line.0, line.1)
 whole name.Rewrite start words starts is =
     let line = rewrite_spelled words is in subst (λ (s : List (List ℕ)). AreCommand (s ++ words)) (sym starts) (Rewrite line.0, line.1)
+whole name.Explain start words starts is =
+    let line = explain_spelled words is in subst (λ (s : List (List ℕ)). AreCommand (s ++ words)) (sym starts) (Explain line.0, line.1)
 whole name.Audit start words starts is =
     let line = audit_spelled words is in subst (λ (s : List (List ℕ)). AreCommand (s ++ words)) (sym starts) (Audit line.0, line.1)
 whole name.Gateway start words starts is =
@@ -346,6 +378,9 @@ no_sign words isnt none = none_after name.Sign words isnt (λ is. let line = sig
 
 pub no_rewrite : (words : List (List ℕ)) → asks_help words ≡ false → ((line : RewriteWords) → SpellsRewrite (codes "rewrite" ∷ words) line → ⊥) → NoCommand (codes "rewrite" ∷ words)
 no_rewrite words isnt none = none_after name.Rewrite words isnt (λ is. let line = rewrite_spelled words is in none line.0 line.1)
+
+pub no_explain : (words : List (List ℕ)) → asks_help words ≡ false → ((line : ExplainWords) → SpellsExplain (codes "explain" ∷ words) line → ⊥) → NoCommand (codes "explain" ∷ words)
+no_explain words isnt none = none_after name.Explain words isnt (λ is. let line = explain_spelled words is in none line.0 line.1)
 
 pub no_audit : (words : List (List ℕ)) → asks_help words ≡ false → ((line : AuditWords) → SpellsAudit (codes "audit" ∷ words) line → ⊥) → NoCommand (codes "audit" ∷ words)
 no_audit words isnt none = none_after name.Audit words isnt (λ is. let line = audit_spelled words is in none line.0 line.1)

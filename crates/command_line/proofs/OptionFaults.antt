@@ -18,7 +18,7 @@ use Rattle.command_line.specs.declared.fault.WordsReason.TheVariants.{NoWords, N
 use Rattle.command_line.specs.declared.options.CommandName.{CommandName}
 use Rattle.command_line.specs.declared.options.CommandName.TheVariants as name
 use Rattle.command_line.specs.declared.options.CommandOption.{CommandOption}
-use Rattle.command_line.specs.declared.options.CommandOption.TheVariants.{Conf, Now, Label, Request, Nonce, Wanted, Script}
+use Rattle.command_line.specs.declared.options.CommandOption.TheVariants.{Conf, Now, Label, Request, Nonce, Wanted, Script, Other}
 use Rattle.command_line.specs.declared.options.OptionWords.{OptionWords}
 use Rattle.command_line.specs.tools.Found.{excluding_in, word_in, AreWordsOf}
 use Rattle.command_line.specs.tools.Wrong.{needed, AreFound, AreNextWords, BeginsNoHelp, IsFoundAlone, IsNameReason, IsNextName, IsNextOrEnd}
@@ -75,6 +75,7 @@ next_alone Request found done word are alone new none = alone_with done Request 
 next_alone Nonce found done word are alone new none = inr (none_with done Nonce word (codes "--wanted") new refl (sym (are Wanted) ∙ if_none (word_in found Wanted) Wanted none))
 next_alone Wanted found done word are alone new none = inl (none_with done Wanted word (codes "--nonce") new refl (sym (are Nonce) ∙ if_none (word_in found Nonce) Nonce none))
 next_alone Script found done word are alone new none = alone_with done Script word new refl alone
+next_alone Other found done word are alone new none = alone_with done Other word new refl alone
 
 pub none_yet : (command : CommandName) (found : OptionWords) (words : List (List ℕ)) → ((option : CommandOption) → word_in found option ≡ None)
     → AreFound command found words words
@@ -100,6 +101,7 @@ one_more command found now words after name word option so_far next had added = 
     with_next Label found now word alone none added = either (word_in now Nonce) (word_in now Wanted) (word_in found Nonce) (word_in found Wanted) (added Nonce) (added Wanted) alone
     with_next Request found now word alone none added = either (word_in now Nonce) (word_in now Wanted) (word_in found Nonce) (word_in found Wanted) (added Nonce) (added Wanted) alone
     with_next Script found now word alone none added = either (word_in now Nonce) (word_in now Wanted) (word_in found Nonce) (word_in found Wanted) (added Nonce) (added Wanted) alone
+    with_next Other found now word alone none added = either (word_in now Nonce) (word_in now Wanted) (word_in found Nonce) (word_in found Wanted) (added Nonce) (added Wanted) alone
     with_next Nonce found now word alone none added = second (word_in now Nonce) (word_in now Wanted) (added Wanted ∙ if_none (word_in found Wanted) Wanted none)
     with_next Wanted found now word alone none added = first (word_in now Nonce) (word_in now Wanted) (added Nonce ∙ if_none (word_in found Nonce) Nonce none)
 
@@ -155,6 +157,7 @@ not_help name.Base all done word after more plain joined = some_words done word 
 not_help name.Verify all done word after more plain joined = plain_at all done word after more plain joined
 not_help name.Sign all done word after more plain joined = plain_at all done word after more plain joined
 not_help name.Rewrite all done word after more plain joined = plain_at all done word after more plain joined
+not_help name.Explain all done word after more plain joined = plain_at all done word after more plain joined
 not_help name.Audit all done word after more plain joined = plain_at all done word after more plain joined
 not_help name.Gateway all done word after more plain joined = plain_at all done word after more plain joined
 not_help name.Sample all done word after more plain joined = plain_at all done word after more plain joined
@@ -190,6 +193,7 @@ both_there Now given command found done others p taken excluded are same alone =
 both_there Label given command found done others p taken excluded are same alone = absurd cc
 both_there Request given command found done others p taken excluded are same alone = absurd cc
 both_there Script given command found done others p taken excluded are same alone = absurd cc
+both_there Other given command found done others p taken excluded are same alone = absurd cc
 both_there Nonce given name.Sign found done others p taken excluded are same alone =
     let wanted = (if_some (word_in found Wanted) Wanted given excluded).1 in
     elim alone [
@@ -199,6 +203,7 @@ both_there Nonce given name.Sign found done others p taken excluded are same alo
 both_there Nonce given name.Base found done others p taken excluded are same alone = false≢true taken
 both_there Nonce given name.Verify found done others p taken excluded are same alone = false≢true taken
 both_there Nonce given name.Rewrite found done others p taken excluded are same alone = false≢true taken
+both_there Nonce given name.Explain found done others p taken excluded are same alone = false≢true taken
 both_there Nonce given name.Audit found done others p taken excluded are same alone = false≢true taken
 both_there Nonce given name.Gateway found done others p taken excluded are same alone = false≢true taken
 both_there Nonce given name.Sample found done others p taken excluded are same alone = false≢true taken
@@ -211,6 +216,7 @@ both_there Wanted given name.Sign found done others p taken excluded are same al
 both_there Wanted given name.Base found done others p taken excluded are same alone = false≢true taken
 both_there Wanted given name.Verify found done others p taken excluded are same alone = false≢true taken
 both_there Wanted given name.Rewrite found done others p taken excluded are same alone = false≢true taken
+both_there Wanted given name.Explain found done others p taken excluded are same alone = false≢true taken
 both_there Wanted given name.Audit found done others p taken excluded are same alone = false≢true taken
 both_there Wanted given name.Gateway found done others p taken excluded are same alone = false≢true taken
 both_there Wanted given name.Sample found done others p taken excluded are same alone = false≢true taken
@@ -274,6 +280,7 @@ plain_start name.Base base sample = absurd (base refl)
 plain_start name.Verify base sample = refl
 plain_start name.Sign base sample = refl
 plain_start name.Rewrite base sample = refl
+plain_start name.Explain base sample = refl
 plain_start name.Audit base sample = refl
 plain_start name.Gateway base sample = refl
 plain_start name.Sample base sample = absurd (sample refl)
@@ -285,6 +292,7 @@ plain_words name.Base words plain = tt
 plain_words name.Verify words plain = plain
 plain_words name.Sign words plain = plain
 plain_words name.Rewrite words plain = plain
+plain_words name.Explain words plain = plain
 plain_words name.Audit words plain = plain
 plain_words name.Gateway words plain = plain
 plain_words name.Sample words plain = plain
@@ -315,6 +323,7 @@ start_command name.Base start words starts = ap (λ (s : List (List ℕ)). first
 start_command name.Verify start words starts = ap (λ (s : List (List ℕ)). first_command (s ++ words)) starts
 start_command name.Sign start words starts = ap (λ (s : List (List ℕ)). first_command (s ++ words)) starts
 start_command name.Rewrite start words starts = ap (λ (s : List (List ℕ)). first_command (s ++ words)) starts
+start_command name.Explain start words starts = ap (λ (s : List (List ℕ)). first_command (s ++ words)) starts
 start_command name.Audit start words starts = ap (λ (s : List (List ℕ)). first_command (s ++ words)) starts
 start_command name.Gateway start words starts = ap (λ (s : List (List ℕ)). first_command (s ++ words)) starts
 start_command name.Sample start words starts = absurd starts
@@ -346,6 +355,7 @@ excluded_by Now given command found taken excluded = absurd cc
 excluded_by Label given command found taken excluded = absurd cc
 excluded_by Request given command found taken excluded = absurd cc
 excluded_by Script given command found taken excluded = absurd cc
+excluded_by Other given command found taken excluded = absurd cc
 excluded_by Nonce given command found taken excluded =
     let wanted = if_some (word_in found Wanted) Wanted given excluded in
     (sign_takes command taken, subst (λ (o : CommandOption). (word : List ℕ) × (word_in found o ≡ Some word)) wanted.0 wanted.1)
@@ -355,6 +365,7 @@ excluded_by Nonce given command found taken excluded =
     sign_takes name.Verify taken = absurd (false≢true taken)
     sign_takes name.Sign taken = refl
     sign_takes name.Rewrite taken = absurd (false≢true taken)
+    sign_takes name.Explain taken = absurd (false≢true taken)
     sign_takes name.Audit taken = absurd (false≢true taken)
     sign_takes name.Gateway taken = absurd (false≢true taken)
     sign_takes name.Sample taken = absurd (false≢true taken)
@@ -367,6 +378,7 @@ excluded_by Wanted given command found taken excluded =
     sign_takes name.Verify taken = absurd (false≢true taken)
     sign_takes name.Sign taken = refl
     sign_takes name.Rewrite taken = absurd (false≢true taken)
+    sign_takes name.Explain taken = absurd (false≢true taken)
     sign_takes name.Audit taken = absurd (false≢true taken)
     sign_takes name.Gateway taken = absurd (false≢true taken)
     sign_takes name.Sample taken = absurd (false≢true taken)

@@ -215,6 +215,7 @@ help_left_over command next after other = record {
     none name.Verify other begun = none_taken name.Verify (next ∷ begun.0) refl (line_of name.Verify begun)
     none name.Sign other begun = none_taken name.Sign (next ∷ begun.0) refl (line_of name.Sign begun)
     none name.Rewrite other begun = none_taken name.Rewrite (next ∷ begun.0) refl (line_of name.Rewrite begun)
+    none name.Explain other begun = none_taken name.Explain (next ∷ begun.0) refl (line_of name.Explain begun)
     none name.Audit other begun = none_taken name.Audit (next ∷ begun.0) refl (line_of name.Audit begun)
     none name.Gateway other begun = none_taken name.Gateway (next ∷ begun.0) refl (line_of name.Gateway begun)
     none name.Sample other begun =

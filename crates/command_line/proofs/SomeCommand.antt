@@ -5,14 +5,14 @@ use Rattle.std.specs.List.{find}
 use Rattle.std.specs.Str.{bytes_eq}
 use Rattle.std.proofs.lemmas.Bool.{cases_Bool, false≢true}
 use Rattle.std.proofs.lemmas.Slice.Eq.{bytes_eq-Decides}
-use Rattle.command_line.specs.Command.{CommandLine, Help, HelpOf, Version, Base, Verify, Sign, Rewrite, Audit, Gateway, Sample, IsCommand, NoCommand}
+use Rattle.command_line.specs.Command.{CommandLine, Help, HelpOf, Version, Base, Verify, Sign, Rewrite, Explain, Audit, Gateway, Sample, IsCommand, NoCommand}
 use Rattle.command_line.specs.Laws.{HasCommandOrNone}
 use Rattle.command_line.specs.Names.{command_of, command_word}
 use Rattle.command_line.specs.declared.options.CommandName.{CommandName}
 use Rattle.command_line.specs.declared.options.CommandName.TheVariants as name
 use Rattle.command_line.specs.tools.Wrong.{asks_help}
-use Rattle.command_line.proofs.CommandOrNone.{first_is, base_of, verify_of, sign_of, rewrite_of, audit_of, gateway_of, sample_of}
-use Rattle.command_line.proofs.FirstWords.{asked, command_is, help_asked, no_base, no_verify, no_sign, no_rewrite, no_audit, no_gateway, no_sample, unnamed}
+use Rattle.command_line.proofs.CommandOrNone.{first_is, base_of, verify_of, sign_of, rewrite_of, explain_of, audit_of, gateway_of, sample_of}
+use Rattle.command_line.proofs.FirstWords.{asked, command_is, help_asked, no_base, no_verify, no_sign, no_rewrite, no_explain, no_audit, no_gateway, no_sample, unnamed}
 
 abbrev SomeCommand : List (List ℕ) → Type 0
 SomeCommand arguments = ((command : CommandLine) × IsCommand arguments command) ⊎ NoCommand arguments
@@ -25,6 +25,7 @@ no_words (Base words) is = cc is.joined
 no_words (Verify words) is = cc is.joined
 no_words (Sign words) is = cc is.joined
 no_words (Rewrite words) is = cc is.joined
+no_words (Explain words) is = cc is.joined
 no_words (Audit words) is = cc is.joined
 no_words (Gateway words) is = cc is.joined
 no_words (Sample words) is = cc is.joined
@@ -34,6 +35,7 @@ plain name.Base words isnt = elim (base_of words (asked words isnt)) [ inl some 
 plain name.Verify words isnt = elim (verify_of words) [ inl some ↦ inl (Verify some.0, some.1) | inr none ↦ inr (no_verify words isnt none) ]
 plain name.Sign words isnt = elim (sign_of words) [ inl some ↦ inl (Sign some.0, some.1) | inr none ↦ inr (no_sign words isnt none) ]
 plain name.Rewrite words isnt = elim (rewrite_of words) [ inl some ↦ inl (Rewrite some.0, some.1) | inr none ↦ inr (no_rewrite words isnt none) ]
+plain name.Explain words isnt = elim (explain_of words) [ inl some ↦ inl (Explain some.0, some.1) | inr none ↦ inr (no_explain words isnt none) ]
 plain name.Audit words isnt = elim (audit_of words) [ inl some ↦ inl (Audit some.0, some.1) | inr none ↦ inr (no_audit words isnt none) ]
 plain name.Gateway words isnt = elim (gateway_of words) [ inl some ↦ inl (Gateway some.0, some.1) | inr none ↦ inr (no_gateway words isnt none) ]
 plain name.Sample words isnt = elim (sample_of words) [ inl some ↦ inl (Sample some.0, some.1) | inr none ↦ inr (no_sample words isnt none) ]
@@ -58,7 +60,7 @@ first_holds test (first ∷ others) command e = elim (cases_Bool (test first)) [
 pub name_is : (word : List ℕ) (command : CommandName) → command_of word ≡ Some command → word ≡ command_word command
 name_is word command some =
     (bytes_eq-Decides word (command_word command)).0 (first_holds (λ c. bytes_eq word (command_word c))
-    (name.Base ∷ name.Verify ∷ name.Sign ∷ name.Rewrite ∷ name.Audit ∷ name.Gateway ∷ name.Sample ∷ []) command some)
+    (name.Base ∷ name.Verify ∷ name.Sign ∷ name.Rewrite ∷ name.Explain ∷ name.Audit ∷ name.Gateway ∷ name.Sample ∷ []) command some)
 
 -- ---- after `help`
 

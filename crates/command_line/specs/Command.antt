@@ -13,6 +13,7 @@ use Rattle.command_line.specs.declared.command.BaseWords as base
 use Rattle.command_line.specs.declared.command.VerifyWords as verify
 use Rattle.command_line.specs.declared.command.SignWords as sign
 use Rattle.command_line.specs.declared.command.RewriteWords as rewrite
+use Rattle.command_line.specs.declared.command.ExplainWords as explain
 use Rattle.command_line.specs.declared.command.AuditWords as audit
 use Rattle.command_line.specs.declared.command.GatewayWords as gateway
 use Rattle.command_line.specs.declared.command.SampleWords as sample
@@ -51,6 +52,14 @@ pub record RewriteWords : Type 0 where
   pub label : Option (List ℕ)
   pub request : Option (List ℕ)
 
+-- the words of `explain`: the label whose signature has to permit each rewriting, the file of the
+-- other record of the message, that of the configuration, and that of the request that both answer
+pub record ExplainWords : Type 0 where
+  pub label : List ℕ
+  pub other : List ℕ
+  pub conf : Option (List ℕ)
+  pub request : Option (List ℕ)
+
 -- the words of `audit`: the file of the configuration
 pub record AuditWords : Type 0 where
   pub conf : List ℕ
@@ -83,6 +92,9 @@ pub data CommandLine : Type 0 where
   -- the message after the steps of a script, by a configuration or without one: any, or those alone
   -- that the signature of a label permits
   Rewrite : RewriteWords → CommandLine
+  -- the rewritings that the signature of a label permits, and that lead two records of one message
+  -- to messages that are alike, or what differs: by a configuration or without one
+  Explain : ExplainWords → CommandLine
   -- the report on a recorded chain of messages, by a configuration
   Audit : AuditWords → CommandLine
   -- what a gateway makes of each message of a stream, by a configuration
@@ -138,6 +150,17 @@ pub record SpellsRewrite (arguments : List (List ℕ)) (rewrite : RewriteWords) 
   pub label_is : rewrite.label ≡ value_of options (codes "--label")
   pub request_is : rewrite.request ≡ value_of options (codes "--request")
 
+-- the arguments are `explain` and its options, with the label and the other record
+pub record SpellsExplain (arguments : List (List ℕ)) (explain : ExplainWords) : Type 0 where
+  pub words : List (List ℕ)
+  pub options : List (Pair (List ℕ))
+  pub joined : arguments ≡ codes "explain" ∷ words
+  pub are : AreOptions name.Explain words options
+  pub label_is : value_of options (codes "--label") ≡ Some explain.label
+  pub other_is : value_of options (codes "--other") ≡ Some explain.other
+  pub conf_is : explain.conf ≡ value_of options (codes "--conf")
+  pub request_is : explain.request ≡ value_of options (codes "--request")
+
 -- the arguments are `audit` and its options, with the configuration
 pub record SpellsAudit (arguments : List (List ℕ)) (audit : AuditWords) : Type 0 where
   pub words : List (List ℕ)
@@ -173,6 +196,7 @@ IsCommand arguments (Base words) = SpellsBase arguments words
 IsCommand arguments (Verify words) = SpellsVerify arguments words
 IsCommand arguments (Sign words) = SpellsSign arguments words
 IsCommand arguments (Rewrite words) = SpellsRewrite arguments words
+IsCommand arguments (Explain words) = SpellsExplain arguments words
 IsCommand arguments (Audit words) = SpellsAudit arguments words
 IsCommand arguments (Gateway words) = SpellsGateway arguments words
 IsCommand arguments (Sample words) = SpellsSample arguments words
@@ -190,6 +214,7 @@ conf_of (Base words) = words.conf
 conf_of (Verify words) = Some words.conf
 conf_of (Sign words) = Some words.conf
 conf_of (Rewrite words) = words.conf
+conf_of (Explain words) = words.conf
 conf_of (Audit words) = Some words.conf
 conf_of (Gateway words) = Some words.conf
 conf_of (Sample words) = None
@@ -203,6 +228,7 @@ request_of (Base words) = words.request
 request_of (Verify words) = words.request
 request_of (Sign words) = words.request
 request_of (Rewrite words) = words.request
+request_of (Explain words) = words.request
 request_of (Audit words) = None
 request_of (Gateway words) = None
 request_of (Sample words) = None
@@ -216,6 +242,11 @@ wanted_of command = None
 abbrev pub script_of : CommandLine → Option (List ℕ)
 script_of (Rewrite words) = Some words.script
 script_of command = None
+
+-- the file of the other record of the message
+abbrev pub other_of : CommandLine → Option (List ℕ)
+other_of (Explain words) = Some words.other
+other_of command = None
 
 -- what the borrowed words of `base` stand for
 abbrev pub base_words : base.BaseWords → BaseWords
@@ -253,6 +284,15 @@ rewrite_words words = record {
   request = option_map (λ word. word.now) words.request;
 }
 
+-- what the borrowed words of `explain` stand for
+abbrev pub explain_words : explain.ExplainWords → ExplainWords
+explain_words words = record {
+  label = words.label.now;
+  other = words.other.now;
+  conf = option_map (λ word. word.now) words.conf;
+  request = option_map (λ word. word.now) words.request;
+}
+
 -- what the borrowed words of `audit` stand for
 abbrev pub audit_words : audit.AuditWords → AuditWords
 audit_words words = record { conf = words.conf.now }
@@ -274,6 +314,7 @@ line_of (command.Base words) = Base (base_words words)
 line_of (command.Verify words) = Verify (verify_words words)
 line_of (command.Sign words) = Sign (sign_words words)
 line_of (command.Rewrite words) = Rewrite (rewrite_words words)
+line_of (command.Explain words) = Explain (explain_words words)
 line_of (command.Audit words) = Audit (audit_words words)
 line_of (command.Gateway words) = Gateway (gateway_words words)
 line_of (command.Sample words) = Sample (sample_words words)

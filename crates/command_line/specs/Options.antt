@@ -8,9 +8,9 @@ use Rattle.sfv_text.specs.declared.pair.Pair.{Pair}
 use Rattle.nonces.specs.declared.limits.TheConstants.{MAX_NONCE_BYTES}
 use Rattle.command_line.specs.Numbers.{is_number}
 use Rattle.command_line.specs.declared.options.CommandName.{CommandName}
-use Rattle.command_line.specs.declared.options.CommandName.TheVariants.{Base, Verify, Sign, Rewrite, Audit, Gateway, Sample}
+use Rattle.command_line.specs.declared.options.CommandName.TheVariants.{Base, Verify, Sign, Rewrite, Explain, Audit, Gateway, Sample}
 use Rattle.command_line.specs.declared.options.CommandOption.{CommandOption}
-use Rattle.command_line.specs.declared.options.CommandOption.TheVariants.{Conf, Now, Label, Request, Nonce, Wanted, Script}
+use Rattle.command_line.specs.declared.options.CommandOption.TheVariants.{Conf, Now, Label, Request, Nonce, Wanted, Script, Other}
 use Rattle.command_line.specs.declared.options.TheConstants.{MAX_MOMENT_DIGITS}
 
 -- a file has a name
@@ -36,27 +36,31 @@ pub record OptionRow : Type 0 where
 abbrev pub row_of : CommandOption → OptionRow
 row_of Conf = record {
   word = codes "--conf";
-  commands = Base ∷ Verify ∷ Sign ∷ Rewrite ∷ Audit ∷ Gateway ∷ [];
+  commands = Base ∷ Verify ∷ Sign ∷ Rewrite ∷ Explain ∷ Audit ∷ Gateway ∷ [];
   may_have = is_file_name;
 }
 row_of Now = record { word = codes "--now"; commands = Verify ∷ Sign ∷ []; may_have = is_moment }
-row_of Label =
-    record { word = codes "--label"; commands = Verify ∷ Rewrite ∷ []; may_have = is_key }
+row_of Label = record {
+  word = codes "--label";
+  commands = Verify ∷ Rewrite ∷ Explain ∷ [];
+  may_have = is_key;
+}
 row_of Request = record {
   word = codes "--request";
-  commands = Base ∷ Verify ∷ Sign ∷ Rewrite ∷ [];
+  commands = Base ∷ Verify ∷ Sign ∷ Rewrite ∷ Explain ∷ [];
   may_have = is_file_name;
 }
 row_of Nonce = record { word = codes "--nonce"; commands = Sign ∷ []; may_have = is_nonce }
 row_of Wanted = record { word = codes "--wanted"; commands = Sign ∷ []; may_have = is_file_name }
 row_of Script =
     record { word = codes "--script"; commands = Rewrite ∷ []; may_have = is_file_name }
+row_of Other = record { word = codes "--other"; commands = Explain ∷ []; may_have = is_file_name }
 
 -- the option of that name
 abbrev pub option_of : List ℕ → Option CommandOption
 option_of name =
     find (λ option. bytes_eq name (row_of option).word)
-    (Conf ∷ Now ∷ Label ∷ Request ∷ Nonce ∷ Wanted ∷ Script ∷ [])
+    (Conf ∷ Now ∷ Label ∷ Request ∷ Nonce ∷ Wanted ∷ Script ∷ Other ∷ [])
 
 -- the two names are those of one command
 abbrev pub is_same_command : CommandName → CommandName → Bool
@@ -64,6 +68,7 @@ is_same_command Base Base = true
 is_same_command Verify Verify = true
 is_same_command Sign Sign = true
 is_same_command Rewrite Rewrite = true
+is_same_command Explain Explain = true
 is_same_command Audit Audit = true
 is_same_command Gateway Gateway = true
 is_same_command Sample Sample = true

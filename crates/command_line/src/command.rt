@@ -1,8 +1,8 @@
 //! The arguments of the program.
 
 ghost use Rattle.std.specs.Prelude.{◌≡◌, ◌∷◌, [], drop, false, None, map, codes, IfSome, IfNone, string_bytes};
-ghost use Rattle.command_line.specs.Command.{HasRightNonce, IsCommand, NoCommand, SpellsAudit, SpellsBase, SpellsGateway, SpellsRewrite, SpellsSample, SpellsSign, SpellsVerify, line_of, IsTimely};
-ghost use Rattle.command_line.specs.Command.{AuditWords as AuditLine, BaseWords as BaseLine, GatewayWords as GatewayLine, RewriteWords as RewriteLine, SampleWords as SampleLine, SignWords as SignLine, VerifyWords as VerifyLine};
+ghost use Rattle.command_line.specs.Command.{HasRightNonce, IsCommand, NoCommand, SpellsAudit, SpellsBase, SpellsExplain, SpellsGateway, SpellsRewrite, SpellsSample, SpellsSign, SpellsVerify, line_of, IsTimely};
+ghost use Rattle.command_line.specs.Command.{AuditWords as AuditLine, BaseWords as BaseLine, ExplainWords as ExplainLine, GatewayWords as GatewayLine, RewriteWords as RewriteLine, SampleWords as SampleLine, SignWords as SignLine, VerifyWords as VerifyLine};
 ghost use Rattle.command_line.specs.Names.{command_of, command_word};
 ghost use Rattle.command_line.specs.tools.Wrong.{asks_help};
 ghost use Rattle.command_line.specs.tools.After.{IsAfter, NoneAfter};
@@ -62,6 +62,19 @@ pub struct RewriteWords<'a> {
     pub request: Option<&'a str>,
 }
 
+/// The words of `explain`. They are borrowed.
+#[derive(Clone, Copy)]
+pub struct ExplainWords<'a> {
+    /// The label whose signature has to permit each rewriting.
+    pub label: &'a str,
+    /// The file of the other record of the message.
+    pub other: &'a str,
+    /// The file of the configuration.
+    pub conf: Option<&'a str>,
+    /// The file of the request that both records answer.
+    pub request: Option<&'a str>,
+}
+
 /// The words of `audit`. They are borrowed.
 #[derive(Clone, Copy)]
 pub struct AuditWords<'a> {
@@ -103,6 +116,9 @@ pub enum Command<'a> {
     Sign(SignWords<'a>),
     /// `rewrite`: the message after the steps of a script (RFC 9421 section 1.1).
     Rewrite(RewriteWords<'a>),
+    /// `explain`: the rewritings that a signature permits and that lead two records of one message
+    /// to messages that are alike, or what differs (RFC 9421 section 1.1).
+    Explain(ExplainWords<'a>),
     /// `audit`: what became of the signatures of a recorded chain of messages, hop by hop.
     Audit(AuditWords<'a>),
     /// `gateway`: what a gateway makes of each message of a stream (RFC 9421 sections 3.1 and 3.2).
@@ -260,6 +276,24 @@ fn read_rewrite<'a>(words: &'a [String]) -> Option<Command<'a>>
     }))
 }
 
+/// The words after `explain`.
+fn read_explain<'a>(words: &'a [String]) -> Option<Command<'a>>
+    ensures some { IfSome result
+        (λ command. IsAfter (codes "explain") (map string_bytes words.now) (line_of command)) }
+    ensures none { IfNone result ((explain : ExplainLine)
+        → ¬ SpellsExplain (codes "explain" ∷ map string_bytes words.now) explain) }
+{
+    let found = read_options(CommandName::Explain, words)?;
+    let label = found.label?;
+    let other = found.other?;
+    Some(Command::Explain(ExplainWords {
+        label,
+        other,
+        conf: found.conf,
+        request: found.request,
+    }))
+}
+
 /// The words after `audit`.
 fn read_audit<'a>(words: &'a [String]) -> Option<Command<'a>>
     ensures some { IfSome result
@@ -313,6 +347,7 @@ fn read_command<'a>(command: CommandName, words: &'a [String]) -> Option<Command
         CommandName::Verify => read_verify(words),
         CommandName::Sign => read_sign(words),
         CommandName::Rewrite => read_rewrite(words),
+        CommandName::Explain => read_explain(words),
         CommandName::Audit => read_audit(words),
         CommandName::Gateway => read_gateway(words),
         CommandName::Sample => read_sample(words),

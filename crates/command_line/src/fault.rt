@@ -166,6 +166,7 @@ fn needed(command: CommandName) -> &'static [CommandOption]
         CommandName::Base | CommandName::Sample => &[],
         CommandName::Verify | CommandName::Sign => &[CommandOption::Conf, CommandOption::Now],
         CommandName::Rewrite => &[CommandOption::Script],
+        CommandName::Explain => &[CommandOption::Label, CommandOption::Other],
         CommandName::Audit | CommandName::Gateway => &[CommandOption::Conf],
     }
 }

@@ -19,6 +19,9 @@ impl CommandName {
             CommandName::Rewrite => {
                 "--script SCRIPT [--label LABEL] [--conf FILE] [--request REQ] < MESSAGE"
             }
+            CommandName::Explain => {
+                "--label LABEL --other OTHER [--conf FILE] [--request REQ] < MESSAGE"
+            }
             CommandName::Audit | CommandName::Gateway => "--conf FILE < RECORDING",
             CommandName::Sample => "SEED COUNT",
         }
@@ -36,6 +39,7 @@ impl CommandOption {
             CommandOption::Nonce => "--nonce",
             CommandOption::Wanted => "--wanted",
             CommandOption::Script => "--script",
+            CommandOption::Other => "--other",
         }
     }
 
@@ -54,6 +58,7 @@ impl CommandOption {
             CommandOption::Nonce => "1 to 256 characters of ASCII, none of them a control",
             CommandOption::Wanted => "the name of a file, a message with Accept-Signature",
             CommandOption::Script => "the name of a file, the steps to take",
+            CommandOption::Other => "the name of a file, the other record of the message",
         }
     }
 }
@@ -65,8 +70,8 @@ impl WordsReason {
             WordsReason::NoWords => f.write_str("there is no command"),
             WordsReason::NoCommand => write!(
                 f,
-                "{word:?} is no command: first comes base, verify, sign, rewrite, audit, gateway \
-                 or sample"
+                "{word:?} is no command: first comes base, verify, sign, rewrite, explain, audit, \
+                 gateway or sample"
             ),
             WordsReason::LeftOver => write!(f, "{word:?} is a word too many"),
             WordsReason::NotTaken(command) => {

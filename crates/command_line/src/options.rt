@@ -27,6 +27,8 @@ pub enum CommandName {
     Sign,
     /// `rewrite`.
     Rewrite,
+    /// `explain`.
+    Explain,
     /// `audit`.
     Audit,
     /// `gateway`.
@@ -52,6 +54,8 @@ pub enum CommandOption {
     Wanted,
     /// `--script`: the file of the script.
     Script,
+    /// `--other`: the file of the other record of the message.
+    Other,
 }
 
 /// The words that options have.
@@ -64,6 +68,7 @@ pub struct OptionWords<'a> {
     pub nonce: Option<&'a str>,
     pub wanted: Option<&'a str>,
     pub script: Option<&'a str>,
+    pub other: Option<&'a str>,
 }
 
 fn are_digits(bytes: &[u8]) -> bool
@@ -118,6 +123,7 @@ impl CommandOption {
             "--nonce" => Some(CommandOption::Nonce),
             "--wanted" => Some(CommandOption::Wanted),
             "--script" => Some(CommandOption::Script),
+            "--other" => Some(CommandOption::Other),
             _ => None,
         }
     }
@@ -129,7 +135,10 @@ impl CommandOption {
         match self {
             CommandOption::Conf => !matches!(command, CommandName::Sample),
             CommandOption::Now => matches!(command, CommandName::Verify | CommandName::Sign),
-            CommandOption::Label => matches!(command, CommandName::Verify | CommandName::Rewrite),
+            CommandOption::Label => matches!(
+                command,
+                CommandName::Verify | CommandName::Rewrite | CommandName::Explain
+            ),
             CommandOption::Request => !matches!(
                 command,
                 CommandName::Audit | CommandName::Gateway | CommandName::Sample
@@ -137,6 +146,7 @@ impl CommandOption {
             CommandOption::Nonce => matches!(command, CommandName::Sign),
             CommandOption::Wanted => matches!(command, CommandName::Sign),
             CommandOption::Script => matches!(command, CommandName::Rewrite),
+            CommandOption::Other => matches!(command, CommandName::Explain),
         }
     }
 
@@ -152,6 +162,7 @@ impl CommandOption {
             CommandOption::Nonce => is_nonce(word.as_bytes()),
             CommandOption::Wanted => !word.is_empty(),
             CommandOption::Script => !word.is_empty(),
+            CommandOption::Other => !word.is_empty(),
         }
     }
 }
@@ -169,6 +180,7 @@ impl<'a> OptionWords<'a> {
             nonce: None,
             wanted: None,
             script: None,
+            other: None,
         }
     }
 
@@ -184,6 +196,7 @@ impl<'a> OptionWords<'a> {
             CommandOption::Nonce => self.nonce.is_some(),
             CommandOption::Wanted => self.wanted.is_some(),
             CommandOption::Script => self.script.is_some(),
+            CommandOption::Other => self.other.is_some(),
         }
     }
 
@@ -232,6 +245,10 @@ impl<'a> OptionWords<'a> {
             },
             CommandOption::Script => OptionWords {
                 script: Some(word),
+                ..self
+            },
+            CommandOption::Other => OptionWords {
+                other: Some(word),
                 ..self
             },
         }

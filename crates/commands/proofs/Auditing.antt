@@ -19,7 +19,7 @@ use Rattle.refusals.specs.declared.file.FileRefusal.{FileRefusal}
 use Rattle.refusals.specs.declared.file.FileRefusal.TheVariants.{Missing, TooLong, Message, Conf as NoConf, Script, Recording, Order, TooManyHops, OutOfPlace, TooManyItems}
 use Rattle.refusals.specs.declared.refusal.Refusal.{Refusal}
 use Rattle.refusals.specs.declared.refusal.Refusal.TheVariants.{Arguments, Of, Command}
-use Rattle.refusals.specs.declared.role.Role.TheVariants.{Conf, Request, Wanted, Script as OfScript, Input, Item}
+use Rattle.refusals.specs.declared.role.Role.TheVariants.{Conf, Request, Wanted, Script as OfScript, Other, Input, Item}
 use Rattle.commands.proofs.LowerAudit.{one_audit, one_chain_fault, no_fault_where_audited, audit_or_fault}
 use Rattle.commands.proofs.RecordedTexts.{recording_decided, has_recording}
 
@@ -46,6 +46,7 @@ fault_of items (Of Conf r) is = absurd is
 fault_of items (Of Request r) is = absurd is
 fault_of items (Of Wanted r) is = absurd is
 fault_of items (Of OfScript r) is = absurd is
+fault_of items (Of Other r) is = absurd is
 fault_of items (Of Input Missing) is = absurd is
 fault_of items (Of Input (TooLong n)) is = absurd is
 fault_of items (Of Input (Message f)) is = absurd is

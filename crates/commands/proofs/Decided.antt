@@ -22,7 +22,7 @@ use Rattle.msg_body.specs.declared.whole.Reading.{Reading}
 use Rattle.refusals.specs.declared.file.FileRefusal.{FileRefusal}
 use Rattle.refusals.specs.declared.file.FileRefusal.TheVariants.{Missing, TooLong, Message as NoMessage, Conf, Script, Recording, Order, TooManyHops, OutOfPlace, TooManyItems}
 use Rattle.refusals.specs.declared.refusal.CommandRefusal.{CommandRefusal}
-use Rattle.refusals.specs.declared.refusal.CommandRefusal.TheVariants.{Syntax, Ids, Lacks, Sign, Wishes, NotTaken}
+use Rattle.refusals.specs.declared.refusal.CommandRefusal.TheVariants.{Syntax, Ids, Lacks, Sign, Wishes, NotTaken, Explain}
 use Rattle.commands.proofs.Lacking.{one_id}
 use Rattle.commands.proofs.LowerLaws.{one_list, no_fault, one_params, one_text, one_message_fault, text_no_fault}
 
@@ -94,16 +94,19 @@ params_cause params (Syntax i) (Lacks m k) a b = absurd b
 params_cause params (Syntax i) (Sign g) a b = absurd b
 params_cause params (Syntax i) (Wishes g) a b = absurd b
 params_cause params (Syntax i) (NotTaken g) a b = absurd b
+params_cause params (Syntax i) (Explain g) a b = absurd b
 params_cause params (Ids f) (Syntax j) a b = absurd (b.none a.list a.reads)
 params_cause params (Ids f) (Ids g) a b = ap (λ (h : IdFault). Ids h) (one_id_fault params f g a b)
 params_cause params (Ids f) (Lacks m k) a b = absurd b
 params_cause params (Ids f) (Sign g) a b = absurd b
 params_cause params (Ids f) (Wishes g) a b = absurd b
 params_cause params (Ids f) (NotTaken g) a b = absurd b
+params_cause params (Ids f) (Explain g) a b = absurd b
 params_cause params (Lacks l i) d a b = absurd a
 params_cause params (Sign f) d a b = absurd a
 params_cause params (Wishes f) d a b = absurd a
 params_cause params (NotTaken f) d a b = absurd a
+params_cause params (Explain f) d a b = absurd a
 
 params_either : (params : List ℕ) (sig : SigParams) (c : CommandRefusal) → ReadsParams params sig → AreParamsRefused params c → ⊥
 params_either params sig (Syntax i) reads c = c.none (list_of sig) reads.reads
@@ -112,6 +115,7 @@ params_either params sig (Lacks l i) reads c = c
 params_either params sig (Sign f) reads c = c
 params_either params sig (Wishes f) reads c = c
 params_either params sig (NotTaken f) reads c = c
+params_either params sig (Explain f) reads c = c
 
 pub params_decided : AreParamsDecided
 params_decided params = record {
@@ -128,11 +132,13 @@ values_cause context ids (Ids f) d a b = absurd a
 values_cause context ids (Sign f) d a b = absurd a
 values_cause context ids (Wishes f) d a b = absurd a
 values_cause context ids (NotTaken f) d a b = absurd a
+values_cause context ids (Explain f) d a b = absurd a
 values_cause context ids (Lacks l i) (Syntax j) a b = absurd b
 values_cause context ids (Lacks l i) (Ids g) a b = absurd b
 values_cause context ids (Lacks l i) (Sign g) a b = absurd b
 values_cause context ids (Lacks l i) (Wishes g) a b = absurd b
 values_cause context ids (Lacks l i) (NotTaken g) a b = absurd b
+values_cause context ids (Lacks l i) (Explain g) a b = absurd b
 values_cause context ids (Lacks l i) (Lacks m k) a b =
     let same = first_lack_is_one context ids a.0 b.0 l m a.1 b.1 in
     let texts = one_id ids a.0 b.0 i k same.0 a.2 b.2 in
@@ -145,6 +151,7 @@ values_either context ids values (Ids f) have c = c
 values_either context ids values (Sign f) have c = c
 values_either context ids values (Wishes f) have c = c
 values_either context ids values (NotTaken f) have c = c
+values_either context ids values (Explain f) have c = c
 values_either context ids values (Lacks l i) have c = none_lacks context ids values c.0 l have c.1
 
 pub values_decided : AreValuesDecided

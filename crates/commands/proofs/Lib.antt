@@ -2,11 +2,13 @@ pub mod Answered
 pub mod Auditing
 pub mod Decided
 pub mod DecidedConf
+pub mod Explaining
 pub mod FoundFiles
 pub mod Lacking
 pub mod LowerAnswers
 pub mod LowerAudit
 pub mod LowerConf
+pub mod LowerExplaining
 pub mod LowerLaws
 pub mod LowerRewriting
 pub mod LowerSigning

@@ -40,7 +40,7 @@ use Rattle.commands.specs.declared.stop.Stop.{Stop}
 use Rattle.commands.specs.declared.stop.Stop.TheVariants as ends
 use Rattle.commands.specs.tools.Signed.{HasIndexIn, SaysSignFault, IsSignedText, AreSignedSoFar}
 use Rattle.refusals.specs.declared.refusal.CommandRefusal.{CommandRefusal}
-use Rattle.refusals.specs.declared.refusal.CommandRefusal.TheVariants.{Syntax, Ids, Lacks, Sign, Wishes, NotTaken}
+use Rattle.refusals.specs.declared.refusal.CommandRefusal.TheVariants.{Syntax, Ids, Lacks, Sign, Wishes, NotTaken, Explain}
 use Rattle.refusals.specs.declared.refusal.Refusal.{Refusal}
 use Rattle.refusals.specs.declared.refusal.Refusal.TheVariants.{Command}
 
@@ -109,6 +109,7 @@ module _ (context : MessageContext) (spec : SignSpec) where
   fault_of (Ids f) is = absurd is
   fault_of (Wishes f) is = absurd is
   fault_of (NotTaken f) is = absurd is
+  fault_of (Explain f) is = absurd is
   fault_of (Lacks lack id) is = (fault.Lacks is.0 lack, is.1)
   fault_of (Sign f) is = (f, said f is)
 
@@ -256,6 +257,7 @@ module _ (conf : Configuration) (moment : ℕ) (message : Message) (context : Me
   want_fault_of (Lacks lack id) is = absurd is
   want_fault_of (Sign f) is = absurd is
   want_fault_of (NotTaken f) is = absurd is
+  want_fault_of (Explain f) is = absurd is
   want_fault_of (Wishes f) is = (f, is)
 
   no_want_fault : (specs : List SignSpec) → WantsAnswered conf message (Ok specs) → (f : WantFault) → ¬ IsWantFault conf message f

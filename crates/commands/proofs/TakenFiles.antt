@@ -5,7 +5,7 @@ use Rattle.hms_io.specs.declared.whole_file.FileError.{FileError}
 use Rattle.hms_io.specs.declared.whole_file.FileError.TheVariants as file
 use Rattle.msg_body.specs.Messages.{Message}
 use Rattle.commands.specs.Files.{HasFound}
-use Rattle.commands.specs.Laws.{IsRequestDecided, IsWantedDecided, HasRequest, HasWanted}
+use Rattle.commands.specs.Laws.{IsRecordDecided, IsRequestDecided, IsWantedDecided, HasRecord, HasRequest, HasWanted}
 use Rattle.commands.specs.Layers.{HasAnswer}
 use Rattle.msg_body.specs.declared.whole.Reading.{Reading}
 use Rattle.commands.specs.Messages.{IsInputMessage, IsInputRefused}
@@ -66,11 +66,17 @@ module _ (r : Reading) where
     | inr cause ↦ inr cause
   ]
 
+pub record_decided : IsRecordDecided
+record_decided r name found = record { value = file_value r name found; cause = file_cause r name found; either = file_either r name found }
+
 pub request_decided : IsRequestDecided
-request_decided name found = record { value = file_value one_request name found; cause = file_cause one_request name found; either = file_either one_request name found }
+request_decided name found = record_decided one_request name found
 
 pub wanted_decided : IsWantedDecided
-wanted_decided name found = record { value = file_value any_message name found; cause = file_cause any_message name found; either = file_either any_message name found }
+wanted_decided name found = record_decided any_message name found
+
+pub has_record : HasRecord
+has_record r name found bytes = has_file r name found bytes
 
 pub has_request : HasRequest
 has_request name found bytes = has_file one_request name found bytes

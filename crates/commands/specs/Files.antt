@@ -1,5 +1,5 @@
 -- The files that a command reads, by what they are to it.
-use Rattle.std.specs.Prelude.{◌≡◌, ℕ, ◌+◌, List, [], ◌∷◌, length, sum_by, Option, None, IfSome, is_some}
+use Rattle.std.specs.Prelude.{◌≡◌, ℕ, ◌+◌, List, [], ◌∷◌, length, sum_by, Option, IfSome, is_some}
 use Rattle.std.specs.List.{filter}
 use Rattle.std.specs.FinMap as map
 use Rattle.hms_io.specs.Files.{FileMap}
@@ -16,22 +16,22 @@ pub data FileRole : Type 0 where
   Wanted : FileRole
   -- the script of changes to a message
   Script : FileRole
-  -- what a command compares its input with
+  -- the other record of a message, with which the input is compared
   Other : FileRole
 
 -- the name of the file of each role, where it has one
 abbrev pub FileNames : Type 0
 FileNames = FileRole → Option (List ℕ)
 
--- a configuration, a request, a message that wishes signatures and a script, or none of each, and
--- no other file
+-- a configuration, a request, a message that wishes signatures, a script and another record of a
+-- message, or none of each
 abbrev pub file_names : Option (List ℕ) → Option (List ℕ) → Option (List ℕ) → Option (List ℕ)
-    → FileNames
-file_names conf request wanted script Conf = conf
-file_names conf request wanted script Request = request
-file_names conf request wanted script Wanted = wanted
-file_names conf request wanted script Script = script
-file_names conf request wanted script role = None
+    → Option (List ℕ) → FileNames
+file_names conf request wanted script other Conf = conf
+file_names conf request wanted script other Request = request
+file_names conf request wanted script other Wanted = wanted
+file_names conf request wanted script other Script = script
+file_names conf request wanted script other Other = other
 
 -- how many files have a name
 abbrev pub file_count : FileNames → ℕ

@@ -5,7 +5,7 @@ use Rattle.hms_io.specs.declared.status.Status.TheVariants.{Done, NotOk}
 use Rattle.std.specs.List.{list_all}
 use Rattle.sfv_text.specs.Classes.{is_byte}
 use Rattle.component_ids.specs.declared.id.ComponentId.{ComponentId}
-use Rattle.component_values.specs.Context.{MessageContext, answers_head}
+use Rattle.component_values.specs.Context.{MessageContext, HasWholeMessage, answers_head, context_with}
 use Rattle.component_values.specs.Values.{HaveValues}
 use Rattle.msg_body.specs.Messages.{Message, IsMessage}
 use Rattle.conf.specs.Configuration.{Configuration}
@@ -17,9 +17,10 @@ use Rattle.commands.specs.Audit.{IsRecordingText, IsRecordingRefused, IsChainRef
 use Rattle.commands.specs.Base.{AreParamsRefused, IsValueLacking}
 use Rattle.commands.specs.Configured.{IsConfigured, IsConfRefused}
 use Rattle.commands.specs.Covered.{ReadsParams}
+use Rattle.commands.specs.Explain.{ReportsExplanation}
 use Rattle.commands.specs.Layers.{IsDecisive, HasAnswer}
 use Rattle.commands.specs.Messages.{IsInputMessage, IsInputRefused}
-use Rattle.commands.specs.MessageFiles.{IsRequested, IsRequestRefused, IsWanted, IsWantedRefused, IsOfBytes}
+use Rattle.commands.specs.MessageFiles.{IsMessageFile, IsMessageFileRefused, IsRequested, IsRequestRefused, IsWanted, IsWantedRefused, IsOfBytes}
 use Rattle.recording.specs.Items.{PlacedItem}
 use Rattle.hop_audit.specs.Report.{IsAudit}
 use Rattle.rewrite_script.specs.Lines.{is_writable}
@@ -56,6 +57,13 @@ IsRequestDecided =
 abbrev pub IsWantedDecided : Type 0
 IsWantedDecided =
     (name found : Option (List ℕ)) → IsDecisive (IsWanted name found) (IsWantedRefused name found)
+
+-- what was found under a name is at most one message, read in this way, or is refused for at most
+-- one cause
+abbrev pub IsRecordDecided : Type 0
+IsRecordDecided =
+    (reading : Reading) (name found : Option (List ℕ))
+    → IsDecisive (IsMessageFile reading name found) (IsMessageFileRefused reading name found)
 
 -- what was found under a name is at most one script, or is refused for at most one cause
 abbrev pub IsScriptDecided : Type 0
@@ -112,6 +120,14 @@ HasOneRewritten =
     (one other : Outcome) → ReportsRewriting label script context one
     → ReportsRewriting label script context other → one ≡ other
 
+-- a label, another record of a message and the message's context have at most one outcome of
+-- `explain`
+abbrev pub HasOneExplained : Type 0
+HasOneExplained =
+    (label : List ℕ) (also : Message) (context : MessageContext) (one other : Outcome)
+    → ReportsExplanation label also context one
+    → ReportsExplanation label also context other → one ≡ other
+
 -- a configuration and an input have at most one outcome of `audit`
 abbrev pub HasOneAuditing : Type 0
 HasOneAuditing =
@@ -149,6 +165,13 @@ abbrev pub HasWanted : Type 0
 HasWanted =
     (name found : Option (List ℕ)) → IsOfBytes found
     → HasAnswer (IsWanted name found) (IsWantedRefused name found)
+
+-- what was found under a name, and is of bytes, is a message, read in this way, or there is a cause
+-- to refuse it
+abbrev pub HasRecord : Type 0
+HasRecord =
+    (reading : Reading) (name found : Option (List ℕ)) → IsOfBytes found
+    → HasAnswer (IsMessageFile reading name found) (IsMessageFileRefused reading name found)
 
 -- what was found under a name is a script, or there is a cause to refuse it
 abbrev pub HasScript : Type 0
@@ -205,6 +228,13 @@ HasSomeRewritten =
     → IsTrue (list_all is_writable script)
     → IsMessage (answers_head context.related) context.message
     → (outcome : Outcome) × ReportsRewriting label script context outcome
+
+-- a label, another record of a message and the message's context have an outcome of `explain`
+abbrev pub HasSomeExplained : Type 0
+HasSomeExplained =
+    (label : List ℕ) (also : Message) (context : MessageContext) → HasWholeMessage context
+    → HasWholeMessage (context_with context also)
+    → (outcome : Outcome) × ReportsExplanation label also context outcome
 
 -- a configuration and an input of bytes have an outcome of `audit`
 abbrev pub HasSomeAuditing : Type 0

@@ -2,8 +2,8 @@ pub mod Audit
 pub mod Base
 pub mod Configured
 pub mod Covered
+pub mod Explain
 pub mod Files
-pub mod Help
 pub mod Laws
 pub mod Layers
 pub mod MessageFiles

@@ -20,6 +20,8 @@ use Rattle.signing.specs.declared.fault.WantFault.{WantFault}
 use Rattle.signing.specs.declared.fault.WantFault.TheVariants as want
 use Rattle.rewrites.specs.declared.fault.WalkFault.{WalkFault}
 use Rattle.rewrites.specs.declared.fault.WalkFault.TheVariants as walk
+use Rattle.normal_forms.specs.declared.fault.ExplainFault.{ExplainFault}
+use Rattle.normal_forms.specs.declared.fault.ExplainFault.TheVariants as explain
 use Rattle.rewrite_script.specs.declared.limits.TheConstants.{MAX_SCRIPT_BYTES}
 use Rattle.recording.specs.declared.fault.RecordingFault.{RecordingFault}
 use Rattle.recording.specs.declared.fault.RecordingFault.TheVariants as recording
@@ -31,7 +33,7 @@ use Rattle.refusals.specs.declared.role.Role.{Role}
 use Rattle.refusals.specs.declared.role.Role.TheVariants as role
 use Rattle.refusals.specs.declared.refusal.Refusal.{Refusal}
 use Rattle.refusals.specs.declared.refusal.Refusal.TheVariants.{Of, Command}
-use Rattle.refusals.specs.declared.refusal.CommandRefusal.TheVariants.{Syntax, Ids, Wishes, NotTaken}
+use Rattle.refusals.specs.declared.refusal.CommandRefusal.TheVariants.{Syntax, Ids, Wishes, NotTaken, Explain}
 use Rattle.refusals.specs.declared.refusal.StepRefusal.TheVariants.{LabelUnread, NotApplicable, NotPermitted}
 use Rattle.commands.specs.declared.outcome.Outcome.{Outcome}
 use Rattle.commands.specs.declared.outcome.Outcome.TheVariants.{Refused as IsRefused}
@@ -91,6 +93,11 @@ stop_of_walk walk.Memory = Memory
 stop_of_walk (walk.Unjudged index) = Refused (Command (NotTaken LabelUnread))
 stop_of_walk (walk.NotApplicable index) = Refused (Command (NotTaken (NotApplicable index)))
 stop_of_walk (walk.NotPermitted index) = Refused (Command (NotTaken (NotPermitted index)))
+
+-- how a fault of an explanation ends a run: the command is refused, or memory ran out
+abbrev pub stop_of_explain : ExplainFault → Stop
+stop_of_explain explain.Memory = Memory
+stop_of_explain fault = Refused (Command (Explain fault))
 
 -- how a fault of a recording ends a run: it is refused, or memory ran out
 abbrev pub stop_of_recording : RecordingFault → Stop

@@ -1,7 +1,7 @@
 //! Laws of what is read, and of what comes of it. Each function does nothing; its contract is the
 //! law.
 
-ghost use Rattle.commands.specs.Laws.{IsConfigurationDecided, AreTablesDecided, IsRequestDecided, IsWantedDecided, IsScriptDecided, IsInputDecided, AreParamsDecided, AreValuesDecided, HaveOneOutcome, HasConfiguration, HaveTables, HasRequest, HasWanted, HasScript, HasMessage, HaveParams, HaveValuesOrLack, HaveSomeOutcome, HasOneSigning, HasSomeSigning, IsValidWhereConfigured, HasOneRewritten, HasSomeRewritten, IsWritableWhereScripted, HaveValuesWhereScripted, HasOneAuditing, HasSomeAuditing, HasOneSampling, HasSomeSampling, IsRecordingDecided, IsChainDecided, HasRecording, HasAudit};
+ghost use Rattle.commands.specs.Laws.{IsConfigurationDecided, AreTablesDecided, IsRequestDecided, IsWantedDecided, IsScriptDecided, IsInputDecided, AreParamsDecided, AreValuesDecided, HaveOneOutcome, HasConfiguration, HaveTables, HasRequest, HasWanted, HasScript, HasMessage, HaveParams, HaveValuesOrLack, HaveSomeOutcome, HasOneSigning, HasSomeSigning, IsValidWhereConfigured, HasOneRewritten, HasSomeRewritten, HasOneExplained, HasSomeExplained, IsRecordDecided, HasRecord, IsWritableWhereScripted, HaveValuesWhereScripted, HasOneAuditing, HasSomeAuditing, HasOneSampling, HasSomeSampling, IsRecordingDecided, IsChainDecided, HasRecording, HasAudit};
 ghost use Rattle.commands.specs.SignedMessages.{IsKeptWhereSigned, IsMessageWhereSigned, IsRightWhereSigned};
 ghost use Rattle.commands.specs.RewrittenMessages.{IsMessageWhereRewritten, HasVerdictWhereRewritten};
 
@@ -12,6 +12,7 @@ pub fn each_layer_is_decided()
     ensures tables { AreTablesDecided }
     ensures request { IsRequestDecided }
     ensures wanted { IsWantedDecided }
+    ensures other { IsRecordDecided }
     ensures script { IsScriptDecided }
     ensures input { IsInputDecided }
     ensures params { AreParamsDecided }
@@ -26,6 +27,7 @@ pub fn each_layer_has_an_answer()
     ensures tables { HaveTables }
     ensures request { HasRequest }
     ensures wanted { HasWanted }
+    ensures other { HasRecord }
     ensures script { HasScript }
     ensures input { HasMessage }
     ensures params { HaveParams }
@@ -53,6 +55,12 @@ pub fn rewriting_has_one_outcome()
     ensures some { HasSomeRewritten }
     ensures writable { IsWritableWhereScripted }
     ensures values { HaveValuesWhereScripted }
+{}
+
+/// What is explained of two records of one message has one outcome.
+pub fn explaining_has_one_outcome()
+    ensures one { HasOneExplained }
+    ensures some { HasSomeExplained }
 {}
 
 /// What is audited by a configuration has one outcome.

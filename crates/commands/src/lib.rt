@@ -5,7 +5,8 @@
 //! answers, the message that wishes signatures, and the script, each in a file or none; the input,
 //! which is to be one whole message; and the context that all give. `audit` writes the report on a
 //! recorded chain of messages, over a configuration and an input that is a recording. `sample`
-//! writes the summary of the report on a chain that is drawn from a seed.
+//! writes the summary of the report on a chain that is drawn from a seed. `explain` writes the
+//! rewritings that lead two records of one message to messages that are alike.
 //!
 //! ```text
 //! let conf = read_configuration(alloc, Some("hms.toml"), &mut shelf)?;
@@ -24,7 +25,7 @@ mod audit;
 mod base;
 mod configured;
 mod covered;
-mod help;
+mod explain;
 mod laws;
 mod message;
 mod message_file;
@@ -40,14 +41,12 @@ mod verify;
 pub use audit::audit_outcome;
 pub use base::base_outcome;
 pub use configured::read_configuration;
-pub use help::{
-    AUDIT_TEXT, BASE_TEXT, COMMANDS, END_TEXT, GATEWAY_TEXT, REWRITE_TEXT, SAMPLE_TEXT, SIGN_TEXT,
-    TITLE_TEXT, VERIFY_TEXT, VERSION_TEXT, help_outcome, version_outcome, write_help_of,
-};
+pub use explain::explain_outcome;
 pub use laws::{
     auditing_has_one_outcome, each_layer_has_an_answer, each_layer_is_decided,
-    rewriting_has_one_outcome, signing_has_one_outcome, verdicts_have_one_outcome,
-    what_is_rewritten_keeps_its_verdict, what_is_signed_is_rightly_signed,
+    explaining_has_one_outcome, rewriting_has_one_outcome, signing_has_one_outcome,
+    verdicts_have_one_outcome, what_is_rewritten_keeps_its_verdict,
+    what_is_signed_is_rightly_signed,
 };
 pub use message::message_of_role;
 pub use message_file::{fetch_message, fetched_message};

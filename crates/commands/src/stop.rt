@@ -11,6 +11,7 @@ use conf::ConfFault;
 use hms_io::{FileError, FillError};
 use hop_audit::{ChainFault, MAX_HOPS};
 use msg_body::{MessageError, MessageFault};
+use normal_forms::ExplainFault;
 use recording::RecordingFault;
 use refusals::{CommandRefusal, FileRefusal, Refusal, Role, StepRefusal};
 use rewrite_script::{MAX_SCRIPT_BYTES, ScriptFault};
@@ -221,6 +222,21 @@ impl From<WalkFault> for Stop {
             WalkFault::Unjudged(_) => Stop::not_taken(StepRefusal::LabelUnread),
             WalkFault::NotApplicable(index) => Stop::not_taken(StepRefusal::NotApplicable(index)),
             WalkFault::NotPermitted(index) => Stop::not_taken(StepRefusal::NotPermitted(index)),
+        }
+    }
+}
+
+/// Why two records of a message aren't explained.
+impl From<ExplainFault> for Stop {
+    ghost use Rattle.std.specs.Prelude.{◌≡◌};
+    ghost use Rattle.commands.specs.Stops.{stop_of_explain};
+
+    ghost from_gives = { λ fault stop. stop ≡ stop_of_explain fault };
+
+    fn from(fault: ExplainFault) -> Stop {
+        match fault {
+            ExplainFault::Memory => Stop::Memory,
+            _ => Stop::Refused(Refusal::Command(CommandRefusal::Explain(fault))),
         }
     }
 }

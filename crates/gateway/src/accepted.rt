@@ -1,6 +1,6 @@
 //! Which label of a message is accepted.
 
-ghost use Rattle.std.specs.Prelude.{◌≡◌, ◌≢◌, ℕ, List, [], IfOk, MatchOption, option_copied};
+ghost use Rattle.std.specs.Prelude.{◌≡◌, ◌≢◌, ◌≤◌, ℕ, List, [], IfOk, MatchOption, option_copied};
 ghost use Rattle.component_ids.specs.declared.params.SigParams.{SigParams as Signed};
 ghost use Rattle.signatures.specs.Signatures.{HasSignature};
 ghost use Rattle.verdicts.specs.Verification.{IsAt, verification_by};
@@ -33,7 +33,6 @@ pub(crate) enum Judged {
     Refused { label: Text, verdict: Verdict },
 }
 
-/// The accepted label with its signature parameters.
 fn accepted_label(
     alloc: Global,
     exchange: &mut Exchange<'_, '_>,
@@ -72,6 +71,7 @@ fn first_accepted<L: Ledger>(
         (IsFirstLabel exchange.old.context.message
         (verification_by verifier.entry.now exchange.old.context) labels.now)) }
     ensures exchange { exchange.new.context ≡ exchange.old.context }
+    ensures steps { steps.old ≤ steps.new }
 {
     for label in labels {
         match verifier.verdict(alloc, exchange, label.bytes(), steps)? {
@@ -99,6 +99,7 @@ pub(crate) fn judge<L: Ledger>(
         (IsJudged exchange.old.context.message
         (verification_by verifier.entry.now exchange.old.context) labels.now) }
     ensures exchange { exchange.new.context ≡ exchange.old.context }
+    ensures steps { steps.old ≤ steps.new }
 {
     let Some((first, others)) = labels.split_first() else {
         unreachable!()

@@ -98,7 +98,6 @@ fn message_made<'t>(
     }
 }
 
-/// The steps after so many of them.
 fn steps_after(steps: &[Rewrite], count: usize) -> &[Rewrite]
     requires { count ≤ length steps.now }
     ensures { result.now ≡ drop count steps.now }

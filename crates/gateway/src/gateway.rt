@@ -212,6 +212,7 @@ impl<'c> Gateway<'c> {
         ensures is { (settings : GatewayConf) → self.now.conf.gateway ≡ Some settings → IfOk result
             (IsOutcomeOf settings self.now exchange.old.context) }
         ensures now { IfOk result (λ outcome. MayBeRemembered self.now outcome.accepted) }
+        ensures steps { steps.old ≤ steps.new }
     {
         let verifier = Verifier {
             conf: self.conf,
@@ -255,6 +256,7 @@ impl<'c> Gateway<'c> {
         ensures is { (settings : GatewayConf) → self.now.conf.gateway ≡ Some settings → IfOk result
             (IsOutcome settings self.now (arrival_of arrival.entry)) }
         ensures now { IfOk result (λ outcome. MayBeRemembered self.now outcome.accepted) }
+        ensures steps { steps.old ≤ steps.new }
     {
         let index = self.count;
         let related = match related_request(alloc, arrival)? {
@@ -281,6 +283,7 @@ impl<'c> Gateway<'c> {
         ensures moment { self.new.seen.moment ≡ self.old.seen.moment }
         ensures count { self.new.count ≡ self.old.count }
         ensures conf { self.new.conf ≡ self.old.conf }
+        ensures steps { steps.old ≤ steps.new }
     {
         if let Some(accepted) = accepted {
             remember(&mut self.book, self.conf, &accepted, steps);
@@ -308,6 +311,7 @@ impl<'c> Gateway<'c> {
         ensures count { MatchResult result (λ _. self.new.count ≡ self.old.count + 1)
             (λ _. self.new.count ≡ self.old.count) }
         ensures conf { self.new.conf ≡ self.old.conf }
+        ensures steps { steps.old ≤ steps.new }
     {
         self.book.advance(now, steps);
         let Outcome { answer, accepted } = self.judge_arrival(alloc, arrival, steps)?;

@@ -3,9 +3,7 @@
 //! (section 1.1), and signs what comes out (section 3.1).
 //!
 //! ```text
-//! let mut gateway = Gateway::open(alloc, &conf, 1618884473)?;
 //! let record = gateway.step(alloc, 1618884473, Arrival::Request(bytes), &mut steps)?;
-//! // Pass { index: 0, label: sig-b25, message: .. }
 //! serve(alloc, &conf, &mut source, &mut sink)? // the same for each message of a recording
 //! ```
 #![tactic(auto)]

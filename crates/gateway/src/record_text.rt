@@ -23,7 +23,6 @@ fn append_sign_fault(alloc: Global, fault: SignFault, line: &mut Text) -> Result
     line.append(text.as_bytes())
 }
 
-/// Adds why a message is held.
 fn append_held(alloc: Global, fault: &HeldFault, line: &mut Text) -> Result<(), Memory>
     requires { IsTrue (is_held_in_range fault.now) }
     ensures { OnOk result (line.new ≡ line.old ++ held_text fault.now) }
@@ -39,7 +38,6 @@ fn append_held(alloc: Global, fault: &HeldFault, line: &mut Text) -> Result<(), 
     }
 }
 
-/// Adds why a message is bad.
 fn append_bad(alloc: Global, fault: BadFault, line: &mut Text) -> Result<(), Memory>
     ensures { OnOk result (line.new ≡ line.old ++ bad_text fault) }
 {

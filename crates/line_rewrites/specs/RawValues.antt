@@ -1,6 +1,6 @@
 -- What a rewriting makes of a raw value: of the blanks at its ends (RFC 9110 section 5.5) and of
 -- its folds (RFC 9112 section 5.2). No rewriting here changes another byte of it.
-use Rattle.std.specs.Prelude.{◌≡◌, ℕ, ◌+◌, IsTrue, IsFalse, List, ◌∷◌, ◌++◌, length, codes}
+use Rattle.std.specs.Prelude.{◌≡◌, ℕ, ◌+◌, IsTrue, IsFalse, List, [], ◌∷◌, ◌++◌, if◌then◌else◌, length, reverse, codes}
 use Rattle.std.specs.List.{list_all}
 use Rattle.std.specs.Str.{byte}
 use Rattle.byte_grammar.specs.Classes.{is_blank}
@@ -49,6 +49,17 @@ pub record IsUnfolded (offset : ℕ) (raw unfolded : List ℕ) : Type 0 where
   pub ends : IsFalse (ends_in is_spacing before)
   pub begins : IsFalse (starts_in is_spacing after)
   pub unfolded_is : unfolded ≡ before ++ byte " " ∷ after
+
+-- ---- spacing at the ends
+
+-- the text from its first byte on that is no spacing
+abbrev pub without_first_spacing : List ℕ → List ℕ
+without_first_spacing [] = []
+without_first_spacing (c ∷ rest) = if is_spacing c then without_first_spacing rest else c ∷ rest
+
+-- the text up to its last byte that is no spacing
+abbrev pub without_last_spacing : List ℕ → List ℕ
+without_last_spacing text = reverse (without_first_spacing (reverse text))
 
 -- ---- what a signature asks of them
 

@@ -24,8 +24,9 @@ pub use fault::ApplyFault;
 pub use laws::{
     a_line_step_gives_one_message, a_line_step_is_permitted_or_not, a_text_has_one_sound_message,
 };
-pub use line::append_text_line;
-pub use permit::{LineCondition, line_condition};
+pub use line::{append_text_line, append_value};
+pub use permit::{LineCondition, has_value, line_condition, number_condition, value_condition};
+pub use raw::{is_spacing, without_first_spacing, without_last_spacing};
 pub use sides::SideLines;
 pub use sized::{is_sized_message, sized_message};
 pub use step::{make_lines, rewrite_lines};

@@ -87,7 +87,7 @@ pub(crate) fn append_line(line: NewLine<'_>, text: &mut Text) -> Result<(), Memo
 }
 
 /// Adds the value of the raw value at the end.
-fn append_value(raw: &[u8], text: &mut Text) -> Result<(), Memory>
+pub fn append_value(raw: &[u8], text: &mut Text) -> Result<(), Memory>
     ensures { OnOk result (text.new ≡ text.old ++ value raw.now) }
 {
     for piece in line_pieces(LineView { name: b"", raw }) {

@@ -83,7 +83,7 @@ fn always_where(holds: bool) -> LineCondition<'static>
 }
 
 /// When lines of the name may be joined and split.
-fn number_condition(side: Side, line: LineView<'_>) -> LineCondition<'_>
+pub fn number_condition(side: Side, line: LineView<'_>) -> LineCondition<'_>
     ensures { (params : SigParams) → IsMetBy params result
         ↔ MayChangeNumber side (name_of (field_line_of line.entry)) params }
 {
@@ -97,7 +97,7 @@ fn number_condition(side: Side, line: LineView<'_>) -> LineCondition<'_>
 }
 
 /// When lines of the name may come and go.
-fn value_condition(side: Side, line: LineView<'_>) -> LineCondition<'_>
+pub fn value_condition(side: Side, line: LineView<'_>) -> LineCondition<'_>
     ensures { (params : SigParams) → IsMetBy params result
         ↔ MayChangeValue side (name_of (field_line_of line.entry)) params }
 {
@@ -111,7 +111,7 @@ fn value_condition(side: Side, line: LineView<'_>) -> LineCondition<'_>
 }
 
 /// Whether the line has a value, and not the empty one.
-fn has_value(line: LineView<'_>) -> bool
+pub fn has_value(line: LineView<'_>) -> bool
     ensures { result ≡ has_bytes (value line.entry.raw.now) }
 {
     for piece in line_pieces(line) {

@@ -3,13 +3,13 @@
 ghost use Rattle.std.specs.Prelude.{◌≡◌, ◌↔◌, reverse, not, IsTrue, option_map};
 ghost use Rattle.byte_grammar.specs.Language.{starts_in};
 ghost use Rattle.field_values.specs.Spacing.{is_spacing, is_solid, ends_in};
-ghost use Rattle.line_rewrites.specs.RawValues.{IsLoneSpace, IsBeforeLoneSpace};
-ghost use Rattle.line_rewrites.specs.tools.Computed.{without_first_spacing, without_last_spacing, core_of, is_crlf_before, raw_text, padded, folded, unfolded, cut_at_comma, is_space_before_solid};
+ghost use Rattle.line_rewrites.specs.RawValues.{IsLoneSpace, IsBeforeLoneSpace, without_first_spacing, without_last_spacing};
+ghost use Rattle.line_rewrites.specs.tools.Computed.{core_of, is_crlf_before, raw_text, padded, folded, unfolded, cut_at_comma, is_space_before_solid};
 
 use byte_grammar::is_blank;
 
 /// Whether the byte is SP, HTAB, CR or LF.
-fn is_spacing(byte: u8) -> bool
+pub fn is_spacing(byte: u8) -> bool
     ensures { result ≡ is_spacing byte }
 {
     is_blank(byte) || byte == b'\r' || byte == b'\n'
@@ -36,7 +36,7 @@ fn ends_solid(text: &[u8]) -> bool
 }
 
 /// The text without the spacing at its start.
-fn without_first_spacing(text: &[u8]) -> &[u8]
+pub fn without_first_spacing(text: &[u8]) -> &[u8]
     ensures { result.now ≡ without_first_spacing text.now }
 {
     let mut left = text;
@@ -50,7 +50,7 @@ fn without_first_spacing(text: &[u8]) -> &[u8]
 }
 
 /// The text without the spacing at its end.
-fn without_last_spacing(text: &[u8]) -> &[u8]
+pub fn without_last_spacing(text: &[u8]) -> &[u8]
     ensures { result.now ≡ without_last_spacing text.now }
 {
     let mut left = text;

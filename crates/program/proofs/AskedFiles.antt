@@ -6,14 +6,15 @@ use Rattle.hms_io.specs.declared.read_write.FillError.{FillError}
 use Rattle.hms_io.specs.declared.read_write.FillError.TheVariants.{Memory as NoFillMemory, Failed, TooLong as Longer}
 use Rattle.hms_io.specs.declared.status.Status.{Status}
 use Rattle.command_line.specs.Command.{CommandLine, IsCommand}
-use Rattle.commands.specs.Files.{FileNames, FileRole, Conf, Request, Wanted, file_count, file_names}
-use Rattle.commands.specs.Stops.{IfOutcome, stop_of_fill}
+use Rattle.commands.specs.Files.{FileNames, FileRole, Conf, Request, Wanted, Script, HasFound, file_count, file_names}
+use Rattle.commands.specs.Stops.{IfOutcome, IfStopped, IsRefusalFor, stop_of_fill}
 use Rattle.commands.specs.declared.outcome.Outcome.{Outcome}
 use Rattle.commands.specs.declared.outcome.Outcome.TheVariants.{Done, NotOk, Refused}
 use Rattle.commands.specs.declared.stop.Stop.{Stop}
 use Rattle.commands.specs.declared.stop.Stop.TheVariants.{Memory, ReadFault, Refused as IsRefused}
 use Rattle.refusals.specs.declared.file.FileRefusal.{FileRefusal}
 use Rattle.refusals.specs.declared.refusal.TheConstants.{MAX_CONF_BYTES, MAX_INPUT_BYTES}
+use Rattle.rewrite_script.specs.declared.limits.TheConstants.{MAX_SCRIPT_BYTES}
 use Rattle.refusals.specs.declared.refusal.Refusal.{Refusal}
 use Rattle.refusals.specs.declared.refusal.Refusal.TheVariants.{Arguments, Of, Command}
 use Rattle.refusals.specs.declared.role.Role.{Role}
@@ -23,29 +24,34 @@ use Rattle.program.specs.Ends.{AsksFor, AsksForNamed}
 use Rattle.program.specs.Intake.{named_count, read_order, roles_until}
 use Rattle.program.specs.declared.intake.FileWords.{FileWords}
 use Rattle.program.specs.tools.Parts.{AsksOf, AsksUntil, IsAfterInput, IsWritten, IsWrittenStop, refusal_of, roles_read}
-use Rattle.program.proofs.Reports.{AsksOne, IfRefusedFor, of_command, one_counted, weighed}
+use Rattle.program.proofs.Reports.{AsksOne, IfRefusedFor, count_step, of_command, one_counted, weighed}
 
 -- ---- how many of the first files have a name
 
-count_conf : (a b c d : Option (List ℕ)) → named_count (file_names a b c d) (Conf ∷ []) ≡ weighed 1 a
-count_conf None b c d = refl
-count_conf (Some x) b c d = refl
+count_conf : (names : FileNames) → named_count names (Conf ∷ []) ≡ weighed 1 (names Conf)
+count_conf names = let conf = count_step names Conf [] in omega (arith, conf)
 
-count_request : (a b c d : Option (List ℕ)) → named_count (file_names a b c d) (Conf ∷ Request ∷ []) ≡ weighed 1 a + weighed 1 b
-count_request None None c d = refl
-count_request None (Some y) c d = refl
-count_request (Some x) None c d = refl
-count_request (Some x) (Some y) c d = refl
+count_request : (names : FileNames) → named_count names (Conf ∷ Request ∷ []) ≡ weighed 1 (names Conf) + weighed 1 (names Request)
+count_request names =
+    let request = count_step names Request [] in
+    let conf = count_step names Conf (Request ∷ []) in
+    omega (arith, conf, request)
 
-count_wanted : (a b c d : Option (List ℕ)) → named_count (file_names a b c d) (Conf ∷ Request ∷ Wanted ∷ []) ≡ weighed 1 a + (weighed 1 b + weighed 1 c)
-count_wanted None None None d = refl
-count_wanted None None (Some z) d = refl
-count_wanted None (Some y) None d = refl
-count_wanted None (Some y) (Some z) d = refl
-count_wanted (Some x) None None d = refl
-count_wanted (Some x) None (Some z) d = refl
-count_wanted (Some x) (Some y) None d = refl
-count_wanted (Some x) (Some y) (Some z) d = refl
+count_wanted : (names : FileNames) → named_count names (Conf ∷ Request ∷ Wanted ∷ []) ≡ weighed 1 (names Conf) + (weighed 1 (names Request) + weighed 1 (names Wanted))
+count_wanted names =
+    let wanted = count_step names Wanted [] in
+    let request = count_step names Request (Wanted ∷ []) in
+    let conf = count_step names Conf (Request ∷ Wanted ∷ []) in
+    omega (arith, conf, request, wanted)
+
+count_script : (names : FileNames)
+    → named_count names (Conf ∷ Request ∷ Wanted ∷ Script ∷ []) ≡ weighed 1 (names Conf) + (weighed 1 (names Request) + (weighed 1 (names Wanted) + weighed 1 (names Script)))
+count_script names =
+    let script = count_step names Script [] in
+    let wanted = count_step names Wanted (Script ∷ []) in
+    let request = count_step names Request (Wanted ∷ Script ∷ []) in
+    let conf = count_step names Conf (Request ∷ Wanted ∷ Script ∷ []) in
+    omega (arith, conf, request, wanted, script)
 
 -- ---- the files of words, in order
 
@@ -55,23 +61,34 @@ two_summed total u v a b c is one two = omega (arith, is, one, two)
 three_summed : (total u v w a b c d : ℕ) → total ≡ u + (v + w) → b ≤ a + u → c ≤ b + v → d ≤ c + w → d ≤ a + total
 three_summed total u v w a b c d is one two three = omega (arith, is, one, two, three)
 
-module _ {X S : Type 0} (files : S → Option FileMap) (asked reached : S → ℕ) (f : X → List ℕ) (conf request wanted script : Option X) (a b c d : S) (one : AsksOne files asked reached (MAX_CONF_BYTES + 1) conf a b) where
-  pub asked_conf : asked b ≤ asked a + named_count (file_names (option_map f conf) (option_map f request) (option_map f wanted) (option_map f script)) (Conf ∷ [])
-  asked_conf =
-      subst (λ (n : ℕ). asked b ≤ asked a + n) (sym (count_conf (option_map f conf) (option_map f request) (option_map f wanted) (option_map f script))) (one_counted asked f 1 conf a b one.unasked one.asks)
+four_summed : (total u v w x a b c d e : ℕ) → total ≡ u + (v + (w + x)) → b ≤ a + u → c ≤ b + v → d ≤ c + w → e ≤ d + x → e ≤ a + total
+four_summed total u v w x a b c d e is one two three four = omega (arith, is, one, two, three, four)
 
-  pub asked_request : AsksOne files asked reached (MAX_INPUT_BYTES + 1) request b c
-      → asked c ≤ asked a + named_count (file_names (option_map f conf) (option_map f request) (option_map f wanted) (option_map f script)) (Conf ∷ Request ∷ [])
+module _ {X S : Type 0} (files : S → Option FileMap) (asked reached : S → ℕ) (f : X → List ℕ) (conf request wanted script other : Option X) (a b c d e : S)
+    (one : AsksOne files asked reached (MAX_CONF_BYTES + 1) conf a b) where
+  abbrev all_names : FileNames
+  all_names = file_names (option_map f conf) (option_map f request) (option_map f wanted) (option_map f script) (option_map f other)
+
+  pub asked_conf : asked b ≤ asked a + named_count all_names (Conf ∷ [])
+  asked_conf = subst (λ (n : ℕ). asked b ≤ asked a + n) (sym (count_conf all_names)) (one_counted asked f 1 conf a b one.unasked one.asks)
+
+  pub asked_request : AsksOne files asked reached (MAX_INPUT_BYTES + 1) request b c → asked c ≤ asked a + named_count all_names (Conf ∷ Request ∷ [])
   asked_request two =
-      two_summed (named_count (file_names (option_map f conf) (option_map f request) (option_map f wanted) (option_map f script)) (Conf ∷ Request ∷ [])) (weighed 1 (option_map f conf)) (weighed 1 (option_map f request)) (asked a) (asked b) (asked c)
-      (count_request (option_map f conf) (option_map f request) (option_map f wanted) (option_map f script)) (one_counted asked f 1 conf a b one.unasked one.asks) (one_counted asked f 1 request b c two.unasked two.asks)
+      two_summed (named_count all_names (Conf ∷ Request ∷ [])) (weighed 1 (all_names Conf)) (weighed 1 (all_names Request)) (asked a) (asked b) (asked c) (count_request all_names)
+      (one_counted asked f 1 conf a b one.unasked one.asks) (one_counted asked f 1 request b c two.unasked two.asks)
 
   pub asked_wanted : AsksOne files asked reached (MAX_INPUT_BYTES + 1) request b c → AsksOne files asked reached (MAX_INPUT_BYTES + 1) wanted c d
-      → asked d ≤ asked a + named_count (file_names (option_map f conf) (option_map f request) (option_map f wanted) (option_map f script)) (Conf ∷ Request ∷ Wanted ∷ [])
+      → asked d ≤ asked a + named_count all_names (Conf ∷ Request ∷ Wanted ∷ [])
   asked_wanted two three =
-      three_summed (named_count (file_names (option_map f conf) (option_map f request) (option_map f wanted) (option_map f script)) (Conf ∷ Request ∷ Wanted ∷ [])) (weighed 1 (option_map f conf)) (weighed 1 (option_map f request)) (weighed 1 (option_map f wanted))
-      (asked a) (asked b) (asked c) (asked d) (count_wanted (option_map f conf) (option_map f request) (option_map f wanted) (option_map f script)) (one_counted asked f 1 conf a b one.unasked one.asks)
-      (one_counted asked f 1 request b c two.unasked two.asks) (one_counted asked f 1 wanted c d three.unasked three.asks)
+      three_summed (named_count all_names (Conf ∷ Request ∷ Wanted ∷ [])) (weighed 1 (all_names Conf)) (weighed 1 (all_names Request)) (weighed 1 (all_names Wanted)) (asked a) (asked b) (asked c) (asked d)
+      (count_wanted all_names) (one_counted asked f 1 conf a b one.unasked one.asks) (one_counted asked f 1 request b c two.unasked two.asks) (one_counted asked f 1 wanted c d three.unasked three.asks)
+
+  pub asked_script : AsksOne files asked reached (MAX_INPUT_BYTES + 1) request b c → AsksOne files asked reached (MAX_INPUT_BYTES + 1) wanted c d
+      → AsksOne files asked reached (MAX_SCRIPT_BYTES + 1) script d e → asked e ≤ asked a + named_count all_names (Conf ∷ Request ∷ Wanted ∷ Script ∷ [])
+  asked_script two three four =
+      four_summed (named_count all_names (Conf ∷ Request ∷ Wanted ∷ Script ∷ [])) (weighed 1 (all_names Conf)) (weighed 1 (all_names Request)) (weighed 1 (all_names Wanted)) (weighed 1 (all_names Script))
+      (asked a) (asked b) (asked c) (asked d) (asked e) (count_script all_names) (one_counted asked f 1 conf a b one.unasked one.asks) (one_counted asked f 1 request b c two.unasked two.asks)
+      (one_counted asked f 1 wanted c d three.unasked three.asks) (one_counted asked f 1 script d e four.unasked four.asks)
 
 -- ---- until an outcome
 
@@ -94,7 +111,7 @@ until_request cause = refl
 pub until_wanted : (cause : FileRefusal) → roles_until (Of role.Wanted cause) ≡ Conf ∷ Request ∷ Wanted ∷ []
 until_wanted cause = refl
 
-pub until_script : (cause : FileRefusal) → roles_until (Of role.Script cause) ≡ read_order
+pub until_script : (cause : FileRefusal) → roles_until (Of role.Script cause) ≡ Conf ∷ Request ∷ Wanted ∷ Script ∷ []
 until_script cause = refl
 
 -- ---- once all files are read
@@ -104,6 +121,13 @@ fill_late limit NoFillMemory = tt
 fill_late limit Failed = tt
 fill_late limit Longer = refl
 
+-- where the other record is refused
+pub record_late : (P : Option (List ℕ) → FileRefusal → Type 0) (shelf : Option FileMap) (name : Option (List ℕ)) (stop : Stop)
+    → IfStopped stop (λ refusal. HasFound shelf name (λ found. IsRefusalFor (P found) (λ cause. Of role.Other cause) refusal)) → IfOutcome (Err stop) (λ outcome. roles_read outcome ≡ read_order)
+record_late P shelf name Memory has = tt
+record_late P shelf name ReadFault has = tt
+record_late P shelf name (IsRefused refusal) has = ap roles_until has.holds.2
+
 late : (outcome : Outcome) → IsAfterInput outcome → roles_read outcome ≡ read_order
 late (Done text) after = refl
 late (NotOk text) after = refl
@@ -111,7 +135,8 @@ late (Refused Arguments) after = refl
 late (Refused (Of role.Conf r)) after = absurd after
 late (Refused (Of role.Request r)) after = absurd after
 late (Refused (Of role.Wanted r)) after = absurd after
-late (Refused (Of role.Script r)) after = refl
+late (Refused (Of role.Script r)) after = absurd after
+late (Refused (Of role.Other r)) after = absurd after
 late (Refused (Of role.Input r)) after = refl
 late (Refused (Of (role.Item n) r)) after = refl
 late (Refused (Command r)) after = refl
@@ -131,17 +156,19 @@ late_asked names before now is (Err (IsRefused refusal)) same = subst (λ (rs : 
 
 -- ---- a command that names no file, or a configuration alone
 
-by_roles : (P : List FileRole → Type 0) → P (Conf ∷ []) → P (Conf ∷ Request ∷ []) → P (Conf ∷ Request ∷ Wanted ∷ []) → P read_order → (outcome : Outcome) → P (roles_read outcome)
-by_roles P one two three all (Done text) = all
-by_roles P one two three all (NotOk text) = all
-by_roles P one two three all (Refused Arguments) = all
-by_roles P one two three all (Refused (Of role.Conf r)) = one
-by_roles P one two three all (Refused (Of role.Request r)) = two
-by_roles P one two three all (Refused (Of role.Wanted r)) = three
-by_roles P one two three all (Refused (Of role.Script r)) = all
-by_roles P one two three all (Refused (Of role.Input r)) = all
-by_roles P one two three all (Refused (Of (role.Item n) r)) = all
-by_roles P one two three all (Refused (Command r)) = all
+by_roles : (P : List FileRole → Type 0) → P (Conf ∷ []) → P (Conf ∷ Request ∷ []) → P (Conf ∷ Request ∷ Wanted ∷ []) → P (Conf ∷ Request ∷ Wanted ∷ Script ∷ []) → P read_order → (outcome : Outcome)
+    → P (roles_read outcome)
+by_roles P one two three four all (Done text) = all
+by_roles P one two three four all (NotOk text) = all
+by_roles P one two three four all (Refused Arguments) = all
+by_roles P one two three four all (Refused (Of role.Conf r)) = one
+by_roles P one two three four all (Refused (Of role.Request r)) = two
+by_roles P one two three four all (Refused (Of role.Wanted r)) = three
+by_roles P one two three four all (Refused (Of role.Script r)) = four
+by_roles P one two three four all (Refused (Of role.Other r)) = all
+by_roles P one two three four all (Refused (Of role.Input r)) = all
+by_roles P one two three four all (Refused (Of (role.Item n) r)) = all
+by_roles P one two three four all (Refused (Command r)) = all
 
 on_outcome : (P : Outcome → Type 0) → ((outcome : Outcome) → P outcome) → (result : Result Outcome Stop) → IfOutcome result P
 on_outcome P holds (Ok outcome) = holds outcome
@@ -152,15 +179,15 @@ on_outcome P holds (Err (IsRefused refusal)) = holds (Refused refusal)
 pub no_more : (count : ℕ) → count ≤ count + 0
 no_more count = omega arith
 
-pub none_asked : (result : Result Outcome Stop) (count : ℕ) → AsksUntil (file_names None None None None) result count count
+pub none_asked : (result : Result Outcome Stop) (count : ℕ) → AsksUntil (file_names None None None None None) result count count
 none_asked result count =
-    on_outcome (λ (o : Outcome). count ≤ count + named_count (file_names None None None None) (roles_read o))
-    (by_roles (λ (rs : List FileRole). count ≤ count + named_count (file_names None None None None) rs) (no_more count) (no_more count) (no_more count) (no_more count)) result
+    on_outcome (λ (o : Outcome). count ≤ count + named_count (file_names None None None None None) (roles_read o))
+    (by_roles (λ (rs : List FileRole). count ≤ count + named_count (file_names None None None None None) rs) (no_more count) (no_more count) (no_more count) (no_more count) (no_more count)) result
 
-pub conf_asked : (conf : List ℕ) (result : Result Outcome Stop) (before now : ℕ) → now ≤ before + 1 → AsksUntil (file_names (Some conf) None None None) result before now
+pub conf_asked : (conf : List ℕ) (result : Result Outcome Stop) (before now : ℕ) → now ≤ before + 1 → AsksUntil (file_names (Some conf) None None None None) result before now
 conf_asked conf result before now is =
-    on_outcome (λ (o : Outcome). now ≤ before + named_count (file_names (Some conf) None None None) (roles_read o))
-    (by_roles (λ (rs : List FileRole). now ≤ before + named_count (file_names (Some conf) None None None) rs) is is is is) result
+    on_outcome (λ (o : Outcome). now ≤ before + named_count (file_names (Some conf) None None None None) (roles_read o))
+    (by_roles (λ (rs : List FileRole). now ≤ before + named_count (file_names (Some conf) None None None None) rs) is is is is is) result
 
 -- ---- for arguments
 
@@ -195,7 +222,7 @@ asks_stopped arguments ReadFault taken now status refusal asked asked_now (keeps
 asks_stopped arguments Memory taken now status refusal asked asked_now (keeps, is, none) asks = λ command spells. subst (λ (r : Option Refusal). AsksFor (name_of command) r asked asked_now) (sym none) (asks.most command spells)
 
 -- a command that names a configuration alone asks for one file, whatever is told
-pub conf_told : (conf : List ℕ) (told : Option Refusal) (before now : ℕ) → now ≤ before + 1 → AsksFor (file_names (Some conf) None None None) told before now
+pub conf_told : (conf : List ℕ) (told : Option Refusal) (before now : ℕ) → now ≤ before + 1 → AsksFor (file_names (Some conf) None None None None) told before now
 conf_told conf None before now is = is
 conf_told conf (Some refusal) before now is =
-    by_roles (λ (rs : List FileRole). now ≤ before + named_count (file_names (Some conf) None None None) rs) is is is is (Refused refusal)
+    by_roles (λ (rs : List FileRole). now ≤ before + named_count (file_names (Some conf) None None None None) rs) is is is is is (Refused refusal)

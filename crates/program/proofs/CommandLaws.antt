@@ -8,10 +8,11 @@ use Rattle.commands.proofs.Sampled as samples
 use Rattle.commands.proofs.NeededTables as tables
 use Rattle.commands.proofs.OneSigning as signing
 use Rattle.commands.proofs.ScriptFiles as scripts
+use Rattle.commands.proofs.LowerExplaining as explained
 use Rattle.commands.proofs.LowerRewriting as rewritten
 use Rattle.commands.proofs.SignedMessages as signed
 use Rattle.commands.proofs.TakenFiles as files
-use Rattle.commands.specs.Laws.{IsConfigurationDecided, AreTablesDecided, IsRequestDecided, IsWantedDecided, IsInputDecided, AreParamsDecided, AreValuesDecided, HaveOneOutcome, HasConfiguration, HaveTables, HasRequest, HasWanted, HasMessage, HaveParams, HaveValuesOrLack, HaveSomeOutcome, HasOneSigning, HasSomeSigning, IsValidWhereConfigured, IsScriptDecided, HasScript, HasOneRewritten, HasSomeRewritten, HaveValuesWhereScripted, IsWritableWhereScripted, HasAudit, HasOneAuditing, HasSomeAuditing, HasOneSampling, HasSomeSampling}
+use Rattle.commands.specs.Laws.{IsConfigurationDecided, AreTablesDecided, IsRecordDecided, IsRequestDecided, IsWantedDecided, IsInputDecided, AreParamsDecided, AreValuesDecided, HaveOneOutcome, HasConfiguration, HaveTables, HasRecord, HasRequest, HasWanted, HasMessage, HaveParams, HaveValuesOrLack, HaveSomeOutcome, HasOneSigning, HasSomeSigning, IsValidWhereConfigured, IsScriptDecided, HasScript, HasOneExplained, HasSomeExplained, HasOneRewritten, HasSomeRewritten, HaveValuesWhereScripted, IsWritableWhereScripted, HasAudit, HasOneAuditing, HasSomeAuditing, HasOneSampling, HasSomeSampling}
 use Rattle.hop_audit.proofs.SameVerdicts as reports
 use Rattle.hop_audit.specs.Laws.{KeepsWhatIsPermitted}
 use Rattle.commands.specs.RewrittenMessages.{IsMessageWhereRewritten, HasVerdictWhereRewritten}
@@ -22,6 +23,18 @@ conf_decided = configured.conf_decided
 
 pub request_decided : IsRequestDecided
 request_decided = files.request_decided
+
+pub record_decided : IsRecordDecided
+record_decided = files.record_decided
+
+pub record_answer : HasRecord
+record_answer = files.has_record
+
+pub explaining_law : HasOneExplained
+explaining_law = explained.one_explained
+
+pub explaining_answer : HasSomeExplained
+explaining_answer = explained.has_some_explained
 
 pub input_decided : IsInputDecided
 input_decided = decided.input_decided

@@ -1,7 +1,8 @@
 -- The counts of faults where a file isn't taken, or isn't read.
-use Rattle.std.proofs.Common.{◌≡◌, ◌∙◌, inl, ℕ, Err, refl, subst}
+use Rattle.std.proofs.Common.{◌≡◌, ◌∙◌, inl, ℕ, Result, Err, refl, subst}
 use Rattle.hms_io.specs.Cause.{Rose}
 use Rattle.commands.specs.Stops.{CountsStop, IfRefused}
+use Rattle.commands.specs.declared.outcome.Outcome.{Outcome}
 use Rattle.commands.specs.declared.stop.Stop.{Stop}
 use Rattle.commands.specs.declared.stop.Stop.TheVariants.{Memory, ReadFault, Refused as IsRefused}
 use Rattle.refusals.specs.declared.refusal.Refusal.{Refusal}
@@ -13,6 +14,11 @@ pub shelf_counts : (T Same : Type 0) (shelf middle shelf_now source : ℕ) (stop
 shelf_counts T Same shelf middle shelf_now source Memory before counts same = (counts ∙ before, refl)
 shelf_counts T Same shelf middle shelf_now source ReadFault before counts same = inl (subst (λ (n : ℕ). Rose n shelf_now) before counts, same)
 shelf_counts T Same shelf middle shelf_now source (IsRefused refusal) before counts same = (counts ∙ before, refl)
+
+-- where the shelf's count is as it was, only what comes after it raises one
+pub after_shelf : (Same : Type 0) (shelf middle shelf_now source source_now : ℕ) (result : Result Outcome Stop) → middle ≡ shelf → CountsOne Same middle shelf_now source source_now result
+    → CountsOne Same shelf shelf_now source source_now result
+after_shelf Same shelf middle shelf_now source source_now result before counts = subst (λ (n : ℕ). CountsOne Same n shelf_now source source_now result) before counts
 
 -- a text that is refused raises none
 pub text_counts : (Same : Type 0) (shelf shelf_now source : ℕ) (stop : Stop) (P : Refusal → Type 0) → IfRefused stop P → shelf_now ≡ shelf → CountsOne Same shelf shelf_now source source (Err stop)

@@ -21,3 +21,4 @@ mod StreamRecords
 mod StreamRuns
 mod VerdictLines
 mod WrittenOutcomes
+mod Explanations

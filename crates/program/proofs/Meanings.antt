@@ -1,18 +1,18 @@
--- What `base` and `audit` write tells what it was made of.
+-- What `base`, `verify`, `explain` and `audit` write tells what it was made of.
 use Rattle.std.proofs.Common.{◌≡◌, ◌⊎◌, ◌∙◌, inl, inr, arith, ℕ, zero, suc, Bool, true, false, Option, Some, None, List, [], ◌∷◌, refl, sym, ap, subst}
-use Rattle.std.specs.Prelude.{IfSome, IsTrue, ◌↔◌}
+use Rattle.std.specs.Prelude.{IfSome, IsSomeAnd, IsTrue, ◌↔◌}
 use Rattle.std.specs.Io.KnownBytes.{Appends}
 use Rattle.std.specs.List.{Contains, list_all, zip}
 use Rattle.hms_io.specs.Files.{FileMap}
 use Rattle.hms_io.specs.declared.status.Status.{Status}
 use Rattle.hms_io.specs.declared.status.Status.TheVariants.{Done, NotOk}
-use Rattle.command_line.specs.Command.{CommandLine, Base, Verify, Audit, BaseWords, VerifyWords, AuditWords, IsCommand}
+use Rattle.command_line.specs.Command.{CommandLine, Base, Verify, Explain, Audit, BaseWords, VerifyWords, ExplainWords, AuditWords, IsCommand}
 use Rattle.command_line.proofs.CommandLaws.{one_command}
 use Rattle.sfv_text.specs.Classes.{is_key}
 use Rattle.msg_body.specs.Messages.{Message}
 use Rattle.msg_body.specs.WholeTexts.{one_request, reading_for}
 use Rattle.component_ids.specs.declared.params.SigParams.{SigParams}
-use Rattle.component_values.specs.Context.{MessageContext}
+use Rattle.component_values.specs.Context.{MessageContext, context_with}
 use Rattle.component_values.specs.Laws.{HasMessages, IsSpelled}
 use Rattle.component_values.specs.Values.{HaveValues}
 use Rattle.component_values.proofs.FirstLacks.{have_length}
@@ -32,8 +32,9 @@ use Rattle.hop_audit.proofs.OneBases.{is_kept_with_its_base_at_hops, tells_what_
 use Rattle.commands.specs.Audit.{ReportsAudit, audit_outcome}
 use Rattle.commands.specs.Configured.{IsConfigured}
 use Rattle.commands.specs.Covered.{ReadsParams}
-use Rattle.commands.specs.Files.{FileNames, Found, Conf as ConfFile, Request as RequestFile}
-use Rattle.commands.specs.MessageFiles.{IsRequested}
+use Rattle.commands.specs.Explain.{ReportsExplanation}
+use Rattle.commands.specs.Files.{FileNames, Found, Conf as ConfFile, Request as RequestFile, Other as OtherFile}
+use Rattle.commands.specs.MessageFiles.{IsMessageFile, IsRequested}
 use Rattle.commands.specs.Messages.{IsInputMessage}
 use Rattle.commands.specs.Outcome.{output_of, status_of}
 use Rattle.commands.specs.Verify.{AreVerdicts, verdict_lines, verdicts_outcome}
@@ -47,10 +48,11 @@ use Rattle.refusals.proofs.Statuses.{status_of_refusal}
 use Rattle.program.specs.Commands.{AreFoundFor, name_of}
 use Rattle.program.specs.Intake.{IsIntake, TakenValues}
 use Rattle.program.specs.Ends.{Ends, HasReport}
-use Rattle.program.specs.Meanings.{HasOneBase, HasOneChain, HasOneMeaning, HasWritten, HaveOneMeaning, RunsAgreeWhereOneTag, TellsOneBase, TellsOneChain, TellsVerdicts, WritesOneBase, WritesOneChain, WritesSigned, WritesVerdicts}
+use Rattle.program.specs.Meanings.{HasExplanation, HasOneBase, HasOneChain, HasOneMeaning, HasWritten, HaveOneMeaning, IsExplanation, RunsAgreeWhereOneTag, TellsExplanation, TellsOneBase, TellsOneChain, TellsVerdicts, WritesExplanation, WritesOneBase, WritesOneChain, WritesSigned, WritesVerdicts}
 use Rattle.program.specs.Report.{Reports, ReportsCommand}
 use Rattle.program.proofs.AuditLines.{report_lines_are}
 use Rattle.program.proofs.CommandLaws.{keeps_what_is_permitted, valid_where_configured}
+use Rattle.program.proofs.Explanations.{explained_is}
 use Rattle.program.proofs.OneLines.{params_in_range}
 use Rattle.program.proofs.SignedInputs.{has_signed}
 use Rattle.program.proofs.VerdictLines.{verdict_lines_are, verifies_key}
@@ -218,6 +220,38 @@ runs_agree words other_words found other_found input other_input output other_ou
     let second = other.ok other_label other_keyid also in
     (one.ok label keyid ok).one _ other_keyid second.accepts second.messages tag key
 
+-- ---- an explanation
+
+explanation_told : (words : ExplainWords) (found : Found) (input : List ℕ) (taken : TakenValues) → IsIntake Nothing (name_of (Explain words)) found input taken → (also : Option Message) → taken.other ≡ also
+    → (outcome : Outcome) → IsSomeAnd also (λ other. ReportsExplanation words.label other taken.context outcome) → (status_of outcome ≡ Done) ⊎ (status_of outcome ≡ NotOk)
+    → TellsExplanation words (status_of outcome) found input (output_of outcome)
+explanation_told words found input taken is None same outcome reports answered = absurd reports
+explanation_told words found input taken is (Some also) same outcome (inr cause) answered = absurd (no_refusal _ outcome cause.2 answered)
+explanation_told words found input taken is (Some also) same outcome (inl (explained, made, written)) answered =
+    let context = context_for taken.conf taken.context.message taken.context.related in
+    record {
+      conf = taken.conf;
+      configured = is.conf.configured;
+      related = taken.context.related;
+      requested = is.requested;
+      other = also;
+      recorded = subst (λ (o : Option Message). IsMessageFile (reading_for taken.context.related) (Some words.other) (found OtherFile) o) same is.recorded;
+      message = taken.context.message;
+      is = is.is;
+      explains = subst (λ (c : MessageContext). IsExplanation c (context_with c also) words.label (status_of outcome) (output_of outcome)) is.context_is
+          (explained_is taken.context also words.label explained outcome made.made written);
+    }
+
+explain_told : (words : ExplainWords) (found : Found) (input : List ℕ) (outcome : Outcome) → ReportsCommand (Explain words) found input outcome
+    → (status_of outcome ≡ Done) ⊎ (status_of outcome ≡ NotOk) → TellsExplanation words (status_of outcome) found input (output_of outcome)
+explain_told words found input outcome (inr cause) answered = absurd (no_refusal _ outcome cause.2 answered)
+explain_told words found input outcome (inl (taken, is, reports)) answered = explanation_told words found input taken is taken.other refl outcome reports answered
+
+pub has_explanation : HasExplanation
+has_explanation arguments words found input outcome is (inr cause) answered = absurd (no_refusal _ outcome cause.2 answered)
+has_explanation arguments words found input outcome is (inl (command, spells, reports)) answered =
+    explain_told words found input outcome (subst (λ (c : CommandLine). ReportsCommand c found input outcome) (one_command arguments command (Explain words) spells is) reports) answered
+
 -- ---- of a run
 
 -- an outcome of this status is a text
@@ -279,6 +313,24 @@ module _ (arguments : List (List ℕ)) (shelf : Option FileMap) (Same : Type 0) 
   pub writes_verdicts : Ends arguments shelf Same before left taken now status → WritesVerdicts arguments shelf before taken now status
   writes_verdicts ends words is (inl done) = let end = done_ends ends done in verdicts_written words is end.0 end.1 (inl end.2) end.3
   writes_verdicts ends words is (inr failed) = let end = not_ok_ends ends failed in verdicts_written words is end.0 end.1 (inr end.2) end.3
+
+  explanation_written : (words : ExplainWords) → IsCommand arguments (Explain words) → (outcome : Outcome) → HasReport arguments shelf Same before left outcome
+      → (status_of outcome ≡ Done) ⊎ (status_of outcome ≡ NotOk) → status_of outcome ≡ status → Appends taken now (output_of outcome)
+      → HasWritten (TellsExplanation words status) (AreFoundFor arguments shelf) before taken now
+  explanation_written words is outcome report answered same appended = record {
+    found = report.found;
+    files = report.files;
+    input = report.holds.input;
+    known = report.holds.known;
+    output = output_of outcome;
+    appended = appended;
+    tells = subst (λ (s : Status). TellsExplanation words s report.found report.holds.input (output_of outcome)) same
+        (has_explanation arguments words report.found report.holds.input outcome is report.holds.reports answered);
+  }
+
+  pub writes_explanation : Ends arguments shelf Same before left taken now status → WritesExplanation arguments shelf before taken now status
+  writes_explanation ends words is (inl done) = let end = done_ends ends done in explanation_written words is end.0 end.1 (inl end.2) (end.2 ∙ sym done) end.3
+  writes_explanation ends words is (inr failed) = let end = not_ok_ends ends failed in explanation_written words is end.0 end.1 (inr end.2) (end.2 ∙ sym failed) end.3
 
   chain_written : (words : AuditWords) → IsCommand arguments (Audit words) → (outcome : Outcome) → HasReport arguments shelf Same before left outcome
       → (status_of outcome ≡ Done) ⊎ (status_of outcome ≡ NotOk) → Appends taken now (output_of outcome) → HasWritten (TellsOneChain words) (AreFoundFor arguments shelf) before taken now

@@ -9,6 +9,7 @@ use Rattle.std.proofs.lemmas.List.Elements.{All-cons, All-head, All-nil, All-tai
 use Rattle.std.proofs.lemmas.Str.{encode_ascii}
 use Rattle.std.proofs.lemmas.Slice.Eq.{bytes_eq-Decides}
 use Rattle.byte_grammar.specs.Classes.{is_line_byte}
+use Rattle.byte_grammar.proofs.Indices.{some_and_parts}
 use Rattle.byte_grammar.proofs.ListLaws.{all_implied, all_joined}
 use Rattle.sfv_read.proofs.InRange.{inner_read_in_range}
 use Rattle.byte_grammar.specs.Displayed.{displayed}
@@ -35,13 +36,17 @@ use Rattle.msg_body.specs.Messages.{Message}
 use Rattle.msg_body.specs.WholeTexts.{any_message, one_request, reading_for}
 use Rattle.msg_body.specs.declared.whole.Reading.{Reading}
 use Rattle.framing.specs.Framings.{is_request}
-use Rattle.command_line.specs.Command.{CommandLine, Help, HelpOf, Version, Base, Verify, Sign, Rewrite, Audit, Gateway, Sample, SignWords, IsCommand, NoCommand}
+use Rattle.command_line.specs.Command.{CommandLine, Help, HelpOf, Version, Base, Verify, Sign, Rewrite, Explain, Audit, Gateway, Sample, SignWords, IsCommand, NoCommand}
 use Rattle.conf.specs.Configuration.{Configuration}
 use Rattle.conf.specs.Paths.{HoldsAtPath}
 use Rattle.conf.specs.Refusals.{IsConfFault}
 use Rattle.conf.specs.Table.{Row, place_path, places, rows}
 use Rattle.conf.specs.declared.fault.ConfFault.{ConfFault}
 use Rattle.conf.specs.declared.fault.ConfFault.TheVariants as conf_fault
+use Rattle.normal_forms.specs.Causes.{IsExplainFault}
+use Rattle.normal_forms.specs.Explanations.{Explains}
+use Rattle.normal_forms.specs.declared.explanation.Explained.{Explained}
+use Rattle.normal_forms.specs.declared.explanation.Explained.TheVariants.{Same, Differs}
 use Rattle.recording.specs.Items.{PlacedItem}
 use Rattle.rewrite_script.specs.declared.rewrite.Rewrite.{Rewrite as Rewriting}
 use Rattle.nonces.specs.declared.limits.TheConstants.{MAX_MOMENT}
@@ -61,7 +66,8 @@ use Rattle.commands.specs.Audit.{IsChainRefused, IsRecordingRefused, IsRecording
 use Rattle.commands.specs.Base.{AreParamsRefused, HasIdFault, IsValueLacking, ReportsBase, ReportsValues}
 use Rattle.commands.specs.Configured.{IsConfigured, IsConfRefused}
 use Rattle.commands.specs.Covered.{ReadsParams}
-use Rattle.commands.specs.Files.{FileNames, Found, Conf as ConfFile, Request as RequestFile, Wanted as WantedFile, Script as ScriptFile}
+use Rattle.commands.specs.Explain.{ReportsExplanation, WritesExplained, differing_text}
+use Rattle.commands.specs.Files.{FileNames, Found, Conf as ConfFile, Request as RequestFile, Wanted as WantedFile, Script as ScriptFile, Other as OtherFile}
 use Rattle.commands.specs.Layers.{IsUnrefused, ReadsThen}
 use Rattle.commands.specs.MessageFiles.{IsMessageFileRefused}
 use Rattle.commands.specs.Messages.{IsInputRefused}
@@ -72,7 +78,7 @@ use Rattle.commands.specs.Sign.{AreWishesRefused, IsSignRefused, ReportsEach, Re
 use Rattle.commands.specs.Tables.{IsTableMissing}
 use Rattle.commands.specs.Verify.{ReportsVerdicts, verdicts_outcome}
 use Rattle.commands.specs.declared.outcome.Outcome.{Outcome}
-use Rattle.commands.specs.declared.outcome.Outcome.TheVariants.{Done, Refused}
+use Rattle.commands.specs.declared.outcome.Outcome.TheVariants.{Done, NotOk, Refused}
 use Rattle.commands.specs.declared.tables.Needs.{Needs}
 use Rattle.commands.specs.declared.tables.Needs.TheVariants.{Nothing, SignTable, GatewayTables}
 use Rattle.refusals.specs.Laws.{is_clean, is_clean_file}
@@ -80,10 +86,10 @@ use Rattle.refusals.proofs.Lines.{is_line_of_refusal, number_clean}
 use Rattle.refusals.specs.declared.file.FileRefusal.{FileRefusal}
 use Rattle.refusals.specs.declared.file.FileRefusal.TheVariants.{Missing, TooLong, Message as NoMessage, Conf as NoConf, Script as NoScript, Recording as NoRecording, Order, TooManyHops, OutOfPlace, TooManyItems}
 use Rattle.refusals.specs.declared.refusal.CommandRefusal.{CommandRefusal}
-use Rattle.refusals.specs.declared.refusal.CommandRefusal.TheVariants.{Ids, Lacks, NotTaken}
+use Rattle.refusals.specs.declared.refusal.CommandRefusal.TheVariants.{Ids, Lacks, NotTaken, Explain as NotExplained}
 use Rattle.refusals.specs.declared.refusal.Refusal.{Refusal}
 use Rattle.refusals.specs.declared.refusal.Refusal.TheVariants.{Arguments, Of, Command}
-use Rattle.refusals.specs.declared.role.Role.TheVariants.{Conf, Request, Wanted, Script, Input, Item}
+use Rattle.refusals.specs.declared.role.Role.TheVariants.{Conf, Request, Wanted, Script, Other, Input, Item}
 use Rattle.program.specs.Commands.{name_of}
 use Rattle.program.specs.Laws.{IsLineWhereRefused}
 use Rattle.program.specs.Intake.{IsIntake, IsIntakeRefused, TakenValues}
@@ -263,6 +269,7 @@ chain_refused items (Of Conf r) is = absurd is
 chain_refused items (Of Request r) is = absurd is
 chain_refused items (Of Wanted r) is = absurd is
 chain_refused items (Of Script r) is = absurd is
+chain_refused items (Of Other r) is = absurd is
 chain_refused items (Of Input r) is = no_conf r (λ f same. subst (λ (s : FileRefusal). IsChainRefused items (Of Input s)) same is)
 chain_refused items (Of (Item i) r) is = no_conf r (λ f same. subst (λ (s : FileRefusal). IsChainRefused items (Of (Item i) s)) same is)
 
@@ -281,7 +288,8 @@ intake_refused needs names found input (Of Conf r) (inr (conf, configured, missi
 intake_refused needs names found input (Of Request r) is = file_refused one_request (names RequestFile) (found RequestFile) r is.1
 intake_refused needs names found input (Of Wanted r) is = file_refused any_message (names WantedFile) (found WantedFile) r is.1
 intake_refused needs names found input (Of Script r) is = script_refused (names ScriptFile) (found ScriptFile) r is.1
-intake_refused needs names found input (Of Input r) is = input_refused (reading_for is.2.related) input r is.2.refused
+intake_refused needs names found input (Of Other r) is = file_refused (reading_for is.1.related) (names OtherFile) (found OtherFile) r is.1.refused
+intake_refused needs names found input (Of Input r) is = input_refused (reading_for is.1.related) input r is.1.refused
 
 -- ---- layers
 
@@ -342,6 +350,18 @@ module _ (refusal : Refusal) where
   steps_refused label index context (step ∷ script) =
       of_layer (IsTaken label context step) (IsStepRefused label index context step) (λ cause. Command (NotTaken cause)) (λ after. ReportsSteps label (index + 1) (context_with context after) script) (λ cause is. refl) (λ after taken. steps_refused label (index + 1) (context_with context after) script)
 
+  written_not : (message : Message) (label : List ℕ) (explained : Explained) → ¬ WritesExplained message label explained (Refused refusal)
+  written_not message label (Same first second) done = cc done
+  written_not message label (Differs index) done =
+      let id = some_and_parts (λ (i : ComponentId). Refused refusal ≡ NotOk (differing_text i)) (slice_get done.params.ids index) done.there in
+      cc (id.2)
+
+  explanation_refused : (label : List ℕ) (also : Option Message) (context : MessageContext) → IsSomeAnd also (λ other. ReportsExplanation label other context (Refused refusal)) → is_clean refusal ≡ true
+  explanation_refused label None context = λ none. absurd none
+  explanation_refused label (Some also) context =
+      of_layer (IsUnrefused (Explains context (context_with context also) label) (IsExplainFault context (context_with context also) label)) (IsExplainFault context (context_with context also) label)
+      (λ fault. Command (NotExplained fault)) (λ explained. WritesExplained context.message label explained) (λ cause is. refl) (λ explained made done. absurd (written_not context.message label explained done))
+
   lines_not : (labels : List (List ℕ)) (verdicts : List Verdict) (all : Bool) → list_all is_accepted verdicts ≡ all → ¬ (Refused refusal ≡ verdicts_outcome labels verdicts)
   lines_not labels verdicts true is same = cc (rw is at same)
   lines_not labels verdicts false is same = cc (rw is at same)
@@ -382,6 +402,9 @@ module _ (refusal : Refusal) where
       signing_refused words (signs_timely arguments words is) (signs_characters arguments words is) taken.conf (valid_where_configured (Some words.conf) (found ConfFile) taken.conf configured) taken.wishes taken.context)
   command_refused arguments (Rewrite words) is found input =
       of_files Nothing (λ taken. ReportsRewriting words.label taken.script taken.context) (name_of (Rewrite words)) found input (λ taken configured. steps_refused words.label 0 taken.context taken.script)
+  command_refused arguments (Explain words) is found input =
+      of_files Nothing (λ taken outcome. IsSomeAnd taken.other (λ other. ReportsExplanation words.label other taken.context outcome)) (name_of (Explain words)) found input
+      (λ taken configured. explanation_refused words.label taken.other taken.context)
   command_refused arguments (Audit words) is found input =
       of_layer (IsConfigured (Some words.conf) (found ConfFile)) (IsConfRefused (Some words.conf) (found ConfFile)) (λ r. Of Conf r) (λ conf. ReportsAudit conf input) (conf_refused (Some words.conf) (found ConfFile))
       (λ conf configured. audit_refused conf input)

@@ -1,11 +1,13 @@
 -- Arguments, files and an input have one outcome.
-use Rattle.std.proofs.Common.{◌≡◌, List, ℕ, Some, refl, sym, ◌∙◌}
-use Rattle.std.specs.Prelude.{⊤}
-use Rattle.command_line.specs.Command.{CommandLine, Help, HelpOf, Version, Base, Verify, Sign, Rewrite, Audit, Gateway, Sample, IsCommand, NoCommand}
+use Rattle.std.proofs.Common.{◌≡◌, List, ℕ, Option, Some, None, refl, sym, ◌∙◌}
+use Rattle.std.specs.Prelude.{⊤, IsSomeAnd}
+use Rattle.command_line.specs.Command.{CommandLine, Help, HelpOf, Version, Base, Verify, Sign, Rewrite, Explain, Audit, Gateway, Sample, IsCommand, NoCommand}
 use Rattle.command_line.proofs.CommandLaws.{one_command}
 use Rattle.component_values.specs.Context.{MessageContext}
+use Rattle.msg_body.specs.Messages.{Message}
 use Rattle.component_ids.specs.declared.params.SigParams.{SigParams}
 use Rattle.commands.specs.Base.{ReportsValues, ReportsBase}
+use Rattle.commands.specs.Explain.{ReportsExplanation}
 use Rattle.commands.specs.Files.{FileNames, Found, Conf as ConfFile}
 use Rattle.commands.specs.Layers.{IsDecisive}
 use Rattle.commands.specs.Rewrite.{ReportsRewriting}
@@ -18,7 +20,7 @@ use Rattle.program.specs.Laws.{HasOneReport}
 use Rattle.program.specs.Commands.{name_of}
 use Rattle.program.specs.Intake.{TakenValues}
 use Rattle.program.specs.Report.{Answers, ReportsCommand, ReportsFiles}
-use Rattle.program.proofs.CommandLaws.{auditing_law, conf_decided, params_decided, rewriting_law, sampling_law, signing_law, values_decided, verdicts_law}
+use Rattle.program.proofs.CommandLaws.{auditing_law, conf_decided, explaining_law, params_decided, rewriting_law, sampling_law, signing_law, values_decided, verdicts_law}
 use Rattle.program.proofs.IntakeLaws.{intake_decided}
 use Rattle.program.proofs.Layers.{HasOne, one_of_layers}
 
@@ -42,6 +44,10 @@ one_of_files : (needs : Needs) (Then : Answers) → ((taken : TakenValues) → H
     → HasOne (ReportsFiles needs Then names found input)
 one_of_files needs Then one names found input = one_of_layers _ _ _ _ (intake_decided needs names found input) (λ taken is. one taken is.conf.tables)
 
+one_of_explanation : (label : List ℕ) (also : Option Message) (context : MessageContext) → HasOne (λ outcome. IsSomeAnd also (λ other. ReportsExplanation label other context outcome))
+one_of_explanation label None context one other a b = absurd a
+one_of_explanation label (Some also) context one other a b = explaining_law label also context one other a b
+
 one_of_command : (command : CommandLine) (found : Found) (input : List ℕ) → HasOne (ReportsCommand command found input)
 one_of_command Help found input = λ one other a b. a ∙ sym b
 one_of_command (HelpOf command) found input = λ one other a b. a ∙ sym b
@@ -55,6 +61,9 @@ one_of_command (Sign words) found input =
     (λ taken has one other a b. signing_law words.nonce words.now taken.conf taken.wishes taken.context one other has a b) (name_of (Sign words)) found input
 one_of_command (Rewrite words) found input =
     one_of_files Nothing (λ taken. ReportsRewriting words.label taken.script taken.context) (λ taken _. rewriting_law words.label taken.script taken.context) (name_of (Rewrite words)) found input
+one_of_command (Explain words) found input =
+    one_of_files Nothing (λ taken outcome. IsSomeAnd taken.other (λ other. ReportsExplanation words.label other taken.context outcome))
+    (λ taken _. one_of_explanation words.label taken.other taken.context) (name_of (Explain words)) found input
 one_of_command (Audit words) found input = one_of_layers _ _ _ _ (conf_decided (Some words.conf) (found ConfFile)) (λ conf _. auditing_law conf input)
 one_of_command (Gateway words) found input = λ one other a b. absurd a
 one_of_command (Sample words) found input = sampling_law words.seed words.count

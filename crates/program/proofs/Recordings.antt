@@ -22,13 +22,13 @@ use Rattle.refusals.specs.declared.file.FileRefusal.TheVariants.{Missing, TooLon
 use Rattle.refusals.specs.declared.refusal.Refusal.{Refusal}
 use Rattle.refusals.specs.declared.refusal.Refusal.TheVariants.{Arguments, Of, Command}
 use Rattle.refusals.specs.declared.refusal.TheConstants.{MAX_RECORDING_BYTES}
-use Rattle.refusals.specs.declared.role.Role.TheVariants.{Conf, Request, Wanted, Script, Input, Item}
+use Rattle.refusals.specs.declared.role.Role.TheVariants.{Conf, Request, Wanted, Script, Other, Input, Item}
 use Rattle.program.specs.Commands.{Whole}
 use Rattle.program.specs.Ends.{HasInput, HasOutcome, Leaves}
 use Rattle.program.specs.Report.{ReportsConfigured}
 use Rattle.program.specs.tools.Parts.{CountsOne}
 use Rattle.program.proofs.Layers.{went_on}
-use Rattle.program.proofs.Reports.{all_found, some_input}
+use Rattle.program.proofs.Reports.{conf_found, some_input}
 use Rattle.program.proofs.Sources.{known_input, longer, nothing_left}
 
 -- what is left once it was read to the end, or past the limit
@@ -66,6 +66,7 @@ module _ (Same : Type 0) (before now : Option (List ℕ)) (none : IfSome before 
   chain_leaves items (Of Request r) is = absurd is
   chain_leaves items (Of Wanted r) is = absurd is
   chain_leaves items (Of Script r) is = absurd is
+  chain_leaves items (Of Other r) is = absurd is
   chain_leaves items (Of (Item i) r) is = none
   chain_leaves items (Of Input Missing) is = none
   chain_leaves items (Of Input (Message f)) is = none
@@ -105,8 +106,8 @@ recording_outcome conf Same input read before now same all short =
 module _ (name : List ℕ) (shelf : Option FileMap) (Same : Type 0) (before now : Option (List ℕ)) where
   -- a run that comes to an outcome with the file of this name
   abbrev pub HasAuditOutcome : Outcome → Type 0
-  HasAuditOutcome = HasOutcome (λ found input. ReportsConfigured (λ conf. ReportsAudit conf input) (file_names (Some name) None None None) found) (LeavesRecording Same before now)
-      (AreFound shelf (file_names (Some name) None None None)) before
+  HasAuditOutcome = HasOutcome (λ found input. ReportsConfigured (λ conf. ReportsAudit conf input) (file_names (Some name) None None None None) found) (LeavesRecording Same before now)
+      (AreFound shelf (file_names (Some name) None None None None)) before
 
   -- a stop while it is read
   pub audit_stopped : (stop : Stop) → Same → IfStopped stop (λ refusal. HasFound shelf (Some name) (λ found. IsRefusalFor (IsConfRefused (Some name) found) (λ cause. Of Conf cause) refusal))
@@ -117,8 +118,8 @@ module _ (name : List ℕ) (shelf : Option FileMap) (Same : Type 0) (before now 
       let input = some_input before in
       let cause = has.holds in
       record {
-        found = file_names has.found None None None;
-        files = all_found shelf (Some name) None None None has.found None None None has.known tt tt tt;
+        found = file_names has.found None None None None;
+        files = conf_found shelf (Some name) has.found has.known;
         holds = record {
           input = input.0;
           known = input.1;
@@ -132,8 +133,8 @@ module _ (name : List ℕ) (shelf : Option FileMap) (Same : Type 0) (before now 
       → IfOutcome result (HasInput (ReportsAudit conf) (LeavesRecording Same before now) before) → IfOutcome result HasAuditOutcome
   audit_read conf result has =
       went_on (λ outcome reported. record {
-        found = file_names has.found None None None;
-        files = all_found shelf (Some name) None None None has.found None None None has.known tt tt tt;
+        found = file_names has.found None None None None;
+        files = conf_found shelf (Some name) has.found has.known;
         holds = record {
           input = reported.input;
           known = reported.known;

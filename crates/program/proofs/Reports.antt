@@ -1,8 +1,9 @@
 -- The outcome of arguments, files and an input.
-use Rattle.std.proofs.Common.{◌≡◌, ◌+◌, ◌≤◌, inl, inr, ℕ, Bool, true, false, List, [], Option, Some, None, Result, Err, refl, sym, ap, subst, ◌∙◌, arith}
-use Rattle.std.specs.Prelude.{IfSome, IfNone, IsTrue, option_map, length}
-use Rattle.std.specs.List.{list_all}
+use Rattle.std.proofs.Common.{◌≡◌, ◌+◌, ◌≤◌, inl, inr, ℕ, suc, Bool, true, false, List, [], ◌∷◌, Option, Some, None, Result, Err, refl, sym, ap, subst, ◌∙◌, arith}
+use Rattle.std.specs.Prelude.{IfSome, IfNone, IsTrue, is_some, option_map, length, sum_by}
+use Rattle.std.specs.List.{filter, list_all}
 use Rattle.std.proofs.lemmas.Bool.{false≢true}
+use Rattle.std.proofs.lemmas.List.Sums.{sum_by-cons}
 use Rattle.std.specs.FinMap as map
 use Rattle.std.specs.Io.KnownBytes.{Appends}
 use Rattle.sfv_text.specs.Classes.{is_byte}
@@ -13,7 +14,8 @@ use Rattle.command_line.specs.Command.{CommandLine, IsCommand, NoCommand}
 use Rattle.conf.specs.Configuration.{Configuration}
 use Rattle.msg_body.specs.Messages.{Message}
 use Rattle.msg_body.specs.Views.{MessageParts, message_of}
-use Rattle.commands.specs.Files.{FileRole, Conf, Request, Wanted, Script, Other, Found, IsFound, AreFound, HasFound, file_names, file_bytes, file_count}
+use Rattle.msg_body.specs.WholeTexts.{reading_for}
+use Rattle.commands.specs.Files.{FileNames, FileRole, Conf, Request, Wanted, Script, Other, Found, IsFound, AreFound, HasFound, file_names, file_bytes, file_count, file_limit}
 use Rattle.commands.specs.Layers.{ReadsFound, IsFileRefused}
 use Rattle.commands.specs.Messages.{IsInputMessage, IsInputRefused}
 use Rattle.commands.specs.MessageFiles.{IsMessageFile, IsMessageFileRefused, IsTaken, IsMessageIn, IsTextRefused, IsRequested, IsRequestRefused, IsWanted, IsWantedRefused}
@@ -31,16 +33,16 @@ use Rattle.refusals.proofs.Statuses.{status_of_refusal}
 use Rattle.commands.specs.Outcome.{status_of, output_of}
 use Rattle.program.specs.Commands.{InputUse, Unread, Whole, input_use, name_of, AreFoundFor}
 use Rattle.program.specs.Ends.{HasInput, HasOutcome, Leaves, HasReport, Ends, CountsFaults}
-use Rattle.program.specs.Intake.{IsConfLacking, IsConfRead, IsIntakeRefused, names_of}
+use Rattle.program.specs.Intake.{IsConfLacking, IsConfRead, IsIntakeRefused, IsReadToScript, named_count, names_of}
 use Rattle.program.specs.Report.{Answers, ReportsFiles, ReportsCommand}
 use Rattle.program.specs.declared.intake.FileWords.{FileWords}
-use Rattle.program.specs.tools.Parts.{Asks, FileValues, ReportsMessage, taken_with}
+use Rattle.program.specs.tools.Parts.{Asks, FileValues, HasOther, ReportsMessage, ReportsRecord, taken_with}
 use Rattle.refusals.specs.declared.refusal.Refusal.{Refusal}
 use Rattle.refusals.specs.declared.file.FileRefusal.{FileRefusal}
 use Rattle.refusals.specs.declared.refusal.TheConstants.{MAX_CONF_BYTES, MAX_INPUT_BYTES}
 use Rattle.rewrite_script.specs.declared.limits.TheConstants.{MAX_SCRIPT_BYTES}
 use Rattle.refusals.specs.declared.role.Role.{Role}
-use Rattle.refusals.specs.declared.role.Role.TheVariants.{Conf as OfConf, Request as OfRequest, Wanted as OfWanted, Script as OfScript, Input}
+use Rattle.refusals.specs.declared.role.Role.TheVariants.{Conf as OfConf, Request as OfRequest, Wanted as OfWanted, Script as OfScript, Other as OfOther, Input}
 use Rattle.refusals.specs.declared.refusal.Refusal.TheVariants.{Arguments, Of}
 use Rattle.commands.specs.declared.outcome.Outcome.{Outcome}
 use Rattle.commands.specs.declared.outcome.Outcome.TheVariants.{Done, NotOk, Refused}
@@ -49,7 +51,7 @@ use Rattle.commands.specs.declared.stop.Stop.TheVariants.{Memory, ReadFault as R
 use Rattle.commands.specs.Stops.{IfStopped, IfOutcome, IfRefused, IsRefusalFor}
 use Rattle.command_line.proofs.CommandLaws.{one_command}
 use Rattle.program.proofs.Layers.{went_on}
-use Rattle.program.proofs.Sources.{LeavesInput}
+use Rattle.program.proofs.Sources.{LeavesInput, spelled_input}
 
 -- ---- the layers over the input
 
@@ -63,21 +65,25 @@ none_found : (arguments : List (List ℕ)) (shelf : Option FileMap) → NoComman
 none_found arguments shelf none command is = absurd (none command is)
 
 -- nor for a command that names no file
-pub nothing_named : (shelf : Option FileMap) → AreFound shelf (file_names None None None None) (λ role. None)
+pub nothing_named : (shelf : Option FileMap) → AreFound shelf (file_names None None None None None) (λ role. None)
 nothing_named shelf Conf = tt
 nothing_named shelf Request = tt
 nothing_named shelf Wanted = tt
 nothing_named shelf Script = tt
 nothing_named shelf Other = tt
 
--- of a configuration, a request, a message that wishes signatures and a script
-pub all_found : (shelf : Option FileMap) (conf request wanted script conf_text request_text wanted_text script_text : Option (List ℕ)) → IsFound shelf conf conf_text → IsFound shelf request request_text
-    → IsFound shelf wanted wanted_text → IsFound shelf script script_text → AreFound shelf (file_names conf request wanted script) (file_names conf_text request_text wanted_text script_text)
-all_found shelf conf request wanted script conf_text request_text wanted_text script_text is also other last Conf = is
-all_found shelf conf request wanted script conf_text request_text wanted_text script_text is also other last Request = also
-all_found shelf conf request wanted script conf_text request_text wanted_text script_text is also other last Wanted = other
-all_found shelf conf request wanted script conf_text request_text wanted_text script_text is also other last Script = last
-all_found shelf conf request wanted script conf_text request_text wanted_text script_text is also other last Other = tt
+-- of each role
+pub all_found : (shelf : Option FileMap) (names found : FileNames) → IsFound shelf (names Conf) (found Conf) → IsFound shelf (names Request) (found Request) → IsFound shelf (names Wanted) (found Wanted)
+    → IsFound shelf (names Script) (found Script) → IsFound shelf (names Other) (found Other) → AreFound shelf names found
+all_found shelf names found conf request wanted script other Conf = conf
+all_found shelf names found conf request wanted script other Request = request
+all_found shelf names found conf request wanted script other Wanted = wanted
+all_found shelf names found conf request wanted script other Script = script
+all_found shelf names found conf request wanted script other Other = other
+
+-- of a configuration alone
+pub conf_found : (shelf : Option FileMap) (conf text : Option (List ℕ)) → IsFound shelf conf text → AreFound shelf (file_names conf None None None None) (file_names text None None None None)
+conf_found shelf conf text is = all_found shelf (file_names conf None None None None) (file_names text None None None None) is tt tt tt tt
 
 -- what is there under a name that isn't asked for
 pub some_found : (shelf : Option FileMap) (name : Option (List ℕ)) → (text : Option (List ℕ)) × IsFound shelf name text
@@ -237,6 +243,9 @@ wanted_early limit Same before now cause same = same
 script_early : IsEarly OfScript
 script_early limit Same before now cause same = same
 
+pub other_early : IsEarly OfOther
+other_early limit Same before now cause same = same
+
 -- lines can write a script that is read
 pub script_writable : (shelf : Option FileMap) (name : Option (List ℕ)) (script : List Rewrite) → HasFound shelf name (λ found. IsScripted name found script) → IsTrue (list_all is_writable script)
 script_writable shelf name script has = writable_where_scripted name has.found script has.holds
@@ -302,10 +311,9 @@ module _ (needs : Needs) (Then : Answers) (words : FileWords) (shelf : Option Fi
       }
 
   -- what was found, of each role
-  all_there : (conf request wanted script : Option (List ℕ)) → IsFound shelf (names_of words Conf) conf → IsFound shelf (names_of words Request) request → IsFound shelf (names_of words Wanted) wanted
-      → IsFound shelf (names_of words Script) script → AreFound shelf (names_of words) (file_names conf request wanted script)
-  all_there conf request wanted script =
-      all_found shelf (names_of words Conf) (names_of words Request) (names_of words Wanted) (names_of words Script) conf request wanted script
+  all_there : (conf request wanted script other : Option (List ℕ)) → IsFound shelf (names_of words Conf) conf → IsFound shelf (names_of words Request) request → IsFound shelf (names_of words Wanted) wanted
+      → IsFound shelf (names_of words Script) script → IsFound shelf (names_of words Other) other → AreFound shelf (names_of words) (file_names conf request wanted script other)
+  all_there conf request wanted script other = all_found shelf (names_of words) (file_names conf request wanted script other)
 
   -- the configuration is refused
   pub conf_stopped : (stop : Stop) → Same → IfRefusedFor shelf words Conf (IsConfLacking needs) OfConf stop → IfOutcome (Err stop) HasFilesOutcome
@@ -315,8 +323,10 @@ module _ (needs : Needs) (Then : Answers) (words : FileWords) (shelf : Option Fi
       let request = some_named shelf words Request in
       let wanted = some_named shelf words Wanted in
       let script = some_named shelf words Script in
+      let other = some_named shelf words Other in
       let cause = has.holds in
-      refused_early OfConf (file_names has.found request.0 wanted.0 script.0) cause.0 refusal conf_early (all_there has.found request.0 wanted.0 script.0 has.known request.1 wanted.1 script.1) same cause.2
+      refused_early OfConf (file_names has.found request.0 wanted.0 script.0 other.0) cause.0 refusal conf_early
+      (all_there has.found request.0 wanted.0 script.0 other.0 has.known request.1 wanted.1 script.1 other.1) same cause.2
       (λ input. cause.1)
 
   -- ---- with a configuration
@@ -329,9 +339,10 @@ module _ (needs : Needs) (Then : Answers) (words : FileWords) (shelf : Option Fi
     request_stopped (IsRefused refusal) same has =
         let wanted = some_named shelf words Wanted in
         let script = some_named shelf words Script in
+        let other = some_named shelf words Other in
         let cause = has.holds in
-        refused_early OfRequest (file_names configured.found has.found wanted.0 script.0) cause.0 refusal request_early
-        (all_there configured.found has.found wanted.0 script.0 configured.known has.known wanted.1 script.1) same cause.2 (λ input. ((conf, configured.holds), cause.1))
+        refused_early OfRequest (file_names configured.found has.found wanted.0 script.0 other.0) cause.0 refusal request_early
+        (all_there configured.found has.found wanted.0 script.0 other.0 configured.known has.known wanted.1 script.1 other.1) same cause.2 (λ input. ((conf, configured.holds), cause.1))
 
     -- ---- with a request, or none
 
@@ -342,9 +353,10 @@ module _ (needs : Needs) (Then : Answers) (words : FileWords) (shelf : Option Fi
       wishes_stopped ReadFailed same has = tt
       wishes_stopped (IsRefused refusal) same has =
           let script = some_named shelf words Script in
+          let other = some_named shelf words Other in
           let cause = has.holds in
-          refused_early OfWanted (file_names configured.found requested.found has.found script.0) cause.0 refusal wanted_early
-          (all_there configured.found requested.found has.found script.0 configured.known requested.known has.known script.1) same cause.2
+          refused_early OfWanted (file_names configured.found requested.found has.found script.0 other.0) cause.0 refusal wanted_early
+          (all_there configured.found requested.found has.found script.0 other.0 configured.known requested.known has.known script.1 other.1) same cause.2
           (λ input. (record { conf = (conf, configured.holds); request = (related, requested.holds) }, cause.1))
 
       -- ---- with wishes, or none
@@ -355,9 +367,10 @@ module _ (needs : Needs) (Then : Answers) (words : FileWords) (shelf : Option Fi
         script_stopped Memory same has = tt
         script_stopped ReadFailed same has = tt
         script_stopped (IsRefused refusal) same has =
+            let other = some_named shelf words Other in
             let cause = has.holds in
-            refused_early OfScript (file_names configured.found requested.found wanted.found has.found) cause.0 refusal script_early
-            (all_there configured.found requested.found wanted.found has.found configured.known requested.known wanted.known has.known) same cause.2
+            refused_early OfScript (file_names configured.found requested.found wanted.found has.found other.0) cause.0 refusal script_early
+            (all_there configured.found requested.found wanted.found has.found other.0 configured.known requested.known wanted.known has.known other.1) same cause.2
             (λ input. (record { before = record { conf = (conf, configured.holds); request = (related, requested.holds) }; wishes = (wishes, wanted.holds) }, cause.1))
 
         -- ---- with a script
@@ -366,41 +379,96 @@ module _ (needs : Needs) (Then : Answers) (words : FileWords) (shelf : Option Fi
           abbrev pub files : FileValues
           files = record { conf = conf; related = related; wishes = wishes; script = script }
 
-          abbrev all_texts : Found
-          all_texts = file_names configured.found requested.found wanted.found scripted.found
+          abbrev texts_with : Option (List ℕ) → Found
+          texts_with other = file_names configured.found requested.found wanted.found scripted.found other
 
-          input_read : (input : List ℕ) (outcome : Outcome) → ReportsMessage Then files input outcome → ReportsFiles needs Then (names_of words) all_texts input outcome
-          input_read input outcome (inl (message, is, then)) =
+          to_script : (other : Option (List ℕ)) → IsReadToScript needs (names_of words) (texts_with other)
+          to_script other = record {
+            before = record { before = record { conf = (conf, configured.holds); request = (related, requested.holds) }; wishes = (wishes, wanted.holds) };
+            script = (script, scripted.holds);
+          }
+
+          record_read : (found : Option (List ℕ)) (input : List ℕ) (outcome : Outcome) → ReportsRecord Then files (names_of words Other) found input outcome
+              → ReportsFiles needs Then (names_of words) (texts_with found) input outcome
+          record_read found input outcome (inr (cause, refused, same)) =
+              inr (Of OfOther cause, (to_script found, record { related = related; requested = requested.holds; refused = refused }), same)
+          record_read found input outcome (inl (other, is_other, inl (message, is, then))) =
               inl (
-                taken_with files message,
-                record { conf = configured.holds; requested = requested.holds; wanted = wanted.holds; scripted = scripted.holds; is = is; context_is = refl },
+                taken_with files other message,
+                record { conf = configured.holds; requested = requested.holds; wanted = wanted.holds; scripted = scripted.holds; recorded = is_other; is = is; context_is = refl },
                 then,
               )
-          input_read input outcome (inr (cause, refused, same)) =
-              inr (
-                Of Input cause,
-                (
-                  record { before = record { conf = (conf, configured.holds); request = (related, requested.holds) }; wishes = (wishes, wanted.holds) },
-                  (script, scripted.holds),
-                  record { related = related; requested = requested.holds; refused = refused },
-                ),
-                same,
-              )
+          record_read found input outcome (inl (other, is_other, inr (cause, refused, same))) =
+              inr (Of Input cause, (to_script found, record { related = related; requested = requested.holds; recorded = (other, is_other); refused = refused }), same)
 
-          -- what comes of the input
-          pub all_read : (result : Result Outcome Stop) (borrowed : FileValues) → borrowed ≡ files → IfOutcome result (HasInput (ReportsMessage Then borrowed) (LeavesInput Same before now) before)
+          -- what comes of the other record, and of the input
+          pub all_read : (result : Result Outcome Stop) (borrowed : FileValues) (later : Option FileMap) → borrowed ≡ files → KeepsFiles shelf later
+              → IfOutcome result (λ outcome. HasFound later (names_of words Other) (λ found. HasInput (ReportsRecord Then borrowed (names_of words Other) found) (LeavesInput Same before now) before outcome))
               → IfOutcome result HasFilesOutcome
-          all_read result borrowed same =
-              went_on (λ outcome reported. record {
-                found = all_texts;
-                files = all_there configured.found requested.found wanted.found scripted.found configured.known requested.known wanted.known scripted.known;
+          all_read result borrowed later same keeps =
+              went_on (λ outcome has. record {
+                found = texts_with has.found;
+                files = all_there configured.found requested.found wanted.found scripted.found has.found configured.known requested.known wanted.known scripted.known
+                    (found_before shelf later (names_of words Other) has.found keeps has.known);
                 holds = record {
-                  input = reported.input;
-                  known = reported.known;
-                  reports = input_read reported.input outcome (subst (λ (v : FileValues). ReportsMessage Then v reported.input outcome) same reported.reports);
-                  leaves = reported.leaves;
+                  input = has.holds.input;
+                  known = has.holds.known;
+                  reports = record_read has.found has.holds.input outcome
+                      (subst (λ (v : FileValues). ReportsRecord Then v (names_of words Other) has.found has.holds.input outcome) same has.holds.reports);
+                  leaves = has.holds.leaves;
                 };
               }) result
+
+-- ---- the other record of a message, and what comes after it
+
+module _ (Then : Answers) (files : FileValues) (name : Option (List ℕ)) (shelf : Option FileMap) (Same : Type 0) (before now : Option (List ℕ)) where
+  -- a run that comes to an outcome with what was found for the record
+  abbrev pub HasRecordOutcome : Outcome → Type 0
+  HasRecordOutcome outcome = HasFound shelf name (λ found. HasInput (ReportsRecord Then files name found) (LeavesInput Same before now) before outcome)
+
+  -- the record is refused
+  pub record_stopped : (stop : Stop) → Same
+      → IfStopped stop (λ refusal. HasFound shelf name (λ found. IsRefusalFor (IsMessageFileRefused (reading_for files.related) name found) (λ cause. Of OfOther cause) refusal))
+      → IfOutcome (Err stop) HasRecordOutcome
+  record_stopped Memory same has = tt
+  record_stopped ReadFailed same has = tt
+  record_stopped (IsRefused refusal) same has =
+      let input = some_input before in
+      let cause = has.holds in
+      record {
+        found = has.found;
+        known = has.known;
+        holds = record {
+          input = input.0;
+          known = input.1;
+          reports = inr (cause.0, cause.1, ap (λ (r : Refusal). Refused r) cause.2);
+          leaves = subst (λ (r : Refusal). LeavesInput Same before now (Refused r)) (sym cause.2) (other_early MAX_INPUT_BYTES Same before now cause.0 same);
+        };
+      }
+
+  -- the record is read
+  pub record_had : (other : Option Message) (result : Result Outcome Stop) (borrowed : Option Message) → borrowed ≡ other
+      → HasFound shelf name (λ found. IsMessageFile (reading_for files.related) name found other) → IfOutcome result (HasInput (ReportsMessage Then files borrowed) (LeavesInput Same before now) before)
+      → IfOutcome result HasRecordOutcome
+  record_had other result borrowed same has =
+      went_on (λ outcome reported. record {
+        found = has.found;
+        known = has.known;
+        holds = record {
+          input = reported.input;
+          known = reported.known;
+          reports = inl (other, has.holds, subst (λ (m : Option Message). ReportsMessage Then files m reported.input outcome) same reported.reports);
+          leaves = reported.leaves;
+        };
+      }) result
+
+-- a message that is read as one that answers the request may answer it
+pub other_answers : (name : Option (List ℕ)) (found : Option (List ℕ)) (related other : Option Message) → IsMessageFile (reading_for related) name found other → HasOther name related other
+other_answers None found related None is = refl
+other_answers None found related (Some other) is = absurd (cc is)
+other_answers (Some name) found related None is = absurd is
+other_answers (Some name) None related (Some other) is = absurd is
+other_answers (Some name) (Some text) related (Some other) is = (spelled_input related text other is).is
 
 -- files that are kept twice are kept
 pub keeps_both : (before middle now : Option FileMap) → KeepsFiles before middle → KeepsFiles middle now → KeepsFiles before now
@@ -414,42 +482,49 @@ abbrev pub weighed : {X : Type 0} → ℕ → Option X → ℕ
 weighed weight None = 0
 weighed weight (Some x) = weight
 
-pub files_counted : (a b c d : Option (List ℕ)) → file_count (file_names a b c d) ≡ weighed 1 a + (weighed 1 b + (weighed 1 c + weighed 1 d))
-files_counted None None None None = refl
-files_counted None None None (Some s) = refl
-files_counted None None (Some z) None = refl
-files_counted None None (Some z) (Some s) = refl
-files_counted None (Some y) None None = refl
-files_counted None (Some y) None (Some s) = refl
-files_counted None (Some y) (Some z) None = refl
-files_counted None (Some y) (Some z) (Some s) = refl
-files_counted (Some x) None None None = refl
-files_counted (Some x) None None (Some s) = refl
-files_counted (Some x) None (Some z) None = refl
-files_counted (Some x) None (Some z) (Some s) = refl
-files_counted (Some x) (Some y) None None = refl
-files_counted (Some x) (Some y) None (Some s) = refl
-files_counted (Some x) (Some y) (Some z) None = refl
-files_counted (Some x) (Some y) (Some z) (Some s) = refl
+nothing_more : (n : ℕ) → n ≡ 0 + n
+nothing_more n = omega arith
 
-pub files_measured : (a b c d : Option (List ℕ))
-    → file_bytes (file_names a b c d) ≡ weighed (MAX_CONF_BYTES + 1) a + (weighed (MAX_INPUT_BYTES + 1) b + (weighed (MAX_INPUT_BYTES + 1) c + weighed (MAX_SCRIPT_BYTES + 1) d))
-files_measured None None None None = refl
-files_measured None None None (Some s) = refl
-files_measured None None (Some z) None = refl
-files_measured None None (Some z) (Some s) = refl
-files_measured None (Some y) None None = refl
-files_measured None (Some y) None (Some s) = refl
-files_measured None (Some y) (Some z) None = refl
-files_measured None (Some y) (Some z) (Some s) = refl
-files_measured (Some x) None None None = refl
-files_measured (Some x) None None (Some s) = refl
-files_measured (Some x) None (Some z) None = refl
-files_measured (Some x) None (Some z) (Some s) = refl
-files_measured (Some x) (Some y) None None = refl
-files_measured (Some x) (Some y) None (Some s) = refl
-files_measured (Some x) (Some y) (Some z) None = refl
-files_measured (Some x) (Some y) (Some z) (Some s) = refl
+one_more : (n : ℕ) → suc n ≡ 1 + n
+one_more n = omega arith
+
+-- of files of these roles, one after the other
+pub count_step : (names : FileNames) (role : FileRole) (roles : List FileRole) → named_count names (role ∷ roles) ≡ weighed 1 (names role) + named_count names roles
+count_step names role roles = by_name (names role) refl where
+  by_name : (name : Option (List ℕ)) → names role ≡ name → named_count names (role ∷ roles) ≡ weighed 1 name + named_count names roles
+  by_name None is = rw is (nothing_more (named_count names roles))
+  by_name (Some x) is = rw is (one_more (named_count names roles))
+
+abbrev named_bytes : FileNames → List FileRole → ℕ
+named_bytes names roles = sum_by (λ role. file_limit role + 1) (filter (λ role. is_some (names role)) roles)
+
+bytes_step : (names : FileNames) (role : FileRole) (roles : List FileRole) → named_bytes names (role ∷ roles) ≡ weighed (file_limit role + 1) (names role) + named_bytes names roles
+bytes_step names role roles = by_name (names role) refl where
+  by_name : (name : Option (List ℕ)) → names role ≡ name → named_bytes names (role ∷ roles) ≡ weighed (file_limit role + 1) name + named_bytes names roles
+  by_name None is = rw is (nothing_more (named_bytes names roles))
+  by_name (Some x) is = rw is (sum_by-cons (λ one. file_limit one + 1) role (filter (λ one. is_some (names one)) roles))
+
+-- how many, and how many bytes, of all roles
+pub files_counted : (names : FileNames)
+    → file_count names ≡ weighed 1 (names Conf) + (weighed 1 (names Request) + (weighed 1 (names Wanted) + (weighed 1 (names Script) + weighed 1 (names Other))))
+files_counted names =
+    let other = count_step names Other [] in
+    let script = count_step names Script (Other ∷ []) in
+    let wanted = count_step names Wanted (Script ∷ Other ∷ []) in
+    let request = count_step names Request (Wanted ∷ Script ∷ Other ∷ []) in
+    let conf = count_step names Conf (Request ∷ Wanted ∷ Script ∷ Other ∷ []) in
+    omega (arith, conf, request, wanted, script, other)
+
+pub files_measured : (names : FileNames)
+    → file_bytes names ≡ weighed (MAX_CONF_BYTES + 1) (names Conf) + (weighed (MAX_INPUT_BYTES + 1) (names Request) + (weighed (MAX_INPUT_BYTES + 1) (names Wanted)
+    + (weighed (MAX_SCRIPT_BYTES + 1) (names Script) + weighed (MAX_INPUT_BYTES + 1) (names Other))))
+files_measured names =
+    let other = bytes_step names Other [] in
+    let script = bytes_step names Script (Other ∷ []) in
+    let wanted = bytes_step names Wanted (Script ∷ Other ∷ []) in
+    let request = bytes_step names Request (Wanted ∷ Script ∷ Other ∷ []) in
+    let conf = bytes_step names Conf (Request ∷ Wanted ∷ Script ∷ Other ∷ []) in
+    omega (arith, conf, request, wanted, script, other)
 
 -- of one file, or none where it isn't named, a shelf is asked
 pub record AsksOne {X S : Type 0} (files : S → Option FileMap) (asked reached : S → ℕ) (weight : ℕ) (name : Option X) (before now : S) : Type 0 where
@@ -484,30 +559,32 @@ not_named : {X S : Type 0} (f : X → List ℕ) (name : Option X) (before now : 
 not_named f None before now none same = same
 not_named f (Some x) before now none same = absurd (cc none)
 
-summed : (total u v w x a b c d e : ℕ) → total ≡ u + (v + (w + x)) → b ≤ a + u → c ≤ b + v → d ≤ c + w → e ≤ d + x → e ≤ a + total
-summed total u v w x a b c d e is one two three four = omega (arith, is, one, two, three, four)
+summed : (total u v w x y a b c d e f : ℕ) → total ≡ u + (v + (w + (x + y))) → b ≤ a + u → c ≤ b + v → d ≤ c + w → e ≤ d + x → f ≤ e + y → f ≤ a + total
+summed total u v w x y a b c d e f is one two three four five = omega (arith, is, one, two, three, four, five)
 
--- of all four, in order
-module _ {X S : Type 0} (files : S → Option FileMap) (asked reached : S → ℕ) (f : X → List ℕ) (conf request wanted script : Option X) (a b c d e : S) where
+-- of all five, in order
+module _ {X S : Type 0} (files : S → Option FileMap) (asked reached : S → ℕ) (f : X → List ℕ) (conf request wanted script other : Option X) (a b c d e h : S) where
   pub asks_all : AsksOne files asked reached (MAX_CONF_BYTES + 1) conf a b → AsksOne files asked reached (MAX_INPUT_BYTES + 1) request b c → AsksOne files asked reached (MAX_INPUT_BYTES + 1) wanted c d
-      → AsksOne files asked reached (MAX_SCRIPT_BYTES + 1) script d e
-      → Asks (file_names (option_map f conf) (option_map f request) (option_map f wanted) (option_map f script)) (files a) (files e) (asked a) (asked e) (reached a) (reached e) (e ≡ a)
-  asks_all one two three four =
-      let first = option_map f conf in
-      let second = option_map f request in
-      let third = option_map f wanted in
-      let fourth = option_map f script in
+      → AsksOne files asked reached (MAX_SCRIPT_BYTES + 1) script d e → AsksOne files asked reached (MAX_INPUT_BYTES + 1) other e h
+      → Asks (file_names (option_map f conf) (option_map f request) (option_map f wanted) (option_map f script) (option_map f other)) (files a) (files h) (asked a) (asked h) (reached a) (reached h) (h ≡ a)
+  asks_all one two three four five =
+      let names = file_names (option_map f conf) (option_map f request) (option_map f wanted) (option_map f script) (option_map f other) in
       record {
-        files = keeps_both (files a) (files b) (files e) one.keeps (keeps_both (files b) (files c) (files e) two.keeps (keeps_both (files c) (files d) (files e) three.keeps four.keeps));
-        asks = summed (file_count (file_names first second third fourth)) (weighed 1 first) (weighed 1 second) (weighed 1 third) (weighed 1 fourth) (asked a) (asked b) (asked c) (asked d) (asked e) (files_counted first second third fourth)
+        files = keeps_both (files a) (files b) (files h) one.keeps (keeps_both (files b) (files c) (files h) two.keeps
+            (keeps_both (files c) (files d) (files h) three.keeps (keeps_both (files d) (files e) (files h) four.keeps five.keeps)));
+        asks = summed (file_count names) (weighed 1 (names Conf)) (weighed 1 (names Request)) (weighed 1 (names Wanted)) (weighed 1 (names Script)) (weighed 1 (names Other))
+            (asked a) (asked b) (asked c) (asked d) (asked e) (asked h) (files_counted names)
             (one_counted asked f 1 conf a b one.unasked one.asks) (one_counted asked f 1 request b c two.unasked two.asks) (one_counted asked f 1 wanted c d three.unasked three.asks)
-            (one_counted asked f 1 script d e four.unasked four.asks);
-        reaches = summed (file_bytes (file_names first second third fourth)) (weighed (MAX_CONF_BYTES + 1) first) (weighed (MAX_INPUT_BYTES + 1) second) (weighed (MAX_INPUT_BYTES + 1) third) (weighed (MAX_SCRIPT_BYTES + 1) fourth)
-            (reached a) (reached b) (reached c) (reached d) (reached e) (files_measured first second third fourth)
+            (one_counted asked f 1 script d e four.unasked four.asks) (one_counted asked f 1 other e h five.unasked five.asks);
+        reaches = summed (file_bytes names) (weighed (MAX_CONF_BYTES + 1) (names Conf)) (weighed (MAX_INPUT_BYTES + 1) (names Request)) (weighed (MAX_INPUT_BYTES + 1) (names Wanted))
+            (weighed (MAX_SCRIPT_BYTES + 1) (names Script)) (weighed (MAX_INPUT_BYTES + 1) (names Other))
+            (reached a) (reached b) (reached c) (reached d) (reached e) (reached h) (files_measured names)
             (one_counted reached f (MAX_CONF_BYTES + 1) conf a b one.unasked one.reaches) (one_counted reached f (MAX_INPUT_BYTES + 1) request b c two.unasked two.reaches)
-            (one_counted reached f (MAX_INPUT_BYTES + 1) wanted c d three.unasked three.reaches) (one_counted reached f (MAX_SCRIPT_BYTES + 1) script d e four.unasked four.reaches);
+            (one_counted reached f (MAX_INPUT_BYTES + 1) wanted c d three.unasked three.reaches) (one_counted reached f (MAX_SCRIPT_BYTES + 1) script d e four.unasked four.reaches)
+            (one_counted reached f (MAX_INPUT_BYTES + 1) other e h five.unasked five.reaches);
         unasked = λ none.
-            not_named f script d e (none Script) four.unasked ∙ (not_named f wanted c d (none Wanted) three.unasked ∙ (not_named f request b c (none Request) two.unasked ∙ not_named f conf a b (none Conf) one.unasked));
+            not_named f other e h (none Other) five.unasked ∙ (not_named f script d e (none Script) four.unasked
+            ∙ (not_named f wanted c d (none Wanted) three.unasked ∙ (not_named f request b c (none Request) two.unasked ∙ not_named f conf a b (none Conf) one.unasked)));
       }
 
 pub never : {X : Type 0} {P : Type 0} (x : X) → Some x ≡ None → P

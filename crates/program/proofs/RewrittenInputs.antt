@@ -29,7 +29,7 @@ use Rattle.commands.specs.declared.tables.Needs.TheVariants.{Nothing}
 use Rattle.refusals.specs.declared.refusal.Refusal.{Refusal}
 use Rattle.refusals.specs.declared.refusal.Refusal.TheVariants.{Arguments, Of, Command}
 use Rattle.refusals.specs.declared.refusal.TheConstants.{MAX_INPUT_BYTES}
-use Rattle.refusals.specs.declared.role.Role.TheVariants.{Conf, Request, Wanted, Script, Input, Item}
+use Rattle.refusals.specs.declared.role.Role.TheVariants.{Conf, Request, Wanted, Script, Other, Input, Item}
 use Rattle.program.specs.Commands.{name_of}
 use Rattle.program.specs.Intake.{IsIntake, IsIntakeRefused, TakenValues}
 use Rattle.program.specs.Laws.{IsVerdictKept}
@@ -109,12 +109,13 @@ module _ (verified : VerifyWords) (label : List ℕ) (asked : verified.label ≡
   refused_same (Of Request r) un = un
   refused_same (Of Wanted r) un = un
   refused_same (Of Script r) un = un
+  refused_same (Of Other r) un = un
   refused_same (Of Input r) un = absurd (input_not_refused verified found input related message requested short whole r un)
 
   -- what is taken of the other input
   taken_other : (taken : TakenValues) → IsIntake Nothing (name_of (Verify verified)) found input taken
-      → IsIntake Nothing (name_of (Verify verified)) found other (record { conf = taken.conf; wishes = taken.wishes; script = taken.script; context = context_for taken.conf after related })
-  taken_other taken is = record { conf = is.conf; requested = requested; wanted = is.wanted; scripted = is.scripted; is = also; context_is = refl }
+      → IsIntake Nothing (name_of (Verify verified)) found other (record { conf = taken.conf; wishes = taken.wishes; script = taken.script; other = taken.other; context = context_for taken.conf after related })
+  taken_other taken is = record { conf = is.conf; requested = requested; wanted = is.wanted; scripted = is.scripted; recorded = is.recorded; is = also; context_is = refl }
 
   command_same : (outcome : Outcome) → ReportsCommand (Verify verified) found input outcome → ReportsCommand (Verify verified) found other outcome
   command_same outcome (inr (refusal, un, refused)) = inr (refusal, refused_same refusal un, refused)
@@ -122,7 +123,7 @@ module _ (verified : VerifyWords) (label : List ℕ) (asked : verified.label ≡
       let own : ReportsVerdicts verified.label verified.now taken.conf (context_for taken.conf message related) outcome =
       subst (λ (context : MessageContext). ReportsVerdicts verified.label verified.now taken.conf context outcome) (taken_context verified found input related message requested short whole taken is) reports in
       inl (
-        record { conf = taken.conf; wishes = taken.wishes; script = taken.script; context = context_for taken.conf after related },
+        record { conf = taken.conf; wishes = taken.wishes; script = taken.script; other = taken.other; context = context_for taken.conf after related },
         taken_other taken is,
         verdicts_same verified taken.conf label (context_for taken.conf message related) (context_for taken.conf after related) outcome asked (same taken.conf is.conf.configured) own,
       )

@@ -44,7 +44,7 @@ use Rattle.refusals.specs.declared.file.FileRefusal.{FileRefusal}
 use Rattle.refusals.specs.declared.file.FileRefusal.TheVariants.{Missing, TooLong, Message as NoMessage, Conf as NoConf, Script as NoScript, Recording as NoRecording, Order, TooManyHops, OutOfPlace, TooManyItems}
 use Rattle.refusals.specs.declared.refusal.Refusal.{Refusal}
 use Rattle.refusals.specs.declared.refusal.Refusal.TheVariants.{Arguments, Of, Command}
-use Rattle.refusals.specs.declared.role.Role.TheVariants.{Conf, Request, Wanted, Script, Input, Item}
+use Rattle.refusals.specs.declared.role.Role.TheVariants.{Conf, Request, Wanted, Script, Other, Input, Item}
 use Rattle.refusals.specs.declared.refusal.TheConstants.{MAX_INPUT_BYTES}
 use Rattle.program.specs.Commands.{name_of}
 use Rattle.program.specs.Intake.{IsIntake, IsIntakeRefused, TakenValues}
@@ -173,8 +173,8 @@ module _ (words : VerifyWords) (found : Found) (input : List ℕ) (related : Opt
   -- the input isn't refused
   pub input_not_refused : (refusal : FileRefusal) → IsIntakeRefused Nothing (name_of (Verify words)) found input (Of Input refusal) → ⊥
   input_not_refused refusal un =
-      let same : un.2.related ≡ related = (request_decided words.request (found RequestFile)).value un.2.related related un.2.requested requested in
-      not_refused (reading_for related) input message refusal short whole (subst (λ (r : Option Message). IsInputRefused (reading_for r) input refusal) same un.2.refused)
+      let same : un.1.related ≡ related = (request_decided words.request (found RequestFile)).value un.1.related related un.1.requested requested in
+      not_refused (reading_for related) input message refusal short whole (subst (λ (r : Option Message). IsInputRefused (reading_for r) input refusal) same un.1.refused)
 
   -- nor is what comes before it, where the configuration is known
   none_refused : (conf : Configuration) → IsConfigured (Some words.conf) (found ConfFile) conf → (refusal : Refusal) → IsIntakeRefused Nothing (name_of (Verify words)) found input refusal → ⊥
@@ -185,6 +185,7 @@ module _ (words : VerifyWords) (found : Found) (input : List ℕ) (related : Opt
   none_refused conf configured (Of Request r) un = (request_decided words.request (found RequestFile)).either related r requested un.1
   none_refused conf configured (Of Wanted r) un = un.1
   none_refused conf configured (Of Script r) un = un.1
+  none_refused conf configured (Of Other r) un = un.1.refused
   none_refused conf configured (Of Input r) un = input_not_refused r un
 
   -- what `verify` comes to over it

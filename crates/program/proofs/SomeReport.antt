@@ -1,11 +1,13 @@
 -- Arguments, what was found and an input have some outcome, and one of status 0 or 1 where the
 -- command has all that it needs.
 use Rattle.std.proofs.Common.{◌≡◌, ◌+◌, ◌++◌, inl, inr, ℕ, Bool, true, false, List, [], ◌∷◌, Option, Some, None, refl}
-use Rattle.std.specs.Prelude.{⊤, IsTrue, IsSome}
-use Rattle.std.specs.List.{list_all}
+use Rattle.std.specs.Prelude.{⊤, IsTrue, IsSome, IsSomeAnd}
+use Rattle.std.specs.List.{list_all, slice_get}
+use Rattle.byte_grammar.proofs.Indices.{some_and_parts}
 use Rattle.sfv_text.specs.Classes.{is_byte}
-use Rattle.command_line.specs.Command.{CommandLine, Help, HelpOf, Version, Base, Verify, Sign, Rewrite, Audit, Gateway, Sample, IsCommand, NoCommand}
+use Rattle.command_line.specs.Command.{CommandLine, Help, HelpOf, Version, Base, Verify, Sign, Rewrite, Explain, Audit, Gateway, Sample, IsCommand, NoCommand}
 use Rattle.command_line.proofs.SomeCommand.{command_or_none}
+use Rattle.component_ids.specs.declared.id.ComponentId.{ComponentId}
 use Rattle.component_ids.specs.declared.params.SigParams.{SigParams}
 use Rattle.component_values.specs.Context.{MessageContext, answers_head, context_with}
 use Rattle.conf.specs.Configuration.{Configuration}
@@ -16,7 +18,8 @@ use Rattle.hop_audit.specs.Lines.{finds_fault}
 use Rattle.hop_audit.specs.declared.line.AuditLine.{AuditLine}
 use Rattle.commands.specs.Audit.{IsRecordingText, IsChainRefused, ReportsAudit, audit_outcome}
 use Rattle.commands.specs.Base.{ReportsValues, ReportsBase}
-use Rattle.commands.specs.Files.{FileNames, Found, FileRole, Conf as ConfFile, Script as ScriptFile}
+use Rattle.commands.specs.Explain.{ReportsExplanation, WritesExplained, differing_text}
+use Rattle.commands.specs.Files.{FileNames, Found, FileRole, Conf as ConfFile, Script as ScriptFile, Other as OtherFile}
 use Rattle.commands.specs.Layers.{ReadsThen, HasAnswer}
 use Rattle.commands.specs.MessageFiles.{IsOfBytes}
 use Rattle.commands.specs.Rewrite.{IsTaken, ReportsSteps, ReportsRewriting}
@@ -27,21 +30,25 @@ use Rattle.msg_body.specs.Messages.{Message, IsMessage, message_text}
 use Rattle.settings.specs.declared.sign_conf.SignConf.{SignConf}
 use Rattle.rewrite_script.specs.Lines.{is_writable}
 use Rattle.rewrite_script.specs.declared.rewrite.Rewrite.{Rewrite as Rewriting}
+use Rattle.normal_forms.specs.declared.explanation.Explained.{Explained}
+use Rattle.normal_forms.specs.declared.explanation.Explained.TheVariants.{Same, Differs}
 use Rattle.rewrites.specs.Steps.{Steps}
 use Rattle.signing.specs.declared.spec.SignSpec.{SignSpec}
 use Rattle.commands.specs.Verify.{ReportsVerdicts, verdicts_outcome}
 use Rattle.verdicts.specs.Verdicts.{is_accepted}
-use Rattle.commands.specs.Help.{help_text, text_of}
-use Rattle.commands.specs.declared.help.TheConstants.{TITLE_TEXT, VERSION_TEXT}
+use Rattle.program.specs.Help.{help_text, text_of}
+use Rattle.program.specs.declared.help.TheConstants.{TITLE_TEXT, VERSION_TEXT}
 use Rattle.commands.specs.declared.outcome.Outcome.{Outcome}
-use Rattle.commands.specs.declared.outcome.Outcome.TheVariants.{Done, Refused}
+use Rattle.commands.specs.declared.outcome.Outcome.TheVariants.{Done, NotOk, Refused}
 use Rattle.refusals.specs.declared.refusal.Refusal.{Refusal}
-use Rattle.program.specs.Laws.{HasSomeReport, IsBaseDone, CanSignEach, IsSignDone, IsRewriteDone, IsServed, HasAll, IsAnswered, IsComplete}
+use Rattle.program.specs.Laws.{HasSomeReport, IsBaseDone, CanSignEach, IsSignDone, IsRewriteDone, IsExplainDone, IsServed, HasAll, IsAnswered, IsComplete}
 use Rattle.program.specs.Commands.{input_use, is_whole, name_of}
 use Rattle.program.specs.Intake.{IsConfRead, TakenValues}
 use Rattle.program.specs.Report.{Answers, ReportsCommand, ReportsFiles}
-use Rattle.program.proofs.CommandLaws.{conf_answer, params_answer, values_answer, verdicts_answer, signing_answer, rewriting_answer, auditing_answer, audit_answer, sampling_answer, writable_where_scripted, valid_where_configured}
+use Rattle.program.proofs.CommandLaws.{conf_answer, explaining_answer, params_answer, values_answer, verdicts_answer, signing_answer, rewriting_answer, auditing_answer, audit_answer, sampling_answer, writable_where_scripted, valid_where_configured}
 use Rattle.program.proofs.IntakeLaws.{intake_answer}
+use Rattle.program.specs.tools.Parts.{HasOther}
+use Rattle.program.proofs.Reports.{other_answers}
 use Rattle.program.proofs.Sources.{spelled_input}
 
 -- some outcome
@@ -63,16 +70,18 @@ some_of_base params context = some_of_layers _ _ _ _ (params_answer params) (λ 
 abbrev AreOfBytes : Found → Type 0
 AreOfBytes found = (role : FileRole) → IsOfBytes (found role)
 
--- a command has some outcome over what was read for it, where the configuration was found under this name and has what is needed
-abbrev HasSomeAnswer : Needs → Answers → Option (List ℕ) → Option (List ℕ) → Type 0
-HasSomeAnswer needs Then name text =
-    (taken : TakenValues) → IsConfRead needs name text taken.conf → IsTrue (list_all is_writable taken.script) → IsMessage (answers_head taken.context.related) taken.context.message → HasSome (Then taken)
+-- a command has some outcome over what was read for it, where the configuration was found under this name and has what is needed, and the other record, where its file has a name
+abbrev HasSomeAnswer : Needs → Answers → Option (List ℕ) → Option (List ℕ) → Option (List ℕ) → Type 0
+HasSomeAnswer needs Then name text other =
+    (taken : TakenValues) → IsConfRead needs name text taken.conf → IsTrue (list_all is_writable taken.script) → IsMessage (answers_head taken.context.related) taken.context.message
+    → HasOther other taken.context.related taken.other → HasSome (Then taken)
 
-some_of_files : (needs : Needs) (Then : Answers) (names : FileNames) (found : Found) (input : List ℕ) → HasSomeAnswer needs Then (names ConfFile) (found ConfFile) → AreOfBytes found
+some_of_files : (needs : Needs) (Then : Answers) (names : FileNames) (found : Found) (input : List ℕ) → HasSomeAnswer needs Then (names ConfFile) (found ConfFile) (names OtherFile) → AreOfBytes found
     → IsTrue (list_all is_byte input) → HasSome (ReportsFiles needs Then names found input)
 some_of_files needs Then names found input some files bytes =
     some_of_layers _ _ _ _ (intake_answer needs names found input files bytes) (λ taken is.
-    some taken is.conf (writable_where_scripted (names ScriptFile) (found ScriptFile) taken.script is.scripted) (spelled_input taken.context.related input taken.context.message is.is).is)
+    some taken is.conf (writable_where_scripted (names ScriptFile) (found ScriptFile) taken.script is.scripted) (spelled_input taken.context.related input taken.context.message is.is).is
+    (other_answers (names OtherFile) (found OtherFile) taken.context.related taken.other is.recorded))
 
 some_sign : (conf : Configuration) → IsSome conf.sign → (sign : SignConf) × (conf.sign ≡ Some sign)
 some_sign conf has = of_option conf.sign has where
@@ -80,26 +89,34 @@ some_sign conf has = of_option conf.sign has where
   of_option (Some sign) is = (sign, refl)
   of_option None is = absurd cc
 
-some_of_signing : (nonce : Option (List ℕ)) (now : ℕ) (name text : Option (List ℕ)) → HasSomeAnswer SignTable (λ taken. ReportsSigning nonce now taken.conf taken.wishes taken.context) name text
-some_of_signing nonce now name text taken read writable is =
+some_of_signing : (nonce : Option (List ℕ)) (now : ℕ) (name text : Option (List ℕ)) → HasSomeAnswer SignTable (λ taken. ReportsSigning nonce now taken.conf taken.wishes taken.context) name text None
+some_of_signing nonce now name text taken read writable is other =
     let sign = some_sign taken.conf read.tables in
     signing_answer nonce now taken.conf taken.wishes taken.context sign.0 sign.1 ((valid_where_configured name text taken.conf read.configured).sign sign.0 sign.1).keyid
+
+some_of_explanation : (label name : List ℕ) (also : Option Message) (context : MessageContext) → IsMessage (answers_head context.related) context.message → HasOther (Some name) context.related also
+    → HasSome (λ outcome. IsSomeAnd also (λ other. ReportsExplanation label other context outcome))
+some_of_explanation label name None context is other = absurd (cc other)
+some_of_explanation label name (Some also) context is other = explaining_answer label also context is other
 
 some_of_command : (command : CommandLine) → IsTrue (is_whole (input_use command)) → (found : Found) (input : List ℕ) → AreOfBytes found → IsTrue (list_all is_byte input) → HasSome (ReportsCommand command found input)
 some_of_command Help whole found input files bytes = (Done help_text, refl)
 some_of_command (HelpOf command) whole found input files bytes = (Done (TITLE_TEXT.now ++ text_of command), refl)
 some_of_command Version whole found input files bytes = (Done VERSION_TEXT.now, refl)
 some_of_command (Base words) whole found input files bytes =
-    some_of_files Nothing (λ taken. ReportsBase words.params taken.context) (name_of (Base words)) found input (λ taken _ _ _. some_of_base words.params taken.context) files bytes
+    some_of_files Nothing (λ taken. ReportsBase words.params taken.context) (name_of (Base words)) found input (λ taken _ _ _ _. some_of_base words.params taken.context) files bytes
 some_of_command (Verify words) whole found input files bytes =
     some_of_files Nothing (λ taken. ReportsVerdicts words.label words.now taken.conf taken.context) (name_of (Verify words)) found input
-    (λ taken _ _ _. verdicts_answer words.label words.now taken.conf taken.context) files bytes
+    (λ taken _ _ _ _. verdicts_answer words.label words.now taken.conf taken.context) files bytes
 some_of_command (Sign words) whole found input files bytes =
     some_of_files SignTable (λ taken. ReportsSigning words.nonce words.now taken.conf taken.wishes taken.context) (name_of (Sign words)) found input
     (some_of_signing words.nonce words.now (Some words.conf) (found ConfFile)) files bytes
 some_of_command (Rewrite words) whole found input files bytes =
     some_of_files Nothing (λ taken. ReportsRewriting words.label taken.script taken.context) (name_of (Rewrite words)) found input
-    (λ taken _ writable message. rewriting_answer words.label taken.script taken.context writable message) files bytes
+    (λ taken _ writable message _. rewriting_answer words.label taken.script taken.context writable message) files bytes
+some_of_command (Explain words) whole found input files bytes =
+    some_of_files Nothing (λ taken outcome. IsSomeAnd taken.other (λ other. ReportsExplanation words.label other taken.context outcome)) (name_of (Explain words)) found input
+    (λ taken _ _ message other. some_of_explanation words.label words.other taken.other taken.context message other) files bytes
 some_of_command (Audit words) whole found input files bytes = some_of_layers _ _ _ _ (conf_answer (Some words.conf) (found ConfFile)) (λ conf _. auditing_answer conf input bytes)
 some_of_command (Gateway words) whole found input files bytes = absurd (cc whole)
 some_of_command (Sample words) whole found input files bytes = let some = sampling_answer words.seed words.count in (some.0, some.1)
@@ -155,6 +172,22 @@ lines_answered : (labels : List (List ℕ)) (verdicts : List Verdict) (accepted 
 lines_answered labels verdicts true is = rw is (inl refl)
 lines_answered labels verdicts false is = rw is (inr refl)
 
+written_answered : (message : Message) (label : List ℕ) (explained : Explained) (outcome : Outcome) → WritesExplained message label explained outcome → IsAnswered outcome
+written_answered message label (Same first second) outcome is = rw is (inl refl)
+written_answered message label (Differs index) outcome is =
+    let id = some_and_parts (λ (i : ComponentId). outcome ≡ NotOk (differing_text i)) (slice_get is.params.ids index) is.there in
+    rw id.2 (inr refl)
+
+explanation_answered : (label name : List ℕ) (also : Option Message) (context : MessageContext) → IsMessage (answers_head context.related) context.message → HasOther (Some name) context.related also
+    → IsExplainDone label also context → HasAnswered (λ outcome. IsSomeAnd also (λ other. ReportsExplanation label other context outcome))
+explanation_answered label name None context is other done = absurd (cc other)
+explanation_answered label name (Some also) context is other done =
+    let some = explaining_answer label also context is other in
+    elim some.1 [
+      | inl made ↦ (some.0, inl made, written_answered context.message label made.0 some.0 made.2)
+      | inr cause ↦ absurd (done cause.0 cause.1)
+    ]
+
 verdicts_answered : (label : Option (List ℕ)) (now : ℕ) (conf : Configuration) (context : MessageContext) → HasAnswered (ReportsVerdicts label now conf context)
 verdicts_answered label now conf context =
     let some = verdicts_answer label now conf context in
@@ -186,6 +219,11 @@ command_answered (Sign words) found input has =
 command_answered (Rewrite words) found input has =
     files_answered Nothing (λ taken. ReportsRewriting words.label taken.script taken.context) (λ taken. IsRewriteDone words.label taken.script taken.context)
     (λ taken done. steps_answered taken.script words.label 0 taken.context done.0 done.1) (name_of (Rewrite words)) found input has
+command_answered (Explain words) found input has =
+    let is = has.is in
+    let next = explanation_answered words.label words.other has.taken.other has.taken.context (spelled_input has.taken.context.related input has.taken.context.message is.is).is
+    (other_answers (Some words.other) (found OtherFile) has.taken.context.related has.taken.other is.recorded) has.done in
+    (next.0, inl (has.taken, is, next.1), next.2)
 command_answered (Audit words) found input has =
     let next = audit_answered has.conf input has.items has.recorded has.none in
     (next.0, inl (has.conf, has.configured, next.1), next.2)

@@ -1,16 +1,21 @@
 -- The input that a source gives.
 use Rattle.std.proofs.Common.{◌≡◌, ◌+◌, ◌<◌, ◌≤◌, inl, inr, ℕ, Bool, true, false, List, [], ◌∷◌, length, replicate, Option, Some, None, Result, Ok, Err, refl, sym, ap, ◌∙◌, subst, arith}
 use Rattle.std.specs.Prelude.{IfSome}
-use Rattle.std.specs.List.{list_all}
+use Rattle.std.specs.List.{list_all, slice_get}
 use Rattle.std.proofs.lemmas.List.{drop_all, length-replicate}
 use Rattle.hms_io.specs.Cause.{HasFillCause}
 use Rattle.hms_io.specs.Reading.{LosesPrefix, GivesAll}
 use Rattle.hms_io.specs.declared.read_write.FillError.{FillError}
 use Rattle.hms_io.specs.declared.read_write.FillError.TheVariants.{Memory as NoFillMemory, Failed, TooLong as Longer}
+use Rattle.byte_grammar.proofs.Indices.{some_and_parts}
 use Rattle.msg_body.specs.Messages.{Message, Spells}
+use Rattle.component_ids.specs.declared.id.ComponentId.{ComponentId}
 use Rattle.component_values.specs.Context.{MessageContext, answers_head, context_with}
 use Rattle.conf.specs.Configuration.{Configuration}
 use Rattle.verdicts.specs.declared.outcome.Verdict.{Verdict}
+use Rattle.normal_forms.specs.declared.explanation.Explained.{Explained}
+use Rattle.normal_forms.specs.declared.explanation.Explained.TheVariants.{Same as SameForms, Differs}
+use Rattle.commands.specs.Explain.{ReportsExplanation, WritesExplained, differing_text}
 use Rattle.commands.specs.Messages.{IsInputMessage, IsInputRefused}
 use Rattle.msg_body.specs.WholeTexts.{reading_for}
 use Rattle.commands.specs.Rewrite.{ReportsSteps, ReportsRewriting}
@@ -28,7 +33,7 @@ use Rattle.program.specs.tools.Parts.{FileValues, IsAfterInput, IsOwn, ReportsMe
 use Rattle.refusals.specs.declared.refusal.Refusal.{Refusal}
 use Rattle.refusals.specs.declared.refusal.TheConstants.{MAX_INPUT_BYTES}
 use Rattle.refusals.specs.declared.refusal.Refusal.TheVariants.{Arguments, Of, Command}
-use Rattle.refusals.specs.declared.role.Role.TheVariants.{Conf, Request, Wanted, Script, Input, Item}
+use Rattle.refusals.specs.declared.role.Role.TheVariants.{Conf, Request, Wanted, Script, Other, Input, Item}
 use Rattle.refusals.specs.declared.file.FileRefusal.{FileRefusal}
 use Rattle.refusals.specs.declared.file.FileRefusal.TheVariants.{Missing, TooLong, Message as NoMessage, Conf as NoConf, Script as NoScript, Recording as NoRecording, Order, TooManyHops, OutOfPlace, TooManyItems}
 use Rattle.commands.specs.declared.outcome.Outcome.{Outcome}
@@ -49,12 +54,12 @@ abbrev pub LeavesInput : Type 0 → Option (List ℕ) → Option (List ℕ) → 
 LeavesInput = Leaves (Whole MAX_INPUT_BYTES)
 
 -- why it isn't read whole
-pub fill_stop : (Then : Answers) (files : FileValues) (Same : Type 0) (before now : Option (List ℕ)) (error : FillError)
+pub fill_stop : (Then : Answers) (files : FileValues) (other : Option Message) (Same : Type 0) (before now : Option (List ℕ)) (error : FillError)
     → (error ≡ Longer → LosesPrefix before now (MAX_INPUT_BYTES + 1))
-    → IfOutcome (Err (stop_of_fill MAX_INPUT_BYTES error)) (HasInput (ReportsMessage Then files) (LeavesInput Same before now) before)
-fill_stop Then files Same before now NoFillMemory lost = tt
-fill_stop Then files Same before now Failed lost = tt
-fill_stop Then files Same before now Longer lost =
+    → IfOutcome (Err (stop_of_fill MAX_INPUT_BYTES error)) (HasInput (ReportsMessage Then files other) (LeavesInput Same before now) before)
+fill_stop Then files other Same before now NoFillMemory lost = tt
+fill_stop Then files other Same before now Failed lost = tt
+fill_stop Then files other Same before now Longer lost =
     let input = longer MAX_INPUT_BYTES before now (lost refl) in
     record { input = input.0; known = input.1; reports = inr (TooLong MAX_INPUT_BYTES, (refl, input.2), refl); leaves = lost refl }
 
@@ -81,6 +86,7 @@ after_input Same before now none (Refused (Of Conf r)) after = absurd after
 after_input Same before now none (Refused (Of Request r)) after = absurd after
 after_input Same before now none (Refused (Of Wanted r)) after = absurd after
 after_input Same before now none (Refused (Of Script r)) after = absurd after
+after_input Same before now none (Refused (Of Other r)) after = absurd after
 after_input Same before now none (Refused (Of Input Missing)) after = absurd after
 after_input Same before now none (Refused (Of Input (TooLong n))) after = absurd after
 after_input Same before now none (Refused (Of Input (NoMessage f))) after = none
@@ -94,16 +100,16 @@ after_input Same before now none (Refused (Of Input (TooManyItems n))) after = a
 after_input Same before now none (Refused (Of (Item n) r)) after = absurd after
 after_input Same before now none (Refused (Command r)) after = none
 
-pub input_outcome : (Then : Answers) (files : FileValues) (Same : Type 0) (input read : List ℕ) (before now : Option (List ℕ)) → read ≡ input → GivesAll before now input
-    → (result : Result Outcome Stop) → IfOutcome result (ReportsMessage Then files read) → IfOutcome result IsAfterInput
-    → IfOutcome result (HasInput (ReportsMessage Then files) (LeavesInput Same before now) before)
-input_outcome Then files Same input read before now same all result reported after =
+pub input_outcome : (Then : Answers) (files : FileValues) (other : Option Message) (Same : Type 0) (input read : List ℕ) (before now : Option (List ℕ)) → read ≡ input → GivesAll before now input
+    → (result : Result Outcome Stop) → IfOutcome result (ReportsMessage Then files other read) → IfOutcome result IsAfterInput
+    → IfOutcome result (HasInput (ReportsMessage Then files other) (LeavesInput Same before now) before)
+input_outcome Then files other Same input read before now same all result reported after =
     went_on (λ outcome facts. record {
       input = input;
       known = known_input before now input all;
-      reports = subst (λ (bytes : List ℕ). ReportsMessage Then files bytes outcome) same facts.0;
+      reports = subst (λ (bytes : List ℕ). ReportsMessage Then files other bytes outcome) same facts.0;
       leaves = after_input Same before now (nothing_left before now input all) outcome facts.1;
-    }) result (both (ReportsMessage Then files read) IsAfterInput result reported after)
+    }) result (both (ReportsMessage Then files other read) IsAfterInput result reported after)
 
 -- what is gone once it was read to its end
 pub all_gone : (limit : ℕ) (before now : Option (List ℕ)) (input : List ℕ) → GivesAll before now input → length input ≤ limit → LosesAtMost (limit + 1) before now
@@ -184,6 +190,16 @@ own_of_steps (step ∷ script) label index context outcome (inr cause) = subst I
 
 pub own_of_rewriting : (label : Option (List ℕ)) (script : List Rewrite) (context : MessageContext) (outcome : Outcome) → ReportsRewriting label script context outcome → IsOwn outcome
 own_of_rewriting label script context outcome is = own_of_steps script label 0 context outcome is
+
+own_of_written : (message : Message) (label : List ℕ) (explained : Explained) (outcome : Outcome) → WritesExplained message label explained outcome → IsOwn outcome
+own_of_written message label (SameForms first second) outcome is = subst IsOwn (sym is) tt
+own_of_written message label (Differs index) outcome is =
+    let id = some_and_parts (λ (i : ComponentId). outcome ≡ NotOk (differing_text i)) (slice_get is.params.ids index) is.there in
+    subst IsOwn (sym id.2) tt
+
+pub own_of_explanation : (label : List ℕ) (also : Message) (context : MessageContext) (outcome : Outcome) → ReportsExplanation label also context outcome → IsOwn outcome
+own_of_explanation label also context outcome (inl made) = own_of_written context.message label made.0 outcome made.2
+own_of_explanation label also context outcome (inr cause) = subst IsOwn (sym cause.2) tt
 
 -- an input is the text of the context's message
 pub spelled_input : (related : Option Message) (input : List ℕ) (message : Message) → IsInputMessage (reading_for related) input message → Spells (answers_head related) message input

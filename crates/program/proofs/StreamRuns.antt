@@ -39,7 +39,7 @@ use Rattle.program.specs.Ends.{CountsFaults, CountsReads, TellsWhy}
 use Rattle.program.specs.Intake.{IsConfLacking, IsConfRead}
 use Rattle.program.specs.StreamEnds.{EndsAfter, EndsBefore, EndsRefused, EndsServedBy, EndsStream, IsRefusedFor, refusal_in, stream_refusal, stream_status}
 use Rattle.program.specs.tools.Parts.{CountsAfter, IsWritten, IsWrittenStop}
-use Rattle.program.proofs.Reports.{all_found, some_found}
+use Rattle.program.proofs.Reports.{conf_found, some_found}
 
 -- ---- a refusal
 
@@ -130,22 +130,22 @@ module _ (words : GatewayWords) (shelf : Option FileMap) (Same : Type 0) (left l
       → IsWrittenStop stop taken now status told → EndsStream words shelf Same left left_now taken now status told
   conf_stopped NoMemory same has (keeps, is, none) =
       let some = some_found shelf (Some words.conf) in (
-        file_names some.0 None None None,
-        all_found shelf (Some words.conf) None None None some.0 None None None some.1 tt tt tt,
-        inl (same, subst (λ (s : Status). EndsBefore words (file_names some.0 None None None) taken now s told) (sym is) (keeps, none)),
+        file_names some.0 None None None None,
+        conf_found shelf (Some words.conf) some.0 some.1,
+        inl (same, subst (λ (s : Status). EndsBefore words (file_names some.0 None None None None) taken now s told) (sym is) (keeps, none)),
       )
   conf_stopped ReadFailed same has (keeps, is, none) =
       let some = some_found shelf (Some words.conf) in (
-        file_names some.0 None None None,
-        all_found shelf (Some words.conf) None None None some.0 None None None some.1 tt tt tt,
-        inl (same, subst (λ (s : Status). EndsBefore words (file_names some.0 None None None) taken now s told) (sym is) (keeps, none)),
+        file_names some.0 None None None None,
+        conf_found shelf (Some words.conf) some.0 some.1,
+        inl (same, subst (λ (s : Status). EndsBefore words (file_names some.0 None None None None) taken now s told) (sym is) (keeps, none)),
       )
   conf_stopped (StopRefused refusal) same has written =
       let cause = has.holds in
       let ends = refused_written (Of OfConf cause.0) taken now status told (subst (λ (r : Refusal). IsWritten (Refused r) taken now status told) cause.2 written) in (
-        file_names has.found None None None,
-        all_found shelf (Some words.conf) None None None has.found None None None has.known tt tt tt,
-        inl (same, before_refused words (file_names has.found None None None) cause.0 taken now status told cause.1 ends),
+        file_names has.found None None None None,
+        conf_found shelf (Some words.conf) has.found has.known,
+        inl (same, before_refused words (file_names has.found None None None None) cause.0 taken now status told cause.1 ends),
       )
 
   some_gateway : (conf : Configuration) → IsSome conf.gateway → (settings : GatewayConf) × (conf.gateway ≡ Some settings)
@@ -159,8 +159,8 @@ module _ (words : GatewayWords) (shelf : Option FileMap) (Same : Type 0) (left l
       → ((settings : GatewayConf) → conf.gateway ≡ Some settings → EndsServedBy conf settings left left_now taken now status told) → EndsStream words shelf Same left left_now taken now status told
   conf_served conf has serves =
       let own = some_gateway conf has.holds.tables.0 in (
-        file_names has.found None None None,
-        all_found shelf (Some words.conf) None None None has.found None None None has.known tt tt tt,
+        file_names has.found None None None None,
+        conf_found shelf (Some words.conf) has.found has.known,
         inr (record { conf = conf; read = has.holds; settings = own.0; settings_are = own.1; served = serves own.0 own.1 }),
       )
 
@@ -266,6 +266,7 @@ reads_whole (command.Base words) not = refl
 reads_whole (command.Verify words) not = refl
 reads_whole (command.Sign words) not = refl
 reads_whole (command.Rewrite words) not = refl
+reads_whole (command.Explain words) not = refl
 reads_whole (command.Audit words) not = refl
 reads_whole (command.Gateway words) not = absurd (not words refl)
 reads_whole (command.Sample words) not = refl

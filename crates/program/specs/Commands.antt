@@ -2,7 +2,7 @@
 use Rattle.std.specs.Prelude.{◌≡◌, ◌+◌, ◌≤◌, ℕ, Bool, true, false, IsTrue, List, Option, None}
 use Rattle.hms_io.specs.Files.{FileMap}
 use Rattle.hms_io.specs.Reading.{LosesPrefix}
-use Rattle.command_line.specs.Command.{CommandLine, Help, HelpOf, Version, Base, Verify, Sign, Rewrite, Audit, Gateway, Sample, IsCommand, conf_of, request_of, wanted_of, script_of}
+use Rattle.command_line.specs.Command.{CommandLine, Help, HelpOf, Version, Base, Verify, Sign, Rewrite, Explain, Audit, Gateway, Sample, IsCommand, conf_of, request_of, wanted_of, script_of, other_of}
 use Rattle.commands.specs.Files.{FileRole, FileNames, Found, AreFound, file_names, file_bytes}
 use Rattle.refusals.specs.declared.refusal.TheConstants.{MAX_INPUT_BYTES, MAX_RECORDING_BYTES}
 
@@ -10,6 +10,7 @@ use Rattle.refusals.specs.declared.refusal.TheConstants.{MAX_INPUT_BYTES, MAX_RE
 abbrev pub name_of : CommandLine → FileNames
 name_of command =
     file_names (conf_of command) (request_of command) (wanted_of command) (script_of command)
+    (other_of command)
 
 -- how a command reads its input
 pub data InputUse : Type 0 where
@@ -28,6 +29,7 @@ input_use (Base words) = Whole MAX_INPUT_BYTES
 input_use (Verify words) = Whole MAX_INPUT_BYTES
 input_use (Sign words) = Whole MAX_INPUT_BYTES
 input_use (Rewrite words) = Whole MAX_INPUT_BYTES
+input_use (Explain words) = Whole MAX_INPUT_BYTES
 input_use (Audit words) = Whole MAX_RECORDING_BYTES
 input_use (Gateway words) = Streamed
 input_use (Sample words) = Unread

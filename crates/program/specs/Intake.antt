@@ -10,7 +10,7 @@ use Rattle.conf.specs.ConfMeaning.{meaning}
 use Rattle.verdicts.specs.Contexts.{context_for}
 use Rattle.commands.specs.Configured.{IsConfigured, IsConfRefused}
 use Rattle.commands.specs.Files.{FileNames, FileRole, Found, Conf as ConfFile, Request as RequestFile, Wanted as WantedFile, Script as ScriptFile, Other as OtherFile, file_names}
-use Rattle.commands.specs.MessageFiles.{IsRequested, IsRequestRefused, IsWanted, IsWantedRefused}
+use Rattle.commands.specs.MessageFiles.{IsMessageFile, IsMessageFileRefused, IsRequested, IsRequestRefused, IsWanted, IsWantedRefused}
 use Rattle.commands.specs.Messages.{IsInputMessage, IsInputRefused}
 use Rattle.commands.specs.Scripts.{IsScripted, IsScriptRefused}
 use Rattle.commands.specs.Tables.{HasTables, IsTableMissing}
@@ -19,7 +19,7 @@ use Rattle.rewrite_script.specs.declared.rewrite.Rewrite.{Rewrite}
 use Rattle.refusals.specs.declared.file.FileRefusal.{FileRefusal}
 use Rattle.refusals.specs.declared.refusal.Refusal.{Refusal}
 use Rattle.refusals.specs.declared.refusal.Refusal.TheVariants.{Of}
-use Rattle.refusals.specs.declared.role.Role.TheVariants.{Conf, Request, Wanted, Script, Input}
+use Rattle.refusals.specs.declared.role.Role.TheVariants.{Conf, Request, Wanted, Script, Other, Input}
 use Rattle.program.specs.declared.intake.FileWords.{FileWords}
 use Rattle.program.specs.declared.intake.Taken.{Taken}
 
@@ -28,14 +28,16 @@ abbrev pub names_of : FileWords → FileNames
 names_of words =
     file_names (option_map (λ word. word.now) words.conf)
     (option_map (λ word. word.now) words.request) (option_map (λ word. word.now) words.wanted)
-    (option_map (λ word. word.now) words.script)
+    (option_map (λ word. word.now) words.script) (option_map (λ word. word.now) words.other)
 
 -- what is read for a command: a configuration, the message that wishes signatures, if any, a
--- script, and the input with the request that it answers, if any
+-- script, the other record of the message, if any, and the input with the request that it answers,
+-- if any
 pub record TakenValues : Type 0 where
   pub conf : Configuration
   pub wishes : Option Message
   pub script : List Rewrite
+  pub other : Option Message
   pub context : MessageContext
 
 -- what the borrowed parts stand for
@@ -44,6 +46,7 @@ taken_of taken = record {
   conf = meaning taken.conf.now;
   wishes = option_map (λ view. message_of view.now) taken.wishes;
   script = taken.script.now;
+  other = option_map (λ view. message_of view.now) taken.other;
   context = context_of taken.context.now;
 }
 
@@ -59,14 +62,21 @@ IsConfLacking needs name found refusal =
     IsConfRefused name found refusal
     ⊎ ((conf : Configuration) × IsConfigured name found conf × IsTableMissing needs conf refusal)
 
--- The files of these names and the input are what is taken: each file is read, the input answers
--- the request, where one is named, and its context is that of the configuration.
+-- the other record of the message, which answers the request, where one is named
+abbrev pub IsOther : FileNames → Found → Option Message → Option Message → Type 0
+IsOther names found related other =
+    IsMessageFile (reading_for related) (names OtherFile) (found OtherFile) other
+
+-- The files of these names and the input are what is taken: each file is read, the other record of
+-- the message and the input answer the request, where one is named, and the input's context is that
+-- of the configuration.
 pub record IsIntake (needs : Needs) (names : FileNames) (found : Found) (input : List ℕ)
     (taken : TakenValues) : Type 0 where
   pub conf : IsConfRead needs (names ConfFile) (found ConfFile) taken.conf
   pub requested : IsRequested (names RequestFile) (found RequestFile) taken.context.related
   pub wanted : IsWanted (names WantedFile) (found WantedFile) taken.wishes
   pub scripted : IsScripted (names ScriptFile) (found ScriptFile) taken.script
+  pub recorded : IsOther names found taken.context.related taken.other
   pub is : IsInputMessage (reading_for taken.context.related) input taken.context.message
   pub context_is :
       taken.context ≡ context_for taken.conf taken.context.message taken.context.related
@@ -85,11 +95,25 @@ pub record IsReadToWishes (needs : Needs) (names : FileNames) (found : Found) : 
   pub before : IsReadToRequest needs names found
   pub wishes : IsSomeRead (IsWanted (names WantedFile) (found WantedFile))
 
--- the input is refused as one that answers the request, where one is named
+-- they are, and the script
+pub record IsReadToScript (needs : Needs) (names : FileNames) (found : Found) : Type 0 where
+  pub before : IsReadToWishes needs names found
+  pub script : IsSomeRead (IsScripted (names ScriptFile) (found ScriptFile))
+
+-- the other record of the message is refused as one that answers the request, where one is named
+pub record IsOtherRefused (names : FileNames) (found : Found) (refusal : FileRefusal)
+    : Type 0 where
+  pub related : Option Message
+  pub requested : IsRequested (names RequestFile) (found RequestFile) related
+  pub refused : IsMessageFileRefused (reading_for related) (names OtherFile) (found OtherFile)
+      refusal
+
+-- it is read so, and the input is refused as one that answers the request, where one is named
 pub record IsAnswerRefused (names : FileNames) (found : Found) (input : List ℕ)
     (refusal : FileRefusal) : Type 0 where
   pub related : Option Message
   pub requested : IsRequested (names RequestFile) (found RequestFile) related
+  pub recorded : IsSomeRead (IsOther names found related)
   pub refused : IsInputRefused (reading_for related) input refusal
 
 -- Why nothing is taken: the first text that is refused, where those before it are read. Their order
@@ -106,10 +130,10 @@ IsIntakeRefused needs names found input (Of Wanted refusal) =
 IsIntakeRefused needs names found input (Of Script refusal) =
     IsReadToWishes needs names found
     × IsScriptRefused (names ScriptFile) (found ScriptFile) refusal
+IsIntakeRefused needs names found input (Of Other refusal) =
+    IsReadToScript needs names found × IsOtherRefused names found refusal
 IsIntakeRefused needs names found input (Of Input refusal) =
-    IsReadToWishes needs names found
-    × IsSomeRead (IsScripted (names ScriptFile) (found ScriptFile))
-    × IsAnswerRefused names found input refusal
+    IsReadToScript needs names found × IsAnswerRefused names found input refusal
 IsIntakeRefused needs names found input refusal = ⊥
 
 -- ---- the files that are asked for
@@ -123,6 +147,7 @@ abbrev pub roles_until : Refusal → List FileRole
 roles_until (Of Conf refusal) = ConfFile ∷ []
 roles_until (Of Request refusal) = ConfFile ∷ RequestFile ∷ []
 roles_until (Of Wanted refusal) = ConfFile ∷ RequestFile ∷ WantedFile ∷ []
+roles_until (Of Script refusal) = ConfFile ∷ RequestFile ∷ WantedFile ∷ ScriptFile ∷ []
 roles_until refusal = read_order
 
 -- how many files of these roles have a name

@@ -1,10 +1,10 @@
 -- Laws of what the program answers.
-use Rattle.std.specs.Prelude.{◌≡◌, ◌⊎◌, ⊤, ℕ, IsTrue, IsFalse, List, [], ◌∷◌, Option, Some, None}
+use Rattle.std.specs.Prelude.{◌≡◌, ◌⊎◌, ⊤, ℕ, IsTrue, IsFalse, IsSomeAnd, List, [], ◌∷◌, Option, Some, None}
 use Rattle.std.specs.List.{list_all, list_any}
 use Rattle.hms_io.specs.declared.status.Status.{Status}
 use Rattle.hms_io.specs.declared.status.Status.TheVariants.{Done, NotOk}
 use Rattle.sfv_text.specs.Classes.{is_byte}
-use Rattle.command_line.specs.Command.{CommandLine, Help, HelpOf, Version, Base, Verify, Sign, Rewrite, Audit, Gateway, Sample, SignWords, VerifyWords, RewriteWords, AuditWords, GatewayWords, IsCommand}
+use Rattle.command_line.specs.Command.{CommandLine, Help, HelpOf, Version, Base, Verify, Sign, Rewrite, Explain, Audit, Gateway, Sample, SignWords, VerifyWords, RewriteWords, AuditWords, GatewayWords, IsCommand}
 use Rattle.component_ids.specs.declared.params.SigParams.{SigParams}
 use Rattle.component_values.specs.Context.{MessageContext, context_with}
 use Rattle.component_values.specs.Values.{HaveValues}
@@ -32,6 +32,8 @@ use Rattle.recording.specs.Items.{PlacedItem}
 use Rattle.settings.specs.declared.gateway_conf.GatewayConf.{GatewayConf}
 use Rattle.gateway.specs.Streams.{IsServed as IsServedWhole}
 use Rattle.gateway.specs.declared.gateway_record.GatewayRecord.{GatewayRecord}
+use Rattle.normal_forms.specs.Causes.{IsExplainFault}
+use Rattle.normal_forms.specs.declared.fault.ExplainFault.{ExplainFault}
 use Rattle.hop_audit.specs.ChainValues.{Chain}
 use Rattle.hop_audit.specs.Laws.{IsSoundReport}
 use Rattle.hop_audit.specs.Report.{AreItemsOf, IsReport}
@@ -120,6 +122,12 @@ IsSignDone own moment conf (Some wishes) context =
 abbrev pub IsRewriteDone : Option (List ℕ) → List Rewriting → MessageContext → Type 0
 IsRewriteDone label script context = (after : Message) × Steps (IsTaken label) context script after
 
+-- there is nothing for which the message and its other record aren't explained for the label
+abbrev pub IsExplainDone : List ℕ → Option Message → MessageContext → Type 0
+IsExplainDone label other context =
+    IsSomeAnd other (λ also. (fault : ExplainFault)
+    → ¬ IsExplainFault context (context_with context also) label fault)
+
 -- all that the command needs is read, and over it the command can be done
 pub record IsServed (needs : Needs) (names : FileNames) (found : Found) (input : List ℕ)
     (IsDone : TakenValues → Type 0) : Type 0 where
@@ -152,6 +160,9 @@ HasAll (Sign words) found input =
 HasAll (Rewrite words) found input =
     IsServed Nothing (name_of (Rewrite words)) found input
     (λ taken. IsRewriteDone words.label taken.script taken.context)
+HasAll (Explain words) found input =
+    IsServed Nothing (name_of (Explain words)) found input
+    (λ taken. IsExplainDone words.label taken.other taken.context)
 HasAll (Audit words) found input = IsAuditable words found input
 HasAll (Gateway words) found input = ⊥
 HasAll (Sample words) found input = ⊤

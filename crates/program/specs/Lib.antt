@@ -1,5 +1,6 @@
 pub mod Commands
 pub mod Ends
+pub mod Help
 pub mod Intake
 pub mod Laws
 pub mod Meanings

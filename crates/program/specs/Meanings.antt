@@ -1,16 +1,16 @@
 -- What the program's output tells of the messages that it was given (RFC 9421 sections 2.5, 3.2).
-use Rattle.std.specs.Prelude.{◌≡◌, ◌⊎◌, ◌↔◌, ℕ, ◌+◌, Bool, List, Option, Some, IfSome}
+use Rattle.std.specs.Prelude.{◌≡◌, ◌⊎◌, ◌↔◌, ℕ, ◌+◌, Bool, List, slice_get, Option, Some, IfSome, IsSomeAnd}
 use Rattle.std.specs.Io.KnownBytes.{Appends}
 use Rattle.std.specs.List.{All, Contains, zip}
 use Rattle.hms_io.specs.Files.{FileMap}
 use Rattle.hms_io.specs.declared.status.Status.{Status}
 use Rattle.hms_io.specs.declared.status.Status.TheVariants.{Done, NotOk}
-use Rattle.command_line.specs.Command.{Base, Verify, Sign, Audit, BaseWords, VerifyWords, SignWords, AuditWords, IsCommand}
+use Rattle.command_line.specs.Command.{Base, Verify, Sign, Explain, Audit, BaseWords, VerifyWords, SignWords, ExplainWords, AuditWords, IsCommand}
 use Rattle.msg_body.specs.Messages.{Message, Spells}
 use Rattle.msg_body.specs.WholeTexts.{reading_for}
 use Rattle.component_ids.specs.declared.id.ComponentId.{ComponentId}
 use Rattle.component_ids.specs.declared.params.SigParams.{SigParams}
-use Rattle.component_values.specs.Context.{answers_head}
+use Rattle.component_values.specs.Context.{MessageContext, answers_head}
 use Rattle.component_values.specs.Laws.{HasMessages}
 use Rattle.component_values.specs.Values.{HaveValues}
 use Rattle.sig_base.specs.Laws.{HaveBase}
@@ -24,6 +24,9 @@ use Rattle.verdicts.specs.Verdicts.{Accepts}
 use Rattle.verdicts.specs.Verification.{Verification, verification_for}
 use Rattle.verdicts.specs.declared.outcome.Verdict.{Verdict}
 use Rattle.verdicts.specs.declared.outcome.Verdict.TheVariants.{Ok as Accepted}
+use Rattle.rewrite_script.specs.declared.rewrite.Rewrite.{Rewrite}
+use Rattle.normal_forms.specs.Agreement.{AgreeOn}
+use Rattle.normal_forms.specs.Explanations.{AreExplained, DifferFirstAt}
 use Rattle.recording.specs.Items.{PlacedItem}
 use Rattle.hop_audit.specs.ChainValues.{Chain}
 use Rattle.hop_audit.specs.Laws.{AcceptsChange, HasTagOfTwo, IsKeptWithItsBaseAt, IsSoundReport}
@@ -36,8 +39,9 @@ use Rattle.refusals.specs.Laws.{IsLine}
 use Rattle.commands.specs.Audit.{IsRecordingText}
 use Rattle.commands.specs.Configured.{IsConfigured}
 use Rattle.commands.specs.Covered.{ReadsParams}
-use Rattle.commands.specs.Files.{Found, Conf as ConfFile, Request as RequestFile, Wanted as WantedFile}
-use Rattle.commands.specs.MessageFiles.{IsRequested, IsWanted}
+use Rattle.commands.specs.Explain.{differing_text, explained_text}
+use Rattle.commands.specs.Files.{Found, Conf as ConfFile, Request as RequestFile, Wanted as WantedFile, Other as OtherFile}
+use Rattle.commands.specs.MessageFiles.{IsMessageFile, IsRequested, IsWanted}
 use Rattle.commands.specs.Messages.{IsInputMessage}
 use Rattle.commands.specs.Outcome.{output_of, status_of}
 use Rattle.commands.specs.SignedMessages.{SignsAs}
@@ -168,6 +172,60 @@ HasSigned =
     → IsCommand arguments (Sign words) → Reports arguments found input (Written output)
     → TellsSigned words found input output
 
+-- ---- `explain`
+
+-- The output has two lists of steps, each of which the label's signature permits on the message
+-- that it meets. They lead the two messages to normal ones, which are alike.
+pub record TellsSteps (context other : MessageContext) (label : List ℕ) (params : SigParams)
+    (output : List ℕ) : Type 0 where
+  pub steps : List Rewrite
+  pub others : List Rewrite
+  pub are : AreExplained context other label params steps others
+  pub written : output ≡ explained_text steps others
+
+-- the output has the first component that is covered and on which the messages don't agree
+pub record TellsDifference (message other : Message) (params : SigParams) (output : List ℕ)
+    : Type 0 where
+  pub index : ℕ
+  pub first : DifferFirstAt message other index params.ids
+  pub written : IsSomeAnd (slice_get params.ids index) (λ id. output ≡ differing_text id)
+
+-- The label has one signature in both messages. The steps are told exactly where the messages agree
+-- on each component that it covers, and else the first on which they don't.
+pub record IsExplanation (context other : MessageContext) (label : List ℕ) (status : Status)
+    (output : List ℕ) : Type 0 where
+  pub params : SigParams
+  pub tag : List ℕ
+  pub signature : HasSignature context.message label params tag
+  pub other_signature : HasSignature other.message label params tag
+  pub exact : (status ≡ Done) ↔ All (AgreeOn context.message other.message) params.ids
+  pub steps : status ≡ Done → TellsSteps context other label params output
+  pub difference : status ≡ NotOk → TellsDifference context.message other.message params output
+
+-- the same of the input and of the message in the other file
+pub record TellsExplanation (words : ExplainWords) (status : Status) (found : Found)
+    (input output : List ℕ) : Type 0 where
+  pub conf : Configuration
+  pub configured : IsConfigured words.conf (found ConfFile) conf
+  pub related : Option Message
+  pub requested : IsRequested words.request (found RequestFile) related
+  pub other : Message
+  pub recorded : IsMessageFile (reading_for related) (Some words.other) (found OtherFile)
+      (Some other)
+  pub message : Message
+  pub is : IsInputMessage (reading_for related) input message
+  pub explains : IsExplanation (context_for conf message related) (context_for conf other related)
+      words.label status output
+
+-- what `explain` writes is so
+abbrev pub HasExplanation : Type 0
+HasExplanation =
+    (arguments : List (List ℕ)) (words : ExplainWords) (found : Found) (input : List ℕ)
+    (outcome : Outcome) → IsCommand arguments (Explain words)
+    → Reports arguments found input outcome
+    → (status_of outcome ≡ Done) ⊎ (status_of outcome ≡ NotOk)
+    → TellsExplanation words (status_of outcome) found input (output_of outcome)
+
 -- ---- `audit`
 
 -- The output is the report on the chain that the input records; the one LF of each line is its end.
@@ -239,6 +297,14 @@ abbrev pub WritesSigned : List (List ℕ) → Option FileMap → Option (List �
 WritesSigned arguments shelf before taken now status =
     (words : SignWords) → IsCommand arguments (Sign words) → status ≡ Done
     → HasWritten (TellsSigned words) (AreFoundFor arguments shelf) before taken now
+
+-- where `explain` is done, whether the messages agree or not, an explanation was written
+abbrev pub WritesExplanation : List (List ℕ) → Option FileMap → Option (List ℕ)
+    → Option (List ℕ) → Option (List ℕ) → Status → Type 0
+WritesExplanation arguments shelf before taken now status =
+    (words : ExplainWords) → IsCommand arguments (Explain words)
+    → (status ≡ Done) ⊎ (status ≡ NotOk)
+    → HasWritten (TellsExplanation words status) (AreFoundFor arguments shelf) before taken now
 
 -- where `audit` is done, whether a line counts against the chain or none, one chain was told
 abbrev pub WritesOneChain : List (List ℕ) → Option FileMap → Option (List ℕ) → Option (List ℕ)

@@ -1,13 +1,13 @@
 -- What the program answers for its arguments, what was found in its files, and its input, and for
 -- nothing else.
-use Rattle.std.specs.Prelude.{⊤, ℕ, List}
-use Rattle.command_line.specs.Command.{CommandLine, Help, HelpOf, Version, Base, Verify, Sign, Rewrite, Audit, Gateway, Sample, IsCommand, NoCommand}
+use Rattle.std.specs.Prelude.{⊤, ℕ, IsSomeAnd, List}
+use Rattle.command_line.specs.Command.{CommandLine, Help, HelpOf, Version, Base, Verify, Sign, Rewrite, Explain, Audit, Gateway, Sample, IsCommand, NoCommand}
 use Rattle.conf.specs.Configuration.{Configuration}
 use Rattle.commands.specs.Audit.{ReportsAudit}
 use Rattle.commands.specs.Base.{ReportsBase}
 use Rattle.commands.specs.Configured.{IsConfigured, IsConfRefused}
+use Rattle.commands.specs.Explain.{ReportsExplanation}
 use Rattle.commands.specs.Files.{FileNames, Found, Conf as ConfFile}
-use Rattle.commands.specs.Help.{ReportsHelp, ReportsHelpOf, ReportsVersion}
 use Rattle.commands.specs.Layers.{ReadsThen}
 use Rattle.commands.specs.Rewrite.{ReportsRewriting}
 use Rattle.commands.specs.Sample.{ReportsSample}
@@ -17,6 +17,7 @@ use Rattle.commands.specs.declared.outcome.Outcome.{Outcome}
 use Rattle.commands.specs.declared.tables.Needs.{Needs}
 use Rattle.commands.specs.declared.tables.Needs.TheVariants.{Nothing, SignTable}
 use Rattle.program.specs.Commands.{name_of}
+use Rattle.program.specs.Help.{ReportsHelp, ReportsHelpOf, ReportsVersion}
 use Rattle.program.specs.Intake.{TakenValues, IsIntake, IsIntakeRefused}
 use Rattle.refusals.specs.declared.role.Role.TheVariants.{Conf}
 use Rattle.refusals.specs.declared.refusal.Refusal.TheVariants.{Arguments, Of}
@@ -58,14 +59,20 @@ ReportsCommand (Sign words) found input =
 ReportsCommand (Rewrite words) found input =
     ReportsFiles Nothing (λ taken. ReportsRewriting words.label taken.script taken.context)
     (name_of (Rewrite words)) found input
+ReportsCommand (Explain words) found input =
+    ReportsFiles Nothing
+    (λ taken outcome. IsSomeAnd taken.other (λ other.
+    ReportsExplanation words.label other taken.context outcome))
+    (name_of (Explain words)) found input
 ReportsCommand (Audit words) found input =
     ReportsConfigured (λ conf. ReportsAudit conf input) (name_of (Audit words)) found
 ReportsCommand (Gateway words) found input = λ outcome. ⊥
 ReportsCommand (Sample words) found input = ReportsSample words.seed words.count
 
 -- The outcome for these arguments, what was found and this input. The arguments are judged first,
--- then the configuration, the request, the message that wishes signatures, the script, the input,
--- and the command over them; of `audit` the configuration, and then the input.
+-- then the configuration, the request, the message that wishes signatures, the script, the other
+-- record of the message, the input, and the command over them; of `audit` the configuration, and
+-- then the input.
 abbrev pub Reports : List (List ℕ) → Found → List ℕ → Outcome → Type 0
 Reports arguments found input =
     ReadsThen (IsCommand arguments) (λ (_ : ⊤). NoCommand arguments) (λ _. Arguments) (λ command.

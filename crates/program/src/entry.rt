@@ -9,7 +9,7 @@ ghost use Rattle.program.specs.Commands.{NamesNoFile, ReadsNoInput, ReadsWhole, 
 ghost use Rattle.program.specs.Ends.{AsksForNamed, HasReport, Ends, TellsWhy, WritesRefusal, CountsFaults, CountsReads};
 ghost use Rattle.program.specs.StreamEnds.{IsRefusedFor, WritesStream};
 ghost use Rattle.program.specs.StreamMeanings.{WritesPassed};
-ghost use Rattle.program.specs.Meanings.{WritesOneBase, WritesOneChain, WritesSigned, WritesVerdicts};
+ghost use Rattle.program.specs.Meanings.{WritesExplanation, WritesOneBase, WritesOneChain, WritesSigned, WritesVerdicts};
 ghost use Rattle.refusals.specs.declared.refusal.Refusal.TheVariants.{Arguments};
 ghost use Rattle.commands.specs.declared.stop.Stop.TheVariants.{Refused};
 ghost use Rattle.commands.specs.Outcome.{output_of};
@@ -17,11 +17,12 @@ ghost use Rattle.commands.specs.Stops.{IfOutcome};
 ghost use Rattle.program.specs.tools.Parts.{AsksOf, CountsOne, IsWritten, IsWrittenStop, refusal_of};
 
 use crate::ended::Ended;
+use crate::help::{help_outcome, version_outcome, write_help_of};
 use crate::over_message::over_message;
 use crate::over_recording::over_recording;
 use crate::over_stream::over_stream;
 use command_line::{Command, GatewayWords, read_words};
-use commands::{Outcome, Stop, help_outcome, sample_outcome, version_outcome, write_help_of};
+use commands::{Outcome, Stop, sample_outcome};
 use hms_io::{Failed, Shelf, Sink, Source, Status, put_all};
 use refusals::Refusal;
 use sfv_text::{Memory, Text};
@@ -65,6 +66,7 @@ fn run_command<F: Shelf, S: Source>(
         Command::Verify(words) => over_message(alloc, &words, shelf, source),
         Command::Sign(words) => over_message(alloc, &words, shelf, source),
         Command::Rewrite(words) => over_message(alloc, &words, shelf, source),
+        Command::Explain(words) => over_message(alloc, &words, shelf, source),
         Command::Audit(words) => over_recording(alloc, &words, shelf, source),
         // what it writes isn't known before all is read
         Command::Gateway(_) => unreachable!(),
@@ -159,6 +161,8 @@ fn run_whole<F: Shelf, S: Source, K: Sink>(
         (S.left source.old) (K.taken out.old) (K.taken out.new) result.status }
     ensures sign { WritesSigned (map string_bytes arguments.now) (F.files shelf.old)
         (S.left source.old) (K.taken out.old) (K.taken out.new) result.status }
+    ensures explain { WritesExplanation (map string_bytes arguments.now) (F.files shelf.old)
+        (S.left source.old) (K.taken out.old) (K.taken out.new) result.status }
     ensures audit { WritesOneChain (map string_bytes arguments.now) (F.files shelf.old)
         (S.left source.old) (K.taken out.old) (K.taken out.new) result.status }
     ensures refused { NoCommand (map string_bytes arguments.now)
@@ -216,14 +220,16 @@ pub fn run<F: Shelf, S: Source, K: Sink>(
 
     // What these commands wrote tells what it was made of: equal bases have equal parameters and
     // values, labels that are accepted with one tag under one key agree, each label that was there
-    // or is signed is there, what is kept at a hop has one base on both sides of it, and a message
-    // that passes keeps the accepted signature, beside that of the gateway; no nonce is accepted
-    // twice.
+    // or is signed is there, two records that are explained agree on all that is covered, what is
+    // kept at a hop has one base on both sides of it, and a message that passes keeps the accepted
+    // signature, beside that of the gateway; no nonce is accepted twice.
     ensures base { WritesOneBase (map string_bytes arguments.now) (F.files shelf.old)
         (S.left source.old) (K.taken out.old) (K.taken out.new) result.status }
     ensures verify { WritesVerdicts (map string_bytes arguments.now) (F.files shelf.old)
         (S.left source.old) (K.taken out.old) (K.taken out.new) result.status }
     ensures sign { WritesSigned (map string_bytes arguments.now) (F.files shelf.old)
+        (S.left source.old) (K.taken out.old) (K.taken out.new) result.status }
+    ensures explain { WritesExplanation (map string_bytes arguments.now) (F.files shelf.old)
         (S.left source.old) (K.taken out.old) (K.taken out.new) result.status }
     ensures audit { WritesOneChain (map string_bytes arguments.now) (F.files shelf.old)
         (S.left source.old) (K.taken out.old) (K.taken out.new) result.status }

@@ -16,9 +16,11 @@ pub struct FileWords<'a> {
     pub wanted: Option<&'a str>,
     /// The file of the script.
     pub script: Option<&'a str>,
+    /// The file of the other record of the message.
+    pub other: Option<&'a str>,
 }
 
-/// What was read of the files.
+/// What was read of the files, the other record of the message aside.
 #[derive(Clone, Copy)]
 pub struct FilesRead<'x> {
     /// The configuration, or that of the empty text.
@@ -40,6 +42,8 @@ pub struct Taken<'x> {
     pub wishes: Option<&'x MessageView<'x>>,
     /// The steps of the script, or none.
     pub script: &'x [Rewrite],
+    /// The other record of the message, which answers the same request as the input.
+    pub other: Option<&'x MessageView<'x>>,
     /// The input, the request that it answers, and what the configuration says of both.
     pub context: &'x Context<'x, 'x>,
 }

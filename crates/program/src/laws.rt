@@ -1,7 +1,7 @@
 //! Laws of what the program answers. Each function does nothing; its contract is the law.
 
 ghost use Rattle.program.specs.Laws.{HasIntake, HasOneReport, HasSomeReport, IsComplete, IsServedInPlace, IsIntakeDecided, IsAcceptedWhereSigned, IsVerdictKept, IsKeptWherePermitted, IsLineWhereRefused};
-ghost use Rattle.program.specs.Meanings.{HasOneBase, HasOneChain, HasSigned, HaveOneMeaning, RunsAgreeWhereOneTag};
+ghost use Rattle.program.specs.Meanings.{HasExplanation, HasOneBase, HasOneChain, HasSigned, HaveOneMeaning, RunsAgreeWhereOneTag};
 
 /// For given arguments, files and input there is one outcome, and so one status and one output. So
 /// each row of the report is exact: its status and its output come there and nowhere else, out of
@@ -78,4 +78,12 @@ pub fn a_base_has_one_meaning()
 /// that changed a component, its tag is the HMAC of two texts.
 pub fn what_is_kept_has_one_base()
     ensures { HasOneChain }
+{}
+
+/// What `explain` writes of two records of one message has two lists of rewritings, which the
+/// label's signature permits and which lead both to messages that are normal and alike, exactly
+/// where the two agree on each component that is covered; and else it has the first on which they
+/// don't.
+pub fn what_is_explained_agrees()
+    ensures { HasExplanation }
 {}

@@ -1,13 +1,15 @@
 //! Commands over a configuration and one whole message, and their steps: the configuration is read,
 //! then the request that the message answers, the message that wishes signatures, the script, the
-//! source, and its message; the context is made, and the command is done over all of them.
+//! other record of the message, the source, and its message; the context is made, and the command
+//! is done over all of them.
 
 ghost use Rattle.std.specs.Prelude.{◌≡◌, ◌≤◌, ◌+◌, IfNone, IfOk, IfErr, IsTrue, length, option_map};
 ghost use Rattle.std.specs.List.{list_all};
 ghost use Rattle.hms_io.specs.Files.{KeepsFiles};
 ghost use Rattle.component_values.specs.Context.{HasWholeMessage};
 ghost use Rattle.conf.specs.ConfMeaning.{meaning};
-ghost use Rattle.commands.specs.Files.{AreFound, HasFound};
+ghost use Rattle.msg_body.specs.Views.{message_of};
+ghost use Rattle.commands.specs.Files.{AreFound, HasFound, Other};
 ghost use Rattle.commands.specs.Stops.{IfOutcome, IfStopped, IsRefusalFor, ReadsNothing, CountsStop};
 ghost use Rattle.commands.specs.Tables.{HasTables};
 ghost use Rattle.refusals.specs.declared.refusal.TheConstants.{MAX_CONF_BYTES};
@@ -18,17 +20,18 @@ ghost use Rattle.program.specs.Commands.{LosesAtMost, Whole};
 ghost use Rattle.program.specs.Ends.{HasInput, HasOutcome, Leaves};
 ghost use Rattle.program.specs.Intake.{IsConfLacking, IsConfRead, names_of, read_order, taken_of};
 ghost use Rattle.program.specs.Report.{ReportsFiles};
-ghost use Rattle.program.specs.tools.Parts.{Asks, AsksUntil, CountsOne, IsAfterInput, IsOwn, ReportsMessage, roles_read, values_of};
+ghost use Rattle.program.specs.tools.Parts.{Asks, AsksUntil, CountsOne, HasOther, IsAfterInput, IsOwn, ReportsMessage, ReportsRecord, roles_read, values_of};
 
 use crate::intake::{FileWords, FilesRead, Taken};
-use command_line::{BaseWords, RewriteWords, SignWords, VerifyWords};
+use command_line::{BaseWords, ExplainWords, RewriteWords, SignWords, VerifyWords};
 use commands::{
-    Needs, Outcome, Reading, Stop, base_outcome, check_tables, context_for, fetch_message,
-    fetched_message, message_of_role, read_configuration, read_script_file, rewrite_outcome,
-    sign_outcome, verify_outcome, wished_outcome,
+    Needs, Outcome, Reading, Stop, base_outcome, check_tables, context_for, explain_outcome,
+    fetch_message, fetched_message, message_of_role, read_configuration, read_script_file,
+    rewrite_outcome, sign_outcome, verify_outcome, wished_outcome,
 };
 use conf::Conf;
 use hms_io::{Shelf, Source, fill};
+use msg_body::MessageView;
 use refusals::{MAX_INPUT_BYTES, Role};
 use std::alloc::Global;
 
@@ -65,6 +68,8 @@ pub trait OverMessage {
         requires tables { HasTables (tables self.now) (taken_of taken.now).conf }
         requires writable { IsTrue (list_all is_writable (taken_of taken.now).script) }
         requires whole { HasWholeMessage (taken_of taken.now).context }
+        requires other { HasOther (names self.now Other) (taken_of taken.now).context.related
+            (taken_of taken.now).other }
         ensures report { IfOutcome result (reports self.now (taken_of taken.now)) }
         ensures own { IfOutcome result IsOwn }
         ensures reads_nothing { ReadsNothing result };
@@ -79,7 +84,7 @@ impl<'a> OverMessage for BaseWords<'a> {
     ghost is_in_range = { λ words. ⊤ };
 
     ghost names = { λ words. file_names (option_map (λ word. word.now) words.conf)
-        (option_map (λ word. word.now) words.request) None None };
+        (option_map (λ word. word.now) words.request) None None None };
 
     ghost tables = { λ words. Nothing };
 
@@ -91,6 +96,7 @@ impl<'a> OverMessage for BaseWords<'a> {
             request: self.request,
             wanted: None,
             script: None,
+            other: None,
         }
     }
 
@@ -113,7 +119,7 @@ impl<'a> OverMessage for VerifyWords<'a> {
     ghost is_in_range = { λ words. words.now < 10 ^ MAX_MOMENT_DIGITS };
 
     ghost names = { λ words. file_names (Some words.conf.now)
-        (option_map (λ word. word.now) words.request) None None };
+        (option_map (λ word. word.now) words.request) None None None };
 
     ghost tables = { λ words. Nothing };
 
@@ -126,6 +132,7 @@ impl<'a> OverMessage for VerifyWords<'a> {
             request: self.request,
             wanted: None,
             script: None,
+            other: None,
         }
     }
 
@@ -151,7 +158,7 @@ impl<'a> OverMessage for SignWords<'a> {
 
     ghost names = { λ words. file_names (Some words.conf.now)
         (option_map (λ word. word.now) words.request)
-        (option_map (λ word. word.now) words.wanted) None };
+        (option_map (λ word. word.now) words.wanted) None None };
 
     ghost tables = { λ words. SignTable };
 
@@ -164,6 +171,7 @@ impl<'a> OverMessage for SignWords<'a> {
             request: self.request,
             wanted: self.wanted,
             script: None,
+            other: None,
         }
     }
 
@@ -188,7 +196,7 @@ impl<'a> OverMessage for RewriteWords<'a> {
     ghost is_in_range = { λ words. ⊤ };
 
     ghost names = { λ words. file_names (option_map (λ word. word.now) words.conf)
-        (option_map (λ word. word.now) words.request) None (Some words.script.now) };
+        (option_map (λ word. word.now) words.request) None (Some words.script.now) None };
 
     ghost tables = { λ words. Nothing };
 
@@ -201,6 +209,7 @@ impl<'a> OverMessage for RewriteWords<'a> {
             request: self.request,
             wanted: None,
             script: Some(self.script),
+            other: None,
         }
     }
 
@@ -213,20 +222,63 @@ impl<'a> OverMessage for RewriteWords<'a> {
     }
 }
 
+impl<'a> OverMessage for ExplainWords<'a> {
+    ghost use Rattle.std.specs.Prelude.{⊤, IsSomeAnd, None, Some, option_map};
+    ghost use Rattle.commands.specs.Explain.{ReportsExplanation};
+    ghost use Rattle.commands.specs.Files.{file_names};
+    ghost use Rattle.commands.specs.declared.tables.Needs.TheVariants.{Nothing};
+
+    ghost is_in_range = { λ words. ⊤ };
+
+    ghost names = { λ words. file_names (option_map (λ word. word.now) words.conf)
+        (option_map (λ word. word.now) words.request) None None (Some words.other.now) };
+
+    ghost tables = { λ words. Nothing };
+
+    ghost reports = { λ words taken outcome. IsSomeAnd taken.other (λ other.
+        ReportsExplanation words.label.now other taken.context outcome) };
+
+    fn files<'s>(&'s self) -> FileWords<'s> {
+        FileWords {
+            conf: self.conf,
+            request: self.request,
+            wanted: None,
+            script: None,
+            other: Some(self.other),
+        }
+    }
+
+    fn needs(&self) -> Needs {
+        Needs::Nothing
+    }
+
+    fn answer(&self, alloc: Global, taken: &Taken<'_>) -> Result<Outcome, Stop> {
+        match taken.other {
+            Some(other) => explain_outcome(alloc, self.label, other, taken.context),
+            // the file of the other record has a name
+            None => unreachable!(),
+        }
+    }
+}
+
 /// Does the command over the input, which has to be one whole message: a response to the request,
 /// or, where none is known, a message of either kind.
 fn over_input<'x, C: OverMessage>(
     alloc: Global,
     command: &C,
     files: FilesRead<'x>,
+    other: Option<&'x MessageView<'x>>,
     input: &'x [u8],
 ) -> Result<Outcome, Stop>
     requires in_range { C.is_in_range command.now }
     requires tables { HasTables (C.tables command.now) (values_of files).conf }
     requires writable { IsTrue (list_all is_writable (values_of files).script) }
+    requires other { HasOther (C.names command.now Other) (values_of files).related
+        (option_map (λ view. message_of view.now) other) }
     requires short { length input.now ≤ MAX_INPUT_BYTES }
     ensures report { IfOutcome result
-        (ReportsMessage (C.reports command.now) (values_of files.entry) input.now) }
+        (ReportsMessage (C.reports command.now) (values_of files.entry)
+        (option_map (λ view. message_of view.now) other.entry) input.now) }
     ensures after { IfOutcome result IsAfterInput }
     ensures reads_nothing { ReadsNothing result }
 {
@@ -237,6 +289,7 @@ fn over_input<'x, C: OverMessage>(
         conf: files.conf,
         wishes: files.wishes,
         script: files.script,
+        other,
         context: &context,
     };
     command.answer(alloc, &taken)
@@ -247,13 +300,17 @@ fn over_source<C: OverMessage, S: Source>(
     alloc: Global,
     command: &C,
     files: FilesRead<'_>,
+    other: Option<&MessageView<'_>>,
     source: &mut S,
 ) -> Result<Outcome, Stop>
     requires in_range { C.is_in_range command.now }
     requires tables { HasTables (C.tables command.now) (values_of files).conf }
     requires writable { IsTrue (list_all is_writable (values_of files).script) }
+    requires other { HasOther (C.names command.now Other) (values_of files).related
+        (option_map (λ view. message_of view.now) other) }
     ensures report { IfOutcome result (HasInput
-        (ReportsMessage (C.reports command.now) (values_of files.entry))
+        (ReportsMessage (C.reports command.now) (values_of files.entry)
+        (option_map (λ view. message_of view.now) other.entry))
         (Leaves (Whole MAX_INPUT_BYTES) (source.new ≡ source.old)
         (S.left source.old) (S.left source.new)) (S.left source.old)) }
     ensures cause { CountsStop (S.faults source.old) (S.faults source.new) result }
@@ -266,7 +323,45 @@ fn over_source<C: OverMessage, S: Source>(
         Ok(input) => input,
         Err(error) => return Err(Stop::of_fill(MAX_INPUT_BYTES, error)),
     };
-    over_input(alloc, command, files, input.bytes())
+    over_input(alloc, command, files, other, input.bytes())
+}
+
+/// Does the command over the other record of the message, in the named file, where one is named,
+/// and then over what the source gives. The record answers the same request as the input.
+fn over_record<C: OverMessage, F: Shelf, S: Source>(
+    alloc: Global,
+    command: &C,
+    files: FilesRead<'_>,
+    name: Option<&str>,
+    shelf: &mut F,
+    source: &mut S,
+) -> Result<Outcome, Stop>
+    requires in_range { C.is_in_range command.now }
+    requires tables { HasTables (C.tables command.now) (values_of files).conf }
+    requires writable { IsTrue (list_all is_writable (values_of files).script) }
+    requires named { C.names command.now Other ≡ option_map (λ word. word.now) name }
+    ensures report { IfOutcome result (λ outcome.
+        HasFound (F.files shelf.old) (option_map (λ word. word.now) name.entry) (λ found.
+        HasInput (ReportsRecord (C.reports command.now) (values_of files.entry)
+        (option_map (λ word. word.now) name.entry) found)
+        (Leaves (Whole MAX_INPUT_BYTES) (source.new ≡ source.old)
+        (S.left source.old) (S.left source.new)) (S.left source.old) outcome)) }
+    ensures cause { CountsOne (source.new ≡ source.old) (F.faults shelf.old) (F.faults shelf.new)
+        (S.faults source.old) (S.faults source.new) result }
+    ensures shelf_later { F.faults shelf.old ≤ F.faults shelf.new }
+    ensures source_later { S.faults source.old ≤ S.faults source.new }
+    ensures few { LosesAtMost (MAX_INPUT_BYTES + 1) (S.left source.old) (S.left source.new) }
+    ensures ended { S.ended source.old ≡ 0 → S.ended source.new ≤ 1 }
+    ensures files { KeepsFiles (F.files shelf.old) (F.files shelf.new) }
+    ensures asked { F.asked shelf.new ≤ F.asked shelf.old + 1 }
+    ensures reached { F.reached shelf.new ≤ F.reached shelf.old + (MAX_INPUT_BYTES + 1) }
+    ensures unasked { IfNone name.entry (shelf.new ≡ shelf.old) }
+    ensures late { IfOutcome result (λ outcome. roles_read outcome ≡ read_order) }
+{
+    let text = fetch_message(alloc, Role::Other, name, shelf)?;
+    let reading = Reading::of_input(files.related);
+    let other = fetched_message(alloc, Role::Other, reading, text.as_ref())?;
+    over_source(alloc, command, files, other.as_ref(), source)
 }
 
 /// Reads the configuration in the named file, or that of the empty text, and refuses one that lacks
@@ -297,8 +392,8 @@ pub(crate) fn read_needed<F: Shelf>(
 }
 
 /// Does the command over the files that it names and what the source gives: the configuration, the
-/// request that the input answers, the message that asks for signatures, and the script, in this
-/// order, and then the input.
+/// request that the input answers, the message that asks for signatures, the script, and the other
+/// record of the message, in this order, and then the input.
 pub fn over_message<C: OverMessage, F: Shelf, S: Source>(
     alloc: Global,
     command: &C,
@@ -340,5 +435,5 @@ pub fn over_message<C: OverMessage, F: Shelf, S: Source>(
         wishes: wishes.as_ref(),
         script: script.as_slice(),
     };
-    over_source(alloc, command, files, source)
+    over_record(alloc, command, files, names.other, shelf, source)
 }

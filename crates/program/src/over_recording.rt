@@ -46,10 +46,11 @@ pub fn over_recording<F: Shelf, S: Source>(
 ) -> Result<Outcome, Stop>
     ensures report { IfOutcome result (HasOutcome
         (λ found input. ReportsConfigured (λ conf. ReportsAudit conf input)
-        (file_names (Some words.now.conf.now) None None None) found)
+        (file_names (Some words.now.conf.now) None None None None) found)
         (Leaves (Whole MAX_RECORDING_BYTES) (source.new ≡ source.old)
         (S.left source.old) (S.left source.new))
-        (AreFound (F.files shelf.old) (file_names (Some words.now.conf.now) None None None))
+        (AreFound (F.files shelf.old)
+        (file_names (Some words.now.conf.now) None None None None))
         (S.left source.old)) }
     ensures cause { CountsOne (source.new ≡ source.old) (F.faults shelf.old) (F.faults shelf.new)
         (S.faults source.old) (S.faults source.new) result }

@@ -18,6 +18,14 @@ use Rattle.msg_body.specs.declared.error.MessageError.TheVariants as error
 use Rattle.msg_body.specs.declared.error.MessageFault.{MessageFault}
 use Rattle.msg_body.specs.declared.error.MessageFault.TheVariants as fault
 use Rattle.conf.specs.Refusals.{fault_number, fault_path}
+use Rattle.normal_forms.specs.Agreement.{fixed_name}
+use Rattle.normal_forms.specs.Words.{basis_text, explain_fault_text, side_letter}
+use Rattle.normal_forms.specs.declared.basis.Basis.{Basis}
+use Rattle.normal_forms.specs.declared.basis.Basis.TheVariants as basis
+use Rattle.normal_forms.specs.declared.basis.FixedName.{FixedName}
+use Rattle.normal_forms.specs.declared.basis.FixedName.TheVariants as fixed
+use Rattle.normal_forms.specs.declared.fault.ExplainFault.{ExplainFault}
+use Rattle.normal_forms.specs.declared.fault.ExplainFault.TheVariants as explain
 use Rattle.recording.specs.Words.{recording_fault_text}
 use Rattle.recording.specs.declared.fault.RecordingFault.{RecordingFault}
 use Rattle.recording.specs.declared.fault.RecordingFault.TheVariants as recording
@@ -35,7 +43,7 @@ use Rattle.refusals.specs.Texts.{file_text, path_text, role_text}
 use Rattle.refusals.specs.declared.file.FileRefusal.{FileRefusal}
 use Rattle.refusals.specs.declared.file.FileRefusal.TheVariants.{Missing, TooLong, Message, Conf, Script, Recording, Order, TooManyHops, OutOfPlace, TooManyItems}
 use Rattle.refusals.specs.declared.refusal.CommandRefusal.{CommandRefusal}
-use Rattle.refusals.specs.declared.refusal.CommandRefusal.TheVariants.{Syntax, Ids, Lacks, Sign, Wishes, NotTaken}
+use Rattle.refusals.specs.declared.refusal.CommandRefusal.TheVariants.{Syntax, Ids, Lacks, Sign, Wishes, NotTaken, Explain}
 use Rattle.refusals.specs.declared.refusal.Refusal.{Refusal}
 use Rattle.refusals.specs.declared.refusal.Refusal.TheVariants.{Arguments, Of, Command}
 use Rattle.refusals.specs.declared.refusal.StepRefusal.{StepRefusal}
@@ -134,6 +142,7 @@ role_clean role.Conf = refl
 role_clean role.Request = refl
 role_clean role.Wanted = refl
 role_clean role.Script = refl
+role_clean role.Other = refl
 role_clean role.Input = refl
 role_clean (role.Item index) = worded (codes "item ") index refl
 
@@ -170,6 +179,28 @@ step_clean LabelUnread = refl
 step_clean (NotApplicable index) = worded (codes "not-applicable ") index refl
 step_clean (NotPermitted index) = worded (codes "not-permitted ") index refl
 
+letter_clean : (side : Side) → IsClean (side_letter side)
+letter_clean Header = refl
+letter_clean Trailer = refl
+
+fixed_clean : (name : FixedName) → IsClean (fixed_name name)
+fixed_clean fixed.Host = refl
+fixed_clean fixed.ContentLength = refl
+fixed_clean fixed.TransferEncoding = refl
+fixed_clean fixed.Signature = refl
+fixed_clean fixed.SignatureInput = refl
+
+basis_clean : (b : Basis) → IsClean (basis_text b)
+basis_clean basis.StartLine = refl
+basis_clean basis.Content = refl
+basis_clean (basis.Field side name) = joined (side_letter side) _ (letter_clean side) (joined (codes " ") (fixed_name name) refl (fixed_clean name))
+
+explain_clean : (f : ExplainFault) → IsClean (explain_fault_text f)
+explain_clean explain.Memory = refl
+explain_clean explain.Unread = refl
+explain_clean (explain.NotPlain index) = worded (codes "not-plain ") index refl
+explain_clean (explain.OtherBasis b) = joined (codes "basis ") (basis_text b) refl (basis_clean b)
+
 command_clean : (refusal : CommandRefusal) → is_clean_command refusal ≡ true → IsClean (command_text refusal)
 command_clean (Syntax offset) clean = worded (codes "params-syntax ") offset refl
 command_clean (Ids f) clean = clean
@@ -177,6 +208,7 @@ command_clean (Lacks how id) clean = joined (lack_word how) _ (lack_clean how) (
 command_clean (Sign f) clean = sign_clean f
 command_clean (Wishes f) clean = want_clean f
 command_clean (NotTaken cause) clean = step_clean cause
+command_clean (Explain f) clean = explain_clean f
 
 -- ---- the line
 

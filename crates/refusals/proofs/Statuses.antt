@@ -12,7 +12,7 @@ use Rattle.refusals.specs.declared.file.FileRefusal.{FileRefusal}
 use Rattle.refusals.specs.declared.file.FileRefusal.TheVariants.{Missing, TooLong, Message, Conf, Script, Recording, Order, TooManyHops, OutOfPlace, TooManyItems}
 use Rattle.refusals.specs.declared.refusal.Refusal.TheVariants.{Arguments, Of, Command}
 use Rattle.refusals.specs.declared.refusal.CommandRefusal.{CommandRefusal}
-use Rattle.refusals.specs.declared.refusal.CommandRefusal.TheVariants.{Syntax, Ids, Lacks, Sign, Wishes, NotTaken}
+use Rattle.refusals.specs.declared.refusal.CommandRefusal.TheVariants.{Syntax, Ids, Lacks, Sign, Wishes, NotTaken, Explain}
 use Rattle.rewrite_script.specs.declared.fault.ScriptFault.{ScriptFault}
 use Rattle.rewrite_script.specs.declared.fault.ScriptFault.TheVariants as script
 use Rattle.signing.specs.declared.fault.SignFault.{SignFault}
@@ -75,6 +75,7 @@ of_command (Lacks lack id) = tt
 of_command (Sign f) = of_sign f
 of_command (Wishes f) = tt
 of_command (NotTaken cause) = tt
+of_command (Explain f) = tt
 
 pub status_of_refusal : HasStatusOfRefusal
 status_of_refusal Arguments = tt

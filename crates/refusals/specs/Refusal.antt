@@ -6,6 +6,7 @@ use Rattle.component_ids.specs.Causes.{id_fault_text}
 use Rattle.derived_values.specs.Words.{lack_word}
 use Rattle.hms_io.specs.declared.status.Status.{Status}
 use Rattle.hms_io.specs.declared.status.Status.TheVariants.{BadArguments, BadInput, LimitPassed}
+use Rattle.normal_forms.specs.Words.{explain_fault_text}
 use Rattle.signing.specs.Words.{sign_fault_text, want_fault_text}
 use Rattle.signing.specs.declared.fault.SignFault.{SignFault}
 use Rattle.signing.specs.declared.fault.SignFault.TheVariants.{TooLong}
@@ -13,7 +14,7 @@ use Rattle.refusals.specs.Texts.{role_text, file_text, file_status}
 use Rattle.refusals.specs.declared.refusal.Refusal.{Refusal}
 use Rattle.refusals.specs.declared.refusal.Refusal.TheVariants.{Arguments, Of, Command}
 use Rattle.refusals.specs.declared.refusal.CommandRefusal.{CommandRefusal}
-use Rattle.refusals.specs.declared.refusal.CommandRefusal.TheVariants.{Syntax, Ids, Lacks, Sign, Wishes, NotTaken}
+use Rattle.refusals.specs.declared.refusal.CommandRefusal.TheVariants.{Syntax, Ids, Lacks, Sign, Wishes, NotTaken, Explain}
 use Rattle.refusals.specs.declared.refusal.StepRefusal.{StepRefusal}
 use Rattle.refusals.specs.declared.refusal.StepRefusal.TheVariants.{LabelUnread, NotApplicable, NotPermitted}
 
@@ -24,7 +25,7 @@ step_text (NotApplicable index) = codes "not-applicable " ++ decimal index
 step_text (NotPermitted index) = codes "not-permitted " ++ decimal index
 
 -- why PARAMS are refused, which component lacks a value and how, why the message isn't signed, why
--- the wishes aren't met, or why a step of a script isn't taken
+-- the wishes aren't met, why a step of a script isn't taken, or why two messages aren't explained
 abbrev pub command_text : CommandRefusal → List ℕ
 command_text (Syntax offset) = codes "params-syntax " ++ decimal offset
 command_text (Ids fault) = id_fault_text fault
@@ -32,6 +33,7 @@ command_text (Lacks lack id) = lack_word lack ++ byte " " ∷ id
 command_text (Sign fault) = sign_fault_text fault
 command_text (Wishes fault) = want_fault_text fault
 command_text (NotTaken cause) = step_text cause
+command_text (Explain fault) = explain_fault_text fault
 
 -- what is refused, and why
 abbrev pub refusal_text : Refusal → List ℕ
@@ -56,6 +58,7 @@ command_status (Lacks lack id) = BadInput
 command_status (Sign fault) = sign_status fault
 command_status (Wishes fault) = BadInput
 command_status (NotTaken cause) = BadInput
+command_status (Explain fault) = BadInput
 
 -- the status of a refusal, by what is refused and why
 abbrev pub refusal_status : Refusal → Status

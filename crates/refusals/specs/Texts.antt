@@ -27,6 +27,7 @@ role_text role.Conf = codes "conf"
 role_text role.Request = codes "request"
 role_text role.Wanted = codes "wanted"
 role_text role.Script = codes "script"
+role_text role.Other = codes "other"
 role_text role.Input = codes "input"
 role_text (role.Item index) = codes "item " ++ decimal index
 

@@ -13,6 +13,7 @@ use component_ids::{BadReason, IdFault};
 use component_values::Lack;
 use msg_body::{MessageError, MessageFault};
 use msg_head::Side;
+use normal_forms::{Basis, ExplainFault, FixedName};
 use recording::RecordingFault;
 use rewrite_script::ScriptFault;
 use signing::{SignFault, WantFault};
@@ -26,6 +27,7 @@ fn missing_hint(role: Role) -> &'static str
         Role::Request => "there is no file of the name after --request",
         Role::Wanted => "there is no file of the name after --wanted",
         Role::Script => "there is no file of the name after --script",
+        Role::Other => "there is no file of the name after --other",
         _ => "there is no such file",
     }
 }
@@ -39,7 +41,7 @@ fn start_hint(role: Role) -> &'static str
             "the file after --request has to begin with a request line of HTTP/1.1, `POST \
              /path HTTP/1.1`"
         }
-        Role::Input => {
+        Role::Input | Role::Other => {
             "the message has to begin with a request line, `POST /path HTTP/1.1`, or a status \
              line, `HTTP/1.1 200 OK`; with --request a response is due, which has a status line"
         }
@@ -317,6 +319,62 @@ fn step_hint(cause: StepRefusal) -> &'static str
     }
 }
 
+/// What a field is whose lines differ.
+fn name_hint(name: FixedName) -> &'static str
+    ensures { IsTrue (list_all is_line_byte result.now) }
+{
+    match name {
+        FixedName::Host => {
+            "the two messages haven't the same lines Host in the header (h), or in the trailer \
+             section (t): where a proxy put another Host, take a `host` step to it first; see \
+             hms rewrite"
+        }
+        FixedName::ContentLength | FixedName::TransferEncoding => {
+            "the two messages haven't the same lines of that name in the header (h), or in the \
+             trailer section (t): where only one is in chunks, take a `chunk` or `dechunk` step \
+             first; see hms rewrite"
+        }
+        FixedName::Signature | FixedName::SignatureInput => {
+            "one of the two messages lacks that field in the header (h), or in the trailer \
+             section (t), or has another value of it: a signature was added, changed or taken off"
+        }
+    }
+}
+
+/// In what two messages differ that aren't records of one message.
+fn basis_hint(basis: Basis) -> &'static str
+    ensures { IsTrue (list_all is_line_byte result.now) }
+{
+    match basis {
+        Basis::StartLine => {
+            "the start lines of the two messages differ: where it is the form of the target, \
+             take an `absolute` or `origin` step first; see hms rewrite"
+        }
+        Basis::Content => {
+            "the contents of the two messages differ, chunks taken off, so they aren't records \
+             of one message"
+        }
+        Basis::Field { side: _, name } => name_hint(name),
+    }
+}
+
+/// Why two messages aren't explained.
+fn explain_hint(fault: ExplainFault) -> &'static str
+    ensures { IsTrue (list_all is_line_byte result.now) }
+{
+    match fault {
+        ExplainFault::Memory => "out of memory",
+        ExplainFault::Unread => {
+            "the input has no signature of that label that can be read; see hms verify"
+        }
+        ExplainFault::NotPlain(_) => {
+            "the component of that index, counted from 0, is a field covered with sf or key; only \
+             fields that are covered as they are, or with bs, are explained"
+        }
+        ExplainFault::OtherBasis(basis) => basis_hint(basis),
+    }
+}
+
 /// Why a command isn't done.
 fn command_hint(refusal: &CommandRefusal) -> &'static str
     ensures { IsTrue (list_all is_line_byte result.now) }
@@ -331,6 +389,7 @@ fn command_hint(refusal: &CommandRefusal) -> &'static str
         CommandRefusal::Sign(fault) => sign_hint(*fault),
         CommandRefusal::Wishes(fault) => want_hint(fault),
         CommandRefusal::NotTaken(cause) => step_hint(*cause),
+        CommandRefusal::Explain(fault) => explain_hint(*fault),
     }
 }
 

@@ -9,6 +9,7 @@ use crate::role::Role;
 use component_ids::IdFault;
 use component_values::Lack;
 use hms_io::Status;
+use normal_forms::ExplainFault;
 use sfv_text::{Memory, Text};
 use signing::{SignFault, WantFault};
 use std::alloc::Global;
@@ -51,6 +52,8 @@ pub enum CommandRefusal {
     Wishes(WantFault),
     /// A step of the script isn't taken.
     NotTaken(StepRefusal),
+    /// The two records of a message aren't explained. The fault is never out of memory.
+    Explain(ExplainFault),
 }
 
 /// Why a step of a script isn't taken.
@@ -108,6 +111,7 @@ impl CommandRefusal {
             CommandRefusal::Sign(fault) => sign_status(*fault),
             CommandRefusal::Wishes(_) => Status::BadInput,
             CommandRefusal::NotTaken(_) => Status::BadInput,
+            CommandRefusal::Explain(_) => Status::BadInput,
         }
     }
 }

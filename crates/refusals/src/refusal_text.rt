@@ -4,6 +4,7 @@ ghost use Rattle.std.specs.Prelude.{◌≡◌, ◌++◌, ◌∷◌, codes, OnOk}
 ghost use Rattle.std.specs.Str.{byte};
 ghost use Rattle.component_ids.specs.Causes.{id_fault_text};
 ghost use Rattle.derived_values.specs.Words.{lack_word};
+ghost use Rattle.normal_forms.specs.Words.{explain_fault_text};
 ghost use Rattle.signing.specs.Words.{sign_fault_text, want_fault_text};
 ghost use Rattle.refusals.specs.Texts.{role_text};
 ghost use Rattle.refusals.specs.Refusal.{command_text, step_text, refusal_text};
@@ -13,6 +14,7 @@ use crate::refusal::{CommandRefusal, Refusal, StepRefusal};
 use crate::role::Role;
 use component_ids::IdFault;
 use component_values::Lack;
+use normal_forms::ExplainFault;
 use sfv_text::{Memory, Text, append_number, append_words};
 use signing::{SignFault, WantFault};
 use std::alloc::Global;
@@ -62,6 +64,13 @@ fn append_step(alloc: Global, cause: StepRefusal, line: &mut Text) -> Result<(),
     }
 }
 
+fn append_explain_fault(alloc: Global, fault: ExplainFault, line: &mut Text) -> Result<(), Memory>
+    ensures { OnOk result (line.new ≡ line.old ++ explain_fault_text fault) }
+{
+    let text = format!(in alloc; "{fault}")?;
+    line.append(text.as_bytes())
+}
+
 fn append_command(alloc: Global, refusal: &CommandRefusal, line: &mut Text) -> Result<(), Memory>
     ensures { OnOk result (line.new ≡ line.old ++ command_text refusal.now) }
 {
@@ -72,6 +81,7 @@ fn append_command(alloc: Global, refusal: &CommandRefusal, line: &mut Text) -> R
         CommandRefusal::Sign(fault) => append_sign_fault(alloc, *fault, line),
         CommandRefusal::Wishes(fault) => append_want_fault(alloc, fault, line),
         CommandRefusal::NotTaken(cause) => append_step(alloc, *cause, line),
+        CommandRefusal::Explain(fault) => append_explain_fault(alloc, *fault, line),
     }
 }
 

@@ -13,6 +13,8 @@ pub enum Role {
     Wanted,
     /// The script of changes to a message.
     Script,
+    /// The other record of the message that is the input.
+    Other,
     /// The input.
     Input,
     /// The item of the input at this index.
@@ -32,6 +34,7 @@ impl fmt::Display for Role {
             Role::Request => f.write_str("request"),
             Role::Wanted => f.write_str("wanted"),
             Role::Script => f.write_str("script"),
+            Role::Other => f.write_str("other"),
             Role::Input => f.write_str("input"),
             Role::Item(index) => write!(f, "item {index}"),
         }

@@ -125,12 +125,13 @@ struct Failing {
     taken: &'static [u8],
 }
 
-// Over the signed request of 344 bytes, in seven pieces and an end, and a sink for 50 bytes, which
-// takes three at a call.
+// Over the signed request of 344 bytes, in seven pieces and an end, which is the file `o` too, and
+// a sink for 50 bytes, which takes three at a call.
 fn ends_so(alloc: Global, row: &Failing) -> Result<bool, Memory> {
     let input = joined(alloc, &[REQUEST, LENGTH, INPUT, SIGNATURE, CONTENT])?;
     let mut shelf = MemShelf::new(alloc, row.shelf)?;
     shelf.put("c", CONF)?;
+    shelf.put("o", input.bytes())?;
     let mut source = MemSource::new(alloc, input.bytes(), 50, row.source)?;
     let mut sink = MemSink::new(alloc, 50, 3, row.sink)?;
     let arguments = arguments_of(alloc, row.words)?;
@@ -148,7 +149,9 @@ const VERIFY: &[&str] = &["verify", "--conf", "c", "--now", "1618884473"];
 
 const BASE: &[&str] = &["base", r#"("date")"#];
 
-const FAILING: [Failing; 21] = [
+const EXPLAIN: &[&str] = &["explain", "--label", "sig-b25", "--other", "o"];
+
+const FAILING: [Failing; 26] = [
     Failing {
         words: VERIFY,
         shelf: &[0],
@@ -321,6 +324,49 @@ const FAILING: [Failing; 21] = [
         sink: &[],
         status: Status::FileMissing,
         taken: b"refused request missing\n",
+    },
+    // the other record is asked for, and then the input
+    Failing {
+        words: EXPLAIN,
+        shelf: &[0],
+        source: &[],
+        sink: &[],
+        status: Status::ReadFault,
+        taken: b"",
+    },
+    Failing {
+        words: EXPLAIN,
+        shelf: &[1],
+        source: &[3],
+        sink: &[],
+        status: Status::ReadFault,
+        taken: b"",
+    },
+    Failing {
+        words: EXPLAIN,
+        shelf: &[1],
+        source: &[8],
+        sink: &[3],
+        status: Status::WriteFault,
+        taken: b"explained",
+    },
+    // the sink is full
+    Failing {
+        words: EXPLAIN,
+        shelf: &[1],
+        source: &[8],
+        sink: &[],
+        status: Status::WriteFault,
+        taken: b"explained 12 12\ncase h 0 host\npad h 0 - -\ncase h 1",
+    },
+    // no input is read
+    Failing {
+        words: &["explain", "--label", "sig-b25", "--other", "d"],
+        shelf: &[1],
+        source: &[0],
+        sink: &[],
+        status: Status::FileMissing,
+        taken: b"refused other missing\n",
     },
 ];
 

@@ -1,6 +1,4 @@
-//! The libraries as their users call them: each function is the example of a crate's documentation,
-//! and calls what takes memory, with ample memory. Beside them are vectors from outside (RFC 4231,
-//! RFC 9421, RFC 9530, RFC 9651), and runs of `program` over devices in memory, failing ones too.
+//! The libraries as their users call them, vectors of the RFCs, and runs over devices in memory.
 #![tactic(auto)]
 
 #[cfg(test)]
@@ -29,6 +27,8 @@ mod device_runs;
 mod devices;
 #[cfg(test)]
 mod digests;
+#[cfg(test)]
+mod explanations;
 #[cfg(test)]
 mod heads;
 #[cfg(test)]

@@ -311,7 +311,7 @@ const ROWS: [Row; 74] = [
     },
 ];
 
-fn is_printed(alloc: Global, script: &[Rewrite], text: &[u8]) -> bool {
+pub(crate) fn is_printed(alloc: Global, script: &[Rewrite], text: &[u8]) -> bool {
     match print_script(alloc, script) {
         Ok(printed) => printed.bytes() == text,
         Err(_) => false,

@@ -6,7 +6,7 @@ use Rattle.sfv_text.specs.declared.pair.Pair.{Pair}
 use Rattle.command_line.specs.Options.{is_taken_by, option_of, row_of, words_of, AreOptions}
 use Rattle.command_line.specs.declared.options.CommandName.{CommandName}
 use Rattle.command_line.specs.declared.options.CommandOption.{CommandOption}
-use Rattle.command_line.specs.declared.options.CommandOption.TheVariants.{Conf, Now, Label, Request, Nonce, Wanted, Script}
+use Rattle.command_line.specs.declared.options.CommandOption.TheVariants.{Conf, Now, Label, Request, Nonce, Wanted, Script, Other}
 use Rattle.command_line.specs.declared.options.OptionWords.{OptionWords}
 
 -- the word of the option
@@ -18,6 +18,7 @@ word_in found Request = option_map (λ word. word.now) found.request
 word_in found Nonce = option_map (λ word. word.now) found.nonce
 word_in found Wanted = option_map (λ word. word.now) found.wanted
 word_in found Script = option_map (λ word. word.now) found.script
+word_in found Other = option_map (λ word. word.now) found.other
 
 -- the option with a word beside which this one can't come
 abbrev pub excluding_in : OptionWords → CommandOption → Option CommandOption
@@ -64,6 +65,7 @@ pub record HasOptions (command : CommandName) (words : List (List ℕ)) (found :
   pub nonce_is : IsWordOf words (codes "--nonce") (option_map (λ word. word.now) found.nonce)
   pub wanted_is : IsWordOf words (codes "--wanted") (option_map (λ word. word.now) found.wanted)
   pub script_is : IsWordOf words (codes "--script") (option_map (λ word. word.now) found.script)
+  pub other_is : IsWordOf words (codes "--other") (option_map (λ word. word.now) found.other)
 
 -- the options up to the words that are left, whose words were found
 pub record AreFoundBefore (command : CommandName) (found : OptionWords)

@@ -14,7 +14,8 @@ use Rattle.line_rewrites.specs.declared.raw.RawParts.{RawParts}
 use Rattle.line_rewrites.specs.declared.line.NewLine.{NewLine}
 use Rattle.field_values.specs.SameFields.{name_of}
 use Rattle.line_rewrites.specs.LineLists.{line_of}
-use Rattle.field_values.specs.Spacing.{is_solid, is_spacing}
+use Rattle.field_values.specs.Spacing.{is_solid}
+pub use Rattle.line_rewrites.specs.RawValues.{without_first_spacing, without_last_spacing}
 use Rattle.line_rewrites.specs.Sides.{SideParts, text_with, side_parts, has_side}
 
 -- ---- raw values
@@ -22,15 +23,6 @@ use Rattle.line_rewrites.specs.Sides.{SideParts, text_with, side_parts, has_side
 -- the parts one after the other
 abbrev pub raw_text : RawParts → List ℕ
 raw_text parts = parts.first.now ++ (parts.second.now ++ (parts.third.now ++ parts.last.now))
-
--- the text from its first byte on that is no spacing
-abbrev pub without_first_spacing : List ℕ → List ℕ
-without_first_spacing [] = []
-without_first_spacing (c ∷ rest) = if is_spacing c then without_first_spacing rest else c ∷ rest
-
--- the text up to its last byte that is no spacing
-abbrev pub without_last_spacing : List ℕ → List ℕ
-without_last_spacing text = reverse (without_first_spacing (reverse text))
 
 -- the raw value without the spacing at its ends
 abbrev pub core_of : List ℕ → List ℕ

@@ -6,22 +6,24 @@ use Rattle.sfv_text.specs.Classes.{is_byte}
 use Rattle.hms_io.specs.Files.{FileMap, KeepsFiles}
 use Rattle.hms_io.specs.declared.status.Status.{Status}
 use Rattle.hms_io.specs.declared.status.Status.TheVariants.{OutOfMemory, ReadFault as ReadFailed, WriteFault}
-use Rattle.msg_body.specs.Messages.{Message}
+use Rattle.msg_body.specs.Messages.{Message, IsMessage}
 use Rattle.msg_body.specs.Views.{message_of}
 use Rattle.msg_body.specs.WholeTexts.{reading_for}
+use Rattle.component_values.specs.Context.{answers_head}
 use Rattle.conf.specs.Configuration.{Configuration}
 use Rattle.conf.specs.ConfMeaning.{meaning}
 use Rattle.verdicts.specs.Contexts.{context_for}
 use Rattle.rewrite_script.specs.declared.rewrite.Rewrite.{Rewrite}
 use Rattle.gateway.specs.declared.fault.StreamFault.{StreamFault}
 use Rattle.gateway.specs.declared.fault.StreamFault.TheVariants.{NotWritten}
-use Rattle.refusals.specs.declared.role.Role.TheVariants.{Input}
+use Rattle.refusals.specs.declared.role.Role.TheVariants.{Input, Other}
 use Rattle.refusals.specs.declared.file.FileRefusal.TheVariants.{Message as NoMessage}
 use Rattle.refusals.specs.declared.refusal.Refusal.{Refusal}
 use Rattle.refusals.specs.declared.refusal.Refusal.TheVariants.{Of, Command}
 use Rattle.command_line.specs.Command.{CommandLine, IsCommand}
 use Rattle.commands.specs.Files.{FileNames, FileRole, file_bytes, file_count}
 use Rattle.commands.specs.Layers.{ReadsThen}
+use Rattle.commands.specs.MessageFiles.{IsMessageFile, IsMessageFileRefused}
 use Rattle.commands.specs.Messages.{IsInputMessage, IsInputRefused}
 use Rattle.commands.specs.Outcome.{output_of, status_of}
 use Rattle.commands.specs.declared.outcome.Outcome.{Outcome}
@@ -35,7 +37,7 @@ use Rattle.program.specs.Intake.{TakenValues, named_count, read_order, roles_unt
 use Rattle.program.specs.Report.{Answers}
 use Rattle.program.specs.declared.intake.FilesRead.{FilesRead}
 
--- what was read of the files of a command
+-- what was read of the files of a command, the other record of the message aside
 pub record FileValues : Type 0 where
   pub conf : Configuration
   pub related : Option Message
@@ -51,21 +53,37 @@ values_of files = record {
   script = files.script.now;
 }
 
--- what is taken where the input is this message
-abbrev pub taken_with : FileValues → Message → TakenValues
-taken_with files message = record {
+-- there is another record of the message where its file has a name, and it is a whole message that
+-- may answer this request
+abbrev pub HasOther : Option (List ℕ) → Option Message → Option Message → Type 0
+HasOther name related None = name ≡ None
+HasOther name related (Some other) = IsMessage (answers_head related) other
+
+-- what is taken with this other record, if any, where the input is this message
+abbrev pub taken_with : FileValues → Option Message → Message → TakenValues
+taken_with files other message = record {
   conf = files.conf;
   wishes = files.wishes;
   script = files.script;
+  other = other;
   context = context_for files.conf message files.related;
 }
 
--- what comes of an input after these files
-abbrev pub ReportsMessage : Answers → FileValues → List ℕ → Outcome → Type 0
-ReportsMessage Then files input =
+-- what comes of an input after these files and the other record
+abbrev pub ReportsMessage : Answers → FileValues → Option Message → List ℕ → Outcome → Type 0
+ReportsMessage Then files other input =
     ReadsThen (IsInputMessage (reading_for files.related) input)
     (IsInputRefused (reading_for files.related) input) (λ refusal. Of Input refusal)
-    (λ message. Then (taken_with files message))
+    (λ message. Then (taken_with files other message))
+
+-- what comes of what was found for the other record of the message, and of an input, after these
+-- files
+abbrev pub ReportsRecord : Answers → FileValues → Option (List ℕ) → Option (List ℕ) → List ℕ
+    → Outcome → Type 0
+ReportsRecord Then files name found input =
+    ReadsThen (IsMessageFile (reading_for files.related) name found)
+    (IsMessageFileRefused (reading_for files.related) name found) (λ refusal. Of Other refusal)
+    (λ other. ReportsMessage Then files other input)
 
 -- of the files of these names at most so many were asked for, and so many bytes read, and where no
 -- file has a name, the shelf is the same

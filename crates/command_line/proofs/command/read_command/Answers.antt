@@ -2,7 +2,7 @@ use Rattle.std.proofs.Common.{map, string_bytes, subst, sym}
 use Rattle.command_line.specs.Names.{command_word}
 use Rattle.command_line.specs.declared.options.CommandName.{CommandName}
 use Rattle.command_line.specs.tools.After.{NoneAfter}
-use Rattle.command_line.proofs.FirstWords.{help_asked, no_audit, no_base, no_gateway, no_rewrite, no_sample, no_sign, no_verify}
+use Rattle.command_line.proofs.FirstWords.{help_asked, no_audit, no_base, no_explain, no_gateway, no_rewrite, no_sample, no_sign, no_verify}
 use Rattle.command_line.proofs.OptionLists.{if_none}
 use Rattle.command_line.proofs.command.read_command.Goals as goal
 
@@ -32,6 +32,12 @@ returns-in-Rewrite-clause-none c =
     if_none c.read_rewrite.result
     (λ none. subst (λ (command : CommandName). NoneAfter (command_word command) (map string_bytes c.args.words.now)) (sym c.in-Rewrite.is)
     (no_rewrite (map string_bytes c.args.words.now) (sym c.if-asks_help.ensures) none)) c.read_rewrite.ensures.none
+
+pub returns-in-Explain-clause-none : goal.returns-in-Explain-clause-none
+returns-in-Explain-clause-none c =
+    if_none c.read_explain.result
+    (λ none. subst (λ (command : CommandName). NoneAfter (command_word command) (map string_bytes c.args.words.now)) (sym c.in-Explain.is)
+    (no_explain (map string_bytes c.args.words.now) (sym c.if-asks_help.ensures) none)) c.read_explain.ensures.none
 
 pub returns-in-Audit-clause-none : goal.returns-in-Audit-clause-none
 returns-in-Audit-clause-none c =

@@ -2,7 +2,7 @@ use Rattle.commands.proofs.Answered.{has_configuration, has_message, have_params
 use Rattle.commands.proofs.Auditing.{has_audit}
 use Rattle.commands.proofs.RecordedTexts.{has_recording}
 use Rattle.commands.proofs.ScriptFiles.{has_script}
-use Rattle.commands.proofs.TakenFiles.{has_request, has_wanted}
+use Rattle.commands.proofs.TakenFiles.{has_record, has_request, has_wanted}
 use Rattle.commands.proofs.NeededTables.{have_tables}
 use Rattle.commands.proofs.laws.each_layer_has_an_answer.Goals as goal
 
@@ -13,6 +13,7 @@ returns c =
       tables = have_tables;
       request = has_request;
       wanted = has_wanted;
+      other = has_record;
       script = has_script;
       input = has_message;
       params = have_params;

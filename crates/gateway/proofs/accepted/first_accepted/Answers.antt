@@ -1,4 +1,4 @@
-use Rattle.std.proofs.Common.{ℕ, List, subst, ◌∙◌}
+use Rattle.std.proofs.Common.{ℕ, List, subst, arith, ◌∙◌}
 use Rattle.component_values.specs.Context.{MessageContext}
 use Rattle.verdicts.specs.Verdicts.{Accepts, IsVerdict}
 use Rattle.verdicts.specs.Verification.{verification_by}
@@ -37,6 +37,7 @@ loop-label-preserved g c =
     (subst (λ (x : MessageContext). IsVerdict (verification_by c.args.verifier.now x c.bytes.result.now) (Refused c.in-Rule.number c.in-Rule.place)) c.loop-label.invariant.1 here) in (
       refused_more judged c.args.labels.now c.loop-label.label-index label c.in-Rule.number c.in-Rule.place c.loop-label-test.true c.label-item.is c.loop-label.invariant.0 fails,
       c.verdict.ensures.exchange ∙ c.loop-label.invariant.1,
+      omega (arith, c.loop-label.invariant.2, c.verdict.ensures.steps),
     )
 
 pub returns-clause-found : goal.returns-clause-found

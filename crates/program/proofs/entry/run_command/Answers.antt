@@ -1,5 +1,5 @@
 use Rattle.std.proofs.Common.{◌≡◌, ◌+◌, ◌≤◌, map, string_bytes, refl, Ok}
-use Rattle.command_line.specs.Command.{CommandLine, Help, HelpOf, Version, Base, Verify, Sign, Rewrite, Audit, Gateway, Sample, base_words, verify_words, sign_words, rewrite_words, audit_words, gateway_words, sample_words}
+use Rattle.command_line.specs.Command.{CommandLine, Help, HelpOf, Version, Base, Verify, Sign, Rewrite, Explain, Audit, Gateway, Sample, base_words, verify_words, sign_words, rewrite_words, explain_words, audit_words, gateway_words, sample_words}
 use Rattle.commands.specs.Files.{Conf, file_bytes}
 use Rattle.program.specs.Commands.{input_use, name_of, LosesFew}
 use Rattle.command_line.proofs.Moments.{sample_bounded}
@@ -176,6 +176,35 @@ returns-in-Rewrite-clause-unasked g c = λ named. c.over_message-in-Rewrite.ensu
 
 pub returns-in-Rewrite-clause-files : goal.returns-in-Rewrite-clause-files
 returns-in-Rewrite-clause-files g c = c.over_message-in-Rewrite.ensures.asks.files
+
+pub returns-in-Explain-clause-report : goal.returns-in-Explain-clause-report
+returns-in-Explain-clause-report g c =
+    spelled (map string_bytes c.args.arguments.now) (Explain (explain_words c.in-Explain.words)) (rw c.in-Explain.is at c.in-Some.ensures.some) (g.F.Shelf.files c.args.shelf.now)
+    (c.over_message-in-Explain.new.source ≡ c.args.source.now) (g.S.Source.left c.args.source.now) (g.S.Source.left c.over_message-in-Explain.new.source) c.over_message-in-Explain.result c.over_message-in-Explain.ensures.report
+
+pub returns-in-Explain-clause-few : goal.returns-in-Explain-clause-few
+returns-in-Explain-clause-few g c =
+    of_command (λ (line : CommandLine). LosesFew (input_use line) (g.S.Source.left c.args.source.now) (g.S.Source.left c.over_message-in-Explain.new.source))
+    (map string_bytes c.args.arguments.now) (Explain (explain_words c.in-Explain.words)) (rw c.in-Explain.is at c.in-Some.ensures.some) c.over_message-in-Explain.ensures.few
+
+pub returns-in-Explain-clause-asked : goal.returns-in-Explain-clause-asked
+returns-in-Explain-clause-asked g c =
+    asks_of (map string_bytes c.args.arguments.now) (Explain (explain_words c.in-Explain.words)) (rw c.in-Explain.is at c.in-Some.ensures.some) c.over_message-in-Explain.result (g.F.Shelf.asked c.args.shelf.now) (g.F.Shelf.asked c.over_message-in-Explain.new.shelf)
+    c.over_message-in-Explain.ensures.asked c.over_message-in-Explain.ensures.asks.asks
+
+pub returns-in-Explain-clause-reached : goal.returns-in-Explain-clause-reached
+returns-in-Explain-clause-reached g c =
+    of_command (λ (line : CommandLine). g.F.Shelf.reached c.over_message-in-Explain.new.shelf ≤ g.F.Shelf.reached c.args.shelf.now + file_bytes (name_of line))
+    (map string_bytes c.args.arguments.now) (Explain (explain_words c.in-Explain.words)) (rw c.in-Explain.is at c.in-Some.ensures.some) c.over_message-in-Explain.ensures.asks.reaches
+
+pub returns-in-Explain-clause-unread : goal.returns-in-Explain-clause-unread
+returns-in-Explain-clause-unread g c = λ none. never_read _ (none (Explain (explain_words c.in-Explain.words)) (rw c.in-Explain.is at c.in-Some.ensures.some))
+
+pub returns-in-Explain-clause-unasked : goal.returns-in-Explain-clause-unasked
+returns-in-Explain-clause-unasked g c = λ named. c.over_message-in-Explain.ensures.asks.unasked (named (Explain (explain_words c.in-Explain.words)) (rw c.in-Explain.is at c.in-Some.ensures.some))
+
+pub returns-in-Explain-clause-files : goal.returns-in-Explain-clause-files
+returns-in-Explain-clause-files g c = c.over_message-in-Explain.ensures.asks.files
 
 pub returns-in-Audit-clause-report : goal.returns-in-Audit-clause-report
 returns-in-Audit-clause-report g c =

@@ -1,9 +1,11 @@
 use Rattle.std.proofs.Common.{subst, sym}
-use Rattle.component_values.specs.Context.{HasWholeMessage}
+use Rattle.std.specs.Prelude.{option_map}
+use Rattle.component_values.specs.Context.{HasWholeMessage, MessageContext}
 use Rattle.msg_body.specs.Views.{message_of}
 use Rattle.commands.specs.Messages.{IsInputMessage}
 use Rattle.msg_body.specs.declared.whole.Reading.{Reading}
-use Rattle.program.specs.tools.Parts.{values_of}
+use Rattle.commands.specs.Files.{Other}
+use Rattle.program.specs.tools.Parts.{HasOther, values_of}
 use Rattle.program.proofs.Sources.{after_answer, after_refusal, spelled_input}
 use Rattle.std.proofs.lemmas.Result.{err_from_is_err_and}
 use Rattle.program.proofs.over_message.over_input.Goals as goal
@@ -22,3 +24,7 @@ answer-requires-clause-whole g c =
     let is = subst (λ (r : Reading). IsInputMessage r c.args.input.now (message_of c.in_ok-message.message)) c.of_input-reading.ensures c.in_ok-message.ensures.ok in
     subst HasWholeMessage (sym c.context_for-context.ensures)
     (spelled_input related c.args.input.now (message_of c.in_ok-message.message) is).is
+
+pub answer-requires-clause-other : goal.answer-requires-clause-other
+answer-requires-clause-other g c =
+    subst (λ (context : MessageContext). HasOther (g.C.OverMessage.names c.args.command.now Other) context.related (option_map (λ view. message_of view.now) c.args.other)) (sym c.context_for-context.ensures) c.requires.other

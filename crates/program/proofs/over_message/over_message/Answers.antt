@@ -1,11 +1,11 @@
-use Rattle.std.proofs.Common.{◌≡◌, ◌∙◌, ◌+◌, List, [], ◌∷◌, refl, sym, subst, ℕ, Option}
+use Rattle.std.proofs.Common.{◌≡◌, ◌∙◌, ◌+◌, List, [], ◌∷◌, refl, sym, ap, subst, ℕ, Option}
 use Rattle.std.specs.Prelude.{IsTrue, option_map}
 use Rattle.std.specs.List.{list_all}
 use Rattle.std.proofs.lemmas.Result.{err_from_is_err_and}
 use Rattle.conf.specs.ConfMeaning.{meaning}
 use Rattle.msg_body.specs.Views.{message_of}
 use Rattle.msg_body.specs.WholeTexts.{any_message, one_request}
-use Rattle.commands.specs.Files.{Conf, Request, Script, Wanted}
+use Rattle.commands.specs.Files.{FileNames, Conf, Other, Request, Script, Wanted}
 use Rattle.commands.specs.MessageFiles.{IsRequestRefused, IsWantedRefused}
 use Rattle.commands.specs.Scripts.{IsScripted, IsScriptRefused}
 use Rattle.refusals.specs.declared.refusal.TheConstants.{MAX_INPUT_BYTES}
@@ -13,10 +13,9 @@ use Rattle.refusals.specs.declared.role.Role.TheVariants.{Conf as OfConf, Reques
 use Rattle.rewrite_script.specs.Lines.{is_writable}
 use Rattle.rewrite_script.specs.declared.limits.TheConstants.{MAX_SCRIPT_BYTES}
 use Rattle.rewrite_script.specs.declared.rewrite.Rewrite.{Rewrite}
-use Rattle.program.specs.Intake.{IsConfLacking, names_of, read_order}
-use Rattle.program.proofs.AskedFiles.{asked_conf, asked_request, asked_until, asked_wanted, late_asked, until_conf, until_request, until_script, until_wanted}
-use Rattle.program.proofs.FaultCounts.{shelf_counts, text_counts}
-use Rattle.program.proofs.Recordings.{source_counts}
+use Rattle.program.specs.Intake.{IsConfLacking, names_of}
+use Rattle.program.proofs.AskedFiles.{asked_conf, asked_request, asked_script, asked_until, asked_wanted, late_asked, until_conf, until_request, until_script, until_wanted}
+use Rattle.program.proofs.FaultCounts.{after_shelf, shelf_counts, text_counts}
 use Rattle.program.proofs.Reports.{all_read, asks_all, asks_none, conf_stopped, keeps_both, message_had, message_refused, read_before, refused_before, request_stopped, same_related, script_stopped, script_writable, wishes_stopped}
 use Rattle.program.proofs.Sources.{none_gone}
 use Rattle.program.proofs.over_message.over_message.Goals as goal
@@ -36,11 +35,12 @@ returns-in_err-conf-clause-few g c = none_gone _ (g.S.Source.left c.args.source.
 pub returns-in_err-conf-clause-asks : goal.returns-in_err-conf-clause-asks
 returns-in_err-conf-clause-asks g c =
     let words = c.files-names.result in
-    rw (c.files-names.ensures) (asks_all g.F.Shelf.files g.F.Shelf.asked g.F.Shelf.reached (λ word. word.now) words.conf words.request words.wanted words.script c.args.shelf.now c.read_needed.new.shelf c.read_needed.new.shelf c.read_needed.new.shelf c.read_needed.new.shelf
+    rw (c.files-names.ensures) (asks_all g.F.Shelf.files g.F.Shelf.asked g.F.Shelf.reached (λ word. word.now) words.conf words.request words.wanted words.script words.other c.args.shelf.now c.read_needed.new.shelf c.read_needed.new.shelf c.read_needed.new.shelf c.read_needed.new.shelf c.read_needed.new.shelf
     (record { keeps = c.in_err-conf.ensures.files; asks = c.in_err-conf.ensures.asked; reaches = c.in_err-conf.ensures.reached; unasked = c.in_err-conf.ensures.unasked })
     (asks_none g.F.Shelf.files g.F.Shelf.asked g.F.Shelf.reached (MAX_INPUT_BYTES + 1) words.request c.read_needed.new.shelf)
     (asks_none g.F.Shelf.files g.F.Shelf.asked g.F.Shelf.reached (MAX_INPUT_BYTES + 1) words.wanted c.read_needed.new.shelf)
-    (asks_none g.F.Shelf.files g.F.Shelf.asked g.F.Shelf.reached (MAX_SCRIPT_BYTES + 1) words.script c.read_needed.new.shelf))
+    (asks_none g.F.Shelf.files g.F.Shelf.asked g.F.Shelf.reached (MAX_SCRIPT_BYTES + 1) words.script c.read_needed.new.shelf)
+    (asks_none g.F.Shelf.files g.F.Shelf.asked g.F.Shelf.reached (MAX_INPUT_BYTES + 1) words.other c.read_needed.new.shelf))
 
 pub returns-in_err-request-clause-report : goal.returns-in_err-request-clause-report
 returns-in_err-request-clause-report g c =
@@ -60,11 +60,12 @@ returns-in_err-request-clause-few g c = none_gone _ (g.S.Source.left c.args.sour
 pub returns-in_err-request-clause-asks : goal.returns-in_err-request-clause-asks
 returns-in_err-request-clause-asks g c =
     let words = c.files-names.result in
-    rw (c.files-names.ensures) (asks_all g.F.Shelf.files g.F.Shelf.asked g.F.Shelf.reached (λ word. word.now) words.conf words.request words.wanted words.script c.args.shelf.now c.read_needed.new.shelf c.fetch_message.new.shelf c.fetch_message.new.shelf c.fetch_message.new.shelf
+    rw (c.files-names.ensures) (asks_all g.F.Shelf.files g.F.Shelf.asked g.F.Shelf.reached (λ word. word.now) words.conf words.request words.wanted words.script words.other c.args.shelf.now c.read_needed.new.shelf c.fetch_message.new.shelf c.fetch_message.new.shelf c.fetch_message.new.shelf c.fetch_message.new.shelf
     (record { keeps = c.in_ok-conf.ensures.files; asks = c.in_ok-conf.ensures.asked; reaches = c.in_ok-conf.ensures.reached; unasked = c.in_ok-conf.ensures.unasked })
     (record { keeps = c.in_err-request.ensures.files; asks = c.in_err-request.ensures.asked; reaches = c.in_err-request.ensures.reached; unasked = c.in_err-request.ensures.unasked })
     (asks_none g.F.Shelf.files g.F.Shelf.asked g.F.Shelf.reached (MAX_INPUT_BYTES + 1) words.wanted c.fetch_message.new.shelf)
-    (asks_none g.F.Shelf.files g.F.Shelf.asked g.F.Shelf.reached (MAX_SCRIPT_BYTES + 1) words.script c.fetch_message.new.shelf))
+    (asks_none g.F.Shelf.files g.F.Shelf.asked g.F.Shelf.reached (MAX_SCRIPT_BYTES + 1) words.script c.fetch_message.new.shelf)
+    (asks_none g.F.Shelf.files g.F.Shelf.asked g.F.Shelf.reached (MAX_INPUT_BYTES + 1) words.other c.fetch_message.new.shelf))
 
 pub returns-in_err-related-clause-report : goal.returns-in_err-related-clause-report
 returns-in_err-related-clause-report g c =
@@ -85,11 +86,12 @@ returns-in_err-related-clause-few g c = none_gone _ (g.S.Source.left c.args.sour
 pub returns-in_err-related-clause-asks : goal.returns-in_err-related-clause-asks
 returns-in_err-related-clause-asks g c =
     let words = c.files-names.result in
-    rw (c.files-names.ensures) (asks_all g.F.Shelf.files g.F.Shelf.asked g.F.Shelf.reached (λ word. word.now) words.conf words.request words.wanted words.script c.args.shelf.now c.read_needed.new.shelf c.fetch_message.new.shelf c.fetch_message.new.shelf c.fetch_message.new.shelf
+    rw (c.files-names.ensures) (asks_all g.F.Shelf.files g.F.Shelf.asked g.F.Shelf.reached (λ word. word.now) words.conf words.request words.wanted words.script words.other c.args.shelf.now c.read_needed.new.shelf c.fetch_message.new.shelf c.fetch_message.new.shelf c.fetch_message.new.shelf c.fetch_message.new.shelf
     (record { keeps = c.in_ok-conf.ensures.files; asks = c.in_ok-conf.ensures.asked; reaches = c.in_ok-conf.ensures.reached; unasked = c.in_ok-conf.ensures.unasked })
     (record { keeps = c.in_ok-request.ensures.files; asks = c.in_ok-request.ensures.asked; reaches = c.in_ok-request.ensures.reached; unasked = c.in_ok-request.ensures.unasked })
     (asks_none g.F.Shelf.files g.F.Shelf.asked g.F.Shelf.reached (MAX_INPUT_BYTES + 1) words.wanted c.fetch_message.new.shelf)
-    (asks_none g.F.Shelf.files g.F.Shelf.asked g.F.Shelf.reached (MAX_SCRIPT_BYTES + 1) words.script c.fetch_message.new.shelf))
+    (asks_none g.F.Shelf.files g.F.Shelf.asked g.F.Shelf.reached (MAX_SCRIPT_BYTES + 1) words.script c.fetch_message.new.shelf)
+    (asks_none g.F.Shelf.files g.F.Shelf.asked g.F.Shelf.reached (MAX_INPUT_BYTES + 1) words.other c.fetch_message.new.shelf))
 
 pub returns-in_err-wanted-clause-report : goal.returns-in_err-wanted-clause-report
 returns-in_err-wanted-clause-report g c =
@@ -113,11 +115,12 @@ returns-in_err-wanted-clause-few g c = none_gone _ (g.S.Source.left c.args.sourc
 pub returns-in_err-wanted-clause-asks : goal.returns-in_err-wanted-clause-asks
 returns-in_err-wanted-clause-asks g c =
     let words = c.files-names.result in
-    rw (c.files-names.ensures) (asks_all g.F.Shelf.files g.F.Shelf.asked g.F.Shelf.reached (λ word. word.now) words.conf words.request words.wanted words.script c.args.shelf.now c.read_needed.new.shelf c.fetch_message.new.shelf c.fetch_message-2.new.shelf c.fetch_message-2.new.shelf
+    rw (c.files-names.ensures) (asks_all g.F.Shelf.files g.F.Shelf.asked g.F.Shelf.reached (λ word. word.now) words.conf words.request words.wanted words.script words.other c.args.shelf.now c.read_needed.new.shelf c.fetch_message.new.shelf c.fetch_message-2.new.shelf c.fetch_message-2.new.shelf c.fetch_message-2.new.shelf
     (record { keeps = c.in_ok-conf.ensures.files; asks = c.in_ok-conf.ensures.asked; reaches = c.in_ok-conf.ensures.reached; unasked = c.in_ok-conf.ensures.unasked })
     (record { keeps = c.in_ok-request.ensures.files; asks = c.in_ok-request.ensures.asked; reaches = c.in_ok-request.ensures.reached; unasked = c.in_ok-request.ensures.unasked })
     (record { keeps = c.in_err-wanted.ensures.files; asks = c.in_err-wanted.ensures.asked; reaches = c.in_err-wanted.ensures.reached; unasked = c.in_err-wanted.ensures.unasked })
-    (asks_none g.F.Shelf.files g.F.Shelf.asked g.F.Shelf.reached (MAX_SCRIPT_BYTES + 1) words.script c.fetch_message-2.new.shelf))
+    (asks_none g.F.Shelf.files g.F.Shelf.asked g.F.Shelf.reached (MAX_SCRIPT_BYTES + 1) words.script c.fetch_message-2.new.shelf)
+    (asks_none g.F.Shelf.files g.F.Shelf.asked g.F.Shelf.reached (MAX_INPUT_BYTES + 1) words.other c.fetch_message-2.new.shelf))
 
 pub returns-in_err-wishes-clause-report : goal.returns-in_err-wishes-clause-report
 returns-in_err-wishes-clause-report g c =
@@ -142,11 +145,12 @@ returns-in_err-wishes-clause-few g c = none_gone _ (g.S.Source.left c.args.sourc
 pub returns-in_err-wishes-clause-asks : goal.returns-in_err-wishes-clause-asks
 returns-in_err-wishes-clause-asks g c =
     let words = c.files-names.result in
-    rw (c.files-names.ensures) (asks_all g.F.Shelf.files g.F.Shelf.asked g.F.Shelf.reached (λ word. word.now) words.conf words.request words.wanted words.script c.args.shelf.now c.read_needed.new.shelf c.fetch_message.new.shelf c.fetch_message-2.new.shelf c.fetch_message-2.new.shelf
+    rw (c.files-names.ensures) (asks_all g.F.Shelf.files g.F.Shelf.asked g.F.Shelf.reached (λ word. word.now) words.conf words.request words.wanted words.script words.other c.args.shelf.now c.read_needed.new.shelf c.fetch_message.new.shelf c.fetch_message-2.new.shelf c.fetch_message-2.new.shelf c.fetch_message-2.new.shelf
     (record { keeps = c.in_ok-conf.ensures.files; asks = c.in_ok-conf.ensures.asked; reaches = c.in_ok-conf.ensures.reached; unasked = c.in_ok-conf.ensures.unasked })
     (record { keeps = c.in_ok-request.ensures.files; asks = c.in_ok-request.ensures.asked; reaches = c.in_ok-request.ensures.reached; unasked = c.in_ok-request.ensures.unasked })
     (record { keeps = c.in_ok-wanted.ensures.files; asks = c.in_ok-wanted.ensures.asked; reaches = c.in_ok-wanted.ensures.reached; unasked = c.in_ok-wanted.ensures.unasked })
-    (asks_none g.F.Shelf.files g.F.Shelf.asked g.F.Shelf.reached (MAX_SCRIPT_BYTES + 1) words.script c.fetch_message-2.new.shelf))
+    (asks_none g.F.Shelf.files g.F.Shelf.asked g.F.Shelf.reached (MAX_SCRIPT_BYTES + 1) words.script c.fetch_message-2.new.shelf)
+    (asks_none g.F.Shelf.files g.F.Shelf.asked g.F.Shelf.reached (MAX_INPUT_BYTES + 1) words.other c.fetch_message-2.new.shelf))
 
 pub returns-in_err-script-clause-report : goal.returns-in_err-script-clause-report
 returns-in_err-script-clause-report g c =
@@ -174,11 +178,12 @@ returns-in_err-script-clause-few g c = none_gone _ (g.S.Source.left c.args.sourc
 pub returns-in_err-script-clause-asks : goal.returns-in_err-script-clause-asks
 returns-in_err-script-clause-asks g c =
     let words = c.files-names.result in
-    rw (c.files-names.ensures) (asks_all g.F.Shelf.files g.F.Shelf.asked g.F.Shelf.reached (λ word. word.now) words.conf words.request words.wanted words.script c.args.shelf.now c.read_needed.new.shelf c.fetch_message.new.shelf c.fetch_message-2.new.shelf c.read_script_file.new.shelf
+    rw (c.files-names.ensures) (asks_all g.F.Shelf.files g.F.Shelf.asked g.F.Shelf.reached (λ word. word.now) words.conf words.request words.wanted words.script words.other c.args.shelf.now c.read_needed.new.shelf c.fetch_message.new.shelf c.fetch_message-2.new.shelf c.read_script_file.new.shelf c.read_script_file.new.shelf
     (record { keeps = c.in_ok-conf.ensures.files; asks = c.in_ok-conf.ensures.asked; reaches = c.in_ok-conf.ensures.reached; unasked = c.in_ok-conf.ensures.unasked })
     (record { keeps = c.in_ok-request.ensures.files; asks = c.in_ok-request.ensures.asked; reaches = c.in_ok-request.ensures.reached; unasked = c.in_ok-request.ensures.unasked })
     (record { keeps = c.in_ok-wanted.ensures.files; asks = c.in_ok-wanted.ensures.asked; reaches = c.in_ok-wanted.ensures.reached; unasked = c.in_ok-wanted.ensures.unasked })
-    (record { keeps = c.in_err-script.ensures.files; asks = c.in_err-script.ensures.asked; reaches = c.in_err-script.ensures.reached; unasked = c.in_err-script.ensures.unasked }))
+    (record { keeps = c.in_err-script.ensures.files; asks = c.in_err-script.ensures.asked; reaches = c.in_err-script.ensures.reached; unasked = c.in_err-script.ensures.unasked })
+    (asks_none g.F.Shelf.files g.F.Shelf.asked g.F.Shelf.reached (MAX_INPUT_BYTES + 1) words.other c.read_script_file.new.shelf))
 
 pub returns-in_err-request-clause-cause : goal.returns-in_err-request-clause-cause
 returns-in_err-request-clause-cause g c =
@@ -205,14 +210,17 @@ returns-in_err-script-clause-cause g c =
     let p = err_from_is_err_and c.from_residual-in_err-script.result c.from_residual-in_err-script.ensures.1 in
     rw (p.1, p.2) (shelf_counts (List Rewrite) (c.args.source.now ≡ c.args.source.now) (g.F.Shelf.faults c.args.shelf.now) (g.F.Shelf.faults c.fetch_message-2.new.shelf) (g.F.Shelf.faults c.read_script_file.new.shelf) (g.S.Source.faults c.args.source.now) c.in_err-script.field-0.0 (c.in_ok-wanted.ensures.cause ∙ (c.in_ok-request.ensures.cause ∙ c.in_ok-conf.ensures.cause)) c.in_err-script.ensures.cause refl)
 
-pub over_source-requires-clause-tables : goal.over_source-requires-clause-tables
-over_source-requires-clause-tables g c = rw c.needs.ensures at c.in_ok-conf.ensures.ok.holds.tables
+pub over_record-requires-clause-tables : goal.over_record-requires-clause-tables
+over_record-requires-clause-tables g c = rw c.needs.ensures at c.in_ok-conf.ensures.ok.holds.tables
 
-pub over_source-requires-clause-writable : goal.over_source-requires-clause-writable
-over_source-requires-clause-writable g c =
+pub over_record-requires-clause-writable : goal.over_record-requires-clause-writable
+over_record-requires-clause-writable g c =
     let name = option_map (λ word. word.now) c.files-names.result.script in
     subst (λ (s : List Rewrite). IsTrue (list_all is_writable s)) (sym c.as_slice.ensures)
     (script_writable (g.F.Shelf.files c.fetch_message-2.new.shelf) name c.in_ok-script.script c.in_ok-script.ensures.ok)
+
+pub over_record-requires-clause-named : goal.over_record-requires-clause-named
+over_record-requires-clause-named g c = ap (λ (names : FileNames). names Other) c.files-names.ensures
 
 pub returns-clause-report : goal.returns-clause-report
 returns-clause-report g c =
@@ -230,26 +238,29 @@ returns-clause-report g c =
     let third = g.F.Shelf.files c.fetch_message-2.new.shelf in
     let all_kept = keeps_both shelf second third kept c.in_ok-wanted.ensures.files in
     let scripted = read_before shelf words Script IsScripted c.in_ok-script.script third all_kept c.in_ok-script.ensures.ok in
+    let fourth = g.F.Shelf.files c.read_script_file.new.shelf in
+    let kept_to_script = keeps_both shelf third fourth all_kept c.in_ok-script.ensures.files in
     let same = same_related (λ view. view.now) c.as_ref-3.result c.in_ok-related.related c.as_ref-3.ensures.value in
     let also = same_related (λ view. view.now) c.as_ref-4.result c.in_ok-wishes.wishes c.as_ref-4.ensures.value in
-    rw (c.files-names.ensures) (all_read (g.C.OverMessage.tables c.args.command.now) (g.C.OverMessage.reports c.args.command.now) words shelf (c.over_source.new.source ≡ c.args.source.now)
-    (g.S.Source.left c.args.source.now) (g.S.Source.left c.over_source.new.source) conf configured related requested wishes wished c.in_ok-script.script scripted c.over_source.result _
-    (λ i. record { conf = conf; related = same i; wishes = also i; script = c.as_slice.ensures i }) c.over_source.ensures.report)
+    rw (c.files-names.ensures) (all_read (g.C.OverMessage.tables c.args.command.now) (g.C.OverMessage.reports c.args.command.now) words shelf (c.over_record.new.source ≡ c.args.source.now)
+    (g.S.Source.left c.args.source.now) (g.S.Source.left c.over_record.new.source) conf configured related requested wishes wished c.in_ok-script.script scripted c.over_record.result _ fourth
+    (λ i. record { conf = conf; related = same i; wishes = also i; script = c.as_slice.ensures i }) kept_to_script c.over_record.ensures.report)
 
 pub returns-clause-cause : goal.returns-clause-cause
 returns-clause-cause g c =
-    source_counts (c.over_source.new.source ≡ c.args.source.now) (g.F.Shelf.faults c.args.shelf.now) (g.F.Shelf.faults c.read_script_file.new.shelf) (g.S.Source.faults c.args.source.now)
-    (g.S.Source.faults c.over_source.new.source) c.over_source.result
-    (c.in_ok-script.ensures.cause ∙ (c.in_ok-wanted.ensures.cause ∙ (c.in_ok-request.ensures.cause ∙ c.in_ok-conf.ensures.cause))) c.over_source.ensures.cause
+    after_shelf (c.over_record.new.source ≡ c.args.source.now) (g.F.Shelf.faults c.args.shelf.now) (g.F.Shelf.faults c.read_script_file.new.shelf) (g.F.Shelf.faults c.over_record.new.shelf)
+    (g.S.Source.faults c.args.source.now) (g.S.Source.faults c.over_record.new.source) c.over_record.result
+    (c.in_ok-script.ensures.cause ∙ (c.in_ok-wanted.ensures.cause ∙ (c.in_ok-request.ensures.cause ∙ c.in_ok-conf.ensures.cause))) c.over_record.ensures.cause
 
 pub returns-clause-asks : goal.returns-clause-asks
 returns-clause-asks g c =
     let words = c.files-names.result in
-    rw (c.files-names.ensures) (asks_all g.F.Shelf.files g.F.Shelf.asked g.F.Shelf.reached (λ word. word.now) words.conf words.request words.wanted words.script c.args.shelf.now c.read_needed.new.shelf c.fetch_message.new.shelf c.fetch_message-2.new.shelf c.read_script_file.new.shelf
+    rw (c.files-names.ensures) (asks_all g.F.Shelf.files g.F.Shelf.asked g.F.Shelf.reached (λ word. word.now) words.conf words.request words.wanted words.script words.other c.args.shelf.now c.read_needed.new.shelf c.fetch_message.new.shelf c.fetch_message-2.new.shelf c.read_script_file.new.shelf c.over_record.new.shelf
     (record { keeps = c.in_ok-conf.ensures.files; asks = c.in_ok-conf.ensures.asked; reaches = c.in_ok-conf.ensures.reached; unasked = c.in_ok-conf.ensures.unasked })
     (record { keeps = c.in_ok-request.ensures.files; asks = c.in_ok-request.ensures.asked; reaches = c.in_ok-request.ensures.reached; unasked = c.in_ok-request.ensures.unasked })
     (record { keeps = c.in_ok-wanted.ensures.files; asks = c.in_ok-wanted.ensures.asked; reaches = c.in_ok-wanted.ensures.reached; unasked = c.in_ok-wanted.ensures.unasked })
-    (record { keeps = c.in_ok-script.ensures.files; asks = c.in_ok-script.ensures.asked; reaches = c.in_ok-script.ensures.reached; unasked = c.in_ok-script.ensures.unasked }))
+    (record { keeps = c.in_ok-script.ensures.files; asks = c.in_ok-script.ensures.asked; reaches = c.in_ok-script.ensures.reached; unasked = c.in_ok-script.ensures.unasked })
+    (record { keeps = c.over_record.ensures.files; asks = c.over_record.ensures.asked; reaches = c.over_record.ensures.reached; unasked = c.over_record.ensures.unasked }))
 
 -- ---- how many files are asked for
 
@@ -261,7 +272,7 @@ returns-in_err-conf-clause-asked g c =
     let shelf = g.F.Shelf.files c.args.shelf.now in
     rw (p.1, p.2, c.files-names.ensures) (asked_until shelf words Conf (IsConfLacking (g.C.OverMessage.tables c.args.command.now)) OfConf stop (rw c.needs.ensures at c.in_err-conf.ensures.refused)
     (Conf ∷ []) until_conf (names_of words) (g.F.Shelf.asked c.args.shelf.now) (g.F.Shelf.asked c.read_needed.new.shelf)
-    (asked_conf g.F.Shelf.files g.F.Shelf.asked g.F.Shelf.reached (λ word. word.now) words.conf words.request words.wanted words.script c.args.shelf.now c.read_needed.new.shelf c.read_needed.new.shelf c.read_needed.new.shelf
+    (asked_conf g.F.Shelf.files g.F.Shelf.asked g.F.Shelf.reached (λ word. word.now) words.conf words.request words.wanted words.script words.other c.args.shelf.now c.read_needed.new.shelf c.read_needed.new.shelf c.read_needed.new.shelf c.read_needed.new.shelf
     (record { keeps = c.in_err-conf.ensures.files; asks = c.in_err-conf.ensures.asked; reaches = c.in_err-conf.ensures.reached; unasked = c.in_err-conf.ensures.unasked })))
 
 pub returns-in_err-request-clause-asked : goal.returns-in_err-request-clause-asked
@@ -273,7 +284,7 @@ returns-in_err-request-clause-asked g c =
     let first = g.F.Shelf.files c.read_needed.new.shelf in
     rw (p.1, p.2, c.files-names.ensures) (asked_until shelf words Request IsRequestRefused OfRequest stop (refused_before shelf words Request IsRequestRefused OfRequest stop first c.in_ok-conf.ensures.files (c.in_err-request.ensures.refused one_request))
     (Conf ∷ Request ∷ []) until_request (names_of words) (g.F.Shelf.asked c.args.shelf.now) (g.F.Shelf.asked c.fetch_message.new.shelf)
-    (asked_request g.F.Shelf.files g.F.Shelf.asked g.F.Shelf.reached (λ word. word.now) words.conf words.request words.wanted words.script c.args.shelf.now c.read_needed.new.shelf c.fetch_message.new.shelf c.fetch_message.new.shelf
+    (asked_request g.F.Shelf.files g.F.Shelf.asked g.F.Shelf.reached (λ word. word.now) words.conf words.request words.wanted words.script words.other c.args.shelf.now c.read_needed.new.shelf c.fetch_message.new.shelf c.fetch_message.new.shelf c.fetch_message.new.shelf
     (record { keeps = c.in_ok-conf.ensures.files; asks = c.in_ok-conf.ensures.asked; reaches = c.in_ok-conf.ensures.reached; unasked = c.in_ok-conf.ensures.unasked })
     (record { keeps = c.in_err-request.ensures.files; asks = c.in_err-request.ensures.asked; reaches = c.in_err-request.ensures.reached; unasked = c.in_err-request.ensures.unasked })))
 
@@ -286,7 +297,7 @@ returns-in_err-related-clause-asked g c =
     let first = g.F.Shelf.files c.read_needed.new.shelf in
     rw (p.1, p.2, c.files-names.ensures) (asked_until shelf words Request IsRequestRefused OfRequest stop (message_refused shelf words Request one_request OfRequest c.in_ok-request.request _ _ stop first c.in_ok-conf.ensures.files c.of_request.ensures c.as_ref.ensures.value c.in_ok-request.ensures.ok c.in_err-related.ensures.refused)
     (Conf ∷ Request ∷ []) until_request (names_of words) (g.F.Shelf.asked c.args.shelf.now) (g.F.Shelf.asked c.fetch_message.new.shelf)
-    (asked_request g.F.Shelf.files g.F.Shelf.asked g.F.Shelf.reached (λ word. word.now) words.conf words.request words.wanted words.script c.args.shelf.now c.read_needed.new.shelf c.fetch_message.new.shelf c.fetch_message.new.shelf
+    (asked_request g.F.Shelf.files g.F.Shelf.asked g.F.Shelf.reached (λ word. word.now) words.conf words.request words.wanted words.script words.other c.args.shelf.now c.read_needed.new.shelf c.fetch_message.new.shelf c.fetch_message.new.shelf c.fetch_message.new.shelf
     (record { keeps = c.in_ok-conf.ensures.files; asks = c.in_ok-conf.ensures.asked; reaches = c.in_ok-conf.ensures.reached; unasked = c.in_ok-conf.ensures.unasked })
     (record { keeps = c.in_ok-request.ensures.files; asks = c.in_ok-request.ensures.asked; reaches = c.in_ok-request.ensures.reached; unasked = c.in_ok-request.ensures.unasked })))
 
@@ -301,7 +312,7 @@ returns-in_err-wanted-clause-asked g c =
     let kept = keeps_both shelf first second c.in_ok-conf.ensures.files c.in_ok-request.ensures.files in
     rw (p.1, p.2, c.files-names.ensures) (asked_until shelf words Wanted IsWantedRefused OfWanted stop (refused_before shelf words Wanted IsWantedRefused OfWanted stop second kept (c.in_err-wanted.ensures.refused any_message))
     (Conf ∷ Request ∷ Wanted ∷ []) until_wanted (names_of words) (g.F.Shelf.asked c.args.shelf.now) (g.F.Shelf.asked c.fetch_message-2.new.shelf)
-    (asked_wanted g.F.Shelf.files g.F.Shelf.asked g.F.Shelf.reached (λ word. word.now) words.conf words.request words.wanted words.script c.args.shelf.now c.read_needed.new.shelf c.fetch_message.new.shelf c.fetch_message-2.new.shelf
+    (asked_wanted g.F.Shelf.files g.F.Shelf.asked g.F.Shelf.reached (λ word. word.now) words.conf words.request words.wanted words.script words.other c.args.shelf.now c.read_needed.new.shelf c.fetch_message.new.shelf c.fetch_message-2.new.shelf c.fetch_message-2.new.shelf
     (record { keeps = c.in_ok-conf.ensures.files; asks = c.in_ok-conf.ensures.asked; reaches = c.in_ok-conf.ensures.reached; unasked = c.in_ok-conf.ensures.unasked })
     (record { keeps = c.in_ok-request.ensures.files; asks = c.in_ok-request.ensures.asked; reaches = c.in_ok-request.ensures.reached; unasked = c.in_ok-request.ensures.unasked })
     (record { keeps = c.in_err-wanted.ensures.files; asks = c.in_err-wanted.ensures.asked; reaches = c.in_err-wanted.ensures.reached; unasked = c.in_err-wanted.ensures.unasked })))
@@ -317,7 +328,7 @@ returns-in_err-wishes-clause-asked g c =
     let kept = keeps_both shelf first second c.in_ok-conf.ensures.files c.in_ok-request.ensures.files in
     rw (p.1, p.2, c.files-names.ensures) (asked_until shelf words Wanted IsWantedRefused OfWanted stop (message_refused shelf words Wanted any_message OfWanted c.in_ok-wanted.wanted _ _ stop second kept c.of_any.ensures c.as_ref-2.ensures.value c.in_ok-wanted.ensures.ok c.in_err-wishes.ensures.refused)
     (Conf ∷ Request ∷ Wanted ∷ []) until_wanted (names_of words) (g.F.Shelf.asked c.args.shelf.now) (g.F.Shelf.asked c.fetch_message-2.new.shelf)
-    (asked_wanted g.F.Shelf.files g.F.Shelf.asked g.F.Shelf.reached (λ word. word.now) words.conf words.request words.wanted words.script c.args.shelf.now c.read_needed.new.shelf c.fetch_message.new.shelf c.fetch_message-2.new.shelf
+    (asked_wanted g.F.Shelf.files g.F.Shelf.asked g.F.Shelf.reached (λ word. word.now) words.conf words.request words.wanted words.script words.other c.args.shelf.now c.read_needed.new.shelf c.fetch_message.new.shelf c.fetch_message-2.new.shelf c.fetch_message-2.new.shelf
     (record { keeps = c.in_ok-conf.ensures.files; asks = c.in_ok-conf.ensures.asked; reaches = c.in_ok-conf.ensures.reached; unasked = c.in_ok-conf.ensures.unasked })
     (record { keeps = c.in_ok-request.ensures.files; asks = c.in_ok-request.ensures.asked; reaches = c.in_ok-request.ensures.reached; unasked = c.in_ok-request.ensures.unasked })
     (record { keeps = c.in_ok-wanted.ensures.files; asks = c.in_ok-wanted.ensures.asked; reaches = c.in_ok-wanted.ensures.reached; unasked = c.in_ok-wanted.ensures.unasked })))
@@ -334,18 +345,19 @@ returns-in_err-script-clause-asked g c =
     let third = g.F.Shelf.files c.fetch_message-2.new.shelf in
     let all_kept = keeps_both shelf second third kept c.in_ok-wanted.ensures.files in
     rw (p.1, p.2, c.files-names.ensures) (asked_until shelf words Script IsScriptRefused OfScript stop (refused_before shelf words Script IsScriptRefused OfScript stop third all_kept c.in_err-script.ensures.refused)
-    read_order until_script (names_of words) (g.F.Shelf.asked c.args.shelf.now) (g.F.Shelf.asked c.read_script_file.new.shelf)
-    (asks_all g.F.Shelf.files g.F.Shelf.asked g.F.Shelf.reached (λ word. word.now) words.conf words.request words.wanted words.script c.args.shelf.now c.read_needed.new.shelf c.fetch_message.new.shelf c.fetch_message-2.new.shelf c.read_script_file.new.shelf
+    (Conf ∷ Request ∷ Wanted ∷ Script ∷ []) until_script (names_of words) (g.F.Shelf.asked c.args.shelf.now) (g.F.Shelf.asked c.read_script_file.new.shelf)
+    (asked_script g.F.Shelf.files g.F.Shelf.asked g.F.Shelf.reached (λ word. word.now) words.conf words.request words.wanted words.script words.other c.args.shelf.now c.read_needed.new.shelf c.fetch_message.new.shelf c.fetch_message-2.new.shelf c.read_script_file.new.shelf
     (record { keeps = c.in_ok-conf.ensures.files; asks = c.in_ok-conf.ensures.asked; reaches = c.in_ok-conf.ensures.reached; unasked = c.in_ok-conf.ensures.unasked })
     (record { keeps = c.in_ok-request.ensures.files; asks = c.in_ok-request.ensures.asked; reaches = c.in_ok-request.ensures.reached; unasked = c.in_ok-request.ensures.unasked })
     (record { keeps = c.in_ok-wanted.ensures.files; asks = c.in_ok-wanted.ensures.asked; reaches = c.in_ok-wanted.ensures.reached; unasked = c.in_ok-wanted.ensures.unasked })
-    (record { keeps = c.in_err-script.ensures.files; asks = c.in_err-script.ensures.asked; reaches = c.in_err-script.ensures.reached; unasked = c.in_err-script.ensures.unasked })).asks)
+    (record { keeps = c.in_err-script.ensures.files; asks = c.in_err-script.ensures.asked; reaches = c.in_err-script.ensures.reached; unasked = c.in_err-script.ensures.unasked })))
 
 pub returns-clause-asked : goal.returns-clause-asked
 returns-clause-asked g c =
     let words = c.files-names.result in
-    rw (c.files-names.ensures) (late_asked (names_of words) (g.F.Shelf.asked c.args.shelf.now) (g.F.Shelf.asked c.read_script_file.new.shelf) (asks_all g.F.Shelf.files g.F.Shelf.asked g.F.Shelf.reached (λ word. word.now) words.conf words.request words.wanted words.script c.args.shelf.now c.read_needed.new.shelf c.fetch_message.new.shelf c.fetch_message-2.new.shelf c.read_script_file.new.shelf
+    rw (c.files-names.ensures) (late_asked (names_of words) (g.F.Shelf.asked c.args.shelf.now) (g.F.Shelf.asked c.over_record.new.shelf) (asks_all g.F.Shelf.files g.F.Shelf.asked g.F.Shelf.reached (λ word. word.now) words.conf words.request words.wanted words.script words.other c.args.shelf.now c.read_needed.new.shelf c.fetch_message.new.shelf c.fetch_message-2.new.shelf c.read_script_file.new.shelf c.over_record.new.shelf
     (record { keeps = c.in_ok-conf.ensures.files; asks = c.in_ok-conf.ensures.asked; reaches = c.in_ok-conf.ensures.reached; unasked = c.in_ok-conf.ensures.unasked })
     (record { keeps = c.in_ok-request.ensures.files; asks = c.in_ok-request.ensures.asked; reaches = c.in_ok-request.ensures.reached; unasked = c.in_ok-request.ensures.unasked })
     (record { keeps = c.in_ok-wanted.ensures.files; asks = c.in_ok-wanted.ensures.asked; reaches = c.in_ok-wanted.ensures.reached; unasked = c.in_ok-wanted.ensures.unasked })
-    (record { keeps = c.in_ok-script.ensures.files; asks = c.in_ok-script.ensures.asked; reaches = c.in_ok-script.ensures.reached; unasked = c.in_ok-script.ensures.unasked })).asks c.over_source.result c.over_source.ensures.late)
+    (record { keeps = c.in_ok-script.ensures.files; asks = c.in_ok-script.ensures.asked; reaches = c.in_ok-script.ensures.reached; unasked = c.in_ok-script.ensures.unasked })
+    (record { keeps = c.over_record.ensures.files; asks = c.over_record.ensures.asked; reaches = c.over_record.ensures.reached; unasked = c.over_record.ensures.unasked })).asks c.over_record.result c.over_record.ensures.late)

@@ -1,5 +1,7 @@
 use Rattle.std.proofs.Common.{◌≡◌, ℕ, List, Result, Err, ap}
+use Rattle.std.specs.Prelude.{option_map}
 use Rattle.hms_io.specs.declared.read_write.FillError.{FillError}
+use Rattle.msg_body.specs.Views.{message_of}
 use Rattle.refusals.specs.declared.refusal.TheConstants.{MAX_INPUT_BYTES}
 use Rattle.program.specs.tools.Parts.{values_of}
 use Rattle.program.proofs.AskedFiles.{answer_late, fill_late}
@@ -11,12 +13,12 @@ as_err e = Err e
 
 pub returns-in-Err-clause-report : goal.returns-in-Err-clause-report
 returns-in-Err-clause-report g c =
-    rw c.of_fill.ensures (fill_stop (g.C.OverMessage.reports c.args.command.now) (values_of c.args.files) (c.fill.new.source ≡ c.args.source.now) (g.S.Source.left c.args.source.now)
+    rw c.of_fill.ensures (fill_stop (g.C.OverMessage.reports c.args.command.now) (values_of c.args.files) (option_map (λ view. message_of view.now) c.args.other) (c.fill.new.source ≡ c.args.source.now) (g.S.Source.left c.args.source.now)
     (g.S.Source.left c.fill.new.source) c.in-Err.error (λ e. c.in-Err.ensures.too_long (ap as_err e)))
 
 pub returns-clause-report : goal.returns-clause-report
 returns-clause-report g c =
-    input_outcome (g.C.OverMessage.reports c.args.command.now) (values_of c.args.files) (c.fill.new.source ≡ c.args.source.now) c.in-Ok.input c.bytes.result.now
+    input_outcome (g.C.OverMessage.reports c.args.command.now) (values_of c.args.files) (option_map (λ view. message_of view.now) c.args.other) (c.fill.new.source ≡ c.args.source.now) c.in-Ok.input c.bytes.result.now
     (g.S.Source.left c.args.source.now) (g.S.Source.left c.fill.new.source) c.bytes.ensures c.in-Ok.ensures.whole c.over_input.result c.over_input.ensures.report c.over_input.ensures.after
 
 pub returns-clause-few : goal.returns-clause-few

@@ -1,0 +1,10 @@
+pub mod NormalLines
+pub mod NormalMessages
+pub mod LineSteps
+pub mod Steps
+pub mod Agreement
+pub mod Explanations
+pub mod Causes
+pub mod Laws
+pub mod Words
+pub mod tools

@@ -1,0 +1,249 @@
+// Tests of normal_forms.
+
+ghost use Rattle.std.specs.Prelude.{IfSome, false};
+ghost use Rattle.msg_body.specs.Messages.{IsMessage};
+ghost use Rattle.msg_body.specs.Views.{message_of};
+
+use crate::scripts::is_printed;
+use component_ids::{Scheme, Types};
+use component_values::Context;
+use msg_body::{MessageView, Reading, whole_message};
+use msg_head::Side;
+use normal_forms::{Basis, ExplainFault, Explained, FixedName, explain, normal_form};
+use signatures::read_label;
+use std::alloc::Global;
+
+const SENT: &[u8] = b"GET / HTTP/1.1\r\n\
+Host: h\r\n\
+A:  x\r\n\
+Signature-Input: s=(\"a\")\r\n\
+Signature: s=:AA==:\r\n\r\n";
+
+const STEPS: &[u8] = b"case h 0 host\n\
+pad h 0 - -\n\
+case h 1 a\n\
+pad h 1 - -\n\
+case h 2 signature-input\n\
+pad h 2 - -\n\
+case h 3 signature\n\
+pad h 3 - -\n";
+
+const NORMAL: &[u8] = b"GET / HTTP/1.1\r\n\
+host:h\r\n\
+a:x\r\n\
+signature-input:s=(\"a\")\r\n\
+signature:s=:AA==:\r\n\r\n";
+
+// A record with all that isn't normal. The second line of `b` in the trailer section is.
+const MIXED: &[u8] = b"POST / HTTP/1.1\r\n\
+Host: h\r\n\
+A: 1\r\n\
+B: x\r\n y\r\n\
+a:\r\n\
+C: 2\r\n\
+A: 3\r\n\
+Transfer-Encoding: chunked\r\n\
+Signature-Input: s=(\"a\" \"b\" \"b\";tr)\r\n\
+Signature: s=:AA==:\r\n\r\n\
+3\r\nabc\r\n05;c\r\ndefgh\r\n0\r\n\
+B: 1\r\n\
+C: 2\r\n\
+b:2\r\n\r\n";
+
+const MIXED_STEPS: &[u8] = b"remove h 4\n\
+case h 0 host\n\
+pad h 0 - -\n\
+case h 1 a\n\
+pad h 1 - -\n\
+case h 2 b\n\
+unfold h 2 2\n\
+pad h 2 - -\n\
+case h 4 a\n\
+pad h 4 - -\n\
+case h 5 transfer-encoding\n\
+pad h 5 - -\n\
+case h 6 signature-input\n\
+pad h 6 - -\n\
+case h 7 signature\n\
+pad h 7 - -\n\
+join h 3 4\n\
+pad h 3 - -\n\
+join h 1 3\n\
+pad h 1 - -\n\
+remove t 1\n\
+case t 0 b\n\
+pad t 0 - -\n\
+join t 0 1\n\
+pad t 0 - -\n\
+rechunk 8\n";
+
+const MIXED_NORMAL: &[u8] = b"POST / HTTP/1.1\r\n\
+host:h\r\n\
+a:1, , 3\r\n\
+b:x y\r\n\
+transfer-encoding:chunked\r\n\
+signature-input:s=(\"a\" \"b\" \"b\";tr)\r\n\
+signature:s=:AA==:\r\n\r\n\
+8\r\nabcdefgh\r\n0\r\n\
+b:1, 2\r\n\r\n";
+
+// A record, the steps that make it normal for the label `s`, and the normal message.
+#[derive(Clone, Copy)]
+struct Form {
+    message: &'static [u8],
+    steps: &'static [u8],
+    normal: &'static [u8],
+}
+
+const FORMS: [Form; 3] = [
+    Form {
+        message: SENT,
+        steps: STEPS,
+        normal: NORMAL,
+    },
+    Form {
+        message: NORMAL,
+        steps: b"",
+        normal: NORMAL,
+    },
+    Form {
+        message: MIXED,
+        steps: MIXED_STEPS,
+        normal: MIXED_NORMAL,
+    },
+];
+
+fn view_of(alloc: Global, bytes: &[u8]) -> Option<MessageView<'_>>
+    ensures { IfSome result (λ view. IsMessage false (message_of view)) }
+{
+    if bytes.len() > 1_000 {
+        return None;
+    }
+    match whole_message(alloc, Reading::of_any(), bytes) {
+        Ok(view) => Some(view),
+        Err(_) => None,
+    }
+}
+
+fn has_form(alloc: Global, message: &MessageView<'_>, row: &Form) -> bool
+    requires { IsMessage false (message_of message.now) }
+{
+    let Ok(read) = read_label(alloc, message, b"s") else {
+        return false;
+    };
+    let Ok(types) = Types::standard(alloc) else {
+        return false;
+    };
+    let context = Context::of_message(message, Scheme::Http, &types);
+    match normal_form(alloc, &context, b"s", &read.params) {
+        Ok(normal) => {
+            normal.message.bytes() == row.normal
+                && is_printed(alloc, normal.steps.as_slice(), row.steps)
+        }
+        Err(_) => false,
+    }
+}
+
+fn is_form(alloc: Global, row: &Form) -> bool {
+    match view_of(alloc, row.message) {
+        Some(message) => has_form(alloc, &message, row),
+        None => false,
+    }
+}
+
+#[test]
+fn messages_have_normal_forms(rt: HostRuntime) {
+    for (index, row) in FORMS.iter().enumerate() {
+        assert!(rt; is_form(rt.alloc(), row), "row {index}");
+    }
+}
+
+const RECEIVED: &[u8] = b"GET / HTTP/1.1\r\n\
+a:x\r\n\
+host:h\r\n\
+signature:s=:AA==:\r\n\
+signature-input:s=(\"a\")\r\n\r\n";
+
+// What is said of two records: the steps of each, the index of a component, or a fault.
+#[derive(Clone, Copy)]
+enum Said {
+    Same(&'static [u8], &'static [u8]),
+    Differs(usize),
+    Fault(ExplainFault),
+}
+
+// A record of what was sent, and what is said of it beside the one of what was received.
+#[derive(Clone, Copy)]
+struct Record {
+    message: &'static [u8],
+    said: Said,
+}
+
+const RECORDS: [Record; 3] = [
+    Record {
+        message: SENT,
+        said: Said::Same(STEPS, b""),
+    },
+    Record {
+        message: b"GET / HTTP/1.1\r\n\
+Host: h\r\n\
+A:  y\r\n\
+Signature-Input: s=(\"a\")\r\n\
+Signature: s=:AA==:\r\n\r\n",
+        said: Said::Differs(0),
+    },
+    Record {
+        message: b"GET / HTTP/1.1\r\n\
+Host: i\r\n\
+A:  x\r\n\
+Signature-Input: s=(\"a\")\r\n\
+Signature: s=:AA==:\r\n\r\n",
+        said: Said::Fault(ExplainFault::OtherBasis(Basis::Field {
+            side: Side::Header,
+            name: FixedName::Host,
+        })),
+    },
+];
+
+fn is_as_said(alloc: Global, answer: &Result<Explained, ExplainFault>, said: Said) -> bool {
+    match (answer, said) {
+        (Ok(Explained::Same { first, second }), Said::Same(steps, others)) => {
+            is_printed(alloc, first.as_slice(), steps)
+                && is_printed(alloc, second.as_slice(), others)
+        }
+        (Ok(Explained::Differs { index }), Said::Differs(wanted)) => *index == wanted,
+        (Err(fault), Said::Fault(wanted)) => *fault == wanted,
+        _ => false,
+    }
+}
+
+fn are_explained(
+    alloc: Global,
+    message: &MessageView<'_>,
+    other: &MessageView<'_>,
+    said: Said,
+) -> bool
+    requires first { IsMessage false (message_of message.now) }
+    requires second { IsMessage false (message_of other.now) }
+{
+    let Ok(types) = Types::standard(alloc) else {
+        return false;
+    };
+    let first = Context::of_message(message, Scheme::Http, &types);
+    let second = Context::of_message(other, Scheme::Http, &types);
+    is_as_said(alloc, &explain(alloc, &first, &second, b"s"), said)
+}
+
+fn is_explained(alloc: Global, row: &Record) -> bool {
+    match (view_of(alloc, row.message), view_of(alloc, RECEIVED)) {
+        (Some(message), Some(other)) => are_explained(alloc, &message, &other, row.said),
+        _ => false,
+    }
+}
+
+#[test]
+fn two_records_are_explained_or_not(rt: HostRuntime) {
+    for (index, row) in RECORDS.iter().enumerate() {
+        assert!(rt; is_explained(rt.alloc(), row), "row {index}");
+    }
+}
