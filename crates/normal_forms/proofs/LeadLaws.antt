@@ -86,6 +86,8 @@ lead_to_normal lead_on_side make_normal_lines context label params tag steps nor
     record {
       made = made;
       lead = leads.lead;
+      writable = leads.writable;
+      values = leads.values;
       is_normal = subst (IsNormal params) (sym made.normal_is) is_normal;
     }
 

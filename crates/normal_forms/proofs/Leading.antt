@@ -1,7 +1,8 @@
 -- Steps on the lines of a side, one after the other: they lead from a message to the one with the lines that they make.
 use Rattle.std.proofs.Common.{◌≡◌, ℕ, true, List, [], ◌∷◌, ◌++◌, refl, sym, ap, subst, ◌∙◌}
 use Rattle.std.specs.Prelude.{map}
-use Rattle.std.specs.List.{FoldsTo, flat_map}
+use Rattle.std.specs.List.{FoldsTo, flat_map, list_all}
+use Rattle.std.proofs.lemmas.Bool.{and_from}
 use Rattle.std.proofs.lemmas.List.{map-append}
 use Rattle.msg_head.specs.declared.error.Side.{Side}
 use Rattle.msg_head.specs.Lines.{FieldLine}
@@ -11,6 +12,8 @@ use Rattle.component_ids.specs.declared.params.SigParams.{SigParams}
 use Rattle.component_values.specs.Context.{MessageContext, answers_head, context_with}
 use Rattle.signatures.specs.Signatures.{HasSignature}
 use Rattle.rewrite_script.specs.Lines.{HasValues, is_line_writable, is_writable}
+use Rattle.byte_grammar.proofs.ListLaws.{all_joined}
+use Rattle.rewrite_script.specs.Scripts.{HaveValues}
 use Rattle.rewrite_script.specs.declared.rewrite.LineRewrite.{LineRewrite}
 use Rattle.rewrite_script.specs.declared.rewrite.Rewrite.{Rewrite}
 use Rattle.rewrite_script.specs.declared.rewrite.Rewrite.TheVariants.{Lines}
@@ -34,6 +37,11 @@ pub one_each : {A : Type 0} (xs : List A) → flat_map (λ x. x ∷ []) xs ≡ x
 one_each [] = refl
 one_each (x ∷ xs) = ap (λ ys. x ∷ ys) (one_each xs)
 
+-- the values that lines have
+values_on : (xs ys : List Rewrite) → HaveValues xs → HaveValues ys → HaveValues (xs ++ ys)
+values_on [] ys first second = second
+values_on (x ∷ xs) ys first second = (first.0, values_on xs ys first.1 second)
+
 -- ---- a signature's steps
 
 -- where a signature is read, its label, its parameters and its tag
@@ -56,11 +64,15 @@ Takes s message step next = IsPermittedStep s.label (context_with s.context mess
 pub record Leads (s : Signed) (message : Message) (steps : List Rewrite) (after : Message) : Type 0 where
   pub lead : FoldsTo (Takes s) message steps after
   pub signed : IsSigned s after
+  pub writable : list_all is_writable steps ≡ true
+  pub values : HaveValues steps
 
 pub leads_on : (s : Signed) (message next after : Message) (xs ys : List Rewrite) → Leads s message xs next → Leads s next ys after → Leads s message (xs ++ ys) after
 leads_on s message next after xs ys first second = record {
   lead = folds_on (Takes s) message next after xs ys first.lead second.lead;
   signed = second.signed;
+  writable = all_joined is_writable xs ys first.writable second.writable;
+  values = values_on xs ys first.values second.values;
 }
 
 -- a step that the signature permits
@@ -71,6 +83,8 @@ leads_by s message step after is whole gives permits writable values =
     record {
       lead = (after, record { gives = gives; params = s.params; tag = s.tag; signature = is.signature; permits = permits }, refl);
       signed = record { whole = whole; signature = kept.signature };
+      writable = and_from (is_writable step) true writable refl;
+      values = (values, tt);
     }
 
 -- ---- on a side
@@ -89,7 +103,7 @@ pub none_on : (s : Signed) (side : Side) (message : Message) (others : List Fiel
 none_on s side message others is same =
     let own : lined s side message others ≡ message = ap (lined s side message) (sym same) ∙ own_lines (answers_head s.context.related) side message is.whole.framing in
     record {
-      leads = subst (λ (m : Message). Leads s message [] m) (sym own) (record { lead = refl; signed = is });
+      leads = subst (λ (m : Message). Leads s message [] m) (sym own) (record { lead = refl; signed = is; writable = refl; values = tt });
       there = ap (lines_on side) own ∙ same;
     }
 

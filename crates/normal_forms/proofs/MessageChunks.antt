@@ -163,11 +163,11 @@ rechunk_leads s head framing chunks trailers is =
 chunks_of_body : (s : Signed) (head : Head) (framing : Framing) (body : Body) (steps : List Rewrite) → IsSigned s (of_parts head framing body) → MakeChunksNormal (of_parts head framing body) steps
     → Leads s (of_parts head framing body) steps (of_parts head framing (with_normal_chunks body))
 chunks_of_body s head framing (plain content) steps is (inl made) =
-    subst (λ (xs : List Rewrite). Leads s (of_parts head framing (plain content)) xs (of_parts head framing (plain content))) (sym made.1) (record { lead = refl; signed = is })
+    subst (λ (xs : List Rewrite). Leads s (of_parts head framing (plain content)) xs (of_parts head framing (plain content))) (sym made.1) (record { lead = refl; signed = is; writable = refl; values = tt })
 chunks_of_body s head framing (plain content) steps is (inr made) = absurd (made.0 tt)
 chunks_of_body s head framing (chunked chunks trailers) steps is (inl made) =
     let message = of_parts head framing (chunked chunks trailers) in
-    let none : Leads s message [] message = record { lead = refl; signed = is } in
+    let none : Leads s message [] message = record { lead = refl; signed = is; writable = refl; values = tt } in
     let same = subst (λ (c : Chunks). Leads s message [] (of_parts head framing (chunked c trailers))) made.0 none in
     subst (λ (xs : List Rewrite). Leads s message xs (of_parts head framing (chunked (normal_chunks (content_of chunks)) trailers))) (sym made.1) same
 chunks_of_body s head framing (chunked chunks trailers) steps is (inr made) =

@@ -1,6 +1,7 @@
 -- The steps that make a message normal for a signature: those of the header, those of the trailer
 -- section, and one that puts the content in one chunk.
-use Rattle.std.specs.Prelude.{◌≡◌, ◌⊎◌, ℕ, Bool, List, [], ◌∷◌, ◌++◌, map}
+use Rattle.std.specs.Prelude.{◌≡◌, ◌⊎◌, ℕ, Bool, IsTrue, List, [], ◌∷◌, ◌++◌, map}
+use Rattle.std.specs.List.{list_all}
 use Rattle.msg_head.specs.declared.error.Side.TheVariants.{Header, Trailer}
 use Rattle.msg_head.specs.Lines.{FieldLine}
 use Rattle.chunks.specs.Chunks.{content_of}
@@ -9,6 +10,8 @@ use Rattle.msg_body.specs.Messages.{Message}
 use Rattle.msg_body.specs.Views.{lines_on, message_content}
 use Rattle.component_ids.specs.declared.params.SigParams.{SigParams}
 use Rattle.component_values.specs.Context.{MessageContext, answers_head}
+use Rattle.rewrite_script.specs.Lines.{is_writable}
+use Rattle.rewrite_script.specs.Scripts.{HaveValues}
 use Rattle.rewrite_script.specs.declared.rewrite.LineRewrite.{LineRewrite}
 use Rattle.rewrite_script.specs.declared.rewrite.Rewrite.{Rewrite}
 use Rattle.rewrite_script.specs.declared.rewrite.Rewrite.TheVariants.{Lines, Whole}
@@ -52,9 +55,11 @@ pub record HasNormalSteps (to_head : Bool) (params : SigParams) (message : Messa
   pub normal_is : normal ≡ normal_message to_head message header trailer
 
 -- The steps lead from the context's message to the normal one. Each is applicable to the message
--- that it meets, and the label's signature permits it there.
+-- that it meets, and the label's signature permits it there. Each is that of a line of a script.
 pub record IsNormalForm (context : MessageContext) (label : List ℕ) (params : SigParams)
     (steps : List Rewrite) (normal : Message) : Type 0 where
   pub made : HasNormalSteps (answers_head context.related) params context.message steps normal
   pub lead : Steps (IsPermittedStep label) context steps normal
+  pub writable : IsTrue (list_all is_writable steps)
+  pub values : HaveValues steps
   pub is_normal : IsNormal params normal
