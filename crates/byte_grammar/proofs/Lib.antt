@@ -13,3 +13,6 @@ pub mod OffsetLaws
 pub mod ListLaws
 pub mod MapLaws
 pub mod Tables
+pub mod LiteralLaws
+pub mod NumberLaws
+pub mod CountedLaws

@@ -7,4 +7,5 @@ pub mod Causes
 pub mod Pieces
 pub mod Fed
 pub mod Displayed
+pub mod Numbers
 pub mod tools

@@ -3,3 +3,5 @@ pub mod Walks
 pub mod Determined
 pub mod ByBytes
 pub mod Held
+pub mod CountedWalk
+pub mod CountedTexts

@@ -17,6 +17,8 @@
 //! read_byte(Byte(b';'), b"a1") // Err(Left(2))
 //! read_all(Class::Visible, b"a b") // (b"a", b" b")
 //! starts_with(Class::Digit, b"1") // true
+//! read_number(b'\n', b"12\n;") // Ok((12, b";"))
+//! read_counted(2, b"ab\n;") // Ok((b"ab", b";"))
 //! ```
 //!
 //! `specs/` has the texts of a language, the offset of a fault, causes that are judged in an order,
@@ -30,6 +32,9 @@
 //!   `next_more`.
 //! - `LeafLaws`: the readers of bytes meet theirs (`meets_byte`, `meets_run`, `meets_all`,
 //!   `meets_word`).
+//! - `LiteralLaws`, `NumberLaws`, `CountedLaws`: so do those of a given text, of a number with the
+//!   byte after it, and of bytes that a number counts (`meets_literal`, `meets_number`,
+//!   `meets_bytes`, `meets_counted`).
 //! - `ChoiceLaws`: readers that the first byte chooses (`meets_pick` over `Heads`,
 //!   `meets_optional`, `meets_choose`), and what texts begin with and what may come next (`Starts`,
 //!   `of_each`, `apart`, `starts_next`, `run_starts`, `optional_follow`).
@@ -59,8 +64,11 @@
 
 mod absorb;
 mod class;
+mod counted;
 mod fed_text;
+mod literal;
 mod memory;
+mod number;
 mod readers;
 mod sequence;
 mod short;
@@ -69,8 +77,11 @@ mod texts;
 
 pub use absorb::Absorb;
 pub use class::{Byte, ByteClass, Class, is_blank, is_tchar};
+pub use counted::{read_bytes, read_counted};
 pub use fed_text::FedText;
+pub use literal::read_literal;
 pub use memory::Memory;
+pub use number::{MAX_NUMBER_DIGITS, numbers_have_few_digits, read_number};
 pub use readers::{Left, read_all, read_byte, read_run, read_word, starts_with};
 pub use sequence::Sequence;
 pub use short::IN_PLACE;

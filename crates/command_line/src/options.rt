@@ -104,10 +104,12 @@ pub fn moment_of(word: &str) -> u64
     ensures value { result ≡ digits_value 10 word.now }
     ensures timely { result < 10 ^ MAX_MOMENT_DIGITS }
 {
-    match word.parse::<u64>() {
-        Ok(moment) => moment,
-        Err(_) => 0,
+    let bytes = word.as_bytes();
+    let mut moment = 0;
+    for byte in bytes {
+        moment = moment * 10 + u64::from(*byte - b'0');
     }
+    moment
 }
 
 impl CommandOption {

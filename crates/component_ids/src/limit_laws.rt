@@ -6,5 +6,5 @@ use crate::params::MAX_COMPONENTS;
 
 /// The limits of this crate are these numbers.
 pub fn limits_are_these()
-    ensures max_components { MAX_COMPONENTS ≡ 64 }
+    ensures max_components { MAX_COMPONENTS ≡ 128 }
 {}

@@ -21,7 +21,7 @@ use sfv_text::{BareItem, InnerList, Memory, Pair, Params};
 use std::alloc::Global;
 
 /// How many covered components signature parameters have at most. RFC 9421 sets no limit.
-pub const MAX_COMPONENTS: usize = 64;
+pub const MAX_COMPONENTS: usize = 128;
 
 /// The keys of parameters that are Strings.
 const STRING_KEYS: [&[u8]; 4] = [b"nonce", b"alg", b"keyid", b"tag"];

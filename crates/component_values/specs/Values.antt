@@ -17,7 +17,7 @@ use Rattle.msg_body.specs.Messages.{Message}
 use Rattle.msg_body.specs.Views.{lines_on}
 use Rattle.msg_head.specs.Values.{values, combined_value, is_there}
 use Rattle.component_ids.specs.Table.{is_field_name, has_param}
-use Rattle.component_ids.specs.Types.{kind_in}
+use Rattle.component_ids.specs.Types.{KindMap, kind_in}
 use Rattle.component_ids.specs.declared.types.FieldKind.{FieldKind}
 use Rattle.component_ids.specs.declared.types.FieldKind.TheVariants as kind
 use Rattle.component_ids.specs.declared.id.ComponentId.{ComponentId}
@@ -27,6 +27,7 @@ use Rattle.component_values.specs.Context.{MessageContext}
 use Rattle.component_values.specs.Forms.{Form, form_of}
 use Rattle.component_values.specs.Forms as form
 use Rattle.derived_values.specs.Derived.{DerivedRow, derived_of}
+use Rattle.derived_values.specs.declared.derived.DerivedName.{DerivedName}
 
 -- ---- structured values
 
@@ -112,16 +113,22 @@ abbrev pub message_for : MessageContext → List (Pair BareItem) → Result Mess
 message_for context params =
     if has_param params (codes "req") then related_message context else Ok context.message
 
--- by whether the name is a field name
-abbrev pub NameRow : Bool → MessageContext → ComponentId → Message → Result (List ℕ) Lack → Type 0
+-- by whether the name is a field name, over the lines of the identifier's side, and by this row for
+-- what is none
+abbrev pub ComponentRow : Bool → KindMap → ComponentId → List FieldLine
+    → (Option DerivedName → Result (List ℕ) Lack → Type 0) → Result (List ℕ) Lack → Type 0
 -- it is: a field
-NameRow true context id message result =
-    FieldRow id.params (kind_in context.types id.name) (lines_on (side_of id.params) message)
-    id.name result
+ComponentRow true types id lines OtherRow result =
+    FieldRow id.params (kind_in types id.name) lines id.name result
 -- it isn't: a derived component, whose name begins with `@`
-NameRow false context id message result =
-    DerivedRow (derived_of id.name) id.params context.scheme (lines_on Header message)
-    message.head.start result
+ComponentRow false types id lines OtherRow result = OtherRow (derived_of id.name) result
+
+-- a component of a message
+abbrev pub NameRow : Bool → MessageContext → ComponentId → Message → Result (List ℕ) Lack → Type 0
+NameRow is_field context id message result =
+    ComponentRow is_field context.types id (lines_on (side_of id.params) message)
+    (λ derived answer. DerivedRow derived id.params context.scheme (lines_on Header message)
+    message.head.start answer) result
 
 -- by whether there is a message to draw from: without one the component lacks a value
 abbrev pub MessageRow : Result Message Lack → MessageContext → ComponentId

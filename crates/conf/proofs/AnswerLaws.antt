@@ -1,8 +1,8 @@
 -- Each text is a configuration, or has a fault.
-use Rattle.std.proofs.Common.{◌≡◌, ◌⊎◌, ℕ, Bool, true, false, List, [], ◌∷◌, Option, Some, None, option_map, IsTrue, codes, refl, sym, ap, ◌∙◌, inl, inr, nat_cmp}
+use Rattle.std.proofs.Common.{◌≡◌, ◌⊎◌, ℕ, zero, suc, Bool, true, false, List, [], ◌∷◌, Option, Some, None, option_map, IsTrue, codes, refl, sym, ap, subst, ◌∙◌, inl, inr, nat_cmp, arith}
 use Rattle.std.specs.Prelude.{is_some, option_and_then, unwrap_or}
 use Rattle.std.specs.FinMap as map
-use Rattle.std.specs.List.{find, list_all}
+use Rattle.std.specs.List.{AllByRecursion, AllZip, Any, find, list_all}
 use Rattle.std.specs.Str.{is_utf8}
 use Rattle.std.specs.Cmp.Lexicographic.{slice_cmp}
 use Rattle.std.proofs.lemmas.Bool.{cases_Bool, false≢true}
@@ -17,24 +17,24 @@ use Rattle.component_ids.specs.Types.{kind_in, standard_types}
 use Rattle.component_ids.specs.declared.id.ComponentId.{ComponentId}
 use Rattle.component_ids.proofs.FaultLaws as list_faults
 use Rattle.component_ids.proofs.Judged as list_answers
-use Rattle.toml.specs.Data.{Data, Members, string, table, as_bool, as_str, get_member}
+use Rattle.toml.specs.Data.{Data, Members, no_members, string, table, as_bool, as_str, get_member}
 use Rattle.toml.specs.Parse.{parse_document}
-use Rattle.nonces.specs.declared.limits.TheConstants.{MAX_ENTRIES}
 use Rattle.settings.specs.declared.limits.TheConstants.{DEFAULT_MAX_AGE, DEFAULT_SKEW}
 use Rattle.conf_keys.specs.declared.table.TableName.TheVariants as place
 use Rattle.conf_keys.specs.declared.table.ValueRule.TheVariants as rule
+use Rattle.conf_keys.specs.declared.table.Version.{Version}
+use Rattle.conf_keys.specs.declared.table.Version.TheVariants.{One, Two}
 use Rattle.settings.specs.Covered.{IsCoveredList, params_of}
 use Rattle.conf.specs.Rows.{fails, is_ill_typed, is_out_of_range}
-use Rattle.conf.specs.Table.{Row, rows, places, place_path, entries_of, has_place, has_unknown, is_missing, members_at, members_in, row_value}
-use Rattle.conf.specs.Values.{has_type, is_type, number_or}
+use Rattle.conf.specs.Table.{HoldsOfValue, Row, rows, places, place_path, entries_of, has_place, has_unknown, is_missing, members_at, members_in, tables_at, version_in}
+use Rattle.conf_values.specs.Values.{has_type, is_type, number_or}
 use Rattle.rewrite_script.specs.declared.rewrite.Rewrite.{Rewrite}
 use Rattle.settings.specs.declared.gateway_conf.GatewayConf.{GatewayConf}
 use Rattle.settings.specs.declared.policy.Policy.{Policy}
 use Rattle.settings.specs.declared.sign_conf.SignConf.{SignConf}
-use Rattle.conf.specs.Sections.{AreComponents, AreSteps, HasGateway, HasSign, IsGatewayConf, IsPolicy, IsSignConf, digest_of, digest_use_of, is_required, nonce_use_of, seconds_of}
+use Rattle.conf.specs.Sections.{AreComponents, ArePolicies, AreSteps, HasGateway, HasSign, IsGatewayConf, IsPolicy, IsSignConf, asked_tag, digest_of, digest_use_of, is_required, kept_nonces, nonce_use_of, policy_tables, seconds_of, selected_tag}
 use Rattle.conf.specs.declared.fault.ConfFault.{ConfFault}
 use Rattle.conf.specs.declared.fault.ConfFault.TheVariants as fault
-use Rattle.conf.specs.declared.lists.Lists.{Lists}
 use Rattle.settings.specs.Configuration.{Configuration}
 use Rattle.conf.specs.Meaning.{AreKeys, AreTypes, Configures, HasKey, IsDocument, configured_scheme}
 use Rattle.conf.specs.Paths.{HoldsAtPath, HoldsOfNone, IsLeast}
@@ -42,13 +42,15 @@ use Rattle.conf.specs.Refusals.{HasBadKeyText, IsBadKeyText, IsBadList, IsConfFa
 use Rattle.conf.specs.tools.Added.{key_in, named_kind, spells_key}
 use Rattle.conf.specs.tools.Judged.{IsClearBelow, IsFirstIn, IsJudged}
 use Rattle.conf.specs.tools.SectionReads.{value_of}
+use Rattle.conf.proofs.Among.{any_first, any_later, of_tables}
 use Rattle.conf.proofs.AddedLaws.{AllRead, all_of, entry_passes, get_all, or_else}
 use Rattle.conf.proofs.JudgedLaws.{first_is, clear_first, clear_more, below_typed, below_allowed, below_keys, below_missing, below_steps, keys_clear}
 use Rattle.conf.proofs.KeyTextLaws.{are_texts, key_of_text, keys_of_document, not_spelled, spelled}
 use Rattle.conf.proofs.LeastLaws.{ascends, found_least, found_none}
 use Rattle.conf.proofs.ListLaws.{not_bad}
 use Rattle.conf.proofs.ReadLaws.{first_of, not_toml}
-use Rattle.conf.proofs.RowFacts.{keys_typed, gateway_typed, sign_typed, steps_typed, require_request_typed, require_response_typed, request_typed, response_typed, keyid_typed, label_typed, types_typed, types_allowed, keyid_there, label_there, keys_least, texts_fine, lists_fine_by, steps_fine, steps_least, require_request_least, require_response_least, request_least, response_least}
+use Rattle.conf.proofs.PolicyLaws.{has_version}
+use Rattle.conf.proofs.RowFacts.{IsBadIn, NoBadPolicy, each_request_least, each_request_typed, each_response_least, each_response_typed, keys_typed, gateway_typed, sign_typed, steps_typed, require_request_typed, require_response_typed, request_typed, response_typed, keyid_typed, label_typed, types_typed, types_allowed, keyid_there, label_there, keys_least, texts_fine, lists_fine, steps_fine, steps_least, require_request_least, require_response_least, request_least, response_least}
 use Rattle.conf.proofs.RowLaws.{rows_ascend, places_ascend}
 use Rattle.conf.proofs.SectionLaws.{table_or_none}
 use Rattle.conf.proofs.StepLaws.{steps_not_bad, steps_or_bad_of}
@@ -159,32 +161,86 @@ list_or_bad (Some value) typed = absurd (typed refl)
 
 -- ---- the tables
 
-has_policy : (pairs : Members) (request response : List ComponentId) → AreComponents (get_member (codes "require-request") pairs) request
-    → AreComponents (get_member (codes "require-response") pairs) response → (policy : Policy) × IsPolicy pairs policy
-has_policy pairs request response first second = (
+-- the components that a table tells under the name
+abbrev HasSaid : List ℕ → Members → Type 0
+HasSaid name pairs = (ids : List ComponentId) × AreComponents (get_member name pairs) ids
+
+has_policy : (version : Version) (pairs : Members) → HasSaid (codes "require-request") pairs → HasSaid (codes "require-response") pairs → (policy : Policy) × IsPolicy version pairs policy
+has_policy version pairs request response = (
   record {
+    selects = selected_tag version pairs;
     max_age = number_or DEFAULT_MAX_AGE (get_member (codes "max-age") pairs);
     skew = number_or DEFAULT_SKEW (get_member (codes "skew") pairs);
-    require_request = request;
-    require_response = response;
+    require_request = request.0;
+    require_response = response.0;
     expires = is_required (get_member (codes "expires") pairs);
     nonce = nonce_use_of (get_member (codes "nonce") pairs);
-    nonces = number_or MAX_ENTRIES (get_member (codes "nonces") pairs);
-    tag = option_and_then as_str (get_member (codes "tag") pairs);
+    tag = asked_tag version pairs;
     digest = digest_use_of (get_member (codes "digest") pairs);
   },
   record {
+    selects = refl;
     max_age = refl;
     skew = refl;
-    require_request = first;
-    require_response = second;
+    require_request = request.1;
+    require_response = response.1;
     expires = refl;
     nonce = refl;
-    nonces = refl;
     tag = refl;
     digest = refl;
   },
 )
+
+all_policies : (version : Version) (tables : List Members) → AllByRecursion (HasSaid (codes "require-request")) tables → AllByRecursion (HasSaid (codes "require-response")) tables
+    → (policies : List Policy) × AllZip (IsPolicy version) tables policies
+all_policies version [] requests responses = ([], tt)
+all_policies version (pairs ∷ tables) requests responses =
+    let first = has_policy version pairs requests.0 responses.0 in
+    let later = all_policies version tables requests.1 responses.1 in
+    (first.0 ∷ later.0, (first.1, later.1))
+
+-- the lists of each policy of the document tell components
+record HaveSaid (document : Members) : Type 0 where
+  each_request : AllByRecursion (HasSaid (codes "require-request")) (tables_at document place.Policies)
+  each_response : AllByRecursion (HasSaid (codes "require-response")) (tables_at document place.Policies)
+  request : HasSaid (codes "require-request") (members_at document place.Policy)
+  response : HasSaid (codes "require-response") (members_at document place.Policy)
+
+none_said : (name : List ℕ) → HasSaid name no_members
+none_said name = ([], refl)
+
+has_policies : (document : Members) (version : Version) → HaveSaid document → (policies : List Policy) × ArePolicies (Some version) document policies
+has_policies document One said = all_policies One (members_at document place.Policy ∷ []) (said.request, tt) (said.response, tt)
+has_policies document Two said =
+    let value = get_member (codes "policies") document in
+    all_policies Two (policy_tables value) (of_tables (HasSaid (codes "require-request")) value (none_said (codes "require-request")) said.each_request)
+    (of_tables (HasSaid (codes "require-response")) value (none_said (codes "require-response")) said.each_response)
+
+-- each of the tables tells components under the name, or the list of one of them is bad
+lists_or_bad : (name : List ℕ) (tables : List Members) → AllByRecursion (λ pairs. IsTrue (fails (has_type rule.Components) (get_member name pairs)) → ⊥) tables
+    → AllByRecursion (HasSaid name) tables ⊎ Any (IsBadIn name) tables
+lists_or_bad name [] typed = inl tt
+lists_or_bad name (pairs ∷ tables) typed = elim (list_or_bad (get_member name pairs) typed.0) [
+  | inr bad ↦ inr (any_first (IsBadIn name) pairs tables bad)
+  | inl first ↦ elim (lists_or_bad name tables typed.1) [
+    | inr bad ↦ inr (any_later (IsBadIn name) pairs tables bad)
+    | inl later ↦ inl (first, later)
+  ]
+]
+
+-- no list that tells components is bad
+each_good : (name : List ℕ) (tables : List Members) → AllByRecursion (HasSaid name) tables → Any (IsBadIn name) tables → ⊥
+each_good name [] said some = absurd (omega (arith, some.2))
+each_good name (pairs ∷ tables) said (zero, own, lt, at, bad) = not_bad (get_member name pairs) said.0.0 said.0.1 (subst (λ (own : Members). IsBadIn name own) (sym at) bad)
+each_good name (pairs ∷ tables) said (suc k, own, lt, at, bad) = each_good name tables said.1 (k, own, omega (arith, lt), at, bad)
+
+said_fine : (document : Members) → HaveSaid document → NoBadPolicy document
+said_fine document said = record {
+  each_request = each_good (codes "require-request") (tables_at document place.Policies) said.each_request;
+  each_response = each_good (codes "require-response") (tables_at document place.Policies) said.each_response;
+  request = not_bad _ said.request.0 said.request.1;
+  response = not_bad _ said.response.0 said.response.1;
+}
 
 label_text : (value : Option Data) → is_some value ≡ true → (IsTrue (fails (has_type rule.Label) value) → ⊥) → (text : List ℕ) × (value ≡ Some (string text))
 label_text None there typed = absurd (false≢true there)
@@ -258,30 +314,30 @@ all_types document judged = λ name.
 
 -- ---- the answer
 
--- the components that the lists of the document tell
-record AreSaid (document : Members) (lists : Lists) : Type 0 where
-  require_request : AreComponents (value_of document place.Policy (codes "require-request")) lists.require_request
-  require_response : AreComponents (value_of document place.Policy (codes "require-response")) lists.require_response
-  components_request : AreComponents (value_of document place.Sign (codes "components-request")) lists.components_request
-  components_response : AreComponents (value_of document place.Sign (codes "components-response")) lists.components_response
+-- each keyid of the document has a text that is a key's
+abbrev HaveKeys : Members → Type 0
+HaveKeys document = (keyid : List ℕ) (value : Data) → get_member keyid (keys_of_document document) ≡ Some value → spells_key value ≡ true
 
-complete_answer : (text : List ℕ) (document : Members) → IsDocument text document → IsJudged document
-    → ((keyid : List ℕ) (value : Data) → get_member keyid (keys_of_document document) ≡ Some value → spells_key value ≡ true) → IsClearBelow 8 document
-    → (lists : Lists) → AreSaid document lists → (steps : List Rewrite) → AreSteps (value_of document place.Gateway (codes "steps")) steps → Answer text
-complete_answer text document is judged spell below lists said steps are =
+complete_answer : (text : List ℕ) (document : Members) → IsDocument text document → IsJudged document → HaveKeys document → IsClearBelow 8 document
+    → HaveSaid document → HasSaid (codes "components-request") (members_at document place.Sign) → HasSaid (codes "components-response") (members_at document place.Sign)
+    → (steps : List Rewrite) → AreSteps (value_of document place.Gateway (codes "steps")) steps → Answer text
+complete_answer text document is judged spell below said request response steps are =
     let fine = steps_fine document (steps_not_bad (value_of document place.Gateway (codes "steps")) steps are) in
     elim (first_or_none (λ (row : Row). row.path) (is_missing document) rows rows_ascend) [
       | inr at ↦ refused text document (fault.Missing at.0) is (λ e. absurd cc) (first_is 9 document (fault.Missing at.0) (below_missing document below fine) (refl, at.1))
       | inl complete ↦
-          let policy = has_policy (members_at document place.Policy) lists.require_request lists.require_response said.require_request said.require_response in
-          let sign = has_sign document judged complete lists.components_request lists.components_response said.components_request said.components_response in
+          let version = has_version document judged in
+          let policies = has_policies document version.0 said in
+          let says : ArePolicies (version_in document) document policies.0 = rw version.1 policies.1 in
+          let sign = has_sign document judged complete request.0 response.0 request.1 response.1 in
           let gateway = has_gateway document judged steps are in
           inl (
             record {
               scheme = configured_scheme (get_member (codes "scheme") document);
               keys = all_of key_in map.empty (keys_of_document document);
               types = all_of named_kind standard_types (types_of_document document);
-              policy = policy.0;
+              policies = policies.0;
+              nonces = kept_nonces (version_in document) document;
               sign = sign.0;
               gateway = gateway.0;
             },
@@ -296,7 +352,8 @@ complete_answer text document is judged spell below lists said steps are =
                 scheme = refl;
                 keys = all_keys document judged spell;
                 types = all_types document judged;
-                policy = policy.1;
+                policies = says;
+                nonces = refl;
                 sign = sign.1;
                 gateway = gateway.1;
               },
@@ -304,48 +361,56 @@ complete_answer text document is judged spell below lists said steps are =
           )
     ]
 
-steps_answer : (text : List ℕ) (document : Members) → IsDocument text document → IsJudged document
-    → ((keyid : List ℕ) (value : Data) → get_member keyid (keys_of_document document) ≡ Some value → spells_key value ≡ true) → IsClearBelow 7 document
-    → (lists : Lists) → AreSaid document lists → Answer text
-steps_answer text document is judged spell below lists said =
-    let fine = lists_fine_by document (not_bad _ lists.require_request said.require_request) (not_bad _ lists.require_response said.require_response)
-    (not_bad _ lists.components_request said.components_request) (not_bad _ lists.components_response said.components_response) in
+steps_answer : (text : List ℕ) (document : Members) → IsDocument text document → IsJudged document → HaveKeys document → IsClearBelow 7 document
+    → HaveSaid document → HasSaid (codes "components-request") (members_at document place.Sign) → HasSaid (codes "components-response") (members_at document place.Sign) → Answer text
+steps_answer text document is judged spell below said request response =
+    let fine = lists_fine document (said_fine document said) (not_bad _ request.0 request.1) (not_bad _ response.0 response.1) in
     let clear = below_steps document below fine in
     elim (steps_or_bad_of (value_of document place.Gateway (codes "steps")) (steps_typed document judged)) [
       | inr bad ↦ refused text document (fault.BadScript (codes "gateway.steps")) is (λ e. absurd cc) (first_is 8 document (fault.BadScript (codes "gateway.steps")) clear (refl, steps_least document bad))
-      | inl steps ↦ complete_answer text document is judged spell clear lists said steps.0 steps.1
+      | inl steps ↦ complete_answer text document is judged spell clear said request response steps.0 steps.1
     ]
 
 -- a bad list whose path is the least
-bad_list : (text : List ℕ) (document : Members) (path : List ℕ) → IsDocument text document → IsClearBelow 7 document → IsLeastRow (λ row. IsBadList row.rule (row_value document row)) path → Answer text
+bad_list : (text : List ℕ) (document : Members) (path : List ℕ) → IsDocument text document → IsClearBelow 7 document
+    → IsLeastRow (λ row. HoldsOfValue (IsBadList row.rule) document row) path → Answer text
 bad_list text document path is below least = refused text document (fault.BadComponents path) is (λ e. absurd cc) (first_is 7 document (fault.BadComponents path) below (refl, least))
 
-sign_answer : (text : List ℕ) (document : Members) → IsDocument text document → IsJudged document
-    → ((keyid : List ℕ) (value : Data) → get_member keyid (keys_of_document document) ≡ Some value → spells_key value ≡ true) → IsClearBelow 7 document
-    → (first second : List ComponentId) → AreComponents (value_of document place.Policy (codes "require-request")) first
-    → AreComponents (value_of document place.Policy (codes "require-response")) second → Answer text
-sign_answer text document is judged spell below first second first_is_said second_is_said =
-    let fine = not_bad _ first first_is_said in
-    let also = not_bad _ second second_is_said in
+sign_answer : (text : List ℕ) (document : Members) → IsDocument text document → IsJudged document → HaveKeys document → IsClearBelow 7 document → HaveSaid document → Answer text
+sign_answer text document is judged spell below said =
+    let fine = said_fine document said in
     elim (list_or_bad (value_of document place.Sign (codes "components-request")) (request_typed document judged)) [
-      | inr bad ↦ bad_list text document (codes "sign.components-request") is below (request_least document fine also bad)
+      | inr bad ↦ bad_list text document (codes "sign.components-request") is below (request_least document fine bad)
       | inl request ↦ elim (list_or_bad (value_of document place.Sign (codes "components-response")) (response_typed document judged)) [
-        | inr bad ↦ bad_list text document (codes "sign.components-response") is below (response_least document fine also (not_bad _ request.0 request.1) bad)
-        | inl response ↦ steps_answer text document is judged spell below
-            (record { require_request = first; require_response = second; components_request = request.0; components_response = response.0 })
-            (record { require_request = first_is_said; require_response = second_is_said; components_request = request.1; components_response = response.1 })
+        | inr bad ↦ bad_list text document (codes "sign.components-response") is below (response_least document fine (not_bad _ request.0 request.1) bad)
+        | inl response ↦ steps_answer text document is judged spell below said request response
       ]
     ]
 
-lists_answer : (text : List ℕ) (document : Members) → IsDocument text document → IsJudged document
-    → ((keyid : List ℕ) (value : Data) → get_member keyid (keys_of_document document) ≡ Some value → spells_key value ≡ true) → IsClearBelow 7 document → Answer text
-lists_answer text document is judged spell below = elim (list_or_bad (value_of document place.Policy (codes "require-request")) (require_request_typed document judged)) [
-  | inr bad ↦ bad_list text document (codes "policy.require-request") is below (require_request_least document bad)
-  | inl first ↦ elim (list_or_bad (value_of document place.Policy (codes "require-response")) (require_response_typed document judged)) [
-    | inr bad ↦ bad_list text document (codes "policy.require-response") is below (require_response_least document (not_bad _ first.0 first.1) bad)
-    | inl second ↦ sign_answer text document is judged spell below first.0 second.0 first.1 second.1
-  ]
-]
+-- once the lists of the tables of `policies` tell components, those of `policy` are next
+policy_answer : (text : List ℕ) (document : Members) → IsDocument text document → IsJudged document → HaveKeys document → IsClearBelow 7 document
+    → AllByRecursion (HasSaid (codes "require-request")) (tables_at document place.Policies) → AllByRecursion (HasSaid (codes "require-response")) (tables_at document place.Policies) → Answer text
+policy_answer text document is judged spell below requests responses =
+    let first = each_good (codes "require-request") (tables_at document place.Policies) requests in
+    let second = each_good (codes "require-response") (tables_at document place.Policies) responses in
+    elim (list_or_bad (value_of document place.Policy (codes "require-request")) (require_request_typed document judged)) [
+      | inr bad ↦ bad_list text document (codes "policy.require-request") is below (require_request_least document first second bad)
+      | inl request ↦ elim (list_or_bad (value_of document place.Policy (codes "require-response")) (require_response_typed document judged)) [
+        | inr bad ↦ bad_list text document (codes "policy.require-response") is below (require_response_least document first second (not_bad _ request.0 request.1) bad)
+        | inl response ↦ sign_answer text document is judged spell below (record { each_request = requests; each_response = responses; request = request; response = response })
+      ]
+    ]
+
+lists_answer : (text : List ℕ) (document : Members) → IsDocument text document → IsJudged document → HaveKeys document → IsClearBelow 7 document → Answer text
+lists_answer text document is judged spell below =
+    let tables = tables_at document place.Policies in
+    elim (lists_or_bad (codes "require-request") tables (each_request_typed document judged)) [
+      | inr bad ↦ bad_list text document (codes "policies.require-request") is below (each_request_least document bad)
+      | inl requests ↦ elim (lists_or_bad (codes "require-response") tables (each_response_typed document judged)) [
+        | inr bad ↦ bad_list text document (codes "policies.require-response") is below (each_response_least document (each_good (codes "require-request") tables requests) bad)
+        | inl responses ↦ policy_answer text document is judged spell below requests responses
+      ]
+    ]
 
 none_bad : (value : Option Data) → ((keyid : List ℕ) (found : Data) → get_member keyid (members_in value) ≡ Some found → spells_key found ≡ true) → HasBadKeyText rule.Keys value → ⊥
 none_bad (Some (table pairs)) spell (keyid, bad) = at (get_member keyid pairs) (spell keyid) bad where

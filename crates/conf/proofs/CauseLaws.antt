@@ -13,13 +13,14 @@ use Rattle.conf.specs.Sections.{HasGateway, HasSign}
 use Rattle.settings.specs.Configuration.{Configuration}
 use Rattle.conf.specs.Meaning.{Configures, HasKey, IsConfiguration, IsDocument}
 use Rattle.conf.specs.Refusals.{HasBadKeyText, HasBadStep, IsBadKeyText, IsBadList, IsConfCause, IsCauseIn, IsConfFault, fault_number}
-use Rattle.conf.specs.Table.{members_in, row_value, rows}
+use Rattle.conf.specs.Table.{HoldsOfValue, members_in, rows, version_in}
 use Rattle.conf.specs.Paths.{HoldsOfNone}
 use Rattle.conf.proofs.JudgedLaws.{known_clear, typed_clear, allowed_clear, keys_clear, lists_clear, steps_clear, complete_clear}
 use Rattle.conf.proofs.LeastLaws.{least_once}
 use Rattle.conf.proofs.ListLaws.{not_bad}
-use Rattle.conf.proofs.RowFacts.{texts_fine, lists_fine_by, steps_fine}
+use Rattle.conf.proofs.RowFacts.{texts_fine, lists_fine, steps_fine}
 use Rattle.conf.proofs.StepLaws.{steps_not_bad}
+use Rattle.conf.proofs.VersionLaws.{policies_fine}
 
 -- ---- one document
 
@@ -83,9 +84,9 @@ steps_fine_in (Some (table pairs)) (Some gateway) says bad = steps_not_bad (get_
 steps_fine_in (Some (table pairs)) None says bad = says
 steps_fine_in value gateway says bad = bad
 
-lists_read : (document : Members) (conf : Configuration) → IsConfiguration document conf → HoldsOfNone (λ row. IsBadList row.rule (row_value document row)) rows
+lists_read : (document : Members) (conf : Configuration) → IsConfiguration document conf → HoldsOfNone (λ row. HoldsOfValue (IsBadList row.rule) document row) rows
 lists_read document conf is =
-    lists_fine_by document (not_bad _ conf.policy.require_request is.policy.require_request) (not_bad _ conf.policy.require_response is.policy.require_response)
+    lists_fine document (policies_fine document (version_in document) conf.policies refl is.known is.policies)
     (request_fine (get_member (codes "sign") document) conf.sign is.sign) (response_fine (get_member (codes "sign") document) conf.sign is.sign)
 
 no_cause : (document : Members) (conf : Configuration) → IsConfiguration document conf → (fault : ConfFault) → ¬ IsCauseIn document fault

@@ -9,7 +9,9 @@ use Rattle.toml.specs.Data.{no_members}
 use Rattle.conf.specs.Rows.{is_ill_typed, is_out_of_range}
 use Rattle.conf.specs.Table.{Row, rows, places, place_path, has_unknown, is_missing}
 use Rattle.settings.specs.Configuration.{Configuration}
-use Rattle.settings.specs.Standard.{standard_configuration}
+use Rattle.settings.specs.Standard.{standard_configuration, standard_policy}
+use Rattle.conf_keys.specs.declared.table.Version.TheVariants.{One}
+use Rattle.conf.specs.Sections.{IsPolicy}
 use Rattle.conf.specs.Meaning.{Configures, IsConfiguration, IsDocument}
 use Rattle.conf.specs.Paths.{HoldsOfNone}
 use Rattle.conf.proofs.LeastLaws.{found_none}
@@ -38,6 +40,19 @@ complete : HoldsOfNone (λ row. IsTrue (is_missing no_members row)) rows
 unfolding rows
 complete = none_pass (is_missing no_members) refl
 
+standard_is : IsPolicy One no_members standard_policy
+standard_is = record {
+  selects = refl;
+  max_age = refl;
+  skew = refl;
+  require_request = refl;
+  require_response = refl;
+  expires = refl;
+  nonce = refl;
+  tag = refl;
+  digest = refl;
+}
+
 standard_says : IsConfiguration no_members standard_configuration
 standard_says = record {
   known = known;
@@ -47,17 +62,8 @@ standard_says = record {
   scheme = refl;
   keys = λ keyid. map.get-empty (slice_cmp nat_cmp) keyid;
   types = λ name. refl;
-  policy = record {
-    max_age = refl;
-    skew = refl;
-    require_request = refl;
-    require_response = refl;
-    expires = refl;
-    nonce = refl;
-    nonces = refl;
-    tag = refl;
-    digest = refl;
-  };
+  policies = (standard_is, tt);
+  nonces = refl;
   sign = refl;
   gateway = refl;
 }

@@ -18,7 +18,8 @@ use Rattle.conf_keys.specs.declared.table.TableName.TheVariants.{Gateway}
 use Rattle.conf_keys.specs.declared.table.ValueRule.TheVariants as rule
 use Rattle.conf.specs.Rows.{fails}
 use Rattle.conf.specs.Table.{has_place}
-use Rattle.conf.specs.Values.{IsStepText, is_allowed, values_of}
+use Rattle.conf_values.specs.Parts.{values_of}
+use Rattle.conf_values.specs.Values.{IsStepText, is_allowed}
 use Rattle.settings.specs.declared.gateway_conf.GatewayConf.{GatewayConf}
 use Rattle.settings.specs.ValidSections.{IsValidGateway}
 use Rattle.conf.specs.Sections.{AreSteps, HasGateway, IsGatewayConf}

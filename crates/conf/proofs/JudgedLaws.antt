@@ -6,7 +6,7 @@ use Rattle.conf.specs.declared.fault.ConfFault.{ConfFault}
 use Rattle.conf.specs.declared.fault.ConfFault.TheVariants as fault
 use Rattle.conf.specs.declared.judge.RowFault.{RowFault}
 use Rattle.conf.specs.declared.judge.RowFault.TheVariants.{WrongType, OutOfRange, Missing}
-use Rattle.conf.specs.Table.{Row, rows, places, place_path, row_value, has_unknown, is_missing}
+use Rattle.conf.specs.Table.{HoldsOfValue, Row, rows, places, place_path, row_value, has_unknown, is_missing}
 use Rattle.conf.specs.Paths.{HoldsOfNone}
 use Rattle.conf.specs.Rows.{is_ill_typed, is_out_of_range}
 use Rattle.conf.specs.Refusals.{IsCauseIn, IsLeastRow, HasBadKeyText, HasBadStep, IsBadList, fault_number}
@@ -59,8 +59,8 @@ pub keys_clear : (document : Members) → HoldsOfNone (λ row. HasBadKeyText row
 keys_clear document none (fault.BadKeyText path) e h = none_of_rows (λ row. HasBadKeyText row.rule (row_value document row)) path none h
 keys_clear document none other e h = absurd (omega arith)
 
-pub lists_clear : (document : Members) → HoldsOfNone (λ row. IsBadList row.rule (row_value document row)) rows → IsClearAt 7 document
-lists_clear document none (fault.BadComponents path) e h = none_of_rows (λ row. IsBadList row.rule (row_value document row)) path none h
+pub lists_clear : (document : Members) → HoldsOfNone (λ row. HoldsOfValue (IsBadList row.rule) document row) rows → IsClearAt 7 document
+lists_clear document none (fault.BadComponents path) e h = none_of_rows (λ row. HoldsOfValue (IsBadList row.rule) document row) path none h
 lists_clear document none other e h = absurd (omega arith)
 
 pub steps_clear : (document : Members) → HoldsOfNone (λ row. HasBadStep row.rule (row_value document row)) rows → IsClearAt 8 document
@@ -95,7 +95,7 @@ pub below_keys : (document : Members) → IsJudged document → IsClearBelow 6 d
 below_keys document judged = clear_more 5 document (below_allowed document judged.known judged.typed) (allowed_clear document judged.allowed)
 
 -- after the texts of keys the lists are next, then the steps, and then what is missing
-pub below_steps : (document : Members) → IsClearBelow 7 document → HoldsOfNone (λ row. IsBadList row.rule (row_value document row)) rows → IsClearBelow 8 document
+pub below_steps : (document : Members) → IsClearBelow 7 document → HoldsOfNone (λ row. HoldsOfValue (IsBadList row.rule) document row) rows → IsClearBelow 8 document
 below_steps document below lists = clear_more 7 document below (lists_clear document lists)
 
 pub below_missing : (document : Members) → IsClearBelow 8 document → HoldsOfNone (λ row. HasBadStep row.rule (row_value document row)) rows → IsClearBelow 9 document

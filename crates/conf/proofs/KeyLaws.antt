@@ -12,7 +12,7 @@ use Rattle.base64.proofs.EngineFacts.{decode_of-encode_of}
 use Rattle.sfv_text.specs.Classes.{is_byte}
 use Rattle.toml.specs.Data.{Data, string, as_str}
 use Rattle.settings.specs.Keys.{IsHmacKey}
-use Rattle.conf.specs.Values.{IsKeyText}
+use Rattle.conf_values.specs.Values.{IsKeyText}
 use Rattle.conf.specs.tools.Added.{is_key_length, key_if, key_in}
 
 -- ---- bytes and lengths

@@ -18,7 +18,7 @@ use Rattle.conf.specs.Refusals.{IsBadKeyText, HasBadKeyText}
 use Rattle.conf.specs.Rows.{fails}
 use Rattle.conf.specs.Table.{entries_of, members_in}
 use Rattle.settings.specs.Keys.{IsHmacKey, is_keyid}
-use Rattle.conf.specs.Values.{has_type, is_allowed, are_strings}
+use Rattle.conf_values.specs.Values.{has_type, is_allowed, are_strings}
 use Rattle.conf.specs.tools.Added.{all_added, key_in, spells_key, spell_keys, HasDistinctNames}
 use Rattle.conf.specs.tools.Judged.{IsClearBelow, IsFirstIn, IsJudged}
 use Rattle.conf.specs.tools.KeyFaults.{IsKeysFault}

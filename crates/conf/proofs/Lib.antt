@@ -1,3 +1,4 @@
+mod Among
 mod LeastLaws
 mod RowLaws
 mod JudgedLaws
@@ -6,11 +7,12 @@ mod AddedLaws
 mod ListLaws
 mod StepLaws
 mod RowFacts
+mod VersionLaws
+mod TableLaws
 mod SectionLaws
 mod PolicyLaws
 mod GatewayLaws
 mod KeyTextLaws
-mod StandardNames
 mod TypeLaws
 pub mod ConfLaws
 pub mod CauseLaws

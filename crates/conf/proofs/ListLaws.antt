@@ -1,5 +1,6 @@
 -- Lists of covered components that a document tells.
 use Rattle.std.proofs.Common.{◌≡◌, Option, Some, None, List, IsTrue, ℕ, refl, sym, ap, ◌∙◌}
+use Rattle.sfv_read.proofs.InRange.{inner_read_in_range}
 use Rattle.sfv_read.proofs.Readings.{inner_has_one_value}
 use Rattle.component_ids.specs.declared.id.ComponentId.{ComponentId}
 use Rattle.component_ids.specs.declared.params.SigParams.{SigParams}
@@ -9,8 +10,9 @@ use Rattle.toml.specs.Data.{Data, string}
 use Rattle.conf_keys.specs.declared.table.ValueRule.TheVariants as rule
 use Rattle.settings.specs.Covered.{IsCoveredList, params_of}
 use Rattle.conf.specs.Rows.{fails}
-use Rattle.conf.specs.Values.{has_type}
+use Rattle.conf_values.specs.Values.{has_type}
 use Rattle.conf.specs.Sections.{AreComponents}
+use Rattle.settings.proofs.Covers.{in_range_of}
 use Rattle.settings.proofs.StandardLaws.{none_valid}
 use Rattle.settings.specs.ValidSections.{AreValidComponents}
 use Rattle.conf.specs.Refusals.{IsBadList}
@@ -40,16 +42,15 @@ pub told_not_bad : (value : Option Data) (ids : List ComponentId) → IsToldList
 told_not_bad (Some (string text)) ids told bad = bad ids told.covered
 told_not_bad value ids told bad = bad
 
-told_valid : (value : Option Data) (ids : List ComponentId) → IsToldList value ids → AreValidComponents ids
-told_valid (Some (string text)) ids told = record { components = told.covered.components; in_range = told.in_range }
-told_valid value ids told = rw told none_valid
-
 pub told_are : (value : Option Data) (ids : List ComponentId) → (IsTrue (fails (has_type rule.Components) value) → ⊥) → IsToldList value ids → AreComponents value ids
 told_are None ids typed told = told
 told_are (Some (string text)) ids typed told = told.covered
 told_are (Some value) ids typed told = absurd (typed refl)
 
--- the components that a value tells are valid, where they were read
-pub valid_as_told : (value : Option Data) (ids other : List ComponentId) → (IsTrue (fails (has_type rule.Components) value) → ⊥) → IsToldList value ids
-    → AreComponents value other → AreValidComponents other
-valid_as_told value ids other typed told are = rw (components_are value other ids are (told_are value ids typed told)) (told_valid value ids told)
+-- ---- they are valid
+
+pub valid_components : (value : Option Data) (ids : List ComponentId) → AreComponents value ids → AreValidComponents ids
+valid_components None ids are = rw are none_valid
+valid_components (Some (string text)) ids are =
+    record { components = are.components; in_range = in_range_of ids (inner_read_in_range text (list_of (params_of ids)) are.reads) }
+valid_components (Some value) ids are = absurd are

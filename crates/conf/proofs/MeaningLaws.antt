@@ -1,16 +1,19 @@
 -- A text is one configuration.
-use Rattle.std.proofs.Common.{◌≡◌, ℕ, Option, Some, None, List, codes, sym, ap, ◌∙◌}
+use Rattle.std.proofs.Common.{◌≡◌, ℕ, Option, Some, None, List, [], ◌∷◌, codes, refl, sym, ap, ◌∙◌}
 use Rattle.std.specs.FinMap as map
+use Rattle.std.specs.List.{AllZip}
 use Rattle.std.proofs.lemmas.Cmp.{nat_list_cmp_total}
 use Rattle.component_ids.specs.Types.{KindMap}
 use Rattle.toml.specs.Data.{Data, Members, string, table, get_member}
 use Rattle.conf_keys.specs.declared.table.TableName.TheVariants as place
-use Rattle.conf.specs.Table.{members_at, members_in}
-use Rattle.conf.specs.Values.{IsKeyText}
+use Rattle.conf_keys.specs.declared.table.Version.{Version}
+use Rattle.conf_keys.specs.declared.table.Version.TheVariants.{One, Two}
+use Rattle.conf.specs.Table.{members_at, members_in, version_in}
+use Rattle.conf_values.specs.Values.{IsKeyText}
 use Rattle.settings.specs.declared.gateway_conf.GatewayConf.{GatewayConf}
 use Rattle.settings.specs.declared.policy.Policy.{Policy}
 use Rattle.settings.specs.declared.sign_conf.SignConf.{SignConf}
-use Rattle.conf.specs.Sections.{HasGateway, HasSign, IsGatewayConf, IsPolicy, IsSignConf}
+use Rattle.conf.specs.Sections.{ArePolicies, HasGateway, HasSign, IsGatewayConf, IsPolicy, IsSignConf, policy_tables}
 use Rattle.settings.specs.Configuration.{Configuration}
 use Rattle.settings.specs.Keys.{KeyMap}
 use Rattle.conf.specs.Meaning.{AreKeys, AreTypes, Configures, HasKey, IsConfiguration}
@@ -44,28 +47,47 @@ types_are pairs types other first second =
 
 -- ---- the tables
 
-one_policy : (pairs : Members) (policy other : Policy) → IsPolicy pairs policy → IsPolicy pairs other → policy ≡ other
-one_policy pairs policy other a b =
+one_policy : (version : Version) (pairs : Members) (policy other : Policy) → IsPolicy version pairs policy → IsPolicy version pairs other → policy ≡ other
+one_policy version pairs policy other a b =
+    let selects : policy.selects ≡ other.selects = a.selects ∙ sym b.selects in
     let max_age : policy.max_age ≡ other.max_age = a.max_age ∙ sym b.max_age in
     let skew : policy.skew ≡ other.skew = a.skew ∙ sym b.skew in
     let request : policy.require_request ≡ other.require_request = components_are _ policy.require_request other.require_request a.require_request b.require_request in
     let response : policy.require_response ≡ other.require_response = components_are _ policy.require_response other.require_response a.require_response b.require_response in
     let expires : policy.expires ≡ other.expires = a.expires ∙ sym b.expires in
     let nonce : policy.nonce ≡ other.nonce = a.nonce ∙ sym b.nonce in
-    let nonces : policy.nonces ≡ other.nonces = a.nonces ∙ sym b.nonces in
     let tag : policy.tag ≡ other.tag = a.tag ∙ sym b.tag in
     let digest : policy.digest ≡ other.digest = a.digest ∙ sym b.digest in
     λ i. record {
+      selects = selects i;
       max_age = max_age i;
       skew = skew i;
       require_request = request i;
       require_response = response i;
       expires = expires i;
       nonce = nonce i;
-      nonces = nonces i;
       tag = tag i;
       digest = digest i;
     }
+
+one_list : (version : Version) (tables : List Members) (policies others : List Policy) → AllZip (IsPolicy version) tables policies → AllZip (IsPolicy version) tables others
+    → policies ≡ others
+one_list version [] [] [] first second = refl
+one_list version [] [] (other ∷ others) first second = absurd second
+one_list version [] (policy ∷ policies) others first second = absurd first
+one_list version (pairs ∷ tables) [] others first second = absurd first
+one_list version (pairs ∷ tables) (policy ∷ policies) [] first second = absurd second
+one_list version (pairs ∷ tables) (policy ∷ policies) (other ∷ others) first second =
+    let here = one_policy version pairs policy other first.0 second.0 in
+    let later = one_list version tables policies others first.1 second.1 in
+    λ i. here i ∷ later i
+
+policies_are : (document : Members) (version : Option Version) (policies others : List Policy) → ArePolicies version document policies → ArePolicies version document others
+    → policies ≡ others
+policies_are document None policies others first second = absurd first
+policies_are document (Some One) policies others first second = one_list One (members_at document place.Policy ∷ []) policies others first second
+policies_are document (Some Two) policies others first second =
+    one_list Two (policy_tables (get_member (codes "policies") document)) policies others first second
 
 string_is : (a b : List ℕ) → Some (string a) ≡ Some (string b) → a ≡ b
 string_is a b same = cc
@@ -118,10 +140,11 @@ one_configuration document conf other a b =
     let scheme : conf.scheme ≡ other.scheme = a.scheme ∙ sym b.scheme in
     let keys : conf.keys ≡ other.keys = keys_are (members_in (get_member (codes "keys") document)) conf.keys other.keys a.keys b.keys in
     let types : conf.types ≡ other.types = types_are (members_in (get_member (codes "types") document)) conf.types other.types a.types b.types in
-    let policy : conf.policy ≡ other.policy = one_policy (members_at document place.Policy) conf.policy other.policy a.policy b.policy in
+    let policies : conf.policies ≡ other.policies = policies_are document (version_in document) conf.policies other.policies a.policies b.policies in
+    let nonces : conf.nonces ≡ other.nonces = a.nonces ∙ sym b.nonces in
     let sign : conf.sign ≡ other.sign = signs_are (get_member (codes "sign") document) conf.sign other.sign a.sign b.sign in
     let gateway : conf.gateway ≡ other.gateway = gateways_are (get_member (codes "gateway") document) conf.gateway other.gateway a.gateway b.gateway in
-    λ i. record { scheme = scheme i; keys = keys i; types = types i; policy = policy i; sign = sign i; gateway = gateway i }
+    λ i. record { scheme = scheme i; keys = keys i; types = types i; policies = policies i; nonces = nonces i; sign = sign i; gateway = gateway i }
 
 pub one_meaning : (text : List ℕ) (conf other : Configuration) → Configures text conf → Configures text other → conf ≡ other
 one_meaning text conf other (document, is, says) (also, is_also, says_also) =

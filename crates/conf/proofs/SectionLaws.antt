@@ -1,35 +1,133 @@
--- What the tables `policy` and `sign` say, once they are judged and read.
-use Rattle.std.proofs.Common.{◌≡◌, ◌⊎◌, ℕ, true, List, Option, Some, None, MatchOption, IsTrue, codes, refl, inl, inr}
+-- What the policies and the table `sign` say, once they are judged and read.
+use Rattle.std.proofs.Common.{◌≡◌, ◌⊎◌, ℕ, true, List, [], ◌∷◌, Option, Some, None, MatchOption, IsTrue, codes, refl, subst, inl, inr}
 use Rattle.std.specs.Prelude.{option_and_then, is_some}
+use Rattle.std.specs.List.{AllByRecursion, AllZip, Any}
 use Rattle.std.proofs.lemmas.Bool.{false≢true}
 use Rattle.toml.specs.Data.{Data, Members, no_members, string, table, as_str, get_member}
 use Rattle.conf_keys.specs.declared.table.TableName.TheVariants as place
 use Rattle.conf_keys.specs.declared.table.ValueRule.TheVariants as rule
+use Rattle.conf_keys.specs.declared.table.Version.{Version}
+use Rattle.conf_keys.specs.declared.table.Version.TheVariants.{One, Two}
+use Rattle.conf_values.specs.Parts.{tables_in}
+use Rattle.conf_values.specs.Values.{has_type}
 use Rattle.conf.specs.Rows.{fails}
-use Rattle.conf.specs.Table.{rows, has_place, is_missing, members_at, row_value}
-use Rattle.conf.specs.Values.{has_type}
+use Rattle.conf.specs.Table.{HoldsOfValue, rows, has_place, is_missing, members_at, row_value, version_in}
 use Rattle.settings.specs.declared.gateway_conf.GatewayConf.{GatewayConf}
 use Rattle.settings.specs.declared.policy.Policy.{Policy}
 use Rattle.settings.specs.declared.sign_conf.SignConf.{SignConf}
-use Rattle.conf.specs.Sections.{HasGateway, HasSign, IsPolicy, IsSignConf, LacksName}
+use Rattle.conf.specs.Sections.{ArePolicies, HasGateway, HasSign, IsPolicy, IsSignConf, LacksName, policy_tables}
 use Rattle.conf.specs.declared.fault.ConfFault.{ConfFault}
 use Rattle.conf.specs.declared.fault.ConfFault.TheVariants as fault
 use Rattle.conf.specs.declared.lists.Lists.{Lists}
 use Rattle.conf.specs.Paths.{HoldsOfNone}
 use Rattle.conf.specs.Refusals.{HasBadStep, IsBadList, IsLeastRow}
 use Rattle.conf.specs.tools.Judged.{IsCauseNumbered, IsJudged}
-use Rattle.conf.specs.tools.SectionReads.{AreLists, AreSections, IsListFault, value_of}
-use Rattle.conf.proofs.ListLaws.{valid_as_told}
-use Rattle.conf.proofs.RowFacts.{sign_typed, require_request_typed, require_response_typed, request_typed, response_typed, keyid_typed, label_typed, keyid_there, label_there, lists_fine}
+use Rattle.conf.specs.tools.PolicyReads.{AreReadOf, AreReadPolicies, IsReadPolicy}
+use Rattle.conf.specs.tools.SectionReads.{AreGoodLists, AreLists, AreSections, HaveGoodLists, IsGoodList, IsListFault, IsListsFault, value_of}
+use Rattle.conf.proofs.Among.{of_tables}
+use Rattle.conf.proofs.ListLaws.{told_are, told_not_bad}
+use Rattle.conf.proofs.PolicyLaws.{has_version}
+use Rattle.conf.proofs.RowFacts.{IsBadIn, each_request_typed, each_response_typed, keyid_there, keyid_typed, label_there, label_typed, lists_fine, none_bad, require_request_typed, require_response_typed, sign_typed}
 
 -- ---- faults
 
 -- what is answered of a list has the number of bad lists, where its path is the least of them
 pub list_fault : (document : Members) (value : Option Data) (path : List ℕ) (f : ConfFault)
-    → (IsBadList rule.Components value → IsLeastRow (λ row. IsBadList row.rule (row_value document row)) path) → IsListFault value path f → IsCauseNumbered 7 document f
+    → (IsBadList rule.Components value → IsLeastRow (λ row. HoldsOfValue (IsBadList row.rule) document row) path) → IsListFault value path f → IsCauseNumbered 7 document f
 list_fault document value path fault.Memory least h = tt
 list_fault document value path (fault.BadComponents given) least h = (refl, rw h.0 (least h.1))
 list_fault document value path f least h = absurd h
+
+-- the same of a list in the pairs that were found
+pub found_fault : (document : Members) (name path : List ℕ) (pairs own : Members) (f : ConfFault) → pairs ≡ own
+    → (IsBadIn name own → IsLeastRow (λ row. HoldsOfValue (IsBadList row.rule) document row) path) → IsListFault (get_member name pairs) path f → IsCauseNumbered 7 document f
+found_fault document name path pairs own f same least h =
+    list_fault document (get_member name own) path f least (subst (λ (given : Members). IsListFault (get_member name given) path f) same h)
+
+-- and so of the lists of several tables
+pub lists_fault : (document : Members) (name : List ℕ) (tables : List Members) (path : List ℕ) (f : ConfFault)
+    → (Any (IsBadIn name) tables → IsLeastRow (λ row. HoldsOfValue (IsBadList row.rule) document row) path) → IsListsFault name tables path f → IsCauseNumbered 7 document f
+lists_fault document name tables path fault.Memory least h = tt
+lists_fault document name tables path (fault.BadComponents given) least h = (refl, rw h.0 (least h.1))
+lists_fault document name tables path f least h = absurd h
+
+-- ---- policies
+
+-- the lists of a table are texts, and not bad
+record HasFineLists (pairs : Members) : Type 0 where
+  request_typed : IsTrue (fails (has_type rule.Components) (get_member (codes "require-request") pairs)) → ⊥
+  response_typed : IsTrue (fails (has_type rule.Components) (get_member (codes "require-response") pairs)) → ⊥
+  request_good : IsGoodList (get_member (codes "require-request") pairs)
+  response_good : IsGoodList (get_member (codes "require-response") pairs)
+
+none_fine : HasFineLists no_members
+none_fine = record {
+  request_typed = λ fails. false≢true fails;
+  response_typed = λ fails. false≢true fails;
+  request_good = λ bad. bad;
+  response_good = λ bad. bad;
+}
+
+policy_said : (version : Version) (pairs : Members) (policy : Policy) → HasFineLists pairs → IsReadPolicy version pairs policy → IsPolicy version pairs policy
+policy_said version pairs policy fine read = record {
+  selects = read.selects;
+  max_age = read.max_age;
+  skew = read.skew;
+  require_request = told_are (get_member (codes "require-request") pairs) policy.require_request fine.request_typed (read.require_request fine.request_good);
+  require_response = told_are (get_member (codes "require-response") pairs) policy.require_response fine.response_typed (read.require_response fine.response_good);
+  expires = read.expires;
+  nonce = read.nonce;
+  tag = read.tag;
+  digest = read.digest;
+}
+
+all_said : (version : Version) (tables : List Members) (policies : List Policy) → AllByRecursion HasFineLists tables → AllZip (IsReadPolicy version) tables policies
+    → AllZip (IsPolicy version) tables policies
+all_said version [] [] fine read = tt
+all_said version [] (policy ∷ policies) fine read = absurd read
+all_said version (pairs ∷ tables) [] fine read = absurd read
+all_said version (pairs ∷ tables) (policy ∷ policies) fine read = (policy_said version pairs policy fine.0 read.0, all_said version tables policies fine.1 read.1)
+
+fine_one : (document : Members) → IsJudged document → HaveGoodLists document → HasFineLists (members_at document place.Policy)
+fine_one document judged good = record {
+  request_typed = require_request_typed document judged;
+  response_typed = require_response_typed document judged;
+  request_good = good.request;
+  response_good = good.response;
+}
+
+fine_tables : (tables : List Members) → AllByRecursion (λ pairs. IsTrue (fails (has_type rule.Components) (get_member (codes "require-request") pairs)) → ⊥) tables
+    → AllByRecursion (λ pairs. IsTrue (fails (has_type rule.Components) (get_member (codes "require-response") pairs)) → ⊥) tables
+    → AreGoodLists (codes "require-request") tables → AreGoodLists (codes "require-response") tables → AllByRecursion HasFineLists tables
+fine_tables [] requests responses first second = tt
+fine_tables (pairs ∷ tables) requests responses first second =
+    let fine : HasFineLists pairs = record { request_typed = requests.0; response_typed = responses.0; request_good = first.0; response_good = second.0 } in
+    (fine, fine_tables tables requests.1 responses.1 first.1 second.1)
+
+fine_all : (document : Members) → IsJudged document → HaveGoodLists document → AllByRecursion HasFineLists (policy_tables (get_member (codes "policies") document))
+fine_all document judged good =
+    of_tables HasFineLists (get_member (codes "policies") document) none_fine
+    (fine_tables (tables_in (get_member (codes "policies") document)) (each_request_typed document judged) (each_response_typed document judged) good.tables.request good.tables.response)
+
+policies_of : (document : Members) (version : Option Version) (policies : List Policy) (known : Version) → version ≡ Some known → IsJudged document
+    → HaveGoodLists document → AreReadOf version document policies → ArePolicies version document policies
+policies_of document None policies known is judged good read = absurd (cc is)
+policies_of document (Some One) policies known is judged good read =
+    all_said One (members_at document place.Policy ∷ []) policies (fine_one document judged good, tt) read
+policies_of document (Some Two) policies known is judged good read =
+    all_said Two (policy_tables (get_member (codes "policies") document)) policies (fine_all document judged good) read
+
+-- what is read of policies is what the document says, once it is judged
+pub policies_said : (document : Members) (policies : List Policy) → IsJudged document → HaveGoodLists document → AreReadPolicies document policies
+    → ArePolicies (version_in document) document policies
+policies_said document policies judged good read =
+    let version = has_version document judged in
+    policies_of document (version_in document) policies version.0 version.1 judged good read
+
+-- no list is bad, where they were read
+pub read_fine : (document : Members) (lists : Lists) → AreLists document lists → HaveGoodLists document → HoldsOfNone (λ row. HoldsOfValue (IsBadList row.rule) document row) rows
+read_fine document lists are good =
+    lists_fine document (none_bad document good) (told_not_bad _ lists.components_request are.components_request) (told_not_bad _ lists.components_response are.components_response)
 
 -- ---- the table `sign`
 
@@ -72,29 +170,18 @@ sign_said document o judged complete read = elim (table_or_none (get_member (cod
       rw is.1 (of_table is.0 o (rw is.1 at (has_names document judged complete has)) (rw is.1 at read))
 ]
 
-sign_is : (pairs : Members) (o : Option SignConf) (sign : SignConf) → o ≡ Some sign → MatchOption o (LacksName pairs) (IsSignConf pairs) → IsSignConf pairs sign
-sign_is pairs None sign there read = absurd cc
-sign_is pairs (Some s) sign there read = let same : s ≡ sign = cc in rw (← same) read
-
 -- ---- all tables
 
-pub tables_say : (document : Members) (lists : Lists) (policy : Policy) (sign : Option SignConf) (gateway : Option GatewayConf) → IsJudged document
-    → HoldsOfNone (λ row. IsTrue (is_missing document row)) rows → AreLists document lists → HoldsOfNone (λ row. HasBadStep row.rule (row_value document row)) rows
-    → IsPolicy (members_at document place.Policy) policy → MatchOption sign (LacksName (members_at document place.Sign)) (IsSignConf (members_at document place.Sign))
-    → HasGateway (get_member (codes "gateway") document) gateway → AreSections document (record { policy = policy; sign = sign; gateway = gateway })
-tables_say document lists policy sign gateway judged complete are steps says read has = record {
-  lists = lists_fine document lists are;
+pub tables_say : (document : Members) (lists : Lists) (policies : List Policy) (sign : Option SignConf) (gateway : Option GatewayConf) → IsJudged document
+    → HoldsOfNone (λ row. IsTrue (is_missing document row)) rows → AreLists document lists → HaveGoodLists document
+    → HoldsOfNone (λ row. HasBadStep row.rule (row_value document row)) rows → AreReadPolicies document policies
+    → MatchOption sign (LacksName (members_at document place.Sign)) (IsSignConf (members_at document place.Sign))
+    → HasGateway (get_member (codes "gateway") document) gateway → AreSections document (record { policies = policies; sign = sign; gateway = gateway })
+tables_say document lists policies sign gateway judged complete are good steps read says has = record {
+  lists = read_fine document lists are good;
   steps = steps;
   complete = complete;
-  policy = says;
-  require_request = valid_as_told (value_of document place.Policy (codes "require-request")) lists.require_request policy.require_request (require_request_typed document judged)
-      are.require_request says.require_request;
-  require_response = valid_as_told (value_of document place.Policy (codes "require-response")) lists.require_response policy.require_response (require_response_typed document judged)
-      are.require_response says.require_response;
-  sign = sign_said document sign judged complete read;
-  request = λ s there. valid_as_told (value_of document place.Sign (codes "components-request")) lists.components_request s.components_request (request_typed document judged)
-      are.components_request (sign_is (members_at document place.Sign) sign s there read).components_request;
-  response = λ s there. valid_as_told (value_of document place.Sign (codes "components-response")) lists.components_response s.components_response (response_typed document judged)
-      are.components_response (sign_is (members_at document place.Sign) sign s there read).components_response;
+  policies = policies_said document policies judged good read;
+  sign = sign_said document sign judged complete says;
   gateway = has;
 }

@@ -21,7 +21,9 @@ use Rattle.conf_keys.specs.declared.table.ValueRule.TheVariants as rule
 use Rattle.conf.specs.Rows.{fails}
 use Rattle.conf.specs.Sections.{AreSteps}
 use Rattle.conf.specs.Refusals.{HasBadStep}
-use Rattle.conf.specs.Values.{IsBadStep, IsStepText, are_texts, has_type, values_of}
+use Rattle.conf_values.specs.Parts.{values_of}
+use Rattle.conf_values.specs.Values.{IsBadStep, IsStepText, are_texts, has_type}
+use Rattle.conf.proofs.Among.{any_first, any_later}
 use Rattle.conf.specs.tools.GatewayReads.{AddsLine, AreStepsIn, AreStepsOf, IsStepFault, IsStepsFault}
 
 -- ---- one text
@@ -52,14 +54,6 @@ one_step value step other is also = absurd is
 written : (value : Data) (step : Rewrite) → IsStepText value step → (is_writable step ≡ true) × HasValues step
 written (string line) step is = (is.writable, is.values)
 written value step is = absurd is
-
--- ---- some value
-
-any_first : {X : Type 0} (P : X → Type 0) (x : X) (xs : List X) → P x → Any P (x ∷ xs)
-any_first P x xs here = (0, x, omega arith, refl, here)
-
-any_later : {X : Type 0} (P : X → Type 0) (x : X) (xs : List X) → Any P xs → Any P (x ∷ xs)
-any_later P x xs some = (suc some.0, some.1, omega (arith, some.2), some.3, some.4)
 
 -- ---- the texts of an array
 
@@ -186,8 +180,3 @@ pub step_fault : (values : List Value) (i : ℕ) (value : Value) (f : ConfFault)
 step_fault values i value fault.Memory lt at h = tt
 step_fault values i value (fault.BadScript path) lt at h = (h.0, any_at IsBadStep values i value lt at h.1)
 step_fault values i value f lt at h = absurd h
-
--- the values are as many as those of the code
-pub count_of : (values : List Value) → length (values_of (items_view values)) ≡ length values
-count_of [] = refl
-count_of (value ∷ values) = ap suc (count_of values)

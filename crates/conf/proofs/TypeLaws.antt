@@ -14,7 +14,7 @@ use Rattle.settings.specs.Words.{kind_of_word}
 use Rattle.conf.specs.Meaning.{AreTypes, configured_kind}
 use Rattle.conf.specs.Rows.{fails}
 use Rattle.conf.specs.Table.{entries_of, members_in}
-use Rattle.conf.specs.Values.{is_allowed, is_standard_field, is_type}
+use Rattle.conf_values.specs.Values.{is_allowed, is_standard_field, is_type}
 use Rattle.conf.specs.tools.Added.{all_added, named_kind, HasDistinctNames}
 use Rattle.conf.specs.tools.Judged.{IsJudged}
 use Rattle.conf.proofs.AddedLaws.{get_added, entry_passes, or_else}

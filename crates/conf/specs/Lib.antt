@@ -1,5 +1,4 @@
 pub mod Table
-pub mod Values
 pub mod Rows
 pub mod Sections
 pub mod Paths
@@ -7,13 +6,17 @@ pub mod Meaning
 pub mod Refusals
 pub mod Laws
 pub mod tools
+pub use Rattle.settings.specs.Chosen
 pub use Rattle.settings.specs.ConfMeaning
 pub use Rattle.settings.specs.Configuration
 pub use Rattle.settings.specs.Covered
 pub use Rattle.settings.specs.Keys
 pub use Rattle.settings.specs.Standard
 pub use Rattle.settings.specs.Valid
+pub use Rattle.settings.specs.ValidPolicies
 pub use Rattle.settings.specs.ValidSections
 pub use Rattle.settings.specs.Words
+pub use Rattle.conf_values.specs.Parts
+pub use Rattle.conf_values.specs.Values
 pub use Rattle.toml.specs.Parse
 pub use Rattle.toml.specs.Data

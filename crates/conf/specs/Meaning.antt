@@ -7,12 +7,11 @@ use Rattle.component_ids.specs.Types.{KindMap, kind_in, standard_types}
 use Rattle.component_ids.specs.declared.types.FieldKind.{FieldKind}
 use Rattle.component_ids.specs.declared.scheme.Scheme.{Scheme}
 use Rattle.component_ids.specs.declared.scheme.Scheme.TheVariants.{Https}
-use Rattle.conf_keys.specs.declared.table.TableName.TheVariants.{Policy}
-use Rattle.conf.specs.Table.{rows, places, members_at, members_in, has_unknown, is_missing}
+use Rattle.conf.specs.Table.{rows, places, members_in, version_in, has_unknown, is_missing}
 use Rattle.settings.specs.Words.{kind_of_word, scheme_of_word}
-use Rattle.conf.specs.Values.{IsKeyText}
+use Rattle.conf_values.specs.Values.{IsKeyText}
 use Rattle.conf.specs.Rows.{is_ill_typed, is_out_of_range}
-use Rattle.conf.specs.Sections.{HasGateway, HasSign, IsPolicy}
+use Rattle.conf.specs.Sections.{ArePolicies, HasGateway, HasSign, kept_nonces}
 use Rattle.settings.specs.Configuration.{Configuration}
 use Rattle.settings.specs.Keys.{KeyMap}
 use Rattle.conf.specs.Paths.{HoldsOfNone}
@@ -61,7 +60,8 @@ pub record IsConfiguration (document : Members) (conf : Configuration) : Type 0 
   pub scheme : conf.scheme ≡ configured_scheme (get_member (codes "scheme") document)
   pub keys : AreKeys (members_in (get_member (codes "keys") document)) conf.keys
   pub types : AreTypes (members_in (get_member (codes "types") document)) conf.types
-  pub policy : IsPolicy (members_at document Policy) conf.policy
+  pub policies : ArePolicies (version_in document) document conf.policies
+  pub nonces : conf.nonces ≡ kept_nonces (version_in document) document
   pub sign : HasSign (get_member (codes "sign") document) conf.sign
   pub gateway : HasGateway (get_member (codes "gateway") document) conf.gateway
 

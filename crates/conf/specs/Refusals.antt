@@ -11,9 +11,10 @@ use Rattle.conf.specs.declared.fault.ConfFault.{ConfFault}
 use Rattle.conf.specs.declared.fault.ConfFault.TheVariants.{Memory, NotToml, UnknownKey, WrongType, OutOfRange, BadKeyText, BadComponents, BadScript, Missing}
 use Rattle.conf_keys.specs.declared.table.ValueRule.{ValueRule}
 use Rattle.conf_keys.specs.declared.table.ValueRule.TheVariants.{Keys, Components, Steps}
-use Rattle.conf.specs.Table.{Row, rows, places, place_path, row_value, has_unknown, is_missing}
+use Rattle.conf.specs.Table.{Row, rows, places, place_path, row_value, HoldsOfValue, has_unknown, is_missing}
 use Rattle.settings.specs.Covered.{IsCoveredList}
-use Rattle.conf.specs.Values.{IsBadStep, IsKeyText, values_of}
+use Rattle.conf_values.specs.Parts.{values_of}
+use Rattle.conf_values.specs.Values.{IsBadStep, IsKeyText}
 use Rattle.conf.specs.Paths.{HoldsAtPath, IsLeast}
 use Rattle.conf.specs.Rows.{is_ill_typed, is_out_of_range}
 use Rattle.conf.specs.Meaning.{IsDocument}
@@ -53,7 +54,7 @@ IsCauseIn document (OutOfRange path) =
 IsCauseIn document (BadKeyText path) =
     IsLeastRow (λ row. HasBadKeyText row.rule (row_value document row)) path
 IsCauseIn document (BadComponents path) =
-    IsLeastRow (λ row. IsBadList row.rule (row_value document row)) path
+    IsLeastRow (λ row. HoldsOfValue (IsBadList row.rule) document row) path
 IsCauseIn document (BadScript path) =
     IsLeastRow (λ row. HasBadStep row.rule (row_value document row)) path
 IsCauseIn document (Missing path) = IsLeastRow (λ row. IsTrue (is_missing document row)) path

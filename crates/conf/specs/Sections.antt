@@ -1,14 +1,19 @@
 -- What the tables of a configuration say.
-use Rattle.std.specs.Prelude.{◌≡◌, ◌⊎◌, ℕ, pos, Bool, false, Option, Some, None, IsSomeAnd, option_and_then, unwrap_or, List, [], codes}
+use Rattle.std.specs.Prelude.{◌≡◌, ◌⊎◌, ℕ, pos, Bool, false, Option, Some, None, IsSomeAnd, option_and_then, unwrap_or, List, [], ◌∷◌, codes}
 use Rattle.std.specs.List.{AllZip}
-use Rattle.toml.specs.Data.{Data, Members, string, integer, array, table, as_str, as_bool, get_member}
+use Rattle.toml.specs.Data.{Data, Members, no_members, string, integer, array, table, as_str, as_bool, get_member}
 use Rattle.component_ids.specs.declared.id.ComponentId.{ComponentId}
 use Rattle.nonces.specs.declared.limits.TheConstants.{MAX_ENTRIES}
 use Rattle.settings.specs.declared.limits.TheConstants.{DEFAULT_MAX_AGE, DEFAULT_SKEW}
 use Rattle.settings.specs.Covered.{IsCoveredList}
 use Rattle.settings.specs.Words.{digest_use_of_word, expires_of_word, nonce_use_of_word, sign_digest_of_word}
 use Rattle.rewrite_script.specs.declared.rewrite.Rewrite.{Rewrite}
-use Rattle.conf.specs.Values.{IsStepText, number_or, values_of}
+use Rattle.conf_keys.specs.declared.table.TableName.TheVariants as place
+use Rattle.conf_keys.specs.declared.table.Version.{Version}
+use Rattle.conf_keys.specs.declared.table.Version.TheVariants.{One, Two}
+use Rattle.conf.specs.Table.{members_at, tables_in}
+use Rattle.conf_values.specs.Parts.{values_of}
+use Rattle.conf_values.specs.Values.{IsStepText, number_or, tag_in}
 use Rattle.settings.specs.declared.gateway_conf.GatewayConf.{GatewayConf}
 use Rattle.settings.specs.declared.policy.Policy.{Policy}
 use Rattle.settings.specs.declared.policy.NonceUse.{NonceUse}
@@ -54,8 +59,19 @@ digest_use_of value = digest.Ignore
 
 -- ---- tables
 
--- what the table `policy` says; where there is none, its pairs are none
-pub record IsPolicy (pairs : Members) (policy : Policy) : Type 0 where
+-- the tag of the signatures that a policy is for, which version 2 has
+abbrev pub selected_tag : Version → Members → Option (List ℕ)
+selected_tag One pairs = None
+selected_tag Two pairs = tag_in pairs
+
+-- the tag that a policy asks of all signatures, which version 1 has
+abbrev pub asked_tag : Version → Members → Option (List ℕ)
+asked_tag One pairs = tag_in pairs
+asked_tag Two pairs = None
+
+-- what a table says of a policy; where there is none, its pairs are none
+pub record IsPolicy (version : Version) (pairs : Members) (policy : Policy) : Type 0 where
+  pub selects : policy.selects ≡ selected_tag version pairs
   pub max_age : policy.max_age ≡ number_or DEFAULT_MAX_AGE (get_member (codes "max-age") pairs)
   pub skew : policy.skew ≡ number_or DEFAULT_SKEW (get_member (codes "skew") pairs)
   pub require_request :
@@ -64,9 +80,27 @@ pub record IsPolicy (pairs : Members) (policy : Policy) : Type 0 where
       AreComponents (get_member (codes "require-response") pairs) policy.require_response
   pub expires : policy.expires ≡ is_required (get_member (codes "expires") pairs)
   pub nonce : policy.nonce ≡ nonce_use_of (get_member (codes "nonce") pairs)
-  pub nonces : policy.nonces ≡ number_or MAX_ENTRIES (get_member (codes "nonces") pairs)
-  pub tag : policy.tag ≡ option_and_then as_str (get_member (codes "tag") pairs)
+  pub tag : policy.tag ≡ asked_tag version pairs
   pub digest : policy.digest ≡ digest_use_of (get_member (codes "digest") pairs)
+
+-- the tables of `policies`; one without pairs where nothing is said
+abbrev pub policy_tables : Option Data → List Members
+policy_tables None = no_members ∷ []
+policy_tables value = tables_in value
+
+-- the policies that a document of the version says, in order
+abbrev pub ArePolicies : Option Version → Members → List Policy → Type 0
+ArePolicies (Some One) document policies =
+    AllZip (IsPolicy One) (members_at document place.Policy ∷ []) policies
+ArePolicies (Some Two) document policies =
+    AllZip (IsPolicy Two) (policy_tables (get_member (codes "policies") document)) policies
+ArePolicies None document policies = ⊥
+
+-- how many nonces are remembered, by a document of the version
+abbrev pub kept_nonces : Option Version → Members → ℕ
+kept_nonces (Some Two) document = number_or MAX_ENTRIES (get_member (codes "nonces") document)
+kept_nonces version document =
+    number_or MAX_ENTRIES (get_member (codes "nonces") (members_at document place.Policy))
 
 -- what the table `sign` says
 pub record IsSignConf (pairs : Members) (sign : SignConf) : Type 0 where

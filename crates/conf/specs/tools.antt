@@ -4,5 +4,5 @@ pub mod Added
 pub mod GatewayReads
 pub mod KeyFaults
 pub mod SectionReads
+pub mod PolicyReads
 pub mod Explained
-pub mod Entries

@@ -9,9 +9,9 @@ ghost use Rattle.conf.specs.tools.Added.{all_added, is_key_length, key_in, spell
 ghost use Rattle.conf.specs.tools.KeyFaults.{IsKeyFault, IsKeysFault};
 
 use crate::fault::ConfFault;
-use crate::members::table_in;
 use base64::DecodeAllocError;
 use base64::engine::general_purpose::STANDARD;
+use conf_values::table_in;
 use settings::{Keys, MAX_KEY_BYTES};
 use sfv_text::{Memory, Text};
 use std::alloc::Global;

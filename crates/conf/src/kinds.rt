@@ -7,8 +7,8 @@ ghost use Rattle.component_ids.specs.Types.{standard_types};
 ghost use Rattle.conf.specs.Table.{members_in};
 ghost use Rattle.conf.specs.tools.Added.{all_added, named_kind, with_entry, HasDistinctNames};
 
-use crate::members::table_in;
 use component_ids::{FieldKind, Types};
+use conf_values::table_in;
 use settings::kind_of_word;
 use sfv_text::Memory;
 use std::alloc::Global;

@@ -12,7 +12,6 @@
 //! ```
 #![tactic(auto)]
 
-mod allowed;
 mod document;
 mod fault;
 mod gateway_reader;
@@ -34,6 +33,7 @@ pub use laws::{
 };
 pub use read::{empty_conf, read_conf};
 pub use settings::{
-    Conf, DigestUse, GatewayConf, MAX_AGE, MAX_ENTRIES, MAX_EXPIRES_AFTER, MAX_KEY_BYTES,
-    MAX_KEYID_BYTES, MAX_SKEW, MAX_WINDOW, NonceUse, Policy, SignConf, SignDigest, is_keyid,
+    Conf, DAY_WINDOW, DigestUse, GatewayConf, MAX_AGE, MAX_ENTRIES, MAX_EXPIRES_AFTER,
+    MAX_KEY_BYTES, MAX_KEYID_BYTES, MAX_POLICIES, MAX_SKEW, MAX_WINDOW, NonceUse, Policies, Policy,
+    SignConf, SignDigest, is_keyid,
 };

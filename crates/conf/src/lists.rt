@@ -1,43 +1,59 @@
 //! The lists of covered components of a document.
 
-ghost use Rattle.std.specs.Prelude.{IfErr, IfOk};
-ghost use Rattle.toml.specs.View.{table_view};
+ghost use Rattle.std.specs.Prelude.{IfErr, IfOk, OnOk};
+ghost use Rattle.toml.specs.Data.{get_member};
+ghost use Rattle.toml.specs.View.{array_view, table_view};
+ghost use Rattle.conf_values.specs.Parts.{tables_of};
 ghost use Rattle.conf.specs.tools.Judged.{IsCauseNumbered};
-ghost use Rattle.conf.specs.tools.SectionReads.{AreLists, IsListFault, IsToldList, value_of};
+ghost use Rattle.conf.specs.tools.PolicyReads.{IsToldIn};
+ghost use Rattle.conf.specs.tools.SectionReads.{AreGoodLists, AreLists, HaveGoodLists, HaveGoodTables, IsGoodList, IsListFault, IsListsFault, IsToldList};
 ghost use Rattle.conf.specs.tools.Views.{AreTables};
+ghost use Rattle.conf_values.specs.Views.{table_members};
 
 use crate::fault::ConfFault;
 use crate::members::FixedTables;
 use component_ids::Ids;
-use conf_keys::TableName;
+use conf_values::text_of;
 use settings::read_covered;
-use sfv_text::Text;
+use sfv_text::{Memory, Text};
 use std::alloc::Global;
+use toml::Table;
+use toml::value::Array;
 
-/// The lists of a document: the components that have to be covered, and those that are.
+/// The lists of a document that signing covers.
 #[derive(Drop)]
 pub(crate) struct Lists {
-    pub(crate) require_request: Ids,
-    pub(crate) require_response: Ids,
     pub(crate) components_request: Ids,
     pub(crate) components_response: Ids,
 }
 
-/// The components that are told at the place under the name; none where none are told.
+/// The components that the table tells under the name; none where it tells none.
+pub(crate) fn components_in(alloc: Global, table: Option<&Table>, name: &str) -> Result<Ids, Memory>
+    ensures { IfOk result (IsToldIn (get_member name.now (table_members table.entry))) }
+{
+    let Some(text) = text_of(table, name) else {
+        return Ok(Ids::new(alloc));
+    };
+    match read_covered(alloc, text.as_bytes())? {
+        None => Ok(Ids::new(alloc)),
+        Some(ids) => Ok(ids),
+    }
+}
+
+/// The components that the table tells under the name, where it tells no other text; none where it
+/// tells none.
 fn read_components(
     alloc: Global,
-    tables: FixedTables,
-    place: TableName,
+    table: Option<&Table>,
     name: &str,
     path: &str,
 ) -> Result<Ids, ConfFault>
-    requires { AreTables tables }
-    ensures ok { IfOk result
-        (IsToldList (value_of (table_view tables.entry.document.now) place name.now)) }
+    ensures ok { IfOk result (IsToldList (get_member name.now (table_members table.entry))) }
+    ensures good { OnOk result (IsGoodList (get_member name.now (table_members table.entry))) }
     ensures err { IfErr result
-        (IsListFault (value_of (table_view tables.entry.document.now) place name.now) path.now) }
+        (IsListFault (get_member name.now (table_members table.entry)) path.now) }
 {
-    let Some(text) = tables.text_at(place, name) else {
+    let Some(text) = text_of(table, name) else {
         return Ok(Ids::new(alloc));
     };
     match read_covered(alloc, text.as_bytes())? {
@@ -46,43 +62,65 @@ fn read_components(
     }
 }
 
-/// The lists, in the order of their paths' bytes.
+/// Judges the list of that name in each table of the array.
+fn judge_lists(alloc: Global, array: &Array, name: &str, path: &str) -> Result<(), ConfFault>
+    ensures ok { OnOk result (AreGoodLists name.now (tables_of (array_view array.now))) }
+    ensures err { IfErr result (IsListsFault name.now (tables_of (array_view array.now)) path.now) }
+{
+    for value in array {
+        read_components(alloc, value.as_table(), name, path)?;
+    }
+    Ok(())
+}
+
+/// Judges the lists of the tables of `policies`, in the order of their paths' bytes.
+fn judge_tables_lists(alloc: Global, tables: FixedTables) -> Result<(), ConfFault>
+    requires { AreTables tables }
+    ensures ok { OnOk result (HaveGoodTables (table_view tables.entry.document.now)) }
+    ensures err { IfErr result (IsCauseNumbered 7 (table_view tables.entry.document.now)) }
+{
+    let Some(array) = tables.policies else {
+        return Ok(());
+    };
+    judge_lists(alloc, array, "require-request", "policies.require-request")?;
+    judge_lists(alloc, array, "require-response", "policies.require-response")
+}
+
+/// Judges the lists of the policies, in the order of their paths' bytes.
+fn judge_policy_lists(alloc: Global, tables: FixedTables) -> Result<(), ConfFault>
+    requires { AreTables tables }
+    ensures ok { OnOk result (HaveGoodLists (table_view tables.entry.document.now)) }
+    ensures err { IfErr result (IsCauseNumbered 7 (table_view tables.entry.document.now)) }
+{
+    judge_tables_lists(alloc, tables)?;
+    let policy = tables.policy;
+    read_components(alloc, policy, "require-request", "policy.require-request")?;
+    read_components(alloc, policy, "require-response", "policy.require-response")?;
+    Ok(())
+}
+
+/// The lists of `sign`, where no list of the document is bad; else the first that is, in the order
+/// of their paths' bytes.
 pub(crate) fn read_lists(alloc: Global, tables: FixedTables) -> Result<Lists, ConfFault>
     requires { AreTables tables }
     ensures ok { IfOk result (AreLists (table_view tables.entry.document.now)) }
+    ensures good { OnOk result (HaveGoodLists (table_view tables.entry.document.now)) }
     ensures err { IfErr result (IsCauseNumbered 7 (table_view tables.entry.document.now)) }
 {
-    let require_request = read_components(
-        alloc,
-        tables,
-        TableName::Policy,
-        "require-request",
-        "policy.require-request",
-    )?;
-    let require_response = read_components(
-        alloc,
-        tables,
-        TableName::Policy,
-        "require-response",
-        "policy.require-response",
-    )?;
+    judge_policy_lists(alloc, tables)?;
     let components_request = read_components(
         alloc,
-        tables,
-        TableName::Sign,
+        tables.sign,
         "components-request",
         "sign.components-request",
     )?;
     let components_response = read_components(
         alloc,
-        tables,
-        TableName::Sign,
+        tables.sign,
         "components-response",
         "sign.components-response",
     )?;
     Ok(Lists {
-        require_request,
-        require_response,
         components_request,
         components_response,
     })

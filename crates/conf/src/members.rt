@@ -1,67 +1,38 @@
-//! A TOML document, and its values.
+//! A TOML document: its version, and its tables whose keys are fixed.
 
-ghost use Rattle.std.specs.Prelude.{◌≡◌, Some, is_some, option_and_then, option_copied, option_map, string_bytes};
-ghost use Rattle.toml.specs.Data.{as_str, as_table, get_member};
+ghost use Rattle.std.specs.Prelude.{◌≡◌, Some, is_some, option_and_then, option_copied, option_map};
+ghost use Rattle.toml.specs.Data.{as_str, get_member};
 ghost use Rattle.toml.specs.View.{table_view, view};
-ghost use Rattle.conf.specs.Table.{has_place, members_at, members_in};
-ghost use Rattle.conf.specs.Values.{number_or};
-ghost use Rattle.conf.specs.tools.Views.{AreTables, table_members};
+ghost use Rattle.conf.specs.Table.{has_place, members_at, version_in, version_of};
+ghost use Rattle.conf.specs.tools.Views.{AreTables};
+ghost use Rattle.conf_values.specs.Views.{table_members};
 
-use conf_keys::TableName;
+use conf_keys::{TableName, Version};
+use conf_values::{array_in, member, member_of, table_in};
+use toml::value::Array;
 use toml::{Table, Value};
 
-/// The value of that name in the table.
-pub(crate) fn member<'d>(table: &'d Table, name: &str) -> Option<&'d Value>
-    ensures { option_map (λ value. view value.now) result
-        ≡ get_member name.now (table_view table.now) }
-{
-    table.get(name)
-}
+// ---- the version
 
-/// The table of that name in the table.
-pub(crate) fn table_in<'d>(table: &'d Table, name: &str) -> Option<&'d Table>
-    ensures found { option_map (λ inner. table_view inner.now) result
-        ≡ option_and_then as_table (get_member name.now (table_view table.now)) }
-    ensures members { table_members result
-        ≡ members_in (get_member name.now (table_view table.now)) }
-    ensures there { is_some result
-        ≡ is_some (option_and_then as_table (get_member name.now (table_view table.now))) }
-{
-    match member(table, name) {
-        None => None,
-        Some(value) => value.as_table(),
-    }
-}
-
-/// The text of that name in the table.
-pub(crate) fn text_in<'d>(table: &'d Table, name: &str) -> Option<&'d str>
-    ensures { option_copied result
-        ≡ option_and_then as_str (get_member name.now (table_view table.now)) }
-{
-    match member(table, name) {
-        None => None,
-        Some(value) => value.as_str(),
-    }
-}
-
-/// The value of that name in the table, where there is one.
-fn member_of<'d>(table: Option<&'d Table>, name: &str) -> Option<&'d Value>
-    ensures { option_map (λ value. view value.now) result
-        ≡ get_member name.now (table_members table.entry) }
-{
-    match table {
-        None => None,
-        Some(table) => member(table, name),
-    }
-}
-
-fn number_of(value: &Value, other: u64) -> u64
-    ensures { result ≡ number_or other (Some (view value.now)) }
+/// The version of that number.
+fn version_of(value: &Value) -> Option<Version>
+    ensures { result ≡ version_of (Some (view value.now)) }
 {
     match value.as_integer() {
-        None => other,
-        Some(number) if number >= 0 => number as u64,
-        Some(_) => 0,
+        Some(1) => Some(Version::One),
+        Some(2) => Some(Version::Two),
+        _ => None,
+    }
+}
+
+/// The version that the document names: the first where it names none, and none where it names
+/// another.
+fn version_in(document: &Table) -> Option<Version>
+    ensures { result ≡ version_in (table_view document.now) }
+{
+    match member(document, "version") {
+        None => Some(Version::One),
+        Some(value) => version_of(value),
     }
 }
 
@@ -71,7 +42,9 @@ fn number_of(value: &Value, other: u64) -> u64
 #[derive(Clone, Copy)]
 pub(crate) struct FixedTables<'d> {
     pub(crate) document: &'d Table,
+    pub(crate) version: Option<Version>,
     pub(crate) gateway: Option<&'d Table>,
+    pub(crate) policies: Option<&'d Array>,
     pub(crate) policy: Option<&'d Table>,
     pub(crate) sign: Option<&'d Table>,
 }
@@ -83,7 +56,9 @@ impl<'d> FixedTables<'d> {
     {
         FixedTables {
             document,
+            version: version_in(document),
             gateway: table_in(document, "gateway"),
+            policies: array_in(document, "policies"),
             policy: table_in(document, "policy"),
             sign: table_in(document, "sign"),
         }
@@ -99,6 +74,8 @@ impl<'d> FixedTables<'d> {
         match place {
             TableName::Top => Some(self.document),
             TableName::Gateway => self.gateway,
+            // an array of tables, and no table
+            TableName::Policies => None,
             TableName::Policy => self.policy,
             TableName::Sign => self.sign,
         }
@@ -122,18 +99,6 @@ impl<'d> FixedTables<'d> {
         match self.value_at(place, name) {
             None => None,
             Some(value) => value.as_str(),
-        }
-    }
-
-    /// The number of that name at the place, or else the other. A negative one counts as 0.
-    pub(crate) fn number_or(self, place: TableName, name: &str, other: u64) -> u64
-        requires { AreTables self }
-        ensures { result ≡ number_or other
-            (get_member name.now (members_at (table_view self.entry.document.now) place)) }
-    {
-        match self.value_at(place, name) {
-            None => other,
-            Some(value) => number_of(value, other),
         }
     }
 }

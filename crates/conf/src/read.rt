@@ -1,6 +1,7 @@
 //! Reads a configuration.
 
-ghost use Rattle.std.specs.Prelude.{◌≡◌, [], IfOk, IfErr, MatchResult};
+ghost use Rattle.std.specs.Prelude.{◌≡◌, [], None, IfOk, IfErr, MatchResult};
+ghost use Rattle.std.specs.Option.{ForSome};
 ghost use Rattle.byte_grammar.specs.Causes.{AnswersWhere};
 ghost use Rattle.conf.specs.declared.fault.ConfFault.{ConfFault};
 ghost use Rattle.settings.specs.Configuration.{Configuration};
@@ -9,6 +10,8 @@ ghost use Rattle.conf.specs.Refusals.{IsConfFault};
 ghost use Rattle.toml.specs.View.{table_view};
 ghost use Rattle.conf.specs.tools.Judged.{IsFirstIn};
 ghost use Rattle.settings.specs.ConfMeaning.{meaning};
+ghost use Rattle.settings.specs.Valid.{IsValidSign};
+ghost use Rattle.settings.specs.ValidSections.{IsValidGateway};
 
 use crate::document::read_document;
 use crate::fault::ConfFault;
@@ -16,12 +19,37 @@ use crate::judge::judge_document;
 use crate::key_texts::read_keys;
 use crate::kinds::read_types;
 use crate::members::FixedTables;
+use crate::policy_reader::nonces_of;
 use crate::sections::{Sections, read_sections};
 use crate::values::scheme_in;
-use settings::Conf;
+use settings::{Conf, GatewayConf, SignConf};
 use sfv_text::Memory;
 use std::alloc::Global;
 use toml::Table;
+
+/// The configuration with what is said of signing, where something is.
+fn with_sign_of(conf: Conf, sign: Option<SignConf>) -> Conf
+    requires none { (meaning conf).sign ≡ None }
+    requires valid { ForSome sign (IsValidSign (meaning conf).keys) }
+    ensures { meaning result ≡ record (meaning conf) { sign = sign } }
+{
+    match sign {
+        None => conf,
+        Some(sign) => conf.with_sign(sign),
+    }
+}
+
+/// The configuration with what is said of a gateway, where something is.
+fn with_gateway_of(conf: Conf, gateway: Option<GatewayConf>) -> Conf
+    requires none { (meaning conf).gateway ≡ None }
+    requires valid { ForSome gateway IsValidGateway }
+    ensures { meaning result ≡ record (meaning conf) { gateway = gateway } }
+{
+    match gateway {
+        None => conf,
+        Some(gateway) => conf.with_gateway(gateway),
+    }
+}
 
 /// The configuration that the document is.
 fn conf_of(alloc: Global, document: &Table) -> Result<Conf, ConfFault>
@@ -33,15 +61,13 @@ fn conf_of(alloc: Global, document: &Table) -> Result<Conf, ConfFault>
     let keys = read_keys(alloc, document)?;
     let types = read_types(alloc, document)?;
     let Sections {
-        policy,
+        policies,
         sign,
         gateway,
     } = read_sections(alloc, tables)?;
-    let conf = Conf::new(scheme_in(document), keys, types, policy, sign);
-    match gateway {
-        None => Ok(conf),
-        Some(gateway) => Ok(conf.with_gateway(gateway)),
-    }
+    let judged = Conf::new(scheme_in(document), keys, types, policies, nonces_of(tables));
+    let signing = with_sign_of(judged, sign);
+    Ok(with_gateway_of(signing, gateway))
 }
 
 /// Reads the text of a configuration.

@@ -1,4 +1,4 @@
-//! What the tables `policy`, `sign` and `gateway` of a document say.
+//! What the tables of a document say of policies, of signing and of gateways.
 
 ghost use Rattle.std.specs.Prelude.{IfErr, IfOk};
 ghost use Rattle.toml.specs.View.{table_view};
@@ -11,15 +11,15 @@ use crate::gateway_reader::{gateway_of, read_steps};
 use crate::judge::{RowFault, judge_rows};
 use crate::lists::{Lists, read_lists};
 use crate::members::FixedTables;
-use crate::policy_reader::policy_of;
+use crate::policy_reader::policies_of;
 use crate::sign_reader::sign_of;
-use settings::{GatewayConf, Policy, SignConf};
+use settings::{GatewayConf, Policies, SignConf};
 use std::alloc::Global;
 
 /// How signatures are judged, how messages are signed, and what a gateway does.
 #[derive(Drop)]
 pub(crate) struct Sections {
-    pub(crate) policy: Policy,
+    pub(crate) policies: Policies,
     pub(crate) sign: Option<SignConf>,
     pub(crate) gateway: Option<GatewayConf>,
 }
@@ -36,16 +36,14 @@ pub(crate) fn read_sections(alloc: Global, tables: FixedTables) -> Result<Sectio
     let steps = read_steps(alloc, tables)?;
     judge_rows(alloc, RowFault::Missing, tables)?;
     let Lists {
-        require_request,
-        require_response,
         components_request,
         components_response,
     } = lists;
-    let policy = policy_of(alloc, tables, require_request, require_response)?;
+    let policies = policies_of(alloc, tables)?;
     let sign = sign_of(alloc, tables, components_request, components_response)?;
     let gateway = gateway_of(alloc, tables, steps)?;
     Ok(Sections {
-        policy,
+        policies,
         sign,
         gateway,
     })

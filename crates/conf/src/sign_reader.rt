@@ -46,7 +46,7 @@ pub(crate) fn sign_of(
         components_response: response,
         expires_after: seconds_in(tables),
         alg: has_alg(tables),
-        tag: read_tag(alloc, tables, TableName::Sign)?,
+        tag: read_tag(alloc, tables.sign)?,
         digest: digest_in(tables),
     }))
 }

@@ -1,17 +1,20 @@
 //! What the values of a document say, with what holds where nothing is said.
 
 ghost use Rattle.std.specs.Prelude.{◌≡◌, false, codes, option_and_then, unwrap_or, IfOk};
-ghost use Rattle.toml.specs.Data.{as_bool, as_str, get_member};
+ghost use Rattle.toml.specs.Data.{as_bool, get_member};
 ghost use Rattle.toml.specs.View.{table_view};
-ghost use Rattle.conf_keys.specs.declared.table.TableName.TheVariants.{Policy, Sign};
+ghost use Rattle.conf_keys.specs.declared.table.TableName.TheVariants.{Sign};
 ghost use Rattle.conf.specs.Table.{members_at};
 ghost use Rattle.conf.specs.Meaning.{configured_scheme};
 ghost use Rattle.conf.specs.Sections.{digest_of, digest_use_of, is_required, nonce_use_of, seconds_of};
+ghost use Rattle.conf_values.specs.Values.{tag_in};
 ghost use Rattle.conf.specs.tools.Views.{AreTables};
+ghost use Rattle.conf_values.specs.Views.{table_members};
 
-use crate::members::{FixedTables, text_in};
+use crate::members::FixedTables;
 use component_ids::Scheme;
 use conf_keys::TableName;
+use conf_values::{text_in, text_of};
 use settings::{DigestUse, NonceUse, SignDigest, expires_of_word, scheme_of_word};
 use sfv_text::{Memory, Text};
 use std::alloc::Global;
@@ -27,55 +30,46 @@ pub(crate) fn scheme_in(document: &Table) -> Scheme
     }
 }
 
-/// The tag that is told at the place.
-pub(crate) fn read_tag(
-    alloc: Global,
-    tables: FixedTables,
-    place: TableName,
-) -> Result<Option<Text>, Memory>
-    requires { AreTables tables }
-    ensures { IfOk result (λ tag. tag ≡ option_and_then as_str
-        (get_member (codes "tag") (members_at (table_view tables.entry.document.now) place))) }
+/// The tag that the table tells.
+pub(crate) fn read_tag(alloc: Global, table: Option<&Table>) -> Result<Option<Text>, Memory>
+    ensures { IfOk result (λ tag. tag ≡ tag_in (table_members table.entry)) }
 {
-    match tables.text_at(place, "tag") {
+    match text_of(table, "tag") {
         None => Ok(None),
         Some(tag) => Ok(Some(Text::from_bytes(alloc, tag.as_bytes())?)),
     }
 }
 
-// ---- the table `policy`
+// ---- tables of policies
 
-/// Whether `policy` requires the parameter `expires`.
-pub(crate) fn requires_expires(tables: FixedTables) -> bool
-    requires { AreTables tables }
-    ensures { result ≡ is_required
-        (get_member (codes "expires") (members_at (table_view tables.entry.document.now) Policy)) }
+/// Whether the table requires the parameter `expires`.
+pub(crate) fn requires_expires(table: Option<&Table>) -> bool
+    ensures { result
+        ≡ is_required (get_member (codes "expires") (table_members table.entry)) }
 {
-    match tables.text_at(TableName::Policy, "expires") {
+    match text_of(table, "expires") {
         None => false,
         Some(word) => expires_of_word(word.as_bytes()).unwrap_or(false),
     }
 }
 
-/// What `policy` asks of the parameter `nonce`.
-pub(crate) fn nonce_use_in(tables: FixedTables) -> NonceUse
-    requires { AreTables tables }
-    ensures { result ≡ nonce_use_of
-        (get_member (codes "nonce") (members_at (table_view tables.entry.document.now) Policy)) }
+/// What the table asks of the parameter `nonce`.
+pub(crate) fn nonce_use_in(table: Option<&Table>) -> NonceUse
+    ensures { result
+        ≡ nonce_use_of (get_member (codes "nonce") (table_members table.entry)) }
 {
-    match tables.text_at(TableName::Policy, "nonce") {
+    match text_of(table, "nonce") {
         None => NonceUse::Ignore,
         Some(word) => NonceUse::of_word(word.as_bytes()).unwrap_or(NonceUse::Ignore),
     }
 }
 
-/// When `policy` asks for a digest of the content.
-pub(crate) fn digest_use_in(tables: FixedTables) -> DigestUse
-    requires { AreTables tables }
-    ensures { result ≡ digest_use_of
-        (get_member (codes "digest") (members_at (table_view tables.entry.document.now) Policy)) }
+/// When the table asks for a digest of the content.
+pub(crate) fn digest_use_in(table: Option<&Table>) -> DigestUse
+    ensures { result
+        ≡ digest_use_of (get_member (codes "digest") (table_members table.entry)) }
 {
-    match tables.text_at(TableName::Policy, "digest") {
+    match text_of(table, "digest") {
         None => DigestUse::Ignore,
         Some(word) => DigestUse::of_word(word.as_bytes()).unwrap_or(DigestUse::Ignore),
     }

@@ -144,14 +144,20 @@ FormedRow of_target params parts result =
     ⊎ (((target : TargetParts) → ¬ SpellsTarget parts.method parts.target target)
     × (result ≡ Err Underivable))
 
--- a derived component of a request: the method and the target as they are sent, and what is drawn
--- from the target; it has no status (sections 2.2.1, 2.2.5 and 2.2.9)
+-- a derived component of a request: the method and the target as sent, and by this row what
+-- is drawn from the target; it has no status (sections 2.2.1, 2.2.5 and 2.2.9)
+abbrev pub RequestRowBy : (TargetName → Result (List ℕ) Lack → Type 0) → DerivedName → RequestParts
+    → Result (List ℕ) Lack → Type 0
+RequestRowBy OfTargetRow Method parts result = result ≡ Ok parts.method
+RequestRowBy OfTargetRow RequestTarget parts result = result ≡ Ok parts.target
+RequestRowBy OfTargetRow Status parts result = result ≡ Err Underivable
+RequestRowBy OfTargetRow (OfTarget of_target) parts result = OfTargetRow of_target result
+
+-- a derived component of a request, whose target is cut as its form is
 abbrev pub RequestRow : DerivedName → List (Pair BareItem) → RequestParts
     → Result (List ℕ) Lack → Type 0
-RequestRow Method params parts result = result ≡ Ok parts.method
-RequestRow RequestTarget params parts result = result ≡ Ok parts.target
-RequestRow Status params parts result = result ≡ Err Underivable
-RequestRow (OfTarget of_target) params parts result = FormedRow of_target params parts result
+RequestRow derived params parts result =
+    RequestRowBy (λ of_target answer. FormedRow of_target params parts answer) derived parts result
 
 -- a derived component of a response: the status alone (section 2.2.9)
 abbrev pub response_value : DerivedName → List ℕ → Result (List ℕ) Lack
@@ -170,9 +176,15 @@ StartRow derived params scheme lines (request line) result = RequestRow derived 
 StartRow derived params scheme lines (status line) result =
     result ≡ response_value derived line.code
 
--- a derived component, by its name; no message has a component of another name
+-- a derived component, by its name, and by this row for each; no message has a component of another
+-- name
+abbrev pub NamedRow : (DerivedName → Result (List ℕ) Lack → Type 0) → Option DerivedName
+    → Result (List ℕ) Lack → Type 0
+NamedRow OfNameRow (Some derived) result = OfNameRow derived result
+NamedRow OfNameRow None result = result ≡ Err Underivable
+
+-- a derived component, by its name
 abbrev pub DerivedRow : Option DerivedName → List (Pair BareItem) → Scheme → List FieldLine
     → StartLine → Result (List ℕ) Lack → Type 0
-DerivedRow (Some derived) params scheme lines start result =
-    StartRow derived params scheme lines start result
-DerivedRow None params scheme lines start result = result ≡ Err Underivable
+DerivedRow derived params scheme lines start result =
+    NamedRow (λ name answer. StartRow name params scheme lines start answer) derived result

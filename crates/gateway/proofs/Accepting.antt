@@ -1,33 +1,45 @@
 -- The first label that is accepted.
-use Rattle.std.proofs.Common.{◌≡◌, ◌<◌, ◌≤◌, ◌+◌, ℕ, suc, Result, Err, Some, List, [], ◌∷◌, get_or, length, take, refl, sym, ap, subst, ◌∙◌}
+use Rattle.std.proofs.Common.{◌≡◌, ◌<◌, ◌≤◌, ◌+◌, ℕ, suc, Result, Err, Some, List, [], ◌∷◌, get_or, length, take, refl, sym, ap, subst, ◌∙◌, false}
 use Rattle.std.proofs.lemmas.Bool.{false≢true}
 use Rattle.std.proofs.lemmas.List.Elements.{All-cons, All-more, All-nil}
 use Rattle.std.proofs.lemmas.List.{take_all}
 use Rattle.std.proofs.lemmas.Option.{slice_get-get_or}
 use Rattle.byte_grammar.specs.Causes.{AnswersWhere}
 use Rattle.msg_body.specs.Messages.{Message}
-use Rattle.component_ids.specs.declared.params.SigParams.{SigParams}
-use Rattle.component_values.specs.Context.{MessageContext}
 use Rattle.signatures.specs.Rules.{IsLabelUnread}
 use Rattle.signatures.specs.Signatures.{HasSignature}
 use Rattle.signatures.specs.declared.label.LabelFault.{LabelFault}
 use Rattle.signatures.specs.declared.label.LabelFault.TheVariants.{Memory as OutOfMemory, Rule as Unread}
 use Rattle.signatures.specs.declared.place.Place.{Place}
 use Rattle.signatures.specs.declared.rule.Rule.{Rule}
-use Rattle.signatures.proofs.Reading.{has_no_failure_where_read}
+use Rattle.signatures.specs.declared.label.LabelRead.{LabelRead}
 use Rattle.verdicts.specs.Verdicts.{Accepts, IsVerdict, is_accepted}
-use Rattle.verdicts.specs.Verification.{Verification, verification_by}
+use Rattle.verdicts.specs.Verification.{Verification}
+use Rattle.verdicts.specs.declared.outcome.Verdict.{Verdict}
 use Rattle.verdicts.specs.declared.outcome.Verdict.TheVariants.{Ok as Accepted, Rule as Refused}
-use Rattle.verdicts.specs.declared.verifier.Verifier.{Verifier}
-use Rattle.verdicts.proofs.Judging.{has_one_verdict}
+use Rattle.verdicts.proofs.Judging.{has_one_verdict, unread_is_first}
 use Rattle.gateway.specs.Accepted.{AreRefused, IsFirstAccepted, IsRefusal}
 use Rattle.gateway.specs.declared.accepted.AcceptedLabel.{AcceptedLabel}
-use Rattle.gateway.specs.tools.Judged.{IsAcceptedLabel, IsFirstLabel}
+use Rattle.gateway.specs.tools.Judged.{IsAcceptedLabel, IsFirstLabel, SaysUnread}
+
+-- the verdict says that the label isn't accepted
+abbrev IsRefusedBy : Verification → Verdict → Type 0
+IsRefusedBy v verdict = IsVerdict v verdict × (is_accepted verdict ≡ false)
+
+never_accepted : (v : Verification) (verdict : Verdict) → IsRefusedBy v verdict → (keyid : List ℕ) → ¬ Accepts v keyid
+never_accepted v verdict refused keyid accepts =
+    false≢true (sym refused.1 ∙ ap is_accepted (has_one_verdict v verdict (Accepted keyid) refused.0 accepts))
 
 -- a label at which a rule fails isn't accepted
 pub not_accepted : (v : Verification) (rule : Rule) (place : Place) → IsVerdict v (Refused rule place) → (keyid : List ℕ) → ¬ Accepts v keyid
-not_accepted v rule place fails keyid accepts =
-    false≢true (ap is_accepted (has_one_verdict v (Refused rule place) (Accepted keyid) fails accepts))
+not_accepted v rule place fails = never_accepted v (Refused rule place) (fails, refl)
+
+-- nor is one that isn't read
+pub unread_verdict : (v : Verification) (fault : LabelFault) (verdict : Verdict) (result : Result LabelRead LabelFault)
+    → ((rule : Rule) (place : Place) → AnswersWhere OutOfMemory result (Unread rule place) (IsLabelUnread v.context.message v.label rule place)) → result ≡ Err fault → SaysUnread fault verdict → IsRefusedBy v verdict
+unread_verdict v OutOfMemory verdict result says is told = absurd told
+unread_verdict v (Unread rule place) verdict result says is told =
+    subst (IsRefusedBy v) (sym told) (unread_is_first v rule place ((says rule place).only is), refl)
 
 module _ (judged_by : List ℕ → Verification) where
   abbrev IsNotAccepted : List ℕ → Type 0
@@ -37,10 +49,10 @@ module _ (judged_by : List ℕ → Verification) where
   none_refused = All-nil IsNotAccepted
 
   -- one more isn't accepted
-  pub refused_more : (labels : List (List ℕ)) (index : ℕ) (label : List ℕ) (rule : Rule) (place : Place) → index < length labels → label ≡ get_or labels index label
-      → AreRefused judged_by (take index labels) → IsVerdict (judged_by label) (Refused rule place) → AreRefused judged_by (take (index + 1) labels)
-  refused_more labels index label rule place lt is before fails =
-      All-more IsNotAccepted labels index label lt before (subst IsNotAccepted is (not_accepted (judged_by label) rule place fails))
+  pub refused_more : (labels : List (List ℕ)) (index : ℕ) (label : List ℕ) (verdict : Verdict) → index < length labels → label ≡ get_or labels index label
+      → AreRefused judged_by (take index labels) → IsRefusedBy (judged_by label) verdict → AreRefused judged_by (take (index + 1) labels)
+  refused_more labels index label verdict lt is before refused =
+      All-more IsNotAccepted labels index label lt before (subst IsNotAccepted is (never_accepted (judged_by label) verdict refused))
 
   pub refused_all : (labels : List (List ℕ)) (index : ℕ) → length labels ≤ index → AreRefused judged_by (take index labels) → AreRefused judged_by labels
   refused_all labels index end before = subst (AreRefused judged_by) (take_all index labels end) before
@@ -69,26 +81,25 @@ module _ (judged_by : List ℕ → Verification) where
       label_is = refl;
     }
 
-    pub accepted_later : (rule : Rule) (place : Place) → IsVerdict (judged_by first) (Refused rule place) → (label keyid : List ℕ) → IsFirstAccepted judged_by others label keyid
+    pub accepted_later : (verdict : Verdict) → IsRefusedBy (judged_by first) verdict → (label keyid : List ℕ) → IsFirstAccepted judged_by others label keyid
         → IsFirstAccepted judged_by (first ∷ others) label keyid
-    accepted_later rule place fails label keyid later = record {
+    accepted_later verdict refused label keyid later = record {
       index = suc later.index;
       is = record {
         label = later.is.label;
         there = later.is.there;
         accepts = later.is.accepts;
         before =
-            All-cons IsNotAccepted first (take later.index others) (not_accepted (judged_by first) rule place fails) later.is.before;
+            All-cons IsNotAccepted first (take later.index others) (never_accepted (judged_by first) verdict refused) later.is.before;
       };
       label_is = later.label_is;
     }
 
-    pub refused_first : (rule : Rule) (place : Place) → IsVerdict (judged_by first) (Refused rule place) → AreRefused judged_by others
-        → IsRefusal judged_by (first ∷ others) first (Refused rule place)
-    refused_first rule place fails none = record {
+    pub refused_first : (verdict : Verdict) → IsRefusedBy (judged_by first) verdict → AreRefused judged_by others → IsRefusal judged_by (first ∷ others) first verdict
+    refused_first verdict refused none = record {
       first = refl;
-      none = All-cons IsNotAccepted first others (not_accepted (judged_by first) rule place fails) none;
-      is = fails;
+      none = All-cons IsNotAccepted first others (never_accepted (judged_by first) verdict refused) none;
+      is = refused.0;
     }
 
   -- what is answered of the label that is the first
@@ -104,19 +115,3 @@ module _ (judged_by : List ℕ → Verification) where
       signature = subst (λ (l : List ℕ). HasSignature message l accepted.params is.tag) (sym is.label_is) is.signature;
     },
   )
-
--- a label with a signature is read
-pub never_unread : {T : Type 0} {rule : Rule} {place : Place} (message : Message) (label : List ℕ) (result : Result T LabelFault) (params : SigParams) (tag : List ℕ)
-    → ((r : Rule) (p : Place) → AnswersWhere OutOfMemory result (Unread r p) (IsLabelUnread message label r p)) → HasSignature message label params tag → ¬ (result ≡ Err (Unread rule place))
-never_unread {T} {rule} {place} message label result params tag says has is =
-    has_no_failure_where_read message label params tag rule place has ((says rule place).only is).holds
-
--- an accepted label has a signature
-pub signature_there : (verifier : Verifier) (context now : MessageContext) (bytes label keyid : List ℕ) → Accepts (verification_by verifier context bytes) keyid → now ≡ context → bytes ≡ label
-    → (params : SigParams) × (tag : List ℕ) × HasSignature now.message label params tag
-signature_there verifier context now bytes label keyid a same is = (
-  a.params,
-  a.tag,
-  subst (λ (l : List ℕ). HasSignature now.message l a.params a.tag) is
-      (subst (λ (c : MessageContext). HasSignature c.message bytes a.params a.tag) (sym same) a.signature),
-)

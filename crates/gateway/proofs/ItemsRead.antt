@@ -6,7 +6,8 @@ use Rattle.std.proofs.Math.Seq.{get_or-append_seam}
 use Rattle.std.proofs.lemmas.List.Elements.{All-drop, All-head, All-same, All-take}
 use Rattle.std.specs.List.{All, flat_map}
 use Rattle.std.specs.List.Sorted.{IsNonDecreasing}
-use Rattle.recording.specs.Items.{Body, IsNumber, IsShort, PlacedItem, body_text, moment, moment_in, number_of, stored}
+use Rattle.byte_grammar.specs.Numbers.{IsNumber}
+use Rattle.recording.specs.Items.{Body, IsShort, PlacedItem, body_text, moment, moment_in, number_of, stored}
 use Rattle.recording.specs.Readers.{BeginsWithItems, IsLastMoment, IsOpen}
 use Rattle.recording.specs.Recordings.{ArePlaced, BeginWithMoment, bodies, items_text, moments}
 use Rattle.gateway.proofs.ServedSoFar.{Begins}

@@ -14,6 +14,7 @@ use Rattle.settings.specs.Configuration.{Configuration}
 use Rattle.settings.specs.declared.gateway_conf.GatewayConf.{GatewayConf}
 use Rattle.signatures.specs.Signatures.{HasSignature}
 use Rattle.signatures.proofs.Reading.{has_one_signature}
+use Rattle.verdicts.specs.Choice.{policy_of}
 use Rattle.verdicts.specs.Parameters.{nonce_of}
 use Rattle.verdicts.specs.Verdicts.{Accepts}
 use Rattle.gateway.specs.Accepted.{verification_seen}
@@ -151,7 +152,7 @@ module _ (conf : Configuration) (settings : GatewayConf) where
       let has : HasSignature is.context.message first.is.label is.params is.let_in.tag =
       subst (λ (l : List ℕ). HasSignature is.context.message l is.params is.let_in.tag) (sym first.label_is) is.let_in.signature in
       let one : a.params ≡ is.params = (has_one_signature is.context.message first.is.label a.params is.params a.tag is.let_in.tag a.signature has).0 in
-      let new = (new_nonce v is.keyid a other.nonce is.entry_is.asks (ap nonce_of one ∙ is.entry_is.nonce)).1 in
+      let new = (new_nonce v is.keyid a is.entry_is.policy other.nonce (ap (policy_of conf) one ∙ is.entry_is.chosen) is.entry_is.asks (ap nonce_of one ∙ is.entry_is.nonce)).1 in
       ap (λ (k : List ℕ). is_seen k other.nonce (live_entries before.moment seen.entries)) is.entry_is.keyid_is
       ∙ (ap (λ (n : ℕ). is_seen is.keyid other.nonce (live_entries n seen.entries)) (sym is.adds.answers.advanced.moment)
       ∙ new)

@@ -11,6 +11,7 @@ use Rattle.settings.specs.Configuration.{Configuration}
 use Rattle.settings.specs.declared.gateway_conf.GatewayConf.{GatewayConf}
 use Rattle.signatures.proofs.Reading.{has_one_signature}
 use Rattle.signing.specs.declared.spec.SignSpec.{SignSpec}
+use Rattle.verdicts.specs.Choice.{policy_of}
 use Rattle.verdicts.specs.Parameters.{nonce_of}
 use Rattle.verdicts.specs.Verdicts.{Accepts}
 use Rattle.verdicts.specs.declared.outcome.Verdict.{Verdict}
@@ -78,7 +79,7 @@ module _ (settings : GatewayConf) (conf : Configuration) (count : ℕ) (arrival 
   put_distinct context label keyid params let_in entry is =
       let accepts = subst (λ (l : List ℕ). Accepts (verification_seen conf one context l) keyid) let_in.accepted.label_is let_in.accepted.is.accepts in
       let params_are = (has_one_signature context.message label accepts.params params accepts.tag let_in.tag accepts.signature let_in.signature).0 in
-      let new = new_nonce (verification_seen conf one context label) keyid accepts entry.nonce is.asks (ap (λ (p : SigParams). nonce_of p) params_are ∙ is.nonce) in
+      let new = new_nonce (verification_seen conf one context label) keyid accepts is.policy entry.nonce (ap (λ (p : SigParams). policy_of conf p) params_are ∙ is.chosen) is.asks (ap (λ (p : SigParams). nonce_of p) params_are ∙ is.nonce) in
       let none : many (is_of keyid entry.nonce) one.entries ≡ 0 = live (is_of keyid entry.nonce) ∙ none_many (is_of keyid entry.nonce) (live_entries one.moment one.entries) new.1 in
       distinct_more entry one.entries same.distinct (subst (λ (k : List ℕ). many (is_of k entry.nonce) one.entries ≡ 0) (sym is.keyid_is) none)
 

@@ -27,7 +27,7 @@ record_in_range settings state arrival (Bad index fault) after valid early is = 
 record_in_range settings state arrival (Pass index label text) after valid early is = refl
 record_in_range settings state arrival (Stop index label (Accepted keyid)) after valid early is = refl
 record_in_range settings state arrival (Stop index label (Refused rule place)) after valid early is =
-    place_in_range (verification_seen state.conf state.seen is.2 label) (λ _. valid.policy) rule place is.4.refusal.is.holds
+    place_in_range (verification_seen state.conf state.seen is.2 label) valid.policies.each rule place is.4.refusal.is.holds
 record_in_range settings state arrival (Held index (held.Sign fault)) after valid early is = refl
 record_in_range settings state arrival (Held index held.Covered) after valid early is = refl
 record_in_range settings state arrival (Held index (held.Lacks lack id)) after valid early is =

@@ -11,10 +11,11 @@ use Rattle.signatures.specs.declared.place.Place.{Place}
 use Rattle.signatures.specs.declared.rule.Rule.{Rule}
 use Rattle.signatures.specs.declared.rule.Rule.TheVariants.{MacMismatch, NonceRepeated, NoncesFull}
 use Rattle.verdicts.specs.Parameters.{keyid_of, nonce_of}
-use Rattle.verdicts.specs.Policies.{AcceptsByPolicy, IsNewNonce, IsReplay, LacksRoom, is_full_at, is_replay}
+use Rattle.verdicts.specs.Policies.{AcceptsByPolicy, IsNewNonce, IsReplay, LacksRoom, asks_new, is_full_at, is_replay}
 use Rattle.verdicts.specs.Rules.{Fails}
 use Rattle.verdicts.specs.Verdicts.{Accepts, IsVerdict}
-use Rattle.verdicts.specs.Verification.{Verification, policy_of}
+use Rattle.verdicts.specs.Choice.{policy_of}
+use Rattle.verdicts.specs.Verification.{Verification}
 use Rattle.verdicts.specs.declared.outcome.Verdict.{Verdict}
 use Rattle.verdicts.specs.declared.outcome.Verdict.TheVariants.{Ok as Accepted, Rule as Refused}
 use Rattle.rewrites.specs.Laws.{verification_over}
@@ -62,6 +63,11 @@ advanced_same now one other first second same a b =
 
 -- ---- verdicts
 
+-- the value that is there has another fact, where each that has the one has the other
+some_has : {X : Type 0} (P Q : X → Type 0) (o : Option X) → ((x : X) → P x → Q x) → IsSomeAnd o P → IsSomeAnd o Q
+some_has P Q (Some x) so has = so x has
+some_has P Q None so has = absurd has
+
 module _ (context : MessageContext) (label : List ℕ) (conf : Configuration) (now : ℕ) (one other : Book) (replays : (keyid nonce : List ℕ) → is_replay (Some one) now keyid nonce ≡ is_replay (Some other) now keyid nonce)
     (full : is_full_at now (Some one) ≡ is_full_at now (Some other)) where
   abbrev here : Verification
@@ -93,9 +99,12 @@ module _ (context : MessageContext) (label : List ℕ) (conf : Configuration) (n
 
   fails_too : (rule : Rule) (place : Place) → Fails here rule place → Fails there rule place
   fails_too NonceRepeated place fails =
-      (fails.0, (fails.1.0, fails.1.1, fails.1.2, (fails.1.3.0, repeated_too fails.1.0 (nonce_of fails.1.0) fails.1.3.1)))
+      let params = fails.1.0 in
+      let repeats : Verification → Policy → Type 0 = λ v policy. IsTrue (asks_new policy.nonce) × IsSomeAnd (nonce_of params) (IsReplay v params) in
+      (fails.0, (params, fails.1.1, fails.1.2, some_has (repeats here) (repeats there) (policy_of conf params) (λ policy both. (both.0, repeated_too params (nonce_of params) both.1)) fails.1.3))
   fails_too NoncesFull place fails =
-      (fails.0, (fails.1.0, fails.1.1, fails.1.2, lacks_too (policy_of conf fails.1.0) fails.1.0 fails.1.3))
+      let params = fails.1.0 in
+      (fails.0, (params, fails.1.1, fails.1.2, some_has (λ policy. LacksRoom now (Some one) policy params) (λ policy. LacksRoom now (Some other) policy params) (policy_of conf params) (λ policy. lacks_too policy params) fails.1.3))
   fails_too MacMismatch place fails =
       let wrong = fails.1.3 in (
         fails.0,
@@ -128,7 +137,9 @@ module _ (context : MessageContext) (label : List ℕ) (conf : Configuration) (n
     keyid_is = accepts.keyid_is;
     key = accepts.key;
     key_is = accepts.key_is;
-    policy = policy_too (policy_of conf accepts.params) accepts.params accepts.policy;
+    policy = accepts.policy;
+    chosen = accepts.chosen;
+    accepted = policy_too accepts.policy accepts.params accepts.accepted;
     values = accepts.values;
     have = accepts.have;
     mac = accepts.mac;

@@ -1,10 +1,10 @@
 -- The items of a stream one after the other, by what a reader, a stream and a sink say of each.
-use Rattle.std.proofs.Common.{◌≡◌, ◌≤◌, ℕ, Bool, true, false, ◌&&◌, List, [], ◌∷◌, ◌++◌, Option, Some, None, Ok, Err, refl, ap, subst, ◌∙◌}
+use Rattle.std.proofs.Common.{◌≡◌, ◌≤◌, ◌+◌, ℕ, Bool, true, false, ◌&&◌, List, [], ◌∷◌, ◌++◌, Option, Some, None, Ok, Err, refl, ap, subst, ◌∙◌, arith}
 use Rattle.std.specs.Prelude.{IsSome}
 use Rattle.settings.specs.Configuration.{Configuration}
 use Rattle.settings.specs.declared.gateway_conf.GatewayConf.{GatewayConf}
 use Rattle.recording.specs.Items.{PlacedItem}
-use Rattle.recording.specs.Readers.{ReadsNext, ReaderState, nothing_read}
+use Rattle.recording.specs.Readers.{ReadsNext, ReaderState, idle_reads, nothing_read}
 use Rattle.recording.specs.declared.item_fault.ItemFault.{ItemFault}
 use Rattle.recording.specs.declared.limits.TheConstants.{MAX_ITEMS}
 use Rattle.gateway.specs.Served.{CountsSink, Serves}
@@ -26,6 +26,32 @@ pub record AreDone (conf : Configuration) (left left_now taken taken_now : Optio
 -- what is read, where the answer is known
 pub reads_as : (reader new : ReaderState) (left left_now : Option (List ℕ)) (found known : Bool) → found ≡ known → ReadsNext reader new left left_now (Ok found) → ReadsNext reader new left left_now (Ok known)
 reads_as reader new left left_now found known is reads = subst (λ (b : Bool). ReadsNext reader new left left_now (Ok b)) is reads
+
+-- ---- calls that are idle
+
+-- where the first calls weren't idle, nor one that found an item, none was
+pub never_idle : (first before now : ℕ) (found : Bool) → before ≤ first → found ≡ true → now ≤ before + idle_reads (Ok found) → now ≤ first
+never_idle first before now found none is few =
+    let kept : now ≤ before + 0 = subst (λ (b : Bool). now ≤ before + idle_reads (Ok b)) is few in
+    omega (arith, none, kept)
+
+-- the last one may have been
+pub idle_at_end : (first before now : ℕ) (found : Bool) → before ≤ first → found ≡ false → now ≤ before + idle_reads (Ok found) → now ≤ first + 1
+idle_at_end first before now found none is few =
+    let once : now ≤ before + 1 = subst (λ (b : Bool). now ≤ before + idle_reads (Ok b)) is few in
+    omega (arith, none, once)
+
+-- no more than so many were, where the first weren't
+pub idle_at_most : (first before now n : ℕ) → before ≤ first → now ≤ before + n → now ≤ first + n
+idle_at_most first before now n none few = omega (arith, none, few)
+
+pub idle_no_more : (first before now : ℕ) → before ≤ first → now ≤ before + 0 → now ≤ first
+idle_no_more first before now none few = omega (arith, none, few)
+
+pub idle_within : (first now n : ℕ) → now ≤ first → now ≤ first + n
+idle_within first now n none = omega (arith, none)
+
+-- ---- items
 
 some_value : {A : Type 0} (o : Option A) → IsSome o → (x : A) × (o ≡ Some x)
 some_value None is = absurd (cc is)

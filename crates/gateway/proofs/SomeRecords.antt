@@ -131,10 +131,10 @@ pub some_after : (conf : Configuration) (params : SigParams) (keyid : List ℕ) 
 some_after conf params keyid seen = elim (entry_or_not conf params keyid) [
   | inr none ↦ (seen, remembers_none conf params keyid seen none)
   | inl one ↦
-      let made = some_and_parts (λ (created : ℤ). pos one.0.until ≡ created +ℤ pos conf.policy.max_age) (created_of params) one.1.until in
+      let made = some_and_parts (λ (created : ℤ). pos one.0.until ≡ created +ℤ pos one.1.policy.max_age) (created_of params) one.1.until in
       let entries = record { keyid = keyid; nonce = one.0.nonce; until = one.0.until } ∷ seen.entries in
       let after = book_of entries seen.capacity seen.window seen.moment in
-      (after, remembers_one conf params keyid seen after one.0.nonce made.0 one.0.until one.1.asks one.1.nonce made.1 made.2 (same_entries entries) refl refl refl)
+      (after, remembers_one conf params keyid one.1.policy one.1.chosen seen after one.0.nonce made.0 one.0.until one.1.asks one.1.nonce made.1 made.2 (same_entries entries) refl refl refl)
 ]
 
 -- ---- what comes of an accepted message

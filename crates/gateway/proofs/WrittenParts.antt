@@ -1,5 +1,5 @@
 -- Texts that are written in parts.
-use Rattle.std.proofs.Common.{◌≡◌, ◌+◌, ℕ, Bool, List, ◌++◌, length, take, codes, append-nil, Option, Some, Result, Ok, Err, sym, subst, ◌∙◌, arith}
+use Rattle.std.proofs.Common.{◌≡◌, ◌+◌, ◌≤◌, ℕ, Bool, List, ◌++◌, length, take, codes, append-nil, Option, Some, Result, Ok, Err, sym, subst, ◌∙◌, arith}
 use Rattle.std.specs.Prelude.{IfOk, IsErrAnd}
 use Rattle.std.proofs.Math.Bool.{and-true}
 use Rattle.std.proofs.lemmas.List.{length-append, take-append-le}
@@ -10,7 +10,7 @@ use Rattle.recording.specs.Items.{PlacedItem}
 use Rattle.settings.specs.declared.gateway_conf.GatewayConf.{GatewayConf}
 use Rattle.gateway.specs.Records.{is_pass}
 use Rattle.gateway.specs.RecordTexts.{passed_text, record_line, record_text}
-use Rattle.gateway.specs.Served.{AppendsPart}
+use Rattle.gateway.specs.Served.{AppendsPart, failed_writes}
 use Rattle.gateway.specs.declared.fault.StreamFault.{StreamFault}
 use Rattle.gateway.specs.declared.fault.StreamFault.TheVariants as fault
 use Rattle.gateway.specs.declared.gateway_record.GatewayRecord.{GatewayRecord}
@@ -51,6 +51,10 @@ failed_end answer index label message line written a b c d is line_is same whole
 pub as_fault : (P : Result Bool StreamFault → Type 0) (own : StreamFault) (result : Result Bool StreamFault) → IsErrAnd result (λ e. e ≡ own) → P (Err own) → P result
 as_fault P own (Ok passes) is p = absurd is
 as_fault P own (Err fault) is p = subst (λ (f : StreamFault). P (Err f)) (sym is) p
+
+-- a write was idle once at most, where it failed
+pub failed_once : (before now : ℕ) (result : Result Bool StreamFault) → IsErrAnd result (λ e. e ≡ fault.NotWritten) → now ≤ before + 1 → now ≤ before + failed_writes result
+failed_once before now result is once = as_fault (λ (r : Result Bool StreamFault). now ≤ before + failed_writes r) fault.NotWritten result is once
 
 -- the record of a message that is met was written
 pub met_written : (settings : GatewayConf) (old new : HeldStream) (item : PlacedItem) (answer : GatewayRecord) (before now : Option (List ℕ)) (result : Result Bool StreamFault)

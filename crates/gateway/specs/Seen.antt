@@ -1,20 +1,16 @@
 -- The nonces that a gateway remembers (RFC 9421 section 7.2.2).
-use Rattle.std.specs.Prelude.{◌≡◌, ◌+◌, ◌*◌, ◌+ℤ◌, ℕ, pos, IsTrue, IsSomeAnd, Some, List, [], ◌∷◌}
+use Rattle.std.specs.Prelude.{◌≡◌, ◌+ℤ◌, ℕ, pos, IsTrue, IsSomeAnd, Some, List, [], ◌∷◌}
 use Rattle.component_ids.specs.declared.params.SigParams.{SigParams}
 use Rattle.nonces.specs.Books.{Book, Entry, HaveSameEntries, book_of, live_entries}
 use Rattle.settings.specs.Configuration.{Configuration}
 use Rattle.settings.specs.declared.policy.Policy.{Policy}
+use Rattle.verdicts.specs.Choice.{policy_of, window_of}
 use Rattle.verdicts.specs.Parameters.{created_of, nonce_of}
 use Rattle.verdicts.specs.Policies.{asks_new}
-use Rattle.verdicts.specs.Verification.{policy_of}
-
--- how many seconds after its moment the last of the entries may die
-abbrev pub window_of : Policy → ℕ
-window_of policy = policy.max_age + 2 * policy.skew
 
 -- nothing was seen, at this moment
 abbrev pub nothing_seen : Configuration → ℕ → Book
-nothing_seen conf now = book_of [] conf.policy.nonces (window_of conf.policy) now
+nothing_seen conf now = book_of [] conf.nonces (window_of conf) now
 
 -- the book has these entries, in any order, at this moment; how many it can hold, and how long, is
 -- as it was
@@ -29,14 +25,16 @@ abbrev pub IsAdvanced : ℕ → Book → Book → Type 0
 IsAdvanced now before after = HasBecome (live_entries now before.entries) now before after
 
 -- The entry is the nonce of a signature under this keyid. It lives until the signature is too old
--- to be accepted. Only a policy that checks or requires nonces has them remembered.
+-- to be accepted by its policy. Only a policy that checks or requires nonces has them remembered.
 pub record IsEntryOf (conf : Configuration) (params : SigParams) (keyid : List ℕ) (entry : Entry)
     : Type 0 where
-  pub asks : IsTrue (asks_new (policy_of conf params).nonce)
+  pub policy : Policy
+  pub chosen : policy_of conf params ≡ Some policy
+  pub asks : IsTrue (asks_new policy.nonce)
   pub nonce : nonce_of params ≡ Some entry.nonce
   pub keyid_is : entry.keyid ≡ keyid
   pub until : IsSomeAnd (created_of params) (λ created.
-      pos entry.until ≡ created +ℤ pos (policy_of conf params).max_age)
+      pos entry.until ≡ created +ℤ pos policy.max_age)
 
 -- what is remembered after a signature was accepted: its entry too, where it has one
 pub record Remembers (conf : Configuration) (params : SigParams) (keyid : List ℕ)

@@ -60,3 +60,8 @@ CountsSource before now result = now ≡ before
 abbrev pub CountsSink : {T : Type 0} → ℕ → ℕ → Result T StreamFault → Type 0
 CountsSink before now (Err NotWritten) = Rose before now
 CountsSink before now result = now ≡ before
+
+-- how many writes failed before this answer: one, where it says so
+abbrev pub failed_writes : Result Bool StreamFault → ℕ
+failed_writes (Err NotWritten) = 1
+failed_writes result = 0

@@ -1,11 +1,9 @@
 //! Which label of a message is accepted.
 
-ghost use Rattle.std.specs.Prelude.{◌≡◌, ◌≢◌, ◌≤◌, ℕ, List, [], IfOk, MatchOption, option_copied};
-ghost use Rattle.component_ids.specs.declared.params.SigParams.{SigParams as Signed};
-ghost use Rattle.signatures.specs.Signatures.{HasSignature};
+ghost use Rattle.std.specs.Prelude.{◌≡◌, ◌≢◌, ◌≤◌, [], IfOk, MatchOption, option_copied};
 ghost use Rattle.verdicts.specs.Verification.{IsAt, verification_by};
 ghost use Rattle.gateway.specs.Accepted.{AreRefused};
-ghost use Rattle.gateway.specs.tools.Judged.{IsAcceptedLabel, IsFirstLabel, IsJudged};
+ghost use Rattle.gateway.specs.tools.Judged.{IsFirstLabel, IsJudged, IsJudgedLabel, SaysUnread};
 
 use component_ids::SigParams;
 use nonces::Steps;
@@ -13,7 +11,7 @@ use sfv_text::{Memory, Text};
 use signatures::{Exchange, LabelFault};
 use std::alloc::Global;
 use std::sync::ledger::Ledger;
-use verdicts::{Verdict, Verifier};
+use verdicts::{SignedLabel, Verdict, Verifier};
 
 /// A label that is accepted, with its signature parameters.
 #[derive(Drop)]
@@ -33,27 +31,46 @@ pub(crate) enum Judged {
     Refused { label: Text, verdict: Verdict },
 }
 
-fn accepted_label(
+/// The verdict on a label that isn't read.
+fn verdict_of(fault: LabelFault) -> Result<Verdict, Memory>
+    ensures { IfOk result (SaysUnread fault) }
+{
+    match fault {
+        LabelFault::Memory => Err(Memory),
+        LabelFault::Rule(number, place) => Ok(Verdict::Rule { number, place }),
+    }
+}
+
+/// What comes of a label, whose signature is read once: it is accepted, or this is its verdict.
+fn judge_label<L: Ledger>(
     alloc: Global,
     exchange: &mut Exchange<'_, '_>,
-    label: &Text,
-    keyid: Text,
-) -> Result<AcceptedLabel, Memory>
-    requires { (params : Signed) × (tag : List ℕ)
-        × HasSignature exchange.old.context.message label.now params tag }
-    ensures is { IfOk result
-        (IsAcceptedLabel exchange.old.context.message label.now keyid) }
-    ensures same { exchange.new ≡ exchange.old }
+    verifier: &Verifier<'_>,
+    label: &[u8],
+    steps: &mut Steps<L>,
+) -> Result<Result<AcceptedLabel, Verdict>, Memory>
+    requires { IsAt verifier.now.moment (option_copied verifier.now.seen) }
+    ensures judged { IfOk result (IsJudgedLabel exchange.old.context.message
+        (verification_by verifier.entry.now exchange.old.context label.now)) }
+    ensures exchange { exchange.new.context ≡ exchange.old.context }
+    ensures steps { steps.old ≤ steps.new }
 {
-    match exchange.label(alloc, label.bytes()) {
-        Ok(read) => Ok(AcceptedLabel {
-            label: label.copy(alloc)?,
+    let read = match exchange.label(alloc, label) {
+        Ok(read) => read,
+        Err(fault) => return Ok(Err(verdict_of(fault)?)),
+    };
+    let signed = SignedLabel {
+        label,
+        read: &read,
+        is_right: None,
+    };
+    match verifier.verdict_on(alloc, exchange, &signed, steps)? {
+        Verdict::Ok { keyid } => Ok(Ok(AcceptedLabel {
+            label: Text::from_bytes(alloc, label)?,
             keyid,
             params: read.params,
-        }),
-        Err(LabelFault::Memory) => Err(Memory),
-        // what is accepted was read
-        Err(LabelFault::Rule(_, _)) => unreachable!(),
+        })),
+        Verdict::Rule { number, place } => Ok(Err(Verdict::Rule { number, place })),
     }
 }
 
@@ -74,12 +91,9 @@ fn first_accepted<L: Ledger>(
     ensures steps { steps.old ≤ steps.new }
 {
     for label in labels {
-        match verifier.verdict(alloc, exchange, label.bytes(), steps)? {
-            Verdict::Ok { keyid } => {
-                let accepted = accepted_label(alloc, exchange, label, keyid)?;
-                return Ok(Some(accepted));
-            }
-            Verdict::Rule { .. } => (),
+        match judge_label(alloc, exchange, verifier, label.bytes(), steps)? {
+            Ok(accepted) => return Ok(Some(accepted)),
+            Err(_) => (),
         }
     }
     Ok(None)
@@ -104,19 +118,14 @@ pub(crate) fn judge<L: Ledger>(
     let Some((first, others)) = labels.split_first() else {
         unreachable!()
     };
-    match verifier.verdict(alloc, exchange, first.bytes(), steps)? {
-        Verdict::Ok { keyid } => {
-            let accepted = accepted_label(alloc, exchange, first, keyid)?;
-            Ok(Judged::Accepted(accepted))
-        }
-        Verdict::Rule { number, place } => {
-            match first_accepted(alloc, exchange, verifier, others, steps)? {
-                Some(accepted) => Ok(Judged::Accepted(accepted)),
-                None => Ok(Judged::Refused {
-                    label: first.copy(alloc)?,
-                    verdict: Verdict::Rule { number, place },
-                }),
-            }
-        }
+    match judge_label(alloc, exchange, verifier, first.bytes(), steps)? {
+        Ok(accepted) => Ok(Judged::Accepted(accepted)),
+        Err(verdict) => match first_accepted(alloc, exchange, verifier, others, steps)? {
+            Some(accepted) => Ok(Judged::Accepted(accepted)),
+            None => Ok(Judged::Refused {
+                label: first.copy(alloc)?,
+                verdict,
+            }),
+        },
     }
 }

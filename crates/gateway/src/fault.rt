@@ -1,5 +1,9 @@
 //! Why a stream isn't served to its end.
 
+ghost use Rattle.std.specs.Prelude.{◌≡◌};
+ghost use Rattle.gateway.specs.Streams.{stream_fault_of};
+ghost use Rattle.gateway.specs.declared.fault.StreamFault.TheVariants.{Memory as OutOfMemory, NotWritten};
+
 use hms_io::Failed;
 use recording::{ItemFault, RecordingFault};
 use sfv_text::Memory;
@@ -23,9 +27,6 @@ pub enum StreamFault {
 }
 
 impl From<Memory> for StreamFault {
-    ghost use Rattle.std.specs.Prelude.{◌≡◌};
-    ghost use Rattle.gateway.specs.declared.fault.StreamFault.TheVariants.{Memory as OutOfMemory};
-
     ghost from_gives = { λ _ fault. fault ≡ OutOfMemory };
 
     fn from(_memory: Memory) -> StreamFault {
@@ -35,9 +36,6 @@ impl From<Memory> for StreamFault {
 
 /// The fault of a sink.
 impl From<Failed> for StreamFault {
-    ghost use Rattle.std.specs.Prelude.{◌≡◌};
-    ghost use Rattle.gateway.specs.declared.fault.StreamFault.TheVariants.{NotWritten};
-
     ghost from_gives = { λ _ fault. fault ≡ NotWritten };
 
     fn from(_failed: Failed) -> StreamFault {
@@ -47,9 +45,6 @@ impl From<Failed> for StreamFault {
 
 /// The fault of a source, or of what it gives.
 impl From<ItemFault> for StreamFault {
-    ghost use Rattle.std.specs.Prelude.{◌≡◌};
-    ghost use Rattle.gateway.specs.Streams.{stream_fault_of};
-
     ghost from_gives = { λ own fault. fault ≡ stream_fault_of own };
 
     fn from(fault: ItemFault) -> StreamFault {

@@ -1,9 +1,9 @@
 //! What becomes of an accepted message: the steps that its signature permits are taken, and what
 //! comes out is signed.
 
-ghost use Rattle.std.specs.Prelude.{◌≡◌, ◌≤◌, IfOk, IsTrue, MatchOption, Some, drop, length};
+ghost use Rattle.std.specs.Prelude.{◌≡◌, ◌≤◌, IfOk, IsTrue, MatchOption, Some, drop, length, option_copied};
 ghost use Rattle.std.specs.List.{list_all};
-ghost use Rattle.component_values.specs.Context.{HasWholeMessage, context_of};
+ghost use Rattle.component_values.specs.Context.{HasWholeMessage, context_of, context_with};
 ghost use Rattle.msg_body.specs.Views.{message_of};
 ghost use Rattle.rewrite_script.specs.Lines.{is_writable};
 ghost use Rattle.gateway.specs.tools.Walked.{HasSignatureOf, IsOfNone, SaysFirstMade, SaysMade, SpellsGiven};
@@ -116,13 +116,9 @@ pub(crate) struct Forwarding<'a> {
 }
 
 impl<'a> Forwarding<'a> {
-    ghost use Rattle.std.specs.Prelude.{IfOk, IsTrue, Some, option_copied};
-    ghost use Rattle.std.specs.List.{list_all};
     ghost use Rattle.msg_body.specs.Messages.{Message};
-    ghost use Rattle.component_values.specs.Context.{HasWholeMessage, context_of, context_with};
-    ghost use Rattle.rewrite_script.specs.Lines.{is_writable};
     ghost use Rattle.rewrite_script.specs.Scripts.{HaveValues};
-    ghost use Rattle.gateway.specs.tools.Walked.{CanSign, GoesOn, HasSignatureOf, SaysAfterSteps, SaysMet, SaysMetText, SpellsGiven};
+    ghost use Rattle.gateway.specs.tools.Walked.{CanSign, GoesOn, SaysAfterSteps, SaysMet, SaysMetText};
 
     /// What comes of the context's message and the steps.
     fn meet(

@@ -30,7 +30,7 @@ use signatures::Exchange;
 use std::alloc::Global;
 use std::marker::Model;
 use std::sync::ledger::Ledger;
-use verdicts::{Verifier, asked_labels};
+use verdicts::{Verifier, asked_labels, window_of};
 
 /// A gateway (RFC 9421 sections 1.1, 3.1, 3.2 and 7.2.2): it verifies messages as they come,
 /// remembers their nonces, takes the configured steps that their signatures permit, and signs.
@@ -139,9 +139,7 @@ impl<'c> Gateway<'c> {
           count = 0;
         }) }
     {
-        let policy = conf.policy();
-        let window = policy.max_age + 2 * policy.skew;
-        let book = NonceBook::open(alloc, policy.nonces, window, now)?;
+        let book = NonceBook::open(alloc, conf.nonces(), window_of(conf), now)?;
         Ok(Gateway {
             conf,
             book,

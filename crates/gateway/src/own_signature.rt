@@ -9,6 +9,7 @@ ghost use Rattle.signing.specs.declared.fault.SignFault.{SignFault};
 ghost use Rattle.component_ids.specs.declared.params.SigParams.{SigParams};
 ghost use Rattle.gateway.specs.Forwarded.{IsHeldFor};
 ghost use Rattle.gateway.specs.tools.Judged.{SaysForwarded};
+ghost use Rattle.gateway.specs.tools.Walked.{HasSignatureOf};
 
 use crate::accepted::AcceptedLabel;
 use crate::gateway_record::HeldFault;
@@ -16,7 +17,7 @@ use component_values::Context;
 use framing::is_request;
 use settings::Conf;
 use sfv_text::{Memory, Text};
-use signing::{SignFault, SignSpec, first_self_cover, sign, spec_of};
+use signing::{SignFault, SignSpec, first_self_cover, sign_beside, spec_of};
 use std::alloc::Global;
 
 /// What comes of an accepted message.
@@ -57,12 +58,13 @@ pub(crate) fn sign_accepted(
     requires table { IsSome (meaning conf.now).sign }
     requires now { now ≤ MAX_MOMENT }
     requires whole { HasWholeMessage (context_of context.now) }
+    requires signature { HasSignatureOf accepted.now (context_of context.now).message }
     ensures { IfOk result
         (SaysForwarded (meaning conf.now) now (context_of context.now) accepted.now.params) }
 {
     let of_request = is_request(context.message.start());
     let spec = spec_of(alloc, conf, of_request, now, None)?;
-    let text = match sign(alloc, context, &spec) {
+    let text = match sign_beside(alloc, context, &spec) {
         Ok(text) => text,
         Err(fault) => return Ok(Forwarded::Held(held_fault(alloc, &spec, fault)?)),
     };

@@ -1,10 +1,10 @@
 //! The text of a record. Each function adds its part at the end of the line.
 
-ghost use Rattle.std.specs.Prelude.{◌≡◌, ◌≤◌, ◌++◌, IfOk, IsTrue, OnOk};
+ghost use Rattle.std.specs.Prelude.{◌≡◌, ◌≤◌, ◌+◌, ◌++◌, IfOk, IsTrue, OnOk};
 ghost use Rattle.signing.specs.Words.{sign_fault_text};
 ghost use Rattle.gateway.specs.Records.{is_pass};
 ghost use Rattle.gateway.specs.RecordTexts.{bad_text, held_text, is_held_in_range, is_record_in_range, record_line, record_text};
-ghost use Rattle.gateway.specs.Served.{CountsSink};
+ghost use Rattle.gateway.specs.Served.{CountsSink, failed_writes};
 ghost use Rattle.gateway.specs.tools.HeldStreams.{WritesText};
 
 use crate::fault::StreamFault;
@@ -104,6 +104,7 @@ pub(crate) fn write_record<K: Sink>(
     ensures passes { IfOk result (λ passes. passes ≡ is_pass answer.now) }
     ensures faults { CountsSink (K.faults sink.old) (K.faults sink.new) result }
     ensures later { K.faults sink.old ≤ K.faults sink.new }
+    ensures idle { K.idle sink.new ≤ K.idle sink.old + failed_writes result }
 {
     let line = line_of(alloc, answer)?;
     put_all(sink, line.bytes())?;

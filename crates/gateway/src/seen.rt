@@ -1,27 +1,16 @@
 //! The nonces that a gateway remembers.
 
-ghost use Rattle.std.specs.Prelude.{◌≡◌, ◌≤◌, ◌+◌, pos, ◌+ℤ◌, ◌≤ℤ◌};
-ghost use Rattle.nonces.specs.declared.limits.TheConstants.{MAX_MOMENT};
+ghost use Rattle.std.specs.Prelude.{◌≡◌, ◌≤◌};
 ghost use Rattle.settings.specs.ConfMeaning.{meaning};
-ghost use Rattle.settings.specs.declared.limits.TheConstants.{MAX_AGE, MAX_SKEW};
-ghost use Rattle.gateway.specs.Seen.{Remembers, window_of};
+ghost use Rattle.verdicts.specs.Choice.{window_of};
+ghost use Rattle.gateway.specs.Seen.{Remembers};
 ghost use Rattle.gateway.specs.tools.Judged.{IsAcceptedNow};
 
 use crate::accepted::AcceptedLabel;
 use nonces::{NonceBook, Steps};
 use settings::Conf;
 use std::sync::ledger::Ledger;
-use verdicts::asks_new;
-
-/// The last moment at which a signature that was created then is accepted.
-fn last_moment(created: i64, max_age: u64) -> u64
-    requires age { max_age ≤ MAX_AGE }
-    requires begun { created ≤ℤ pos (MAX_MOMENT + MAX_SKEW) }
-    requires recent { pos 0 ≤ℤ (created +ℤ pos max_age) }
-    ensures { pos result ≡ created +ℤ pos max_age }
-{
-    (created + max_age as i64) as u64
-}
+use verdicts::{asks_new, last_moment, policy_of};
 
 /// Remembers the nonce of the accepted label, where it has one and the policy asks for new ones.
 pub(crate) fn remember<L: Ledger>(
@@ -30,7 +19,7 @@ pub(crate) fn remember<L: Ledger>(
     accepted: &AcceptedLabel,
     steps: &mut Steps<L>,
 )
-    requires window { book.old.window ≡ window_of (meaning conf.now).policy }
+    requires window { book.old.window ≡ window_of (meaning conf.now) }
     requires accepted { IsAcceptedNow (meaning conf.now) book.old accepted.now }
     ensures remembers { Remembers (meaning conf.now) accepted.now.params accepted.now.keyid
         book.old book.new }
@@ -40,7 +29,10 @@ pub(crate) fn remember<L: Ledger>(
     ensures steps { steps.old ≤ steps.new }
 {
     book.keeps_limits();
-    let policy = conf.policy();
+    let Some(policy) = policy_of(conf, &accepted.params) else {
+        // what is accepted is so by a policy
+        unreachable!()
+    };
     if !asks_new(policy.nonce) {
         return;
     }

@@ -1,11 +1,11 @@
 //! A gateway over the recording that a source gives.
 
-ghost use Rattle.std.specs.Prelude.{◌≡◌, ◌≤◌, ◌<◌, Some, IsSome};
+ghost use Rattle.std.specs.Prelude.{◌≡◌, ◌≤◌, ◌<◌, ◌+◌, Some, IsSome};
 ghost use Rattle.recording.specs.Items.{placed};
 ghost use Rattle.recording.specs.Readers.{nothing_read};
 ghost use Rattle.settings.specs.ConfMeaning.{meaning};
 ghost use Rattle.settings.specs.declared.gateway_conf.GatewayConf.{GatewayConf};
-ghost use Rattle.gateway.specs.Served.{CountsSink, CountsSource, Serves};
+ghost use Rattle.gateway.specs.Served.{CountsSink, CountsSource, Serves, failed_writes};
 ghost use Rattle.gateway.specs.tools.HeldStreams.{CanMeet, MeetsAndWrites, stream_held};
 
 use crate::fault::StreamFault;
@@ -34,6 +34,7 @@ fn serve_item<K: Sink, L: Ledger>(
     ensures faults { (settings : GatewayConf) → stream.old.conf.gateway ≡ Some settings
         → CountsSink (K.faults sink.old) (K.faults sink.new) result }
     ensures later { K.faults sink.old ≤ K.faults sink.new }
+    ensures idle { K.idle sink.new ≤ K.idle sink.old + failed_writes result }
 {
     match stream.meet(alloc, item, steps)? {
         Some(answer) => write_record(alloc, &answer, sink),
@@ -61,6 +62,8 @@ fn serve_items<S: Source, K: Sink, L: Ledger>(
     ensures source_later { S.faults source.old ≤ S.faults source.new }
     ensures sink_later { K.faults sink.old ≤ K.faults sink.new }
     ensures ended { S.ended source.old ≡ 0 → S.ended source.new ≤ 1 }
+    ensures idle_reads { S.idle source.new ≤ S.idle source.old + 1 }
+    ensures idle_writes { K.idle sink.new ≤ K.idle sink.old + failed_writes result }
 {
     let mut all_pass = true;
     'items: while reader.next(source)? {
@@ -92,6 +95,8 @@ fn serve_counted<S: Source, K: Sink, L: Ledger>(
     ensures source_later { S.faults source.old ≤ S.faults source.new }
     ensures sink_later { K.faults sink.old ≤ K.faults sink.new }
     ensures ended { S.ended source.old ≡ 0 → S.ended source.new ≤ 1 }
+    ensures idle_reads { S.idle source.new ≤ S.idle source.old + 1 }
+    ensures idle_writes { K.idle sink.new ≤ K.idle sink.old + failed_writes result }
 {
     let mut steps: Steps<L> = Steps::new(blank);
     let mut stream = Stream::open(alloc, conf)?;
@@ -118,6 +123,10 @@ pub fn serve<S: Source, K: Sink>(
     ensures source_later { S.faults source.old ≤ S.faults source.new }
     ensures sink_later { K.faults sink.old ≤ K.faults sink.new }
     ensures ended { S.ended source.old ≡ 0 → S.ended source.new ≤ 1 }
+
+    // Each read gives a byte but the last one, and each write takes one but one that failed.
+    ensures idle_reads { S.idle source.new ≤ S.idle source.old + 1 }
+    ensures idle_writes { K.idle sink.new ≤ K.idle sink.old + failed_writes result }
 {
     serve_counted::<S, K, Brand>(alloc, conf, source, sink, Blank::new(1))
 }

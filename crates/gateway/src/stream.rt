@@ -120,10 +120,7 @@ impl<'c> Stream<'c> {
                 let related = None;
                 self.step(alloc, Arrival::Response { text, related }, steps)
             }
-            Some(request) => {
-                let arrival = response_to(text, request.text.bytes());
-                self.step(alloc, arrival, steps)
-            }
+            Some(request) => self.step(alloc, response_to(text, request.text.bytes()), steps),
         }
     }
 

@@ -1,5 +1,6 @@
 -- Known bytes over more than one call, and the first entry of a name.
-use Rattle.std.proofs.Common.{◌≡◌, ℕ, ◌+◌, ◌-◌, ◌≤◌, List, ◌∷◌, ◌++◌, Bool, cond, length, take, drop, Option, Some, None, Result, Ok, Err, OnErr, sym, ap, subst, ◌∙◌, arith, length-append}
+use Rattle.std.proofs.Common.{◌≡◌, ℕ, ◌+◌, ◌-◌, ◌≤◌, ◌==◌, if◌then◌else◌, List, ◌∷◌, ◌++◌, Bool, cond, length, take, drop, Option, Some, None, Result, Ok, Err, OnErr, sym, ap, subst, ◌∙◌, arith, length-append}
+use Rattle.std.proofs.lemmas.Bool.{ne_eqb}
 use Rattle.std.proofs.lemmas.List.{take-append-drop, take_rest, length-take-le, drop-drop, length-drop}
 use Rattle.std.proofs.lemmas.Map.Text.{is_eq-slice_cmp}
 use Rattle.std.proofs.Math.Seq.{take-add, take-append-add, take-take, drop-append_seam, take-append_seam}
@@ -9,6 +10,7 @@ use Rattle.std.specs.Cmp.Lexicographic.{slice_cmp}
 use Rattle.std.specs.FinMap.{find}
 use Rattle.std.specs.Ordering.{nat_cmp}
 use Rattle.std.specs.Str.{bytes_eq}
+use Rattle.hms_io.specs.Cause.{one_more}
 use Rattle.hms_io.specs.Reading.{LosesPrefix}
 
 -- two writes took the prefix of a text as one
@@ -56,6 +58,10 @@ loses_kept (Err e) (Some all) None c text most within p q = absurd p
 loses_kept (Err e) (Some all) (Some rest) None text most within p q = absurd q
 loses_kept (Err e) (Some all) (Some rest) (Some now) text most within p q =
     (length text, within, subst (λ n. LosesPrefix (Some all) (Some n) (length text)) (sym q) (loses_prefix (Some all) (Some rest) text p))
+
+-- a call that moves a byte isn't idle
+pub idle_kept : (before now n : ℕ) → ¬ (n ≡ 0) → now ≡ (if n == 0 then one_more before else before) → now ≡ before
+idle_kept before now n some is = rw (ne_eqb n 0 some) at is
 
 -- the first entry of a log is the file, where its name is the one
 pub found_first : (name : List ℕ) (first : List ℕ × List ℕ) (rest log : List (List ℕ × List ℕ)) (same : Bool) → log ≡ first ∷ rest

@@ -10,6 +10,8 @@ pub record MemorySource : Type 0 where
   pub given : ℕ
   -- how many calls were made from the one on that reported the end, at most 2^64 - 1
   pub ended : ℕ
+  -- how many reads gave no byte, at most 2^64 - 1
+  pub idle : ℕ
   -- the most bytes that one call gives
   pub piece : ℕ
   pub calls : CallLog
@@ -21,6 +23,8 @@ pub record MemorySink : Type 0 where
   pub room : ℕ
   -- the most bytes that one call takes
   pub piece : ℕ
+  -- how many writes took no byte, at most 2^64 - 1
+  pub idle : ℕ
   pub calls : CallLog
 
 -- the sink holds as many bytes as it has room for

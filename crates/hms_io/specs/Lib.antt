@@ -1,6 +1,7 @@
 pub mod Calls
 pub mod Cause
 pub mod Files
+pub mod Idle
 pub mod InMemory
 pub mod OverStd
 pub mod Reading

@@ -10,6 +10,8 @@ pub record ReaderSource : Type 0 where
   pub given : ℕ
   -- how many calls were made from the one on that reported the end, at most 2^64 - 1
   pub ended : ℕ
+  -- how many reads gave no byte, at most 2^64 - 1
+  pub idle : ℕ
   pub faults : ℕ
 
 -- a sink over a writer of std: the bytes that it took, and its faults
@@ -18,6 +20,8 @@ pub record WriterSink : Type 0 where
   pub taken : Option (List ℕ)
   -- how many bytes it took after those, in a write whose flush failed
   pub unflushed : ℕ
+  -- how many writes took no byte, at most 2^64 - 1
+  pub idle : ℕ
   pub faults : ℕ
 
 -- a shelf over the files of a folder, of which nothing is known but what was asked and read

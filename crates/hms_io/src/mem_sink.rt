@@ -5,6 +5,7 @@ ghost use Rattle.std.specs.Io.{WritesAtMost};
 ghost use Rattle.std.specs.Io.KnownBytes.{WriteAppends};
 ghost use Rattle.hms_io.specs.Calls.{fails_next};
 ghost use Rattle.hms_io.specs.Cause.{HasCause, one_more};
+ghost use Rattle.hms_io.specs.Idle.{idle_after};
 ghost use Rattle.hms_io.specs.InMemory.{is_full};
 
 use crate::calls::Calls;
@@ -21,6 +22,7 @@ pub struct MemSink {
     bytes: Vec<u8>,
     room: usize,
     piece: usize,
+    idle: u64,
     calls: Calls,
 }
 
@@ -34,6 +36,7 @@ impl Model for MemSink {
       taken = s.bytes.items;
       room = s.room;
       piece = s.piece;
+      idle = s.idle;
       calls = s.calls;
     } };
 
@@ -50,6 +53,7 @@ impl MemSink {
           taken = [];
           room = room;
           piece = piece;
+          idle = 0;
           calls = record { fails = fails.now; made = 0; faults = 0 };
         }) }
     {
@@ -59,6 +63,7 @@ impl MemSink {
             bytes,
             room,
             piece,
+            idle: 0,
             calls,
         })
     }
@@ -78,11 +83,14 @@ impl Sink for MemSink {
 
     ghost faults = { λ s. s.calls.faults };
 
+    ghost idle = { λ s. s.idle };
+
     fn write(&mut self, piece: &[u8]) -> Result<usize, Failed>
         ensures bound { WritesAtMost result piece.now }
         ensures bytes { WriteAppends (Some self.old.taken) (Some self.new.taken) result piece.now }
         ensures some { IfOk result (λ n. n ≡ 0 → length piece.now ≡ 0) }
         ensures cause { HasCause self.old.calls.faults self.new.calls.faults result }
+        ensures idle { self.new.idle ≡ idle_after self.old.idle result }
 
         // It fails at the given calls and where it is full, and else takes as much as it may.
         ensures fails { is_err result ≡
@@ -95,6 +103,8 @@ impl Sink for MemSink {
         ensures same_room { self.new.room ≡ self.old.room }
         ensures same_piece { self.new.piece ≡ self.old.piece }
     {
+        let idle = self.idle;
+        self.idle = idle.saturating_add(1);
         self.calls.next()?;
         let room = self.room - self.bytes.len();
         if room == 0 && !piece.is_empty() {
@@ -102,6 +112,9 @@ impl Sink for MemSink {
         }
         let amount = room.min(self.piece).min(piece.len());
         let _ = self.bytes.extend_from_slice(&piece[..amount]);
+        if amount != 0 {
+            self.idle = idle;
+        }
         Ok(amount)
     }
 }

@@ -5,6 +5,7 @@ ghost use Rattle.std.specs.Io.{ReadsAtMost};
 ghost use Rattle.std.specs.Io.KnownBytes.{ReadConsumes};
 ghost use Rattle.hms_io.specs.Calls.{fails_next};
 ghost use Rattle.hms_io.specs.Cause.{HasCause, one_more};
+ghost use Rattle.hms_io.specs.Idle.{idle_after};
 ghost use Rattle.hms_io.specs.Reading.{calls_from_end, given_after, reports_end};
 
 use crate::calls::Calls;
@@ -23,6 +24,7 @@ pub struct MemSource {
     at: usize,
     piece: usize,
     ended: EndCount,
+    idle: u64,
     calls: Calls,
 }
 
@@ -36,6 +38,7 @@ impl Model for MemSource {
       left = drop s.at s.bytes.items;
       given = s.at;
       ended = s.ended;
+      idle = s.idle;
       piece = s.piece;
       calls = s.calls;
     } };
@@ -57,6 +60,7 @@ impl MemSource {
           left = bytes.now;
           given = 0;
           ended = 0;
+          idle = 0;
           piece = piece;
           calls = record { fails = fails.now; made = 0; faults = 0 };
         }) }
@@ -68,6 +72,7 @@ impl MemSource {
             at: 0,
             piece,
             ended: EndCount::new(),
+            idle: 0,
             calls,
         })
     }
@@ -84,6 +89,8 @@ impl Source for MemSource {
 
     ghost ended = { λ s. s.ended };
 
+    ghost idle = { λ s. s.idle };
+
     fn read(&mut self, into: &mut [u8]) -> Result<usize, Failed>
         ensures bound { ReadsAtMost result into.new }
         ensures bytes { ReadConsumes (Some self.old.left) (Some self.new.left) result into.new }
@@ -91,6 +98,7 @@ impl Source for MemSource {
         ensures cause { HasCause self.old.calls.faults self.new.calls.faults result }
         ensures ended { self.new.ended ≡
             calls_from_end self.old.ended (reports_end result into.new) }
+        ensures idle { self.new.idle ≡ idle_after self.old.idle result }
 
         // It fails at the given calls alone, and else gives as much as it may.
         ensures fails { is_err result ≡ fails_next self.old.calls }
@@ -103,6 +111,8 @@ impl Source for MemSource {
         ensures same_fails { self.new.calls.fails ≡ self.old.calls.fails }
         ensures same_piece { self.new.piece ≡ self.old.piece }
     {
+        let idle = self.idle;
+        self.idle = idle.saturating_add(1);
         if let Err(failed) = self.calls.next() {
             self.ended.count_call(false);
             return Err(failed);
@@ -112,6 +122,7 @@ impl Source for MemSource {
         let end = self.at + amount;
         into[..amount].copy_from_slice(&self.bytes[self.at..end]);
         self.at = end;
+        self.idle = if amount == 0 { self.idle } else { idle };
         self.ended.count_call(amount == 0 && !into.is_empty());
         Ok(amount)
     }

@@ -83,6 +83,9 @@ pub fn fill<S: Source>(alloc: Global, source: &mut S, limit: usize) -> Result<Te
     ensures prefix { OnErr result
         ((n : ℕ) × (n ≤ limit + 1) × LosesPrefix (S.left source.old) (S.left source.new) n) }
     ensures few { S.given source.new ≤ S.given source.old + (limit + 1) }
+
+    // Each read gives a byte or ends it.
+    ensures idle { S.idle source.new ≤ S.idle source.old + 1 }
     ensures needed { IsErrOf result FillError.Memory →
         IfSome (S.left source.old) (λ all. 1 ≤ length all) }
     ensures later { S.faults source.old ≤ S.faults source.new }
@@ -115,6 +118,10 @@ pub fn put_all<K: Sink>(sink: &mut K, text: &[u8]) -> Result<(), Failed>
     ensures prefix { OnErr result ((n : ℕ) × (n < length text.now)
         × Appends (K.taken sink.old) (K.taken sink.new) (take n text.now)) }
     ensures cause { HasCause (K.faults sink.old) (K.faults sink.new) result }
+
+    // Each write takes a byte or ends it, by its fault.
+    ensures idle { MatchResult result (λ _. K.idle sink.new ≡ K.idle sink.old)
+        (λ _. K.idle sink.new ≤ K.idle sink.old + 1) }
 {
     let mut at = 0;
     'writes: while at < text.len() {

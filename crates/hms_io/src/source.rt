@@ -4,6 +4,7 @@ ghost use Rattle.std.specs.Prelude.{◌≡◌, ℕ, List, Option};
 ghost use Rattle.std.specs.Io.{ReadsAtMost};
 ghost use Rattle.std.specs.Io.KnownBytes.{ReadConsumes};
 ghost use Rattle.hms_io.specs.Cause.{HasCause};
+ghost use Rattle.hms_io.specs.Idle.{idle_after};
 ghost use Rattle.hms_io.specs.Reading.{calls_from_end, given_after, reports_end};
 
 use crate::faults::Failed;
@@ -26,6 +27,9 @@ pub trait Source {
     // How many calls were made from the one on that reported the end, up to 2^64 - 1.
     ghost ended: { Self → ℕ };
 
+    // How many reads gave no byte, up to 2^64 - 1.
+    ghost idle: { Self → ℕ };
+
     /// Gives bytes at the start of the piece, and answers how many. 0 for a piece that isn't empty
     /// means the end. A failed call gives none, but may have changed the piece.
     fn read(&mut self, into: &mut [u8]) -> Result<usize, Failed>
@@ -34,5 +38,6 @@ pub trait Source {
         ensures given { given self.new ≡ given_after (given self.old) result }
         ensures cause { HasCause (faults self.old) (faults self.new) result }
         ensures ended { ended self.new ≡
-            calls_from_end (ended self.old) (reports_end result into.new) };
+            calls_from_end (ended self.old) (reports_end result into.new) }
+        ensures idle { idle self.new ≡ idle_after (idle self.old) result };
 }

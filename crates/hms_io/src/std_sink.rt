@@ -4,6 +4,7 @@ ghost use Rattle.std.specs.Prelude.{◌≡◌, ◌<◌, length, IfOk, OnOk, OnEr
 ghost use Rattle.std.specs.Io.{WritesAtMost};
 ghost use Rattle.std.specs.Io.KnownBytes.{WriteAppends};
 ghost use Rattle.hms_io.specs.Cause.{HasCause, one_more};
+ghost use Rattle.hms_io.specs.Idle.{idle_after};
 
 use crate::faults::{Failed, Faults};
 use crate::sink::Sink;
@@ -21,6 +22,7 @@ pub struct StdSink<W: Write> {
     writer: W,
     // How many bytes the writer took in a write whose flush failed.
     unflushed: usize,
+    idle: u64,
     faults: Faults,
 }
 
@@ -33,6 +35,7 @@ impl<W: Write> Model for StdSink<W> {
     ghost view = { λ s. record {
       taken = without_last s.unflushed (W.contents s.writer);
       unflushed = s.unflushed;
+      idle = s.idle;
       faults = s.faults;
     } };
 }
@@ -40,11 +43,17 @@ impl<W: Write> Model for StdSink<W> {
 impl<W: Write> StdSink<W> {
     /// A sink to the writer.
     pub fn new(writer: W) -> StdSink<W>
-        ensures { result ≡ record { taken = W.contents writer; unflushed = 0; faults = 0 } }
+        ensures { result ≡ record {
+          taken = W.contents writer;
+          unflushed = 0;
+          idle = 0;
+          faults = 0;
+        } }
     {
         StdSink {
             writer,
             unflushed: 0,
+            idle: 0,
             faults: Faults::new(),
         }
     }
@@ -55,11 +64,14 @@ impl<W: Write> Sink for StdSink<W> {
 
     ghost faults = { λ s. s.faults };
 
+    ghost idle = { λ s. s.idle };
+
     fn write(&mut self, piece: &[u8]) -> Result<usize, Failed>
         ensures bound { WritesAtMost result piece.now }
         ensures bytes { WriteAppends self.old.taken self.new.taken result piece.now }
         ensures some { IfOk result (λ n. n ≡ 0 → length piece.now ≡ 0) }
         ensures cause { HasCause self.old.faults self.new.faults result }
+        ensures idle { self.new.idle ≡ idle_after self.old.idle result }
         ensures counts_one { OnErr result (self.new.faults ≡ one_more self.old.faults) }
 
         // What was taken is flushed, and after bytes whose flush failed each call fails.
@@ -67,6 +79,8 @@ impl<W: Write> Sink for StdSink<W> {
         ensures broken { 0 < self.old.unflushed → IsErr result }
         ensures still_broken { 0 < self.old.unflushed → self.new.unflushed ≡ self.old.unflushed }
     {
+        let idle = self.idle;
+        self.idle = idle.saturating_add(1);
         if self.unflushed > 0 {
             return Err(self.faults.count_fault());
         }
@@ -77,6 +91,9 @@ impl<W: Write> Sink for StdSink<W> {
         self.unflushed = count;
         self.faults.check(self.writer.flush())?;
         self.unflushed = 0;
+        if count != 0 {
+            self.idle = idle;
+        }
         Ok(count)
     }
 }

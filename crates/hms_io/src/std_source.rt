@@ -4,6 +4,7 @@ ghost use Rattle.std.specs.Prelude.{◌≡◌, OnErr};
 ghost use Rattle.std.specs.Io.{ReadsAtMost};
 ghost use Rattle.std.specs.Io.KnownBytes.{ReadConsumes};
 ghost use Rattle.hms_io.specs.Cause.{HasCause, one_more};
+ghost use Rattle.hms_io.specs.Idle.{idle_after};
 ghost use Rattle.hms_io.specs.Reading.{calls_from_end, given_after, reports_end};
 
 use crate::end::EndCount;
@@ -19,6 +20,7 @@ pub struct StdSource<R: Read> {
     reader: R,
     given: u64,
     ended: EndCount,
+    idle: u64,
     faults: Faults,
 }
 
@@ -31,6 +33,7 @@ impl<R: Read> Model for StdSource<R> {
       left = R.remaining s.reader;
       given = s.given;
       ended = s.ended;
+      idle = s.idle;
       faults = s.faults;
     } };
 }
@@ -42,6 +45,7 @@ impl<R: Read> StdSource<R> {
           left = R.remaining reader;
           given = 0;
           ended = 0;
+          idle = 0;
           faults = 0;
         } }
     {
@@ -49,6 +53,7 @@ impl<R: Read> StdSource<R> {
             reader,
             given: 0,
             ended: EndCount::new(),
+            idle: 0,
             faults: Faults::new(),
         }
     }
@@ -80,6 +85,8 @@ impl<R: Read> Source for StdSource<R> {
 
     ghost ended = { λ s. s.ended };
 
+    ghost idle = { λ s. s.idle };
+
     fn read(&mut self, into: &mut [u8]) -> Result<usize, Failed>
         ensures bound { ReadsAtMost result into.new }
         ensures bytes { ReadConsumes self.old.left self.new.left result into.new }
@@ -87,12 +94,18 @@ impl<R: Read> Source for StdSource<R> {
         ensures cause { HasCause self.old.faults self.new.faults result }
         ensures ended { self.new.ended ≡
             calls_from_end self.old.ended (reports_end result into.new) }
+        ensures idle { self.new.idle ≡ idle_after self.old.idle result }
         ensures counts_one { OnErr result (self.new.faults ≡ one_more self.old.faults) }
     {
+        let idle = self.idle;
+        self.idle = idle.saturating_add(1);
         let answer = self.faults.check(self.reader.read(into));
         self.ended.count_call(is_end(&answer, into));
         if let Ok(count) = &answer {
             self.given = self.given.saturating_add(*count as u64);
+            if *count != 0 {
+                self.idle = idle;
+            }
         }
         answer
     }

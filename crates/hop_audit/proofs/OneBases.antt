@@ -27,7 +27,8 @@ use Rattle.verdicts.specs.Rules.{key_in}
 use Rattle.verdicts.specs.Verdicts.{Accepts}
 use Rattle.verdicts.proofs.OneTags.{all_lines, have_base, one_tag_agrees}
 use Rattle.verdicts.specs.declared.outcome.Verdict.TheVariants.{Ok as Accepted}
-use Rattle.recording.specs.Items.{Body, PlacedItem, body_text, kind_word, moment, number_line, script, stored}
+use Rattle.byte_grammar.specs.Numbers.{number_line}
+use Rattle.recording.specs.Items.{Body, PlacedItem, body_text, kind_word, moment, script, stored}
 use Rattle.recording.specs.Recordings.{SpellsRecording, bodies, items_text}
 use Rattle.recording.specs.Chains.{RecordedHop, Subject, hop_items, message_item, moment_items, related_items, requests, responses, role_of}
 use Rattle.hop_audit.specs.ChainValues.{AnswersRequest, Chain, Hop, IsHop, one_request, reading_of}

@@ -7,7 +7,8 @@ use Rattle.std.proofs.lemmas.List.Elements.{All-same, All-take, All-drop, All-he
 use Rattle.std.proofs.lemmas.Option.{slice_get-map, slice_get_within}
 use Rattle.msg_body.specs.declared.limits.TheConstants.{MAX_MESSAGE_BYTES}
 use Rattle.nonces.specs.declared.limits.TheConstants.{MAX_MOMENT}
-use Rattle.recording.specs.Items.{Body, IsNumber, IsShort, PlacedItem, message, moment, number_of, script, stored}
+use Rattle.byte_grammar.specs.Numbers.{IsNumber}
+use Rattle.recording.specs.Items.{Body, IsShort, PlacedItem, message, moment, number_of, script, stored}
 use Rattle.recording.specs.Recordings.{AreItems, bodies}
 use Rattle.recording.specs.declared.chain.RecordedChain.{RecordedChain as HeldChain}
 use Rattle.recording.specs.declared.chain.RecordedHop.{RecordedHop as HeldHop}

@@ -1,16 +1,16 @@
 -- What is held at indices, and what that is as a list of entries.
-use Rattle.std.proofs.Common.{◌≡◌, ◌<◌, ◌≤◌, ℕ, zero, suc, ◌+◌, Bool, true, false, cond, not, ◌||◌, nat_eq, nat_le, ◌⊎◌, inl, inr, ◌↔◌, Option, Some, None, List, [], ◌∷◌, ◌++◌, length, map, set, get_or, refl, sym, ◌∙◌, ap, subst, arith, length-append}
-use Rattle.std.specs.List.{All, count_by, filter, list_any}
+use Rattle.std.proofs.Common.{◌≡◌, ◌<◌, ◌≤◌, ℕ, zero, suc, ◌+◌, Bool, true, false, cond, ◌||◌, nat_eq, ◌⊎◌, inl, inr, ◌↔◌, Option, Some, None, List, [], ◌∷◌, ◌++◌, length, map, set, get_or, refl, sym, ◌∙◌, ap, subst, arith, length-append}
+use Rattle.std.specs.List.{count_by, list_any}
 use Rattle.std.specs.List.Sorted.{IsPermutation}
-use Rattle.std.proofs.lemmas.Bool.{cases_Bool, eqb-true, false≢true, le-leb, lt-leb, eqb-false}
+use Rattle.std.proofs.lemmas.Bool.{cases_Bool, eqb-false, eqb-true, false≢true, le-leb, leb-false, leb-true, lt-leb}
 use Rattle.std.proofs.lemmas.List.{get_or-set_other, get_or-set_same, length-set}
-use Rattle.std.proofs.lemmas.List.Elements.{All-head, All-tail}
 use Rattle.std.proofs.lemmas.List.Sorted.{IsPermutation-middle}
 use Rattle.std.proofs.lemmas.List.Sums.{sum_by-append, sum_by-cons}
 use Rattle.std.proofs.Math.Seq.{map-set_same}
 use Rattle.nonces.specs.Books.{Entry, is_live, live_entries}
 use Rattle.nonces.specs.tools.Links.{AreDistinct, IsIn}
-use Rattle.nonces.specs.tools.Nodes.{Holds, IsSpare, ends_at, entries_in, let_go}
+use Rattle.nonces.specs.tools.Nodes.{Holds, IsSpare, entries_in, let_go}
+use Rattle.nonces.specs.tools.Wheels.{AreWithin, is_dead}
 
 pub same_or_not : (i j : ℕ) → (i ≡ j) ⊎ (i ≡ j → ⊥)
 same_or_not i j = elim (cases_Bool (nat_eq i j)) [
@@ -56,7 +56,7 @@ length_out os i e is =
     let parts = one_out os i e is in
     omega (arith, ap length parts.2, ap length parts.3, length-append parts.0 (e ∷ parts.1), length-append parts.0 parts.1)
 
-counted_out : (test : Entry → Bool) (os : List (Option Entry)) (i : ℕ) (e : Entry) → get_or os i None ≡ Some e → test e ≡ true
+pub counted_out : (test : Entry → Bool) (os : List (Option Entry)) (i : ℕ) (e : Entry) → get_or os i None ≡ Some e → test e ≡ true
     → count_by test (entries_in os) ≡ count_by test (entries_in (set os i None)) + 1
 counted_out test os i e is passes =
     let parts = one_out os i e is in
@@ -124,66 +124,94 @@ all_held (None ∷ os) none = absurd (none 0 (omega arith, refl))
 all_held (Some e ∷ os) none =
     omega (arith, all_held os (λ i spare. none (suc i) (omega (arith, spare.0), spare.1)))
 
--- ---- a second that ends
+-- ---- what passes a test is let go of
 
-pub let_go_filter : (until : ℕ) (os : List (Option Entry)) → entries_in (map (let_go until) os) ≡ filter (λ e. not (ends_at until e)) (entries_in os)
-let_go_filter until [] = refl
-let_go_filter until (None ∷ os) = let_go_filter until os
-let_go_filter until (Some e ∷ os) = elim (cases_Bool (ends_at until e)) [
-  | inl ends ↦ rw ends (let_go_filter until os)
-  | inr stays ↦ rw stays (ap (λ k. e ∷ k) (let_go_filter until os))
+pub let_go_none : (test : Entry → Bool) (os : List (Option Entry)) → ((i : ℕ) → Holds test os i → ⊥) → map (let_go test) os ≡ os
+let_go_none test [] none = refl
+let_go_none test (None ∷ os) none = ap (λ k. None ∷ k) (let_go_none test os (λ i. none (suc i)))
+let_go_none test (Some e ∷ os) none = elim (cases_Bool (test e)) [
+  | inl goes ↦ absurd (none 0 (e, refl, goes))
+  | inr stays ↦ rw stays (ap (λ k. Some e ∷ k) (let_go_none test os (λ i. none (suc i))))
 ]
 
-pub let_go_none : (until : ℕ) (os : List (Option Entry)) → ((i : ℕ) → Holds (ends_at until) os i → ⊥) → map (let_go until) os ≡ os
-let_go_none until [] none = refl
-let_go_none until (None ∷ os) none = ap (λ k. None ∷ k) (let_go_none until os (λ i. none (suc i)))
-let_go_none until (Some e ∷ os) none = elim (cases_Bool (ends_at until e)) [
-  | inl ends ↦ absurd (none 0 (e, refl, ends))
-  | inr stays ↦ rw stays (ap (λ k. Some e ∷ k) (let_go_none until os (λ i. none (suc i))))
+let_go_one : (test : Entry → Bool) (o : Option Entry) (e : Entry) → o ≡ Some e → test e ≡ true → let_go test o ≡ None
+let_go_one test o e is goes = rw (is, goes) refl
+
+pub let_go_out : (test : Entry → Bool) (os : List (Option Entry)) (i : ℕ) → Holds test os i → map (let_go test) (set os i None) ≡ map (let_go test) os
+let_go_out test os i held =
+    map-set_same (let_go test) os i None None (sym (let_go_one test (get_or os i None) held.0 held.1 held.2))
+
+-- what is left: an entry that doesn't pass
+pub let_go_at : (test : Entry → Bool) (os : List (Option Entry)) (i : ℕ) (e : Entry) → get_or (map (let_go test) os) i None ≡ Some e → (get_or os i None ≡ Some e) × (test e ≡ false)
+let_go_at test [] i e is = absurd cc
+let_go_at test (None ∷ os) zero e is = absurd cc
+let_go_at test (Some x ∷ os) zero e is = elim (cases_Bool (test x)) [
+  | inl goes ↦ absurd (let none = rw goes at is in cc)
+  | inr stays ↦ let same = rw stays at is in (same, let one : x ≡ e = cc in subst (λ k. test k ≡ false) one stays)
 ]
-
-let_go_one : (until : ℕ) (o : Option Entry) (e : Entry) → o ≡ Some e → ends_at until e ≡ true → let_go until o ≡ None
-let_go_one until o e is ends = rw (is, ends) refl
-
-pub let_go_out : (until : ℕ) (os : List (Option Entry)) (i : ℕ) → Holds (ends_at until) os i → map (let_go until) (set os i None) ≡ map (let_go until) os
-let_go_out until os i held =
-    map-set_same (let_go until) os i None None (sym (let_go_one until (get_or os i None) held.0 held.1 held.2))
-
--- what is left where a second ends: an entry that doesn't end with it
-pub let_go_at : (until : ℕ) (os : List (Option Entry)) (i : ℕ) (e : Entry) → get_or (map (let_go until) os) i None ≡ Some e → (get_or os i None ≡ Some e) × (ends_at until e ≡ false)
-let_go_at until [] i e is = absurd cc
-let_go_at until (None ∷ os) zero e is = absurd cc
-let_go_at until (Some x ∷ os) zero e is = elim (cases_Bool (ends_at until x)) [
-  | inl ends ↦ absurd (let none = rw ends at is in cc)
-  | inr stays ↦ let same = rw stays at is in (same, let one : x ≡ e = cc in subst (λ k. ends_at until k ≡ false) one stays)
-]
-let_go_at until (o ∷ os) (suc i) e is = let_go_at until os i e is
+let_go_at test (o ∷ os) (suc i) e is = let_go_at test os i e is
 
 -- what is kept
-pub let_go_stays : (until : ℕ) (os : List (Option Entry)) (i : ℕ) (e : Entry) → get_or os i None ≡ Some e → ends_at until e ≡ false → get_or (map (let_go until) os) i None ≡ Some e
-let_go_stays until [] i e is stays = absurd cc
-let_go_stays until (o ∷ os) zero e is stays = rw (is, stays) refl
-let_go_stays until (o ∷ os) (suc i) e is stays = let_go_stays until os i e is stays
+pub let_go_stays : (test : Entry → Bool) (os : List (Option Entry)) (i : ℕ) (e : Entry) → get_or os i None ≡ Some e → test e ≡ false → get_or (map (let_go test) os) i None ≡ Some e
+let_go_stays test [] i e is stays = absurd cc
+let_go_stays test (o ∷ os) zero e is stays = rw (is, stays) refl
+let_go_stays test (o ∷ os) (suc i) e is stays = let_go_stays test os i e is stays
 
-live_after : (now until : ℕ) → now ≤ until → not (nat_eq until now) ≡ nat_le (now + 1) until
-live_after now until le = elim (cases_Bool (nat_eq until now)) [
-  | inl same ↦ rw (same, lt-leb (now + 1) until (omega (arith, eqb-true until now same))) refl
-  | inr other ↦ rw (other, le-leb (now + 1) until (omega (arith, le, eqb-false until now other))) refl
+-- where two tests are alike on what there is
+pub let_go_alike : (one two : Entry → Bool) (os : List (Option Entry)) → ((i : ℕ) (e : Entry) → get_or os i None ≡ Some e → one e ≡ two e)
+    → map (let_go one) os ≡ map (let_go two) os
+let_go_alike one two [] alike = refl
+let_go_alike one two (None ∷ os) alike = ap (λ k. None ∷ k) (let_go_alike one two os (λ i. alike (suc i)))
+let_go_alike one two (Some e ∷ os) alike =
+    rw (alike 0 e refl) (ap (λ k. let_go two (Some e) ∷ k) (let_go_alike one two os (λ i. alike (suc i))))
+
+-- ---- what dies
+
+pub dead_below : (now : ℕ) (e : Entry) → e.until < now → is_dead now e ≡ true
+dead_below now e lt = rw (lt-leb now e.until lt) refl
+
+pub live_from : (now : ℕ) (e : Entry) → now ≤ e.until → is_dead now e ≡ false
+live_from now e le = rw (le-leb now e.until le) refl
+
+pub below_dead : (now : ℕ) (e : Entry) → is_dead now e ≡ true → e.until < now
+below_dead now e dead = elim (cases_Bool (is_live now e)) [
+  | inl lives ↦ absurd (false≢true (rw lives at dead))
+  | inr dies ↦ leb-false now e.until dies
 ]
 
-pub passed_live : (now : ℕ) (xs : List Entry) → All (λ e. now ≤ e.until) xs → filter (λ e. not (ends_at now e)) xs ≡ live_entries (now + 1) xs
-passed_live now [] each = refl
-passed_live now (x ∷ xs) each =
-    let rest = passed_live now xs (All-tail (λ e. now ≤ e.until) x xs each) in
-    let first = live_after now x.until (All-head (λ e. now ≤ e.until) x xs each) in
-    elim (cases_Bool (ends_at now x)) [
-      | inl same ↦
-          let dead : is_live (now + 1) x ≡ false = sym first ∙ ap not same in
-          rw (same, dead) rest
-      | inr other ↦
-          let lives : is_live (now + 1) x ≡ true = sym first ∙ ap not other in
-          rw (other, lives) (ap (λ k. x ∷ k) rest)
-    ]
+pub from_live : (now : ℕ) (e : Entry) → is_dead now e ≡ false → now ≤ e.until
+from_live now e not_dead = elim (cases_Bool (is_live now e)) [
+  | inl lives ↦ leb-true now e.until lives
+  | inr dies ↦ absurd (false≢true (sym (rw dies at not_dead)))
+]
+
+pub let_go_dead : (now : ℕ) (os : List (Option Entry)) → entries_in (map (let_go (is_dead now)) os) ≡ live_entries now (entries_in os)
+let_go_dead now [] = refl
+let_go_dead now (None ∷ os) = let_go_dead now os
+let_go_dead now (Some e ∷ os) = elim (cases_Bool (is_live now e)) [
+  | inl lives ↦ rw lives (ap (λ k. e ∷ k) (let_go_dead now os))
+  | inr dies ↦ rw dies (let_go_dead now os)
+]
+
+pub let_go_twice : (m n : ℕ) → m ≤ n → (os : List (Option Entry)) → map (let_go (is_dead n)) (map (let_go (is_dead m)) os) ≡ map (let_go (is_dead n)) os
+let_go_twice m n later [] = refl
+let_go_twice m n later (None ∷ os) = ap (λ k. None ∷ k) (let_go_twice m n later os)
+let_go_twice m n later (Some e ∷ os) = elim (cases_Bool (is_live m e)) [
+  | inl lives ↦ rw lives (ap (λ k. let_go (is_dead n) (Some e) ∷ k) (let_go_twice m n later os))
+  | inr dies ↦
+      let dead : is_live n e ≡ false = lt-leb n e.until (omega (arith, leb-false m e.until dies, later)) in
+      rw (dies, dead) (ap (λ k. None ∷ k) (let_go_twice m n later os))
+]
+
+-- where all live, none is let go of
+pub let_go_live : (now last : ℕ) (os : List (Option Entry)) → AreWithin now last os → map (let_go (is_dead now)) os ≡ os
+let_go_live now last os within =
+    let_go_none (is_dead now) os (λ i held. false≢true (sym (live_from now held.0 (within i held.0 held.1).0) ∙ held.2))
+
+-- what is left lives
+pub within_left : (first now last : ℕ) (os : List (Option Entry)) → AreWithin first last os → AreWithin now last (map (let_go (is_dead now)) os)
+within_left first now last os within i e is =
+    let old = let_go_at (is_dead now) os i e is in (from_live now e old.1, (within i e old.0).1)
 
 -- ---- what stays where one is put in
 

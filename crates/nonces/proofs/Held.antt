@@ -71,7 +71,7 @@ live_of_book book held =
 
 -- ---- one more
 
-and_true : (a b : Bool) → a && b ≡ true → (a ≡ true) × (b ≡ true)
+pub and_true : (a b : Bool) → a && b ≡ true → (a ≡ true) × (b ≡ true)
 and_true true b both = (refl, both)
 and_true false b both = absurd (false≢true both)
 

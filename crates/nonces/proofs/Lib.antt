@@ -2,7 +2,9 @@ pub mod Alike
 pub mod Entries
 pub mod Held
 pub mod Linked
+pub mod Moved
 pub mod Passed
 pub mod Powers
 pub mod Stored
+pub mod Turned
 pub mod Wheel

@@ -100,7 +100,7 @@ pushed_chain f g p q head member other i new first same back_first back_same ali
 
 -- ---- without the first
 
-popped : (f g : ℕ → Option ℕ) (is : List ℕ) (head : Option ℕ) (i : ℕ) → head ≡ Some i → IsLinked f head is → AreDistinct is → ((j : ℕ) → IsIn j is → (j ≡ i → ⊥) → g j ≡ f j)
+pub popped : (f g : ℕ → Option ℕ) (is : List ℕ) (head : Option ℕ) (i : ℕ) → head ≡ Some i → IsLinked f head is → AreDistinct is → ((j : ℕ) → IsIn j is → (j ≡ i → ⊥) → g j ≡ f j)
     → (rest : List ℕ) × (is ≡ i ∷ rest) × IsLinked g (f i) rest × AreDistinct rest × (IsIn i rest → ⊥)
 popped f g [] head i first linked distinct same = absurd (let two = linked in cc)
 popped f g (x ∷ xs) head i first linked distinct same =

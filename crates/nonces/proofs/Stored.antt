@@ -559,6 +559,78 @@ added_links nodes i node j other =
     ∙ added_other (λ n. n.after) nodes i node j (λ _. refl) other
     ∙ sym (link_of nodes j)
 
+-- ---- a node is linked to another
+
+abbrev pub with_after : Option ℕ → Node → Node
+with_after after node = record node { after = after }
+
+-- the nodes with another link of one
+abbrev pub relinked_nodes : List Node → ℕ → Option ℕ → List Node
+relinked_nodes nodes i after = changed_at nodes (Some i) (with_after after)
+
+pub relinked_entries : (nodes : List Node) (i : ℕ) (after : Option ℕ) → map entry_in (relinked_nodes nodes i after) ≡ map entry_in nodes
+relinked_entries nodes i after = map_changed entry_in (with_after after) (λ _. refl) nodes (Some i)
+
+relinked_after : (nodes : List Node) (i : ℕ) (after : Option ℕ) (j : ℕ) → i < length nodes
+    → after_at (relinked_nodes nodes i after) j ≡ redirect (after_at nodes) (Some i) after j
+relinked_after nodes i after j lt = redirected (λ n. n.after) (with_after after) after (λ _. refl) nodes (Some i) lt j
+
+pub relinked_link : (nodes : List Node) (i : ℕ) (after : Option ℕ) → i < length nodes → link_at (held_of (relinked_nodes nodes i after)) i ≡ after
+relinked_link nodes i after lt =
+    link_of (relinked_nodes nodes i after) i
+    ∙ relinked_after nodes i after i lt
+    ∙ redirect_here (after_at nodes) (Some i) after i refl
+
+pub relinked_links : (nodes : List Node) (i : ℕ) (after : Option ℕ) (j : ℕ) → i < length nodes → (j ≡ i → ⊥)
+    → link_at (held_of (relinked_nodes nodes i after)) j ≡ link_at (held_of nodes) j
+relinked_links nodes i after j lt other =
+    link_of (relinked_nodes nodes i after) j
+    ∙ relinked_after nodes i after j lt
+    ∙ redirect_other (after_at nodes) (Some i) after j (λ same. other (some_same i j same))
+    ∙ sym (link_of nodes j)
+
+pub held_below : (nodes : List Node) (i : ℕ) → Holds (λ _. true) (map entry_in nodes) i → i < length nodes
+held_below nodes i held =
+    subst (λ n. i < n) (length-map nodes entry_in) (below_length (map entry_in nodes) i held.0 held.1)
+
+pub relinked : (nodes : List Node) (heads : List (Option ℕ)) (free : Option ℕ) (len i : ℕ) (after : Option ℕ) → IsStore nodes heads free len
+    → Holds (λ _. true) (map entry_in nodes) i → IsStore (relinked_nodes nodes i after) heads free len
+relinked nodes heads free len i after store held =
+    let os = map entry_in nodes in
+    let new = relinked_nodes nodes i after in
+    let change = with_after after in
+    let within = held_below nodes i held in
+    let is : map entry_in new ≡ os = relinked_entries nodes i after in
+    record {
+      chains = λ l lt.
+          stays_chain (next_at nodes) (next_at new) (previous_at nodes) (previous_at new) (get_or heads l None)
+          (Holds (is_in_bucket (length heads) l) os) (Holds (is_in_bucket (length heads) l) (map entry_in new))
+          (λ j _. node_changed (λ n. n.next) change (λ _. refl) nodes (Some i) j)
+          (λ j _. node_changed (λ n. n.previous) change (λ _. refl) nodes (Some i) j) (
+          λ j.
+          subst (λ l2. Holds (is_in_bucket (length heads) l) os j ↔ Holds (is_in_bucket (length heads) l) l2 j) (sym is)
+          (λ there. there, λ there. there)
+          ) (store.chains l lt);
+      spare =
+          stays_list (after_at nodes) (after_at new) free (IsSpare os) (IsSpare (map entry_in new)) (
+          λ j spare.
+          relinked_after nodes i after j within
+          ∙ redirect_other (after_at nodes) (Some i) after j (
+          λ same. (
+          let none = subst (λ k. get_or os k None ≡ None) (some_same i j same) spare.1 in
+          let some = held.1 in
+          cc
+          )
+          )
+          ) (λ j. subst (λ l. IsSpare os j ↔ IsSpare l j) (sym is) (λ there. there, λ there. there)) store.spare;
+      own = λ j e at.
+          node_changed (λ n. n.bucket) change (λ _. refl) nodes (Some i) j
+          ∙ store.own j e (subst (λ l. get_or l j None ≡ Some e) is at);
+      count = subst (λ n. IsLeastPowerOfTwo n (length heads)) (sym (length_changed change nodes (Some i))) store.count;
+      some = store.some;
+      counted = store.counted ∙ ap (λ l. length (entries_in l)) (sym is);
+    }
+
 -- ---- a chain is walked
 
 -- the links that are left of the chain of a bucket, in which a keyid and a nonce are looked for

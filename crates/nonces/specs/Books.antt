@@ -1,9 +1,9 @@
 -- The book of seen nonces: what a verifier remembers of the signatures that it accepted, so that
 -- it refuses them when they come again (RFC 9421 section 7.2.2).
-use Rattle.std.specs.Prelude.{◌≡◌, ◌↔◌, ◌≤◌, ℕ, ◌+◌, Bool, ◌&&◌, ◌==◌, nat_le, List, length}
+use Rattle.std.specs.Prelude.{◌≡◌, ◌↔◌, ◌≤◌, ℕ, ◌+◌, ◌/◌, Bool, ◌&&◌, ◌==◌, nat_le, List, length}
 use Rattle.std.specs.List.{All, Contains, count_by, filter, list_any}
 use Rattle.std.specs.Str.{bytes_eq}
-use Rattle.nonces.specs.declared.limits.TheConstants.{MAX_ENTRIES, MAX_KEYID_BYTES, MAX_MOMENT, MAX_NONCE_BYTES, MAX_WINDOW}
+use Rattle.nonces.specs.declared.limits.TheConstants.{MAX_ENTRIES, MAX_KEYID_BYTES, MAX_MOMENT, MAX_NONCE_BYTES, MAX_WINDOW, SECONDS_PER_HOUR}
 
 -- a signature was accepted under this keyid with this nonce
 pub record Entry : Type 0 where
@@ -33,6 +33,14 @@ is_live now entry = nat_le now entry.until
 -- the entries that live at this moment
 abbrev pub live_entries : ℕ → List Entry → List Entry
 live_entries now entries = filter (is_live now) entries
+
+-- the hour of a second: hours are counted from the epoch on
+abbrev pub hour_of : ℕ → ℕ
+hour_of second = second / SECONDS_PER_HOUR
+
+-- the last second at which the entry lives is in this hour
+abbrev pub ends_in : ℕ → Entry → Bool
+ends_in hour entry = hour_of entry.until == hour
 
 -- the entry has this keyid and this nonce
 abbrev pub is_of : List ℕ → List ℕ → Entry → Bool

@@ -1,7 +1,7 @@
 //! The arrays of a book. They are private to this module, and each read of a node or of a head is
 //! a step. A store hands nothing out and isn't one.
 
-ghost use Rattle.std.specs.Prelude.{◌≡◌, ◌+◌, ◌<◌, ◌≤◌, Some, None, length, replicate, slice_set, slice_index_or, IfOk};
+ghost use Rattle.std.specs.Prelude.{◌≡◌, ◌+◌, ◌<◌, Some, None, length, replicate, slice_set, slice_index_or, IfOk};
 ghost use Rattle.nonces.specs.Books.{is_of};
 ghost use Rattle.nonces.specs.tools.Nodes.{free_nodes, holds_of, node_at};
 
@@ -22,7 +22,7 @@ pub struct Node {
     pub next: Option<usize>,
     /// The node before it in its bucket's chain.
     pub previous: Option<usize>,
-    /// The next node of its slot's list, or of the free list.
+    /// The next node of its second's or its hour's list, or of the free list.
     pub after: Option<usize>,
 }
 
@@ -122,6 +122,16 @@ impl Nodes {
     {
         let node = &mut self.nodes[index];
         node.previous = previous;
+    }
+
+    /// Stores a link to the next node of its second's or its hour's list.
+    pub fn set_after(&mut self, index: usize, after: Option<usize>)
+        requires { index < length self.old }
+        ensures { self.new
+            ≡ slice_set self.old index (record (node_at self.old index) { after = after }) }
+    {
+        let node = &mut self.nodes[index];
+        node.after = after;
     }
 
     /// Lets go of the entry of a node, and stores a link to the next free node.

@@ -1,18 +1,15 @@
 //! The book of seen nonces.
 
-ghost use Rattle.std.specs.Prelude.{◌≡◌, ◌≤◌, ◌<◌, ◌+◌, ◌-◌, ◌*◌, ◌%◌, ◌↔◌, ℕ, min, IsTrue, false, None, [], ◌∷◌, length, map, slice_index_or, slice_set, is_err, IfOk, OnOk, OnErr};
+ghost use Rattle.std.specs.Prelude.{◌≡◌, ◌≤◌, ◌+◌, ◌-◌, ◌*◌, ◌↔◌, ℕ, IsTrue, false, [], ◌∷◌, length, is_err, IfOk, OnOk, OnErr};
 ghost use Rattle.std.specs.List.{count_by};
-ghost use Rattle.nonces.specs.Books.{HaveSameEntries, IsBook, book_of, is_full, is_seen, live_entries};
+ghost use Rattle.nonces.specs.Books.{HaveSameEntries, IsBook, book_of, ends_in, hour_of, is_full, is_seen, live_entries};
 ghost use Rattle.nonces.specs.Buckets.{IsLeastPowerOfTwo, bucket_of, is_in_bucket};
-ghost use Rattle.nonces.specs.tools.Links.{IsListOf};
-ghost use Rattle.nonces.specs.tools.Nodes.{Holds, ends_at, entries_of, let_go, link_at};
-ghost use Rattle.nonces.specs.declared.limits.TheConstants.{MAX_ENTRIES, MAX_KEYID_BYTES, MAX_MOMENT, MAX_NONCE_BYTES, MAX_WINDOW};
+ghost use Rattle.nonces.specs.declared.limits.TheConstants.{MAX_ENTRIES, MAX_HOURS, MAX_KEYID_BYTES, MAX_MOMENT, MAX_NONCE_BYTES, MAX_WINDOW, SECONDS_PER_HOUR};
 
-use crate::arrays::Heads;
 use crate::entry::Entry;
 use crate::full::Full;
 use crate::steps::Steps;
-use crate::store::Store;
+use crate::wheels::{Wheels, hour_of};
 use sfv_text::Memory;
 use std::alloc::Global;
 use std::marker::Model;
@@ -22,50 +19,27 @@ use std::sync::ledger::Ledger;
 /// accepted again (RFC 9421 section 7.2.2). Moments are seconds since the epoch.
 #[derive(Drop)]
 pub struct NonceBook {
-    store: Store,
-    // The first node of the list of each slot; an entry is in the slot of the last second at which
-    // it lives.
-    slots: Heads,
+    // The entries by the last second at which they live. The hour of the fine wheel is that of the
+    // moment.
+    wheels: Wheels,
     capacity: usize,
     window: u64,
     moment: u64,
 }
 
 impl Model for NonceBook {
-    ghost use Rattle.std.specs.Prelude.{◌≡◌, ◌+◌, length};
-    ghost use Rattle.nonces.specs.Books.{Book, IsBook, book_of};
-    ghost use Rattle.nonces.specs.tools.Nodes.{IsWheel, entries_of};
+    ghost use Rattle.std.specs.Prelude.{◌≡◌, length};
+    ghost use Rattle.nonces.specs.Books.{Book, IsBook, book_of, hour_of};
+    ghost use Rattle.nonces.specs.tools.Nodes.{entries_in};
 
     ghost Value = { Book };
 
-    ghost view = { λ b. book_of (entries_of b.store) b.capacity b.window b.moment };
+    ghost view = { λ b. book_of (entries_in b.wheels.entries) b.capacity b.window b.moment };
 
-    ghost invariant = { λ b. IsBook (book_of (entries_of b.store) b.capacity b.window b.moment)
-        × IsWheel b.store b.slots
-        × (length b.slots ≡ b.window + 1)
-        × (length b.store.entries ≡ b.capacity) };
-}
-
-/// Lets go of the entries that die after this second: those of its slot's list.
-fn drop_second<L: Ledger>(store: &mut Store, slots: &mut Heads, until: u64, steps: &mut Steps<L>)
-    requires some { 0 < length slots.old }
-    requires list { IsListOf (link_at store.old)
-        (slice_index_or slots.old (until % length slots.old) None)
-        (Holds (ends_at until) store.old.entries) }
-    ensures slots { slots.new ≡ slice_set slots.old (until % length slots.old) None }
-    ensures entries { store.new.entries ≡ map (let_go until) store.old.entries }
-    ensures links { (i : ℕ) → (slice_index_or store.new.entries i None ≡ None → ⊥)
-        → link_at store.new i ≡ link_at store.old i }
-    ensures rises { steps.old ≤ steps.new }
-    ensures cost { steps.new + length (entries_of store.new)
-        ≤ steps.old + length (entries_of store.old) + 1 }
-{
-    let slot = (until % slots.len() as u64) as usize;
-    let mut link = slots.look(slot, steps);
-    slots.set(slot, None);
-    'list: while let Some(index) = link {
-        link = store.release(index, steps);
-    }
+    ghost invariant = { λ b.
+        IsBook (book_of (entries_in b.wheels.entries) b.capacity b.window b.moment)
+        × (b.wheels.hour ≡ hour_of b.moment)
+        × (length b.wheels.entries ≡ b.capacity) };
 }
 
 impl NonceBook {
@@ -77,11 +51,9 @@ impl NonceBook {
         requires now { now ≤ MAX_MOMENT }
         ensures { IfOk result (λ book. book ≡ book_of [] capacity window now) }
     {
-        let store = Store::open(alloc, capacity)?;
-        let slots = Heads::empty(alloc, window as usize + 1)?;
+        let wheels = Wheels::open(alloc, capacity, hour_of(now))?;
         Ok(NonceBook {
-            store,
-            slots,
+            wheels,
             capacity,
             window,
             moment: now,
@@ -92,21 +64,21 @@ impl NonceBook {
     pub fn len(&self) -> usize
         ensures { result ≡ length self.now.entries }
     {
-        self.store.len()
+        self.wheels.len()
     }
 
     /// Whether it holds no entry.
     pub fn is_empty(&self) -> bool
         ensures { IsTrue result ↔ (self.now.entries ≡ []) }
     {
-        self.store.len() == 0
+        self.wheels.len() == 0
     }
 
     /// Whether it holds as many entries as it can.
     pub fn is_full(&self) -> bool
         ensures { result ≡ is_full self.now }
     {
-        self.store.len() == self.capacity
+        self.wheels.len() == self.capacity
     }
 
     /// How many entries it can hold.
@@ -147,44 +119,19 @@ impl NonceBook {
         ensures capacity { self.new.capacity ≡ self.old.capacity }
         ensures window { self.new.window ≡ self.old.window }
         ensures steps { steps.old ≤ steps.new }
-        ensures bound { steps.new
-            ≤ steps.old + min (now - self.old.moment) (self.old.window + 1)
+        ensures bound { steps.new ≤ steps.old + (SECONDS_PER_HOUR + MAX_HOURS)
+            + 2 * (length self.old.entries - length self.new.entries)
+            + 2 * count_by (ends_in (hour_of now)) self.new.entries }
+        ensures bound_in_hour { hour_of now ≡ hour_of self.old.moment
+            → steps.new ≤ steps.old + (now - self.old.moment)
             + 2 * (length self.old.entries - length self.new.entries) }
     {
-        self.keeps_limits();
-        let end = now.min(self.moment() + self.window() + 1);
-        self.pass_seconds(end, steps);
-        self.moment = now;
-    }
-
-    /// Goes on to a moment, second by second.
-    fn pass_seconds<L: Ledger>(&mut self, end: u64, steps: &mut Steps<L>)
-        requires end { end ≤ MAX_MOMENT }
-        requires later { self.old.moment ≤ end }
-        ensures book { self.new ≡ book_of (live_entries end self.old.entries) self.old.capacity
-            self.old.window end }
-        ensures rises { steps.old ≤ steps.new }
-        ensures cost { steps.new + length self.new.entries
-            ≤ steps.old + length self.old.entries + (end - self.old.moment) }
-    {
-        self.keeps_limits();
-        'seconds: while self.moment() < end {
-            self.pass_second(steps);
+        if hour_of(now) == self.wheels.hour() {
+            self.wheels.drop_seconds(self.moment, now, steps);
+        } else {
+            self.wheels.turn_to(self.moment, now, steps);
         }
-    }
-
-    /// Goes on by a second.
-    fn pass_second<L: Ledger>(&mut self, steps: &mut Steps<L>)
-        requires { self.old.moment < MAX_MOMENT }
-        ensures book { self.new ≡ book_of
-            (live_entries (self.old.moment + 1) self.old.entries) self.old.capacity
-            self.old.window (self.old.moment + 1) }
-        ensures rises { steps.old ≤ steps.new }
-        ensures cost { steps.new + length self.new.entries
-            ≤ steps.old + length self.old.entries + 1 }
-    {
-        drop_second(&mut self.store, &mut self.slots, self.moment, steps);
-        self.moment += 1;
+        self.moment = now;
     }
 
     /// Whether it holds an entry of this keyid and this nonce: a signature with them is a replay.
@@ -199,7 +146,7 @@ impl NonceBook {
             (is_in_bucket buckets (bucket_of buckets keyid.now nonce.now)) self.now.entries
             + 1 }
     {
-        self.store.find(keyid, nonce, steps)
+        self.wheels.find(keyid, nonce, steps)
     }
 
     /// Adds an entry, which lives until this moment and no longer. It takes no memory.
@@ -228,12 +175,7 @@ impl NonceBook {
         if self.is_full() {
             return Err(Full);
         }
-        let slot = (until % self.slots.len() as u64) as usize;
-        let first = self.slots.look(slot, steps);
-        let index = self
-            .store
-            .add(Entry::new(keyid, nonce, until), first, steps);
-        self.slots.set(slot, Some(index));
+        self.wheels.add(Entry::new(keyid, nonce, until), steps);
         Ok(())
     }
 }

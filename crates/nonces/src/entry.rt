@@ -52,6 +52,13 @@ impl Entry {
         self.nonce.as_slice()
     }
 
+    /// The last moment at which it lives.
+    pub fn until(&self) -> u64
+        ensures { result ≡ self.now.until }
+    {
+        self.until
+    }
+
     /// Whether it has this keyid and this nonce.
     pub fn is_of(&self, keyid: &[u8], nonce: &[u8]) -> bool
         ensures { result ≡ is_of keyid.now nonce.now self.now }

@@ -22,6 +22,7 @@ mod limits;
 mod short;
 mod steps;
 mod store;
+mod wheels;
 
 pub use book::NonceBook;
 pub use full::Full;
@@ -29,5 +30,8 @@ pub use laws::{
     a_capacity_has_one_count_of_buckets, same_entries_are_alike, same_entries_are_an_equivalence,
 };
 pub use limit_laws::limits_are_these;
-pub use limits::{MAX_ENTRIES, MAX_KEYID_BYTES, MAX_MOMENT, MAX_NONCE_BYTES, MAX_WINDOW};
+pub use limits::{
+    MAX_ENTRIES, MAX_HOURS, MAX_KEYID_BYTES, MAX_MOMENT, MAX_NONCE_BYTES, MAX_WINDOW,
+    SECONDS_PER_HOUR,
+};
 pub use steps::Steps;

@@ -3,8 +3,15 @@
 /// How many entries a book may hold.
 pub const MAX_ENTRIES: usize = 65_536;
 
-/// How many seconds after the moment of a book its entries may live.
-pub const MAX_WINDOW: u64 = 86_400;
+/// How many seconds after the moment of a book its entries may live: a week.
+pub const MAX_WINDOW: u64 = 604_800;
+
+/// How many seconds an hour has.
+pub const SECONDS_PER_HOUR: u64 = 3_600;
+
+/// In how many hours the entries of a book may die: in that of its moment, and in those that begin
+/// before a week has passed.
+pub const MAX_HOURS: u64 = 169;
 
 /// How many bytes the keyid of an entry may have.
 pub const MAX_KEYID_BYTES: usize = 64;

@@ -1,7 +1,7 @@
 //! The entries of a book: each in a node, which is in the chain of its bucket. The nodes that hold
 //! none are in the free list.
 
-ghost use Rattle.std.specs.Prelude.{◌≡◌, ◌≢◌, ◌≤◌, ◌<◌, ◌+◌, ℕ, true, Some, None, length, replicate, slice_set, slice_index_or, IfOk, IfSome};
+ghost use Rattle.std.specs.Prelude.{◌≡◌, ◌≢◌, ◌≤◌, ◌<◌, ◌+◌, ◌==◌, ℕ, true, Some, None, length, replicate, slice_set, slice_index_or, IfOk, IfSome};
 ghost use Rattle.std.specs.List.{count_by};
 ghost use Rattle.nonces.specs.Books.{is_seen};
 ghost use Rattle.nonces.specs.Buckets.{IsLeastPowerOfTwo, is_in_bucket, bucket_of};
@@ -121,6 +121,31 @@ impl Store {
         self.chains.set(bucket, Some(index));
         self.len += 1;
         index
+    }
+
+    /// Looks at the entry of a node: the last moment at which it lives, and the node's link to
+    /// another.
+    pub fn look<L: Ledger>(&self, index: usize, steps: &mut Steps<L>) -> (u64, Option<usize>)
+        requires { Holds (λ _. true) self.now.entries index }
+        ensures until { Holds (λ entry. entry.until == result.0) self.now.entries index }
+        ensures link { result.1 ≡ link_at self.now index }
+        ensures steps { steps.new ≡ steps.old + 1 }
+    {
+        let node = self.nodes.look(index, steps);
+        let Some(entry) = &node.entry else {
+            unreachable!()
+        };
+        (entry.until(), node.after)
+    }
+
+    /// Links a node to another.
+    pub fn link(&mut self, index: usize, after: Option<usize>)
+        requires { Holds (λ _. true) self.old.entries index }
+        ensures entries { self.new.entries ≡ self.old.entries }
+        ensures link { link_at self.new index ≡ after }
+        ensures links { (i : ℕ) → i ≢ index → link_at self.new i ≡ link_at self.old i }
+    {
+        self.nodes.set_after(index, after);
     }
 
     /// Lets go of the entry of a node, and answers the node's link to another.

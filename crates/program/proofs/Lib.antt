@@ -17,6 +17,7 @@ mod RewrittenInputs
 mod Sampled
 mod ServableStreams
 mod SignedInputs
+mod StreamNames
 mod StreamRecords
 mod StreamRuns
 mod VerdictLines

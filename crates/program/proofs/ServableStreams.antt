@@ -9,7 +9,8 @@ use Rattle.hms_io.specs.declared.status.Status.TheVariants.{Done, NotOk, BadArgu
 use Rattle.msg_body.specs.declared.limits.TheConstants.{MAX_MESSAGE_BYTES}
 use Rattle.nonces.specs.Books.{Book, live_entries}
 use Rattle.nonces.specs.declared.limits.TheConstants.{MAX_MOMENT}
-use Rattle.recording.specs.Items.{Body, IsNumber, IsShort, PlacedItem, body_text, message, moment, number_of, script, stored}
+use Rattle.byte_grammar.specs.Numbers.{IsNumber}
+use Rattle.recording.specs.Items.{Body, IsShort, PlacedItem, body_text, message, moment, number_of, script, stored}
 use Rattle.recording.specs.Readers.{BeginsWithItems}
 use Rattle.recording.specs.Recordings.{ArePlaced, HasForm, SpellsRecording, bodies, items_text}
 use Rattle.recording.specs.declared.item.Role.TheVariants.{Request, Response, Related}

@@ -14,7 +14,8 @@ use Rattle.hms_io.specs.declared.status.Status.{Status}
 use Rattle.command_line.specs.Command.{Gateway, GatewayWords}
 use Rattle.nonces.specs.Books.{Book}
 use Rattle.nonces.specs.declared.limits.TheConstants.{MAX_MOMENT}
-use Rattle.recording.specs.Items.{Body, IsNumber, PlacedItem, message, moment, moment_in, number_of, script, stored}
+use Rattle.byte_grammar.specs.Numbers.{IsNumber}
+use Rattle.recording.specs.Items.{Body, PlacedItem, message, moment, moment_in, number_of, script, stored}
 use Rattle.recording.specs.Readers.{BeginsWithItems}
 use Rattle.recording.specs.Recordings.{bodies, moments}
 use Rattle.recording.specs.declared.item.Role.TheVariants.{Request, Response, Related}

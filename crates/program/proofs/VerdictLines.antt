@@ -33,6 +33,7 @@ use Rattle.msg_body.specs.Views.{lines_on}
 use Rattle.component_values.specs.Context.{MessageContext}
 use Rattle.conf.specs.Configuration.{Configuration}
 use Rattle.settings.specs.Valid.{IsValid}
+use Rattle.settings.specs.declared.policy.Policy.{Policy}
 use Rattle.signatures.specs.Algorithms.{refused_algorithms, supported_algorithm}
 use Rattle.signatures.specs.Signatures.{AreLabels, input_name}
 use Rattle.signatures.specs.Words.{reason_word, rule_number, rule_word}
@@ -44,7 +45,9 @@ use Rattle.signatures.specs.declared.place.Place.TheVariants.{None as Nowhere, I
 use Rattle.signatures.specs.declared.rule.Rule.{Rule}
 use Rattle.signatures.specs.declared.rule.Rule.TheVariants.{InputAbsent, InputMalformed, SignatureAbsent, SignatureMalformed, LabelNotInInput, LabelNotInSignature, InputNotList, SignatureNotBytes, ComponentsMany, ComponentBad, ComponentRepeated, ParameterBad, AlgRefused, AlgUnknown, KeyidAbsent, KeyUnknown, ComponentRequired, CreatedAbsent, CreatedAhead, TooOld, ExpiresAbsent, Expired, TagWrong, NonceAbsent, NonceRepeated, NonceLong, Absent, Ambiguous, Underivable, Unreadable, NotAscii, MacMismatch, Digest, NoncesFull}
 use Rattle.signatures.proofs.InRange.{is_signature_in_range}
+use Rattle.verdicts.specs.Choice.{policy_of}
 use Rattle.verdicts.specs.Parameters.{alg_of}
+use Rattle.verdicts.specs.Policies.{IsFirstUncovered, required_of}
 use Rattle.verdicts.specs.Rules.{Fails}
 use Rattle.verdicts.specs.VerdictLine.{place_text, verdict_line, verdict_text}
 use Rattle.verdicts.specs.Verdicts.{IsVerdict}
@@ -144,7 +147,9 @@ module _ (v : Verification) (text : List ℕ) where
   name_clean AlgUnknown fails = unknown_alg fails.0 (is_signature_in_range v.context.message v.label fails.0 fails.1 fails.2) fails.3
   name_clean ComponentBad fails = absurd (cc (fails.2))
   name_clean ComponentRepeated fails = absurd (cc (fails.1))
-  name_clean ComponentRequired fails = absurd (cc (fails.3.1))
+  name_clean ComponentRequired fails = absurd (
+    let at = some_and_parts (λ (policy : Policy). (id : ComponentId) × (Name text ≡ Identifier id) × IsFirstUncovered fails.0.ids (required_of v policy) id) (policy_of v.conf fails.0) fails.3 in
+    cc (at.2.1))
   name_clean Digest fails = absurd (cc (fails.1))
   name_clean InputAbsent fails = absurd (cc (fails.0))
   name_clean InputMalformed fails = absurd (cc (fails.0))
@@ -179,7 +184,7 @@ place_clean v valid rule Nowhere fails = refl
 place_clean v valid rule (Index index) fails = joined (codes " ") (decimal index) refl (number_clean index)
 place_clean v valid rule (Component index reason) fails = joined (codes " ") (decimal index ++ 32 ∷ word_of reason) refl (joined (decimal index) (32 ∷ word_of reason) (number_clean index) (reason_clean reason))
 place_clean v valid rule (Name text) fails = name_clean v text rule fails
-place_clean v valid rule (Identifier id) fails = printable_clean (id_text id) (id_is_printable id (place_in_range v (λ params. valid.policy) rule (Identifier id) fails))
+place_clean v valid rule (Identifier id) fails = printable_clean (id_text id) (id_is_printable id (place_in_range v valid.policies.each rule (Identifier id) fails))
 place_clean v valid rule (DigestPlace reason) fails = digest_clean reason
 
 pub verdict_clean : (v : Verification) → IsValid v.conf → (verdict : Verdict) → IsVerdict v verdict → list_all is_line_byte (verdict_text verdict) ≡ true

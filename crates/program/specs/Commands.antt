@@ -1,5 +1,5 @@
 -- What each command reads: the files that it names, and its input.
-use Rattle.std.specs.Prelude.{◌≡◌, ◌+◌, ◌≤◌, ℕ, Bool, true, false, IsTrue, List, Option, None}
+use Rattle.std.specs.Prelude.{◌≡◌, ⊤, ◌+◌, ◌≤◌, ℕ, Bool, true, false, IsTrue, List, Option, None}
 use Rattle.hms_io.specs.Files.{FileMap}
 use Rattle.hms_io.specs.Reading.{LosesPrefix}
 use Rattle.command_line.specs.Command.{CommandLine, Help, HelpOf, Version, Base, Verify, Sign, Rewrite, Explain, Audit, Gateway, Sample, IsCommand, conf_of, request_of, wanted_of, script_of, other_of}
@@ -50,6 +50,12 @@ LosesFew Unread before now = LosesAtMost 0 before now
 LosesFew (Whole limit) before now = LosesAtMost (limit + 1) before now
 LosesFew Streamed before now = (n : ℕ) × LosesPrefix before now n
 
+-- so many bytes are given, of an input at most one past the limit
+abbrev pub GivesAtMost : InputUse → ℕ → ℕ → Type 0
+GivesAtMost Unread before now = now ≤ before
+GivesAtMost (Whole limit) before now = now ≤ before + (limit + 1)
+GivesAtMost Streamed before now = ⊤
+
 -- ---- the same for arguments
 
 -- the arguments are no command, or one that names no file
@@ -83,3 +89,9 @@ ReachesNamed arguments before now =
 abbrev pub ReadsFew : List (List ℕ) → Option (List ℕ) → Option (List ℕ) → Type 0
 ReadsFew arguments before now =
     (command : CommandLine) → IsCommand arguments command → LosesFew (input_use command) before now
+
+-- at most so many bytes are given as the command may read
+abbrev pub GivesFew : List (List ℕ) → ℕ → ℕ → Type 0
+GivesFew arguments before now =
+    (command : CommandLine) → IsCommand arguments command
+    → GivesAtMost (input_use command) before now

@@ -1,11 +1,11 @@
 //! The top call: all that the program does.
 
-ghost use Rattle.std.specs.Prelude.{◌≡◌, ◌⊎◌, ◌≤◌, Err, IfOk, IfSome, IfNone, IsTrue, map, string_bytes};
+ghost use Rattle.std.specs.Prelude.{◌≡◌, ◌⊎◌, ◌≤◌, ◌+◌, Err, IfOk, IfSome, IfNone, IsTrue, map, string_bytes};
 ghost use Rattle.std.specs.List.{list_all};
 ghost use Rattle.sfv_text.specs.Classes.{is_byte};
 ghost use Rattle.hms_io.specs.Files.{KeepsFiles};
 ghost use Rattle.command_line.specs.Command.{Gateway, IsCommand, NoCommand, gateway_words};
-ghost use Rattle.program.specs.Commands.{NamesNoFile, ReadsNoInput, ReadsWhole, ReachesNamed, ReadsFew};
+ghost use Rattle.program.specs.Commands.{GivesFew, NamesNoFile, ReadsNoInput, ReadsWhole, ReachesNamed, ReadsFew};
 ghost use Rattle.program.specs.Ends.{AsksForNamed, HasReport, Ends, TellsWhy, WritesRefusal, CountsFaults, CountsReads};
 ghost use Rattle.program.specs.StreamEnds.{IsRefusedFor, WritesStream};
 ghost use Rattle.program.specs.StreamMeanings.{WritesPassed};
@@ -14,7 +14,7 @@ ghost use Rattle.refusals.specs.declared.refusal.Refusal.TheVariants.{Arguments}
 ghost use Rattle.commands.specs.declared.stop.Stop.TheVariants.{Refused};
 ghost use Rattle.commands.specs.Outcome.{output_of};
 ghost use Rattle.commands.specs.Stops.{IfOutcome};
-ghost use Rattle.program.specs.tools.Parts.{AsksOf, CountsOne, IsWritten, IsWrittenStop, refusal_of};
+ghost use Rattle.program.specs.tools.Parts.{AsksOf, CountsOne, IsWritten, IsWrittenStop, begin_stream, refusal_of};
 
 use crate::ended::Ended;
 use crate::help::{help_outcome, version_outcome, write_help_of};
@@ -44,7 +44,10 @@ fn run_command<F: Shelf, S: Source>(
     ensures source_later { S.faults source.old ≤ S.faults source.new }
     ensures few { ReadsFew (map string_bytes arguments.now)
         (S.left source.old) (S.left source.new) }
+    ensures given { GivesFew (map string_bytes arguments.now)
+        (S.given source.old) (S.given source.new) }
     ensures ended { S.ended source.old ≡ 0 → S.ended source.new ≤ 1 }
+    ensures idle { S.idle source.new ≤ S.idle source.old + 1 }
     ensures asked { AsksOf (map string_bytes arguments.now) result
         (F.asked shelf.old) (F.asked shelf.new) }
     ensures reached { ReachesNamed (map string_bytes arguments.now)
@@ -103,6 +106,7 @@ pub(crate) fn write_outcome<K: Sink>(alloc: Global, outcome: Outcome, out: &mut 
         result.status result.refusal }
     ensures writes { CountsFaults Status.WriteFault result.status
         (K.faults out.old) (K.faults out.new) }
+    ensures idle { K.idle out.new ≤ K.idle out.old + 1 }
 {
     let status = outcome.status();
     let Ok((output, refusal)) = output_and_refusal(alloc, outcome) else {
@@ -120,11 +124,22 @@ pub(crate) fn end_stopped<K: Sink>(alloc: Global, stop: Stop, out: &mut K) -> En
         result.status result.refusal }
     ensures writes { CountsFaults Status.WriteFault result.status
         (K.faults out.old) (K.faults out.new) }
+    ensures idle { K.idle out.new ≤ K.idle out.old + 1 }
 {
     match stop {
         Stop::Refused(refusal) => write_outcome(alloc, Outcome::Refused(refusal), out),
         Stop::ReadFault => Ended::of_status(Status::ReadFault),
         Stop::Memory => Ended::of_status(Status::OutOfMemory),
+    }
+}
+
+/// Whether the first of the words is the name of the command that writes before it has read all.
+fn begin_stream(words: &[String]) -> bool
+    ensures { result ≡ begin_stream (map string_bytes words.now) }
+{
+    match words {
+        [] => false,
+        [name, ..] => name.as_str() == "gateway",
     }
 }
 
@@ -134,6 +149,9 @@ fn stream_words<'a>(arguments: &'a [String]) -> Option<GatewayWords<'a>>
         IsCommand (map string_bytes arguments.now) (Gateway (gateway_words words))) }
     ensures none { IfNone result (ReadsWhole (map string_bytes arguments.now)) }
 {
+    if !begin_stream(arguments) {
+        return None;
+    }
     match read_words(arguments)? {
         Command::Gateway(words) => Some(words),
         _ => None,
@@ -173,7 +191,11 @@ fn run_whole<F: Shelf, S: Source, K: Sink>(
     ensures files { KeepsFiles (F.files shelf.old) (F.files shelf.new) }
     ensures few { ReadsFew (map string_bytes arguments.now)
         (S.left source.old) (S.left source.new) }
+    ensures given { GivesFew (map string_bytes arguments.now)
+        (S.given source.old) (S.given source.new) }
     ensures ended { S.ended source.old ≡ 0 → S.ended source.new ≤ 1 }
+    ensures idle_reads { S.idle source.new ≤ S.idle source.old + 1 }
+    ensures idle_writes { K.idle out.new ≤ K.idle out.old + 1 }
     ensures asked { AsksForNamed (map string_bytes arguments.now) result.refusal
         (F.asked shelf.old) (F.asked shelf.new) }
     ensures reached { ReachesNamed (map string_bytes arguments.now)
@@ -247,11 +269,16 @@ pub fn run<F: Shelf, S: Source, K: Sink>(
     ensures files { KeepsFiles (F.files shelf.old) (F.files shelf.new) }
 
     // At any status at most one byte past the limit is read, of the input, unless it is a stream,
-    // and of each file, the source isn't read after its end, and at most so many files are asked
-    // for as the command names: after one that is refused no other.
+    // and of each file, the source isn't read after its end, each read and each write but one of
+    // each moves a byte, and at most so many files are asked for as the command names: after one
+    // that is refused no other.
     ensures few { ReadsFew (map string_bytes arguments.now)
         (S.left source.old) (S.left source.new) }
+    ensures given { GivesFew (map string_bytes arguments.now)
+        (S.given source.old) (S.given source.new) }
     ensures ended { S.ended source.old ≡ 0 → S.ended source.new ≤ 1 }
+    ensures idle_reads { S.idle source.new ≤ S.idle source.old + 1 }
+    ensures idle_writes { K.idle out.new ≤ K.idle out.old + 1 }
     ensures asked { AsksForNamed (map string_bytes arguments.now) result.refusal
         (F.asked shelf.old) (F.asked shelf.new) }
     ensures reached { ReachesNamed (map string_bytes arguments.now)

@@ -316,7 +316,9 @@ fn over_source<C: OverMessage, S: Source>(
     ensures cause { CountsStop (S.faults source.old) (S.faults source.new) result }
     ensures later { S.faults source.old ≤ S.faults source.new }
     ensures few { LosesAtMost (MAX_INPUT_BYTES + 1) (S.left source.old) (S.left source.new) }
+    ensures given { S.given source.new ≤ S.given source.old + (MAX_INPUT_BYTES + 1) }
     ensures ended { S.ended source.old ≡ 0 → S.ended source.new ≤ 1 }
+    ensures idle { S.idle source.new ≤ S.idle source.old + 1 }
     ensures late { IfOutcome result (λ outcome. roles_read outcome ≡ read_order) }
 {
     let input = match fill(alloc, source, MAX_INPUT_BYTES) {
@@ -351,7 +353,9 @@ fn over_record<C: OverMessage, F: Shelf, S: Source>(
     ensures shelf_later { F.faults shelf.old ≤ F.faults shelf.new }
     ensures source_later { S.faults source.old ≤ S.faults source.new }
     ensures few { LosesAtMost (MAX_INPUT_BYTES + 1) (S.left source.old) (S.left source.new) }
+    ensures given { S.given source.new ≤ S.given source.old + (MAX_INPUT_BYTES + 1) }
     ensures ended { S.ended source.old ≡ 0 → S.ended source.new ≤ 1 }
+    ensures idle { S.idle source.new ≤ S.idle source.old + 1 }
     ensures files { KeepsFiles (F.files shelf.old) (F.files shelf.new) }
     ensures asked { F.asked shelf.new ≤ F.asked shelf.old + 1 }
     ensures reached { F.reached shelf.new ≤ F.reached shelf.old + (MAX_INPUT_BYTES + 1) }
@@ -411,7 +415,9 @@ pub fn over_message<C: OverMessage, F: Shelf, S: Source>(
     ensures shelf_later { F.faults shelf.old ≤ F.faults shelf.new }
     ensures source_later { S.faults source.old ≤ S.faults source.new }
     ensures few { LosesAtMost (MAX_INPUT_BYTES + 1) (S.left source.old) (S.left source.new) }
+    ensures given { S.given source.new ≤ S.given source.old + (MAX_INPUT_BYTES + 1) }
     ensures ended { S.ended source.old ≡ 0 → S.ended source.new ≤ 1 }
+    ensures idle { S.idle source.new ≤ S.idle source.old + 1 }
     ensures asks { Asks (C.names command.now) (F.files shelf.old) (F.files shelf.new)
         (F.asked shelf.old) (F.asked shelf.new) (F.reached shelf.old) (F.reached shelf.new)
         (shelf.new ≡ shelf.old) }

@@ -28,7 +28,9 @@ fn audit_source<S: Source>(alloc: Global, conf: &Conf, source: &mut S) -> Result
     ensures cause { CountsStop (S.faults source.old) (S.faults source.new) result }
     ensures later { S.faults source.old ≤ S.faults source.new }
     ensures few { LosesAtMost (MAX_RECORDING_BYTES + 1) (S.left source.old) (S.left source.new) }
+    ensures given { S.given source.new ≤ S.given source.old + (MAX_RECORDING_BYTES + 1) }
     ensures ended { S.ended source.old ≡ 0 → S.ended source.new ≤ 1 }
+    ensures idle { S.idle source.new ≤ S.idle source.old + 1 }
 {
     let input = match fill(alloc, source, MAX_RECORDING_BYTES) {
         Ok(input) => input,
@@ -57,7 +59,9 @@ pub fn over_recording<F: Shelf, S: Source>(
     ensures shelf_later { F.faults shelf.old ≤ F.faults shelf.new }
     ensures source_later { S.faults source.old ≤ S.faults source.new }
     ensures few { LosesAtMost (MAX_RECORDING_BYTES + 1) (S.left source.old) (S.left source.new) }
+    ensures given { S.given source.new ≤ S.given source.old + (MAX_RECORDING_BYTES + 1) }
     ensures ended { S.ended source.old ≡ 0 → S.ended source.new ≤ 1 }
+    ensures idle { S.idle source.new ≤ S.idle source.old + 1 }
     ensures asked { F.asked shelf.new ≤ F.asked shelf.old + 1 }
     ensures reached { F.reached shelf.new ≤ F.reached shelf.old + (MAX_CONF_BYTES + 1) }
     ensures files { KeepsFiles (F.files shelf.old) (F.files shelf.new) }

@@ -9,6 +9,7 @@ ghost use Rattle.command_line.specs.Command.{gateway_words};
 ghost use Rattle.refusals.specs.declared.refusal.Refusal.TheVariants.{Of};
 ghost use Rattle.refusals.specs.declared.refusal.TheConstants.{MAX_CONF_BYTES};
 ghost use Rattle.refusals.specs.declared.role.Role.TheVariants.{Input};
+ghost use Rattle.gateway.specs.Served.{failed_writes};
 ghost use Rattle.program.specs.Ends.{CountsFaults, CountsReads};
 ghost use Rattle.program.specs.StreamEnds.{EndsRefused, EndsAfter, EndsServedBy, EndsStream, stream_refusal, stream_status};
 ghost use Rattle.program.specs.tools.Parts.{CountsAfter};
@@ -30,6 +31,7 @@ fn end_refused<K: Sink>(alloc: Global, refusal: FileRefusal, out: &mut K) -> End
         result.status result.refusal }
     ensures writes { CountsFaults Status.WriteFault result.status
         (K.faults out.old) (K.faults out.new) }
+    ensures idle { K.idle out.new ≤ K.idle out.old + 1 }
 {
     let refusal = Refusal::Of(Role::Input, refusal);
     write_outcome(alloc, Outcome::Refused(refusal), out)
@@ -40,6 +42,7 @@ fn end_unserved<K: Sink>(alloc: Global, fault: StreamFault, out: &mut K) -> Ende
     ensures ends { EndsAfter (stream_refusal fault) (stream_status (Err fault))
         (K.taken out.old) (K.taken out.new) result.status result.refusal }
     ensures writes { CountsAfter fault result.status (K.faults out.old) (K.faults out.new) }
+    ensures idle { K.idle out.new + failed_writes (Err fault) ≤ K.idle out.old + 1 }
 {
     match fault {
         StreamFault::Memory => Ended::of_status(Status::OutOfMemory),
@@ -64,6 +67,8 @@ fn serve_source<S: Source, K: Sink>(
         → EndsServedBy (meaning conf.now) settings (S.left source.old) (S.left source.new)
         (K.taken out.old) (K.taken out.new) result.status result.refusal }
     ensures ended { S.ended source.old ≡ 0 → S.ended source.new ≤ 1 }
+    ensures idle_reads { S.idle source.new ≤ S.idle source.old + 1 }
+    ensures idle_writes { K.idle out.new ≤ K.idle out.old + 1 }
     ensures writes { CountsFaults Status.WriteFault result.status
         (K.faults out.old) (K.faults out.new) }
     ensures reads { CountsFaults Status.ReadFault result.status
@@ -91,6 +96,8 @@ pub(crate) fn over_stream<F: Shelf, S: Source, K: Sink>(
     ensures asked { F.asked shelf.new ≤ F.asked shelf.old + 1 }
     ensures reached { F.reached shelf.new ≤ F.reached shelf.old + (MAX_CONF_BYTES + 1) }
     ensures ended { S.ended source.old ≡ 0 → S.ended source.new ≤ 1 }
+    ensures idle_reads { S.idle source.new ≤ S.idle source.old + 1 }
+    ensures idle_writes { K.idle out.new ≤ K.idle out.old + 1 }
     ensures reads { CountsReads (source.new ≡ source.old) result.status
         (F.faults shelf.old) (F.faults shelf.new) (S.faults source.old) (S.faults source.new) }
     ensures writes { CountsFaults Status.WriteFault result.status

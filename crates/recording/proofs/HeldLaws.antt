@@ -13,7 +13,8 @@ use Rattle.recording.specs.declared.reader.FoundItem.{FoundItem}
 use Rattle.recording.specs.declared.reader.ItemReader.TheInside.{Inside}
 use Rattle.recording.specs.declared.reader.ReaderStage.{ReaderStage}
 use Rattle.recording.specs.declared.reader.ReaderStage.TheVariants.{Begin, Items, LastLine, End, Refused}
-use Rattle.recording.specs.Items.{Body, moment, PlacedItem, body_text, number_of, IsNumber}
+use Rattle.byte_grammar.specs.Numbers.{IsNumber}
+use Rattle.recording.specs.Items.{Body, moment, PlacedItem, body_text, number_of}
 use Rattle.recording.specs.Recordings.{SpellsRecording, bodies, items_text, moments}
 use Rattle.recording.specs.Readers.{ReaderState, BeginsWithItems, IsLastMoment, HasRead, IsFaultFrom, IsFaultSoFar}
 use Rattle.recording.specs.tools.ReaderSteps.{IsFound, IsFirstFound, IsHeldAt, IsReading, FindsNothing, Reaches, ReadsHeld, AnswersHeld, fault_at, reached, refused}

@@ -8,7 +8,8 @@ use Rattle.std.specs.List.{flat_map}
 use Rattle.byte_grammar.specs.Language.{Begins}
 use Rattle.byte_grammar.specs.FaultOffset.{IsFaultOffset}
 use Rattle.byte_grammar.proofs.OffsetLaws.{begins_shorter}
-use Rattle.recording.specs.Items.{Body, moment, stored, kind_word, number_line, body_text, number_of, IsNumber}
+use Rattle.byte_grammar.specs.Numbers.{number_line, IsNumber}
+use Rattle.recording.specs.Items.{Body, moment, stored, kind_word, body_text, number_of}
 use Rattle.recording.specs.Recordings.{items_text, BeginWithMoment, AreItems, HasForm}
 use Rattle.recording.specs.Causes.{HasLineAt, IsLongLine, IsFallingLine}
 use Rattle.recording.specs.Laws.{FaultIsAfter}

@@ -1,4 +1,3 @@
-mod LiteralLaws
 mod WordLaws
 mod NumberLaws
 mod FormLaws

@@ -1,9 +1,11 @@
 -- What a reader of a recording says after pieces of the source.
 use Rattle.std.proofs.Common.{◌≡◌, ◌≢◌, inl, inr, ℕ, ◌+◌, ◌-◌, ◌*◌, ◌^◌, ◌<◌, ◌≤◌, Bool, true, false, List, [], ◌∷◌, ◌++◌, length, Option, None, Result, Ok, Err, refl, sym, ap, subst, ◌∙◌, append_assoc, arith}
 use Rattle.std.proofs.KnownBytes.{Consumes-nil, Consumes-trans}
+use Rattle.std.proofs.lemmas.Bool.{cases_Bool, eqb-true}
 use Rattle.std.proofs.lemmas.List.{append-nil, length-append}
 use Rattle.std.specs.Io.KnownBytes.{Consumes}
-use Rattle.std.specs.Prelude.{IsErrAnd}
+use Rattle.std.specs.Prelude.{IsErrAnd, ◌==◌, if◌then◌else◌, nat_lt}
+use Rattle.hms_io.specs.Cause.{one_more}
 use Rattle.recording.specs.declared.fault.RecordingFault.TheVariants.{Syntax}
 use Rattle.recording.specs.declared.item_fault.ItemFault.{ItemFault}
 use Rattle.recording.specs.declared.item_fault.ItemFault.TheVariants.{Memory, Failed, Recording, TooManyItems}
@@ -14,7 +16,7 @@ use Rattle.recording.specs.declared.reader.ReaderStage.TheVariants.{Begin, Items
 use Rattle.recording.specs.declared.reader.TheConstants.{MAX_PIECE_BYTES}
 use Rattle.recording.specs.Items.{PlacedItem}
 use Rattle.recording.specs.Recordings.{SpellsRecording, bodies, items_text, moments}
-use Rattle.recording.specs.Readers.{ReaderState, BeginsWithItems, IsLastMoment, HasRead, IsReadTo, IsOpen, IsFaultSoFar, ReadsNeeded, AnswersNext, CountsFault}
+use Rattle.recording.specs.Readers.{ReaderState, BeginsWithItems, IsLastMoment, HasRead, IsReadTo, IsOpen, IsFaultSoFar, ReadsNeeded, AnswersNext, CountsFault, idle_reads}
 use Rattle.recording.specs.tools.ReaderSteps.{IsGoing, IsHeldAt, IsReading, IsWaiting, IsFew, IsAnEnd, GoesOn, GoesOver, ReadsHeld, AnswersHeld, AnswersEnd, TakesPiece, CountsRead, answered, refused}
 use Rattle.recording.specs.tools.RecordingWalk.{first_step, recording_step}
 use Rattle.recording.proofs.HeldLaws.{refused_has, begun_at}
@@ -252,3 +254,31 @@ counts_fault LastLine before now (Recording fault) going c = c
 counts_fault LastLine before now TooManyItems going c = c
 counts_fault End before now fault going c = absurd going
 counts_fault (Refused earlier) before now fault going c = absurd going
+
+-- ---- reads that give no byte
+
+idle_few : (result : Result Bool ItemFault) → idle_reads result ≤ 1
+idle_few (Ok true) = omega arith
+idle_few (Ok false) = omega arith
+idle_few (Err fault) = omega arith
+
+-- a read gives a byte, and a piece comes, or it is idle
+pub piece_idle : (before now n : ℕ) → now ≡ (if n == 0 then one_more before else before) → now ≤ before + idle_reads (Ok (nat_lt 0 n))
+piece_idle before now n is = elim (cases_Bool (n == 0)) [
+  | inl none ↦
+      let once : now ≤ before + 1 = grind (arith, rw none at is) in
+      subst (λ (k : ℕ). now ≤ before + idle_reads (Ok (nat_lt 0 k))) (sym (eqb-true n 0 none)) once
+  | inr some ↦
+      let same : now ≡ before = rw some at is in
+      omega (arith, same)
+]
+
+-- so it is idle once at most
+pub once_idle : (before now n : ℕ) → now ≡ (if n == 0 then one_more before else before) → now ≤ before + 1
+once_idle before now n is = omega (arith, piece_idle before now n is, idle_few (Ok (nat_lt 0 n)))
+
+-- at an end the last read may have been idle
+pub end_idle : (before now : ℕ) (result : Result Bool ItemFault) → IsAnEnd result → now ≤ before + 1 → now ≤ before + idle_reads result
+end_idle before now (Ok true) ends once = absurd ends
+end_idle before now (Ok false) ends once = once
+end_idle before now (Err fault) ends once = once

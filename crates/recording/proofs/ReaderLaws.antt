@@ -4,7 +4,8 @@ use Rattle.std.proofs.lemmas.List.{append-nil, append_cancel_left, length-append
 use Rattle.std.proofs.lemmas.List.Elements.{All-nil, All-cons, All-head, All-tail, All-push}
 use Rattle.std.specs.List.{All, flat_map}
 use Rattle.recording.specs.declared.read.Stop.{Stop}
-use Rattle.recording.specs.Items.{Body, moment, stored, PlacedItem, body_text, IsNumber}
+use Rattle.byte_grammar.specs.Numbers.{IsNumber}
+use Rattle.recording.specs.Items.{Body, moment, stored, PlacedItem, body_text}
 use Rattle.recording.specs.Recordings.{AreItems, AreAllowed, ArePlaced, SpellsRecording, bodies, items_text, moments}
 use Rattle.recording.specs.Readers.{BeginsWithItems, IsLastMoment}
 use Rattle.recording.specs.tools.Running.{moment_after, IsAllowedAfter, last_moment}

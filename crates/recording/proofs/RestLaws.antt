@@ -13,12 +13,14 @@ use Rattle.byte_grammar.proofs.Laws.{Meets, meets_same, any_next, bind_ok, ok_is
 use Rattle.byte_grammar.proofs.OffsetLaws.{one_offset}
 use Rattle.byte_grammar.proofs.TurnLaws.{turns_step}
 use Rattle.byte_grammar.proofs.Whole.{Nothing, judges, whole_only}
-use Rattle.recording.specs.Items.{Body, moment, stored, number_line, body_text}
+use Rattle.byte_grammar.specs.Numbers.{number_line}
+use Rattle.recording.specs.Items.{Body, moment, stored, body_text}
 use Rattle.recording.specs.Recordings.{items_text, BeginWithMoment, AreItems, HasForm, HasRestForm}
 use Rattle.recording.specs.Laws.{RestIsOthers, OthersMayCome, FaultOfRest}
 use Rattle.recording.specs.tools.RecordingTexts.{IsTurn}
-use Rattle.recording.specs.tools.RecordingWalk.{literal_read, number_line_read, turn_read, first_read, form_read}
-use Rattle.recording.proofs.LiteralLaws.{meets_literal}
+use Rattle.byte_grammar.specs.tools.CountedWalk.{literal_read}
+use Rattle.recording.specs.tools.RecordingWalk.{number_line_read, turn_read, first_read, form_read}
+use Rattle.byte_grammar.proofs.LiteralLaws.{meets_literal}
 use Rattle.recording.proofs.NumberLaws.{meets_number_line}
 use Rattle.recording.proofs.FormLaws.{meets_turn, grows, meets_items, turns_are, are_turns, is_number_of}
 use Rattle.recording.proofs.WholeLaws.{meets_form}

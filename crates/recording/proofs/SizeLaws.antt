@@ -10,11 +10,14 @@ use Rattle.recording.specs.declared.item.Role.TheVariants.{Request, Response, Re
 use Rattle.recording.specs.declared.limits.TheConstants.{MAX_ITEM_BYTES}
 use Rattle.recording.specs.declared.read.Stop.{Stop}
 use Rattle.recording.specs.declared.read.Stop.TheVariants as stop
-use Rattle.recording.specs.Items.{Body, moment, stored, Kind, message, script, kind_word, number_line, body_text, number_of, IsNumber}
+use Rattle.byte_grammar.specs.Numbers.{number_line, IsNumber}
+use Rattle.recording.specs.Items.{Body, moment, stored, Kind, message, script, kind_word, body_text, number_of}
 use Rattle.recording.specs.tools.Running.{IsAllowedAfter}
-use Rattle.recording.specs.tools.RecordingTexts.{IsLiteral, IsTurn}
-use Rattle.recording.specs.tools.RecordingWalk.{literal_read, number_line_read, turn_read, then_step, item_step, first_step}
-use Rattle.recording.proofs.LiteralLaws.{meets_literal}
+use Rattle.byte_grammar.specs.tools.CountedTexts.{IsLiteral}
+use Rattle.recording.specs.tools.RecordingTexts.{IsTurn}
+use Rattle.byte_grammar.specs.tools.CountedWalk.{literal_read}
+use Rattle.recording.specs.tools.RecordingWalk.{number_line_read, turn_read, then_step, item_step, first_step}
+use Rattle.byte_grammar.proofs.LiteralLaws.{meets_literal}
 use Rattle.recording.proofs.NumberLaws.{meets_number_line}
 use Rattle.recording.proofs.FormLaws.{meets_turn}
 use Rattle.recording.proofs.WalkLaws.{Says, step_says, step_long}

@@ -10,12 +10,15 @@ use Rattle.recording.specs.declared.word.Word.{Word}
 use Rattle.recording.specs.declared.word.Word.TheVariants as word
 use Rattle.recording.specs.declared.read.Stop.{Stop}
 use Rattle.recording.specs.declared.read.Stop.TheVariants as stop
-use Rattle.recording.specs.Items.{Kind, message, script, Body, moment, stored, kind_word, number_line, body_text, number_of, IsNumber}
+use Rattle.byte_grammar.specs.Numbers.{number_line, IsNumber}
+use Rattle.recording.specs.Items.{Kind, message, script, Body, moment, stored, kind_word, body_text, number_of}
 use Rattle.recording.specs.tools.Running.{IsAllowedAfter, IsLongAfter, IsFallingAfter}
-use Rattle.recording.specs.tools.RecordingWalk.{word_text, word_read, number_line_read, text_read, stored_read, body_read, turn_read, then_step, mapped_step, moment_step, stored_step, body_step, item_step}
+use Rattle.byte_grammar.specs.tools.CountedWalk.{counted_read}
+use Rattle.recording.specs.tools.RecordingWalk.{word_text, word_read, number_line_read, stored_read, body_read, turn_read, then_step, mapped_step, moment_step, stored_step, body_step, item_step}
 use Rattle.recording.proofs.WordLaws.{meets_word}
 use Rattle.recording.proofs.NumberLaws.{meets_number_line}
-use Rattle.recording.proofs.FormLaws.{meets_text, meets_turn, grows}
+use Rattle.byte_grammar.proofs.CountedLaws.{meets_counted}
+use Rattle.recording.proofs.FormLaws.{meets_turn, grows}
 
 -- ---- what a step says
 
@@ -61,19 +64,19 @@ stored_says : (kind : Kind) (w : Word) (last : ℕ) (bytes rest : List ℕ) → 
 unfolding stored_read stored_step
 stored_says kind w last bytes rest same e = go (number_line_read rest) refl
   where
-    text : (n : ℕ) (after : List ℕ) → n ≤ MAX_ITEM_BYTES → (r : Result (List ℕ × List ℕ) ℕ) → text_read n after ≡ r → Says last bytes (r >>= λ d. Ok (put kind d)) (mapped_step (put kind) (then_step r Ok))
+    text : (n : ℕ) (after : List ℕ) → n ≤ MAX_ITEM_BYTES → (r : Result (List ℕ × List ℕ) ℕ) → counted_read n after ≡ r → Says last bytes (r >>= λ d. Ok (put kind d)) (mapped_step (put kind) (then_step r Ok))
     text n after fits (Err k) f = refl
-    text n after fits (Ok (d, end)) f = let s = (meets_text n).ok after d end f in (refl, omega (arith, fits, s.2.1))
+    text n after fits (Ok (d, end)) f = let s = (meets_counted n).ok after d end f in (refl, omega (arith, fits, s.2.1))
 
     judged : (b : Bool) (n : ℕ) (after : List ℕ) → number_line_read rest ≡ Ok (n, after) → ltb MAX_ITEM_BYTES n ≡ b
-        → Says last bytes (text_read n after >>= λ d. Ok (put kind d)) (mapped_step (put kind) (cond b (Err (stop.TooLong (length bytes))) (then_step (text_read n after) Ok)))
+        → Says last bytes (counted_read n after >>= λ d. Ok (put kind d)) (mapped_step (put kind) (cond b (Err (stop.TooLong (length bytes))) (then_step (counted_read n after) Ok)))
     judged true n after f is =
         let l = line_first bytes rest after w n e f in
         (refl, (number_line (kind_word kind) n, after, l.0 ∙ ap (λ (y : List ℕ). number_line y n ++ after) same, record { kind = kind; size = n; is = refl; number = l.1; long = ltb-true _ _ is }))
-    judged false n after f is = text n after (ltb-false _ _ is) (text_read n after) refl
+    judged false n after f is = text n after (ltb-false _ _ is) (counted_read n after) refl
 
     go : (r : Result (ℕ × List ℕ) ℕ) → number_line_read rest ≡ r
-        → Says last bytes ((r >>= λ n. text_read n.0 n.1) >>= λ d. Ok (put kind d)) (mapped_step (put kind) (then_step r (λ n. cond (ltb MAX_ITEM_BYTES n.0) (Err (stop.TooLong (length bytes))) (then_step (text_read n.0 n.1) Ok))))
+        → Says last bytes ((r >>= λ n. counted_read n.0 n.1) >>= λ d. Ok (put kind d)) (mapped_step (put kind) (then_step r (λ n. cond (ltb MAX_ITEM_BYTES n.0) (Err (stop.TooLong (length bytes))) (then_step (counted_read n.0 n.1) Ok))))
     go (Err n) f = refl
     go (Ok (n, after)) f = judged (ltb MAX_ITEM_BYTES n) n after f refl
 
@@ -132,17 +135,17 @@ unfolding body_step moment_step
 moment_at last line n rest more e =
     ap (λ (r : Result (ℕ × List ℕ) ℕ). mapped_step (λ (n : ℕ × List ℕ). (Some (moment n.0), n.1)) (then_step r (λ n. cond (ltb n.0 last) (Err (stop.MomentFalls line)) (Ok n)))) e
 
-size_at : (line n : ℕ) (rest more : List ℕ) → number_line_read rest ≡ Ok (n, more) → stored_step line rest ≡ cond (ltb MAX_ITEM_BYTES n) (Err (stop.TooLong line)) (then_step (text_read n more) Ok)
+size_at : (line n : ℕ) (rest more : List ℕ) → number_line_read rest ≡ Ok (n, more) → stored_step line rest ≡ cond (ltb MAX_ITEM_BYTES n) (Err (stop.TooLong line)) (then_step (counted_read n more) Ok)
 unfolding stored_step
 size_at line n rest more e =
-    ap (λ (r : Result (ℕ × List ℕ) ℕ). then_step r (λ n. cond (ltb MAX_ITEM_BYTES n.0) (Err (stop.TooLong line)) (then_step (text_read n.0 n.1) Ok))) e
+    ap (λ (r : Result (ℕ × List ℕ) ℕ). then_step r (λ n. cond (ltb MAX_ITEM_BYTES n.0) (Err (stop.TooLong line)) (then_step (counted_read n.0 n.1) Ok))) e
 
 pub moment_line : (last n : ℕ) (more : List ℕ) → IsNumber n → item_step last (number_line (codes "at ") n ++ more) ≡ mapped_step (λ (n : ℕ × List ℕ). (Some (moment n.0), n.1)) (cond (ltb n last) (Err (stop.MomentFalls (length (number_line (codes "at ") n ++ more)))) (Ok (n, more)))
 moment_line last n more is =
     at_word last (number_line (codes "at ") n ++ more) ((decimal n ++ codes "\n") ++ more) word.At (word_first word.At n more)
     ∙ moment_at last (length (number_line (codes "at ") n ++ more)) n ((decimal n ++ codes "\n") ++ more) more (number_first n more is)
 
-size_line : (kind : Kind) (last n : ℕ) (more : List ℕ) → IsNumber n → item_step last (number_line (kind_word kind) n ++ more) ≡ mapped_step (put kind) (cond (ltb MAX_ITEM_BYTES n) (Err (stop.TooLong (length (number_line (kind_word kind) n ++ more)))) (then_step (text_read n more) Ok))
+size_line : (kind : Kind) (last n : ℕ) (more : List ℕ) → IsNumber n → item_step last (number_line (kind_word kind) n ++ more) ≡ mapped_step (put kind) (cond (ltb MAX_ITEM_BYTES n) (Err (stop.TooLong (length (number_line (kind_word kind) n ++ more)))) (then_step (counted_read n more) Ok))
 size_line kind last n more is =
     let bytes : List ℕ = number_line (kind_word kind) n ++ more in
     let rest : List ℕ = (decimal n ++ codes "\n") ++ more in
@@ -157,10 +160,10 @@ step_item last (moment n) more is allowed =
 step_item last (stored kind d) more is allowed =
     let n = length d in
     let after : List ℕ = (d ++ codes "\n") ++ more in
-    let text : text_read n after ≡ Ok (d, more) = (meets_text n).only (d ++ codes "\n") more d (refl, refl) (any_next more) in
+    let text : counted_read n after ≡ Ok (d, more) = (meets_counted n).only (d ++ codes "\n") more d (refl, refl) (any_next more) in
     ap (item_step last) (append_assoc (number_line (kind_word kind) n) (d ++ codes "\n") more)
     ∙ size_line kind last n after is
-    ∙ ap (λ (b : Bool). mapped_step (put kind) (cond b (Err (stop.TooLong (length (number_line (kind_word kind) n ++ after)))) (then_step (text_read n after) Ok))) (le-ltb MAX_ITEM_BYTES n allowed)
+    ∙ ap (λ (b : Bool). mapped_step (put kind) (cond b (Err (stop.TooLong (length (number_line (kind_word kind) n ++ after)))) (then_step (counted_read n after) Ok))) (le-ltb MAX_ITEM_BYTES n allowed)
     ∙ ap (λ (r : Result (List ℕ × List ℕ) ℕ). mapped_step (put kind) (then_step r Ok)) text
 
 pub step_end : (last : ℕ) (more : List ℕ) → item_step last (codes "end\n" ++ more) ≡ Ok (None, more)
@@ -173,7 +176,7 @@ step_long last line more h =
     let same : line ++ more ≡ bytes = ap (λ (y : List ℕ). y ++ more) h.is in
     ap (item_step last) same
     ∙ size_line h.kind last h.size more h.number
-    ∙ ap (λ (b : Bool). mapped_step (put h.kind) (cond b (Err (stop.TooLong (length bytes))) (then_step (text_read h.size more) Ok))) (lt-ltb MAX_ITEM_BYTES h.size h.long)
+    ∙ ap (λ (b : Bool). mapped_step (put h.kind) (cond b (Err (stop.TooLong (length bytes))) (then_step (counted_read h.size more) Ok))) (lt-ltb MAX_ITEM_BYTES h.size h.long)
     ∙ ap (λ (y : List ℕ). Err (stop.TooLong (length y))) (sym same)
 
 pub step_falls : (last : ℕ) (line more : List ℕ) → IsFallingAfter last line → item_step last (line ++ more) ≡ Err (stop.MomentFalls (length (line ++ more)))

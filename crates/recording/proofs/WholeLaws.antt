@@ -11,12 +11,15 @@ use Rattle.byte_grammar.proofs.Laws.{Meets, meets_then, meets_map, meets_same, a
 use Rattle.byte_grammar.proofs.Whole.{Nothing}
 use Rattle.recording.specs.declared.read.Stop.{Stop}
 use Rattle.recording.specs.declared.read.Stop.TheVariants as stop
-use Rattle.recording.specs.Items.{Body, moment, stored, number_line, body_text, IsNumber}
+use Rattle.byte_grammar.specs.Numbers.{number_line, IsNumber}
+use Rattle.recording.specs.Items.{Body, moment, stored, body_text}
 use Rattle.recording.specs.Recordings.{items_text, AreItems, HasForm}
 use Rattle.recording.specs.tools.Running.{moment_after, AreAllowedAfter, last_moment, HasLineAfter, IsLongAfter, IsFallingAfter}
-use Rattle.recording.specs.tools.RecordingWalk.{literal_read, number_line_read, turn_read, first_read, form_read, then_step, mapped_step, with_items, and_on, walk, first_step, recording_step}
-use Rattle.recording.specs.tools.RecordingTexts.{Anything, IsLiteral, IsNumberLine, IsTurn}
-use Rattle.recording.proofs.LiteralLaws.{meets_literal}
+use Rattle.byte_grammar.specs.tools.CountedWalk.{literal_read}
+use Rattle.recording.specs.tools.RecordingWalk.{number_line_read, turn_read, first_read, form_read, then_step, mapped_step, with_items, and_on, walk, first_step, recording_step}
+use Rattle.byte_grammar.specs.tools.CountedTexts.{Anything, IsLiteral}
+use Rattle.recording.specs.tools.RecordingTexts.{IsNumberLine, IsTurn}
+use Rattle.byte_grammar.proofs.LiteralLaws.{meets_literal}
 use Rattle.recording.proofs.NumberLaws.{meets_number_line}
 use Rattle.recording.proofs.FormLaws.{meets_items, turns_are, are_turns, is_number_of}
 use Rattle.recording.proofs.LoopLaws.{LineAfter, WalkSays, walk_says, walk_items, with_both}

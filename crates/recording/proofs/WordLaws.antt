@@ -9,9 +9,11 @@ use Rattle.recording.specs.declared.item.Role.TheVariants.{Request, Response, Re
 use Rattle.recording.specs.declared.word.Word.{Word}
 use Rattle.recording.specs.declared.word.Word.TheVariants as word
 use Rattle.recording.specs.Items.{message, kind_word}
-use Rattle.recording.specs.tools.RecordingWalk.{word_text, literal_read, role_at, word_at, word_in, word_read}
-use Rattle.recording.specs.tools.RecordingTexts.{Anything, IsWordText}
-use Rattle.recording.proofs.LiteralLaws.{meets_literal}
+use Rattle.byte_grammar.specs.tools.CountedWalk.{literal_read}
+use Rattle.recording.specs.tools.RecordingWalk.{word_text, role_at, word_at, word_in, word_read}
+use Rattle.byte_grammar.specs.tools.CountedTexts.{Anything}
+use Rattle.recording.specs.tools.RecordingTexts.{IsWordText}
+use Rattle.byte_grammar.proofs.LiteralLaws.{meets_literal}
 
 -- ---- the words by their first bytes
 

@@ -5,7 +5,8 @@ use Rattle.byte_grammar.specs.FaultOffset.{IsFaultOffset}
 use Rattle.recording.specs.declared.limits.TheConstants.{MAX_ITEM_BYTES}
 use Rattle.recording.specs.declared.fault.RecordingFault.{RecordingFault}
 use Rattle.recording.specs.declared.fault.RecordingFault.TheVariants.{Memory, Syntax, ItemTooLong, MomentFalls}
-use Rattle.recording.specs.Items.{Body, Kind, kind_word, number_line, IsNumber}
+use Rattle.byte_grammar.specs.Numbers.{number_line, IsNumber}
+use Rattle.recording.specs.Items.{Body, Kind, kind_word}
 use Rattle.recording.specs.Recordings.{AreItems, AreAllowed, HasForm, items_text, moments}
 
 -- the line says that its item has more bytes than an item may have, whatever is before it

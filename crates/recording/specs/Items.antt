@@ -1,7 +1,7 @@
 -- The items of a recording, and their text.
-use Rattle.std.specs.Prelude.{⊤, ℕ, ◌<◌, ◌≤◌, ◌^◌, List, [], ◌∷◌, ◌++◌, length, codes}
-use Rattle.std.specs.Fmt.{decimal}
-use Rattle.recording.specs.declared.limits.TheConstants.{MAX_NUMBER_DIGITS, MAX_ITEM_BYTES}
+use Rattle.std.specs.Prelude.{⊤, ℕ, ◌≤◌, List, [], ◌∷◌, ◌++◌, length, codes}
+use Rattle.byte_grammar.specs.Numbers.{number_line}
+use Rattle.recording.specs.declared.limits.TheConstants.{MAX_ITEM_BYTES}
 use Rattle.recording.specs.declared.item.Role.{Role}
 use Rattle.recording.specs.declared.item.Role.TheVariants.{Request, Response, Related}
 use Rattle.recording.specs.declared.item.ItemBody.{ItemBody}
@@ -42,10 +42,6 @@ kind_word (message Response) = codes "response "
 kind_word (message Related) = codes "related "
 kind_word script = codes "script "
 
--- a line with a number, which has no leading zeros
-abbrev pub number_line : List ℕ → ℕ → List ℕ
-number_line word number = word ++ (decimal number ++ codes "\n")
-
 -- a moment is a line; before bytes comes a line that says how many they are, and after them LF
 abbrev pub body_text : Body → List ℕ
 body_text (moment seconds) = number_line (codes "at ") seconds
@@ -55,10 +51,6 @@ body_text (stored kind text) = number_line (kind_word kind) (length text) ++ (te
 abbrev pub number_of : Body → ℕ
 number_of (moment seconds) = seconds
 number_of (stored kind text) = length text
-
--- a number of few digits
-abbrev pub IsNumber : ℕ → Type 0
-IsNumber number = number < 10 ^ MAX_NUMBER_DIGITS
 
 -- ---- limits and moments
 

@@ -129,3 +129,9 @@ abbrev pub CountsFault : ℕ → ℕ → ReaderStage → ItemFault → Type 0
 CountsFault before now (Refused earlier) fault = now ≡ before
 CountsFault before now stage Failed = Rose before now
 CountsFault before now stage fault = now ≡ before
+
+-- how many reads that give no byte come before this answer at most: one, where no item is found
+abbrev pub idle_reads : Result Bool ItemFault → ℕ
+idle_reads (Ok true) = 0
+idle_reads (Ok false) = 1
+idle_reads (Err fault) = 1

@@ -2,7 +2,8 @@
 use Rattle.std.specs.Prelude.{◌≡◌, ⊤, ℕ, ◌+◌, List, [], ◌∷◌, ◌++◌, length, map, codes}
 use Rattle.std.specs.List.{All, flat_map}
 use Rattle.std.specs.List.Sorted.{IsNonDecreasing}
-use Rattle.recording.specs.Items.{Body, moment, stored, PlacedItem, body_text, number_of, IsNumber, IsShort, moment_in}
+use Rattle.byte_grammar.specs.Numbers.{IsNumber}
+use Rattle.recording.specs.Items.{Body, moment, stored, PlacedItem, body_text, number_of, IsShort, moment_in}
 
 -- the line that names the format, and the items after it
 abbrev pub items_text : List Body → List ℕ

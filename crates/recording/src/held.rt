@@ -1,5 +1,7 @@
 //! Bytes that were given and not yet used.
 
+ghost use Rattle.std.specs.Prelude.{◌≡◌, ◌≤◌, drop, vec_len};
+
 use sfv_text::Memory;
 use std::alloc::Global;
 use std::marker::Model;
@@ -21,6 +23,16 @@ impl Model for HeldBytes {
     ghost view = { λ h. drop h.used h.bytes.items };
 
     ghost invariant = { λ h. h.used ≤ vec_len h.bytes };
+}
+
+/// Removes so many bytes at the begin, without the work of a `drain`.
+fn remove_front(bytes: &mut Vec<u8>, count: usize)
+    requires { count ≤ vec_len bytes.old }
+    ensures { bytes.new.items ≡ drop count bytes.old.items }
+{
+    let len = bytes.len();
+    bytes.copy_within(count..len, 0);
+    bytes.truncate(len - count);
 }
 
 impl HeldBytes {
@@ -57,7 +69,7 @@ impl HeldBytes {
         ensures err { OnErr result (self.new ≡ self.old) }
     {
         if self.used > 0 {
-            self.bytes.drain(..self.used);
+            remove_front(&mut self.bytes, self.used);
             self.used = 0;
         }
         self.bytes.extend_from_slice(piece)?;

@@ -30,7 +30,6 @@ mod item_fault;
 mod laws;
 mod limit_laws;
 mod limits;
-mod number;
 mod order;
 mod read;
 mod reader;
@@ -47,7 +46,7 @@ pub use laws::{
     the_rest_is_read_by_itself,
 };
 pub use limit_laws::limits_are_these;
-pub use limits::{MAX_HOPS, MAX_ITEM_BYTES, MAX_ITEMS, MAX_NUMBER_DIGITS};
+pub use limits::{MAX_HOPS, MAX_ITEM_BYTES, MAX_ITEMS};
 pub use order::{recorded_chain, role_of};
 pub use read::read_recording;
 pub use reader::{ItemReader, MAX_PIECE_BYTES, ReaderStage};

@@ -2,11 +2,10 @@
 
 ghost use Rattle.std.specs.Prelude.{◌≡◌};
 
-use crate::limits::{MAX_HOPS, MAX_ITEM_BYTES, MAX_ITEMS, MAX_NUMBER_DIGITS};
+use crate::limits::{MAX_HOPS, MAX_ITEM_BYTES, MAX_ITEMS};
 
 /// The limits of this crate are these numbers.
 pub fn limits_are_these()
-    ensures max_number_digits { MAX_NUMBER_DIGITS ≡ 15 }
     ensures max_item_bytes { MAX_ITEM_BYTES ≡ 16_777_216 }
     ensures max_items { MAX_ITEMS ≡ 1_000_000 }
     ensures max_hops { MAX_HOPS ≡ 64 }

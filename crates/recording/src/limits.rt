@@ -1,8 +1,5 @@
 //! What a recording, or the chain that it is, may have at most.
 
-/// How many digits a number may have: a moment in seconds, or a length in bytes.
-pub const MAX_NUMBER_DIGITS: usize = 15;
-
 /// How many bytes a message or a script may have.
 pub const MAX_ITEM_BYTES: usize = 16_777_216;
 

@@ -2,22 +2,20 @@
 
 ghost use Rattle.std.specs.Prelude.{◌≡◌, ◌≢◌, ◌≤◌, ℕ, Option, List, Ok, Err, length, option_map, IfOk, MatchResult};
 ghost use Rattle.byte_grammar.specs.Causes.{AnswersWhere};
-ghost use Rattle.byte_grammar.specs.Gives.{Gives as ReadGives};
 ghost use Rattle.recording.specs.Items.{Body, PlacedItem, body_of};
 ghost use Rattle.recording.specs.Recordings.{SpellsRecording};
 ghost use Rattle.recording.specs.Causes.{IsRecordingFault};
 ghost use Rattle.recording.specs.tools.Running.{moment_after};
-ghost use Rattle.recording.specs.tools.RecordingWalk.{bytes_read, text_read, moment_step, stored_step, item_step, first_step, recording_step};
+ghost use Rattle.recording.specs.tools.RecordingWalk.{moment_step, stored_step, item_step, first_step, recording_step};
 ghost use Rattle.recording.specs.tools.NextItems.{BeginsWithFirst, BeginsWithNext, IsStop, bytes_left};
 ghost use Rattle.recording.specs.tools.Judged.{Gives, Explains};
 
 use crate::fault::RecordingFault;
 use crate::item::ItemBody;
 use crate::limits::MAX_ITEM_BYTES;
-use crate::number::read_number_line;
 use crate::view::Recording;
-use crate::word::{Word, read_literal, read_word};
-use byte_grammar::{Byte, Left, read_byte};
+use crate::word::{Word, read_word};
+use byte_grammar::{Left, read_counted, read_literal, read_number};
 use std::alloc::Global;
 
 // The line that names the format.
@@ -46,33 +44,12 @@ impl From<Left> for Stop {
     }
 }
 
-// Splits off so many bytes. Where there are fewer, no byte is left.
-#[tactic(auto, unfolding(crate::specs::tools::RecordingWalk::bytes_read))]
-fn split_bytes(size: usize, bytes: &[u8]) -> Result<(&[u8], &[u8]), Left>
-    ensures { ReadGives (λ x. (x.0.now, x.1.now)) result (bytes_read size bytes.now) }
-{
-    if bytes.len() < size {
-        return Err(Left(0));
-    }
-    Ok(bytes.split_at(size))
-}
-
-// Reads so many bytes, and the LF after them.
-#[tactic(auto, unfolding(crate::specs::tools::RecordingWalk::text_read))]
-fn read_text(size: usize, bytes: &[u8]) -> Result<(&[u8], &[u8]), Left>
-    ensures { ReadGives (λ x. (x.0.now, x.1.now)) result (text_read size bytes.now) }
-{
-    let (text, rest) = split_bytes(size, bytes)?;
-    let (_lf, rest) = read_byte(Byte(b'\n'), rest)?;
-    Ok((text, rest))
-}
-
 // Reads the moment of an item that isn't the first, where so many bytes were left before its line.
 #[tactic(auto, unfolding(crate::specs::tools::RecordingWalk::moment_step))]
 fn read_moment(last: u64, line: usize, bytes: &[u8]) -> Result<(u64, &[u8]), Stop>
     ensures { Gives (λ x. (x.0, x.1.now)) result (moment_step last line bytes.now) }
 {
-    let (moment, rest) = read_number_line(bytes)?;
+    let (moment, rest) = read_number(b'\n', bytes)?;
     if moment < last {
         return Err(Stop::MomentFalls(line));
     }
@@ -85,11 +62,11 @@ fn read_moment(last: u64, line: usize, bytes: &[u8]) -> Result<(u64, &[u8]), Sto
 fn read_stored(line: usize, bytes: &[u8]) -> Result<(&[u8], &[u8]), Stop>
     ensures { Gives (λ x. (x.0.now, x.1.now)) result (stored_step line bytes.now) }
 {
-    let (size, rest) = read_number_line(bytes)?;
+    let (size, rest) = read_number(b'\n', bytes)?;
     if size > MAX_ITEM_BYTES as u64 {
         return Err(Stop::TooLong(line));
     }
-    Ok(read_text(size as usize, rest)?)
+    Ok(read_counted(size as usize, rest)?)
 }
 
 // Reads what comes after the last moment: an item, or the last line.
@@ -137,7 +114,7 @@ fn read_begin(text: &[u8]) -> Result<(u64, &[u8]), Stop>
 {
     let rest = read_literal(FIRST_LINE, text)?;
     let rest = read_literal(b"at ", rest)?;
-    Ok(read_number_line(rest)?)
+    Ok(read_number(b'\n', rest)?)
 }
 
 // Reads the line that names the format and the first item, which is a moment. Where it stops with

@@ -130,7 +130,7 @@ impl ItemReader {
     ghost use Rattle.std.specs.Prelude.{◌≡◌, ◌≤◌, ◌+◌, ℕ, List, Ok, Err, Some, None, length, IfErr, IfOk, IsSome, IsTrue, MatchResult, false, true};
     ghost use Rattle.std.specs.Io.KnownBytes.{Consumes};
     ghost use Rattle.recording.specs.Items.{PlacedItem, placed};
-    ghost use Rattle.recording.specs.Readers.{CountsFault, ReadsNext, ReadsNeeded, AnswersNext, nothing_read, size_held};
+    ghost use Rattle.recording.specs.Readers.{CountsFault, ReadsNext, ReadsNeeded, AnswersNext, idle_reads, nothing_read, size_held};
     ghost use Rattle.recording.specs.tools.NextItems.{bytes_left};
     ghost use Rattle.recording.specs.tools.ReaderSteps.{IsFound, IsSkipped, IsGoing, IsWaiting, IsReading, IsFew, IsAnEnd, Reaches, ReadsHeld, FindsNothing, GoesOver, AnswersEnd, TakesPiece, CountsRead, answered, fault_at};
     ghost use Rattle.recording.specs.declared.item_fault.ItemFault.{ItemFault};
@@ -178,6 +178,9 @@ impl ItemReader {
             fault) }
         ensures later { S.faults source.old ≤ S.faults source.new }
         ensures ended { S.ended source.old ≡ 0 → S.ended source.new ≤ 1 }
+
+        // Each read gives a byte or ends the call, without an item.
+        ensures idle { S.idle source.new ≤ S.idle source.old + idle_reads result }
         ensures unended { IfOk result (λ found. IsTrue found → S.ended source.old ≡ 0
             → S.ended source.new ≡ 0) }
     {
@@ -331,6 +334,7 @@ impl ItemReader {
     }
 
     /// Takes a piece of the source. It answers whether one came.
+    #[tactic(auto, using(crate::proofs::PieceLaws::piece_idle, crate::proofs::PieceLaws::once_idle))]
     fn take_piece<S: Source>(&mut self, source: &mut S) -> Result<bool, ItemFault>
         requires none { self.old.item ≡ None }
         requires short { length self.old.held ≤ MAX_ITEM_BYTES + 32 }
@@ -342,6 +346,7 @@ impl ItemReader {
         ensures faults { CountsRead (S.faults source.old) (S.faults source.new) result }
         ensures later { S.faults source.old ≤ S.faults source.new }
         ensures ended { S.ended source.old ≡ 0 → S.ended source.new ≤ 1 }
+        ensures idle { S.idle source.new ≤ S.idle source.old + idle_reads result }
         ensures unended { result ≡ Ok true → S.ended source.old ≡ 0 → S.ended source.new ≡ 0 }
     {
         let mut piece = [0u8; MAX_PIECE_BYTES];
@@ -381,6 +386,7 @@ impl ItemReader {
         ensures faults { CountsRead (S.faults source.old) (S.faults source.new) result }
         ensures later { S.faults source.old ≤ S.faults source.new }
         ensures ended { S.ended source.old ≡ 0 → S.ended source.new ≤ 1 }
+        ensures idle { S.idle source.new ≤ S.idle source.old + idle_reads result }
         ensures unended { result ≡ Ok true → S.ended source.old ≡ 0 → S.ended source.new ≡ 0 }
     {
         'pieces: while !self.reach_held()? {

@@ -1,11 +1,11 @@
 //! Words with which the lines of a recording begin.
 
-ghost use Rattle.std.specs.Prelude.{◌≡◌, ◌≤◌, length};
+ghost use Rattle.std.specs.Prelude.{◌≡◌};
 ghost use Rattle.byte_grammar.specs.Gives.{Gives};
-ghost use Rattle.recording.specs.tools.RecordingWalk.{word_text, common_length, literal_read, role_at, word_at, word_read};
+ghost use Rattle.recording.specs.tools.RecordingWalk.{word_text, role_at, word_at, word_read};
 
 use crate::item::Role;
-use byte_grammar::Left;
+use byte_grammar::{Left, read_literal};
 
 /// The word with which a line begins. Each but the last word has SP after it.
 #[derive(Clone, Copy)]
@@ -30,34 +30,6 @@ impl Word {
             Word::End => b"end\n",
         }
     }
-}
-
-/// How many first bytes the two have in common.
-fn common_len(text: &[u8], bytes: &[u8]) -> usize
-    ensures value { result ≡ common_length text.now bytes.now }
-    ensures in_text { result ≤ length text.now }
-    ensures in_bytes { result ≤ length bytes.now }
-{
-    let mut n = 0;
-    while n < text.len() && n < bytes.len() {
-        if text[n] != bytes[n] {
-            return n;
-        }
-        n += 1;
-    }
-    n
-}
-
-/// Reads just this text.
-#[tactic(auto, unfolding(crate::specs::tools::RecordingWalk::literal_read))]
-pub(crate) fn read_literal<'r>(text: &[u8], bytes: &'r [u8]) -> Result<&'r [u8], Left>
-    ensures { Gives (λ rest. (text.now, rest.now)) result (literal_read text.now bytes.now) }
-{
-    let n = common_len(text, bytes);
-    if n < text.len() {
-        return Err(Left(bytes.len() - n));
-    }
-    Ok(&bytes[text.len()..])
 }
 
 /// The role of the word that may begin with `r` and these bytes. All three go on with `e`.

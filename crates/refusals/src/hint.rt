@@ -221,7 +221,7 @@ fn ids_hint(fault: &IdFault) -> &'static str
 {
     match fault {
         IdFault::Memory => "out of memory",
-        IdFault::TooMany => "there are more than 64 components",
+        IdFault::TooMany => "there are more than 128 components",
         IdFault::BadComponent(_, reason) => reason_hint(*reason),
         IdFault::Repeated(_) => { "the component of that index, counted from 0, is there twice" }
         IdFault::BadParameter(_) => {

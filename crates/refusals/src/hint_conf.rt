@@ -11,6 +11,11 @@ use sfv_text::Text;
 fn keys_hint(path: &[u8]) -> &'static str
     ensures { IsTrue (list_all is_line_byte result.now) }
 {
+    if path == b"policies".as_slice() {
+        return "a table of `policies` has a key that isn't known; it takes tag, max-age, skew, \
+            require-request, require-response, expires, nonce and digest; nonces stands before \
+            the first table";
+    }
     if path == b"policy".as_slice() {
         return "`policy` has a key that isn't known; it takes max-age, skew, require-request, \
             require-response, expires, nonce, nonces, tag and digest";
@@ -23,7 +28,8 @@ fn keys_hint(path: &[u8]) -> &'static str
         return "`gateway` has a key that isn't known; it takes label and steps";
     }
     "there is a key that isn't known before the first table, or a table that isn't; version, \
-     scheme and the tables keys, types, policy, sign and gateway are"
+     scheme and the tables keys, types, sign and gateway are, in version 1 policy too, and in \
+     version 2 nonces and the tables of policies"
 }
 
 /// What the value of a key of `policy` has to be.
@@ -51,6 +57,34 @@ fn policy_hint(path: &[u8]) -> &'static str
     }
     if path == b"policy.tag".as_slice() {
         return "policy.tag is a text in quotes, of characters from space to ~";
+    }
+    "a list of covered components is a text in quotes with names in double quotes within \
+     parentheses, as require-request = '(\"@method\" \"date\")', and no parameters after it"
+}
+
+/// What the value of a key of the tables of `policies` has to be.
+fn policies_hint(path: &[u8]) -> &'static str
+    ensures { IsTrue (list_all is_line_byte result.now) }
+{
+    if path == b"policies.max-age".as_slice() {
+        return "max-age is an integer without quotes, seconds from 1 to 604800, and with twice \
+            the skew of the same table (60 where it isn't set) at most 604800";
+    }
+    if path == b"policies.skew".as_slice() {
+        return "skew is an integer without quotes, seconds from 0 to 3600";
+    }
+    if path == b"policies.nonce".as_slice() {
+        return "nonce is \"ignore\", \"check\" or \"require\"";
+    }
+    if path == b"policies.expires".as_slice() {
+        return "expires is \"optional\" or \"require\"";
+    }
+    if path == b"policies.digest".as_slice() {
+        return "digest is \"ignore\", \"content\" or \"always\"";
+    }
+    if path == b"policies.tag".as_slice() {
+        return "tag is a text in quotes, of characters from space to ~: the tag of the signatures \
+            that the policy is for";
     }
     "a list of covered components is a text in quotes with names in double quotes within \
      parentheses, as require-request = '(\"@method\" \"date\")', and no parameters after it"
@@ -100,7 +134,14 @@ fn top_hint(path: &[u8]) -> &'static str
     ensures { IsTrue (list_all is_line_byte result.now) }
 {
     if path == b"version".as_slice() {
-        return "version is the integer 1, without quotes";
+        return "version is the integer 1 or 2, without quotes";
+    }
+    if path == b"nonces".as_slice() {
+        return "nonces is an integer without quotes, from 1 to 65536";
+    }
+    if path == b"policies".as_slice() {
+        return "policies is an array of 1 to 16 tables, each with a tag of its own, and one of \
+            them may have none: lines [[policies]], each with the keys of one policy after it";
     }
     if path == b"scheme".as_slice() {
         return "scheme is \"http\" or \"https\"";
@@ -122,6 +163,9 @@ fn top_hint(path: &[u8]) -> &'static str
 fn value_hint(path: &[u8]) -> &'static str
     ensures { IsTrue (list_all is_line_byte result.now) }
 {
+    if path.starts_with(b"policies.") {
+        return policies_hint(path);
+    }
     if path.starts_with(b"policy.") {
         return policy_hint(path);
     }

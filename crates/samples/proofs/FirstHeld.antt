@@ -26,9 +26,8 @@ use Rattle.signing.specs.Written.{signed_message}
 use Rattle.verdicts.specs.ContentDigest.{HasDigest, digest_text as digest_field}
 use Rattle.verdicts.specs.Policies.{AcceptsByPolicy, IsCovered, required_ids}
 use Rattle.verdicts.specs.Verdicts.{Accepts}
-use Rattle.verdicts.specs.Verification.{policy_of}
 use Rattle.samples.specs.Chains.{IsUnsigned, sample_context}
-use Rattle.samples.specs.Requests.{content_of, request_text, sample_configuration, sample_key, sample_keyid, sample_params, sample_spec}
+use Rattle.samples.specs.Requests.{always_digested, content_of, request_text, sample_key, sample_keyid, sample_params, sample_spec}
 use Rattle.samples.proofs.FirstReady.{first_ready, signed_is}
 use Rattle.samples.proofs.Signable.{dict_in_range, digest_are_bytes, digest_value, member, no_sign_fault}
 use Rattle.samples.proofs.Unsigned.{message_with, unsigned_one}
@@ -36,7 +35,7 @@ use Rattle.samples.proofs.Valid.{spec_valid}
 use Rattle.samples.proofs.KeptHops.{HoldsSignature, judged, label}
 
 -- the policy asks for no component
-none_asked : (of_request : Bool) → All (IsCovered sample_params.ids) (required_ids sample_configuration.policy of_request)
+none_asked : (of_request : Bool) → All (IsCovered sample_params.ids) (required_ids always_digested of_request)
 none_asked true = All-nil (IsCovered sample_params.ids)
 none_asked false = All-nil (IsCovered sample_params.ids)
 
@@ -81,7 +80,7 @@ module _ (seed : ℕ) (unsigned signed : Message) (is : IsUnsigned seed unsigned
     holds = subst (λ (m : Message). DigestHolds (digest_field m) (message_content m)) (sym (signed_is seed unsigned signed is by)) (digest_holds (content_of seed) (hmac sample_key (signature_base sample_params by.values)));
   }
 
-  by_policy : AcceptsByPolicy (judged signed) (policy_of sample_configuration sample_params) sample_params
+  by_policy : AcceptsByPolicy (judged signed) always_digested sample_params
   by_policy = record {
     covered = none_asked (is_request signed.head.start);
     created = record { begun = le_z_yes tt; recent = le_z_yes tt };
@@ -101,7 +100,9 @@ module _ (seed : ℕ) (unsigned signed : Message) (is : IsUnsigned seed unsigned
     keyid_is = refl;
     key = sample_key;
     key_is = map.get-insert nat_list_cmp_total map.empty sample_keyid sample_key sample_keyid;
-    policy = by_policy;
+    policy = always_digested;
+    chosen = refl;
+    accepted = by_policy;
     values = can.1.values;
     have = first_values;
     mac = can.1.mac;

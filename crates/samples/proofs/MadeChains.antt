@@ -14,7 +14,8 @@ use Rattle.rewrite_script.specs.Scripts.{script_text}
 use Rattle.rewrite_script.specs.declared.rewrite.Rewrite.{Rewrite}
 use Rattle.rewrites.specs.Steps.{Step, Steps}
 use Rattle.rewrites.proofs.StepKinds.{gives_kind}
-use Rattle.recording.specs.Items.{Body, IsNumber, IsShort, Kind, PlacedItem, moment, stored, message, script, number_of}
+use Rattle.byte_grammar.specs.Numbers.{IsNumber}
+use Rattle.recording.specs.Items.{Body, IsShort, Kind, PlacedItem, moment, stored, message, script, number_of}
 use Rattle.recording.specs.Recordings.{AreItems, bodies}
 use Rattle.recording.specs.declared.item.Role.TheVariants.{Request}
 use Rattle.recording.specs.declared.limits.TheConstants.{MAX_ITEM_BYTES}

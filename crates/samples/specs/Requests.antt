@@ -8,6 +8,7 @@ use Rattle.component_ids.specs.declared.params.SigParams.{SigParams}
 use Rattle.content_digest.specs.declared.algorithm.Algorithm.TheVariants.{Sha256}
 use Rattle.settings.specs.Configuration.{Configuration}
 use Rattle.settings.specs.Standard.{standard_configuration, standard_policy}
+use Rattle.settings.specs.declared.policy.Policy.{Policy}
 use Rattle.settings.specs.declared.policy.DigestUse.TheVariants.{Always}
 use Rattle.signing.specs.Asked.{moment_item}
 use Rattle.signing.specs.declared.spec.SignSpec.{SignSpec}
@@ -62,23 +63,28 @@ sample_spec = record {
   digest = Some Sha256;
 }
 
+-- the standard policy, but that a digest is always asked for
+abbrev pub always_digested : Policy
+always_digested = record {
+  selects = standard_policy.selects;
+  max_age = standard_policy.max_age;
+  skew = standard_policy.skew;
+  require_request = standard_policy.require_request;
+  require_response = standard_policy.require_response;
+  expires = standard_policy.expires;
+  nonce = standard_policy.nonce;
+  tag = standard_policy.tag;
+  digest = Always;
+}
+
 -- by what the chain is judged: the standard, with the one key, and a digest is always asked for
 abbrev pub sample_configuration : Configuration
 sample_configuration = record {
   scheme = standard_configuration.scheme;
   keys = finmap.insert finmap.empty sample_keyid sample_key;
   types = standard_configuration.types;
-  policy = record {
-    max_age = standard_policy.max_age;
-    skew = standard_policy.skew;
-    require_request = standard_policy.require_request;
-    require_response = standard_policy.require_response;
-    expires = standard_policy.expires;
-    nonce = standard_policy.nonce;
-    nonces = standard_policy.nonces;
-    tag = standard_policy.tag;
-    digest = Always;
-  };
+  policies = always_digested ∷ [];
+  nonces = standard_configuration.nonces;
   sign = None;
   gateway = None;
 }

@@ -2,13 +2,12 @@
 use Rattle.std.specs.Prelude.{◌≡◌, ℕ, ◌*◌, Bool, false, List, [], ◌∷◌, ◌++◌, length, codes, count_by}
 use Rattle.msg_body.specs.Messages.{Message, message_text}
 use Rattle.verdicts.specs.Verdicts.{is_accepted}
-use Rattle.recording.specs.Items.{number_line}
 use Rattle.hop_audit.specs.ChainValues.{Chain, Hop}
 use Rattle.hop_audit.specs.Lines.{finds_fault, is_kept}
 use Rattle.hop_audit.specs.Report.{IsReport}
 use Rattle.hop_audit.specs.declared.line.AuditLine.{AuditLine}
 use Rattle.hop_audit.specs.declared.line.AuditLine.TheVariants.{Message as MessageLine, Label}
-pub use Rattle.recording.specs.Items.{number_line}
+pub use Rattle.byte_grammar.specs.Numbers.{number_line}
 use Rattle.samples.specs.Chains.{IsSampleChain}
 use Rattle.samples.specs.Requests.{sample_configuration}
 use Rattle.samples.specs.declared.summary.Summary.{Summary}

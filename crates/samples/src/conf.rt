@@ -8,7 +8,7 @@ use crate::limits::MOMENT;
 use component_ids::{ComponentId, Ids, Scheme, SigParams, Types};
 use content_digest::Algorithm;
 use hmac_sha256::HmacKey;
-use settings::{Conf, DigestUse, Keys, Policy};
+use settings::{Conf, DigestUse, Keys, MAX_ENTRIES, Policies, Policy};
 use sfv_text::{BareItem, Memory, Params, Text};
 use signing::SignSpec;
 use std::alloc::Global;
@@ -26,7 +26,15 @@ pub(crate) fn sample_conf(alloc: Global) -> Result<Conf, Memory>
     let mut policy = Policy::standard(alloc);
     policy.digest = DigestUse::Always;
     let types = Types::standard(alloc)?;
-    let mut conf = Conf::new(Scheme::Https, Keys::new(alloc), types, policy, None);
+    let mut policies = Policies::new(alloc);
+    policies.push(policy)?;
+    let mut conf = Conf::new(
+        Scheme::Https,
+        Keys::new(alloc),
+        types,
+        policies,
+        MAX_ENTRIES,
+    );
     conf.add_key(b"sample", &SAMPLE_KEY)?;
     Ok(conf)
 }

@@ -2,7 +2,7 @@
 
 ghost use Rattle.std.specs.Prelude.{◌≡◌, ◌≤◌, ◌++◌, ◌*◌, OnOk, count_by};
 ghost use Rattle.hop_audit.specs.Lines.{finds_fault};
-ghost use Rattle.recording.specs.Items.{number_line};
+ghost use Rattle.byte_grammar.specs.Numbers.{number_line};
 ghost use Rattle.recording.specs.declared.limits.TheConstants.{MAX_HOPS};
 ghost use Rattle.samples.specs.Summary.{is_kept_line, is_ok_line, is_permitted_line, summary_text};
 

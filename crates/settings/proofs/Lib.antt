@@ -4,3 +4,4 @@ pub mod Names
 mod ValidLaws
 pub mod StandardLaws
 pub mod ValidInside
+pub mod ChosenLaws

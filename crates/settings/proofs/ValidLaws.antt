@@ -4,11 +4,8 @@ use Rattle.std.specs.Prelude.{IsSome}
 use Rattle.std.specs.FinMap as map
 use Rattle.std.specs.Ordering.{is_eq}
 use Rattle.std.proofs.lemmas.Cmp.{nat_list_cmp_total}
-use Rattle.component_ids.specs.Types.{KindMap}
-use Rattle.component_ids.specs.declared.scheme.Scheme.{Scheme}
-use Rattle.settings.specs.declared.gateway_conf.GatewayConf.{GatewayConf}
-use Rattle.settings.specs.declared.policy.Policy.{Policy}
 use Rattle.settings.specs.declared.sign_conf.SignConf.{SignConf}
+use Rattle.settings.specs.Configuration.{Configuration}
 use Rattle.settings.specs.Keys.{KeyMap}
 use Rattle.settings.specs.Valid.{IsValid, IsValidSign}
 use Rattle.settings.specs.Keys.{IsHmacKey, is_keyid}
@@ -46,21 +43,22 @@ sign_stays keys keyid key sign valid = record {
   tag = valid.tag;
 }
 
-pub valid_with : (scheme : Scheme) (keys new : KeyMap) (types : KindMap) (policy : Policy) (sign : Option SignConf) (gateway : Option GatewayConf) (keyid key : List ℕ)
-    → IsValid (record { scheme = scheme; keys = keys; types = types; policy = policy; sign = sign; gateway = gateway }) → IsTrue (is_keyid keyid) → IsHmacKey key
-    → new ≡ map.insert keys keyid key → IsValid (record { scheme = scheme; keys = new; types = types; policy = policy; sign = sign; gateway = gateway })
-valid_with scheme keys new types policy sign gateway keyid key valid keyid_is key_is is =
+pub valid_with : (conf : Configuration) (keys : KeyMap) (keyid key : List ℕ) → IsValid conf → IsTrue (is_keyid keyid) → IsHmacKey key → keys ≡ map.insert conf.keys keyid key
+    → IsValid (record { scheme = conf.scheme; keys = keys; types = conf.types; policies = conf.policies; nonces = conf.nonces; sign = conf.sign; gateway = conf.gateway })
+valid_with conf keys keyid key valid keyid_is key_is is =
     rw is (record {
-      keyids = came_or_was (λ q k. IsTrue (is_keyid q)) keys keyid key keyid_is valid.keyids;
-      keys = came_or_was (λ q k. IsHmacKey k) keys keyid key key_is valid.keys;
-      policy = valid.policy;
-      sign = λ s there. sign_stays keys keyid key s (valid.sign s there);
+      keyids = came_or_was (λ q k. IsTrue (is_keyid q)) conf.keys keyid key keyid_is valid.keyids;
+      keys = came_or_was (λ q k. IsHmacKey k) conf.keys keyid key key_is valid.keys;
+      policies = valid.policies;
+      least_nonces = valid.least_nonces;
+      most_nonces = valid.most_nonces;
+      sign = λ s there. sign_stays conf.keys keyid key s (valid.sign s there);
       gateway = valid.gateway;
     })
 
 -- whether the key was added or not
-pub valid_after : {T E : Type 0} (scheme : Scheme) (keys new : KeyMap) (types : KindMap) (policy : Policy) (sign : Option SignConf) (gateway : Option GatewayConf) (keyid key : List ℕ) (result : Result T E)
-    → IsValid (record { scheme = scheme; keys = keys; types = types; policy = policy; sign = sign; gateway = gateway }) → IsTrue (is_keyid keyid) → IsHmacKey key
-    → OnOk result (new ≡ map.insert keys keyid key) → OnErr result (new ≡ keys) → IsValid (record { scheme = scheme; keys = new; types = types; policy = policy; sign = sign; gateway = gateway })
-valid_after scheme keys new types policy sign gateway keyid key (Ok x) valid keyid_is key_is ok err = valid_with scheme keys new types policy sign gateway keyid key valid keyid_is key_is ok
-valid_after scheme keys new types policy sign gateway keyid key (Err e) valid keyid_is key_is ok err = rw err valid
+pub valid_after : {T E : Type 0} (conf : Configuration) (keys : KeyMap) (keyid key : List ℕ) (result : Result T E) → IsValid conf → IsTrue (is_keyid keyid) → IsHmacKey key
+    → OnOk result (keys ≡ map.insert conf.keys keyid key) → OnErr result (keys ≡ conf.keys)
+    → IsValid (record { scheme = conf.scheme; keys = keys; types = conf.types; policies = conf.policies; nonces = conf.nonces; sign = conf.sign; gateway = conf.gateway })
+valid_after conf keys keyid key (Ok x) valid keyid_is key_is ok err = valid_with conf keys keyid key valid keyid_is key_is ok
+valid_after conf keys keyid key (Err e) valid keyid_is key_is ok err = rw err valid

@@ -9,7 +9,8 @@ meaning conf =
       scheme = conf.scheme;
       keys = conf.keys;
       types = conf.types;
-      policy = conf.policy;
+      policies = conf.policies;
+      nonces = conf.nonces;
       sign = conf.sign;
       gateway = conf.gateway;
     }

@@ -1,5 +1,5 @@
 -- What a configuration is, apart from its text: nothing here names TOML.
-use Rattle.std.specs.Prelude.{Option}
+use Rattle.std.specs.Prelude.{ℕ, Option, List}
 use Rattle.component_ids.specs.Types.{KindMap}
 use Rattle.component_ids.specs.declared.scheme.Scheme.{Scheme}
 use Rattle.settings.specs.declared.gateway_conf.GatewayConf.{GatewayConf}
@@ -12,6 +12,7 @@ pub record Configuration : Type 0 where
   pub scheme : Scheme
   pub keys : KeyMap
   pub types : KindMap
-  pub policy : Policy
+  pub policies : List Policy
+  pub nonces : ℕ
   pub sign : Option SignConf
   pub gateway : Option GatewayConf

@@ -3,8 +3,11 @@ pub mod Covered
 pub mod ReadList
 pub mod Words
 pub mod ValidSections
+pub mod ValidPolicies
+pub mod Chosen
 pub mod Configuration
 pub mod Valid
 pub mod ConfMeaning
 pub mod Standard
+pub mod Laws
 pub mod tools

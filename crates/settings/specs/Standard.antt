@@ -1,5 +1,5 @@
 -- What holds where a configuration says nothing.
-use Rattle.std.specs.Prelude.{false, None, []}
+use Rattle.std.specs.Prelude.{false, None, [], ◌∷◌}
 use Rattle.std.specs.FinMap as map
 use Rattle.nonces.specs.declared.limits.TheConstants.{MAX_ENTRIES}
 use Rattle.component_ids.specs.Types.{standard_types}
@@ -14,13 +14,13 @@ use Rattle.settings.specs.Configuration.{Configuration}
 abbrev pub standard_policy : Policy
 standard_policy =
     record {
+      selects = None;
       max_age = DEFAULT_MAX_AGE;
       skew = DEFAULT_SKEW;
       require_request = [];
       require_response = [];
       expires = false;
       nonce = nonce.Ignore;
-      nonces = MAX_ENTRIES;
       tag = None;
       digest = digest.Ignore;
     }
@@ -32,7 +32,8 @@ standard_configuration =
       scheme = Https;
       keys = map.empty;
       types = standard_types;
-      policy = standard_policy;
+      policies = standard_policy ∷ [];
+      nonces = MAX_ENTRIES;
       sign = None;
       gateway = None;
     }

@@ -1,12 +1,14 @@
 -- What holds of every configuration.
-use Rattle.std.specs.Prelude.{◌≡◌, ℕ, Some, IsSome, IsTrue, List}
+use Rattle.std.specs.Prelude.{◌≡◌, ◌≤◌, ℕ, Some, IsSome, IsTrue, List}
 use Rattle.std.specs.FinMap as map
 use Rattle.std.specs.Option.{ForSome}
 use Rattle.std.specs.List.{list_all}
 use Rattle.sfv_text.specs.Range.{is_string_byte, is_key}
 use Rattle.settings.specs.Keys.{IsHmacKey, is_keyid}
 use Rattle.settings.specs.declared.sign_conf.SignConf.{SignConf}
-use Rattle.settings.specs.ValidSections.{AreValidComponents, AreValidSeconds, IsValidGateway, IsValidPolicy}
+use Rattle.settings.specs.ValidSections.{AreValidComponents, AreValidSeconds, IsValidGateway}
+use Rattle.settings.specs.ValidPolicies.{AreValidPolicies}
+use Rattle.nonces.specs.declared.limits.TheConstants.{MAX_ENTRIES}
 use Rattle.settings.specs.Configuration.{Configuration}
 use Rattle.settings.specs.Keys.{KeyMap}
 
@@ -23,6 +25,8 @@ pub record IsValidSign (keys : KeyMap) (sign : SignConf) : Type 0 where
 pub record IsValid (conf : Configuration) : Type 0 where
   pub keyids : (keyid key : List ℕ) → map.get conf.keys keyid ≡ Some key → IsTrue (is_keyid keyid)
   pub keys : (keyid key : List ℕ) → map.get conf.keys keyid ≡ Some key → IsHmacKey key
-  pub policy : IsValidPolicy conf.policy
+  pub policies : AreValidPolicies conf.policies
+  pub least_nonces : 1 ≤ conf.nonces
+  pub most_nonces : conf.nonces ≤ MAX_ENTRIES
   pub sign : ForSome conf.sign (IsValidSign conf.keys)
   pub gateway : ForSome conf.gateway IsValidGateway

@@ -6,7 +6,7 @@ use Rattle.sfv_text.specs.Range.{is_key, is_string_byte}
 use Rattle.component_ids.specs.declared.id.ComponentId.{ComponentId}
 use Rattle.component_ids.specs.Identifiers.{is_id_in_range}
 use Rattle.component_ids.specs.SignatureParams.{IsSigParams}
-use Rattle.nonces.specs.declared.limits.TheConstants.{MAX_ENTRIES, MAX_WINDOW}
+use Rattle.nonces.specs.declared.limits.TheConstants.{MAX_WINDOW}
 use Rattle.rewrite_script.specs.Lines.{is_writable}
 use Rattle.rewrite_script.specs.Scripts.{HaveValues}
 use Rattle.rewrite_script.specs.declared.limits.TheConstants.{MAX_SCRIPT_LINES}
@@ -25,7 +25,7 @@ pub record AreValidSeconds (seconds : ℕ) : Type 0 where
   pub some : 1 ≤ seconds
   pub few : seconds ≤ MAX_EXPIRES_AFTER
 
--- seconds and nonces are in their ranges, and the window of nonces is at most a day
+-- seconds are in their ranges, and the window of nonces is at most a week
 pub record IsValidPolicy (policy : Policy) : Type 0 where
   pub least_age : 1 ≤ policy.max_age
   pub most_age : policy.max_age ≤ MAX_AGE
@@ -33,8 +33,7 @@ pub record IsValidPolicy (policy : Policy) : Type 0 where
   pub window : policy.max_age + 2 * policy.skew ≤ MAX_WINDOW
   pub require_request : AreValidComponents policy.require_request
   pub require_response : AreValidComponents policy.require_response
-  pub least_nonces : 1 ≤ policy.nonces
-  pub most_nonces : policy.nonces ≤ MAX_ENTRIES
+  pub selects : ForSome policy.selects (λ tag. IsTrue (list_all is_string_byte tag))
   pub tag : ForSome policy.tag (λ tag. IsTrue (list_all is_string_byte tag))
 
 -- the label is a key of a Dictionary, and the steps are those of a script

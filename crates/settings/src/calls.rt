@@ -1,46 +1,48 @@
 //! What a configuration is asked for.
 
-ghost use Rattle.std.specs.Prelude.{◌≡◌, None, Some, IfOk, IfSome, OnOk, OnErr, IsTrue, option_copied};
+ghost use Rattle.std.specs.Prelude.{◌≡◌, ◌≤◌, None, Some, IfOk, IfSome, OnOk, OnErr, IsTrue, option_copied};
+ghost use Rattle.std.specs.List.{Contains};
 ghost use Rattle.std.specs.FinMap as map;
+ghost use Rattle.settings.specs.Chosen.{policy_for};
 ghost use Rattle.settings.specs.ConfMeaning.{meaning};
 ghost use Rattle.settings.specs.Keys.{IsHmacKey, is_keyid};
 ghost use Rattle.settings.specs.Standard.{standard_configuration};
 ghost use Rattle.settings.specs.Valid.{IsValid, IsValidSign};
 ghost use Rattle.settings.specs.ValidSections.{IsValidGateway, IsValidPolicy};
+ghost use Rattle.settings.specs.ValidPolicies.{AreValidPolicies};
+ghost use Rattle.nonces.specs.declared.limits.TheConstants.{MAX_ENTRIES};
 
 use crate::conf::Conf;
 use crate::gateway_conf::GatewayConf;
 use crate::keys::Keys;
+use crate::policies::{Policies, policy_for};
 use crate::policy::Policy;
 use crate::sign_conf::SignConf;
 use component_ids::{Scheme, Types};
 use hmac_sha256::HmacKey;
+use nonces::MAX_ENTRIES;
 use sfv_text::Memory;
 use std::alloc::Global;
 
 impl Conf {
-    /// The configuration of these parts, without a gateway.
-    pub fn new(
-        scheme: Scheme,
-        keys: Keys,
-        types: Types,
-        policy: Policy,
-        sign: Option<SignConf>,
-    ) -> Conf
+    /// The configuration of these parts, by which nothing is signed and without a gateway.
+    pub fn new(scheme: Scheme, keys: Keys, types: Types, policies: Policies, nonces: usize) -> Conf
         requires { IsValid (record {
           scheme = scheme;
           keys = keys;
           types = types;
-          policy = policy;
-          sign = sign;
+          policies = policies;
+          nonces = nonces;
+          sign = None;
           gateway = None;
         }) }
         ensures { meaning result ≡ record {
           scheme = scheme;
           keys = keys;
           types = types;
-          policy = policy;
-          sign = sign;
+          policies = policies;
+          nonces = nonces;
+          sign = None;
           gateway = None;
         } }
     {
@@ -48,9 +50,35 @@ impl Conf {
             scheme,
             keys,
             types,
-            policy,
-            sign,
+            policies,
+            nonces,
+            sign: None,
             gateway: None,
+        }
+    }
+
+    /// The same configuration by which messages are signed so, in place of what it says of that.
+    pub fn with_sign(self, sign: SignConf) -> Conf
+        requires { IsValidSign (meaning self).keys sign }
+        ensures { meaning result ≡ record (meaning self) { sign = Some sign } }
+    {
+        let Conf {
+            scheme,
+            keys,
+            types,
+            policies,
+            nonces,
+            sign: _,
+            gateway,
+        } = self;
+        Conf {
+            scheme,
+            keys,
+            types,
+            policies,
+            nonces,
+            sign: Some(sign),
+            gateway,
         }
     }
 
@@ -63,7 +91,8 @@ impl Conf {
             scheme,
             keys,
             types,
-            policy,
+            policies,
+            nonces,
             sign,
             gateway: _,
         } = self;
@@ -71,7 +100,8 @@ impl Conf {
             scheme,
             keys,
             types,
-            policy,
+            policies,
+            nonces,
             sign,
             gateway: Some(gateway),
         }
@@ -82,8 +112,15 @@ impl Conf {
         ensures { IfOk result (λ conf. meaning conf ≡ standard_configuration) }
     {
         let types = Types::standard(alloc)?;
-        let policy = Policy::standard(alloc);
-        Ok(Conf::new(Scheme::Https, Keys::new(alloc), types, policy, None))
+        let mut policies = Policies::new(alloc);
+        policies.push(Policy::standard(alloc))?;
+        Ok(Conf::new(
+            Scheme::Https,
+            Keys::new(alloc),
+            types,
+            policies,
+            MAX_ENTRIES,
+        ))
     }
 
     /// The scheme of requests that don't name it (RFC 9421 section 2.2.4).
@@ -100,12 +137,33 @@ impl Conf {
         &self.types
     }
 
-    /// How signatures are judged.
-    pub fn policy(&self) -> &Policy
-        ensures is { result.now ≡ (meaning self.now).policy }
-        ensures valid { IsValidPolicy result.now }
+    /// How signatures are judged: at least one policy, and no two for one tag.
+    pub fn policies(&self) -> &Policies
+        ensures is { result.now ≡ (meaning self.now).policies }
+        ensures valid { AreValidPolicies result.now }
     {
-        &self.policy
+        &self.policies
+    }
+
+    /// How a signature with this parameter `tag`, or with none, is judged (RFC 9421 section 2.3):
+    /// by the policy that selects the tag, or else by the one that selects none. There is no such
+    /// policy where there is neither. It takes no memory.
+    pub fn policy_for(&self, tag: Option<&[u8]>) -> Option<&Policy>
+        ensures is { option_copied result
+            ≡ policy_for (meaning self.now).policies (option_copied tag.entry) }
+        ensures valid { IfSome result (λ policy. IsValidPolicy policy.now) }
+        ensures one { IfSome result (λ policy. Contains (meaning self.now).policies policy.now) }
+    {
+        policy_for(self.policies.as_slice(), tag)
+    }
+
+    /// How many nonces are remembered.
+    pub fn nonces(&self) -> usize
+        ensures is { result ≡ (meaning self.now).nonces }
+        ensures least { 1 ≤ result }
+        ensures most { result ≤ MAX_ENTRIES }
+    {
+        self.nonces
     }
 
     /// How messages are signed, where it is configured.
@@ -155,7 +213,8 @@ impl Conf {
         ensures err { OnErr result ((meaning self.new).keys ≡ (meaning self.old).keys) }
         ensures scheme { (meaning self.new).scheme ≡ (meaning self.old).scheme }
         ensures types { (meaning self.new).types ≡ (meaning self.old).types }
-        ensures policy { (meaning self.new).policy ≡ (meaning self.old).policy }
+        ensures policies { (meaning self.new).policies ≡ (meaning self.old).policies }
+        ensures nonces { (meaning self.new).nonces ≡ (meaning self.old).nonces }
         ensures sign { (meaning self.new).sign ≡ (meaning self.old).sign }
         ensures gateway { (meaning self.new).gateway ≡ (meaning self.old).gateway }
     {

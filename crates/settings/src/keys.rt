@@ -1,6 +1,6 @@
 //! Keys by their keyids.
 
-ghost use Rattle.std.specs.Prelude.{◌≡◌, IfOk, OnOk, OnErr, option_copied};
+ghost use Rattle.std.specs.Prelude.{◌≡◌, OnOk, OnErr, option_copied};
 ghost use Rattle.std.specs.FinMap as map;
 
 use hmac_sha256::HmacKey;

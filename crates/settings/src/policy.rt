@@ -6,13 +6,15 @@ ghost use Rattle.settings.specs.Words.{digest_use_of_word, nonce_use_of_word};
 
 use crate::limits::{DEFAULT_MAX_AGE, DEFAULT_SKEW};
 use component_ids::Ids;
-use nonces::MAX_ENTRIES;
 use sfv_text::Text;
 use std::alloc::Global;
 
-/// How signatures are judged: the table `policy`.
+/// How signatures are judged: the table `policy`, or one of the tables of `policies`.
 #[derive(Drop)]
 pub struct Policy {
+    /// The value of the parameter `tag` of the signatures that it judges (RFC 9421 section 2.3);
+    /// none where it judges those that no other policy does.
+    pub selects: Option<Text>,
     /// How many seconds after its creation a signature is taken (RFC 9421 section 2.3).
     pub max_age: u64,
     /// How many seconds the clocks of the signer and of the verifier may be apart.
@@ -25,8 +27,6 @@ pub struct Policy {
     pub expires: bool,
     /// What is asked of the parameter `nonce`.
     pub nonce: NonceUse,
-    /// How many nonces are kept.
-    pub nonces: usize,
     /// The value that the parameter `tag` has to have, where one is asked for.
     pub tag: Option<Text>,
     /// When a digest of the content is asked for.
@@ -62,13 +62,13 @@ impl Policy {
         ensures { result ≡ standard_policy }
     {
         Policy {
+            selects: None,
             max_age: DEFAULT_MAX_AGE,
             skew: DEFAULT_SKEW,
             require_request: Ids::new(alloc),
             require_response: Ids::new(alloc),
             expires: false,
             nonce: NonceUse::Ignore,
-            nonces: MAX_ENTRIES,
             tag: None,
             digest: DigestUse::Ignore,
         }

@@ -11,7 +11,7 @@ use Rattle.std.specs.List.{list_all}
 use Rattle.std.proofs.lemmas.Bool.{and_parts}
 use Rattle.sfv_text.specs.declared.pair.Pair.{Pair}
 use Rattle.sfv_text.specs.declared.value.Member.{Member}
-use Rattle.signatures.specs.Signatures.{HasDict}
+use Rattle.signatures.specs.Signatures.{HasDict, HasMember}
 use Rattle.signing.specs.SignCauses.{IsMalformed, HasLabel}
 use Rattle.signatures.specs.declared.field.DictField.TheVariants as field
 use Rattle.signing.specs.declared.place.LabelPlace.TheVariants as place
@@ -50,3 +50,7 @@ module _ (message : Message) (name label : List ℕ) where
           let same = ap (λ (d : List (Pair Member)). value_of d label) (one_dict message name there.1.dict dict there.1.has has) in
           let is = there.1.member_is in
           absurd (cc (same, is, none))
+
+  -- a member of another label, and none of this one
+  pub unmentioned_place : (other : List ℕ) (member : Member) → HasMember message name other member → ¬ HasLabel message name label → IsPlaceIn message name label place.Free
+  unmentioned_place other member own none = (none, λ bad. let is = own.member_is in let empty = bad.1 own.dict own.has in absurd (cc (is, empty)))

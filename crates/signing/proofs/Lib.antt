@@ -19,3 +19,4 @@ mod WishSpecs
 mod Wanting
 pub mod OneSigned
 pub mod SomeSigned
+mod Mentions

@@ -14,6 +14,11 @@ use Rattle.signing.specs.SignCauses.{covers_signatures}
 use Rattle.signing.specs.Written.{context_with_digest, digest_lines, signed_message}
 use Rattle.signing.specs.declared.spec.SignSpec.{SignSpec}
 
+-- the message has a signature, of whatever label
+abbrev pub HasSomeSignature : Message → Type 0
+HasSomeSignature message = (label : List ℕ) × (params : SigParams) × (tag : List ℕ)
+    × HasSignature message label params tag
+
 -- The text is the message, after its header lines the line of its digest and those of the
 -- signature. The tag is the HMAC of the signature base over the values that the components have in
 -- the message with the line of its digest (section 3.3.3). Of a message that isn't signed, because

@@ -66,10 +66,7 @@ pub(crate) fn put_moment(
     let Some(moment) = moment else {
         return Ok(());
     };
-    params.put(
-        Text::from_bytes(alloc, key)?,
-        BareItem::Integer(moment as i64),
-    )
+    params.put(Text::from_bytes(alloc, key)?, moment_item(moment))
 }
 
 /// Puts the key with a String, where there is one.
@@ -214,11 +211,6 @@ pub fn spec_of(
         unreachable!()
     };
     let params = asked_sig_params(alloc, sign, of_request, now, nonce)?;
-    SignSpec::new(
-        alloc,
-        &sign.label,
-        params,
-        key,
-        digest_algorithm(sign.digest),
-    )
+    let digest = digest_algorithm(sign.digest);
+    SignSpec::new(alloc, &sign.label, params, key, digest)
 }

@@ -32,7 +32,7 @@ pub use laws::{
 };
 pub use limit_laws::limits_are_these;
 pub use mac::TAG_BYTES;
-pub use message::sign;
+pub use message::{sign, sign_beside};
 pub use self_cover::first_self_cover;
 pub use spec::{SignSpec, Specs};
 pub use wishes::wanted;

@@ -22,6 +22,9 @@ use std::alloc::Global;
 /// How many bytes the text of a tag has, which is a Byte Sequence (RFC 9651 section 4.1.8).
 const TAG_TEXT_BYTES: usize = (TAG_BYTES + 2) / 3 * 4 + 2;
 
+/// Room for what the lines of a signature have beside its parameters, where its label is short.
+const SIGNATURE_ROOM: usize = 128;
+
 /// Lines to be added to a header.
 #[derive(Drop)]
 pub(crate) struct AddedLines {
@@ -110,7 +113,7 @@ pub(crate) fn signature_lines(
 {
     let label = spec.label.bytes();
     let value = print_bare(alloc, &BareItem::Bytes(Text::from_bytes(alloc, tag)?))?;
-    let mut text = Text::new(alloc);
+    let mut text = Text::with_capacity(alloc, params.len().saturating_add(SIGNATURE_ROOM))?;
     append_member(&mut text, b"Signature-Input", label, params)?;
     append_member(&mut text, b"Signature", label, value.bytes())?;
     Ok(text)

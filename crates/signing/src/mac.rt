@@ -3,6 +3,7 @@
 ghost use Rattle.std.specs.Prelude.{◌≡◌};
 ghost use Rattle.hmac_sha256.specs.Hmac.{hmac};
 ghost use Rattle.sig_base.specs.SignatureBase.{signature_base};
+ghost use Rattle.signing.specs.tools.Judged.{lack_fault_of};
 
 use crate::fault::SignFault;
 use component_values::{Prepared, ValueFault};
@@ -13,17 +14,12 @@ use sig_base::feed_base;
 pub const TAG_BYTES: usize = 32;
 
 /// The fault of a message whose components aren't prepared.
-impl From<ValueFault> for SignFault {
-    ghost use Rattle.std.specs.Prelude.{◌≡◌};
-    ghost use Rattle.signing.specs.tools.Judged.{lack_fault_of};
-
-    ghost from_gives = { λ fault sign_fault. sign_fault ≡ lack_fault_of fault };
-
-    fn from(fault: ValueFault) -> SignFault {
-        match fault {
-            ValueFault::Memory => SignFault::Memory,
-            ValueFault::Lacks(index, lack) => SignFault::Lacks(index, lack),
-        }
+pub(crate) fn lack_fault_of(fault: ValueFault) -> SignFault
+    ensures { result ≡ lack_fault_of fault }
+{
+    match fault {
+        ValueFault::Memory => SignFault::Memory,
+        ValueFault::Lacks(index, lack) => SignFault::Lacks(index, lack),
     }
 }
 

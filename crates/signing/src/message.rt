@@ -1,13 +1,13 @@
 //! Signs a message.
 
-ghost use Rattle.std.specs.Prelude.{◌≡◌, ◌≢◌, ◌++◌, IfOk};
+ghost use Rattle.std.specs.Prelude.{◌≡◌, ◌≢◌, ◌++◌, IfOk, IsTrue};
 ghost use Rattle.byte_grammar.specs.Causes.{AnswersWhere};
 ghost use Rattle.msg_body.specs.Messages.{Spells};
 ghost use Rattle.component_values.specs.Context.{HasWholeMessage, MessageContext, answers_head, context_of};
 ghost use Rattle.component_values.specs.Values.{HaveValues};
 ghost use Rattle.signing.specs.declared.fault.SignFault.{SignFault};
 ghost use Rattle.signing.specs.SignCauses.{IsSignFault};
-ghost use Rattle.signing.specs.Signed.{IsSigned, IsVerifiable, SpellsSigned};
+ghost use Rattle.signing.specs.Signed.{HasSomeSignature, IsSigned, IsVerifiable, SpellsSigned};
 ghost use Rattle.signing.specs.Specs.{IsValidSpec};
 ghost use Rattle.signing.specs.Written.{context_with_digest, with_digest};
 ghost use Rattle.signing.specs.tools.Judged.{AreJudgedParts, ExplainsSign, IsMade, NoneBelow, label_judged};
@@ -15,12 +15,12 @@ ghost use Rattle.signing.specs.tools.Judged.{AreJudgedParts, ExplainsSign, IsMad
 use crate::fault::SignFault;
 use crate::limit::{limit_of_signed, limit_of_unprinted, passed_limit};
 use crate::lines::{AddedLines, digest_lines, signature_lines};
-use crate::mac::tag_of;
+use crate::mac::{lack_fault_of, tag_of};
 use crate::parts::{Parts, parts_of};
-use crate::refuse::judge_label;
+use crate::refuse::{judge_components, judge_fields};
 use crate::spec::SignSpec;
 use component_values::{Context, Prepared, prepare};
-use msg_body::read_other_head;
+use msg_body::{MessageError, read_other_head};
 use sfv_text::{Memory, Text};
 use std::alloc::Global;
 
@@ -29,7 +29,9 @@ fn text_of(alloc: Global, parts: Parts<'_>, digest: &[u8], signature: &[u8]) -> 
     ensures { IfOk result (λ text. text
         ≡ parts.entry.before.now ++ (digest.now ++ (signature.now ++ parts.entry.after.now))) }
 {
-    let mut text = Text::new(alloc);
+    let added = digest.len().saturating_add(signature.len());
+    let kept = parts.before.len().saturating_add(parts.after.len());
+    let mut text = Text::with_capacity(alloc, kept.saturating_add(added))?;
     text.append(parts.before)?;
     text.append(digest)?;
     text.append(signature)?;
@@ -79,8 +81,19 @@ fn make_of_context(
         Ok(prepared) => make_of_prepared(alloc, &prepared, spec, parts, digest),
         Err(fault) => match limit_of_unprinted(alloc, spec, parts, digest)? {
             Some(limit) => Err(SignFault::TooLong(limit)),
-            None => Err(SignFault::from(fault)),
+            None => Err(lack_fault_of(fault)),
         },
+    }
+}
+
+/// Want of memory, which is the one error of a head that is known to be there.
+fn only_memory(error: MessageError) -> SignFault
+    requires { error ≡ MessageError.Memory }
+    ensures { result ≡ SignFault.Memory }
+{
+    match error {
+        MessageError::Memory => SignFault::Memory,
+        _ => unreachable!(),
     }
 }
 
@@ -108,7 +121,7 @@ fn make_of_bytes(
             };
             make_of_context(alloc, &with_digest, spec, parts, digest)
         }
-        Err(_) => Err(SignFault::Memory),
+        Err(error) => Err(only_memory(error)),
     }
 }
 
@@ -153,13 +166,20 @@ fn make(alloc: Global, context: &Context<'_, '_>, spec: &SignSpec) -> Result<Tex
     make_with_digest(alloc, context, spec, parts, &digest)
 }
 
-fn judge(alloc: Global, context: &Context<'_, '_>, spec: &SignSpec) -> Result<Text, SignFault>
+fn judge(
+    alloc: Global,
+    context: &Context<'_, '_>,
+    spec: &SignSpec,
+    has_signature: bool,
+) -> Result<Text, SignFault>
     requires valid { IsValidSpec spec.now }
     requires whole { HasWholeMessage (context_of context.now) }
+    requires signature { IsTrue has_signature → HasSomeSignature (context_of context.now).message }
     ensures { ExplainsSign (context_of context.now) spec.now
         (IsMade (context_of context.now) spec.now) result }
 {
-    judge_label(alloc, context, spec)?;
+    judge_fields(alloc, context, spec, has_signature)?;
+    judge_components(spec)?;
     make(alloc, context, spec)
 }
 
@@ -179,5 +199,26 @@ pub fn sign(alloc: Global, context: &Context<'_, '_>, spec: &SignSpec) -> Result
     ensures fault { (fault : SignFault) → fault ≢ SignFault.Memory → AnswersWhere SignFault.Memory
         result fault (IsSignFault (context_of context.now) spec.now fault) }
 {
-    judge(alloc, context, spec)
+    judge(alloc, context, spec, false)
+}
+
+/// Signs the message of the context, which has a signature, as `sign` does. Where the new label
+/// stands nowhere in the fields of signatures, they aren't read.
+pub fn sign_beside(
+    alloc: Global,
+    context: &Context<'_, '_>,
+    spec: &SignSpec,
+) -> Result<Text, SignFault>
+    requires valid { IsValidSpec spec.now }
+    requires whole { HasWholeMessage (context_of context.now) }
+    requires signature { HasSomeSignature (context_of context.now).message }
+    ensures ok { IfOk result (IsSigned (context_of context.now) spec.now) }
+    ensures spells { IfOk result (SpellsSigned (context_of context.now) spec.now) }
+    ensures verifiable { IfOk result (IsVerifiable (context_of context.now) spec.now) }
+
+    // The first fault whose cause holds is answered, and no other.
+    ensures fault { (fault : SignFault) → fault ≢ SignFault.Memory → AnswersWhere SignFault.Memory
+        result fault (IsSignFault (context_of context.now) spec.now fault) }
+{
+    judge(alloc, context, spec, true)
 }

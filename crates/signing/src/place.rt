@@ -1,10 +1,14 @@
 //! What the fields of signatures say of a new label.
 
-ghost use Rattle.std.specs.Prelude.{IfOk};
+ghost use Rattle.std.specs.Prelude.{IfOk, IsFalse};
 ghost use Rattle.msg_body.specs.Views.{message_of};
+ghost use Rattle.signing.specs.SignCauses.{HasLabel};
 ghost use Rattle.signing.specs.tools.Fields.{IsPlaceIn};
 
+use field_values::joined_value;
+use memchr::memmem;
 use msg_body::MessageView;
+use msg_head::Side;
 use sfv_text::Memory;
 use signatures::{DictField, read_field};
 use std::alloc::Global;
@@ -41,4 +45,19 @@ pub(crate) fn label_place(
         Some(_) => Ok(LabelPlace::Taken),
         None => Ok(LabelPlace::Free),
     }
+}
+
+/// Whether the label stands in the value of the header field of the name. Where it doesn't, no
+/// member has it.
+pub(crate) fn is_mentioned(
+    alloc: Global,
+    message: &MessageView<'_>,
+    name: &[u8],
+    label: &[u8],
+) -> Result<bool, Memory>
+    ensures { IfOk result (λ mentioned. IsFalse mentioned
+        → ¬ HasLabel (message_of message.now) name.now label.now) }
+{
+    let value = joined_value(alloc, message.lines_named(Side::Header, name))?;
+    Ok(memmem::find(value.bytes(), label).is_some())
 }

@@ -42,8 +42,6 @@ impl From<Memory> for WishFault {
     }
 }
 
-// ---- components
-
 /// Equal Items of their own.
 fn copy_of_items(alloc: Global, items: &Items) -> Result<Items, Memory>
     ensures { IfOk result (λ copies. copies ≡ items.now) }
@@ -62,12 +60,7 @@ fn fault_of_ids(fault: IdFault) -> WishFault
 {
     match fault {
         IdFault::Memory => WishFault::Memory,
-        IdFault::TooMany => WishFault::Ids(IdFault::TooMany),
-        IdFault::BadComponent(index, reason) => {
-            WishFault::Ids(IdFault::BadComponent(index, reason))
-        }
-        IdFault::Repeated(index) => WishFault::Ids(IdFault::Repeated(index)),
-        IdFault::BadParameter(key) => WishFault::Ids(IdFault::BadParameter(key)),
+        fault => WishFault::Ids(fault),
     }
 }
 
@@ -84,8 +77,6 @@ fn read_components(alloc: Global, list: &InnerList) -> Result<Ids, WishFault>
         Err(fault) => Err(fault_of_ids(fault)),
     }
 }
-
-// ---- parameters
 
 /// Whether the wish for a parameter can be met.
 fn can_be_met(after: Option<u64>, param: &Pair<BareItem>) -> bool

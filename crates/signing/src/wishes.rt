@@ -4,43 +4,36 @@ ghost use Rattle.std.specs.Prelude.{◌≡◌, ◌≢◌, ◌≤◌, Some, IfOk,
 ghost use Rattle.std.specs.List.{All, list_all};
 ghost use Rattle.byte_grammar.specs.Causes.{AnswersWhere};
 ghost use Rattle.sfv_text.specs.Range.{is_dict_member_in_range};
-ghost use Rattle.msg_body.specs.Messages.{Message};
 ghost use Rattle.msg_body.specs.Views.{message_of};
 ghost use Rattle.nonces.specs.declared.limits.TheConstants.{MAX_MOMENT};
 ghost use Rattle.settings.specs.ConfMeaning.{meaning};
 ghost use Rattle.signing.specs.declared.fault.WantFault.{WantFault};
 ghost use Rattle.signing.specs.Specs.{IsValidSpec};
 ghost use Rattle.signing.specs.WishCauses.{IsWantFault};
-ghost use Rattle.signatures.specs.Signatures.{HasDict};
-ghost use Rattle.signing.specs.Wishes.{AreWished, wish_name};
-ghost use Rattle.signing.specs.tools.Wished.{ExplainsWishes, ExplainsWanted};
+ghost use Rattle.signing.specs.Wishes.{AreWished};
+ghost use Rattle.signing.specs.tools.Wished.{fault_at, ExplainsWishes, ExplainsWanted};
 
 use crate::fault::WantFault;
 use crate::spec::Specs;
 use crate::wish::{WishFault, spec_of_wish};
 use msg_body::MessageView;
 use settings::{Conf, SignConf};
-use sfv_text::{Dict, Member, Pair};
+use sfv_text::{Member, Pair};
 use signatures::{DictField, read_field};
 use std::alloc::Global;
 
-/// The fault of a wish, with the wish's index in the field.
-impl From<(usize, WishFault)> for WantFault {
-    ghost use Rattle.std.specs.Prelude.{◌≡◌};
-    ghost use Rattle.signing.specs.tools.Wished.{fault_at};
-
-    ghost from_gives = { λ wish fault. fault ≡ fault_at wish.0 wish.1 };
-
-    fn from((index, fault): (usize, WishFault)) -> WantFault {
-        match fault {
-            WishFault::Memory => WantFault::Memory,
-            WishFault::NotInnerList => WantFault::NotInnerList(index),
-            WishFault::Ids(fault) => WantFault::Ids(index, fault),
-            WishFault::Parameter => WantFault::Parameter(index),
-            WishFault::AlgRefused => WantFault::AlgRefused(index),
-            WishFault::AlgUnknown => WantFault::AlgUnknown(index),
-            WishFault::KeyUnknown => WantFault::KeyUnknown(index),
-        }
+/// The fault of the wish at the index in the field.
+fn fault_at(index: usize, fault: WishFault) -> WantFault
+    ensures { result ≡ fault_at index fault }
+{
+    match fault {
+        WishFault::Memory => WantFault::Memory,
+        WishFault::NotInnerList => WantFault::NotInnerList(index),
+        WishFault::Ids(fault) => WantFault::Ids(index, fault),
+        WishFault::Parameter => WantFault::Parameter(index),
+        WishFault::AlgRefused => WantFault::AlgRefused(index),
+        WishFault::AlgUnknown => WantFault::AlgUnknown(index),
+        WishFault::KeyUnknown => WantFault::KeyUnknown(index),
     }
 }
 
@@ -61,30 +54,10 @@ fn specs_of_wishes(
     for (index, wish) in wishes.iter().enumerate() {
         match spec_of_wish(alloc, conf, sign, now, wish) {
             Ok(spec) => specs.push(spec)?,
-            Err(fault) => return Err(WantFault::from((index, fault))),
+            Err(fault) => return Err(fault_at(index, fault)),
         }
     }
     Ok(specs)
-}
-
-/// What the Dictionary of wishes asks to be signed, or the first cause for which it isn't met.
-fn specs_of_dict(
-    alloc: Global,
-    conf: &Conf,
-    sign: &SignConf,
-    now: u64,
-    wishes: &Dict,
-) -> Result<Specs, WantFault>
-    requires sign { (meaning conf.now).sign ≡ Some sign.now }
-    requires now { now ≤ MAX_MOMENT }
-    requires in_range { IsTrue (list_all is_dict_member_in_range wishes.now) }
-    ensures { (message : Message) → HasDict message wish_name wishes.now
-        → ExplainsWanted (meaning conf.now) now message result }
-{
-    if wishes.is_empty() {
-        return Err(WantFault::Absent);
-    }
-    specs_of_wishes(alloc, conf, sign, now, wishes.as_slice())
 }
 
 fn judge_wishes(
@@ -100,11 +73,15 @@ fn judge_wishes(
     let Some(sign) = conf.sign() else {
         unreachable!()
     };
-    match read_field(alloc, view, b"accept-signature")? {
-        DictField::Absent => Err(WantFault::Absent),
-        DictField::Malformed => Err(WantFault::Malformed),
-        DictField::Dict(wishes) => specs_of_dict(alloc, conf, sign, now, &wishes),
+    let wishes = match read_field(alloc, view, b"accept-signature")? {
+        DictField::Absent => return Err(WantFault::Absent),
+        DictField::Malformed => return Err(WantFault::Malformed),
+        DictField::Dict(wishes) => wishes,
+    };
+    if wishes.is_empty() {
+        return Err(WantFault::Absent);
     }
+    specs_of_wishes(alloc, conf, sign, now, wishes.as_slice())
 }
 
 /// What the message's header field `Accept-Signature` wishes to be signed (RFC 9421 section 5.1):

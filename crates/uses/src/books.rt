@@ -262,6 +262,98 @@ const FAR: [Arrival<'static>; 6] = [
     },
 ];
 
+// At a book with room for four entries and a week, at the last second of an hour: one entry dies in
+// it, the next two hours have one each, and the last dies in the last second of the week.
+const OVER_HOURS: [Arrival<'static>; 12] = [
+    Arrival {
+        now: 3_599,
+        keyid: b"k",
+        nonce: b"a",
+        until: 3_599,
+        answer: Taken,
+    },
+    Arrival {
+        now: 3_599,
+        keyid: b"k",
+        nonce: b"b",
+        until: 3_600,
+        answer: Taken,
+    },
+    Arrival {
+        now: 3_599,
+        keyid: b"k",
+        nonce: b"c",
+        until: 7_300,
+        answer: Taken,
+    },
+    Arrival {
+        now: 3_599,
+        keyid: b"k",
+        nonce: b"d",
+        until: 608_399,
+        answer: Taken,
+    },
+    Arrival {
+        now: 3_599,
+        keyid: b"k",
+        nonce: b"e",
+        until: 3_599,
+        answer: Full,
+    },
+    // Two are left, and two others have room.
+    Arrival {
+        now: 3_601,
+        keyid: b"k",
+        nonce: b"a",
+        until: 3_601,
+        answer: Taken,
+    },
+    Arrival {
+        now: 3_601,
+        keyid: b"k",
+        nonce: b"b",
+        until: 7_299,
+        answer: Taken,
+    },
+    Arrival {
+        now: 3_601,
+        keyid: b"k",
+        nonce: b"e",
+        until: 3_601,
+        answer: Full,
+    },
+    // In the second hour after it the two are left.
+    Arrival {
+        now: 7_300,
+        keyid: b"k",
+        nonce: b"c",
+        until: 7_300,
+        answer: Seen,
+    },
+    Arrival {
+        now: 7_300,
+        keyid: b"k",
+        nonce: b"b",
+        until: 7_300,
+        answer: Taken,
+    },
+    // The last dies a week later.
+    Arrival {
+        now: 608_399,
+        keyid: b"k",
+        nonce: b"d",
+        until: 608_399,
+        answer: Seen,
+    },
+    Arrival {
+        now: 608_400,
+        keyid: b"k",
+        nonce: b"d",
+        until: 608_400,
+        answer: Taken,
+    },
+];
+
 // A new book, and what comes of the signatures that arrive.
 #[derive(Clone, Copy)]
 struct Course<'a> {
@@ -271,7 +363,7 @@ struct Course<'a> {
     arrivals: &'a [Arrival<'a>],
 }
 
-const COURSES: [Course<'static>; 4] = [
+const COURSES: [Course<'static>; 5] = [
     Course {
         capacity: 1,
         window: 300,
@@ -296,6 +388,12 @@ const COURSES: [Course<'static>; 4] = [
         moment: 0,
         arrivals: &FAR,
     },
+    Course {
+        capacity: 4,
+        window: 604_800,
+        moment: 3_599,
+        arrivals: &OVER_HOURS,
+    },
 ];
 
 // A book beside a plain list of the moments until which each of 32 nonces is seen.
@@ -303,29 +401,56 @@ const COURSES: [Course<'static>; 4] = [
 struct Walk {
     capacity: usize,
     window: u64,
+    // How many times as many seconds pass as are drawn.
+    pace: u64,
 }
 
 // In the first four all nonces share a bucket, in the second all entries die in the same second.
-const WALKS: [Walk; 5] = [
+const WALKS: [Walk; 9] = [
     Walk {
         capacity: 1,
         window: 3,
+        pace: 1,
     },
     Walk {
         capacity: 5,
         window: 0,
+        pace: 1,
     },
     Walk {
         capacity: 16,
         window: 40,
+        pace: 1,
     },
     Walk {
         capacity: 3,
         window: 7,
+        pace: 1,
     },
     Walk {
         capacity: 65_536,
         window: 86_400,
+        pace: 1,
+    },
+    Walk {
+        capacity: 16,
+        window: 604_800,
+        pace: 3_599,
+    },
+    Walk {
+        capacity: 5,
+        window: 604_800,
+        pace: 3_600,
+    },
+    Walk {
+        capacity: 32,
+        window: 604_799,
+        pace: 30_241,
+    },
+    Walk {
+        capacity: 16,
+        window: 7_200,
+        pace: 601,
     },
 ];
 
@@ -397,11 +522,13 @@ fn live_count(untils: &[u64; 32], now: u64) -> usize {
 fn agrees<L: Ledger>(
     book: &mut NonceBook,
     untils: &mut [u64; 32],
+    pace: u64,
     draw: u64,
     steps: &mut Steps<L>,
 ) -> bool {
     let index = (draw % 32) as usize;
-    let now = book.moment().saturating_add(GAPS[(draw / 32 % 8) as usize]);
+    let gap = GAPS[(draw / 32 % 8) as usize].saturating_mul(pace);
+    let now = book.moment().saturating_add(gap);
     let ahead = draw / 256 % book.window().saturating_add(1).max(1);
     let until = now.saturating_add(ahead);
     let wanted = if untils[index] >= now {
@@ -437,7 +564,7 @@ fn is_walked<L: Ledger>(alloc: Global, walk: &Walk, steps: &mut Steps<L>) -> boo
     let mut draw = 7u64;
     for _arrival in 0..ARRIVALS {
         draw = draw.wrapping_mul(6_364_136_223_846_793_005).wrapping_add(1);
-        if !agrees(&mut book, &mut untils, draw >> 33, steps) {
+        if !agrees(&mut book, &mut untils, walk.pace, draw >> 33, steps) {
             return false;
         }
     }

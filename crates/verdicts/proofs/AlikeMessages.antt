@@ -1,6 +1,7 @@
 -- The verdict is the same over messages that are alike for it, or for the label's signature.
 use Rattle.std.proofs.Common.{◌≡◌, ◌↔◌, ℕ, Bool, IsTrue, Option, Some, None, IfSome, List, sym, ap, subst, inl, inr}
 use Rattle.std.specs.List.{All}
+use Rattle.std.specs.Option.{IsSomeAnd}
 use Rattle.msg_body.specs.Messages.{Message}
 use Rattle.msg_body.specs.Views.{message_content}
 use Rattle.framing.specs.Framings.{is_request}
@@ -20,6 +21,7 @@ use Rattle.content_digest.proofs.SameDicts.{depends_on_its_dict}
 use Rattle.settings.specs.declared.policy.Policy.{Policy}
 use Rattle.signatures.specs.declared.place.DigestReason.{DigestReason}
 use Rattle.signatures.specs.declared.place.Place.{Place}
+use Rattle.signatures.specs.declared.place.Place.TheVariants.{Identifier}
 use Rattle.signatures.specs.declared.rule.Rule.{Rule}
 use Rattle.signatures.specs.declared.rule.Rule.TheVariants.{InputAbsent, InputMalformed, SignatureAbsent, SignatureMalformed, LabelNotInInput, LabelNotInSignature, InputNotList, SignatureNotBytes, ComponentsMany, ComponentBad, ComponentRepeated, ParameterBad, AlgRefused, AlgUnknown, KeyidAbsent, KeyUnknown, ComponentRequired, CreatedAbsent, CreatedAhead, TooOld, ExpiresAbsent, Expired, TagWrong, NonceAbsent, NonceRepeated, NonceLong, Absent, Ambiguous, Underivable, Unreadable, NotAscii, MacMismatch, Digest, NoncesFull}
 use Rattle.signatures.specs.Rules.{FailsToRead}
@@ -32,13 +34,23 @@ use Rattle.verdicts.specs.Parameters.{nonce_of}
 use Rattle.verdicts.specs.Policies.{AcceptsByPolicy, IsCovered, IsFirstUncovered, IsNewNonce, required_ids, required_of}
 use Rattle.verdicts.specs.Rules.{Fails, FailsByLack, IsNoMac, asks_digest_of}
 use Rattle.verdicts.specs.Verdicts.{Accepts, IsVerdict}
-use Rattle.verdicts.specs.Verification.{Verification, policy_of}
+use Rattle.verdicts.specs.Choice.{policy_of}
+use Rattle.verdicts.specs.Verification.{Verification}
 use Rattle.verdicts.specs.declared.outcome.Verdict.{Verdict}
 use Rattle.verdicts.specs.declared.outcome.Verdict.TheVariants.{Ok as Accepted, Rule as Refused}
 
 new_nonce : (v : Verification) (other : Message) (params : SigParams) (o : Option (List ℕ)) → IfSome o (IsNewNonce v params) → IfSome o (IsNewNonce (verification_with v other) params)
 new_nonce v other params (Some text) new = record { new = new.new; short = new.short }
 new_nonce v other params None new = tt
+
+-- the value that is there has another fact, where each that has the one has the other
+some_has : {X : Type 0} (P Q : X → Type 0) (o : Option X) → ((x : X) → P x → Q x) → IsSomeAnd o P → IsSomeAnd o Q
+some_has P Q (Some x) so has = so x has
+some_has P Q None so has = absurd has
+
+-- the component of the place is the first that the policy requires and the signature doesn't cover
+abbrev IsUncovered : Verification → SigParams → Place → Policy → Type 0
+IsUncovered v params place policy = (id : ComponentId) × (place ≡ Identifier id) × IsFirstUncovered params.ids (required_of v policy) id
 
 -- what a verdict rests on is kept by the other message
 record Keeps (v : Verification) (other : Message) : Type 0 where
@@ -136,11 +148,12 @@ module _ (v : Verification) (other : Message) (alike : Keeps v other) where
     fails.0,
     fails.1,
     has_same fails.0 fails.1 fails.2,
-    (
-      fails.3.0,
-      fails.3.1,
-      subst (λ (ids : List ComponentId). IsFirstUncovered fails.0.ids ids fails.3.0) (required_same (policy_of v.conf fails.0)) fails.3.2,
-    ),
+    some_has (IsUncovered v fails.0 place) (IsUncovered moved fails.0 place) (policy_of v.conf fails.0)
+        (λ policy found. (
+          found.0,
+          found.1,
+          subst (λ (ids : List ComponentId). IsFirstUncovered fails.0.ids ids found.0) (required_same policy) found.2,
+        )) fails.3,
   )
   fails_same CreatedAbsent place fails = (fails.0, (fails.1.0, fails.1.1, has_same fails.1.0 fails.1.1 fails.1.2, fails.1.3))
   fails_same CreatedAhead place fails = (fails.0, (fails.1.0, fails.1.1, has_same fails.1.0 fails.1.1 fails.1.2, fails.1.3))
@@ -164,7 +177,9 @@ module _ (v : Verification) (other : Message) (alike : Keeps v other) where
       fails.2.0,
       fails.2.1,
       has_same fails.2.0 fails.2.1 fails.2.2,
-      (asks_same (policy_of v.conf fails.2.0) fails.2.3.0, lacks_digest fails.2.0 fails.2.1 fails.0 fails.2.2 fails.2.3.1),
+      some_has (λ policy. IsTrue (asks_digest_of v policy) × LacksDigest v.context.message fails.2.0.ids fails.0)
+          (λ policy. IsTrue (asks_digest_of moved policy) × LacksDigest other fails.2.0.ids fails.0) (policy_of v.conf fails.2.0)
+          (λ policy both. (asks_same policy both.0, lacks_digest fails.2.0 fails.2.1 fails.0 fails.2.2 both.1)) fails.2.3,
     ),
   )
   fails_same NoncesFull place fails = (fails.0, (fails.1.0, fails.1.1, has_same fails.1.0 fails.1.1 fails.1.2, fails.1.3))
@@ -191,11 +206,13 @@ module _ (v : Verification) (other : Message) (alike : Keeps v other) where
     keyid_is = accepts.keyid_is;
     key = accepts.key;
     key_is = accepts.key_is;
-    policy = policy_same (policy_of v.conf accepts.params) accepts.params accepts.policy;
+    policy = accepts.policy;
+    chosen = accepts.chosen;
+    accepted = policy_same accepts.policy accepts.params accepts.accepted;
     values = accepts.values;
     have = have_same accepts.params accepts.tag accepts.values accepts.signature accepts.have;
     mac = accepts.mac;
-    digest = λ asks. has_digest accepts.params accepts.tag accepts.signature (accepts.digest (asked_same (policy_of v.conf accepts.params) asks));
+    digest = λ asks. has_digest accepts.params accepts.tag accepts.signature (accepts.digest (asked_same accepts.policy asks));
     room = accepts.room;
   }
 

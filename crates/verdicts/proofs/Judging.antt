@@ -1,6 +1,6 @@
 -- Rules 13 to 32, and verdicts.
 use Rattle.std.proofs.Common.{◌≡◌, ◌⊎◌, ◌<◌, lit<, ℕ, Bool, true, false, ◌||◌, IsTrue, IsFalse, Option, Some, None, IfSome, List, ◌∷◌, Result, Ok, Err, refl, sym, ap, ◌∙◌, arith, inl, inr}
-use Rattle.std.specs.List.{slice_get}
+use Rattle.std.specs.List.{All, slice_get}
 use Rattle.std.specs.Option.{IsSomeAnd}
 use Rattle.std.specs.Str.{bytes_eq}
 use Rattle.std.proofs.lemmas.Bool.{cases_Bool, false≢true}
@@ -21,9 +21,11 @@ use Rattle.component_values.proofs.FirstLacks.{have_or_lack, have_one_list, firs
 use Rattle.sig_base.specs.SignatureBase.{signature_base}
 use Rattle.hmac_sha256.specs.Hmac.{hmac}
 use Rattle.settings.specs.ValidSections.{IsValidPolicy}
+use Rattle.settings.specs.declared.policy.Policy.{Policy}
 use Rattle.verdicts.specs.Parameters.{alg_of, keyid_of}
-use Rattle.verdicts.specs.Policies.{required_of, IsFirstUncovered, AcceptsByPolicy, LacksRoom, HasRoom}
-use Rattle.verdicts.specs.Verification.{Verification, policy_of}
+use Rattle.verdicts.specs.Policies.{required_of, IsFirstUncovered, LacksRoom, HasRoom}
+use Rattle.verdicts.specs.Choice.{policy_of}
+use Rattle.verdicts.specs.Verification.{Verification}
 use Rattle.verdicts.specs.ContentDigest.{HasDigest, LacksDigest}
 use Rattle.signatures.specs.declared.place.DigestReason.{DigestReason}
 use Rattle.signatures.specs.declared.label.LabelFault.{LabelFault}
@@ -43,9 +45,9 @@ use Rattle.verdicts.specs.Rules.{key_in, asks_digest_of, OfSignature, FailsByLac
 use Rattle.verdicts.specs.Verdicts.{Accepts, IsVerdict}
 use Rattle.verdicts.specs.Laws.{HasVerdict, HasOneVerdict, IsAcceptedWhereNoRuleFails}
 use Rattle.signatures.specs.tools.Answered.{Explains, SaysRule}
-use Rattle.verdicts.specs.tools.Judged.{FailsByAlgorithm, FailsByKeyid, FailsByKey, FailsByMac, FailsByTag, IsTagOf, ExplainsMac, SaysFault, rule_of_lack, NoneBelow, FailsByDigest, FailsByRoom, IsJudged}
+use Rattle.verdicts.specs.tools.Judged.{AcceptsBy, FailsByAlgorithm, FailsByKeyid, FailsByKey, FailsByMac, FailsByTag, IsTagOf, ExplainsMac, SaysFault, rule_of_lack, NoneBelow, FailsByDigest, FailsByRoom, IsJudged}
 use Rattle.verdicts.proofs.RuleOrder.{most, nor, first_failure, one_first_failure, says_failure}
-use Rattle.verdicts.proofs.OfSignature.{on_signature, on_policy}
+use Rattle.verdicts.proofs.OfSignature.{on_signature, on_policy, of_policy}
 use Rattle.verdicts.proofs.PolicyFailures.{none_below_27, has_policy_answer, not_full_with_room, room_or_not}
 use Rattle.verdicts.proofs.Uncovered.{one_uncovered}
 use Rattle.verdicts.proofs.Places.{place_in_range, reading_place}
@@ -232,9 +234,9 @@ module _ (v : Verification) (params : SigParams) (tag : List ℕ) (has : HasSign
         pub none_below_17 : NoneBelow (Fails v) 17
         none_below_17 = nor (Fails v) KeyUnknown none_below_16 passes_key
 
-        module _ (accepts : AcceptsByPolicy v (policy_of v.conf params) params) where
+        module _ (policy : Policy) (by : AcceptsBy v params policy) where
           below_27 : NoneBelow (Fails v) 27
-          below_27 = none_below_27 v params tag has none_below_17 accepts
+          below_27 = none_below_27 v params tag has policy by.chosen none_below_17 by.accepted
 
           abbrev LacksOne : Lack → Place → SigParams → List ℕ → Type 0
           LacksOne how place p t = (index : ℕ) × IsFirstLack v.context p.ids index how × IsSomeAnd (slice_get p.ids index) (λ id. place ≡ Identifier id)
@@ -304,26 +306,29 @@ module _ (v : Verification) (params : SigParams) (tag : List ℕ) (has : HasSign
             none_below_33 mac = nor (Fails v) MacMismatch none_below_32 (passes_mac mac)
 
             module _ (mac : tag ≡ hmac key (signature_base params values)) where
-              pub digest_fails : (rule : Rule) (place : Place) → FailsByDigest (asks_digest_of v (policy_of v.conf params)) v.context.message params.ids rule place → IsFirstFailure (Fails v) rule place
-              digest_fails rule place fails =
-                  rw (fails.0, fails.3) (first_failure (Fails v) Digest (DigestPlace fails.2) (none_below_33 mac) (fails.2, refl, (params, tag, has, (fails.1, fails.4))))
+              abbrev LacksAsked : DigestReason → Policy → SigParams → Type 0
+              LacksAsked reason asked p = IsTrue (asks_digest_of v asked) × LacksDigest v.context.message p.ids reason
 
-              module _ (digest : IsTrue (asks_digest_of v (policy_of v.conf params)) → HasDigest v.context.message params.ids) where
+              pub digest_fails : (rule : Rule) (place : Place) → FailsByDigest (asks_digest_of v policy) v.context.message params.ids rule place → IsFirstFailure (Fails v) rule place
+              digest_fails rule place fails =
+                  rw (fails.0, fails.3) (first_failure (Fails v) Digest (DigestPlace fails.2) (none_below_33 mac) (fails.2, refl, of_policy v params tag has policy by.chosen (LacksAsked fails.2) (fails.1, fails.4)))
+
+              module _ (digest : IsTrue (asks_digest_of v policy) → HasDigest v.context.message params.ids) where
                 passes_digest : (place : Place) → ¬ Fails v Digest place
                 passes_digest place fails =
-                    let at = on_policy v params tag has (λ policy p. IsTrue (asks_digest_of v policy) × LacksDigest v.context.message p.ids fails.0) fails.2 in
+                    let at = on_policy v params tag has policy by.chosen (LacksAsked fails.0) fails.2 in
                     has_not_both v.context.message params.ids (digest at.0) fails.0 at.1
 
                 none_below_34 : NoneBelow (Fails v) 34
                 none_below_34 = nor (Fails v) Digest (none_below_33 mac) passes_digest
 
-                pub room_fails : (rule : Rule) (place : Place) → FailsByRoom v.now v.seen (policy_of v.conf params) params rule place → IsFirstFailure (Fails v) rule place
-                room_fails rule place fails = rw (fails.0, fails.1) (first_failure (Fails v) NoncesFull Nowhere none_below_34 (refl, (params, tag, has, fails.2)))
+                pub room_fails : (rule : Rule) (place : Place) → FailsByRoom v.now v.seen policy params rule place → IsFirstFailure (Fails v) rule place
+                room_fails rule place fails = rw (fails.0, fails.1) (first_failure (Fails v) NoncesFull Nowhere none_below_34 (refl, of_policy v params tag has policy by.chosen (LacksRoom v.now v.seen) fails.2))
 
-                none_below_35 : HasRoom v.now v.seen (policy_of v.conf params) params → NoneBelow (Fails v) 35
+                none_below_35 : HasRoom v.now v.seen policy params → NoneBelow (Fails v) 35
                 none_below_35 room =
                     nor (Fails v) NoncesFull none_below_34
-                    (λ place fails. not_full_with_room v.now v.seen (policy_of v.conf params) params room (on_policy v params tag has (LacksRoom v.now v.seen) fails.1))
+                    (λ place fails. not_full_with_room v.now v.seen policy params room (on_policy v params tag has policy by.chosen (LacksRoom v.now v.seen) fails.1))
 
           pub mac_or_lack_fails : (rule : Rule) (place : Place) → FailsByMac v.context params tag key rule place → IsFirstFailure (Fails v) rule place
           mac_or_lack_fails rule place (inl lacks) = rw lacks.3.0 (lack_fails lacks.0 lacks.1 lacks.2 place lacks.3.1)
@@ -343,13 +348,13 @@ lack_says context params tag key value.Memory (IsRule rule place) answered says 
 lack_says context params tag key (value.Lacks index how) (IsRule rule place) answered says = inl (index, how, (answered index how).only refl, says)
 
 -- the first rule that fails has a place that can stand in a structured field
-pub says_judged : (v : Verification) → ((params : SigParams) → IsValidPolicy (policy_of v.conf params)) → (fault : LabelFault)
+pub says_judged : (v : Verification) → All IsValidPolicy v.conf.policies → (fault : LabelFault)
     → SaysRule (IsFirstFailure (Fails v)) fault → SaysRule (IsJudged v) fault
 says_judged v valid Memory first = tt
 says_judged v valid (IsRule rule place) first = (first, place_in_range v valid rule place first.holds)
 
 -- so has each rule that fails so, where each of these is the first
-pub says_first : (v : Verification) → ((params : SigParams) → IsValidPolicy (policy_of v.conf params)) → (FailsSo : Rule → Place → Type 0) (fault : LabelFault)
+pub says_first : (v : Verification) → All IsValidPolicy v.conf.policies → (FailsSo : Rule → Place → Type 0) (fault : LabelFault)
     → ((rule : Rule) (place : Place) → FailsSo rule place → IsFirstFailure (Fails v) rule place) → SaysRule FailsSo fault → SaysRule (IsJudged v) fault
 says_first v valid FailsSo fault firsts says = says_judged v valid fault (says_failure (Fails v) FailsSo fault firsts says)
 
@@ -371,7 +376,7 @@ tag_answered context params tag key values have result says =
 
 accepts_passes : (v : Verification) (keyid : List ℕ) → Accepts v keyid → (rule : Rule) (place : Place) → ¬ Fails v rule place
 accepts_passes v keyid a rule place fails =
-    none_below_35 v a.params a.tag a.signature a.alg keyid a.keyid_is a.key a.key_is a.policy a.values a.have a.mac a.digest a.room rule place (most rule) fails
+    none_below_35 v a.params a.tag a.signature a.alg keyid a.keyid_is a.key a.key_is a.policy (record { chosen = a.chosen; accepted = a.accepted }) a.values a.have a.mac a.digest a.room rule place (most rule) fails
 
 read_place : (v : Verification) (rule : Rule) (p q : Place) → rule_number rule < 13 → IsFirstFailure (Fails v) rule p → IsFirstFailure (Fails v) rule q → p ≡ q
 read_place v rule p q low a b =
@@ -400,16 +405,20 @@ lack_place v how p q a b =
 -- one required component is the first that isn't covered
 required_place : (v : Verification) (p q : Place) → Fails v ComponentRequired p → Fails v ComponentRequired q → p ≡ q
 required_place v p q a b =
-    let policy = policy_of v.conf b.0 in
-    let x = on_policy v b.0 b.1 b.2 (λ asked params. (id : ComponentId) × (p ≡ Identifier id) × IsFirstUncovered params.ids (required_of v asked) id) a in
-    let y = b.3 in
-    let same = one_uncovered b.0.ids (required_of v policy) x.0 y.0 x.2 y.2 in
+    let asked : Place → Policy → SigParams → Type 0 = λ place policy params. (id : ComponentId) × (place ≡ Identifier id) × IsFirstUncovered params.ids (required_of v policy) id in
+    let at = some_and_parts (λ (policy : Policy). asked q policy b.0) (policy_of v.conf b.0) b.3 in
+    let x = on_policy v b.0 b.1 b.2 at.0 at.1 (asked p) a in
+    let y = at.2 in
+    let same = one_uncovered b.0.ids (required_of v at.0) x.0 y.0 x.2 y.2 in
     x.1 ∙ (ap (λ (id : ComponentId). Identifier id) same ∙ sym y.1)
 
 digest_place : (v : Verification) (p q : Place) → Fails v Digest p → Fails v Digest q → p ≡ q
 digest_place v p q a b =
-    let x = on_policy v b.2.0 b.2.1 b.2.2 (λ policy params. IsTrue (asks_digest_of v policy) × LacksDigest v.context.message params.ids a.0) a.2 in
-    let same = one_reason v.context.message b.2.0.ids a.0 b.0 x.1 b.2.3.1 in
+    let asked : DigestReason → Policy → SigParams → Type 0 = λ reason policy params. IsTrue (asks_digest_of v policy) × LacksDigest v.context.message params.ids reason in
+    let params = b.2.0 in
+    let at = some_and_parts (λ (policy : Policy). asked b.0 policy params) (policy_of v.conf params) b.2.3 in
+    let x = on_policy v params b.2.1 b.2.2 at.0 at.1 (asked a.0) a.2 in
+    let same = one_reason v.context.message params.ids a.0 b.0 x.1 at.2.1 in
     a.1 ∙ (ap (λ (r : DigestReason). DigestPlace r) same ∙ sym b.1)
 
 one_place : (v : Verification) (rule : Rule) (p q : Place) → IsFirstFailure (Fails v) rule p → IsFirstFailure (Fails v) rule q → p ≡ q
@@ -469,10 +478,10 @@ SomeVerdict v = (verdict : Verdict) × IsVerdict v verdict
 module _ (v : Verification) (params : SigParams) (tag : List ℕ) (has : HasSignature v.context.message v.label params tag)
     (supported : IfSome (alg_of params) (λ alg. alg ≡ supported_algorithm)) where
   module _ (keyid key : List ℕ) (keyid_is : keyid_of params ≡ Some keyid) (key_is : key_in v.conf keyid ≡ Some key) where
-    module _ (accepts : AcceptsByPolicy v (policy_of v.conf params) params) where
+    module _ (policy : Policy) (by : AcceptsBy v params policy) where
       module _ (values : List (List ℕ)) (have : HaveValues v.context params.ids values) (mac : tag ≡ hmac key (signature_base params values)) where
-        by_room : (IsTrue (asks_digest_of v (policy_of v.conf params)) → HasDigest v.context.message params.ids) → SomeVerdict v
-        by_room digest = elim (room_or_not v.now v.seen (policy_of v.conf params) params) [
+        by_room : (IsTrue (asks_digest_of v policy) → HasDigest v.context.message params.ids) → SomeVerdict v
+        by_room digest = elim (room_or_not v.now v.seen policy params) [
           | inl room ↦ (
             Accepted keyid,
             record {
@@ -483,7 +492,9 @@ module _ (v : Verification) (params : SigParams) (tag : List ℕ) (has : HasSign
               keyid_is = keyid_is;
               key = key;
               key_is = key_is;
-              policy = accepts;
+              policy = policy;
+              chosen = by.chosen;
+              accepted = by.accepted;
               values = values;
               have = have;
               mac = mac;
@@ -493,18 +504,18 @@ module _ (v : Verification) (params : SigParams) (tag : List ℕ) (has : HasSign
           )
           | inr none ↦ (
             Refused NoncesFull Nowhere,
-            room_fails v params tag has supported keyid keyid_is key key_is accepts values have mac digest NoncesFull Nowhere (refl, refl, none),
+            room_fails v params tag has supported keyid keyid_is key key_is policy by values have mac digest NoncesFull Nowhere (refl, refl, none),
           )
         ]
 
         by_digest : SomeVerdict v
-        by_digest = elim (cases_Bool (asks_digest_of v (policy_of v.conf params))) [
+        by_digest = elim (cases_Bool (asks_digest_of v policy)) [
           | inr not_asked ↦ by_room (λ asked. absurd (false≢true (sym not_asked ∙ asked)))
           | inl asked ↦ elim (has_digest_or_reason v.context.message params.ids) [
             | inl digest ↦ by_room (λ _. digest)
             | inr lacks ↦ (
               Refused Digest (DigestPlace lacks.0),
-              digest_fails v params tag has supported keyid keyid_is key key_is accepts values have mac Digest (DigestPlace lacks.0) (refl, asked, lacks.0, refl, lacks.1),
+              digest_fails v params tag has supported keyid keyid_is key key_is policy by values have mac Digest (DigestPlace lacks.0) (refl, asked, lacks.0, refl, lacks.1),
             )
           ]
         ]
@@ -516,18 +527,18 @@ module _ (v : Verification) (params : SigParams) (tag : List ℕ) (has : HasSign
             | inl same ↦ by_digest values.0 values.1 ((bytes_eq-Decides tag mac).0 same)
             | inr other ↦ (
               Refused MacMismatch Nowhere,
-              mac_fails v params tag has supported keyid keyid_is key key_is accepts values.0 values.1 (λ e. false≢true (sym other ∙ (bytes_eq-Decides tag mac).1 e)),
+              mac_fails v params tag has supported keyid keyid_is key key_is policy by values.0 values.1 (λ e. false≢true (sym other ∙ (bytes_eq-Decides tag mac).1 e)),
             )
           ]
       by_values (inr lacks) =
           let there = some_and_parts (λ (id : ComponentId). Lacks v.context id lacks.1) (slice_get params.ids lacks.0) lacks.2.there in (
             Refused (rule_of_lack lacks.1) (Identifier there.0),
-            lack_fails v params tag has supported keyid keyid_is key key_is accepts lacks.0 lacks.1 lacks.2 (Identifier there.0)
+            lack_fails v params tag has supported keyid keyid_is key key_is policy by lacks.0 lacks.1 lacks.2 (Identifier there.0)
                 (some_and (λ (id : ComponentId). Identifier there.0 ≡ Identifier id) (slice_get params.ids lacks.0) there.0 there.1 refl),
           )
 
-    by_policy : AcceptsByPolicy v (policy_of v.conf params) params ⊎ ((rule : Rule) × (place : Place) × IsFirstFailure (Fails v) rule place) → SomeVerdict v
-    by_policy (inl accepts) = by_values accepts (have_or_lack v.context params.ids)
+    by_policy : ((policy : Policy) × AcceptsBy v params policy) ⊎ ((rule : Rule) × (place : Place) × IsFirstFailure (Fails v) rule place) → SomeVerdict v
+    by_policy (inl accepts) = by_values accepts.0 accepts.1 (have_or_lack v.context params.ids)
     by_policy (inr fails) = (Refused fails.0 fails.1, fails.2)
 
   by_key : (keyid : List ℕ) → keyid_of params ≡ Some keyid → (key : Option (List ℕ)) → key_in v.conf keyid ≡ key → SomeVerdict v

@@ -10,3 +10,5 @@ pub mod AlikeMessages
 pub mod OneTags
 pub mod KnownTagLaws
 pub mod AskedLabels
+pub mod WithoutPolicy
+pub mod Windows

@@ -1,8 +1,9 @@
 -- The component at which a rule fails is in range.
 use Rattle.std.proofs.Common.{◌≡◌, ℕ, Bool, true, false, IsTrue, IsFalse, ◌∷◌, List, refl}
-use Rattle.std.specs.List.{list_all, slice_get}
+use Rattle.std.specs.List.{All, list_all, slice_get}
 use Rattle.std.specs.Option.{IsSomeAnd}
 use Rattle.std.proofs.lemmas.Bool.{and_parts}
+use Rattle.std.proofs.lemmas.List.Elements.{All-contains}
 use Rattle.byte_grammar.proofs.Indices.{some_and_parts, all_at}
 use Rattle.sfv_text.specs.Range.{are_params_in_range}
 use Rattle.sfv_text.specs.Strict.{string_text}
@@ -16,9 +17,11 @@ use Rattle.derived_values.specs.declared.lack.Lack.TheVariants as lack
 use Rattle.framing.specs.Framings.{is_request}
 use Rattle.settings.specs.declared.policy.Policy.{Policy}
 use Rattle.settings.specs.ValidSections.{IsValidPolicy}
-use Rattle.verdicts.specs.Parameters.{alg_of}
-use Rattle.verdicts.specs.Policies.{required_ids}
-use Rattle.verdicts.specs.Verification.{Verification, policy_of}
+use Rattle.settings.proofs.ChosenLaws.{chosen_is_one}
+use Rattle.verdicts.specs.Choice.{policy_of}
+use Rattle.verdicts.specs.Parameters.{alg_of, tag_param_of}
+use Rattle.verdicts.specs.Policies.{IsFirstUncovered, required_ids}
+use Rattle.verdicts.specs.Verification.{Verification}
 use Rattle.signatures.specs.declared.place.Place.{Place}
 use Rattle.signatures.specs.declared.place.Place.TheVariants.{Name, Identifier}
 use Rattle.signatures.specs.declared.rule.Rule.{Rule}
@@ -63,15 +66,19 @@ required_in_range : (policy : Policy) (is_request : Bool) → IsValidPolicy poli
 required_in_range policy true valid = valid.require_request.in_range
 required_in_range policy false valid = valid.require_response.in_range
 
-required_place : (v : Verification) → ((params : SigParams) → IsValidPolicy (policy_of v.conf params)) → (place : Place) → Fails v ComponentRequired place → is_place_in_range place ≡ true
+required_place : (v : Verification) → All IsValidPolicy v.conf.policies → (place : Place) → Fails v ComponentRequired place → is_place_in_range place ≡ true
 required_place v valid place fails =
-    let policy = policy_of v.conf fails.0 in
-    let found = fails.3 in
-    let first = found.2 in
+    let params = fails.0 in
     let is_asked = is_request v.context.message.head.start in
-    rw found.1 (all_at is_id_in_range (required_ids policy is_asked) first.index found.0 (required_in_range policy is_asked (valid fails.0)) first.there)
+    let asked : Policy → Type 0 = λ policy. (id : ComponentId) × (place ≡ Identifier id) × IsFirstUncovered params.ids (required_ids policy is_asked) id in
+    let at = some_and_parts asked (policy_of v.conf params) fails.3 in
+    let policy = at.0 in
+    let is_valid = All-contains IsValidPolicy v.conf.policies policy valid (chosen_is_one v.conf.policies (tag_param_of params) policy at.1) in
+    let found = at.2 in
+    let first = found.2 in
+    rw found.1 (all_at is_id_in_range (required_ids policy is_asked) first.index found.0 (required_in_range policy is_asked is_valid) first.there)
 
-pub place_in_range : (v : Verification) → ((params : SigParams) → IsValidPolicy (policy_of v.conf params)) → (rule : Rule) (place : Place) → Fails v rule place → is_place_in_range place ≡ true
+pub place_in_range : (v : Verification) → All IsValidPolicy v.conf.policies → (rule : Rule) (place : Place) → Fails v rule place → is_place_in_range place ≡ true
 place_in_range v valid InputAbsent place fails = reading_place v.context.message v.label InputAbsent place fails
 place_in_range v valid InputMalformed place fails = reading_place v.context.message v.label InputMalformed place fails
 place_in_range v valid SignatureAbsent place fails = reading_place v.context.message v.label SignatureAbsent place fails

@@ -1,5 +1,5 @@
 -- Rules 17 to 26, and room for the nonce: rule 34.
-use Rattle.std.proofs.Common.{◌≡◌, ◌⊎◌, ◌<◌, ◌≤◌, ◌+◌, ◌==◌, nat_le, is_some, ℕ, ℤ, pos, ◌+ℤ◌, ◌≤ℤ◌, ◌<ℤ◌, Bool, true, false, IsTrue, IsFalse, Option, Some, None, IsSome, IfSome, List, ◌∷◌, [], Result, Ok, Err, length, refl, sym, ap, ◌∙◌, arith, inl, inr}
+use Rattle.std.proofs.Common.{◌≡◌, ◌⊎◌, ◌<◌, ◌≤◌, ◌+◌, ◌==◌, nat_le, is_some, ℕ, ℤ, pos, ◌+ℤ◌, ◌≤ℤ◌, ◌<ℤ◌, Bool, true, false, IsTrue, IsFalse, Option, Some, None, IsSome, IfSome, List, ◌∷◌, [], length, refl, sym, ap, ◌∙◌, arith, inl, inr}
 use Rattle.std.specs.List.{All}
 use Rattle.std.specs.Option.{IsSomeAnd}
 use Rattle.std.specs.Str.{bytes_eq}
@@ -16,21 +16,19 @@ use Rattle.settings.specs.declared.policy.NonceUse.{NonceUse}
 use Rattle.settings.specs.declared.policy.NonceUse.TheVariants.{Ignore, Check, Require}
 use Rattle.nonces.specs.Books.{Book, Entry, IsBook, IsHeldAt, is_full, is_seen, live_entries}
 use Rattle.nonces.specs.declared.limits.TheConstants.{MAX_NONCE_BYTES}
-use Rattle.signatures.specs.declared.label.LabelFault.{LabelFault}
-use Rattle.signatures.specs.declared.label.LabelFault.TheVariants.{Memory, Rule as IsRule}
 use Rattle.signatures.specs.declared.place.Place.{Place}
 use Rattle.signatures.specs.declared.place.Place.TheVariants.{None as Nowhere, Identifier}
 use Rattle.signatures.specs.declared.rule.Rule.{Rule}
 use Rattle.signatures.specs.declared.rule.Rule.TheVariants.{ComponentRequired, CreatedAbsent, CreatedAhead, TooOld, ExpiresAbsent, Expired, TagWrong, NonceAbsent, NonceRepeated, NonceLong}
 use Rattle.signatures.specs.Signatures.{HasSignature}
 use Rattle.signatures.specs.Rules.{IsFirstFailure}
-use Rattle.signatures.specs.tools.Answered.{Explains}
 use Rattle.verdicts.specs.Parameters.{created_of, expires_of, nonce_of, keyid_of, tag_param_of}
 use Rattle.verdicts.specs.Policies.{required_of, IsCovered, IsFirstUncovered, IsAhead, IsTooOld, IsFresh, asks_new, is_replay, IsReplay, IsNewNonce, AcceptsByPolicy, is_full_at, LacksRoom, HasRoom}
-use Rattle.verdicts.specs.Rules.{OfPolicy, Fails}
-use Rattle.verdicts.specs.Verification.{Verification, IsAt, policy_of}
-use Rattle.verdicts.specs.tools.Judged.{NoneBelow, FailsByCoverage, FailsByCreated, PassesExpires, FailsByExpires, PassesTagParam, FailsByTagParam, PassesNonce, FailsByNonce, moment_of}
-use Rattle.verdicts.proofs.OfSignature.{on_policy}
+use Rattle.verdicts.specs.Choice.{policy_of}
+use Rattle.verdicts.specs.Rules.{IsWrongTag, OfPolicy, Fails}
+use Rattle.verdicts.specs.Verification.{Verification, IsAt}
+use Rattle.verdicts.specs.tools.Judged.{AcceptsBy, NoneBelow, FailsByChoice, FailsByCoverage, FailsByCreated, PassesExpires, FailsByExpires, PassesTagParam, FailsByTagParam, PassesNonce, FailsByNonce, moment_of}
+use Rattle.verdicts.proofs.OfSignature.{on_none, on_policy, on_signature, of_policy}
 use Rattle.verdicts.proofs.RuleOrder.{nor, first_failure}
 use Rattle.verdicts.proofs.Uncovered.{all_or_first, has_first}
 
@@ -60,21 +58,50 @@ weaker_if : {X : Type 0} (P Q : X → Type 0) (o : Option X) → ((x : X) → P 
 weaker_if P Q (Some x) so p = so x p
 weaker_if P Q None so p = tt
 
+-- ---- the policy that is for a tag
+
+abbrev AsksOther : Option (List ℕ) → Policy → Type 0
+AsksOther own policy = IsSomeAnd policy.tag (λ text. ¬ (own ≡ Some text))
+
+wrong_by : (o : Option Policy) (policy : Policy) (own : Option (List ℕ)) → o ≡ Some policy → AsksOther own policy → IsWrongTag o own
+wrong_by o policy own is other = rw is other
+
+wrong_at : (o : Option Policy) (policy : Policy) (own : Option (List ℕ)) → o ≡ Some policy → IsWrongTag o own → AsksOther own policy
+wrong_at o policy own is wrong = rw is at wrong
+
+wrong_without : (o : Option Policy) (own : Option (List ℕ)) → o ≡ None → IsWrongTag o own
+wrong_without o own none = rw none tt
+
+-- ---- where there is none, rule 23 is the first that fails from rule 17 on
+
+module _ (v : Verification) (params : SigParams) (tag : List ℕ) (has : HasSignature v.context.message v.label params tag) where
+  pub fails_without : policy_of v.conf params ≡ None → Fails v TagWrong Nowhere
+  fails_without none = (refl, (params, tag, has, wrong_without (policy_of v.conf params) (tag_param_of params) none))
+
+  pub choice_fails : NoneBelow (Fails v) 17 → (rule : Rule) (place : Place) → FailsByChoice (policy_of v.conf params) rule place → IsFirstFailure (Fails v) rule place
+  choice_fails below rule place fails =
+      let without = on_none v params tag has fails.2 in
+      let below_19 = nor (Fails v) CreatedAbsent (nor (Fails v) ComponentRequired below (λ at. without (λ asked p. (id : ComponentId) × (at ≡ Identifier id) × IsFirstUncovered p.ids (required_of v asked) id))) (λ at x. without (λ asked p. created_of p ≡ None) x.1) in
+      let below_21 = nor (Fails v) TooOld (nor (Fails v) CreatedAhead below_19 (λ at x. without (λ asked p. IsSomeAnd (created_of p) (IsAhead asked v.now)) x.1)) (λ at x. without (λ asked p. IsSomeAnd (created_of p) (IsTooOld asked v.now)) x.1) in
+      let below_23 = nor (Fails v) Expired (nor (Fails v) ExpiresAbsent below_21 (λ at x. without (λ asked p. IsTrue asked.expires × (expires_of p ≡ None)) x.1)) (λ at x. without (λ asked p. IsSomeAnd (expires_of p) (λ z. z <ℤ pos v.now)) x.1) in
+      rw (fails.0, fails.1) (first_failure (Fails v) TagWrong Nowhere below_23 (fails_without fails.2))
+
 -- ---- one rule after another, and the first that fails
 
-module _ (v : Verification) (params : SigParams) (tag : List ℕ) (has : HasSignature v.context.message v.label params tag) (below : NoneBelow (Fails v) 17) where
-  abbrev policy : Policy
-  policy = policy_of v.conf params
-
+module _ (v : Verification) (params : SigParams) (tag : List ℕ) (has : HasSignature v.context.message v.label params tag) (policy : Policy) (chosen : policy_of v.conf params ≡ Some policy) (below : NoneBelow (Fails v) 17) where
   -- what is so of the policy and of the parameters isn't so of the label's
   so_not : (Fact : Policy → SigParams → Type 0) → ¬ Fact policy params → ¬ OfPolicy v Fact
-  so_not Fact none fails = none (on_policy v params tag has Fact fails)
+  so_not Fact none fails = none (on_policy v params tag has policy chosen Fact fails)
+
+  -- and what is so of them is so of the label's
+  so : (Fact : Policy → SigParams → Type 0) → Fact policy params → OfPolicy v Fact
+  so = of_policy v params tag has policy chosen
 
   abbrev IsUncovered : Place → Policy → SigParams → Type 0
   IsUncovered place asked p = (id : ComponentId) × (place ≡ Identifier id) × IsFirstUncovered p.ids (required_of v asked) id
 
   pub coverage_fails : (rule : Rule) (place : Place) → FailsByCoverage params.ids (required_of v policy) rule place → IsFirstFailure (Fails v) rule place
-  coverage_fails rule place fails = rw fails.0 (first_failure (Fails v) ComponentRequired place below (params, tag, has, (fails.1, fails.2, fails.3)))
+  coverage_fails rule place fails = rw fails.0 (first_failure (Fails v) ComponentRequired place below (so (IsUncovered place) (fails.1, fails.2, fails.3)))
 
   module _ (covered : All (IsCovered params.ids) (required_of v policy)) where
     below_18 : NoneBelow (Fails v) 18
@@ -95,13 +122,13 @@ module _ (v : Verification) (params : SigParams) (tag : List ℕ) (has : HasSign
     IsOld z = (z ≤ℤ pos (v.now + policy.skew)) × IsTooOld policy v.now z
 
     pub created_fails : (rule : Rule) (place : Place) → FailsByCreated policy v.now (created_of params) rule place → IsFirstFailure (Fails v) rule place
-    created_fails CreatedAbsent place fails = first_failure (Fails v) CreatedAbsent place below_18 (fails.0, (params, tag, has, fails.1))
+    created_fails CreatedAbsent place fails = first_failure (Fails v) CreatedAbsent place below_18 (fails.0, so (λ _ p. created_of p ≡ None) fails.1)
     created_fails CreatedAhead place fails =
-        first_failure (Fails v) CreatedAhead place (below_19 (IsAhead policy v.now) fails.1) (fails.0, (params, tag, has, fails.1))
+        first_failure (Fails v) CreatedAhead place (below_19 (IsAhead policy v.now) fails.1) (fails.0, so (λ asked p. IsSomeAnd (created_of p) (IsAhead asked v.now)) fails.1)
     created_fails TooOld place fails =
         first_failure (Fails v) TooOld place
         (below_20 (weaker_some IsOld (λ z. z ≤ℤ pos (v.now + policy.skew)) (created_of params) (λ z both. both.0) fails.1))
-        (fails.0, (params, tag, has, weaker_some IsOld (IsTooOld policy v.now) (created_of params) (λ z both. both.1) fails.1))
+        (fails.0, so (λ asked p. IsSomeAnd (created_of p) (IsTooOld asked v.now)) (weaker_some IsOld (IsTooOld policy v.now) (created_of params) (λ z both. both.1) fails.1))
     created_fails rule place fails = absurd fails
 
     module _ (created : IsSomeAnd (created_of params) (IsFresh policy v.now)) where
@@ -120,11 +147,11 @@ module _ (v : Verification) (params : SigParams) (tag : List ℕ) (has : HasSign
       IsOver z = z <ℤ pos v.now
 
       pub expires_fails : (rule : Rule) (place : Place) → FailsByExpires policy v.now (expires_of params) rule place → IsFirstFailure (Fails v) rule place
-      expires_fails ExpiresAbsent place fails = first_failure (Fails v) ExpiresAbsent place below_21 (fails.0, (params, tag, has, (fails.1, fails.2)))
+      expires_fails ExpiresAbsent place fails = first_failure (Fails v) ExpiresAbsent place below_21 (fails.0, so IsWithout (fails.1, fails.2))
       expires_fails Expired place fails =
           first_failure (Fails v) Expired place
           (nor (Fails v) ExpiresAbsent below_21 (λ _ absent. so_not IsWithout (λ x. not_none IsOver (expires_of params) fails.1 x.1) absent.1))
-          (fails.0, (params, tag, has, fails.1))
+          (fails.0, so (λ _ p. IsSomeAnd (expires_of p) IsOver) fails.1)
       expires_fails rule place fails = absurd fails
 
       module _ (expires : PassesExpires policy v.now (expires_of params)) where
@@ -136,19 +163,16 @@ module _ (v : Verification) (params : SigParams) (tag : List ℕ) (has : HasSign
             so_not (λ _ p. IsSomeAnd (expires_of p) IsOver)
             (clash_if (λ z. pos v.now ≤ℤ z) IsOver (expires_of params) (λ z later is. clash_ℤ is later) expires.later) over.1)
 
-        abbrev HasOtherTag : Policy → SigParams → Type 0
-        HasOtherTag asked p = IsSomeAnd asked.tag (λ text. ¬ (tag_param_of p ≡ Some text))
-
         pub tag_fails : (rule : Rule) (place : Place) → FailsByTagParam policy.tag (tag_param_of params) rule place → IsFirstFailure (Fails v) rule place
-        tag_fails rule place fails = rw fails.0 (first_failure (Fails v) TagWrong place below_23 (fails.1, (params, tag, has, fails.2)))
+        tag_fails rule place fails = rw fails.0 (first_failure (Fails v) TagWrong place below_23 (fails.1, (params, tag, has, wrong_by (policy_of v.conf params) policy (tag_param_of params) chosen fails.2)))
 
         module _ (same_tag : PassesTagParam policy.tag (tag_param_of params)) where
           below_24 : NoneBelow (Fails v) 24
           below_24 =
               nor (Fails v) TagWrong below_23
               (λ _ wrong.
-              so_not HasOtherTag
-              (clash_if (λ text. tag_param_of params ≡ Some text) (λ text. ¬ (tag_param_of params ≡ Some text)) policy.tag (λ text same other. other same) same_tag) wrong.1)
+              clash_if (λ text. tag_param_of params ≡ Some text) (λ text. ¬ (tag_param_of params ≡ Some text)) policy.tag (λ text same other. other same) same_tag
+              (wrong_at (policy_of v.conf params) policy (tag_param_of params) chosen (on_signature v params tag has (λ p _. IsWrongTag (policy_of v.conf p) (tag_param_of p)) wrong.1)))
 
           abbrev LacksNonce : Policy → SigParams → Type 0
           LacksNonce asked p = (asked.nonce ≡ Require) × (nonce_of p ≡ None)
@@ -167,17 +191,17 @@ module _ (v : Verification) (params : SigParams) (tag : List ℕ) (has : HasSign
             IsLong nonce = IsFalse (test nonce) × (MAX_NONCE_BYTES < length nonce)
 
             pub nonce_fails : (rule : Rule) (place : Place) → FailsByNonce policy.nonce test (nonce_of params) rule place → IsFirstFailure (Fails v) rule place
-            nonce_fails NonceAbsent place fails = first_failure (Fails v) NonceAbsent place below_24 (fails.0, (params, tag, has, (fails.1, fails.2)))
+            nonce_fails NonceAbsent place fails = first_failure (Fails v) NonceAbsent place below_24 (fails.0, so LacksNonce (fails.1, fails.2))
             nonce_fails NonceRepeated place fails =
                 let seen = weaker_some (λ nonce. IsTrue (test nonce)) (IsReplay v params) (nonce_of params) (λ nonce yes. (answers nonce).1 yes) fails.2 in
-                first_failure (Fails v) NonceRepeated place (below_25 (IsReplay v params) seen) (fails.0, (params, tag, has, (fails.1, seen)))
+                first_failure (Fails v) NonceRepeated place (below_25 (IsReplay v params) seen) (fails.0, so Repeats (fails.1, seen))
             nonce_fails NonceLong place fails =
                 first_failure (Fails v) NonceLong place
                 (nor (Fails v) NonceRepeated (below_25 IsLong fails.2)
                 (λ _ again.
                 so_not Repeats
                 (λ x. clash_some IsLong (IsReplay v params) (nonce_of params) (λ nonce long seen. false≢true (sym long.0 ∙ (answers nonce).0 seen)) fails.2 x.1) again.1))
-                (fails.0, (params, tag, has, (fails.1, weaker_some IsLong (λ nonce. MAX_NONCE_BYTES < length nonce) (nonce_of params) (λ nonce long. long.1) fails.2)))
+                (fails.0, so HasLong (fails.1, weaker_some IsLong (λ nonce. MAX_NONCE_BYTES < length nonce) (nonce_of params) (λ nonce long. long.1) fails.2))
             nonce_fails rule place fails = absurd fails
 
             pub accepted : PassesNonce policy.nonce test (nonce_of params) → AcceptsByPolicy v policy params
@@ -192,13 +216,6 @@ module _ (v : Verification) (params : SigParams) (tag : List ℕ) (has : HasSign
                   weaker_if (λ text. IsFalse (test text) × (length text ≤ MAX_NONCE_BYTES)) (IsNewNonce v params) (nonce_of params)
                   (λ text is. record { new = λ again. false≢true (sym is.0 ∙ (answers text).0 again); short = is.1 }) (nonce.new asks);
             }
-
-            pub explains_nonce : (result : Result Unit LabelFault)
-                → Explains (λ _. PassesNonce policy.nonce test (nonce_of params)) (FailsByNonce policy.nonce test (nonce_of params)) result
-                → Explains (λ _. AcceptsByPolicy v policy params) (IsFirstFailure (Fails v)) result
-            explains_nonce (Ok value) passes = accepted passes
-            explains_nonce (Err Memory) fails = tt
-            explains_nonce (Err (IsRule rule place)) fails = nonce_fails rule place fails
 
   -- where the policy accepts the signature, none of them fails
   pub none_below_27 : AcceptsByPolicy v policy params → NoneBelow (Fails v) 27
@@ -267,29 +284,37 @@ replays_where : (v : Verification) (o : Option (List ℕ)) (nonce : List ℕ)
 replays_where v None nonce = (λ is. absurd is, λ yes. absurd (false≢true yes))
 replays_where v (Some keyid) nonce = (λ is. is, λ yes. yes)
 
-pub has_policy_answer : (v : Verification) (params : SigParams) (tag : List ℕ) → HasSignature v.context.message v.label params tag → NoneBelow (Fails v) 17
-    → AcceptsByPolicy v (policy_of v.conf params) params ⊎ ((rule : Rule) × (place : Place) × IsFirstFailure (Fails v) rule place)
-has_policy_answer v params tag has below =
-    let policy = policy_of v.conf params in
-    elim (has_first params.ids (required_of v policy)) [
-      | inr none ↦ inr (ComponentRequired, Identifier none.0, coverage_fails v params tag has below ComponentRequired (Identifier none.0) (refl, none.0, refl, none.1))
-      | inl covered ↦ elim (created_or policy v.now (created_of params)) [
-        | inr fails ↦ inr (fails.0, fails.1, created_fails v params tag has below covered fails.0 fails.1 fails.2)
-        | inl created ↦ elim (expires_or policy v.now (expires_of params)) [
-          | inr fails ↦ inr (fails.0, fails.1, expires_fails v params tag has below covered created fails.0 fails.1 fails.2)
-          | inl expires ↦ elim (tag_or policy.tag (tag_param_of params)) [
-            | inr fails ↦ inr (fails.0, fails.1, tag_fails v params tag has below covered created expires fails.0 fails.1 fails.2)
-            | inl same_tag ↦
-                let test : List ℕ → Bool = λ nonce. replays v (keyid_of params) nonce in
-                let answers = replays_where v (keyid_of params) in
-                elim (nonce_or policy.nonce test (nonce_of params)) [
-                  | inr fails ↦ inr (fails.0, fails.1, nonce_fails v params tag has below covered created expires same_tag test answers fails.0 fails.1 fails.2)
-                  | inl nonce ↦ inl (accepted v params tag has below covered created expires same_tag test answers nonce)
-                ]
-          ]
+module _ (v : Verification) (params : SigParams) (tag : List ℕ) (has : HasSignature v.context.message v.label params tag) (below : NoneBelow (Fails v) 17) where
+  abbrev PolicyAnswer : Type 0
+  PolicyAnswer = ((policy : Policy) × AcceptsBy v params policy) ⊎ ((rule : Rule) × (place : Place) × IsFirstFailure (Fails v) rule place)
+
+  by_policy : (policy : Policy) → policy_of v.conf params ≡ Some policy → PolicyAnswer
+  by_policy policy chosen = elim (has_first params.ids (required_of v policy)) [
+    | inr none ↦ inr (ComponentRequired, Identifier none.0, coverage_fails v params tag has policy chosen below ComponentRequired (Identifier none.0) (refl, none.0, refl, none.1))
+    | inl covered ↦ elim (created_or policy v.now (created_of params)) [
+      | inr fails ↦ inr (fails.0, fails.1, created_fails v params tag has policy chosen below covered fails.0 fails.1 fails.2)
+      | inl created ↦ elim (expires_or policy v.now (expires_of params)) [
+        | inr fails ↦ inr (fails.0, fails.1, expires_fails v params tag has policy chosen below covered created fails.0 fails.1 fails.2)
+        | inl expires ↦ elim (tag_or policy.tag (tag_param_of params)) [
+          | inr fails ↦ inr (fails.0, fails.1, tag_fails v params tag has policy chosen below covered created expires fails.0 fails.1 fails.2)
+          | inl same_tag ↦
+              let test : List ℕ → Bool = λ nonce. replays v (keyid_of params) nonce in
+              let answers = replays_where v (keyid_of params) in
+              elim (nonce_or policy.nonce test (nonce_of params)) [
+                | inr fails ↦ inr (fails.0, fails.1, nonce_fails v params tag has policy chosen below covered created expires same_tag test answers fails.0 fails.1 fails.2)
+                | inl nonce ↦ inl (policy, record { chosen = chosen; accepted = accepted v params tag has policy chosen below covered created expires same_tag test answers nonce })
+              ]
         ]
       ]
     ]
+  ]
+
+  by_choice : (o : Option Policy) → policy_of v.conf params ≡ o → PolicyAnswer
+  by_choice (Some policy) chosen = by_policy policy chosen
+  by_choice None none = inr (TagWrong, Nowhere, choice_fails v params tag has below TagWrong Nowhere (refl, refl, none))
+
+  pub has_policy_answer : ((policy : Policy) × AcceptsBy v params policy) ⊎ ((rule : Rule) × (place : Place) × IsFirstFailure (Fails v) rule place)
+  has_policy_answer = by_choice (policy_of v.conf params) refl
 
 -- ---- room
 

@@ -1,6 +1,6 @@
 -- Laws of verdicts.
-use Rattle.std.specs.Prelude.{◌≡◌, ◌↔◌, ◌⊎◌, ℕ, Bool, ◌&&◌, ◌||◌, nat_le, IsTrue, IsFalse, Some, List}
-use Rattle.std.specs.List.{All}
+use Rattle.std.specs.Prelude.{◌≡◌, ◌≤◌, ◌+◌, ◌*◌, ◌↔◌, ◌⊎◌, ℕ, Bool, ◌&&◌, ◌||◌, nat_le, IsTrue, IsFalse, Some, None, List}
+use Rattle.std.specs.List.{All, Contains}
 use Rattle.sfv_read.specs.Laws.{ReadAlike}
 use Rattle.framing.specs.Framings.{is_request}
 use Rattle.msg_body.specs.Messages.{Message}
@@ -12,12 +12,18 @@ use Rattle.component_values.specs.Laws.{HasMessages}
 use Rattle.component_values.specs.Values.{HaveValues}
 use Rattle.sig_base.specs.SignatureBase.{signature_base}
 use Rattle.hmac_sha256.specs.Hmac.{hmac}
+use Rattle.settings.specs.Configuration.{Configuration}
+use Rattle.settings.specs.declared.policy.Policy.{Policy}
 use Rattle.signatures.specs.declared.place.Place.{Place}
+use Rattle.signatures.specs.declared.place.Place.TheVariants.{None as Nowhere}
 use Rattle.signatures.specs.declared.rule.Rule.{Rule}
+use Rattle.signatures.specs.declared.rule.Rule.TheVariants.{TagWrong}
 use Rattle.signatures.specs.Laws.{HaveSameFields}
 use Rattle.signatures.specs.Signatures.{HasSignature}
 use Rattle.signatures.specs.Words.{rule_number}
 use Rattle.verdicts.specs.declared.outcome.Verdict.{Verdict}
+use Rattle.verdicts.specs.declared.outcome.Verdict.TheVariants.{Rule as Refused}
+use Rattle.verdicts.specs.Choice.{policy_of, window_of}
 use Rattle.verdicts.specs.Verification.{Verification}
 use Rattle.verdicts.specs.ContentDigest.{covers_digest, digest_text}
 use Rattle.verdicts.specs.Parameters.{keyid_of}
@@ -39,6 +45,48 @@ abbrev pub IsAcceptedWhereNoRuleFails : Type 0
 IsAcceptedWhereNoRuleFails =
     (v : Verification)
     → ((keyid : List ℕ) × Accepts v keyid) ↔ ((rule : Rule) (place : Place) → ¬ Fails v rule place)
+
+-- ---- labels without a policy
+
+-- rules 17 to 22, 24 to 26, 33 and 34, by which a policy alone is asked
+abbrev pub is_rule_of_policies : Rule → Bool
+is_rule_of_policies rule =
+    (nat_le 17 (rule_number rule) && nat_le (rule_number rule) 22)
+    || ((nat_le 24 (rule_number rule) && nat_le (rule_number rule) 26)
+    || nat_le 33 (rule_number rule))
+
+-- the message has the label's signature, and there is no policy for signatures with its parameter
+-- `tag`, or with none
+pub record HasNoPolicy (v : Verification) : Type 0 where
+  pub params : SigParams
+  pub tag : List ℕ
+  pub signature : HasSignature v.context.message v.label params tag
+  pub none : policy_of v.conf params ≡ None
+
+-- rule 23 fails of such a label
+abbrev pub FailsByItsTag : Type 0
+FailsByItsTag = (v : Verification) → HasNoPolicy v → Fails v TagWrong Nowhere
+
+-- no other rule by which a policy is asked fails of it
+abbrev pub HoldsOtherRulesOfPolicies : Type 0
+HoldsOtherRulesOfPolicies =
+    (v : Verification) (rule : Rule) (place : Place) → HasNoPolicy v
+    → IsTrue (is_rule_of_policies rule) → ¬ Fails v rule place
+
+-- so rule 23 is its verdict, where rules 1 to 16 hold: those of its signature, algorithm and key
+abbrev pub HasVerdictOfItsTag : Type 0
+HasVerdictOfItsTag =
+    (v : Verification) → HasNoPolicy v
+    → ((rule : Rule) (place : Place) → rule_number rule ≤ 16 → ¬ Fails v rule place)
+    → IsVerdict v (Refused TagWrong Nowhere)
+
+-- ---- how long nonces are remembered
+
+-- of no policy is the window greater than that of the configuration
+abbrev pub CoversEachPolicy : Type 0
+CoversEachPolicy =
+    (conf : Configuration) (policy : Policy) → Contains conf.policies policy
+    → policy.max_age + 2 * policy.skew ≤ window_of conf
 
 -- ---- signed messages
 

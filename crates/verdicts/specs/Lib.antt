@@ -1,6 +1,7 @@
 pub mod Verification
 pub mod Asked
 pub mod Parameters
+pub mod Choice
 pub mod Policies
 pub mod ContentDigest
 pub mod Rules

@@ -19,7 +19,8 @@ use Rattle.settings.specs.declared.policy.NonceUse.TheVariants.{Require}
 use Rattle.nonces.specs.declared.limits.TheConstants.{MAX_NONCE_BYTES}
 use Rattle.verdicts.specs.Parameters.{created_of, expires_of, alg_of, keyid_of, nonce_of, tag_param_of}
 use Rattle.verdicts.specs.Policies.{required_of, IsFirstUncovered, IsAhead, IsTooOld, asks_new, IsReplay, LacksRoom}
-use Rattle.verdicts.specs.Verification.{Verification, policy_of}
+use Rattle.verdicts.specs.Choice.{policy_of}
+use Rattle.verdicts.specs.Verification.{Verification}
 use Rattle.signatures.specs.declared.rule.Rule.{Rule}
 use Rattle.signatures.specs.declared.rule.Rule.TheVariants.{AlgRefused, AlgUnknown, KeyidAbsent, KeyUnknown, ComponentRequired, CreatedAbsent, CreatedAhead, TooOld, ExpiresAbsent, Expired, TagWrong, NonceAbsent, NonceRepeated, NonceLong, Absent, Ambiguous, Underivable, Unreadable, NotAscii, MacMismatch, Digest, NoncesFull}
 use Rattle.signatures.specs.declared.place.DigestReason.{DigestReason}
@@ -46,9 +47,17 @@ FailsByLack v lack place =
     OfSignature v (λ params tag. (index : ℕ) × IsFirstLack v.context params.ids index lack
     × IsSomeAnd (slice_get params.ids index) (λ id. place ≡ Identifier id))
 
--- the fact holds of its parameters, and of the policy by which they are judged
+-- the fact holds of its parameters, and of the policy by which they are judged; where there is no
+-- such policy, it doesn't
 abbrev pub OfPolicy : Verification → (Policy → SigParams → Type 0) → Type 0
-OfPolicy v Fact = OfSignature v (λ params tag. Fact (policy_of v.conf params) params)
+OfPolicy v Fact =
+    OfSignature v (λ params tag.
+    IsSomeAnd (policy_of v.conf params) (λ policy. Fact policy params))
+
+-- there is no policy for signatures with this tag, or with none; or the policy asks for another
+abbrev pub IsWrongTag : Option Policy → Option (List ℕ) → Type 0
+IsWrongTag None own = Unit {0}
+IsWrongTag (Some policy) own = IsSomeAnd policy.tag (λ tag. ¬ (own ≡ Some tag))
 
 -- the policy asks for the digest of the content
 abbrev pub asks_digest_of : Verification → Policy → Bool
@@ -96,8 +105,8 @@ Fails v Expired place =
     (place ≡ Nowhere) × OfPolicy v (λ policy params.
     IsSomeAnd (expires_of params) (λ expires. expires <ℤ pos v.now))
 Fails v TagWrong place =
-    (place ≡ Nowhere) × OfPolicy v (λ policy params.
-    IsSomeAnd policy.tag (λ tag. ¬ (tag_param_of params ≡ Some tag)))
+    (place ≡ Nowhere) × OfSignature v (λ params tag.
+    IsWrongTag (policy_of v.conf params) (tag_param_of params))
 Fails v NonceAbsent place =
     (place ≡ Nowhere) × OfPolicy v (λ policy params.
     (policy.nonce ≡ Require) × (nonce_of params ≡ None))

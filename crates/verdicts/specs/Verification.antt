@@ -1,10 +1,8 @@
 -- What a label is judged by.
 use Rattle.std.specs.Prelude.{◌≡◌, ℕ, Option, None, IfSome, List, [], ◌∷◌, codes, option_copied}
-use Rattle.component_ids.specs.declared.params.SigParams.{SigParams}
 use Rattle.component_values.specs.Context.{MessageContext, context_of}
 use Rattle.component_values.specs.declared.context.Context.{Context}
 use Rattle.settings.specs.Configuration.{Configuration}
-use Rattle.settings.specs.declared.policy.Policy.{Policy}
 use Rattle.settings.specs.ConfMeaning.{meaning}
 use Rattle.nonces.specs.Books.{Book}
 use Rattle.verdicts.specs.declared.verifier.Verifier.{Verifier}
@@ -41,10 +39,6 @@ verification_by verifier context label = record {
 -- the moment of a book is this one
 abbrev pub IsAt : ℕ → Option Book → Type 0
 IsAt now seen = IfSome seen (λ book. book.moment ≡ now)
-
--- the policy by which signature parameters are judged
-abbrev pub policy_of : Configuration → SigParams → Policy
-policy_of conf params = conf.policy
 
 -- ---- the labels of a message
 

@@ -13,7 +13,7 @@ ghost use Rattle.verdicts.specs.Parameters.{keyid_of};
 ghost use Rattle.verdicts.specs.Rules.{Fails, key_in};
 ghost use Rattle.verdicts.specs.Verdicts.{IsVerdict, is_verdict_in_range};
 ghost use Rattle.verdicts.specs.Verification.{Verification as Verified};
-ghost use Rattle.verdicts.specs.Verification.{IsAt, policy_of, verification_by, verification_of};
+ghost use Rattle.verdicts.specs.Verification.{IsAt, verification_by, verification_of};
 ghost use Rattle.verdicts.specs.tools.Judged.{AcceptsContent, ExplainsJudged, FailsByKeyid, FailsByKey, HasKey};
 
 use crate::algorithm::judge_algorithm;
@@ -22,7 +22,7 @@ use crate::known_tag::SignedLabel;
 use crate::mac::judge_mac;
 use crate::nonce::judge_room;
 use crate::outcome::Verdict;
-use crate::policy::{judge_policy, policy_of};
+use crate::policy::judge_policy;
 use crate::verifier::Verifier;
 use component_ids::SigParams;
 use component_values::Context;
@@ -69,16 +69,14 @@ fn judge_content(
 ) -> Result<(), LabelFault>
     requires has { (keyid : List ℕ)
         × HasKey (verification_by verifier.now exchange.old.context signed.now.label.now)
-        signed.now.read.now.params signed.now.read.now.tag keyid key.now }
-    requires policy { policy.now
-        ≡ policy_of (meaning verifier.now.conf.now) signed.now.read.now.params }
+        signed.now.read.now.params signed.now.read.now.tag keyid key.now policy.now }
     requires in_range { IsTrue (are_sig_params_in_range signed.now.read.now.params) }
     requires known { KnowsTag (meaning verifier.now.conf.now) exchange.old.context
         signed.now.label.now signed.now.is_right }
     requires now { IsAt verifier.now.moment (option_copied verifier.now.seen) }
     ensures explains { Explains
         (λ _. AcceptsContent (verification_by verifier.entry.now exchange.old.context
-        signed.now.label.now) signed.now.read.now.params signed.now.read.now.tag key.now)
+        signed.now.label.now) signed.now.read.now.params signed.now.read.now.tag key.now policy.now)
         (IsFirstFailure (Fails (verification_by verifier.entry.now exchange.old.context
         signed.now.label.now))) result }
     ensures exchange { exchange.new.context ≡ exchange.old.context }
@@ -110,11 +108,10 @@ pub(crate) fn judge_signature<L: Ledger>(
     ensures steps { steps.old ≤ steps.new }
 {
     let params = &signed.read.params;
-    let policy = policy_of(verifier.conf, params);
     judge_algorithm(alloc, params)?;
     let keyid = keyid_of(params)?;
     let key = key_of(verifier.conf, keyid)?;
-    judge_policy(alloc, exchange, verifier, params, keyid, steps)?;
+    let policy = judge_policy(alloc, exchange, verifier, params, keyid, steps)?;
     judge_content(alloc, exchange, verifier, signed, policy, key)?;
     Ok(Text::from_bytes(alloc, keyid)?)
 }

@@ -1,12 +1,26 @@
 //! Laws of verdicts. Each function does nothing; its contract is the law.
 
-ghost use Rattle.verdicts.specs.Laws.{HasVerdict, HasOneVerdict, IsAcceptedWhereNoRuleFails, HoldsRulesOfSigning, IsAcceptedByOtherRules, DependsOnItsSignature, DependsOnSignature, OneTagAgrees, OneTagAgreesWhereAlone};
+ghost use Rattle.verdicts.specs.Laws.{HasVerdict, HasOneVerdict, IsAcceptedWhereNoRuleFails, CoversEachPolicy, FailsByItsTag, HoldsOtherRulesOfPolicies, HasVerdictOfItsTag, HoldsRulesOfSigning, IsAcceptedByOtherRules, DependsOnItsSignature, DependsOnSignature, OneTagAgrees, OneTagAgreesWhereAlone};
 
 /// A label has one verdict, and it is accepted exactly where no rule fails.
 pub fn a_label_has_one_verdict()
     ensures some { HasVerdict }
     ensures one { HasOneVerdict }
     ensures accepted { IsAcceptedWhereNoRuleFails }
+{}
+
+/// A label for which there is no policy, by the parameter `tag` of its signature, fails by rule 23.
+/// Of the other rules that ask a policy none fails, so its verdict is rule 23 where rules 1 to 16
+/// hold.
+pub fn a_label_without_a_policy_fails_by_its_tag()
+    ensures fails { FailsByItsTag }
+    ensures others { HoldsOtherRulesOfPolicies }
+    ensures verdict { HasVerdictOfItsTag }
+{}
+
+/// The window of a configuration is as great as that of each of its policies.
+pub fn the_window_covers_each_policy()
+    ensures { CoversEachPolicy }
 {}
 
 /// Of a label that is signed with the key of its `keyid`, rules 1 to 12 and 27 to 32 hold, so it is

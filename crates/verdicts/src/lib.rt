@@ -12,6 +12,7 @@
 
 mod algorithm;
 mod asked;
+mod choice;
 mod coverage;
 mod digest;
 mod judge;
@@ -27,11 +28,13 @@ mod times;
 mod verifier;
 
 pub use asked::asked_labels;
+pub use choice::{policy_of, window_of};
 pub use judge::verdict;
 pub use known_tag::{SignedLabel, known_with};
 pub use laws::{
-    a_label_has_one_verdict, a_signed_label_is_accepted_by_the_other_rules,
-    a_verdict_depends_on_its_signature, two_messages_with_one_tag_agree,
+    a_label_has_one_verdict, a_label_without_a_policy_fails_by_its_tag,
+    a_signed_label_is_accepted_by_the_other_rules, a_verdict_depends_on_its_signature,
+    the_window_covers_each_policy, two_messages_with_one_tag_agree,
 };
 pub use line::append_verdict_line;
 pub use mac::tag_matches;
@@ -42,4 +45,5 @@ pub use signatures::{
     DigestReason, LabelFault, LabelRead, Labels, Place, Rule, SignatureFields,
     a_label_has_one_reading, a_message_has_one_list_of_labels, context_for, labels_of, read_label,
 };
+pub use times::last_moment;
 pub use verifier::Verifier;

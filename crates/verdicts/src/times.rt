@@ -1,6 +1,8 @@
 //! When a signature is taken.
 
-ghost use Rattle.std.specs.Prelude.{◌+◌, pos, ◌+ℤ◌, ◌≤ℤ◌, ◌<ℤ◌, IsTrue, IsFalse, IsSomeAnd};
+ghost use Rattle.std.specs.Prelude.{◌≡◌, ◌≤◌, ◌+◌, pos, ◌+ℤ◌, ◌≤ℤ◌, ◌<ℤ◌, IsTrue, IsFalse, IsSomeAnd};
+ghost use Rattle.nonces.specs.declared.limits.TheConstants.{MAX_MOMENT};
+ghost use Rattle.settings.specs.declared.limits.TheConstants.{MAX_AGE, MAX_SKEW};
 ghost use Rattle.signatures.specs.tools.Answered.{Explains};
 ghost use Rattle.verdicts.specs.Parameters.{created_of, expires_of};
 ghost use Rattle.verdicts.specs.Policies.{IsFresh};
@@ -66,4 +68,14 @@ pub(crate) fn judge_expires(params: &SigParams, policy: &Policy, now: u64) -> Re
         return Err(LabelFault::Rule(Rule::Expired, Place::None));
     }
     Ok(())
+}
+
+/// The last moment at which a signature that was created then is accepted, as far as its age goes.
+pub fn last_moment(created: i64, max_age: u64) -> u64
+    requires age { max_age ≤ MAX_AGE }
+    requires begun { created ≤ℤ pos (MAX_MOMENT + MAX_SKEW) }
+    requires recent { pos 0 ≤ℤ (created +ℤ pos max_age) }
+    ensures { pos result ≡ created +ℤ pos max_age }
+{
+    (created + max_age as i64) as u64
 }

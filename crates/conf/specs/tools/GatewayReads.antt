@@ -9,7 +9,8 @@ use Rattle.conf.specs.declared.fault.ConfFault.{ConfFault}
 use Rattle.conf.specs.declared.fault.ConfFault.TheVariants as fault
 use Rattle.conf_keys.specs.declared.table.TableName.TheVariants.{Gateway}
 use Rattle.conf.specs.Table.{has_place, members_at}
-use Rattle.conf.specs.Values.{IsBadStep, IsStepText, are_texts, values_of}
+use Rattle.conf_values.specs.Parts.{values_of}
+use Rattle.conf_values.specs.Values.{IsBadStep, IsStepText, are_texts}
 
 -- the step of the line comes at the end; without a line nothing changes
 abbrev pub AddsLine : Option (List ℕ) → List Rewrite → List Rewrite → Type 0

@@ -2,10 +2,14 @@
 use Rattle.std.specs.Prelude.{◌≡◌, ◌<◌, ℕ, Bool, Option, IsTrue, option_map, List, ⊤}
 use Rattle.std.specs.List.{find}
 use Rattle.byte_grammar.specs.Causes.{IsFirst}
-use Rattle.toml.specs.Data.{Members}
+use Rattle.toml.specs.Data.{Data, Members}
 use Rattle.conf.specs.declared.fault.ConfFault.{ConfFault}
 use Rattle.conf.specs.declared.fault.ConfFault.TheVariants as fault
 use Rattle.conf.specs.declared.judge.RowFault.{RowFault}
+use Rattle.conf.specs.declared.judge.ValueTest.{ValueTest}
+use Rattle.conf.specs.declared.judge.ValueTest.TheVariants.{HasType, IsAllowed}
+use Rattle.conf_keys.specs.declared.table.ValueRule.{ValueRule}
+use Rattle.conf_values.specs.Values.{has_type, is_allowed}
 use Rattle.conf.specs.declared.judge.RowFault.TheVariants.{WrongType, OutOfRange, Missing}
 use Rattle.conf_keys.specs.declared.table.TableName.{TableName}
 use Rattle.conf.specs.Table.{Row, rows, places, place_path, has_unknown, is_missing}
@@ -19,6 +23,11 @@ abbrev pub IsNotToml : List ℕ → ConfFault → Type 0
 IsNotToml text fault.Memory = ⊤
 IsNotToml text fault.NotToml = (document : Members) → ¬ IsDocument text document
 IsNotToml text fault = ⊥
+
+-- the value passes the test
+abbrev pub passes_test : ValueTest → Members → ValueRule → Data → Bool
+passes_test HasType document rule value = has_type rule value
+passes_test IsAllowed document rule value = is_allowed document rule value
 
 -- the fault that it is at a path
 abbrev pub fault_of : RowFault → List ℕ → ConfFault

@@ -1,22 +1,18 @@
 -- What the code's references to tables stand for. No public clause cites this module.
-use Rattle.std.specs.Prelude.{◌≡◌, Option, Some, None, String, is_some}
-use Rattle.std.specs.Borrow.{Bor}
-use Rattle.std.specs.BTreeMap.{BTreeMap}
-use Rattle.std.specs.declared.alloc.Global.{Global}
-use Rattle.toml.specs.Data.{Members, no_members}
-use Rattle.toml.specs.View.{table_view}
-use Rattle.toml.specs.declared.value.Value.{Value}
+use Rattle.std.specs.Prelude.{◌≡◌, is_some, option_and_then, option_map, codes}
+use Rattle.toml.specs.Data.{as_array, get_member}
+use Rattle.toml.specs.View.{array_view, table_view}
+use Rattle.conf_values.specs.Views.{table_members}
 use Rattle.conf.specs.declared.members.FixedTables.{FixedTables}
 use Rattle.conf_keys.specs.declared.table.TableName.TheVariants.{Gateway, Policy, Sign}
-use Rattle.conf.specs.Table.{has_place, members_at}
-
--- the pairs of a table that is there; else none
-abbrev pub table_members : Option (Bor (BTreeMap (String Global) Value)) → Members
-table_members None = no_members
-table_members (Some table) = table_view table.now
+use Rattle.conf.specs.Table.{has_place, members_at, version_in}
 
 -- the tables are those of the document
 pub record AreTables (tables : FixedTables) : Type 0 where
+  pub version : tables.version ≡ version_in (table_view tables.document.now)
+  pub policies :
+      option_map (λ array. array_view array.now) tables.policies
+      ≡ option_and_then as_array (get_member (codes "policies") (table_view tables.document.now))
   pub gateway :
       table_members tables.gateway ≡ members_at (table_view tables.document.now) Gateway
   pub has_gateway :

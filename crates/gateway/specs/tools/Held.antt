@@ -2,11 +2,11 @@
 use Rattle.std.specs.Prelude.{◌≡◌, IsSome}
 use Rattle.nonces.specs.Books.{Book}
 use Rattle.settings.specs.Configuration.{Configuration}
-use Rattle.gateway.specs.Seen.{window_of}
+use Rattle.verdicts.specs.Choice.{window_of}
 
 -- the configuration says what is signed and what a gateway does, and the book is that of its policy
 pub record IsHeldFor (conf : Configuration) (book : Book) : Type 0 where
   pub sign : IsSome conf.sign
   pub gateway : IsSome conf.gateway
-  pub capacity : book.capacity ≡ conf.policy.nonces
-  pub window : book.window ≡ window_of conf.policy
+  pub capacity : book.capacity ≡ conf.nonces
+  pub window : book.window ≡ window_of conf

@@ -1,5 +1,5 @@
 -- What the parts of a gateway answer for a message. No public clause cites this module.
-use Rattle.std.specs.Prelude.{◌≡◌, ℕ, Option, Some, None, option_map, IfSome, Result, Ok, Err, List}
+use Rattle.std.specs.Prelude.{◌≡◌, ℕ, IsFalse, Option, Some, None, option_map, IfSome, Result, Ok, Err, List}
 use Rattle.msg_body.specs.Messages.{Message}
 use Rattle.msg_body.specs.Views.{message_of}
 use Rattle.msg_body.specs.declared.view.MessageView.{MessageView as View}
@@ -9,8 +9,12 @@ use Rattle.nonces.specs.Books.{Book}
 use Rattle.settings.specs.Configuration.{Configuration}
 use Rattle.settings.specs.declared.gateway_conf.GatewayConf.{GatewayConf}
 use Rattle.signatures.specs.Signatures.{HasSignature}
-use Rattle.verdicts.specs.Verdicts.{Accepts}
+use Rattle.signatures.specs.declared.label.LabelFault.{LabelFault}
+use Rattle.signatures.specs.declared.label.LabelFault.TheVariants.{Memory as OutOfMemory, Rule as Unread}
+use Rattle.verdicts.specs.Verdicts.{Accepts, IsVerdict, is_accepted}
 use Rattle.verdicts.specs.Verification.{Verification}
+use Rattle.verdicts.specs.declared.outcome.Verdict.{Verdict}
+use Rattle.verdicts.specs.declared.outcome.Verdict.TheVariants.{Rule as Refused}
 use Rattle.gateway.specs.Accepted.{IsFirstAccepted, IsRefusal}
 use Rattle.gateway.specs.Arrivals.{Arrival, IsAnswered, IsBad, IsRead}
 use Rattle.gateway.specs.Forwarded.{IsForwarded, IsHeldFor, IsOwnSpec, IsPassed}
@@ -33,6 +37,17 @@ pub record IsAcceptedLabel (message : Message) (label keyid : List ℕ) (accepte
   pub keyid_is : accepted.keyid ≡ keyid
   pub tag : List ℕ
   pub signature : HasSignature message label accepted.params tag
+
+-- the verdict on a label is the rule by which it isn't read
+abbrev pub SaysUnread : LabelFault → Verdict → Type 0
+SaysUnread OutOfMemory verdict = ⊥
+SaysUnread (Unread rule place) verdict = verdict ≡ Refused rule place
+
+-- what comes of a label: it is accepted, or this is its verdict, by which it isn't
+abbrev pub IsJudgedLabel : Message → Verification → Result AcceptedLabel Verdict → Type 0
+IsJudgedLabel message v (Ok accepted) = Accepts v accepted.keyid
+    × IsAcceptedLabel message v.label accepted.keyid accepted
+IsJudgedLabel message v (Err verdict) = IsVerdict v verdict × IsFalse (is_accepted verdict)
 
 -- it is the first of the labels that is accepted
 abbrev pub IsFirstLabel : Message → (List ℕ → Verification) → List (List ℕ) → AcceptedLabel

@@ -1,5 +1,5 @@
 -- Nodes of a book and what they hold. No public clause cites this.
-use Rattle.std.specs.Prelude.{◌≡◌, ◌<◌, ℕ, zero, suc, ◌%◌, Bool, true, false, ◌==◌, Option, Some, None, List, [], ◌∷◌, ◌++◌, length, map, cond, slice_index_or, slice_set}
+use Rattle.std.specs.Prelude.{◌≡◌, ◌<◌, ℕ, zero, suc, Bool, true, false, Option, Some, None, List, [], ◌∷◌, ◌++◌, length, map, cond, slice_index_or, slice_set}
 use Rattle.nonces.specs.Books.{Entry, is_of}
 use Rattle.nonces.specs.Buckets.{IsLeastPowerOfTwo, bucket_of, is_in_bucket}
 use Rattle.nonces.specs.tools.Links.{IsChainOf, IsListOf}
@@ -37,25 +37,17 @@ abbrev pub holds_of : List ℕ → List ℕ → Option Entry → Bool
 holds_of keyid nonce None = false
 holds_of keyid nonce (Some entry) = is_of keyid nonce entry
 
--- the entry dies after this second
-abbrev pub ends_at : ℕ → Entry → Bool
-ends_at until entry = entry.until == until
+-- nothing, where the entry passes the test
+abbrev pub let_go : (Entry → Bool) → Option Entry → Option Entry
+let_go test None = None
+let_go test (Some entry) = cond (test entry) None (Some entry)
 
--- nothing, where the entry dies after this second
-abbrev pub let_go : ℕ → Option Entry → Option Entry
-let_go until None = None
-let_go until (Some entry) = cond (ends_at until entry) None (Some entry)
-
--- the second of the entry is one of this slot
-abbrev pub is_in_slot : ℕ → ℕ → Entry → Bool
-is_in_slot slots slot entry = entry.until % slots == slot
-
--- each slot's list has exactly the nodes whose entries are in the slot
-abbrev pub IsWheel : Held → List (Option ℕ) → Type 0
-IsWheel held slots =
-    (slot : ℕ) → slot < length slots
-    → IsListOf (link_at held) (slice_index_or slots slot None)
-    (Holds (is_in_slot (length slots) slot) held.entries)
+-- an entry was put into a free node, which is linked to another
+pub record IsPut (old new : Held) (index : ℕ) (entry : Entry) (after : Option ℕ) : Type 0 where
+  pub spare : IsSpare old.entries index
+  pub entries : new.entries ≡ slice_set old.entries index (Some entry)
+  pub link : link_at new index ≡ after
+  pub links : (i : ℕ) → (i ≡ index → ⊥) → link_at new i ≡ link_at old i
 
 -- ---- nodes
 

@@ -1,7 +1,8 @@
 -- What the parts of a run keep. No public clause cites this module.
-use Rattle.std.specs.Prelude.{◌≡◌, ◌⊎◌, ◌+◌, ◌≤◌, ⊤, ℕ, IsTrue, List, Option, Some, None, Result, Err, option_map}
+use Rattle.std.specs.Prelude.{◌≡◌, ◌⊎◌, ◌+◌, ◌≤◌, ⊤, ℕ, Bool, false, IsTrue, List, [], ◌∷◌, codes, Option, Some, None, Result, Err, option_map}
 use Rattle.std.specs.Io.KnownBytes.{Appends, Keeps}
 use Rattle.std.specs.List.{list_all}
+use Rattle.std.specs.Str.{bytes_eq}
 use Rattle.sfv_text.specs.Classes.{is_byte}
 use Rattle.hms_io.specs.Files.{FileMap, KeepsFiles}
 use Rattle.hms_io.specs.declared.status.Status.{Status}
@@ -163,3 +164,10 @@ IsWrittenStop NoMemory taken now status told =
 abbrev pub CountsAfter : StreamFault → Status → ℕ → ℕ → Type 0
 CountsAfter NotWritten status before now = (status ≡ WriteFault) × (now ≡ before)
 CountsAfter fault status before now = CountsFaults WriteFault status before now
+
+-- ---- arguments
+
+-- the first word is the name of the command that writes before it has read all
+abbrev pub begin_stream : List (List ℕ) → Bool
+begin_stream [] = false
+begin_stream (name ∷ words) = bytes_eq name (codes "gateway")

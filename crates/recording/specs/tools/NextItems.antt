@@ -3,7 +3,8 @@ use Rattle.std.specs.Prelude.{◌≡◌, ℕ, ◌+◌, ◌-◌, ◌<◌, ◌≤�
 use Rattle.byte_grammar.specs.Language.{Begins}
 use Rattle.recording.specs.declared.read.Stop.{Stop}
 use Rattle.recording.specs.declared.read.Stop.TheVariants as stop
-use Rattle.recording.specs.Items.{Body, moment, body_text, number_of, IsNumber}
+use Rattle.byte_grammar.specs.Numbers.{IsNumber}
+use Rattle.recording.specs.Items.{Body, moment, body_text, number_of}
 use Rattle.recording.specs.tools.Running.{IsAllowedAfter, IsLongAfter, IsFallingAfter}
 use Rattle.recording.specs.tools.RecordingTexts.{IsTurn}
 

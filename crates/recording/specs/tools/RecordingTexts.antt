@@ -1,36 +1,21 @@
 -- The texts that the readers of recordings read. No public clause cites this module.
-use Rattle.std.specs.Prelude.{◌≡◌, ℕ, Bool, true, List, [], ◌++◌, length, codes, Option, Some, None}
+use Rattle.std.specs.Prelude.{◌≡◌, ℕ, List, [], ◌++◌, length, codes, Option, Some, None}
 use Rattle.std.specs.Fmt.{decimal}
-use Rattle.std.specs.Str.Parse.{digits_value}
+use Rattle.std.specs.Str.{byte}
+use Rattle.byte_grammar.specs.tools.CountedTexts.{IsEndedNumber}
 use Rattle.byte_grammar.specs.tools.Languages.{Mapped}
 use Rattle.recording.specs.declared.word.Word.{Word}
 use Rattle.recording.specs.declared.word.Word.TheVariants as word
-use Rattle.recording.specs.Items.{message, script, Body, moment, stored, body_text, number_of, IsNumber}
+use Rattle.byte_grammar.specs.Numbers.{IsNumber}
+use Rattle.recording.specs.Items.{message, script, Body, moment, stored, body_text, number_of}
 use Rattle.recording.specs.tools.RecordingWalk.{word_text}
-
--- any byte may come next
-abbrev pub Anything : {V : Type 0} → V → ℕ → Bool
-Anything _ c = true
-
-abbrev pub IsLiteral : List ℕ → List ℕ → List ℕ → Type 0
-IsLiteral literal text v = (text ≡ literal) × (literal ≡ v)
 
 abbrev pub IsWordText : List ℕ → Word → Type 0
 IsWordText text w = text ≡ word_text w
 
--- the digits of a number
-abbrev pub IsNumeral : List ℕ → List ℕ → Type 0
-IsNumeral text v =
-    (text ≡ v) × (v ≡ decimal (digits_value 10 v)) × IsNumber (digits_value 10 v)
-
+-- a number, and LF
 abbrev pub IsNumberLine : List ℕ → ℕ → Type 0
-IsNumberLine text n = (text ≡ decimal n ++ codes "\n") × IsNumber n
-
-abbrev pub IsBytes : ℕ → List ℕ → List ℕ → Type 0
-IsBytes size text v = (text ≡ v) × (length v ≡ size)
-
-abbrev pub IsText : ℕ → List ℕ → List ℕ → Type 0
-IsText size text v = (text ≡ v ++ codes "\n") × (length v ≡ size)
+IsNumberLine text n = IsEndedNumber (byte "\n") text n
 
 abbrev pub IsStored : List ℕ → List ℕ → Type 0
 IsStored text v =

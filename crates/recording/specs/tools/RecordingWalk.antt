@@ -1,13 +1,10 @@
 -- Readers of recordings over lists, from left to right. No public clause cites this module.
-use Rattle.std.specs.Prelude.{ℕ, Bool, zero, suc, ◌-◌, ◌==◌, nat_lt, List, [], ◌∷◌, ◌++◌, length, drop, codes, Option, Some, None, Result, Ok, Err, if◌then◌else◌}
-use Rattle.std.specs.List.{common_prefix_len}
+use Rattle.std.specs.Prelude.{ℕ, zero, suc, ◌-◌, ◌==◌, nat_lt, List, [], ◌∷◌, ◌++◌, length, codes, Option, Some, None, Result, Ok, Err, if◌then◌else◌}
 use Rattle.std.specs.Str.{byte}
-use Rattle.std.specs.Str.Parse.{digits_value}
-use Rattle.byte_grammar.specs.Classes.{is_digit}
-use Rattle.byte_grammar.specs.Language.{starts_in}
-use Rattle.byte_grammar.specs.Walk.{Reader, ◌>>=◌, byte_read, cut_at, run_read}
+use Rattle.byte_grammar.specs.Walk.{Reader, ◌>>=◌}
+use Rattle.byte_grammar.specs.tools.CountedWalk.{literal_read, number_read, counted_read}
 use Rattle.byte_grammar.specs.tools.Walks.{turns_read}
-use Rattle.recording.specs.declared.limits.TheConstants.{MAX_NUMBER_DIGITS, MAX_ITEM_BYTES}
+use Rattle.recording.specs.declared.limits.TheConstants.{MAX_ITEM_BYTES}
 use Rattle.recording.specs.declared.item.Role.{Role}
 use Rattle.recording.specs.declared.item.Role.TheVariants.{Request, Response, Related}
 use Rattle.recording.specs.declared.word.Word.{Word}
@@ -25,17 +22,6 @@ word_text word.At = codes "at "
 word_text (word.Message role) = kind_word (message role)
 word_text word.Script = kind_word script
 word_text word.End = codes "end\n"
-
--- how many first bytes are the same
-abbrev pub common_length : List ℕ → List ℕ → ℕ
-common_length text bytes = common_prefix_len (λ a b. a == b) text bytes
-
--- reads this text
-unfoldable pub literal_read : List ℕ → Reader (List ℕ)
-literal_read text bytes =
-    if nat_lt (common_length text bytes) (length text)
-    then Err (length bytes - common_length text bytes)
-    else Ok (text, drop (length text) bytes)
 
 -- the role of the word with which `r` and these bytes may begin
 unfoldable pub role_at : List ℕ → Role
@@ -62,33 +48,11 @@ word_in (Some w) bytes = literal_read (word_text w) bytes >>= λ t. Ok (w, t.1)
 unfoldable pub word_read : Reader Word
 word_read bytes = word_in (word_at bytes) bytes
 
--- ---- numbers and bytes
-
-abbrev pub is_line_end : ℕ → Bool
-is_line_end c = c == byte "\n"
-
--- digits, not more than one where the first is zero
-unfoldable pub digits_read : Reader (List ℕ)
-digits_read bytes =
-    run_read is_digit 1
-    (if starts_in (λ c. c == byte "0") bytes then 1 else MAX_NUMBER_DIGITS) bytes
+-- ---- numbers
 
 -- a number, and LF
-unfoldable pub number_line_read : Reader ℕ
-number_line_read bytes = do
-  d ← digits_read bytes
-  n ← byte_read is_line_end d.1
-  Ok (digits_value 10 d.0, n.1)
-
-unfoldable pub bytes_read : ℕ → Reader (List ℕ)
-bytes_read size bytes = if nat_lt (length bytes) size then Err 0 else cut_at size bytes
-
--- so many bytes, and LF
-unfoldable pub text_read : ℕ → Reader (List ℕ)
-text_read size bytes = do
-  d ← bytes_read size bytes
-  n ← byte_read is_line_end d.1
-  Ok (d.0, n.1)
+abbrev pub number_line_read : Reader ℕ
+number_line_read bytes = number_read (byte "\n") bytes
 
 -- ---- the form of a recording
 
@@ -96,7 +60,7 @@ text_read size bytes = do
 unfoldable pub stored_read : Reader (List ℕ)
 stored_read bytes = do
   n ← number_line_read bytes
-  text_read n.0 n.1
+  counted_read n.0 n.1
 
 -- what comes after the word
 unfoldable pub body_read : Word → Reader (Option Body)
@@ -146,7 +110,7 @@ moment_step last line bytes = then_step (number_line_read bytes)
 unfoldable pub stored_step : ℕ → List ℕ → Result (List ℕ × List ℕ) Stop
 stored_step line bytes = then_step (number_line_read bytes)
     (λ n. if nat_lt MAX_ITEM_BYTES n.0 then Err (stop.TooLong line)
-    else then_step (text_read n.0 n.1) Ok)
+    else then_step (counted_read n.0 n.1) Ok)
 
 unfoldable pub body_step : ℕ → ℕ → Word → List ℕ → Result (Option Body × List ℕ) Stop
 body_step last line word.End bytes = Ok (None, bytes)

@@ -2,7 +2,8 @@
 -- module.
 use Rattle.std.specs.Prelude.{◌≡◌, ⊤, ℕ, ◌<◌, ◌≤◌, List, [], ◌∷◌, ◌++◌, length, codes}
 use Rattle.recording.specs.declared.limits.TheConstants.{MAX_ITEM_BYTES}
-use Rattle.recording.specs.Items.{Body, moment, stored, Kind, kind_word, number_line, IsNumber}
+use Rattle.byte_grammar.specs.Numbers.{number_line, IsNumber}
+use Rattle.recording.specs.Items.{Body, moment, stored, Kind, kind_word}
 use Rattle.recording.specs.Recordings.{AreItems, items_text}
 
 -- the last moment, where it was this one before the item

@@ -1,5 +1,6 @@
 -- What the parts of a verdict answer. No public clause cites this module.
 use Rattle.std.specs.Prelude.{◌≡◌, ◌⊎◌, ◌<◌, ◌≤◌, ◌+◌, ⊤, ℕ, pos, ℤ, ◌≤ℤ◌, ◌<ℤ◌, Bool, IsTrue, IsFalse, Option, Some, None, IsSome, IfSome, IsSomeAnd, List, ◌∷◌, length, slice_get, Result}
+use Rattle.std.specs.Borrow.{Bor}
 use Rattle.std.specs.List.{list_any}
 use Rattle.sfv_text.specs.Strict.{string_text}
 use Rattle.component_ids.specs.Table.{is_listed}
@@ -21,7 +22,8 @@ use Rattle.nonces.specs.Books.{Book}
 use Rattle.component_ids.specs.Sameness.{is_same}
 use Rattle.verdicts.specs.Parameters.{alg_of, keyid_of}
 use Rattle.verdicts.specs.Policies.{IsFirstUncovered, IsAhead, IsTooOld, asks_new, AcceptsByPolicy, HasRoom, LacksRoom}
-use Rattle.verdicts.specs.Verification.{Verification, policy_of}
+use Rattle.verdicts.specs.Choice.{policy_of}
+use Rattle.verdicts.specs.Verification.{Verification}
 use Rattle.msg_body.specs.Messages.{Message}
 use Rattle.verdicts.specs.ContentDigest.{HasDigest, LacksDigest}
 use Rattle.signatures.specs.ContentDigests.{IsDigestAnswer}
@@ -182,12 +184,20 @@ IsAbsentNonce asked rule place =
 abbrev pub NoneBelow : (Rule → Place → Type 0) → ℕ → Type 0
 NoneBelow Table n = (rule : Rule) (place : Place) → rule_number rule < n → ¬ Table rule place
 
--- what the policy answers, where no rule up to 16 fails
-abbrev pub ExplainsPolicy : Verification → SigParams → Result Unit LabelFault → Type 0
+-- no policy is chosen, so that rule 23 fails
+abbrev pub FailsByChoice : Option Policy → Rule → Place → Type 0
+FailsByChoice chosen rule place = (rule ≡ TagWrong) × (place ≡ Nowhere) × (chosen ≡ None)
+
+-- the policy is chosen, and accepts the signature
+pub record AcceptsBy (v : Verification) (params : SigParams) (policy : Policy) : Type 0 where
+  pub chosen : policy_of v.conf params ≡ Some policy
+  pub accepted : AcceptsByPolicy v policy params
+
+-- the policy that accepts, where no rule up to 16 fails
+abbrev pub ExplainsPolicy : Verification → SigParams → Result (Bor Policy) LabelFault → Type 0
 ExplainsPolicy v params result =
     (tag : List ℕ) → HasSignature v.context.message v.label params tag → NoneBelow (Fails v) 17
-    → Explains (λ _. AcceptsByPolicy v (policy_of v.conf params) params)
-    (IsFirstFailure (Fails v)) result
+    → Explains (λ policy. AcceptsBy v params policy.now) (IsFirstFailure (Fails v)) result
 
 -- ---- rules 13 to 26
 
@@ -197,12 +207,12 @@ pub record HasKeyid (v : Verification) (params : SigParams) (tag keyid : List �
   pub alg : IfSome (alg_of params) (λ alg. alg ≡ supported_algorithm)
   pub is : keyid_of params ≡ Some keyid
 
--- rules up to 26 hold, with this key of the `keyid`
+-- rules up to 26 hold, with this key of the `keyid` and by this policy
 pub record HasKey (v : Verification) (params : SigParams) (tag keyid key : List ℕ)
-    : Type 0 where
+    (policy : Policy) : Type 0 where
   pub under : HasKeyid v params tag keyid
   pub is : key_in v.conf keyid ≡ Some key
-  pub policy : AcceptsByPolicy v (policy_of v.conf params) params
+  pub by : AcceptsBy v params policy
 
 -- ---- rules 33 and 34
 
@@ -233,17 +243,17 @@ ExplainsJudged v result = Explains (Accepts v) (IsJudged v) result
 
 -- ---- rules 27 to 34
 
--- they hold, with this key
+-- they hold, with this key and by this policy
 pub record AcceptsContent (v : Verification) (params : SigParams) (tag key : List ℕ)
-    : Type 0 where
+    (policy : Policy) : Type 0 where
   pub values : List (List ℕ)
   pub have : HaveValues v.context params.ids values
   pub mac : tag ≡ hmac key (signature_base params values)
-  pub digest : IsTrue (asks_digest_of v (policy_of v.conf params))
-      → HasDigest v.context.message params.ids
-  pub room : HasRoom v.now v.seen (policy_of v.conf params) params
+  pub digest : IsTrue (asks_digest_of v policy) → HasDigest v.context.message params.ids
+  pub room : HasRoom v.now v.seen policy params
 
 -- rules 16 to 34 hold, with this `keyid`
 abbrev pub AcceptsKeyid : Verification → SigParams → List ℕ → List ℕ → Type 0
 AcceptsKeyid v params tag keyid =
-    (key : List ℕ) × HasKey v params tag keyid key × AcceptsContent v params tag key
+    (key : List ℕ) × (policy : Policy)
+    × HasKey v params tag keyid key policy × AcceptsContent v params tag key policy

@@ -9,6 +9,10 @@ use Rattle.signing.specs.SignCauses.{IsFirstSelfCover, covers_itself}
 use Rattle.gateway.proofs.Signable.{covered_at, signable}
 use Rattle.gateway.proofs.own_signature.sign_accepted.Goals as goal
 
+pub sign_beside-requires-clause-signature : goal.sign_beside-requires-clause-signature
+sign_beside-requires-clause-signature c =
+    (c.args.accepted.now.label, c.args.accepted.now.params, c.requires.signature.0, c.requires.signature.1)
+
 pub held_fault-requires : goal.held_fault-requires
 held_fault-requires c = (context_of c.args.context.now, λ other. (c.in-Err.ensures.fault c.in-Err.fault other).only refl)
 

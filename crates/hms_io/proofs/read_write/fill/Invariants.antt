@@ -9,6 +9,7 @@ invariant-reads g l = record {
   few : g.S.Source.given l.source + l.room ≤ g.S.Source.given l.initial.source + (l.limit + 1);
   kept : g.S.Source.faults l.source ≡ g.S.Source.faults l.initial.source;
   unended : g.S.Source.ended l.initial.source ≡ 0 → g.S.Source.ended l.source ≡ 0;
+  idle : g.S.Source.idle l.source ≡ g.S.Source.idle l.initial.source;
   took : Consumes (g.S.Source.left l.initial.source) (g.S.Source.left l.source) l.text;
 }
 

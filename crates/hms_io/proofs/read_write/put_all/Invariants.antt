@@ -7,6 +7,7 @@ abbrev pub invariant-writes : goal.invariant-writes
 invariant-writes g l = record {
   within : l.at ≤ length l.text;
   kept : g.K.Sink.faults l.sink ≡ g.K.Sink.faults l.initial.sink;
+  idle : g.K.Sink.idle l.sink ≡ g.K.Sink.idle l.initial.sink;
   took : Appends (g.K.Sink.taken l.initial.sink) (g.K.Sink.taken l.sink) (take l.at l.text);
 }
 

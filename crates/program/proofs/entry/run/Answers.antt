@@ -2,7 +2,7 @@ use Rattle.std.proofs.Common.{◌≡◌, ◌⊎◌, ◌+◌, ◌≤◌, inl, map
 use Rattle.command_line.specs.Command.{CommandLine, Base, Verify, Sign, Explain, Audit, Gateway, GatewayWords, gateway_words}
 use Rattle.command_line.proofs.CommandLaws.{one_command}
 use Rattle.commands.specs.Files.{Found, AreFound, Conf, file_bytes}
-use Rattle.program.specs.Commands.{LosesFew, input_use, name_of}
+use Rattle.program.specs.Commands.{GivesAtMost, LosesFew, input_use, name_of}
 use Rattle.program.specs.Ends.{AsksFor, HasReport, WritesRefusal}
 use Rattle.program.specs.StreamEnds.{EndsStream}
 use Rattle.program.specs.StreamMeanings.{TellsStream}
@@ -63,6 +63,10 @@ returns-in-Some-clause-few g c =
     of_command (λ (line : CommandLine). LosesFew (input_use line) (g.S.Source.left c.args.source.now) (g.S.Source.left c.over_stream.new.source)) (map string_bytes c.args.arguments.now) (Gateway (gateway_words c.in-Some.words)) c.in-Some.ensures.some
     (stream_few (gateway_words c.in-Some.words) (g.F.Shelf.files c.args.shelf.now) (c.over_stream.new.source ≡ c.args.source.now) (g.S.Source.left c.args.source.now) (g.S.Source.left c.over_stream.new.source)
     (g.K.Sink.taken c.args.out.now) (g.K.Sink.taken c.over_stream.new.out) c.over_stream.result.status c.over_stream.result.refusal c.over_stream.ensures.ends (λ same. ap g.S.Source.left same))
+
+pub returns-in-Some-clause-given : goal.returns-in-Some-clause-given
+returns-in-Some-clause-given g c =
+    of_command (λ (line : CommandLine). GivesAtMost (input_use line) (g.S.Source.given c.args.source.now) (g.S.Source.given c.over_stream.new.source)) (map string_bytes c.args.arguments.now) (Gateway (gateway_words c.in-Some.words)) c.in-Some.ensures.some tt
 
 pub returns-in-Some-clause-asked : goal.returns-in-Some-clause-asked
 returns-in-Some-clause-asked g c =

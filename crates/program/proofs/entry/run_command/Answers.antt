@@ -1,7 +1,8 @@
 use Rattle.std.proofs.Common.{◌≡◌, ◌+◌, ◌≤◌, map, string_bytes, refl, Ok}
+use Rattle.std.proofs.Math.Nat.{le_refl}
 use Rattle.command_line.specs.Command.{CommandLine, Help, HelpOf, Version, Base, Verify, Sign, Rewrite, Explain, Audit, Gateway, Sample, base_words, verify_words, sign_words, rewrite_words, explain_words, audit_words, gateway_words, sample_words}
 use Rattle.commands.specs.Files.{Conf, file_bytes}
-use Rattle.program.specs.Commands.{input_use, name_of, LosesFew}
+use Rattle.program.specs.Commands.{input_use, name_of, GivesAtMost, LosesFew}
 use Rattle.command_line.proofs.Moments.{sample_bounded}
 use Rattle.program.proofs.AskedFiles.{asks_of, conf_asked, no_more, none_asked}
 use Rattle.program.proofs.Sampled.{sampled}
@@ -16,6 +17,9 @@ returns-in_default-clause-report g c =
 
 pub returns-in_default-clause-few : goal.returns-in_default-clause-few
 returns-in_default-clause-few g c = λ command is. absurd (c.in_default.ensures.none command is)
+
+pub returns-in_default-clause-given : goal.returns-in_default-clause-given
+returns-in_default-clause-given g c = λ command is. absurd (c.in_default.ensures.none command is)
 
 pub returns-in_default-clause-asked : goal.returns-in_default-clause-asked
 returns-in_default-clause-asked g c =
@@ -71,6 +75,11 @@ returns-in-Base-clause-few g c =
     of_command (λ (line : CommandLine). LosesFew (input_use line) (g.S.Source.left c.args.source.now) (g.S.Source.left c.over_message.new.source))
     (map string_bytes c.args.arguments.now) (Base (base_words c.in-Base.words)) (rw c.in-Base.is at c.in-Some.ensures.some) c.over_message.ensures.few
 
+pub returns-in-Base-clause-given : goal.returns-in-Base-clause-given
+returns-in-Base-clause-given g c =
+    of_command (λ (line : CommandLine). GivesAtMost (input_use line) (g.S.Source.given c.args.source.now) (g.S.Source.given c.over_message.new.source))
+    (map string_bytes c.args.arguments.now) (Base (base_words c.in-Base.words)) (rw c.in-Base.is at c.in-Some.ensures.some) c.over_message.ensures.given
+
 pub returns-in-Base-clause-asked : goal.returns-in-Base-clause-asked
 returns-in-Base-clause-asked g c =
     asks_of (map string_bytes c.args.arguments.now) (Base (base_words c.in-Base.words)) (rw c.in-Base.is at c.in-Some.ensures.some) c.over_message.result (g.F.Shelf.asked c.args.shelf.now) (g.F.Shelf.asked c.over_message.new.shelf)
@@ -99,6 +108,11 @@ pub returns-in-Verify-clause-few : goal.returns-in-Verify-clause-few
 returns-in-Verify-clause-few g c =
     of_command (λ (line : CommandLine). LosesFew (input_use line) (g.S.Source.left c.args.source.now) (g.S.Source.left c.over_message-in-Verify.new.source))
     (map string_bytes c.args.arguments.now) (Verify (verify_words c.in-Verify.words)) (rw c.in-Verify.is at c.in-Some.ensures.some) c.over_message-in-Verify.ensures.few
+
+pub returns-in-Verify-clause-given : goal.returns-in-Verify-clause-given
+returns-in-Verify-clause-given g c =
+    of_command (λ (line : CommandLine). GivesAtMost (input_use line) (g.S.Source.given c.args.source.now) (g.S.Source.given c.over_message-in-Verify.new.source))
+    (map string_bytes c.args.arguments.now) (Verify (verify_words c.in-Verify.words)) (rw c.in-Verify.is at c.in-Some.ensures.some) c.over_message-in-Verify.ensures.given
 
 pub returns-in-Verify-clause-asked : goal.returns-in-Verify-clause-asked
 returns-in-Verify-clause-asked g c =
@@ -129,6 +143,11 @@ returns-in-Sign-clause-few g c =
     of_command (λ (line : CommandLine). LosesFew (input_use line) (g.S.Source.left c.args.source.now) (g.S.Source.left c.over_message-in-Sign.new.source))
     (map string_bytes c.args.arguments.now) (Sign (sign_words c.in-Sign.words)) (rw c.in-Sign.is at c.in-Some.ensures.some) c.over_message-in-Sign.ensures.few
 
+pub returns-in-Sign-clause-given : goal.returns-in-Sign-clause-given
+returns-in-Sign-clause-given g c =
+    of_command (λ (line : CommandLine). GivesAtMost (input_use line) (g.S.Source.given c.args.source.now) (g.S.Source.given c.over_message-in-Sign.new.source))
+    (map string_bytes c.args.arguments.now) (Sign (sign_words c.in-Sign.words)) (rw c.in-Sign.is at c.in-Some.ensures.some) c.over_message-in-Sign.ensures.given
+
 pub returns-in-Sign-clause-asked : goal.returns-in-Sign-clause-asked
 returns-in-Sign-clause-asked g c =
     asks_of (map string_bytes c.args.arguments.now) (Sign (sign_words c.in-Sign.words)) (rw c.in-Sign.is at c.in-Some.ensures.some) c.over_message-in-Sign.result (g.F.Shelf.asked c.args.shelf.now) (g.F.Shelf.asked c.over_message-in-Sign.new.shelf)
@@ -157,6 +176,11 @@ pub returns-in-Rewrite-clause-few : goal.returns-in-Rewrite-clause-few
 returns-in-Rewrite-clause-few g c =
     of_command (λ (line : CommandLine). LosesFew (input_use line) (g.S.Source.left c.args.source.now) (g.S.Source.left c.over_message-in-Rewrite.new.source))
     (map string_bytes c.args.arguments.now) (Rewrite (rewrite_words c.in-Rewrite.words)) (rw c.in-Rewrite.is at c.in-Some.ensures.some) c.over_message-in-Rewrite.ensures.few
+
+pub returns-in-Rewrite-clause-given : goal.returns-in-Rewrite-clause-given
+returns-in-Rewrite-clause-given g c =
+    of_command (λ (line : CommandLine). GivesAtMost (input_use line) (g.S.Source.given c.args.source.now) (g.S.Source.given c.over_message-in-Rewrite.new.source))
+    (map string_bytes c.args.arguments.now) (Rewrite (rewrite_words c.in-Rewrite.words)) (rw c.in-Rewrite.is at c.in-Some.ensures.some) c.over_message-in-Rewrite.ensures.given
 
 pub returns-in-Rewrite-clause-asked : goal.returns-in-Rewrite-clause-asked
 returns-in-Rewrite-clause-asked g c =
@@ -187,6 +211,11 @@ returns-in-Explain-clause-few g c =
     of_command (λ (line : CommandLine). LosesFew (input_use line) (g.S.Source.left c.args.source.now) (g.S.Source.left c.over_message-in-Explain.new.source))
     (map string_bytes c.args.arguments.now) (Explain (explain_words c.in-Explain.words)) (rw c.in-Explain.is at c.in-Some.ensures.some) c.over_message-in-Explain.ensures.few
 
+pub returns-in-Explain-clause-given : goal.returns-in-Explain-clause-given
+returns-in-Explain-clause-given g c =
+    of_command (λ (line : CommandLine). GivesAtMost (input_use line) (g.S.Source.given c.args.source.now) (g.S.Source.given c.over_message-in-Explain.new.source))
+    (map string_bytes c.args.arguments.now) (Explain (explain_words c.in-Explain.words)) (rw c.in-Explain.is at c.in-Some.ensures.some) c.over_message-in-Explain.ensures.given
+
 pub returns-in-Explain-clause-asked : goal.returns-in-Explain-clause-asked
 returns-in-Explain-clause-asked g c =
     asks_of (map string_bytes c.args.arguments.now) (Explain (explain_words c.in-Explain.words)) (rw c.in-Explain.is at c.in-Some.ensures.some) c.over_message-in-Explain.result (g.F.Shelf.asked c.args.shelf.now) (g.F.Shelf.asked c.over_message-in-Explain.new.shelf)
@@ -215,6 +244,11 @@ pub returns-in-Audit-clause-few : goal.returns-in-Audit-clause-few
 returns-in-Audit-clause-few g c =
     of_command (λ (line : CommandLine). LosesFew (input_use line) (g.S.Source.left c.args.source.now) (g.S.Source.left c.over_recording.new.source))
     (map string_bytes c.args.arguments.now) (Audit (audit_words c.in-Audit.words)) (rw c.in-Audit.is at c.in-Some.ensures.some) c.over_recording.ensures.few
+
+pub returns-in-Audit-clause-given : goal.returns-in-Audit-clause-given
+returns-in-Audit-clause-given g c =
+    of_command (λ (line : CommandLine). GivesAtMost (input_use line) (g.S.Source.given c.args.source.now) (g.S.Source.given c.over_recording.new.source))
+    (map string_bytes c.args.arguments.now) (Audit (audit_words c.in-Audit.words)) (rw c.in-Audit.is at c.in-Some.ensures.some) c.over_recording.ensures.given
 
 pub returns-in-Audit-clause-asked : goal.returns-in-Audit-clause-asked
 returns-in-Audit-clause-asked g c =
@@ -251,6 +285,11 @@ pub returns-in-Sample-clause-few : goal.returns-in-Sample-clause-few
 returns-in-Sample-clause-few g c =
     of_command (λ (line : CommandLine). LosesFew (input_use line) (g.S.Source.left c.args.source.now) (g.S.Source.left c.args.source.now))
     (map string_bytes c.args.arguments.now) (Sample (sample_words c.in-Sample.words)) (rw c.in-Sample.is at c.in-Some.ensures.some) (none_gone 0 (g.S.Source.left c.args.source.now) (g.S.Source.left c.args.source.now) refl)
+
+pub returns-in-Sample-clause-given : goal.returns-in-Sample-clause-given
+returns-in-Sample-clause-given g c =
+    of_command (λ (line : CommandLine). GivesAtMost (input_use line) (g.S.Source.given c.args.source.now) (g.S.Source.given c.args.source.now))
+    (map string_bytes c.args.arguments.now) (Sample (sample_words c.in-Sample.words)) (rw c.in-Sample.is at c.in-Some.ensures.some) (le_refl (g.S.Source.given c.args.source.now))
 
 pub returns-in-Sample-clause-asked : goal.returns-in-Sample-clause-asked
 returns-in-Sample-clause-asked g c =

@@ -9,5 +9,5 @@ pub returns : goal.returns
 returns c =
     let spec = c.args.spec.now in
     two_lines (member_line (codes "Signature-Input") spec.label (sig_params_text spec.params)) (member_line (codes "Signature") spec.label (bytes_text c.args.tag.now)) c.append_member.new.text c.append_member-2.new.text
-    (rw (c.new-text.ensures, c.bytes-label.ensures, c.requires.params) at c.in_ok-append_member.ensures)
+    (rw (c.in_ok-text.ensures.ok, c.bytes-label.ensures, c.requires.params) at c.in_ok-append_member.ensures)
     (rw (c.bytes-label.ensures, c.bytes.ensures, c.in_ok-value.ensures.is, c.in_ok-from_bytes.ensures.ok) at c.in_ok-append_member-2.ensures)

@@ -15,6 +15,6 @@ returns-in-Some c = λ unsigned same are.
 pub returns-in-None : goal.returns-in-None
 returns-in-None c = λ unsigned same are.
     let spec = c.args.spec.now in
-    rw c.from.ensures
+    rw c.lack_fault_of.ensures
     (lack_answered unsigned spec (fits unsigned spec are.none (sym (c.in_ok-limit-in-Err.ensures unsigned.message are.parts_are are.digest_is) ∙ c.in-None.is)) c.in-Err.fault
     (λ index lack is. subst (λ (m : MessageContext). IsFirstLack m spec.params.ids index lack) same ((c.in-Err.ensures.lacks index lack).only (ap Err is))))

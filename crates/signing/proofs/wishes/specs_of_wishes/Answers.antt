@@ -10,7 +10,7 @@ loop-index-preserved c =
 
 pub returns-in-Err : goal.returns-in-Err
 returns-in-Err c =
-    rw c.from.ensures
+    rw c.fault_at.ensures
     (unmet (meaning c.args.conf.now) c.args.sign.now c.args.now c.args.wishes.now c.loop-index.index c.index-wishes-index.result c.loop-index.specs c.in-Err.fault c.loop-index-test.true
     c.index-wishes-index.is c.loop-index.invariant c.in-Err.ensures)
 

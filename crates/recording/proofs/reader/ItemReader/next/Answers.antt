@@ -21,5 +21,6 @@ returns-in-Err g c = record {
   faults = search rules;
   later = search rules;
   ended = search rules;
+  idle = search rules;
   unended = search rules;
 }

@@ -1,4 +1,4 @@
-use Rattle.std.proofs.Common.{◌≡◌, None}
+use Rattle.std.proofs.Common.{◌≡◌, ◌≤◌, None}
 use Rattle.recording.specs.tools.ReaderSteps.{IsGoing}
 use Rattle.recording.proofs.PieceLaws.{HasReadOn, room_left}
 use Rattle.recording.proofs.reader.ItemReader.read_on.Given as goal
@@ -11,6 +11,7 @@ invariant-pieces g l = record {
   count : l.self.count ≡ l.initial.self.count;
   kept : g.S.Source.faults l.source ≡ g.S.Source.faults l.initial.source;
   unended : g.S.Source.ended l.initial.source ≡ 0 → g.S.Source.ended l.source ≡ 0;
+  idle : g.S.Source.idle l.source ≤ g.S.Source.idle l.initial.source;
   reads : HasReadOn l.initial.self l.self (g.S.Source.left l.initial.source) (g.S.Source.left l.source);
 }
 

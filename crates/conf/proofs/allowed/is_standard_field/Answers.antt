@@ -1,6 +1,0 @@
-use Rattle.std.proofs.Common.{◌∙◌}
-use Rattle.conf.proofs.StandardNames.{standard_listed}
-use Rattle.conf.proofs.allowed.is_standard_field.Goals as goal
-
-pub returns : goal.returns
-returns c = c.is_listed.ensures ∙ standard_listed c.args.name.now

@@ -1,0 +1,4 @@
+pub mod Parts
+pub mod Values
+pub mod Views
+pub mod tools
