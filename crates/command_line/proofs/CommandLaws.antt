@@ -1,5 +1,5 @@
 -- Arguments spell one command: the one that they are read as.
-use Rattle.std.proofs.Common.{◌≡◌, ℕ, false, inl, inr, List, [], ◌∷◌, Option, Some, None, refl, sym, ap, ◌∙◌}
+use Rattle.std.proofs.Common.{◌≡◌, ℕ, Bool, true, false, inl, inr, List, [], ◌∷◌, Option, Some, None, refl, sym, ap, ◌∙◌}
 use Rattle.std.specs.Prelude.{IsSomeAnd, codes, if◌then◌else◌, option_map, unwrap_or}
 use Rattle.std.specs.Str.{bytes_eq}
 use Rattle.std.specs.Str.Parse.{digits_value}
@@ -7,10 +7,10 @@ use Rattle.std.proofs.lemmas.Bool.{cases_Bool}
 use Rattle.std.proofs.lemmas.Slice.Eq.{bytes_eq-Decides}
 use Rattle.sfv_text.specs.Keys.{value_of}
 use Rattle.sfv_text.specs.declared.pair.Pair.{Pair}
-use Rattle.command_line.specs.Command.{CommandLine, Help, HelpOf, Version, Base, Verify, Sign, Rewrite, Explain, Audit, Gateway, Sample, BaseWords, VerifyWords, SignWords, RewriteWords, ExplainWords, AuditWords, GatewayWords, SampleWords, IsCommand, SpellsBase, SpellsVerify, SpellsSign, SpellsRewrite, SpellsExplain, SpellsAudit, SpellsGateway, SpellsSample}
+use Rattle.command_line.specs.Command.{CommandLine, Help, HelpOf, Version, Base, Verify, Sign, Rewrite, Explain, Audit, Gateway, Lists, Sample, BaseWords, VerifyWords, SignWords, RewriteWords, ExplainWords, AuditWords, GatewayWords, ListsWords, SampleWords, IsCommand, SpellsBase, SpellsVerify, SpellsSign, SpellsRewrite, SpellsExplain, SpellsAudit, SpellsGateway, SpellsLists, SpellsSample}
 use Rattle.command_line.specs.Laws.{HasOneCommand}
 use Rattle.command_line.specs.Names.{command_of, command_word}
-use Rattle.command_line.specs.Options.{words_of}
+use Rattle.command_line.specs.Options.{into_word, words_of}
 use Rattle.command_line.specs.declared.options.CommandName.{CommandName}
 use Rattle.command_line.specs.declared.options.CommandName.TheVariants as name
 use Rattle.command_line.specs.tools.Wrong.{asks_help}
@@ -69,6 +69,9 @@ audit_in options = record { conf = word_of options (codes "--conf") }
 gateway_in : List (Pair (List ℕ)) → GatewayWords
 gateway_in options = record { conf = word_of options (codes "--conf") }
 
+lists_in : List (Pair (List ℕ)) → ListsWords
+lists_in options = record { into_message = bytes_eq (word_of options (codes "--into")) (codes "message"); conf = value_of options (codes "--conf") }
+
 after_base : List (List ℕ) → CommandLine
 after_base [] = Help
 after_base (params ∷ words) = Base (base_in params (options_in words))
@@ -88,6 +91,7 @@ after_name name.Rewrite words = Rewrite (rewrite_in (options_in words))
 after_name name.Explain words = Explain (explain_in (options_in words))
 after_name name.Audit words = Audit (audit_in (options_in words))
 after_name name.Gateway words = Gateway (gateway_in (options_in words))
+after_name name.Lists words = Lists (lists_in (options_in words))
 after_name name.Sample words = after_sample words
 
 -- after `help`
@@ -166,6 +170,17 @@ gateway_is arguments gateway a =
     let conf : gateway.conf ≡ word_of a.options (codes "--conf") = word_is a.options (codes "--conf") gateway.conf a.conf_is in
     λ i. record { conf = conf i }
 
+into_read : (into_message : Bool) → into_message ≡ bytes_eq (into_word into_message) (codes "message")
+into_read true = refl
+into_read false = refl
+
+lists_is : (arguments : List (List ℕ)) (lists : ListsWords) (a : SpellsLists arguments lists) → lists ≡ lists_in a.options
+unfolding lists_in word_of
+lists_is arguments lists a =
+    let word : into_word lists.into_message ≡ word_of a.options (codes "--into") = word_is a.options (codes "--into") (into_word lists.into_message) a.into_is in
+    let into = into_read lists.into_message ∙ ap (λ (w : List ℕ). bytes_eq w (codes "message")) word in
+    λ i. record { into_message = into i; conf = a.conf_is i }
+
 sample_is : (arguments : List (List ℕ)) (sample : SampleWords) (a : SpellsSample arguments sample) → sample ≡ sample_in a.seed a.count
 unfolding sample_in
 sample_is arguments sample a = λ i. record { seed = a.seed_is.1 i; count = a.count_is.1 i }
@@ -196,6 +211,7 @@ read_plain name.Rewrite words isnt = rw isnt refl
 read_plain name.Explain words isnt = rw isnt refl
 read_plain name.Audit words isnt = rw isnt refl
 read_plain name.Gateway words isnt = rw isnt refl
+read_plain name.Lists words isnt = rw isnt refl
 read_plain name.Sample words isnt = rw isnt refl
 
 read_help : (command : CommandName) → read (command_word command ∷ codes "--help" ∷ []) ≡ HelpOf command
@@ -207,6 +223,7 @@ read_help name.Rewrite = refl
 read_help name.Explain = refl
 read_help name.Audit = refl
 read_help name.Gateway = refl
+read_help name.Lists = refl
 read_help name.Sample = refl
 
 read_topic : (command : CommandName) → read (codes "help" ∷ command_word command ∷ []) ≡ HelpOf command
@@ -218,6 +235,7 @@ read_topic name.Rewrite = refl
 read_topic name.Explain = refl
 read_topic name.Audit = refl
 read_topic name.Gateway = refl
+read_topic name.Lists = refl
 read_topic name.Sample = refl
 
 is_read : (arguments : List (List ℕ)) (command : CommandLine) → IsCommand arguments command → read arguments ≡ command
@@ -246,6 +264,9 @@ is_read arguments (Audit words) a = ap read a.joined
 is_read arguments (Gateway words) a = ap read a.joined
     ∙ (read_plain name.Gateway a.words (plain a.words a.options a.are.joined)
     ∙ (ap (λ (options : List (Pair (List ℕ))). Gateway (gateway_in options)) (are_in a.words a.options a.are.joined) ∙ ap Gateway (sym (gateway_is arguments words a))))
+is_read arguments (Lists words) a = ap read a.joined
+    ∙ (read_plain name.Lists a.words (plain a.words a.options a.are.joined)
+    ∙ (ap (λ (options : List (Pair (List ℕ))). Lists (lists_in options)) (are_in a.words a.options a.are.joined) ∙ ap Lists (sym (lists_is arguments words a))))
 is_read arguments (Sample words) a = ap read a.joined ∙ (read_plain name.Sample (a.seed ∷ a.count ∷ []) refl ∙ ap Sample (sym (sample_is arguments words a)))
 
 pub one_command : HasOneCommand

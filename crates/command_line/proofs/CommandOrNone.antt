@@ -10,12 +10,12 @@ use Rattle.std.proofs.lemmas.Bool.Decides.{nat_tests}
 use Rattle.std.proofs.lemmas.Slice.Eq.{bytes_eq-Decides}
 use Rattle.sfv_text.specs.Keys.{have_distinct_keys, value_of}
 use Rattle.sfv_text.specs.declared.pair.Pair.{Pair}
-use Rattle.command_line.specs.Command.{VerifyWords, SignWords, RewriteWords, ExplainWords, AuditWords, GatewayWords, SampleWords, SpellsBase, SpellsVerify, SpellsSign, SpellsRewrite, SpellsExplain, SpellsAudit, SpellsGateway, SpellsSample}
+use Rattle.command_line.specs.Command.{VerifyWords, SignWords, RewriteWords, ExplainWords, AuditWords, GatewayWords, ListsWords, SampleWords, SpellsBase, SpellsVerify, SpellsSign, SpellsRewrite, SpellsExplain, SpellsAudit, SpellsGateway, SpellsLists, SpellsSample}
 use Rattle.command_line.specs.Numbers.{is_number, IsCount, IsSeed}
-use Rattle.command_line.specs.Options.{may_have, takes, words_of, AreOptions}
+use Rattle.command_line.specs.Options.{into_word, is_into, may_have, takes, words_of, AreOptions}
 use Rattle.command_line.specs.declared.options.CommandName.{CommandName}
 use Rattle.command_line.specs.declared.options.CommandName.TheVariants as name
-use Rattle.command_line.proofs.OptionLists.{begins, no_single, one_list}
+use Rattle.command_line.proofs.OptionLists.{begins, no_single, one_list, value_had}
 
 pub first_is : (a b : List ℕ) (x y : List (List ℕ)) → a ∷ x ≡ b ∷ y → (a ≡ b) × (x ≡ y)
 first_is a b x y e = (cc, cc)
@@ -346,6 +346,46 @@ gateway_with words options are = elim (has_word (value_of options (codes "--conf
 
 pub gateway_of : (words : List (List ℕ)) → SomeOrNone (SpellsGateway (codes "gateway" ∷ words))
 gateway_of words = with_or_none (SpellsGateway (codes "gateway" ∷ words)) name.Gateway words (λ gateway is. (is.options, gateway_are words gateway is)) (gateway_with words)
+
+-- ---- `lists`
+
+into_of : (word : List ℕ) → is_into word ≡ true → (into_message : Bool) × (word ≡ into_word into_message)
+into_of word is = elim (cases_Bool (bytes_eq word (codes "message"))) [
+  | inl message ↦ (true, (bytes_eq-Decides word (codes "message")).0 message)
+  | inr other ↦ (false, (bytes_eq-Decides word (codes "fields")).0 (rw other at is))
+]
+
+-- which of the two it is
+pub into_is : (word : List ℕ) → is_into word ≡ true → word ≡ into_word (bytes_eq word (codes "message"))
+into_is word is = elim (cases_Bool (bytes_eq word (codes "message"))) [
+  | inl message ↦ rw message ((bytes_eq-Decides word (codes "message")).0 message)
+  | inr other ↦ rw other ((bytes_eq-Decides word (codes "fields")).0 (rw other at is))
+]
+
+-- the word of `--into` is one of its two
+pub into_given : (options : List (Pair (List ℕ))) (word : List ℕ) → list_all (λ p. may_have p.key p.value) options ≡ true
+    → value_of options (codes "--into") ≡ Some word → (into_message : Bool) × (value_of options (codes "--into") ≡ Some (into_word into_message))
+into_given options word had some =
+    let into = into_of word (value_had (codes "--into") word options had some) in (into.0, some ∙ ap Some into.1)
+
+lists_are : (words : List (List ℕ)) (lists : ListsWords) (is : SpellsLists (codes "lists" ∷ words) lists) → AreOptions name.Lists words is.options
+lists_are words lists is = are_of name.Lists (codes "lists") words is.words is.options is.joined is.are
+
+lists_with : (words : List (List ℕ)) (options : List (Pair (List ℕ))) → AreOptions name.Lists words options → SomeOrNone (SpellsLists (codes "lists" ∷ words))
+lists_with words options are = elim (has_word (value_of options (codes "--into"))) [
+  | inr none ↦ inr (λ lists is.
+      let same = same_options name.Lists words options is.options are (lists_are words lists is) in
+      no_word (value_of options (codes "--into")) (into_word lists.into_message) none
+      (subst (λ (all : List (Pair (List ℕ))). value_of all (codes "--into") ≡ Some (into_word lists.into_message)) same is.into_is))
+  | inl word ↦
+      let into = into_given options word.0 are.had word.1 in inl (
+        record { into_message = into.0; conf = value_of options (codes "--conf") },
+        record { words = words; options = options; joined = refl; are = are; into_is = into.1; conf_is = refl },
+      )
+]
+
+pub lists_of : (words : List (List ℕ)) → SomeOrNone (SpellsLists (codes "lists" ∷ words))
+lists_of words = with_or_none (SpellsLists (codes "lists" ∷ words)) name.Lists words (λ lists is. (is.options, lists_are words lists is)) (lists_with words)
 
 -- ---- `sample`
 

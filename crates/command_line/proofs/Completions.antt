@@ -13,7 +13,7 @@ use Rattle.command_line.specs.Options.{is_taken_by, may_have, option_of, row_of,
 use Rattle.command_line.specs.declared.options.CommandName.{CommandName}
 use Rattle.command_line.specs.declared.options.CommandName.TheVariants as name
 use Rattle.command_line.specs.declared.options.CommandOption.{CommandOption}
-use Rattle.command_line.specs.declared.options.CommandOption.TheVariants.{Conf, Now, Label, Request, Nonce, Wanted, Script, Other}
+use Rattle.command_line.specs.declared.options.CommandOption.TheVariants.{Conf, Now, Label, Request, Nonce, Wanted, Script, Other, Into}
 use Rattle.command_line.specs.tools.Wrong.{needed, AreCommand}
 use Rattle.command_line.proofs.CommandOrNone.{has_word}
 use Rattle.command_line.proofs.FirstWords.{HasAll, HasOne, IsAlone, IsAloneFor, whole}
@@ -24,6 +24,7 @@ use Rattle.command_line.proofs.OptionLists.{found_none, option_named, snoc_test,
 -- a word that the option may have
 abbrev pub example : CommandOption → List ℕ
 example Now = codes "0"
+example Into = codes "fields"
 example option = codes "a"
 
 pub option_is : (option : CommandOption) → option_of (row_of option).word ≡ Some option
@@ -35,6 +36,7 @@ option_is Nonce = refl
 option_is Wanted = refl
 option_is Script = refl
 option_is Other = refl
+option_is Into = refl
 
 example_had : (option : CommandOption) → (row_of option).may_have (example option) ≡ true
 example_had Conf = refl
@@ -45,6 +47,7 @@ example_had Nonce = refl
 example_had Wanted = refl
 example_had Script = refl
 example_had Other = refl
+example_had Into = refl
 
 abbrev pub pair_of : CommandOption → List ℕ → Pair (List ℕ)
 pair_of option word = record { key = (row_of option).word; value = word }
@@ -81,6 +84,7 @@ same_name Nonce = refl
 same_name Wanted = refl
 same_name Script = refl
 same_name Other = refl
+same_name Into = refl
 
 has_with : (done : List (Pair (List ℕ))) (option : CommandOption) (word : List ℕ) → list_any (has_key (row_of option).word) done ≡ false
     → HasOne (done ++ pair_of option word ∷ []) option
@@ -107,6 +111,7 @@ apart Nonce plain = absurd (false≢true plain)
 apart Wanted plain = absurd (false≢true plain)
 apart Script plain = (refl, refl)
 apart Other plain = (refl, refl)
+apart Into plain = (refl, refl)
 
 pub alone_with : (done : List (Pair (List ℕ))) (option : CommandOption) (word : List ℕ) → list_any (has_key (row_of option).word) done ≡ false
     → is_plain option ≡ true → IsAlone done → IsAlone (done ++ pair_of option word ∷ [])
@@ -181,6 +186,7 @@ needed_addable name.Rewrite = refl
 needed_addable name.Explain = refl
 needed_addable name.Audit = refl
 needed_addable name.Gateway = refl
+needed_addable name.Lists = refl
 needed_addable name.Sample = refl
 
 pub alone_for : (command : CommandName) (options : List (Pair (List ℕ))) → IsAlone options → IsAloneFor command options
@@ -191,6 +197,7 @@ alone_for name.Rewrite options alone = tt
 alone_for name.Explain options alone = tt
 alone_for name.Audit options alone = tt
 alone_for name.Gateway options alone = tt
+alone_for name.Lists options alone = tt
 alone_for name.Sample options alone = tt
 
 -- so right options begin a command

@@ -6,16 +6,16 @@ use Rattle.std.proofs.lemmas.Bool.{false≢true}
 use Rattle.std.proofs.lemmas.Slice.Eq.{bytes_eq-Decides}
 use Rattle.sfv_text.specs.Keys.{value_of}
 use Rattle.sfv_text.specs.declared.pair.Pair.{Pair}
-use Rattle.command_line.specs.Command.{AuditWords, BaseWords, ExplainWords, GatewayWords, RewriteWords, SampleWords, SignWords, VerifyWords, NoCommand, SpellsAudit, SpellsBase, SpellsExplain, SpellsGateway, SpellsRewrite, SpellsSample, SpellsSign, SpellsVerify, CommandLine, Help, HelpOf, Version, Base, Verify, Sign, Rewrite, Explain, Audit, Gateway, Sample, IsCommand}
+use Rattle.command_line.specs.Command.{AuditWords, BaseWords, ExplainWords, GatewayWords, ListsWords, RewriteWords, SampleWords, SignWords, VerifyWords, NoCommand, SpellsAudit, SpellsBase, SpellsExplain, SpellsGateway, SpellsLists, SpellsRewrite, SpellsSample, SpellsSign, SpellsVerify, CommandLine, Help, HelpOf, Version, Base, Verify, Sign, Rewrite, Explain, Audit, Gateway, Lists, Sample, IsCommand}
 use Rattle.command_line.specs.Faults.{IsStart}
 use Rattle.command_line.specs.Names.{command_of, command_word}
 use Rattle.command_line.specs.Numbers.{IsCount, IsSeed}
-use Rattle.command_line.specs.Options.{row_of, AreOptions}
+use Rattle.command_line.specs.Options.{into_word, row_of, AreOptions}
 use Rattle.command_line.specs.declared.options.CommandName.{CommandName}
 use Rattle.command_line.specs.declared.options.CommandName.TheVariants as name
 use Rattle.command_line.specs.declared.options.CommandOption.{CommandOption}
 use Rattle.command_line.specs.tools.Wrong.{asks_help, needed, AreCommand}
-use Rattle.command_line.proofs.CommandOrNone.{first_is, has_moment, word_or_not}
+use Rattle.command_line.proofs.CommandOrNone.{first_is, has_moment, into_given, word_or_not}
 
 -- the option has a word
 abbrev pub HasOne : List (Pair (List ℕ)) → CommandOption → Type 0
@@ -84,6 +84,7 @@ command_is name.Rewrite = refl
 command_is name.Explain = refl
 command_is name.Audit = refl
 command_is name.Gateway = refl
+command_is name.Lists = refl
 command_is name.Sample = refl
 
 -- the command isn't help of one
@@ -153,6 +154,10 @@ named word words (Gateway line) command is some isnt =
     let others : words ≡ is.words = (first_is word (codes "gateway") words is.words is.joined).1 in
     subst (λ (c : CommandName). AfterName c words) (same_command word (codes "gateway") words is.words command name.Gateway is.joined refl some)
     (record { options = is.options; are = moved name.Gateway words is.words is.options others is.are; alone = tt; has = ((line.conf, is.conf_is), tt) })
+named word words (Lists line) command is some isnt =
+    let others : words ≡ is.words = (first_is word (codes "lists") words is.words is.joined).1 in
+    subst (λ (c : CommandName). AfterName c words) (same_command word (codes "lists") words is.words command name.Lists is.joined refl some)
+    (record { options = is.options; are = moved name.Lists words is.words is.options others is.are; alone = tt; has = ((into_word line.into_message, is.into_is), tt) })
 named word words (Sample line) command is some isnt =
     let others : words ≡ is.seed ∷ is.count ∷ [] = (first_is word (codes "sample") words (is.seed ∷ is.count ∷ []) is.joined).1 in
     subst (λ (c : CommandName). AfterName c words) (same_command word (codes "sample") words (is.seed ∷ is.count ∷ []) command name.Sample is.joined refl some)
@@ -185,6 +190,7 @@ unnamed word words (Rewrite line) is none = absurd (some_none word (codes "rewri
 unnamed word words (Explain line) is none = absurd (some_none word (codes "explain") words is.words name.Explain is.joined refl none)
 unnamed word words (Audit line) is none = absurd (some_none word (codes "audit") words is.words name.Audit is.joined refl none)
 unnamed word words (Gateway line) is none = absurd (some_none word (codes "gateway") words is.words name.Gateway is.joined refl none)
+unnamed word words (Lists line) is none = absurd (some_none word (codes "lists") words is.words name.Lists is.joined refl none)
 unnamed word words (Sample line) is none = absurd (some_none word (codes "sample") words (is.seed ∷ is.count ∷ []) name.Sample is.joined refl none)
 
 -- after the words before its options come the options of a command
@@ -205,6 +211,8 @@ started name.Audit start words line starts is isnt =
     named (codes "audit") words line name.Audit (subst (λ (s : List (List ℕ)). IsCommand (s ++ words) line) starts is) refl isnt
 started name.Gateway start words line starts is isnt =
     named (codes "gateway") words line name.Gateway (subst (λ (s : List (List ℕ)). IsCommand (s ++ words) line) starts is) refl isnt
+started name.Lists start words line starts is isnt =
+    named (codes "lists") words line name.Lists (subst (λ (s : List (List ℕ)). IsCommand (s ++ words) line) starts is) refl isnt
 started name.Sample start words line starts is isnt = absurd starts
 
 -- the words after those before its options aren't `--help` alone
@@ -229,6 +237,8 @@ started_plain name.Audit start words line starts is none =
     no_help (codes "audit") words line name.Audit (subst (λ (s : List (List ℕ)). IsCommand (s ++ words) line) starts is) refl none
 started_plain name.Gateway start words line starts is none =
     no_help (codes "gateway") words line name.Gateway (subst (λ (s : List (List ℕ)). IsCommand (s ++ words) line) starts is) refl none
+started_plain name.Lists start words line starts is none =
+    no_help (codes "lists") words line name.Lists (subst (λ (s : List (List ℕ)). IsCommand (s ++ words) line) starts is) refl none
 started_plain name.Sample start words line starts is none = absurd starts
 
 -- ---- to a command
@@ -332,6 +342,13 @@ pub gateway_spelled : (words : List (List ℕ)) → IsOptionLine name.Gateway wo
 gateway_spelled words is =
     (record { conf = is.has.0.0 }, record { words = words; options = is.options; joined = refl; are = is.are; conf_is = is.has.0.1 })
 
+pub lists_spelled : (words : List (List ℕ)) → IsOptionLine name.Lists words → (line : ListsWords) × SpellsLists (codes "lists" ∷ words) line
+lists_spelled words is =
+    let into = into_given is.options is.has.0.0 is.are.had is.has.0.1 in (
+      record { into_message = into.0; conf = value_of is.options (codes "--conf") },
+      record { words = words; options = is.options; joined = refl; are = is.are; into_is = into.1; conf_is = refl },
+    )
+
 -- options with those that the command needs are a command after the words before them
 pub whole : (command : CommandName) (start words : List (List ℕ)) → IsStart command start → IsOptionLine command words → AreCommand (start ++ words)
 whole name.Base start words starts is =
@@ -351,6 +368,8 @@ whole name.Audit start words starts is =
     let line = audit_spelled words is in subst (λ (s : List (List ℕ)). AreCommand (s ++ words)) (sym starts) (Audit line.0, line.1)
 whole name.Gateway start words starts is =
     let line = gateway_spelled words is in subst (λ (s : List (List ℕ)). AreCommand (s ++ words)) (sym starts) (Gateway line.0, line.1)
+whole name.Lists start words starts is =
+    let line = lists_spelled words is in subst (λ (s : List (List ℕ)). AreCommand (s ++ words)) (sym starts) (Lists line.0, line.1)
 whole name.Sample start words starts is = absurd starts
 
 -- ---- no command
@@ -387,6 +406,9 @@ no_audit words isnt none = none_after name.Audit words isnt (λ is. let line = a
 
 pub no_gateway : (words : List (List ℕ)) → asks_help words ≡ false → ((line : GatewayWords) → SpellsGateway (codes "gateway" ∷ words) line → ⊥) → NoCommand (codes "gateway" ∷ words)
 no_gateway words isnt none = none_after name.Gateway words isnt (λ is. let line = gateway_spelled words is in none line.0 line.1)
+
+pub no_lists : (words : List (List ℕ)) → asks_help words ≡ false → ((line : ListsWords) → SpellsLists (codes "lists" ∷ words) line → ⊥) → NoCommand (codes "lists" ∷ words)
+no_lists words isnt none = none_after name.Lists words isnt (λ is. let line = lists_spelled words is in none line.0 line.1)
 
 pub no_sample : (words : List (List ℕ)) → asks_help words ≡ false → ((line : SampleWords) → SpellsSample (codes "sample" ∷ words) line → ⊥) → NoCommand (codes "sample" ∷ words)
 no_sample words isnt none = none_after name.Sample words isnt (λ is.

@@ -18,7 +18,7 @@ use Rattle.command_line.specs.declared.fault.WordsReason.TheVariants.{NoWords, N
 use Rattle.command_line.specs.declared.options.CommandName.{CommandName}
 use Rattle.command_line.specs.declared.options.CommandName.TheVariants as name
 use Rattle.command_line.specs.declared.options.CommandOption.{CommandOption}
-use Rattle.command_line.specs.declared.options.CommandOption.TheVariants.{Conf, Now, Label, Request, Nonce, Wanted, Script, Other}
+use Rattle.command_line.specs.declared.options.CommandOption.TheVariants.{Conf, Now, Label, Request, Nonce, Wanted, Script, Other, Into}
 use Rattle.command_line.specs.declared.options.OptionWords.{OptionWords}
 use Rattle.command_line.specs.tools.Found.{excluding_in, word_in, AreWordsOf}
 use Rattle.command_line.specs.tools.Wrong.{needed, AreFound, AreNextWords, BeginsNoHelp, IsFoundAlone, IsNameReason, IsNextName, IsNextOrEnd}
@@ -76,6 +76,7 @@ next_alone Nonce found done word are alone new none = inr (none_with done Nonce 
 next_alone Wanted found done word are alone new none = inl (none_with done Wanted word (codes "--nonce") new refl (sym (are Nonce) ∙ if_none (word_in found Nonce) Nonce none))
 next_alone Script found done word are alone new none = alone_with done Script word new refl alone
 next_alone Other found done word are alone new none = alone_with done Other word new refl alone
+next_alone Into found done word are alone new none = alone_with done Into word new refl alone
 
 pub none_yet : (command : CommandName) (found : OptionWords) (words : List (List ℕ)) → ((option : CommandOption) → word_in found option ≡ None)
     → AreFound command found words words
@@ -102,6 +103,7 @@ one_more command found now words after name word option so_far next had added = 
     with_next Request found now word alone none added = either (word_in now Nonce) (word_in now Wanted) (word_in found Nonce) (word_in found Wanted) (added Nonce) (added Wanted) alone
     with_next Script found now word alone none added = either (word_in now Nonce) (word_in now Wanted) (word_in found Nonce) (word_in found Wanted) (added Nonce) (added Wanted) alone
     with_next Other found now word alone none added = either (word_in now Nonce) (word_in now Wanted) (word_in found Nonce) (word_in found Wanted) (added Nonce) (added Wanted) alone
+    with_next Into found now word alone none added = either (word_in now Nonce) (word_in now Wanted) (word_in found Nonce) (word_in found Wanted) (added Nonce) (added Wanted) alone
     with_next Nonce found now word alone none added = second (word_in now Nonce) (word_in now Wanted) (added Wanted ∙ if_none (word_in found Wanted) Wanted none)
     with_next Wanted found now word alone none added = first (word_in now Nonce) (word_in now Wanted) (added Nonce ∙ if_none (word_in found Nonce) Nonce none)
 
@@ -160,6 +162,7 @@ not_help name.Rewrite all done word after more plain joined = plain_at all done 
 not_help name.Explain all done word after more plain joined = plain_at all done word after more plain joined
 not_help name.Audit all done word after more plain joined = plain_at all done word after more plain joined
 not_help name.Gateway all done word after more plain joined = plain_at all done word after more plain joined
+not_help name.Lists all done word after more plain joined = plain_at all done word after more plain joined
 not_help name.Sample all done word after more plain joined = plain_at all done word after more plain joined
 
 -- ---- no such option can come next
@@ -194,6 +197,7 @@ both_there Label given command found done others p taken excluded are same alone
 both_there Request given command found done others p taken excluded are same alone = absurd cc
 both_there Script given command found done others p taken excluded are same alone = absurd cc
 both_there Other given command found done others p taken excluded are same alone = absurd cc
+both_there Into given command found done others p taken excluded are same alone = absurd cc
 both_there Nonce given name.Sign found done others p taken excluded are same alone =
     let wanted = (if_some (word_in found Wanted) Wanted given excluded).1 in
     elim alone [
@@ -206,6 +210,7 @@ both_there Nonce given name.Rewrite found done others p taken excluded are same 
 both_there Nonce given name.Explain found done others p taken excluded are same alone = false≢true taken
 both_there Nonce given name.Audit found done others p taken excluded are same alone = false≢true taken
 both_there Nonce given name.Gateway found done others p taken excluded are same alone = false≢true taken
+both_there Nonce given name.Lists found done others p taken excluded are same alone = false≢true taken
 both_there Nonce given name.Sample found done others p taken excluded are same alone = false≢true taken
 both_there Wanted given name.Sign found done others p taken excluded are same alone =
     let nonce = (if_some (word_in found Nonce) Nonce given excluded).1 in
@@ -219,6 +224,7 @@ both_there Wanted given name.Rewrite found done others p taken excluded are same
 both_there Wanted given name.Explain found done others p taken excluded are same alone = false≢true taken
 both_there Wanted given name.Audit found done others p taken excluded are same alone = false≢true taken
 both_there Wanted given name.Gateway found done others p taken excluded are same alone = false≢true taken
+both_there Wanted given name.Lists found done others p taken excluded are same alone = false≢true taken
 both_there Wanted given name.Sample found done others p taken excluded are same alone = false≢true taken
 
 taken_key : (command : CommandName) (done others : List (Pair (List ℕ))) (p : Pair (List ℕ)) (words : List (List ℕ)) → AreOptions command words (done ++ p ∷ others)
@@ -283,6 +289,7 @@ plain_start name.Rewrite base sample = refl
 plain_start name.Explain base sample = refl
 plain_start name.Audit base sample = refl
 plain_start name.Gateway base sample = refl
+plain_start name.Lists base sample = refl
 plain_start name.Sample base sample = absurd (sample refl)
 
 -- words of which none begins with `--help`
@@ -295,6 +302,7 @@ plain_words name.Rewrite words plain = plain
 plain_words name.Explain words plain = plain
 plain_words name.Audit words plain = plain
 plain_words name.Gateway words plain = plain
+plain_words name.Lists words plain = plain
 plain_words name.Sample words plain = plain
 
 -- ---- the faults
@@ -326,6 +334,7 @@ start_command name.Rewrite start words starts = ap (λ (s : List (List ℕ)). fi
 start_command name.Explain start words starts = ap (λ (s : List (List ℕ)). first_command (s ++ words)) starts
 start_command name.Audit start words starts = ap (λ (s : List (List ℕ)). first_command (s ++ words)) starts
 start_command name.Gateway start words starts = ap (λ (s : List (List ℕ)). first_command (s ++ words)) starts
+start_command name.Lists start words starts = ap (λ (s : List (List ℕ)). first_command (s ++ words)) starts
 start_command name.Sample start words starts = absurd starts
 
 has_option : (command : CommandName) (start : List (List ℕ)) (found : OptionWords) (done : List (Pair (List ℕ))) (option : CommandOption) (word : List ℕ)
@@ -356,6 +365,7 @@ excluded_by Label given command found taken excluded = absurd cc
 excluded_by Request given command found taken excluded = absurd cc
 excluded_by Script given command found taken excluded = absurd cc
 excluded_by Other given command found taken excluded = absurd cc
+excluded_by Into given command found taken excluded = absurd cc
 excluded_by Nonce given command found taken excluded =
     let wanted = if_some (word_in found Wanted) Wanted given excluded in
     (sign_takes command taken, subst (λ (o : CommandOption). (word : List ℕ) × (word_in found o ≡ Some word)) wanted.0 wanted.1)
@@ -368,6 +378,7 @@ excluded_by Nonce given command found taken excluded =
     sign_takes name.Explain taken = absurd (false≢true taken)
     sign_takes name.Audit taken = absurd (false≢true taken)
     sign_takes name.Gateway taken = absurd (false≢true taken)
+    sign_takes name.Lists taken = absurd (false≢true taken)
     sign_takes name.Sample taken = absurd (false≢true taken)
 excluded_by Wanted given command found taken excluded =
     let nonce = if_some (word_in found Nonce) Nonce given excluded in
@@ -381,6 +392,7 @@ excluded_by Wanted given command found taken excluded =
     sign_takes name.Explain taken = absurd (false≢true taken)
     sign_takes name.Audit taken = absurd (false≢true taken)
     sign_takes name.Gateway taken = absurd (false≢true taken)
+    sign_takes name.Lists taken = absurd (false≢true taken)
     sign_takes name.Sample taken = absurd (false≢true taken)
 
 -- the word is a reason that the options before it make one

@@ -14,7 +14,7 @@ use Rattle.sfv_text.proofs.PutLaws.{distinct_parts, put_distinct, put_new}
 use Rattle.command_line.specs.Options.{is_taken_by, may_have, option_of, row_of, takes, words_of, AreOptions}
 use Rattle.command_line.specs.declared.options.CommandName.{CommandName}
 use Rattle.command_line.specs.declared.options.CommandOption.{CommandOption}
-use Rattle.command_line.specs.declared.options.CommandOption.TheVariants.{Conf, Now, Label, Request, Nonce, Wanted, Script, Other}
+use Rattle.command_line.specs.declared.options.CommandOption.TheVariants.{Conf, Now, Label, Request, Nonce, Wanted, Script, Other, Into}
 use Rattle.command_line.specs.declared.options.OptionWords.{OptionWords}
 use Rattle.command_line.specs.tools.Found.{word_in, AddsOption, AreWordsOf, IsNextOption, HasOptions, AreFoundBefore}
 
@@ -107,7 +107,7 @@ first_holds test (first ∷ others) option e = elim (cases_Bool (test first)) [
 
 pub name_is : (name : List ℕ) (option : CommandOption) → option_of name ≡ Some option → name ≡ (row_of option).word
 name_is name option e =
-    (bytes_eq-Decides name (row_of option).word).0 (first_holds (λ o. bytes_eq name (row_of o).word) (Conf ∷ Now ∷ Label ∷ Request ∷ Nonce ∷ Wanted ∷ Script ∷ Other ∷ []) option e)
+    (bytes_eq-Decides name (row_of option).word).0 (first_holds (λ o. bytes_eq name (row_of o).word) (Conf ∷ Now ∷ Label ∷ Request ∷ Nonce ∷ Wanted ∷ Script ∷ Other ∷ Into ∷ []) option e)
 
 pub option_named : (test : CommandOption → Bool) (name : List ℕ) (option : CommandOption) → option_of name ≡ Some option
     → unwrap_or (option_map test (option_of name)) false ≡ test option
@@ -199,6 +199,7 @@ all_found command found words so_far =
       wanted_is = word_is Wanted;
       script_is = word_is Script;
       other_is = word_is Other;
+      into_is = word_is Into;
     }
 
 -- an option that comes after those that were found, in options of the command, can come next

@@ -1,11 +1,11 @@
 -- The arguments of the program, and the commands that they spell.
-use Rattle.std.specs.Prelude.{◌≡◌, ◌⊎◌, ◌<◌, ◌^◌, ⊤, ℕ, Option, Some, None, option_map, List, [], ◌∷◌, codes, IfSome, IsSomeAnd, IsTrue}
+use Rattle.std.specs.Prelude.{◌≡◌, ◌⊎◌, ◌<◌, ◌^◌, ⊤, ℕ, Bool, Option, Some, None, option_map, List, [], ◌∷◌, codes, IfSome, IsSomeAnd, IsTrue}
 use Rattle.std.specs.Str.Parse.{digits_value}
 use Rattle.sfv_text.specs.Keys.{value_of}
 use Rattle.sfv_text.specs.declared.pair.Pair.{Pair}
 use Rattle.command_line.specs.Names.{command_word}
 use Rattle.command_line.specs.Numbers.{IsCount, IsSeed}
-use Rattle.command_line.specs.Options.{is_nonce, AreOptions}
+use Rattle.command_line.specs.Options.{into_word, is_nonce, AreOptions}
 use Rattle.command_line.specs.declared.options.TheConstants.{MAX_MOMENT_DIGITS}
 use Rattle.command_line.specs.declared.options.CommandName.{CommandName}
 use Rattle.command_line.specs.declared.options.CommandName.TheVariants as name
@@ -16,6 +16,7 @@ use Rattle.command_line.specs.declared.command.RewriteWords as rewrite
 use Rattle.command_line.specs.declared.command.ExplainWords as explain
 use Rattle.command_line.specs.declared.command.AuditWords as audit
 use Rattle.command_line.specs.declared.command.GatewayWords as gateway
+use Rattle.command_line.specs.declared.command.ListsWords as lists
 use Rattle.command_line.specs.declared.command.SampleWords as sample
 use Rattle.command_line.specs.declared.command.Command.{Command}
 use Rattle.command_line.specs.declared.command.Command.TheVariants as command
@@ -68,6 +69,12 @@ pub record AuditWords : Type 0 where
 pub record GatewayWords : Type 0 where
   pub conf : List ℕ
 
+-- the words of `lists`: whether a list is turned into a message, or a message into a list, and the
+-- file of the configuration
+pub record ListsWords : Type 0 where
+  pub into_message : Bool
+  pub conf : Option (List ℕ)
+
 -- the words of `sample`: the seed, and the number of hops
 pub record SampleWords : Type 0 where
   pub seed : ℕ
@@ -99,6 +106,9 @@ pub data CommandLine : Type 0 where
   Audit : AuditWords → CommandLine
   -- what a gateway makes of each message of a stream, by a configuration
   Gateway : GatewayWords → CommandLine
+  -- the message of a recorded list of fields, or the list of a message, by a configuration or
+  -- without one
+  Lists : ListsWords → CommandLine
   -- the summary of the report on a chain that is drawn from a seed, with so many hops
   Sample : SampleWords → CommandLine
 
@@ -177,6 +187,15 @@ pub record SpellsGateway (arguments : List (List ℕ)) (gateway : GatewayWords) 
   pub are : AreOptions name.Gateway words options
   pub conf_is : value_of options (codes "--conf") ≡ Some gateway.conf
 
+-- the arguments are `lists` and its options, with what it turns its input into
+pub record SpellsLists (arguments : List (List ℕ)) (lists : ListsWords) : Type 0 where
+  pub words : List (List ℕ)
+  pub options : List (Pair (List ℕ))
+  pub joined : arguments ≡ codes "lists" ∷ words
+  pub are : AreOptions name.Lists words options
+  pub into_is : value_of options (codes "--into") ≡ Some (into_word lists.into_message)
+  pub conf_is : lists.conf ≡ value_of options (codes "--conf")
+
 -- the arguments are `sample`, the seed and the number of hops
 pub record SpellsSample (arguments : List (List ℕ)) (sample : SampleWords) : Type 0 where
   pub seed : List ℕ
@@ -199,6 +218,7 @@ IsCommand arguments (Rewrite words) = SpellsRewrite arguments words
 IsCommand arguments (Explain words) = SpellsExplain arguments words
 IsCommand arguments (Audit words) = SpellsAudit arguments words
 IsCommand arguments (Gateway words) = SpellsGateway arguments words
+IsCommand arguments (Lists words) = SpellsLists arguments words
 IsCommand arguments (Sample words) = SpellsSample arguments words
 
 -- the arguments spell no command
@@ -217,6 +237,7 @@ conf_of (Rewrite words) = words.conf
 conf_of (Explain words) = words.conf
 conf_of (Audit words) = Some words.conf
 conf_of (Gateway words) = Some words.conf
+conf_of (Lists words) = words.conf
 conf_of (Sample words) = None
 
 -- the file of the request that the input answers
@@ -231,6 +252,7 @@ request_of (Rewrite words) = words.request
 request_of (Explain words) = words.request
 request_of (Audit words) = None
 request_of (Gateway words) = None
+request_of (Lists words) = None
 request_of (Sample words) = None
 
 -- the file of the message that asks for signatures
@@ -301,6 +323,13 @@ audit_words words = record { conf = words.conf.now }
 abbrev pub gateway_words : gateway.GatewayWords → GatewayWords
 gateway_words words = record { conf = words.conf.now }
 
+-- what the borrowed words of `lists` stand for
+abbrev pub lists_words : lists.ListsWords → ListsWords
+lists_words words = record {
+  into_message = words.into_message;
+  conf = option_map (λ word. word.now) words.conf;
+}
+
 -- what the words of `sample` stand for
 abbrev pub sample_words : sample.SampleWords → SampleWords
 sample_words words = record { seed = words.seed; count = words.count }
@@ -317,6 +346,7 @@ line_of (command.Rewrite words) = Rewrite (rewrite_words words)
 line_of (command.Explain words) = Explain (explain_words words)
 line_of (command.Audit words) = Audit (audit_words words)
 line_of (command.Gateway words) = Gateway (gateway_words words)
+line_of (command.Lists words) = Lists (lists_words words)
 line_of (command.Sample words) = Sample (sample_words words)
 
 -- the moment is one of at most 15 digits

@@ -1,5 +1,5 @@
 -- The options of the commands, and the words that they may have.
-use Rattle.std.specs.Prelude.{◌≡◌, ℕ, Bool, true, false, ◌&&◌, nat_lt, nat_le, List, [], ◌∷◌, length, codes, Option, option_map, unwrap_or, IsTrue}
+use Rattle.std.specs.Prelude.{◌≡◌, ℕ, Bool, true, false, ◌&&◌, ◌||◌, if◌then◌else◌, nat_lt, nat_le, List, [], ◌∷◌, length, codes, Option, option_map, unwrap_or, IsTrue}
 use Rattle.std.specs.List.{find, flat_map, list_all, list_any}
 use Rattle.std.specs.Str.{bytes_eq}
 use Rattle.sfv_text.specs.Classes.{is_key, is_string_byte}
@@ -8,9 +8,9 @@ use Rattle.sfv_text.specs.declared.pair.Pair.{Pair}
 use Rattle.nonces.specs.declared.limits.TheConstants.{MAX_NONCE_BYTES}
 use Rattle.command_line.specs.Numbers.{is_number}
 use Rattle.command_line.specs.declared.options.CommandName.{CommandName}
-use Rattle.command_line.specs.declared.options.CommandName.TheVariants.{Base, Verify, Sign, Rewrite, Explain, Audit, Gateway, Sample}
+use Rattle.command_line.specs.declared.options.CommandName.TheVariants.{Base, Verify, Sign, Rewrite, Explain, Audit, Gateway, Lists, Sample}
 use Rattle.command_line.specs.declared.options.CommandOption.{CommandOption}
-use Rattle.command_line.specs.declared.options.CommandOption.TheVariants.{Conf, Now, Label, Request, Nonce, Wanted, Script, Other}
+use Rattle.command_line.specs.declared.options.CommandOption.TheVariants.{Conf, Now, Label, Request, Nonce, Wanted, Script, Other, Into}
 use Rattle.command_line.specs.declared.options.TheConstants.{MAX_MOMENT_DIGITS}
 
 -- a file has a name
@@ -26,6 +26,13 @@ abbrev pub is_nonce : List ℕ → Bool
 is_nonce word =
     nat_lt 0 (length word) && (nat_le (length word) MAX_NONCE_BYTES && list_all is_string_byte word)
 
+-- what a list or a message is turned into: a message, or a list
+abbrev pub into_word : Bool → List ℕ
+into_word into_message = if into_message then codes "message" else codes "fields"
+
+abbrev pub is_into : List ℕ → Bool
+is_into word = bytes_eq word (into_word true) || bytes_eq word (into_word false)
+
 -- an option: its name, the commands that take it, and the words that it may have
 pub record OptionRow : Type 0 where
   pub word : List ℕ
@@ -36,7 +43,7 @@ pub record OptionRow : Type 0 where
 abbrev pub row_of : CommandOption → OptionRow
 row_of Conf = record {
   word = codes "--conf";
-  commands = Base ∷ Verify ∷ Sign ∷ Rewrite ∷ Explain ∷ Audit ∷ Gateway ∷ [];
+  commands = Base ∷ Verify ∷ Sign ∷ Rewrite ∷ Explain ∷ Audit ∷ Gateway ∷ Lists ∷ [];
   may_have = is_file_name;
 }
 row_of Now = record { word = codes "--now"; commands = Verify ∷ Sign ∷ []; may_have = is_moment }
@@ -55,12 +62,13 @@ row_of Wanted = record { word = codes "--wanted"; commands = Sign ∷ []; may_ha
 row_of Script =
     record { word = codes "--script"; commands = Rewrite ∷ []; may_have = is_file_name }
 row_of Other = record { word = codes "--other"; commands = Explain ∷ []; may_have = is_file_name }
+row_of Into = record { word = codes "--into"; commands = Lists ∷ []; may_have = is_into }
 
 -- the option of that name
 abbrev pub option_of : List ℕ → Option CommandOption
 option_of name =
     find (λ option. bytes_eq name (row_of option).word)
-    (Conf ∷ Now ∷ Label ∷ Request ∷ Nonce ∷ Wanted ∷ Script ∷ Other ∷ [])
+    (Conf ∷ Now ∷ Label ∷ Request ∷ Nonce ∷ Wanted ∷ Script ∷ Other ∷ Into ∷ [])
 
 -- the two names are those of one command
 abbrev pub is_same_command : CommandName → CommandName → Bool
@@ -71,6 +79,7 @@ is_same_command Rewrite Rewrite = true
 is_same_command Explain Explain = true
 is_same_command Audit Audit = true
 is_same_command Gateway Gateway = true
+is_same_command Lists Lists = true
 is_same_command Sample Sample = true
 is_same_command command other = false
 

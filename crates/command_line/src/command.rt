@@ -1,8 +1,8 @@
 //! The arguments of the program.
 
 ghost use Rattle.std.specs.Prelude.{◌≡◌, ◌∷◌, [], drop, false, None, map, codes, IfSome, IfNone, string_bytes};
-ghost use Rattle.command_line.specs.Command.{HasRightNonce, IsCommand, NoCommand, SpellsAudit, SpellsBase, SpellsExplain, SpellsGateway, SpellsRewrite, SpellsSample, SpellsSign, SpellsVerify, line_of, IsTimely};
-ghost use Rattle.command_line.specs.Command.{AuditWords as AuditLine, BaseWords as BaseLine, ExplainWords as ExplainLine, GatewayWords as GatewayLine, RewriteWords as RewriteLine, SampleWords as SampleLine, SignWords as SignLine, VerifyWords as VerifyLine};
+ghost use Rattle.command_line.specs.Command.{HasRightNonce, IsCommand, NoCommand, SpellsAudit, SpellsBase, SpellsExplain, SpellsGateway, SpellsLists, SpellsRewrite, SpellsSample, SpellsSign, SpellsVerify, line_of, IsTimely};
+ghost use Rattle.command_line.specs.Command.{AuditWords as AuditLine, BaseWords as BaseLine, ExplainWords as ExplainLine, GatewayWords as GatewayLine, ListsWords as ListsLine, RewriteWords as RewriteLine, SampleWords as SampleLine, SignWords as SignLine, VerifyWords as VerifyLine};
 ghost use Rattle.command_line.specs.Names.{command_of, command_word};
 ghost use Rattle.command_line.specs.tools.Wrong.{asks_help};
 ghost use Rattle.command_line.specs.tools.After.{IsAfter, NoneAfter};
@@ -89,6 +89,15 @@ pub struct GatewayWords<'a> {
     pub conf: &'a str,
 }
 
+/// The words of `lists`. They are borrowed.
+#[derive(Clone, Copy)]
+pub struct ListsWords<'a> {
+    /// Whether a list is turned into a message, or a message into a list.
+    pub into_message: bool,
+    /// The file of the configuration.
+    pub conf: Option<&'a str>,
+}
+
 /// The words of `sample`: what its digits write.
 #[derive(Clone, Copy)]
 pub struct SampleWords {
@@ -123,6 +132,9 @@ pub enum Command<'a> {
     Audit(AuditWords<'a>),
     /// `gateway`: what a gateway makes of each message of a stream (RFC 9421 sections 3.1 and 3.2).
     Gateway(GatewayWords<'a>),
+    /// `lists`: the message of a recorded list of fields, or the list of a message (RFC 9113
+    /// section 8.3, RFC 9114 section 4.3).
+    Lists(ListsWords<'a>),
     /// `sample SEED COUNT`: the summary of the report on a chain of COUNT hops that is drawn from
     /// SEED.
     Sample(SampleWords),
@@ -318,6 +330,21 @@ fn read_gateway<'a>(words: &'a [String]) -> Option<Command<'a>>
     Some(Command::Gateway(GatewayWords { conf }))
 }
 
+/// The words after `lists`.
+fn read_lists<'a>(words: &'a [String]) -> Option<Command<'a>>
+    ensures some { IfSome result
+        (λ command. IsAfter (codes "lists") (map string_bytes words.now) (line_of command)) }
+    ensures none { IfNone result ((lists : ListsLine)
+        → ¬ SpellsLists (codes "lists" ∷ map string_bytes words.now) lists) }
+{
+    let found = read_options(CommandName::Lists, words)?;
+    let into = found.into?;
+    Some(Command::Lists(ListsWords {
+        into_message: into == "message",
+        conf: found.conf,
+    }))
+}
+
 /// The words after `sample`.
 fn read_sample<'a>(words: &'a [String]) -> Option<Command<'a>>
     ensures some { IfSome result
@@ -350,6 +377,7 @@ fn read_command<'a>(command: CommandName, words: &'a [String]) -> Option<Command
         CommandName::Explain => read_explain(words),
         CommandName::Audit => read_audit(words),
         CommandName::Gateway => read_gateway(words),
+        CommandName::Lists => read_lists(words),
         CommandName::Sample => read_sample(words),
     }
 }

@@ -168,6 +168,7 @@ fn needed(command: CommandName) -> &'static [CommandOption]
         CommandName::Rewrite => &[CommandOption::Script],
         CommandName::Explain => &[CommandOption::Label, CommandOption::Other],
         CommandName::Audit | CommandName::Gateway => &[CommandOption::Conf],
+        CommandName::Lists => &[CommandOption::Into],
     }
 }
 

@@ -23,6 +23,7 @@ impl CommandName {
                 "--label LABEL --other OTHER [--conf FILE] [--request REQ] < MESSAGE"
             }
             CommandName::Audit | CommandName::Gateway => "--conf FILE < RECORDING",
+            CommandName::Lists => "--into message|fields [--conf FILE] < LIST",
             CommandName::Sample => "SEED COUNT",
         }
     }
@@ -40,6 +41,7 @@ impl CommandOption {
             CommandOption::Wanted => "--wanted",
             CommandOption::Script => "--script",
             CommandOption::Other => "--other",
+            CommandOption::Into => "--into",
         }
     }
 
@@ -59,6 +61,7 @@ impl CommandOption {
             CommandOption::Wanted => "the name of a file, a message with Accept-Signature",
             CommandOption::Script => "the name of a file, the steps to take",
             CommandOption::Other => "the name of a file, the other record of the message",
+            CommandOption::Into => "`message` or `fields`, what the input is turned into",
         }
     }
 }
@@ -71,7 +74,7 @@ impl WordsReason {
             WordsReason::NoCommand => write!(
                 f,
                 "{word:?} is no command: first comes base, verify, sign, rewrite, explain, audit, \
-                 gateway or sample"
+                 gateway, lists or sample"
             ),
             WordsReason::LeftOver => write!(f, "{word:?} is a word too many"),
             WordsReason::NotTaken(command) => {

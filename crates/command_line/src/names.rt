@@ -19,6 +19,7 @@ impl CommandName {
             "explain" => Some(CommandName::Explain),
             "audit" => Some(CommandName::Audit),
             "gateway" => Some(CommandName::Gateway),
+            "lists" => Some(CommandName::Lists),
             "sample" => Some(CommandName::Sample),
             _ => None,
         }
@@ -36,6 +37,7 @@ impl CommandName {
             CommandName::Explain => "explain",
             CommandName::Audit => "audit",
             CommandName::Gateway => "gateway",
+            CommandName::Lists => "lists",
             CommandName::Sample => "sample",
         }
     }

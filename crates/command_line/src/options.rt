@@ -33,6 +33,8 @@ pub enum CommandName {
     Audit,
     /// `gateway`.
     Gateway,
+    /// `lists`.
+    Lists,
     /// `sample`, which has no options.
     Sample,
 }
@@ -56,6 +58,8 @@ pub enum CommandOption {
     Script,
     /// `--other`: the file of the other record of the message.
     Other,
+    /// `--into`: what the input is turned into.
+    Into,
 }
 
 /// The words that options have.
@@ -69,6 +73,7 @@ pub struct OptionWords<'a> {
     pub wanted: Option<&'a str>,
     pub script: Option<&'a str>,
     pub other: Option<&'a str>,
+    pub into: Option<&'a str>,
 }
 
 fn are_digits(bytes: &[u8]) -> bool
@@ -126,6 +131,7 @@ impl CommandOption {
             "--wanted" => Some(CommandOption::Wanted),
             "--script" => Some(CommandOption::Script),
             "--other" => Some(CommandOption::Other),
+            "--into" => Some(CommandOption::Into),
             _ => None,
         }
     }
@@ -143,12 +149,13 @@ impl CommandOption {
             ),
             CommandOption::Request => !matches!(
                 command,
-                CommandName::Audit | CommandName::Gateway | CommandName::Sample
+                CommandName::Audit | CommandName::Gateway | CommandName::Lists | CommandName::Sample
             ),
             CommandOption::Nonce => matches!(command, CommandName::Sign),
             CommandOption::Wanted => matches!(command, CommandName::Sign),
             CommandOption::Script => matches!(command, CommandName::Rewrite),
             CommandOption::Other => matches!(command, CommandName::Explain),
+            CommandOption::Into => matches!(command, CommandName::Lists),
         }
     }
 
@@ -165,6 +172,7 @@ impl CommandOption {
             CommandOption::Wanted => !word.is_empty(),
             CommandOption::Script => !word.is_empty(),
             CommandOption::Other => !word.is_empty(),
+            CommandOption::Into => word == "message" || word == "fields",
         }
     }
 }
@@ -183,6 +191,7 @@ impl<'a> OptionWords<'a> {
             wanted: None,
             script: None,
             other: None,
+            into: None,
         }
     }
 
@@ -199,6 +208,7 @@ impl<'a> OptionWords<'a> {
             CommandOption::Wanted => self.wanted.is_some(),
             CommandOption::Script => self.script.is_some(),
             CommandOption::Other => self.other.is_some(),
+            CommandOption::Into => self.into.is_some(),
         }
     }
 
@@ -251,6 +261,10 @@ impl<'a> OptionWords<'a> {
             },
             CommandOption::Other => OptionWords {
                 other: Some(word),
+                ..self
+            },
+            CommandOption::Into => OptionWords {
+                into: Some(word),
                 ..self
             },
         }

@@ -16,7 +16,7 @@ use Rattle.commands.specs.Stops.{IfOutcome, stop_of_chain}
 use Rattle.commands.specs.declared.outcome.Outcome.{Outcome}
 use Rattle.commands.specs.declared.outcome.Outcome.TheVariants.{Refused}
 use Rattle.refusals.specs.declared.file.FileRefusal.{FileRefusal}
-use Rattle.refusals.specs.declared.file.FileRefusal.TheVariants.{Missing, TooLong, Message, Conf as NoConf, Script, Recording, Order, TooManyHops, OutOfPlace, TooManyItems}
+use Rattle.refusals.specs.declared.file.FileRefusal.TheVariants.{Missing, TooLong, Message, Conf as NoConf, Script, Recording, Order, TooManyHops, OutOfPlace, TooManyItems, Fields}
 use Rattle.refusals.specs.declared.refusal.Refusal.{Refusal}
 use Rattle.refusals.specs.declared.refusal.Refusal.TheVariants.{Arguments, Of, Command}
 use Rattle.refusals.specs.declared.role.Role.TheVariants.{Conf, Request, Wanted, Script as OfScript, Other, Input, Item}
@@ -57,6 +57,7 @@ fault_of items (Of Input (Order n)) is = (chain.Order n, is, refl)
 fault_of items (Of Input (TooManyHops n)) is = (chain.TooManyHops, is.1, ap (λ (limit : ℕ). Of Input (TooManyHops limit)) is.0)
 fault_of items (Of Input (OutOfPlace n)) is = absurd is
 fault_of items (Of Input (TooManyItems n)) is = absurd is
+fault_of items (Of Input (Fields f)) is = absurd is
 fault_of items (Of (Item i) Missing) is = absurd is
 fault_of items (Of (Item i) (TooLong n)) is = (chain.ScriptTooLong i, is.1, ap (λ (limit : ℕ). Of (Item i) (TooLong limit)) is.0)
 fault_of items (Of (Item i) (Message f)) is = (chain.Message i f, is, refl)
@@ -67,6 +68,7 @@ fault_of items (Of (Item i) (Order n)) is = absurd is
 fault_of items (Of (Item i) (TooManyHops n)) is = absurd is
 fault_of items (Of (Item i) (OutOfPlace n)) is = absurd is
 fault_of items (Of (Item i) (TooManyItems n)) is = absurd is
+fault_of items (Of (Item i) (Fields f)) is = absurd is
 
 -- a fault has its refusal
 refused_for : (items : List PlacedItem) (f : ChainFault) → IsChainFault items f → IsChainRefused items (refusal_for f)

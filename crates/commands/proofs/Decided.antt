@@ -20,9 +20,9 @@ use Rattle.commands.specs.Laws.{IsInputDecided, AreParamsDecided, AreValuesDecid
 use Rattle.commands.specs.Messages.{IsInputMessage, IsInputRefused}
 use Rattle.msg_body.specs.declared.whole.Reading.{Reading}
 use Rattle.refusals.specs.declared.file.FileRefusal.{FileRefusal}
-use Rattle.refusals.specs.declared.file.FileRefusal.TheVariants.{Missing, TooLong, Message as NoMessage, Conf, Script, Recording, Order, TooManyHops, OutOfPlace, TooManyItems}
+use Rattle.refusals.specs.declared.file.FileRefusal.TheVariants.{Missing, TooLong, Message as NoMessage, Conf, Script, Recording, Order, TooManyHops, OutOfPlace, TooManyItems, Fields}
 use Rattle.refusals.specs.declared.refusal.CommandRefusal.{CommandRefusal}
-use Rattle.refusals.specs.declared.refusal.CommandRefusal.TheVariants.{Syntax, Ids, Lacks, Sign, Wishes, NotTaken, Explain}
+use Rattle.refusals.specs.declared.refusal.CommandRefusal.TheVariants.{Syntax, Ids, Lacks, Sign, Wishes, NotTaken, Explain, ToMessage, FromMessage}
 use Rattle.commands.proofs.Lacking.{one_id}
 use Rattle.commands.proofs.LowerLaws.{one_list, no_fault, one_params, one_text, one_message_fault, text_no_fault}
 
@@ -37,6 +37,7 @@ input_cause r input (Order i) d a b = absurd a
 input_cause r input (TooManyHops i) d a b = absurd a
 input_cause r input (OutOfPlace i) d a b = absurd a
 input_cause r input (TooManyItems i) d a b = absurd a
+input_cause r input (Fields f) d a b = absurd a
 input_cause r input (TooLong n) Missing a b = absurd b
 input_cause r input (TooLong n) (Conf g) a b = absurd b
 input_cause r input (TooLong n) (Script g) a b = absurd b
@@ -45,6 +46,7 @@ input_cause r input (TooLong n) (Order j) a b = absurd b
 input_cause r input (TooLong n) (TooManyHops j) a b = absurd b
 input_cause r input (TooLong n) (OutOfPlace j) a b = absurd b
 input_cause r input (TooLong n) (TooManyItems j) a b = absurd b
+input_cause r input (TooLong n) (Fields g) a b = absurd b
 input_cause r input (TooLong n) (TooLong m) a b = ap (λ (limit : ℕ). TooLong limit) (a.0 ∙ sym b.0)
 input_cause r input (TooLong n) (NoMessage g) a b = absurd (omega (arith, a.1, b.0))
 input_cause r input (NoMessage f) Missing a b = absurd b
@@ -55,6 +57,7 @@ input_cause r input (NoMessage f) (Order j) a b = absurd b
 input_cause r input (NoMessage f) (TooManyHops j) a b = absurd b
 input_cause r input (NoMessage f) (OutOfPlace j) a b = absurd b
 input_cause r input (NoMessage f) (TooManyItems j) a b = absurd b
+input_cause r input (NoMessage f) (Fields g) a b = absurd b
 input_cause r input (NoMessage f) (TooLong m) a b = absurd (omega (arith, a.0, b.1))
 input_cause r input (NoMessage f) (NoMessage g) a b = ap (λ (h : MessageFault). NoMessage h) (one_message_fault r input f g a.1 b.1)
 
@@ -67,6 +70,7 @@ input_either r input message (Order i) is c = c
 input_either r input message (TooManyHops i) is c = c
 input_either r input message (OutOfPlace i) is c = c
 input_either r input message (TooManyItems i) is c = c
+input_either r input message (Fields f) is c = c
 input_either r input message (TooLong n) is c = let within = is.within in omega (arith, within, c.1)
 input_either r input message (NoMessage f) is c = text_no_fault r input message f is.whole c.1
 
@@ -95,6 +99,8 @@ params_cause params (Syntax i) (Sign g) a b = absurd b
 params_cause params (Syntax i) (Wishes g) a b = absurd b
 params_cause params (Syntax i) (NotTaken g) a b = absurd b
 params_cause params (Syntax i) (Explain g) a b = absurd b
+params_cause params (Syntax i) (ToMessage g) a b = absurd b
+params_cause params (Syntax i) (FromMessage g) a b = absurd b
 params_cause params (Ids f) (Syntax j) a b = absurd (b.none a.list a.reads)
 params_cause params (Ids f) (Ids g) a b = ap (λ (h : IdFault). Ids h) (one_id_fault params f g a b)
 params_cause params (Ids f) (Lacks m k) a b = absurd b
@@ -102,11 +108,15 @@ params_cause params (Ids f) (Sign g) a b = absurd b
 params_cause params (Ids f) (Wishes g) a b = absurd b
 params_cause params (Ids f) (NotTaken g) a b = absurd b
 params_cause params (Ids f) (Explain g) a b = absurd b
+params_cause params (Ids f) (ToMessage g) a b = absurd b
+params_cause params (Ids f) (FromMessage g) a b = absurd b
 params_cause params (Lacks l i) d a b = absurd a
 params_cause params (Sign f) d a b = absurd a
 params_cause params (Wishes f) d a b = absurd a
 params_cause params (NotTaken f) d a b = absurd a
 params_cause params (Explain f) d a b = absurd a
+params_cause params (ToMessage f) d a b = absurd a
+params_cause params (FromMessage f) d a b = absurd a
 
 params_either : (params : List ℕ) (sig : SigParams) (c : CommandRefusal) → ReadsParams params sig → AreParamsRefused params c → ⊥
 params_either params sig (Syntax i) reads c = c.none (list_of sig) reads.reads
@@ -116,6 +126,8 @@ params_either params sig (Sign f) reads c = c
 params_either params sig (Wishes f) reads c = c
 params_either params sig (NotTaken f) reads c = c
 params_either params sig (Explain f) reads c = c
+params_either params sig (ToMessage f) reads c = c
+params_either params sig (FromMessage f) reads c = c
 
 pub params_decided : AreParamsDecided
 params_decided params = record {
@@ -133,12 +145,16 @@ values_cause context ids (Sign f) d a b = absurd a
 values_cause context ids (Wishes f) d a b = absurd a
 values_cause context ids (NotTaken f) d a b = absurd a
 values_cause context ids (Explain f) d a b = absurd a
+values_cause context ids (ToMessage f) d a b = absurd a
+values_cause context ids (FromMessage f) d a b = absurd a
 values_cause context ids (Lacks l i) (Syntax j) a b = absurd b
 values_cause context ids (Lacks l i) (Ids g) a b = absurd b
 values_cause context ids (Lacks l i) (Sign g) a b = absurd b
 values_cause context ids (Lacks l i) (Wishes g) a b = absurd b
 values_cause context ids (Lacks l i) (NotTaken g) a b = absurd b
 values_cause context ids (Lacks l i) (Explain g) a b = absurd b
+values_cause context ids (Lacks l i) (ToMessage g) a b = absurd b
+values_cause context ids (Lacks l i) (FromMessage g) a b = absurd b
 values_cause context ids (Lacks l i) (Lacks m k) a b =
     let same = first_lack_is_one context ids a.0 b.0 l m a.1 b.1 in
     let texts = one_id ids a.0 b.0 i k same.0 a.2 b.2 in
@@ -152,6 +168,8 @@ values_either context ids values (Sign f) have c = c
 values_either context ids values (Wishes f) have c = c
 values_either context ids values (NotTaken f) have c = c
 values_either context ids values (Explain f) have c = c
+values_either context ids values (ToMessage f) have c = c
+values_either context ids values (FromMessage f) have c = c
 values_either context ids values (Lacks l i) have c = none_lacks context ids values c.0 l have c.1
 
 pub values_decided : AreValuesDecided

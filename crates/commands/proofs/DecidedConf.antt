@@ -6,7 +6,7 @@ use Rattle.commands.specs.Configured.{IsConfText, IsConfTextRefused, IsConfigure
 use Rattle.commands.specs.Laws.{IsConfigurationDecided}
 use Rattle.commands.specs.Layers.{IsDecisive, ReadsFound, IsFileRefused}
 use Rattle.refusals.specs.declared.file.FileRefusal.{FileRefusal}
-use Rattle.refusals.specs.declared.file.FileRefusal.TheVariants.{Missing, TooLong, Message, Conf, Script, Recording, Order, TooManyHops, OutOfPlace, TooManyItems}
+use Rattle.refusals.specs.declared.file.FileRefusal.TheVariants.{Missing, TooLong, Message, Conf, Script, Recording, Order, TooManyHops, OutOfPlace, TooManyItems, Fields}
 use Rattle.commands.proofs.LowerConf.{one_meaning, one_conf_fault, not_both_conf}
 
 -- ---- what was found, by its text
@@ -35,6 +35,7 @@ text_cause text (Order i) d a b = absurd a
 text_cause text (TooManyHops i) d a b = absurd a
 text_cause text (OutOfPlace i) d a b = absurd a
 text_cause text (TooManyItems i) d a b = absurd a
+text_cause text (Fields f) d a b = absurd a
 text_cause text (TooLong n) Missing a b = absurd b
 text_cause text (TooLong n) (Message g) a b = absurd b
 text_cause text (TooLong n) (Script g) a b = absurd b
@@ -43,6 +44,7 @@ text_cause text (TooLong n) (Order j) a b = absurd b
 text_cause text (TooLong n) (TooManyHops j) a b = absurd b
 text_cause text (TooLong n) (OutOfPlace j) a b = absurd b
 text_cause text (TooLong n) (TooManyItems j) a b = absurd b
+text_cause text (TooLong n) (Fields g) a b = absurd b
 text_cause text (TooLong n) (TooLong m) a b = ap (λ (limit : ℕ). TooLong limit) (a.0 ∙ sym b.0)
 text_cause text (TooLong n) (Conf g) a b = absurd (omega (arith, a.1, b.0))
 text_cause text (Conf f) Missing a b = absurd b
@@ -53,6 +55,7 @@ text_cause text (Conf f) (Order j) a b = absurd b
 text_cause text (Conf f) (TooManyHops j) a b = absurd b
 text_cause text (Conf f) (OutOfPlace j) a b = absurd b
 text_cause text (Conf f) (TooManyItems j) a b = absurd b
+text_cause text (Conf f) (Fields g) a b = absurd b
 text_cause text (Conf f) (TooLong m) a b = absurd (omega (arith, a.0, b.1))
 text_cause text (Conf f) (Conf g) a b = ap (λ (h : ConfFault). Conf h) (one_conf_fault text f g a.1 b.1)
 
@@ -65,6 +68,7 @@ text_either text conf (Order i) is c = c
 text_either text conf (TooManyHops i) is c = c
 text_either text conf (OutOfPlace i) is c = c
 text_either text conf (TooManyItems i) is c = c
+text_either text conf (Fields f) is c = c
 text_either text conf (TooLong n) is c = omega (arith, is.0, c.1)
 text_either text conf (Conf f) is c = not_both_conf text conf f is.1 c.1
 

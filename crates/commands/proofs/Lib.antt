@@ -9,7 +9,9 @@ pub mod LowerAnswers
 pub mod LowerAudit
 pub mod LowerConf
 pub mod LowerExplaining
+pub mod ListTexts
 pub mod LowerLaws
+pub mod LowerLists
 pub mod LowerRewriting
 pub mod LowerSigning
 pub mod NeededTables
@@ -27,4 +29,5 @@ pub mod Signing
 pub mod Stopping
 pub mod TakenFiles
 pub mod Texts
+pub mod Turning
 pub mod VerdictLines

@@ -21,7 +21,7 @@ use Rattle.commands.specs.Sign.{AreWishesRefused, IsSignRefused, ReportsEach, Re
 use Rattle.commands.specs.declared.outcome.Outcome.{Outcome}
 use Rattle.commands.specs.declared.outcome.Outcome.TheVariants.{Done, Refused}
 use Rattle.refusals.specs.declared.refusal.CommandRefusal.{CommandRefusal}
-use Rattle.refusals.specs.declared.refusal.CommandRefusal.TheVariants.{Syntax, Ids, Lacks, Sign, Wishes, NotTaken, Explain}
+use Rattle.refusals.specs.declared.refusal.CommandRefusal.TheVariants.{Syntax, Ids, Lacks, Sign, Wishes, NotTaken, Explain, ToMessage, FromMessage}
 use Rattle.refusals.specs.declared.refusal.Refusal.TheVariants.{Command}
 use Rattle.commands.proofs.Lacking.{id_there, one_id}
 use Rattle.commands.proofs.Signing.{fault_of, said, want_fault_of}
@@ -62,11 +62,15 @@ module _ (context : MessageContext) (spec : SignSpec) where
   one_refusal (Wishes f) d a b = absurd a
   one_refusal (NotTaken f) d a b = absurd a
   one_refusal (Explain f) d a b = absurd a
+  one_refusal (ToMessage f) d a b = absurd a
+  one_refusal (FromMessage f) d a b = absurd a
   one_refusal (Lacks l i) (Syntax j) a b = absurd b
   one_refusal (Lacks l i) (Ids g) a b = absurd b
   one_refusal (Lacks l i) (Wishes g) a b = absurd b
   one_refusal (Lacks l i) (NotTaken g) a b = absurd b
   one_refusal (Lacks l i) (Explain g) a b = absurd b
+  one_refusal (Lacks l i) (ToMessage g) a b = absurd b
+  one_refusal (Lacks l i) (FromMessage g) a b = absurd b
   one_refusal (Lacks l i) (Lacks m k) a b = same_lack l m i k a b
   one_refusal (Lacks l i) (Sign g) a b = absurd (sign_is g i l b a)
   one_refusal (Sign f) (Syntax j) a b = absurd b
@@ -74,6 +78,8 @@ module _ (context : MessageContext) (spec : SignSpec) where
   one_refusal (Sign f) (Wishes g) a b = absurd b
   one_refusal (Sign f) (NotTaken g) a b = absurd b
   one_refusal (Sign f) (Explain g) a b = absurd b
+  one_refusal (Sign f) (ToMessage g) a b = absurd b
+  one_refusal (Sign f) (FromMessage g) a b = absurd b
   one_refusal (Sign f) (Lacks m k) a b = absurd (sign_is f k m a b)
   one_refusal (Sign f) (Sign g) a b = ap (λ (h : SignFault). Sign h) (one_sign_fault context spec f g (said context spec f a) (said context spec g b))
 
@@ -112,12 +118,16 @@ module _ (conf : Configuration) (moment : ℕ) (wishes : Message) (configured : 
   one_unmet (Sign f) d a b = absurd a
   one_unmet (NotTaken f) d a b = absurd a
   one_unmet (Explain f) d a b = absurd a
+  one_unmet (ToMessage f) d a b = absurd a
+  one_unmet (FromMessage f) d a b = absurd a
   one_unmet (Wishes f) (Syntax i) a b = absurd b
   one_unmet (Wishes f) (Ids g) a b = absurd b
   one_unmet (Wishes f) (Lacks l i) a b = absurd b
   one_unmet (Wishes f) (Sign g) a b = absurd b
   one_unmet (Wishes f) (NotTaken g) a b = absurd b
   one_unmet (Wishes f) (Explain g) a b = absurd b
+  one_unmet (Wishes f) (ToMessage g) a b = absurd b
+  one_unmet (Wishes f) (FromMessage g) a b = absurd b
   one_unmet (Wishes f) (Wishes g) a b = ap (λ (h : WantFault). Wishes h) (one_want_fault conf wishes f g configured a b)
 
   one_wished : (context : MessageContext) (one other : Outcome) → ReportsWished moment conf wishes context one → ReportsWished moment conf wishes context other → one ≡ other

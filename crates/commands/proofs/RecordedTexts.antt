@@ -11,7 +11,7 @@ use Rattle.commands.specs.Audit.{IsRecordingText, IsRecordingRefused, ReportsAud
 use Rattle.commands.specs.Laws.{IsRecordingDecided, HasRecording}
 use Rattle.commands.specs.Stops.{IfOutcome, stop_of_recording}
 use Rattle.refusals.specs.declared.file.FileRefusal.{FileRefusal}
-use Rattle.refusals.specs.declared.file.FileRefusal.TheVariants.{Missing, TooLong, Message, Conf, Script, Recording, Order, TooManyHops, OutOfPlace, TooManyItems}
+use Rattle.refusals.specs.declared.file.FileRefusal.TheVariants.{Missing, TooLong, Message, Conf, Script, Recording, Order, TooManyHops, OutOfPlace, TooManyItems, Fields}
 use Rattle.refusals.specs.declared.refusal.TheConstants.{MAX_RECORDING_BYTES}
 use Rattle.commands.proofs.LowerAudit.{recording_or_fault, one_recording, one_recording_fault, no_fault_of_recording}
 
@@ -26,6 +26,7 @@ recording_cause input (Order i) d a b = absurd a
 recording_cause input (TooManyHops i) d a b = absurd a
 recording_cause input (OutOfPlace i) d a b = absurd a
 recording_cause input (TooManyItems i) d a b = absurd a
+recording_cause input (Fields f) d a b = absurd a
 recording_cause input (TooLong n) Missing a b = absurd b
 recording_cause input (TooLong n) (Message g) a b = absurd b
 recording_cause input (TooLong n) (Conf g) a b = absurd b
@@ -34,6 +35,7 @@ recording_cause input (TooLong n) (Order j) a b = absurd b
 recording_cause input (TooLong n) (TooManyHops j) a b = absurd b
 recording_cause input (TooLong n) (OutOfPlace j) a b = absurd b
 recording_cause input (TooLong n) (TooManyItems j) a b = absurd b
+recording_cause input (TooLong n) (Fields g) a b = absurd b
 recording_cause input (TooLong n) (TooLong m) a b = ap (λ (limit : ℕ). TooLong limit) (a.0 ∙ sym b.0)
 recording_cause input (TooLong n) (Recording g) a b = absurd (omega (arith, a.1, b.0))
 recording_cause input (Recording f) Missing a b = absurd b
@@ -44,6 +46,7 @@ recording_cause input (Recording f) (Order j) a b = absurd b
 recording_cause input (Recording f) (TooManyHops j) a b = absurd b
 recording_cause input (Recording f) (OutOfPlace j) a b = absurd b
 recording_cause input (Recording f) (TooManyItems j) a b = absurd b
+recording_cause input (Recording f) (Fields g) a b = absurd b
 recording_cause input (Recording f) (TooLong m) a b = absurd (omega (arith, a.0, b.1))
 recording_cause input (Recording f) (Recording g) a b = ap (λ (h : RecordingFault). Recording h) (one_recording_fault input f g a.1 b.1)
 
@@ -56,6 +59,7 @@ recording_either input items (Order i) is c = c
 recording_either input items (TooManyHops i) is c = c
 recording_either input items (OutOfPlace i) is c = c
 recording_either input items (TooManyItems i) is c = c
+recording_either input items (Fields f) is c = c
 recording_either input items (TooLong n) is c = let within = is.within in omega (arith, within, c.1)
 recording_either input items (Recording f) is c = no_fault_of_recording input items f is.spells c.1
 

@@ -22,7 +22,7 @@ use Rattle.commands.specs.Stops.{IfStopped, IsRefusalFor, stop_of_file, stop_of_
 use Rattle.rewrite_script.specs.declared.limits.TheConstants.{MAX_SCRIPT_BYTES}
 use Rattle.refusals.specs.declared.role.Role.TheVariants.{Script as OfScript}
 use Rattle.refusals.specs.declared.file.FileRefusal.{FileRefusal}
-use Rattle.refusals.specs.declared.file.FileRefusal.TheVariants.{Missing, TooLong, Message, Conf, Script, Recording, Order, TooManyHops, OutOfPlace, TooManyItems}
+use Rattle.refusals.specs.declared.file.FileRefusal.TheVariants.{Missing, TooLong, Message, Conf, Script, Recording, Order, TooManyHops, OutOfPlace, TooManyItems, Fields}
 use Rattle.refusals.specs.declared.refusal.Refusal.TheVariants.{Of}
 use Rattle.commands.proofs.Answered.{found_answer}
 use Rattle.commands.proofs.DecidedConf.{found_value, found_cause, found_either}
@@ -79,6 +79,7 @@ text_cause text (Order i) d a b = absurd a
 text_cause text (TooManyHops i) d a b = absurd a
 text_cause text (OutOfPlace i) d a b = absurd a
 text_cause text (TooManyItems i) d a b = absurd a
+text_cause text (Fields f) d a b = absurd a
 text_cause text (TooLong n) Missing a b = absurd b
 text_cause text (TooLong n) (Message g) a b = absurd b
 text_cause text (TooLong n) (Conf g) a b = absurd b
@@ -87,6 +88,7 @@ text_cause text (TooLong n) (Order j) a b = absurd b
 text_cause text (TooLong n) (TooManyHops j) a b = absurd b
 text_cause text (TooLong n) (OutOfPlace j) a b = absurd b
 text_cause text (TooLong n) (TooManyItems j) a b = absurd b
+text_cause text (TooLong n) (Fields g) a b = absurd b
 text_cause text (TooLong n) (TooLong m) a b = ap (λ (limit : ℕ). TooLong limit) (a.0 ∙ sym b.0)
 text_cause text (TooLong n) (Script g) a b = absurd (omega (arith, a.1, b.0))
 text_cause text (Script f) Missing a b = absurd b
@@ -97,6 +99,7 @@ text_cause text (Script f) (Order j) a b = absurd b
 text_cause text (Script f) (TooManyHops j) a b = absurd b
 text_cause text (Script f) (OutOfPlace j) a b = absurd b
 text_cause text (Script f) (TooManyItems j) a b = absurd b
+text_cause text (Script f) (Fields g) a b = absurd b
 text_cause text (Script f) (TooLong m) a b = absurd (omega (arith, a.0, b.1))
 text_cause text (Script f) (Script g) a b = ap (λ (h : ScriptFault). Script h) (one_script_fault text f g a.1 b.1)
 
@@ -109,6 +112,7 @@ text_either text script (Order i) is c = c
 text_either text script (TooManyHops i) is c = c
 text_either text script (OutOfPlace i) is c = c
 text_either text script (TooManyItems i) is c = c
+text_either text script (Fields f) is c = c
 text_either text script (TooLong n) is c = omega (arith, is.0, c.1)
 text_either text script (Script f) is c = no_fault_of_script text script f is.1 c.1
 

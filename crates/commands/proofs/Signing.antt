@@ -40,7 +40,7 @@ use Rattle.commands.specs.declared.stop.Stop.{Stop}
 use Rattle.commands.specs.declared.stop.Stop.TheVariants as ends
 use Rattle.commands.specs.tools.Signed.{HasIndexIn, SaysSignFault, IsSignedText, AreSignedSoFar}
 use Rattle.refusals.specs.declared.refusal.CommandRefusal.{CommandRefusal}
-use Rattle.refusals.specs.declared.refusal.CommandRefusal.TheVariants.{Syntax, Ids, Lacks, Sign, Wishes, NotTaken, Explain}
+use Rattle.refusals.specs.declared.refusal.CommandRefusal.TheVariants.{Syntax, Ids, Lacks, Sign, Wishes, NotTaken, Explain, ToMessage, FromMessage}
 use Rattle.refusals.specs.declared.refusal.Refusal.{Refusal}
 use Rattle.refusals.specs.declared.refusal.Refusal.TheVariants.{Command}
 
@@ -110,6 +110,8 @@ module _ (context : MessageContext) (spec : SignSpec) where
   fault_of (Wishes f) is = absurd is
   fault_of (NotTaken f) is = absurd is
   fault_of (Explain f) is = absurd is
+  fault_of (ToMessage f) is = absurd is
+  fault_of (FromMessage f) is = absurd is
   fault_of (Lacks lack id) is = (fault.Lacks is.0 lack, is.1)
   fault_of (Sign f) is = (f, said f is)
 
@@ -258,6 +260,8 @@ module _ (conf : Configuration) (moment : ℕ) (message : Message) (context : Me
   want_fault_of (Sign f) is = absurd is
   want_fault_of (NotTaken f) is = absurd is
   want_fault_of (Explain f) is = absurd is
+  want_fault_of (ToMessage f) is = absurd is
+  want_fault_of (FromMessage f) is = absurd is
   want_fault_of (Wishes f) is = (f, is)
 
   no_want_fault : (specs : List SignSpec) → WantsAnswered conf message (Ok specs) → (f : WantFault) → ¬ IsWantFault conf message f

@@ -19,6 +19,7 @@ use Rattle.commands.specs.Configured.{IsConfigured, IsConfRefused}
 use Rattle.commands.specs.Covered.{ReadsParams}
 use Rattle.commands.specs.Explain.{ReportsExplanation}
 use Rattle.commands.specs.Layers.{IsDecisive, HasAnswer}
+use Rattle.commands.specs.Lists.{IsListText, IsListRefused, ReportsIntoFields, ReportsIntoMessage}
 use Rattle.commands.specs.Messages.{IsInputMessage, IsInputRefused}
 use Rattle.commands.specs.MessageFiles.{IsMessageFile, IsMessageFileRefused, IsRequested, IsRequestRefused, IsWanted, IsWantedRefused, IsOfBytes}
 use Rattle.recording.specs.Items.{PlacedItem}
@@ -91,6 +92,10 @@ abbrev pub IsRecordingDecided : Type 0
 IsRecordingDecided =
     (input : List ℕ) → IsDecisive (IsRecordingText input) (IsRecordingRefused input)
 
+-- an input is the text of at most one list of fields, or is refused for at most one cause
+abbrev pub IsListDecided : Type 0
+IsListDecided = (input : List ℕ) → IsDecisive (IsListText input) (IsListRefused input)
+
 -- items have at most one report, or are refused as a chain for at most one cause
 abbrev pub IsChainDecided : Type 0
 IsChainDecided =
@@ -133,6 +138,18 @@ abbrev pub HasOneAuditing : Type 0
 HasOneAuditing =
     (conf : Configuration) (input : List ℕ) (one other : Outcome) → ReportsAudit conf input one
     → ReportsAudit conf input other → one ≡ other
+
+-- a configuration and an input have at most one outcome of `lists --into message`
+abbrev pub HasOneIntoMessage : Type 0
+HasOneIntoMessage =
+    (conf : Configuration) (input : List ℕ) (one other : Outcome)
+    → ReportsIntoMessage conf input one → ReportsIntoMessage conf input other → one ≡ other
+
+-- a context has at most one outcome of `lists --into fields`
+abbrev pub HasOneIntoFields : Type 0
+HasOneIntoFields =
+    (context : MessageContext) (one other : Outcome) → ReportsIntoFields context one
+    → ReportsIntoFields context other → one ≡ other
 
 -- a seed and a number of hops have at most one outcome of `sample`
 abbrev pub HasOneSampling : Type 0
@@ -200,6 +217,12 @@ HasRecording =
     (input : List ℕ) → IsTrue (list_all is_byte input)
     → HasAnswer (IsRecordingText input) (IsRecordingRefused input)
 
+-- an input of bytes is the text of a list of fields, or there is a cause to refuse it
+abbrev pub HasList : Type 0
+HasList =
+    (input : List ℕ) → IsTrue (list_all is_byte input)
+    → HasAnswer (IsListText input) (IsListRefused input)
+
 -- the items of a recording have a report, or there is a cause to refuse them as a chain
 abbrev pub HasAudit : Type 0
 HasAudit =
@@ -241,6 +264,17 @@ abbrev pub HasSomeAuditing : Type 0
 HasSomeAuditing =
     (conf : Configuration) (input : List ℕ) → IsTrue (list_all is_byte input)
     → (outcome : Outcome) × ReportsAudit conf input outcome
+
+-- a configuration and an input of bytes have an outcome of `lists --into message`
+abbrev pub HasSomeIntoMessage : Type 0
+HasSomeIntoMessage =
+    (conf : Configuration) (input : List ℕ) → IsTrue (list_all is_byte input)
+    → (outcome : Outcome) × ReportsIntoMessage conf input outcome
+
+-- a context has an outcome of `lists --into fields`
+abbrev pub HasSomeIntoFields : Type 0
+HasSomeIntoFields =
+    (context : MessageContext) → (outcome : Outcome) × ReportsIntoFields context outcome
 
 -- they have an outcome of `sample`, which is what was asked for
 abbrev pub HasSomeSampling : Type 0

@@ -6,6 +6,7 @@ pub mod Explain
 pub mod Files
 pub mod Laws
 pub mod Layers
+pub mod Lists
 pub mod MessageFiles
 pub mod Messages
 pub mod Outcome

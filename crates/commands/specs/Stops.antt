@@ -28,12 +28,18 @@ use Rattle.recording.specs.declared.fault.RecordingFault.TheVariants as recordin
 use Rattle.hop_audit.specs.declared.fault.ChainFault.{ChainFault}
 use Rattle.hop_audit.specs.declared.fault.ChainFault.TheVariants as chain
 use Rattle.recording.specs.declared.limits.TheConstants.{MAX_HOPS}
-use Rattle.refusals.specs.declared.file.FileRefusal.TheVariants.{Missing, TooLong, Message as NoMessage, Conf as NoConf, Script as NoScript, Recording as NoRecording, Order, TooManyHops}
+use Rattle.list_texts.specs.declared.fault.FieldsFault.{FieldsFault}
+use Rattle.list_texts.specs.declared.fault.FieldsFault.TheVariants as fields
+use Rattle.field_lists.specs.declared.from_fault.FromFault.{FromFault}
+use Rattle.field_lists.specs.declared.from_fault.FromFault.TheVariants as from
+use Rattle.field_lists.specs.declared.to_fault.ToFault.{ToFault}
+use Rattle.field_lists.specs.declared.to_fault.ToFault.TheVariants as to
+use Rattle.refusals.specs.declared.file.FileRefusal.TheVariants.{Missing, TooLong, Message as NoMessage, Conf as NoConf, Script as NoScript, Recording as NoRecording, Order, TooManyHops, Fields as NoFields}
 use Rattle.refusals.specs.declared.role.Role.{Role}
 use Rattle.refusals.specs.declared.role.Role.TheVariants as role
 use Rattle.refusals.specs.declared.refusal.Refusal.{Refusal}
 use Rattle.refusals.specs.declared.refusal.Refusal.TheVariants.{Of, Command}
-use Rattle.refusals.specs.declared.refusal.CommandRefusal.TheVariants.{Syntax, Ids, Wishes, NotTaken, Explain}
+use Rattle.refusals.specs.declared.refusal.CommandRefusal.TheVariants.{Syntax, Ids, Wishes, NotTaken, Explain, ToMessage, FromMessage}
 use Rattle.refusals.specs.declared.refusal.StepRefusal.TheVariants.{LabelUnread, NotApplicable, NotPermitted}
 use Rattle.commands.specs.declared.outcome.Outcome.{Outcome}
 use Rattle.commands.specs.declared.outcome.Outcome.TheVariants.{Refused as IsRefused}
@@ -98,6 +104,21 @@ stop_of_walk (walk.NotPermitted index) = Refused (Command (NotTaken (NotPermitte
 abbrev pub stop_of_explain : ExplainFault → Stop
 stop_of_explain explain.Memory = Memory
 stop_of_explain fault = Refused (Command (Explain fault))
+
+-- how a fault of a list of fields ends a run: it is refused, or memory ran out
+abbrev pub stop_of_fields : FieldsFault → Stop
+stop_of_fields fields.Memory = Memory
+stop_of_fields fault = Refused (Of role.Input (NoFields fault))
+
+-- how a list that is turned into no message ends a run: the command is refused, or memory ran out
+abbrev pub stop_of_to : ToFault → Stop
+stop_of_to to.Memory = Memory
+stop_of_to fault = Refused (Command (ToMessage fault))
+
+-- how a message that is turned into no list ends a run: the command is refused, or memory ran out
+abbrev pub stop_of_from : FromFault → Stop
+stop_of_from from.Memory = Memory
+stop_of_from fault = Refused (Command (FromMessage fault))
 
 -- how a fault of a recording ends a run: it is refused, or memory ran out
 abbrev pub stop_of_recording : RecordingFault → Stop

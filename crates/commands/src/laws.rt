@@ -1,7 +1,7 @@
 //! Laws of what is read, and of what comes of it. Each function does nothing; its contract is the
 //! law.
 
-ghost use Rattle.commands.specs.Laws.{IsConfigurationDecided, AreTablesDecided, IsRequestDecided, IsWantedDecided, IsScriptDecided, IsInputDecided, AreParamsDecided, AreValuesDecided, HaveOneOutcome, HasConfiguration, HaveTables, HasRequest, HasWanted, HasScript, HasMessage, HaveParams, HaveValuesOrLack, HaveSomeOutcome, HasOneSigning, HasSomeSigning, IsValidWhereConfigured, HasOneRewritten, HasSomeRewritten, HasOneExplained, HasSomeExplained, IsRecordDecided, HasRecord, IsWritableWhereScripted, HaveValuesWhereScripted, HasOneAuditing, HasSomeAuditing, HasOneSampling, HasSomeSampling, IsRecordingDecided, IsChainDecided, HasRecording, HasAudit};
+ghost use Rattle.commands.specs.Laws.{IsConfigurationDecided, AreTablesDecided, IsRequestDecided, IsWantedDecided, IsScriptDecided, IsInputDecided, AreParamsDecided, AreValuesDecided, HaveOneOutcome, HasConfiguration, HaveTables, HasRequest, HasWanted, HasScript, HasMessage, HaveParams, HaveValuesOrLack, HaveSomeOutcome, HasOneSigning, HasSomeSigning, IsValidWhereConfigured, HasOneRewritten, HasSomeRewritten, HasOneExplained, HasSomeExplained, IsRecordDecided, HasRecord, IsWritableWhereScripted, HaveValuesWhereScripted, HasOneAuditing, HasSomeAuditing, HasOneSampling, HasSomeSampling, IsRecordingDecided, IsChainDecided, HasRecording, HasAudit, IsListDecided, HasList, HasOneIntoFields, HasOneIntoMessage, HasSomeIntoFields, HasSomeIntoMessage};
 ghost use Rattle.commands.specs.SignedMessages.{IsKeptWhereSigned, IsMessageWhereSigned, IsRightWhereSigned};
 ghost use Rattle.commands.specs.RewrittenMessages.{IsMessageWhereRewritten, HasVerdictWhereRewritten};
 
@@ -19,6 +19,7 @@ pub fn each_layer_is_decided()
     ensures values { AreValuesDecided }
     ensures recording { IsRecordingDecided }
     ensures chain { IsChainDecided }
+    ensures list { IsListDecided }
 {}
 
 /// What a layer reads is some value, or there is some cause to refuse it.
@@ -34,6 +35,7 @@ pub fn each_layer_has_an_answer()
     ensures values { HaveValuesOrLack }
     ensures recording { HasRecording }
     ensures chain { HasAudit }
+    ensures list { HasList }
 {}
 
 /// The verdicts on the labels that are asked for have one outcome.
@@ -67,6 +69,14 @@ pub fn explaining_has_one_outcome()
 pub fn auditing_has_one_outcome()
     ensures one { HasOneAuditing }
     ensures some { HasSomeAuditing }
+{}
+
+/// What a list of fields is turned into has one outcome, and what a message is.
+pub fn turning_has_one_outcome()
+    ensures message { HasOneIntoMessage }
+    ensures some_message { HasSomeIntoMessage }
+    ensures fields { HasOneIntoFields }
+    ensures some_fields { HasSomeIntoFields }
 {}
 
 /// What is sampled has one outcome, and it is no refusal.

@@ -6,7 +6,8 @@
 //! which is to be one whole message; and the context that all give. `audit` writes the report on a
 //! recorded chain of messages, over a configuration and an input that is a recording. `sample`
 //! writes the summary of the report on a chain that is drawn from a seed. `explain` writes the
-//! rewritings that lead two records of one message to messages that are alike.
+//! rewritings that lead two records of one message to messages that are alike. `lists` writes the
+//! message of a recorded list of fields, or the list of a message.
 //!
 //! ```text
 //! let conf = read_configuration(alloc, Some("hms.toml"), &mut shelf)?;
@@ -27,6 +28,7 @@ mod configured;
 mod covered;
 mod explain;
 mod laws;
+mod lists;
 mod message;
 mod message_file;
 mod outcome;
@@ -45,9 +47,10 @@ pub use explain::explain_outcome;
 pub use laws::{
     auditing_has_one_outcome, each_layer_has_an_answer, each_layer_is_decided,
     explaining_has_one_outcome, rewriting_has_one_outcome, signing_has_one_outcome,
-    verdicts_have_one_outcome, what_is_rewritten_keeps_its_verdict,
+    turning_has_one_outcome, verdicts_have_one_outcome, what_is_rewritten_keeps_its_verdict,
     what_is_signed_is_rightly_signed,
 };
+pub use lists::{list_outcome, message_outcome};
 pub use message::message_of_role;
 pub use message_file::{fetch_message, fetched_message};
 pub use msg_body::Reading;

@@ -8,8 +8,10 @@ ghost use Rattle.commands.specs.Stops.{stop_of_fill, stop_of_file, stop_of_messa
 
 use component_ids::IdFault;
 use conf::ConfFault;
+use field_lists::{FromFault, ToFault};
 use hms_io::{FileError, FillError};
 use hop_audit::{ChainFault, MAX_HOPS};
+use list_texts::FieldsFault;
 use msg_body::{MessageError, MessageFault};
 use normal_forms::ExplainFault;
 use recording::RecordingFault;
@@ -237,6 +239,51 @@ impl From<ExplainFault> for Stop {
         match fault {
             ExplainFault::Memory => Stop::Memory,
             _ => Stop::Refused(Refusal::Command(CommandRefusal::Explain(fault))),
+        }
+    }
+}
+
+/// A fault of the list of fields.
+impl From<FieldsFault> for Stop {
+    ghost use Rattle.std.specs.Prelude.{◌≡◌};
+    ghost use Rattle.commands.specs.Stops.{stop_of_fields};
+
+    ghost from_gives = { λ fault stop. stop ≡ stop_of_fields fault };
+
+    fn from(fault: FieldsFault) -> Stop {
+        match fault {
+            FieldsFault::Memory => Stop::Memory,
+            _ => Stop::of_text(Role::Input, FileRefusal::Fields(fault)),
+        }
+    }
+}
+
+/// Why a list of fields is turned into no message.
+impl From<ToFault> for Stop {
+    ghost use Rattle.std.specs.Prelude.{◌≡◌};
+    ghost use Rattle.commands.specs.Stops.{stop_of_to};
+
+    ghost from_gives = { λ fault stop. stop ≡ stop_of_to fault };
+
+    fn from(fault: ToFault) -> Stop {
+        match fault {
+            ToFault::Memory => Stop::Memory,
+            _ => Stop::Refused(Refusal::Command(CommandRefusal::ToMessage(fault))),
+        }
+    }
+}
+
+/// Why a message is turned into no list of fields.
+impl From<FromFault> for Stop {
+    ghost use Rattle.std.specs.Prelude.{◌≡◌};
+    ghost use Rattle.commands.specs.Stops.{stop_of_from};
+
+    ghost from_gives = { λ fault stop. stop ≡ stop_of_from fault };
+
+    fn from(fault: FromFault) -> Stop {
+        match fault {
+            FromFault::Memory => Stop::Memory,
+            _ => Stop::Refused(Refusal::Command(CommandRefusal::FromMessage(fault))),
         }
     }
 }

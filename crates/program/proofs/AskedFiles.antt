@@ -23,7 +23,7 @@ use Rattle.program.specs.Commands.{name_of}
 use Rattle.program.specs.Ends.{AsksFor, AsksForNamed}
 use Rattle.program.specs.Intake.{named_count, read_order, roles_until}
 use Rattle.program.specs.declared.intake.FileWords.{FileWords}
-use Rattle.program.specs.tools.Parts.{AsksOf, AsksUntil, IsAfterInput, IsWritten, IsWrittenStop, refusal_of, roles_read}
+use Rattle.program.specs.tools.Parts.{Asks, AsksOf, AsksUntil, IsAfterInput, conf_names, IsWritten, IsWrittenStop, refusal_of, roles_read}
 use Rattle.program.proofs.Reports.{AsksOne, IfRefusedFor, count_step, of_command, one_counted, weighed}
 
 -- ---- how many of the first files have a name
@@ -184,10 +184,28 @@ none_asked result count =
     on_outcome (λ (o : Outcome). count ≤ count + named_count (file_names None None None None None) (roles_read o))
     (by_roles (λ (rs : List FileRole). count ≤ count + named_count (file_names None None None None None) rs) (no_more count) (no_more count) (no_more count) (no_more count) (no_more count)) result
 
-pub conf_asked : (conf : List ℕ) (result : Result Outcome Stop) (before now : ℕ) → now ≤ before + 1 → AsksUntil (file_names (Some conf) None None None None) result before now
-conf_asked conf result before now is =
-    on_outcome (λ (o : Outcome). now ≤ before + named_count (file_names (Some conf) None None None None) (roles_read o))
-    (by_roles (λ (rs : List FileRole). now ≤ before + named_count (file_names (Some conf) None None None None) rs) is is is is is) result
+pub conf_until : (name : Option (List ℕ)) (result : Result Outcome Stop) (before now : ℕ) → now ≤ before + weighed 1 name → AsksUntil (conf_names name) result before now
+conf_until None result before now is =
+    on_outcome (λ (o : Outcome). now ≤ before + named_count (conf_names None) (roles_read o)) (by_roles (λ (rs : List FileRole). now ≤ before + named_count (conf_names None) rs) is is is is is) result
+conf_until (Some conf) result before now is =
+    on_outcome (λ (o : Outcome). now ≤ before + named_count (conf_names (Some conf)) (roles_read o)) (by_roles (λ (rs : List FileRole). now ≤ before + named_count (conf_names (Some conf)) rs) is is is is is) result
+
+module _ {X S : Type 0} (files : S → Option FileMap) (asked reached : S → ℕ) (f : X → List ℕ) where
+  pub conf_asks : (name : Option X) (before now : S) → AsksOne files asked reached (MAX_CONF_BYTES + 1) name before now
+      → Asks (conf_names (option_map f name)) (files before) (files now) (asked before) (asked now) (reached before) (reached now) (now ≡ before)
+  conf_asks None before now one = record {
+    files = one.keeps;
+    asks = one_counted asked f 1 None before now one.unasked one.asks;
+    reaches = one_counted reached f (MAX_CONF_BYTES + 1) None before now one.unasked one.reaches;
+    unasked = λ _. one.unasked;
+  }
+  conf_asks (Some x) before now one = record { files = one.keeps; asks = one.asks; reaches = one.reaches; unasked = λ none. absurd (named (f x) (none Conf)) } where
+    named : (x : List ℕ) → Some x ≡ None → ⊥
+    named x same = absurd cc
+
+  pub conf_asked : (name : Option X) (result : Result Outcome Stop) (before now : S) → AsksOne files asked reached (MAX_CONF_BYTES + 1) name before now
+      → AsksUntil (conf_names (option_map f name)) result (asked before) (asked now)
+  conf_asked name result before now one = conf_until (option_map f name) result (asked before) (asked now) (one_counted asked f 1 name before now one.unasked one.asks)
 
 -- ---- for arguments
 

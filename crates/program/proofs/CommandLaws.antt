@@ -12,7 +12,14 @@ use Rattle.commands.proofs.LowerExplaining as explained
 use Rattle.commands.proofs.LowerRewriting as rewritten
 use Rattle.commands.proofs.SignedMessages as signed
 use Rattle.commands.proofs.TakenFiles as files
-use Rattle.commands.specs.Laws.{IsConfigurationDecided, AreTablesDecided, IsRecordDecided, IsRequestDecided, IsWantedDecided, IsInputDecided, AreParamsDecided, AreValuesDecided, HaveOneOutcome, HasConfiguration, HaveTables, HasRecord, HasRequest, HasWanted, HasMessage, HaveParams, HaveValuesOrLack, HaveSomeOutcome, HasOneSigning, HasSomeSigning, IsValidWhereConfigured, IsScriptDecided, HasScript, HasOneExplained, HasSomeExplained, HasOneRewritten, HasSomeRewritten, HaveValuesWhereScripted, IsWritableWhereScripted, HasAudit, HasOneAuditing, HasSomeAuditing, HasOneSampling, HasSomeSampling}
+use Rattle.commands.proofs.Turning as turning
+use Rattle.field_lists.proofs.FromLaws as from
+use Rattle.field_lists.proofs.ListRows as list_rows
+use Rattle.field_lists.proofs.MessageRows as message_rows
+use Rattle.field_lists.proofs.ToLaws as to
+use Rattle.field_lists.proofs.WholeMessages as whole
+use Rattle.field_lists.specs.Laws.{HasListOrFromFault, HasMessageOrFault, IsWholeMessage, ListHasTheSame, MessageHasTheSame}
+use Rattle.commands.specs.Laws.{HasOneIntoFields, HasOneIntoMessage, HasSomeIntoFields, HasSomeIntoMessage, IsConfigurationDecided, AreTablesDecided, IsRecordDecided, IsRequestDecided, IsWantedDecided, IsInputDecided, AreParamsDecided, AreValuesDecided, HaveOneOutcome, HasConfiguration, HaveTables, HasRecord, HasRequest, HasWanted, HasMessage, HaveParams, HaveValuesOrLack, HaveSomeOutcome, HasOneSigning, HasSomeSigning, IsValidWhereConfigured, IsScriptDecided, HasScript, HasOneExplained, HasSomeExplained, HasOneRewritten, HasSomeRewritten, HaveValuesWhereScripted, IsWritableWhereScripted, HasAudit, HasOneAuditing, HasSomeAuditing, HasOneSampling, HasSomeSampling}
 use Rattle.hop_audit.proofs.SameVerdicts as reports
 use Rattle.hop_audit.specs.Laws.{KeepsWhatIsPermitted}
 use Rattle.commands.specs.RewrittenMessages.{IsMessageWhereRewritten, HasVerdictWhereRewritten}
@@ -137,3 +144,30 @@ sampling_answer = samples.some_sampling
 
 pub keeps_what_is_permitted : KeepsWhatIsPermitted
 keeps_what_is_permitted = reports.what_is_permitted_is_kept
+
+pub into_message_law : HasOneIntoMessage
+into_message_law = turning.one_into_message
+
+pub into_message_answer : HasSomeIntoMessage
+into_message_answer = turning.some_into_message
+
+pub into_fields_law : HasOneIntoFields
+into_fields_law = turning.one_into_fields
+
+pub into_fields_answer : HasSomeIntoFields
+into_fields_answer = turning.some_into_fields
+
+pub whole_message : IsWholeMessage
+whole_message = whole.is_whole_message
+
+pub has_same_in_message : MessageHasTheSame
+has_same_in_message = message_rows.message_has_the_same
+
+pub has_same_in_list : ListHasTheSame
+has_same_in_list = list_rows.list_has_the_same
+
+pub message_or_fault : HasMessageOrFault
+message_or_fault = to.has_message_or_fault
+
+pub list_or_from_fault : HasListOrFromFault
+list_or_from_fault = from.has_list_or_from_fault

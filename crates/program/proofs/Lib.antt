@@ -2,13 +2,14 @@ pub mod CommandLaws
 pub mod IntakeLaws
 pub mod Layers
 pub mod OneReport
-pub mod Recordings
+pub mod TextInputs
 pub mod Reports
 pub mod SomeReport
 pub mod Sources
 mod AskedFiles
 mod AuditLines
 mod AuditedInputs
+mod AuditedTexts
 mod FaultCounts
 mod GatewayLaws
 mod Meanings
@@ -20,6 +21,7 @@ mod SignedInputs
 mod StreamNames
 mod StreamRecords
 mod StreamRuns
+mod TurnedTexts
 mod VerdictLines
 mod WrittenOutcomes
 mod Explanations

@@ -32,17 +32,21 @@ use Rattle.component_ids.proofs.PrintLaws.{id_is_printable}
 use Rattle.component_values.specs.Context.{MessageContext, context_with}
 use Rattle.component_values.specs.Values.{HaveValues}
 use Rattle.sig_base.specs.SignatureBase.{signature_base}
-use Rattle.msg_body.specs.Messages.{Message}
+use Rattle.msg_body.specs.Messages.{Message, message_text}
 use Rattle.msg_body.specs.WholeTexts.{any_message, one_request, reading_for}
 use Rattle.msg_body.specs.declared.whole.Reading.{Reading}
 use Rattle.framing.specs.Framings.{is_request}
-use Rattle.command_line.specs.Command.{CommandLine, Help, HelpOf, Version, Base, Verify, Sign, Rewrite, Explain, Audit, Gateway, Sample, SignWords, IsCommand, NoCommand}
+use Rattle.command_line.specs.Command.{CommandLine, Help, HelpOf, Version, Base, Verify, Sign, Rewrite, Explain, Audit, Gateway, Lists, Sample, SignWords, IsCommand, NoCommand}
 use Rattle.conf.specs.Configuration.{Configuration}
 use Rattle.conf.specs.Paths.{HoldsAtPath}
 use Rattle.conf.specs.Refusals.{IsConfFault}
 use Rattle.conf.specs.Table.{Row, place_path, places, rows}
 use Rattle.conf.specs.declared.fault.ConfFault.{ConfFault}
 use Rattle.conf.specs.declared.fault.ConfFault.TheVariants as conf_fault
+use Rattle.field_lists.specs.FromCauses.{IsFromFault}
+use Rattle.field_lists.specs.FromMessages.{TurnsIntoList}
+use Rattle.field_lists.specs.ToCauses.{IsToFault, TurnsInto}
+use Rattle.list_texts.specs.Lists.{list_text}
 use Rattle.normal_forms.specs.Causes.{IsExplainFault}
 use Rattle.normal_forms.specs.Explanations.{Explains}
 use Rattle.normal_forms.specs.declared.explanation.Explained.{Explained}
@@ -69,6 +73,7 @@ use Rattle.commands.specs.Covered.{ReadsParams}
 use Rattle.commands.specs.Explain.{ReportsExplanation, WritesExplained, differing_text}
 use Rattle.commands.specs.Files.{FileNames, Found, Conf as ConfFile, Request as RequestFile, Wanted as WantedFile, Script as ScriptFile, Other as OtherFile}
 use Rattle.commands.specs.Layers.{IsUnrefused, ReadsThen}
+use Rattle.commands.specs.Lists.{IsListRefused, IsListText, ReportsIntoFields, ReportsIntoMessage, ReportsMessageOf}
 use Rattle.commands.specs.MessageFiles.{IsMessageFileRefused}
 use Rattle.commands.specs.Messages.{IsInputRefused}
 use Rattle.commands.specs.Rewrite.{IsStepRefused, IsTaken, ReportsRewriting, ReportsSteps}
@@ -84,16 +89,16 @@ use Rattle.commands.specs.declared.tables.Needs.TheVariants.{Nothing, SignTable,
 use Rattle.refusals.specs.Laws.{is_clean, is_clean_file}
 use Rattle.refusals.proofs.Lines.{is_line_of_refusal, number_clean}
 use Rattle.refusals.specs.declared.file.FileRefusal.{FileRefusal}
-use Rattle.refusals.specs.declared.file.FileRefusal.TheVariants.{Missing, TooLong, Message as NoMessage, Conf as NoConf, Script as NoScript, Recording as NoRecording, Order, TooManyHops, OutOfPlace, TooManyItems}
+use Rattle.refusals.specs.declared.file.FileRefusal.TheVariants.{Missing, TooLong, Message as NoMessage, Conf as NoConf, Script as NoScript, Recording as NoRecording, Order, TooManyHops, OutOfPlace, TooManyItems, Fields}
 use Rattle.refusals.specs.declared.refusal.CommandRefusal.{CommandRefusal}
-use Rattle.refusals.specs.declared.refusal.CommandRefusal.TheVariants.{Ids, Lacks, NotTaken, Explain as NotExplained}
+use Rattle.refusals.specs.declared.refusal.CommandRefusal.TheVariants.{Ids, Lacks, NotTaken, Explain as NotExplained, ToMessage, FromMessage}
 use Rattle.refusals.specs.declared.refusal.Refusal.{Refusal}
 use Rattle.refusals.specs.declared.refusal.Refusal.TheVariants.{Arguments, Of, Command}
 use Rattle.refusals.specs.declared.role.Role.TheVariants.{Conf, Request, Wanted, Script, Other, Input, Item}
 use Rattle.program.specs.Commands.{name_of}
 use Rattle.program.specs.Laws.{IsLineWhereRefused}
 use Rattle.program.specs.Intake.{IsIntake, IsIntakeRefused, TakenValues}
-use Rattle.program.specs.Report.{Answers, ReportsCommand, ReportsFiles}
+use Rattle.program.specs.Report.{Answers, ReportsCommand, ReportsFiles, ReportsTurned}
 use Rattle.program.proofs.CommandLaws.{valid_where_configured}
 use Rattle.program.proofs.SignedInputs.{signs_characters, signs_timely}
 
@@ -229,6 +234,7 @@ conf_refused (Some name) (Some text) (Order i) is = refl
 conf_refused (Some name) (Some text) (TooManyHops i) is = refl
 conf_refused (Some name) (Some text) (OutOfPlace i) is = refl
 conf_refused (Some name) (Some text) (TooManyItems i) is = refl
+conf_refused (Some name) (Some text) (Fields f) is = refl
 
 -- a refusal for no configuration
 abbrev IsOfNoConf : FileRefusal → Type 0
@@ -245,6 +251,7 @@ no_conf (Order i) other = refl
 no_conf (TooManyHops i) other = refl
 no_conf (OutOfPlace i) other = refl
 no_conf (TooManyItems i) other = refl
+no_conf (Fields f) other = refl
 
 input_refused : (reading : Reading) (input : List ℕ) (refusal : FileRefusal) → IsInputRefused reading input refusal → is_clean_file refusal ≡ true
 input_refused reading input refusal is = no_conf refusal (λ f same. subst (λ (r : FileRefusal). IsInputRefused reading input r) same is)
@@ -261,6 +268,9 @@ script_refused (Some name) (Some text) refusal is = no_conf refusal (λ f same. 
 
 recording_refused : (input : List ℕ) (refusal : FileRefusal) → IsRecordingRefused input refusal → is_clean_file refusal ≡ true
 recording_refused input refusal is = no_conf refusal (λ f same. subst (λ (r : FileRefusal). IsRecordingRefused input r) same is)
+
+list_refused : (input : List ℕ) (refusal : FileRefusal) → IsListRefused input refusal → is_clean_file refusal ≡ true
+list_refused input refusal is = no_conf refusal (λ f same. subst (λ (r : FileRefusal). IsListRefused input r) same is)
 
 chain_refused : (items : List PlacedItem) (refusal : Refusal) → IsChainRefused items refusal → is_clean refusal ≡ true
 chain_refused items Arguments is = refl
@@ -379,6 +389,16 @@ module _ (refusal : Refusal) where
       of_layer (IsRecordingText input) (IsRecordingRefused input) (λ r. Of Input r) (ReportsChain conf) (recording_refused input) (λ items is.
       of_layer (IsAudit conf items) (IsChainRefused items) (λ r. r) (λ lines outcome. outcome ≡ audit_outcome lines) (chain_refused items) (λ lines audit same. absurd (report_not lines (finds_fault lines) refl same)))
 
+  turned_refused : (into_message : Bool) (names : FileNames) (found : Found) (input : List ℕ) → ReportsTurned into_message names found input (Refused refusal) → is_clean refusal ≡ true
+  turned_refused true names found input =
+      of_layer (IsConfigured (names ConfFile) (found ConfFile)) (IsConfRefused (names ConfFile) (found ConfFile)) (λ r. Of Conf r) (λ conf. ReportsIntoMessage conf input) (conf_refused (names ConfFile) (found ConfFile))
+      (λ conf configured.
+      of_layer (IsListText input) (IsListRefused input) (λ r. Of Input r) (ReportsMessageOf conf.scheme) (list_refused input) (λ list is.
+      of_layer (TurnsInto list conf.scheme) (IsToFault list conf.scheme) (λ fault. Command (ToMessage fault)) (λ message outcome. outcome ≡ Done (message_text message)) (λ fault is. refl) (λ message turned same. absurd (cc same))))
+  turned_refused false names found input =
+      of_files Nothing (λ taken. ReportsIntoFields taken.context) names found input
+      (λ taken configured. of_layer (TurnsIntoList taken.context) (IsFromFault taken.context) (λ fault. Command (FromMessage fault)) (λ list outcome. outcome ≡ Done (list_text list)) (λ fault is. refl) (λ list turned same. absurd (cc same)))
+
   signing_refused : (words : SignWords) → words.now ≤ MAX_MOMENT → IfSome words.nonce (λ text. IsTrue (list_all is_string_byte text)) → (conf : Configuration) → IsValid conf → (wishes : Option Message) (context : MessageContext)
       → ReportsSigning words.nonce words.now conf wishes context (Refused refusal) → is_clean refusal ≡ true
   signing_refused words timely characters conf valid None context = λ reports.
@@ -409,6 +429,7 @@ module _ (refusal : Refusal) where
       of_layer (IsConfigured (Some words.conf) (found ConfFile)) (IsConfRefused (Some words.conf) (found ConfFile)) (λ r. Of Conf r) (λ conf. ReportsAudit conf input) (conf_refused (Some words.conf) (found ConfFile))
       (λ conf configured. audit_refused conf input)
   command_refused arguments (Gateway words) is found input = λ reports. absurd reports
+  command_refused arguments (Lists words) is found input = turned_refused words.into_message (name_of (Lists words)) found input
   command_refused arguments (Sample words) is found input = λ reports. absurd (summary_not reports.0 reports.0.finds_fault refl reports.2)
 
 pub is_line_where_refused : IsLineWhereRefused

@@ -1,7 +1,7 @@
 -- Arguments, files and an input have one outcome.
-use Rattle.std.proofs.Common.{◌≡◌, List, ℕ, Option, Some, None, refl, sym, ◌∙◌}
+use Rattle.std.proofs.Common.{◌≡◌, Bool, true, false, List, ℕ, Option, Some, None, refl, sym, ◌∙◌}
 use Rattle.std.specs.Prelude.{⊤, IsSomeAnd}
-use Rattle.command_line.specs.Command.{CommandLine, Help, HelpOf, Version, Base, Verify, Sign, Rewrite, Explain, Audit, Gateway, Sample, IsCommand, NoCommand}
+use Rattle.command_line.specs.Command.{CommandLine, Help, HelpOf, Version, Base, Verify, Sign, Rewrite, Explain, Audit, Gateway, Lists, Sample, IsCommand, NoCommand}
 use Rattle.command_line.proofs.CommandLaws.{one_command}
 use Rattle.component_values.specs.Context.{MessageContext}
 use Rattle.msg_body.specs.Messages.{Message}
@@ -10,6 +10,7 @@ use Rattle.commands.specs.Base.{ReportsValues, ReportsBase}
 use Rattle.commands.specs.Explain.{ReportsExplanation}
 use Rattle.commands.specs.Files.{FileNames, Found, Conf as ConfFile}
 use Rattle.commands.specs.Layers.{IsDecisive}
+use Rattle.commands.specs.Lists.{ReportsIntoFields}
 use Rattle.commands.specs.Rewrite.{ReportsRewriting}
 use Rattle.commands.specs.Sign.{ReportsSigning}
 use Rattle.commands.specs.Tables.{HasTables}
@@ -19,8 +20,8 @@ use Rattle.commands.specs.declared.tables.Needs.TheVariants.{Nothing, SignTable}
 use Rattle.program.specs.Laws.{HasOneReport}
 use Rattle.program.specs.Commands.{name_of}
 use Rattle.program.specs.Intake.{TakenValues}
-use Rattle.program.specs.Report.{Answers, ReportsCommand, ReportsFiles}
-use Rattle.program.proofs.CommandLaws.{auditing_law, conf_decided, explaining_law, params_decided, rewriting_law, sampling_law, signing_law, values_decided, verdicts_law}
+use Rattle.program.specs.Report.{Answers, ReportsCommand, ReportsFiles, ReportsTurned}
+use Rattle.program.proofs.CommandLaws.{auditing_law, conf_decided, explaining_law, into_fields_law, into_message_law, params_decided, rewriting_law, sampling_law, signing_law, values_decided, verdicts_law}
 use Rattle.program.proofs.IntakeLaws.{intake_decided}
 use Rattle.program.proofs.Layers.{HasOne, one_of_layers}
 
@@ -48,6 +49,10 @@ one_of_explanation : (label : List ℕ) (also : Option Message) (context : Messa
 one_of_explanation label None context one other a b = absurd a
 one_of_explanation label (Some also) context one other a b = explaining_law label also context one other a b
 
+one_of_turned : (into_message : Bool) (names : FileNames) (found : Found) (input : List ℕ) → HasOne (ReportsTurned into_message names found input)
+one_of_turned true names found input = one_of_layers _ _ _ _ (conf_decided (names ConfFile) (found ConfFile)) (λ conf _. into_message_law conf input)
+one_of_turned false names found input = one_of_files Nothing (λ taken. ReportsIntoFields taken.context) (λ taken _. into_fields_law taken.context) names found input
+
 one_of_command : (command : CommandLine) (found : Found) (input : List ℕ) → HasOne (ReportsCommand command found input)
 one_of_command Help found input = λ one other a b. a ∙ sym b
 one_of_command (HelpOf command) found input = λ one other a b. a ∙ sym b
@@ -66,6 +71,7 @@ one_of_command (Explain words) found input =
     (λ taken _. one_of_explanation words.label taken.other taken.context) (name_of (Explain words)) found input
 one_of_command (Audit words) found input = one_of_layers _ _ _ _ (conf_decided (Some words.conf) (found ConfFile)) (λ conf _. auditing_law conf input)
 one_of_command (Gateway words) found input = λ one other a b. absurd a
+one_of_command (Lists words) found input = one_of_turned words.into_message (name_of (Lists words)) found input
 one_of_command (Sample words) found input = sampling_law words.seed words.count
 
 pub one_report_law : HasOneReport

@@ -41,7 +41,7 @@ use Rattle.commands.specs.declared.outcome.Outcome.{Outcome}
 use Rattle.commands.specs.declared.outcome.Outcome.TheVariants.{Done}
 use Rattle.commands.specs.declared.tables.Needs.TheVariants.{Nothing}
 use Rattle.refusals.specs.declared.file.FileRefusal.{FileRefusal}
-use Rattle.refusals.specs.declared.file.FileRefusal.TheVariants.{Missing, TooLong, Message as NoMessage, Conf as NoConf, Script as NoScript, Recording as NoRecording, Order, TooManyHops, OutOfPlace, TooManyItems}
+use Rattle.refusals.specs.declared.file.FileRefusal.TheVariants.{Missing, TooLong, Message as NoMessage, Conf as NoConf, Script as NoScript, Recording as NoRecording, Order, TooManyHops, OutOfPlace, TooManyItems, Fields}
 use Rattle.refusals.specs.declared.refusal.Refusal.{Refusal}
 use Rattle.refusals.specs.declared.refusal.Refusal.TheVariants.{Arguments, Of, Command}
 use Rattle.refusals.specs.declared.role.Role.TheVariants.{Conf, Request, Wanted, Script, Other, Input, Item}
@@ -125,6 +125,7 @@ not_refused reading written message (Order i) short is refused = refused
 not_refused reading written message (TooManyHops i) short is refused = refused
 not_refused reading written message (OutOfPlace i) short is refused = refused
 not_refused reading written message (TooManyItems i) short is refused = refused
+not_refused reading written message (Fields f) short is refused = refused
 not_refused reading written message (TooLong n) short is refused = omega (arith, short, refused.1)
 not_refused reading written message (NoMessage f) short is refused = no_fault_of_whole reading written message f is refused.1
 

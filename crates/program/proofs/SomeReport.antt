@@ -5,7 +5,7 @@ use Rattle.std.specs.Prelude.{⊤, IsTrue, IsSome, IsSomeAnd}
 use Rattle.std.specs.List.{list_all, slice_get}
 use Rattle.byte_grammar.proofs.Indices.{some_and_parts}
 use Rattle.sfv_text.specs.Classes.{is_byte}
-use Rattle.command_line.specs.Command.{CommandLine, Help, HelpOf, Version, Base, Verify, Sign, Rewrite, Explain, Audit, Gateway, Sample, IsCommand, NoCommand}
+use Rattle.command_line.specs.Command.{CommandLine, Help, HelpOf, Version, Base, Verify, Sign, Rewrite, Explain, Audit, Gateway, Lists, Sample, IsCommand, NoCommand}
 use Rattle.command_line.proofs.SomeCommand.{command_or_none}
 use Rattle.component_ids.specs.declared.id.ComponentId.{ComponentId}
 use Rattle.component_ids.specs.declared.params.SigParams.{SigParams}
@@ -21,6 +21,13 @@ use Rattle.commands.specs.Base.{ReportsValues, ReportsBase}
 use Rattle.commands.specs.Explain.{ReportsExplanation, WritesExplained, differing_text}
 use Rattle.commands.specs.Files.{FileNames, Found, FileRole, Conf as ConfFile, Script as ScriptFile, Other as OtherFile}
 use Rattle.commands.specs.Layers.{ReadsThen, HasAnswer}
+use Rattle.commands.specs.Lists.{ReportsIntoFields, ReportsMessageOf}
+use Rattle.list_texts.specs.Lists.{list_text}
+use Rattle.list_texts.specs.declared.list.FieldList.{FieldList}
+use Rattle.field_lists.specs.ToCauses.{IsToFault}
+use Rattle.field_lists.specs.declared.to_fault.ToFault.{ToFault}
+use Rattle.field_lists.specs.FromCauses.{IsFromFault}
+use Rattle.field_lists.specs.declared.from_fault.FromFault.{FromFault}
 use Rattle.commands.specs.MessageFiles.{IsOfBytes}
 use Rattle.commands.specs.Rewrite.{IsTaken, ReportsSteps, ReportsRewriting}
 use Rattle.commands.specs.Sign.{ReportsEach, ReportsSigning}
@@ -41,11 +48,11 @@ use Rattle.program.specs.declared.help.TheConstants.{TITLE_TEXT, VERSION_TEXT}
 use Rattle.commands.specs.declared.outcome.Outcome.{Outcome}
 use Rattle.commands.specs.declared.outcome.Outcome.TheVariants.{Done, NotOk, Refused}
 use Rattle.refusals.specs.declared.refusal.Refusal.{Refusal}
-use Rattle.program.specs.Laws.{HasSomeReport, IsBaseDone, CanSignEach, IsSignDone, IsRewriteDone, IsExplainDone, IsServed, HasAll, IsAnswered, IsComplete}
+use Rattle.program.specs.Laws.{HasSomeReport, IsBaseDone, CanSignEach, IsSignDone, IsRewriteDone, IsExplainDone, IsServed, HasAll, HasAllToTurn, IsAnswered, IsComplete}
 use Rattle.program.specs.Commands.{input_use, is_whole, name_of}
 use Rattle.program.specs.Intake.{IsConfRead, TakenValues}
-use Rattle.program.specs.Report.{Answers, ReportsCommand, ReportsFiles}
-use Rattle.program.proofs.CommandLaws.{conf_answer, explaining_answer, params_answer, values_answer, verdicts_answer, signing_answer, rewriting_answer, auditing_answer, audit_answer, sampling_answer, writable_where_scripted, valid_where_configured}
+use Rattle.program.specs.Report.{Answers, ReportsCommand, ReportsFiles, ReportsTurned}
+use Rattle.program.proofs.CommandLaws.{conf_answer, explaining_answer, into_fields_answer, into_message_answer, list_or_from_fault, message_or_fault, params_answer, values_answer, verdicts_answer, signing_answer, rewriting_answer, auditing_answer, audit_answer, sampling_answer, writable_where_scripted, valid_where_configured}
 use Rattle.program.proofs.IntakeLaws.{intake_answer}
 use Rattle.program.specs.tools.Parts.{HasOther}
 use Rattle.program.proofs.Reports.{other_answers}
@@ -99,6 +106,11 @@ some_of_explanation : (label name : List ℕ) (also : Option Message) (context :
 some_of_explanation label name None context is other = absurd (cc other)
 some_of_explanation label name (Some also) context is other = explaining_answer label also context is other
 
+some_of_turned : (into_message : Bool) (names : FileNames) (found : Found) (input : List ℕ) → AreOfBytes found → IsTrue (list_all is_byte input) → HasSome (ReportsTurned into_message names found input)
+some_of_turned true names found input files bytes = some_of_layers _ _ _ _ (conf_answer (names ConfFile) (found ConfFile)) (λ conf _. into_message_answer conf input bytes)
+some_of_turned false names found input files bytes =
+    some_of_files Nothing (λ taken. ReportsIntoFields taken.context) names found input (λ taken _ _ _ _. into_fields_answer taken.context) files bytes
+
 some_of_command : (command : CommandLine) → IsTrue (is_whole (input_use command)) → (found : Found) (input : List ℕ) → AreOfBytes found → IsTrue (list_all is_byte input) → HasSome (ReportsCommand command found input)
 some_of_command Help whole found input files bytes = (Done help_text, refl)
 some_of_command (HelpOf command) whole found input files bytes = (Done (TITLE_TEXT.now ++ text_of command), refl)
@@ -119,6 +131,7 @@ some_of_command (Explain words) whole found input files bytes =
     (λ taken _ _ message other. some_of_explanation words.label words.other taken.other taken.context message other) files bytes
 some_of_command (Audit words) whole found input files bytes = some_of_layers _ _ _ _ (conf_answer (Some words.conf) (found ConfFile)) (λ conf _. auditing_answer conf input bytes)
 some_of_command (Gateway words) whole found input files bytes = absurd (cc whole)
+some_of_command (Lists words) whole found input files bytes = some_of_turned words.into_message (name_of (Lists words)) found input files bytes
 some_of_command (Sample words) whole found input files bytes = let some = sampling_answer words.seed words.count in (some.0, some.1)
 
 arguments_answer : (arguments : List (List ℕ)) → HasAnswer (IsCommand arguments) (λ (_ : ⊤). NoCommand arguments)
@@ -204,6 +217,25 @@ audit_answered conf input items is none = elim (audit_answer conf input items is
   | inr cause ↦ absurd (none cause.0 cause.1)
 ]
 
+message_answered : (conf : Configuration) (list : FieldList) → ((fault : ToFault) → ¬ IsToFault list conf.scheme fault) → HasAnswered (ReportsMessageOf conf.scheme list)
+message_answered conf list none = elim (message_or_fault list conf.scheme) [
+  | inl turned ↦ (Done (message_text turned.0), inl (turned.0, turned.1, refl), inl refl)
+  | inr fault ↦ absurd (none fault.0 fault.1)
+]
+
+fields_answered : (context : MessageContext) → ((fault : FromFault) → ¬ IsFromFault context fault) → HasAnswered (ReportsIntoFields context)
+fields_answered context none = elim (list_or_from_fault context) [
+  | inl turned ↦ (Done (list_text turned.0), inl (turned.0, turned.1, refl), inl refl)
+  | inr fault ↦ absurd (none fault.0 fault.1)
+]
+
+turned_answered : (into_message : Bool) (names : FileNames) (found : Found) (input : List ℕ) → HasAllToTurn into_message names found input → HasAnswered (ReportsTurned into_message names found input)
+turned_answered true names found input has =
+    let next = message_answered has.conf has.list has.none in
+    (next.0, inl (has.conf, has.configured, inl (has.list, has.listed, next.1)), next.2)
+turned_answered false names found input has =
+    files_answered Nothing (λ taken. ReportsIntoFields taken.context) (λ taken. (fault : FromFault) → ¬ IsFromFault taken.context fault) (λ taken. fields_answered taken.context) names found input has
+
 command_answered : (command : CommandLine) (found : Found) (input : List ℕ) → HasAll command found input → HasAnswered (ReportsCommand command found input)
 command_answered Help found input has = (Done help_text, refl, inl refl)
 command_answered (HelpOf command) found input has = (Done (TITLE_TEXT.now ++ text_of command), refl, inl refl)
@@ -228,6 +260,7 @@ command_answered (Audit words) found input has =
     let next = audit_answered has.conf input has.items has.recorded has.none in
     (next.0, inl (has.conf, has.configured, next.1), next.2)
 command_answered (Gateway words) found input has = absurd has
+command_answered (Lists words) found input has = turned_answered words.into_message (name_of (Lists words)) found input has
 command_answered (Sample words) found input has = sampling_answer words.seed words.count
 
 pub complete_law : IsComplete

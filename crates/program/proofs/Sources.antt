@@ -35,7 +35,7 @@ use Rattle.refusals.specs.declared.refusal.TheConstants.{MAX_INPUT_BYTES}
 use Rattle.refusals.specs.declared.refusal.Refusal.TheVariants.{Arguments, Of, Command}
 use Rattle.refusals.specs.declared.role.Role.TheVariants.{Conf, Request, Wanted, Script, Other, Input, Item}
 use Rattle.refusals.specs.declared.file.FileRefusal.{FileRefusal}
-use Rattle.refusals.specs.declared.file.FileRefusal.TheVariants.{Missing, TooLong, Message as NoMessage, Conf as NoConf, Script as NoScript, Recording as NoRecording, Order, TooManyHops, OutOfPlace, TooManyItems}
+use Rattle.refusals.specs.declared.file.FileRefusal.TheVariants.{Missing, TooLong, Message as NoMessage, Conf as NoConf, Script as NoScript, Recording as NoRecording, Order, TooManyHops, OutOfPlace, TooManyItems, Fields}
 use Rattle.commands.specs.declared.outcome.Outcome.{Outcome}
 use Rattle.commands.specs.declared.outcome.Outcome.TheVariants.{Done, NotOk, Refused}
 use Rattle.commands.specs.declared.stop.Stop.{Stop}
@@ -97,6 +97,7 @@ after_input Same before now none (Refused (Of Input (Order n))) after = absurd a
 after_input Same before now none (Refused (Of Input (TooManyHops n))) after = absurd after
 after_input Same before now none (Refused (Of Input (OutOfPlace n))) after = absurd after
 after_input Same before now none (Refused (Of Input (TooManyItems n))) after = absurd after
+after_input Same before now none (Refused (Of Input (Fields f))) after = absurd after
 after_input Same before now none (Refused (Of (Item n) r)) after = absurd after
 after_input Same before now none (Refused (Command r)) after = none
 
@@ -135,6 +136,7 @@ after_cause reading input (Order n) short is = absurd is
 after_cause reading input (TooManyHops n) short is = absurd is
 after_cause reading input (OutOfPlace n) short is = absurd is
 after_cause reading input (TooManyItems n) short is = absurd is
+after_cause reading input (Fields f) short is = absurd is
 after_cause reading input (TooLong n) short is = absurd (omega (arith, short, is.1))
 after_cause reading input (NoMessage f) short is = tt
 

@@ -1,20 +1,26 @@
 -- Laws of what the program answers.
-use Rattle.std.specs.Prelude.{◌≡◌, ◌⊎◌, ⊤, ℕ, IsTrue, IsFalse, IsSomeAnd, List, [], ◌∷◌, Option, Some, None}
+use Rattle.std.specs.Prelude.{◌≡◌, ◌≢◌, ◌⊎◌, ◌↔◌, ⊤, ℕ, Bool, false, true, IsTrue, IsFalse, IsSomeAnd, List, [], ◌∷◌, Option, Some, None, Result, codes}
 use Rattle.std.specs.List.{list_all, list_any}
 use Rattle.hms_io.specs.declared.status.Status.{Status}
 use Rattle.hms_io.specs.declared.status.Status.TheVariants.{Done, NotOk}
 use Rattle.sfv_text.specs.Classes.{is_byte}
-use Rattle.command_line.specs.Command.{CommandLine, Help, HelpOf, Version, Base, Verify, Sign, Rewrite, Explain, Audit, Gateway, Sample, SignWords, VerifyWords, RewriteWords, AuditWords, GatewayWords, IsCommand}
+use Rattle.command_line.specs.Command.{CommandLine, Help, HelpOf, Version, Base, Verify, Sign, Rewrite, Explain, Audit, Gateway, Lists, Sample, SignWords, VerifyWords, RewriteWords, AuditWords, GatewayWords, ListsWords, IsCommand}
+use Rattle.component_ids.specs.declared.id.ComponentId.{ComponentId}
 use Rattle.component_ids.specs.declared.params.SigParams.{SigParams}
 use Rattle.component_values.specs.Context.{MessageContext, context_with}
-use Rattle.component_values.specs.Values.{HaveValues}
-use Rattle.msg_body.specs.Messages.{Message}
+use Rattle.component_values.specs.Values.{ComesTo, HaveValues}
+use Rattle.derived_values.specs.declared.lack.Lack.{Lack}
+use Rattle.msg_body.specs.Messages.{Message, IsMessage, message_text}
+use Rattle.msg_body.specs.Views.{message_content}
+use Rattle.msg_body.specs.WholeTexts.{reading_for}
 use Rattle.conf.specs.Configuration.{Configuration}
 use Rattle.commands.specs.Audit.{IsChainRefused, IsRecordingText, audit_outcome}
 use Rattle.commands.specs.Configured.{IsConfigured}
 use Rattle.commands.specs.Covered.{ReadsParams}
 use Rattle.commands.specs.Files.{FileNames, Found, FileRole, Conf as ConfFile, Request as RequestFile, Wanted as WantedFile, Script as ScriptFile}
 use Rattle.commands.specs.Layers.{HasAnswer, IsDecisive, IsUnrefused}
+use Rattle.commands.specs.Lists.{IsListText}
+use Rattle.commands.specs.Messages.{IsInputMessage}
 use Rattle.commands.specs.Outcome.{status_of}
 use Rattle.commands.specs.MessageFiles.{IsWanted, IsOfBytes}
 use Rattle.commands.specs.Rewrite.{IsTaken}
@@ -27,6 +33,14 @@ use Rattle.commands.specs.declared.outcome.Outcome.TheVariants.{Done as Written,
 use Rattle.commands.specs.declared.tables.Needs.{Needs}
 use Rattle.commands.specs.declared.tables.Needs.TheVariants.{Nothing, SignTable, GatewayTables}
 use Rattle.framing.specs.Framings.{is_request}
+use Rattle.list_texts.specs.Lists.{list_text}
+use Rattle.list_texts.specs.declared.list.FieldList.{FieldList}
+use Rattle.field_lists.specs.FromCauses.{IsFromFault}
+use Rattle.field_lists.specs.Laws.{IsOwn, alone}
+use Rattle.field_lists.specs.ListValues.{ListComesTo}
+use Rattle.field_lists.specs.ToCauses.{IsToFault, is_refused_name}
+use Rattle.field_lists.specs.declared.from_fault.FromFault.{FromFault}
+use Rattle.field_lists.specs.declared.to_fault.ToFault.{ToFault}
 use Rattle.rewrite_script.specs.declared.rewrite.Rewrite.{Rewrite as Rewriting}
 use Rattle.recording.specs.Items.{PlacedItem}
 use Rattle.settings.specs.declared.gateway_conf.GatewayConf.{GatewayConf}
@@ -47,6 +61,7 @@ use Rattle.signing.specs.Asked.{IsSpecOf}
 use Rattle.signing.specs.Signed.{IsSignedMessage}
 use Rattle.signing.specs.Wishes.{AreWished}
 use Rattle.signing.specs.declared.spec.SignSpec.{SignSpec}
+use Rattle.verdicts.specs.Contexts.{context_for}
 use Rattle.verdicts.specs.Laws.{is_rule_of_signing}
 use Rattle.verdicts.specs.Rules.{key_in}
 use Rattle.verdicts.specs.declared.outcome.Verdict.{Verdict}
@@ -144,6 +159,22 @@ pub record IsAuditable (words : AuditWords) (found : Found) (input : List ℕ) :
   pub recorded : IsRecordingText input items
   pub none : (refusal : Refusal) → ¬ IsChainRefused items refusal
 
+-- the file of this name says a configuration, and the input is a list that it turns into a message
+pub record IsTurnable (names : FileNames) (found : Found) (input : List ℕ) : Type 0 where
+  pub conf : Configuration
+  pub configured : IsConfigured (names ConfFile) (found ConfFile) conf
+  pub list : FieldList
+  pub listed : IsListText input list
+  pub none : (fault : ToFault) → ¬ IsToFault list conf.scheme fault
+
+-- all is there for a list that is turned into a message, or for a message that is turned into a
+-- list
+abbrev pub HasAllToTurn : Bool → FileNames → Found → List ℕ → Type 0
+HasAllToTurn true names found input = IsTurnable names found input
+HasAllToTurn false names found input =
+    IsServed Nothing names found input
+    (λ taken. (fault : FromFault) → ¬ IsFromFault taken.context fault)
+
 -- the command has all that it needs; of `gateway` it is said with what it writes
 abbrev pub HasAll : CommandLine → Found → List ℕ → Type 0
 HasAll Help found input = ⊤
@@ -165,6 +196,8 @@ HasAll (Explain words) found input =
     (λ taken. IsExplainDone words.label taken.other taken.context)
 HasAll (Audit words) found input = IsAuditable words found input
 HasAll (Gateway words) found input = ⊥
+HasAll (Lists words) found input =
+    HasAllToTurn words.into_message (name_of (Lists words)) found input
 HasAll (Sample words) found input = ⊤
 
 -- the outcome is what was asked for, and no refusal
@@ -257,6 +290,47 @@ IsVerdictKept =
     → (Reports verifying other written outcome → Reports verifying other input outcome)
     × (IsTrue (list_all is_byte written) → Reports verifying other input outcome
     → Reports verifying other written outcome)
+
+-- ---- what is turned
+
+-- The input is the text of a list, and the text that of a message. A component that is drawn from
+-- the message itself comes to the same in both, but for the lines that say where the message goes
+-- and how it is sent.
+pub record IsSameMessage (conf : Configuration) (input written : List ℕ) : Type 0 where
+  pub list : FieldList
+  pub listed : IsListText input list
+  pub message : Message
+  pub whole : IsMessage false message
+  pub written_is : written ≡ message_text message
+  pub content : message_content message ≡ list.content
+  pub same : (id : ComponentId) (result : Result (List ℕ) Lack)
+      → IsOwn id → id.name ≢ codes "host" → id.name ≢ codes "transfer-encoding"
+      → ListComesTo list conf.types id result
+      ↔ ComesTo (alone message conf.scheme conf.types) id result
+
+-- The input is the text of a message, and the text that of a list. A component that is drawn from
+-- the message itself comes to the same in both, but for fields that no list has.
+pub record IsSameList (conf : Configuration) (input written : List ℕ) : Type 0 where
+  pub message : Message
+  pub is : IsInputMessage (reading_for None) input message
+  pub list : FieldList
+  pub written_is : written ≡ list_text list
+  pub same : (id : ComponentId) (result : Result (List ℕ) Lack)
+      → IsOwn id → IsFalse (is_refused_name id.name)
+      → ListComesTo list conf.types id result
+      ↔ ComesTo (context_for conf message None) id result
+
+abbrev pub IsSameTurned : Bool → Configuration → List ℕ → List ℕ → Type 0
+IsSameTurned true = IsSameMessage
+IsSameTurned false = IsSameList
+
+-- What `lists` writes has the values of its input, by the configuration in its file.
+abbrev pub IsSameWhereTurned : Type 0
+IsSameWhereTurned =
+    (arguments : List (List ℕ)) (words : ListsWords) (found : Found) (input written : List ℕ)
+    → IsCommand arguments (Lists words) → Reports arguments found input (Written written)
+    → (conf : Configuration) × IsConfigured words.conf (found ConfFile) conf
+    × IsSameTurned words.into_message conf input written
 
 -- ---- what is audited
 

@@ -1,7 +1,7 @@
 -- What the program answers for its arguments, what was found in its files, and its input, and for
 -- nothing else.
-use Rattle.std.specs.Prelude.{⊤, ℕ, IsSomeAnd, List}
-use Rattle.command_line.specs.Command.{CommandLine, Help, HelpOf, Version, Base, Verify, Sign, Rewrite, Explain, Audit, Gateway, Sample, IsCommand, NoCommand}
+use Rattle.std.specs.Prelude.{⊤, ℕ, Bool, false, true, IsSomeAnd, List}
+use Rattle.command_line.specs.Command.{CommandLine, Help, HelpOf, Version, Base, Verify, Sign, Rewrite, Explain, Audit, Gateway, Lists, Sample, IsCommand, NoCommand}
 use Rattle.conf.specs.Configuration.{Configuration}
 use Rattle.commands.specs.Audit.{ReportsAudit}
 use Rattle.commands.specs.Base.{ReportsBase}
@@ -9,6 +9,7 @@ use Rattle.commands.specs.Configured.{IsConfigured, IsConfRefused}
 use Rattle.commands.specs.Explain.{ReportsExplanation}
 use Rattle.commands.specs.Files.{FileNames, Found, Conf as ConfFile}
 use Rattle.commands.specs.Layers.{ReadsThen}
+use Rattle.commands.specs.Lists.{ReportsIntoFields, ReportsIntoMessage}
 use Rattle.commands.specs.Rewrite.{ReportsRewriting}
 use Rattle.commands.specs.Sample.{ReportsSample}
 use Rattle.commands.specs.Sign.{ReportsSigning}
@@ -39,6 +40,13 @@ ReportsConfigured Then names found =
     ReadsThen (IsConfigured (names ConfFile) (found ConfFile))
     (IsConfRefused (names ConfFile) (found ConfFile)) (λ refusal. Of Conf refusal) Then
 
+-- what comes of a list of fields, by the configuration of these names, or of a message
+abbrev pub ReportsTurned : Bool → FileNames → Found → List ℕ → Outcome → Type 0
+ReportsTurned true names found input =
+    ReportsConfigured (λ conf. ReportsIntoMessage conf input) names found
+ReportsTurned false names found input =
+    ReportsFiles Nothing (λ taken. ReportsIntoFields taken.context) names found input
+
 -- What a command comes to over what was found and an input. What `gateway` writes isn't known
 -- before its input is read, so it has no outcome of this kind.
 abbrev pub ReportsCommand : CommandLine → Found → List ℕ → Outcome → Type 0
@@ -67,12 +75,14 @@ ReportsCommand (Explain words) found input =
 ReportsCommand (Audit words) found input =
     ReportsConfigured (λ conf. ReportsAudit conf input) (name_of (Audit words)) found
 ReportsCommand (Gateway words) found input = λ outcome. ⊥
+ReportsCommand (Lists words) found input =
+    ReportsTurned words.into_message (name_of (Lists words)) found input
 ReportsCommand (Sample words) found input = ReportsSample words.seed words.count
 
 -- The outcome for these arguments, what was found and this input. The arguments are judged first,
 -- then the configuration, the request, the message that wishes signatures, the script, the other
--- record of the message, the input, and the command over them; of `audit` the configuration, and
--- then the input.
+-- record of the message, the input, and the command over them; of `audit`, and of `lists` over a
+-- list, the configuration, and then the input.
 abbrev pub Reports : List (List ℕ) → Found → List ℕ → Outcome → Type 0
 Reports arguments found input =
     ReadsThen (IsCommand arguments) (λ (_ : ⊤). NoCommand arguments) (λ _. Arguments) (λ command.

@@ -19,8 +19,8 @@ ghost use Rattle.program.specs.tools.Parts.{AsksOf, CountsOne, IsWritten, IsWrit
 use crate::ended::Ended;
 use crate::help::{help_outcome, version_outcome, write_help_of};
 use crate::over_message::over_message;
-use crate::over_recording::over_recording;
 use crate::over_stream::over_stream;
+use crate::over_text::over_text;
 use command_line::{Command, GatewayWords, read_words};
 use commands::{Outcome, Stop, sample_outcome};
 use hms_io::{Failed, Shelf, Sink, Source, Status, put_all};
@@ -70,9 +70,16 @@ fn run_command<F: Shelf, S: Source>(
         Command::Sign(words) => over_message(alloc, &words, shelf, source),
         Command::Rewrite(words) => over_message(alloc, &words, shelf, source),
         Command::Explain(words) => over_message(alloc, &words, shelf, source),
-        Command::Audit(words) => over_recording(alloc, &words, shelf, source),
+        Command::Audit(words) => over_text(alloc, &words, shelf, source),
         // what it writes isn't known before all is read
         Command::Gateway(_) => unreachable!(),
+        Command::Lists(words) => {
+            if words.into_message {
+                over_text(alloc, &words, shelf, source)
+            } else {
+                over_message(alloc, &words, shelf, source)
+            }
+        }
         Command::Sample(words) => sample_outcome(alloc, words.seed, words.count),
     }
 }

@@ -86,6 +86,16 @@ pub const GATEWAY_TEXT: &str = "
       hms gateway --conf gateway.toml < stream.rec
 ";
 
+/// What `lists` does.
+pub const LISTS_TEXT: &str = "
+  hms lists --into message|fields [--conf FILE] < LIST
+      The message of HTTP/1.1 that LIST, the fields of a message of HTTP/2 or
+      HTTP/3 as they were recorded, stands for; or, with `--into fields`, the
+      list of a message. FILE gives the scheme.
+
+      hms lists --into message < fields.txt
+";
+
 /// What `sample` does.
 pub const SAMPLE_TEXT: &str = "
   hms sample SEED COUNT
@@ -103,8 +113,8 @@ pub const END_TEXT: &str = "
   hms --help
   hms --version
 
-One whole message, or one whole recording, is read from standard input. All
-output, refusals included, goes to standard output.
+One whole message, recording or list is read from standard input. All output,
+refusals included, goes to standard output.
 
   0  done                             5  a write failed
   1  a line says what isn't right     6  out of memory
@@ -116,7 +126,7 @@ The manual page is hms(1), the whole manual docs/MANUAL.md.
 ";
 
 /// The commands, in the order of the help.
-pub const COMMANDS: [CommandName; 8] = [
+pub const COMMANDS: [CommandName; 9] = [
     CommandName::Verify,
     CommandName::Base,
     CommandName::Sign,
@@ -124,6 +134,7 @@ pub const COMMANDS: [CommandName; 8] = [
     CommandName::Explain,
     CommandName::Audit,
     CommandName::Gateway,
+    CommandName::Lists,
     CommandName::Sample,
 ];
 
@@ -139,6 +150,7 @@ fn text_of(command: CommandName) -> &'static str
         CommandName::Explain => EXPLAIN_TEXT,
         CommandName::Audit => AUDIT_TEXT,
         CommandName::Gateway => GATEWAY_TEXT,
+        CommandName::Lists => LISTS_TEXT,
         CommandName::Sample => SAMPLE_TEXT,
     }
 }

@@ -1,6 +1,6 @@
 //! Laws of what the program answers. Each function does nothing; its contract is the law.
 
-ghost use Rattle.program.specs.Laws.{HasIntake, HasOneReport, HasSomeReport, IsComplete, IsServedInPlace, IsIntakeDecided, IsAcceptedWhereSigned, IsVerdictKept, IsKeptWherePermitted, IsLineWhereRefused};
+ghost use Rattle.program.specs.Laws.{HasIntake, HasOneReport, HasSomeReport, IsComplete, IsServedInPlace, IsIntakeDecided, IsAcceptedWhereSigned, IsVerdictKept, IsKeptWherePermitted, IsLineWhereRefused, IsSameWhereTurned};
 ghost use Rattle.program.specs.Meanings.{HasExplanation, HasOneBase, HasOneChain, HasSigned, HaveOneMeaning, RunsAgreeWhereOneTag};
 
 /// For given arguments, files and input there is one outcome, and so one status and one output. So
@@ -86,4 +86,11 @@ pub fn what_is_kept_has_one_base()
 /// don't.
 pub fn what_is_explained_agrees()
     ensures { HasExplanation }
+{}
+
+/// What `lists` writes is the message of the list that it read, or the list of the message, and
+/// each component that is drawn from the message itself comes to the same in both, but for the
+/// lines that only one of them has.
+pub fn what_is_turned_has_the_same_values()
+    ensures { IsSameWhereTurned }
 {}

@@ -23,11 +23,11 @@ ghost use Rattle.program.specs.Report.{ReportsFiles};
 ghost use Rattle.program.specs.tools.Parts.{Asks, AsksUntil, CountsOne, HasOther, IsAfterInput, IsOwn, ReportsMessage, ReportsRecord, roles_read, values_of};
 
 use crate::intake::{FileWords, FilesRead, Taken};
-use command_line::{BaseWords, ExplainWords, RewriteWords, SignWords, VerifyWords};
+use command_line::{BaseWords, ExplainWords, ListsWords, RewriteWords, SignWords, VerifyWords};
 use commands::{
     Needs, Outcome, Reading, Stop, base_outcome, check_tables, context_for, explain_outcome,
-    fetch_message, fetched_message, message_of_role, read_configuration, read_script_file,
-    rewrite_outcome, sign_outcome, verify_outcome, wished_outcome,
+    fetch_message, fetched_message, list_outcome, message_of_role, read_configuration,
+    read_script_file, rewrite_outcome, sign_outcome, verify_outcome, wished_outcome,
 };
 use conf::Conf;
 use hms_io::{Shelf, Source, fill};
@@ -258,6 +258,40 @@ impl<'a> OverMessage for ExplainWords<'a> {
             // the file of the other record has a name
             None => unreachable!(),
         }
+    }
+}
+
+impl<'a> OverMessage for ListsWords<'a> {
+    ghost use Rattle.std.specs.Prelude.{⊤, None, option_map};
+    ghost use Rattle.commands.specs.Files.{file_names};
+    ghost use Rattle.commands.specs.Lists.{ReportsIntoFields};
+    ghost use Rattle.commands.specs.declared.tables.Needs.TheVariants.{Nothing};
+
+    ghost is_in_range = { λ words. ⊤ };
+
+    ghost names = { λ words. file_names (option_map (λ word. word.now) words.conf)
+        None None None None };
+
+    ghost tables = { λ words. Nothing };
+
+    ghost reports = { λ words taken. ReportsIntoFields taken.context };
+
+    fn files<'s>(&'s self) -> FileWords<'s> {
+        FileWords {
+            conf: self.conf,
+            request: None,
+            wanted: None,
+            script: None,
+            other: None,
+        }
+    }
+
+    fn needs(&self) -> Needs {
+        Needs::Nothing
+    }
+
+    fn answer(&self, alloc: Global, taken: &Taken<'_>) -> Result<Outcome, Stop> {
+        list_outcome(alloc, taken.context)
     }
 }
 

@@ -9,6 +9,16 @@ use Rattle.byte_grammar.proofs.ListLaws.{all_joined}
 use Rattle.derived_values.specs.Words.{lack_word}
 use Rattle.derived_values.specs.declared.lack.Lack.{Lack}
 use Rattle.derived_values.specs.declared.lack.Lack.TheVariants as lack
+use Rattle.field_lists.specs.Words.{from_fault_text, limit_text, to_fault_text}
+use Rattle.field_lists.specs.declared.from_fault.FromFault.{FromFault}
+use Rattle.field_lists.specs.declared.from_fault.FromFault.TheVariants as from
+use Rattle.field_lists.specs.declared.to_fault.MessageLimit.{MessageLimit}
+use Rattle.field_lists.specs.declared.to_fault.MessageLimit.TheVariants.{HeadBytes, TrailerBytes, HeadLines, TrailerLines}
+use Rattle.field_lists.specs.declared.to_fault.ToFault.{ToFault}
+use Rattle.field_lists.specs.declared.to_fault.ToFault.TheVariants as to
+use Rattle.list_texts.specs.Words.{fields_fault_text}
+use Rattle.list_texts.specs.declared.fault.FieldsFault.{FieldsFault}
+use Rattle.list_texts.specs.declared.fault.FieldsFault.TheVariants as fields
 use Rattle.msg_head.specs.declared.error.Side.{Side}
 use Rattle.msg_head.specs.declared.error.Side.TheVariants.{Header, Trailer}
 use Rattle.msg_head.specs.Words.{side_text}
@@ -41,9 +51,9 @@ use Rattle.refusals.specs.Laws.{IsLineOfRefusal, is_clean, is_clean_command, is_
 use Rattle.refusals.specs.Refusal.{command_text, refusal_text, step_text}
 use Rattle.refusals.specs.Texts.{file_text, path_text, role_text}
 use Rattle.refusals.specs.declared.file.FileRefusal.{FileRefusal}
-use Rattle.refusals.specs.declared.file.FileRefusal.TheVariants.{Missing, TooLong, Message, Conf, Script, Recording, Order, TooManyHops, OutOfPlace, TooManyItems}
+use Rattle.refusals.specs.declared.file.FileRefusal.TheVariants.{Missing, TooLong, Message, Conf, Script, Recording, Order, TooManyHops, OutOfPlace, TooManyItems, Fields}
 use Rattle.refusals.specs.declared.refusal.CommandRefusal.{CommandRefusal}
-use Rattle.refusals.specs.declared.refusal.CommandRefusal.TheVariants.{Syntax, Ids, Lacks, Sign, Wishes, NotTaken, Explain}
+use Rattle.refusals.specs.declared.refusal.CommandRefusal.TheVariants.{Syntax, Ids, Lacks, Sign, Wishes, NotTaken, Explain, ToMessage, FromMessage}
 use Rattle.refusals.specs.declared.refusal.Refusal.{Refusal}
 use Rattle.refusals.specs.declared.refusal.Refusal.TheVariants.{Arguments, Of, Command}
 use Rattle.refusals.specs.declared.refusal.StepRefusal.{StepRefusal}
@@ -125,6 +135,11 @@ recording_clean (recording.Syntax offset) = worded (codes "recording ") offset r
 recording_clean (recording.ItemTooLong offset) = worded (codes "item ") _ refl
 recording_clean (recording.MomentFalls offset) = worded (codes "moment ") offset refl
 
+fields_clean : (f : FieldsFault) → IsClean (fields_fault_text f)
+fields_clean fields.Memory = refl
+fields_clean (fields.Syntax offset) = worded (codes "fields ") offset refl
+fields_clean (fields.TooLong offset) = worded (codes "fields-long ") offset refl
+
 file_clean : (refusal : FileRefusal) → is_clean_file refusal ≡ true → IsClean (file_text refusal)
 file_clean Missing clean = refl
 file_clean (TooLong limit) clean = worded (codes "bytes ") limit refl
@@ -136,6 +151,7 @@ file_clean (Order offset) clean = worded (codes "chain ") offset refl
 file_clean (TooManyHops limit) clean = worded (codes "hops ") limit refl
 file_clean (OutOfPlace offset) clean = worded (codes "chain ") offset refl
 file_clean (TooManyItems limit) clean = worded (codes "items ") limit refl
+file_clean (Fields f) clean = fields_clean f
 
 role_clean : (r : Role) → IsClean (role_text r)
 role_clean role.Conf = refl
@@ -201,6 +217,26 @@ explain_clean explain.Unread = refl
 explain_clean (explain.NotPlain index) = worded (codes "not-plain ") index refl
 explain_clean (explain.OtherBasis b) = joined (codes "basis ") (basis_text b) refl (basis_clean b)
 
+part_clean : (limit : MessageLimit) → IsClean (limit_text limit)
+part_clean HeadBytes = worded (codes "head-bytes ") _ refl
+part_clean TrailerBytes = worded (codes "trailer-bytes ") _ refl
+part_clean HeadLines = worded (codes "head-lines ") _ refl
+part_clean TrailerLines = worded (codes "trailer-lines ") _ refl
+
+to_clean : (f : ToFault) → IsClean (to_fault_text f)
+to_clean to.Memory = refl
+to_clean to.Pseudo = refl
+to_clean to.SchemeOther = refl
+to_clean (to.BadField index) = worded (codes "fields-line ") index refl
+to_clean to.BadLength = refl
+to_clean to.BodyRefused = refl
+to_clean (to.TooLarge limit) = part_clean limit
+
+from_clean : (f : FromFault) → IsClean (from_fault_text f)
+from_clean from.Memory = refl
+from_clean from.NoForm = refl
+from_clean from.NoAuthority = refl
+
 command_clean : (refusal : CommandRefusal) → is_clean_command refusal ≡ true → IsClean (command_text refusal)
 command_clean (Syntax offset) clean = worded (codes "params-syntax ") offset refl
 command_clean (Ids f) clean = clean
@@ -209,6 +245,8 @@ command_clean (Sign f) clean = sign_clean f
 command_clean (Wishes f) clean = want_clean f
 command_clean (NotTaken cause) clean = step_clean cause
 command_clean (Explain f) clean = explain_clean f
+command_clean (ToMessage f) clean = to_clean f
+command_clean (FromMessage f) clean = from_clean f
 
 -- ---- the line
 

@@ -1,4 +1,8 @@
 -- The status of a refusal.
+use Rattle.field_lists.specs.declared.to_fault.ToFault.{ToFault}
+use Rattle.field_lists.specs.declared.to_fault.ToFault.TheVariants as to
+use Rattle.list_texts.specs.declared.fault.FieldsFault.{FieldsFault}
+use Rattle.list_texts.specs.declared.fault.FieldsFault.TheVariants as fields
 use Rattle.msg_body.specs.declared.error.MessageError.{MessageError}
 use Rattle.msg_body.specs.declared.error.MessageError.TheVariants as error
 use Rattle.msg_body.specs.declared.error.MessageFault.{MessageFault}
@@ -6,13 +10,13 @@ use Rattle.msg_body.specs.declared.error.MessageFault.TheVariants as fault
 use Rattle.recording.specs.declared.fault.RecordingFault.{RecordingFault}
 use Rattle.recording.specs.declared.fault.RecordingFault.TheVariants as recording
 use Rattle.refusals.specs.Laws.{IsOfRefusal, HasStatusOfRefusal}
-use Rattle.refusals.specs.Refusal.{command_status, sign_status}
-use Rattle.refusals.specs.Texts.{message_status, fault_status, script_status, recording_status, file_status}
+use Rattle.refusals.specs.Refusal.{command_status, sign_status, to_status}
+use Rattle.refusals.specs.Texts.{message_status, fault_status, script_status, recording_status, fields_status, file_status}
 use Rattle.refusals.specs.declared.file.FileRefusal.{FileRefusal}
-use Rattle.refusals.specs.declared.file.FileRefusal.TheVariants.{Missing, TooLong, Message, Conf, Script, Recording, Order, TooManyHops, OutOfPlace, TooManyItems}
+use Rattle.refusals.specs.declared.file.FileRefusal.TheVariants.{Missing, TooLong, Message, Conf, Script, Recording, Order, TooManyHops, OutOfPlace, TooManyItems, Fields}
 use Rattle.refusals.specs.declared.refusal.Refusal.TheVariants.{Arguments, Of, Command}
 use Rattle.refusals.specs.declared.refusal.CommandRefusal.{CommandRefusal}
-use Rattle.refusals.specs.declared.refusal.CommandRefusal.TheVariants.{Syntax, Ids, Lacks, Sign, Wishes, NotTaken, Explain}
+use Rattle.refusals.specs.declared.refusal.CommandRefusal.TheVariants.{Syntax, Ids, Lacks, Sign, Wishes, NotTaken, Explain, ToMessage, FromMessage}
 use Rattle.rewrite_script.specs.declared.fault.ScriptFault.{ScriptFault}
 use Rattle.rewrite_script.specs.declared.fault.ScriptFault.TheVariants as script
 use Rattle.signing.specs.declared.fault.SignFault.{SignFault}
@@ -47,6 +51,11 @@ of_recording (recording.Syntax offset) = tt
 of_recording (recording.ItemTooLong offset) = tt
 of_recording (recording.MomentFalls offset) = tt
 
+of_fields : (f : FieldsFault) → IsOfRefusal (fields_status f)
+of_fields fields.Memory = tt
+of_fields (fields.Syntax offset) = tt
+of_fields (fields.TooLong offset) = tt
+
 of_file : (refusal : FileRefusal) → IsOfRefusal (file_status refusal)
 of_file Missing = tt
 of_file (TooLong limit) = tt
@@ -58,6 +67,7 @@ of_file (Order offset) = tt
 of_file (TooManyHops limit) = tt
 of_file (OutOfPlace offset) = tt
 of_file (TooManyItems limit) = tt
+of_file (Fields f) = of_fields f
 
 of_sign : (f : SignFault) → IsOfRefusal (sign_status f)
 of_sign sign.Memory = tt
@@ -68,6 +78,15 @@ of_sign (sign.SelfCover index) = tt
 of_sign (sign.TooLong limit) = tt
 of_sign (sign.Lacks index lack) = tt
 
+of_to : (f : ToFault) → IsOfRefusal (to_status f)
+of_to to.Memory = tt
+of_to to.Pseudo = tt
+of_to to.SchemeOther = tt
+of_to (to.BadField index) = tt
+of_to to.BadLength = tt
+of_to to.BodyRefused = tt
+of_to (to.TooLarge limit) = tt
+
 of_command : (refusal : CommandRefusal) → IsOfRefusal (command_status refusal)
 of_command (Syntax offset) = tt
 of_command (Ids f) = tt
@@ -76,6 +95,8 @@ of_command (Sign f) = of_sign f
 of_command (Wishes f) = tt
 of_command (NotTaken cause) = tt
 of_command (Explain f) = tt
+of_command (ToMessage f) = of_to f
+of_command (FromMessage f) = tt
 
 pub status_of_refusal : HasStatusOfRefusal
 status_of_refusal Arguments = tt

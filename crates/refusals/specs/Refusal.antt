@@ -4,6 +4,9 @@ use Rattle.std.specs.Fmt.{decimal}
 use Rattle.std.specs.Str.{byte}
 use Rattle.component_ids.specs.Causes.{id_fault_text}
 use Rattle.derived_values.specs.Words.{lack_word}
+use Rattle.field_lists.specs.Words.{from_fault_text, to_fault_text}
+use Rattle.field_lists.specs.declared.to_fault.ToFault.{ToFault}
+use Rattle.field_lists.specs.declared.to_fault.ToFault.TheVariants.{TooLarge}
 use Rattle.hms_io.specs.declared.status.Status.{Status}
 use Rattle.hms_io.specs.declared.status.Status.TheVariants.{BadArguments, BadInput, LimitPassed}
 use Rattle.normal_forms.specs.Words.{explain_fault_text}
@@ -14,7 +17,7 @@ use Rattle.refusals.specs.Texts.{role_text, file_text, file_status}
 use Rattle.refusals.specs.declared.refusal.Refusal.{Refusal}
 use Rattle.refusals.specs.declared.refusal.Refusal.TheVariants.{Arguments, Of, Command}
 use Rattle.refusals.specs.declared.refusal.CommandRefusal.{CommandRefusal}
-use Rattle.refusals.specs.declared.refusal.CommandRefusal.TheVariants.{Syntax, Ids, Lacks, Sign, Wishes, NotTaken, Explain}
+use Rattle.refusals.specs.declared.refusal.CommandRefusal.TheVariants.{Syntax, Ids, Lacks, Sign, Wishes, NotTaken, Explain, ToMessage, FromMessage}
 use Rattle.refusals.specs.declared.refusal.StepRefusal.{StepRefusal}
 use Rattle.refusals.specs.declared.refusal.StepRefusal.TheVariants.{LabelUnread, NotApplicable, NotPermitted}
 
@@ -25,7 +28,8 @@ step_text (NotApplicable index) = codes "not-applicable " ++ decimal index
 step_text (NotPermitted index) = codes "not-permitted " ++ decimal index
 
 -- why PARAMS are refused, which component lacks a value and how, why the message isn't signed, why
--- the wishes aren't met, why a step of a script isn't taken, or why two messages aren't explained
+-- the wishes aren't met, why a step of a script isn't taken, why two messages aren't explained, or
+-- why a list of fields is turned into no message, or a message into no list
 abbrev pub command_text : CommandRefusal → List ℕ
 command_text (Syntax offset) = codes "params-syntax " ++ decimal offset
 command_text (Ids fault) = id_fault_text fault
@@ -34,6 +38,8 @@ command_text (Sign fault) = sign_fault_text fault
 command_text (Wishes fault) = want_fault_text fault
 command_text (NotTaken cause) = step_text cause
 command_text (Explain fault) = explain_fault_text fault
+command_text (ToMessage fault) = to_fault_text fault
+command_text (FromMessage fault) = from_fault_text fault
 
 -- what is refused, and why
 abbrev pub refusal_text : Refusal → List ℕ
@@ -50,6 +56,11 @@ abbrev pub sign_status : SignFault → Status
 sign_status (TooLong limit) = LimitPassed
 sign_status fault = BadInput
 
+-- a limit that the message of a list would pass, or else a bad input
+abbrev pub to_status : ToFault → Status
+to_status (TooLarge limit) = LimitPassed
+to_status fault = BadInput
+
 -- the status that a command's own refusal gives
 abbrev pub command_status : CommandRefusal → Status
 command_status (Syntax offset) = BadInput
@@ -59,6 +70,8 @@ command_status (Sign fault) = sign_status fault
 command_status (Wishes fault) = BadInput
 command_status (NotTaken cause) = BadInput
 command_status (Explain fault) = BadInput
+command_status (ToMessage fault) = to_status fault
+command_status (FromMessage fault) = BadInput
 
 -- the status of a refusal, by what is refused and why
 abbrev pub refusal_status : Refusal → Status

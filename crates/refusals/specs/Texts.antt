@@ -16,10 +16,13 @@ use Rattle.rewrite_script.specs.declared.fault.ScriptFault.TheVariants as script
 use Rattle.recording.specs.Words.{recording_fault_text}
 use Rattle.recording.specs.declared.fault.RecordingFault.{RecordingFault}
 use Rattle.recording.specs.declared.fault.RecordingFault.TheVariants as recording
+use Rattle.list_texts.specs.Words.{fields_fault_text}
+use Rattle.list_texts.specs.declared.fault.FieldsFault.{FieldsFault}
+use Rattle.list_texts.specs.declared.fault.FieldsFault.TheVariants as fields
 use Rattle.refusals.specs.declared.role.Role.{Role}
 use Rattle.refusals.specs.declared.role.Role.TheVariants as role
 use Rattle.refusals.specs.declared.file.FileRefusal.{FileRefusal}
-use Rattle.refusals.specs.declared.file.FileRefusal.TheVariants.{Missing, TooLong, Message, Conf, Script, Recording, Order, TooManyHops, OutOfPlace, TooManyItems}
+use Rattle.refusals.specs.declared.file.FileRefusal.TheVariants.{Missing, TooLong, Message, Conf, Script, Recording, Order, TooManyHops, OutOfPlace, TooManyItems, Fields}
 
 -- how output calls the text
 abbrev pub role_text : Role → List ℕ
@@ -37,8 +40,8 @@ path_text None = []
 path_text (Some path) = byte " " ∷ path
 
 -- why the text is refused: no such file, its limit, its fault, its fault and the path of that, the
--- first item out of order, the limit of hops, the first item out of its place, or the limit of
--- items
+-- first item out of order, the limit of hops, the first item out of its place, the limit of items,
+-- or the fault of a list of fields
 abbrev pub file_text : FileRefusal → List ℕ
 file_text Missing = codes "missing"
 file_text (TooLong limit) = codes "bytes " ++ decimal limit
@@ -50,6 +53,7 @@ file_text (Order offset) = codes "chain " ++ decimal offset
 file_text (TooManyHops limit) = codes "hops " ++ decimal limit
 file_text (OutOfPlace offset) = codes "chain " ++ decimal offset
 file_text (TooManyItems limit) = codes "items " ++ decimal limit
+file_text (Fields fault) = fields_fault_text fault
 
 -- a message that passes a limit, or else a bad input
 abbrev pub message_status : MessageError → Status
@@ -73,8 +77,13 @@ abbrev pub recording_status : RecordingFault → Status
 recording_status (recording.ItemTooLong offset) = LimitPassed
 recording_status fault = BadInput
 
--- a missing file, a limit that is passed, or a bad message, configuration, script, recording, chain
--- or stream
+-- a name, a value or a content that is too long, or else a bad list of fields
+abbrev pub fields_status : FieldsFault → Status
+fields_status (fields.TooLong offset) = LimitPassed
+fields_status fault = BadInput
+
+-- a missing file, a limit that is passed, or a bad message, configuration, script, recording,
+-- chain, stream or list of fields
 abbrev pub file_status : FileRefusal → Status
 file_status Missing = FileMissing
 file_status (TooLong limit) = LimitPassed
@@ -86,3 +95,4 @@ file_status (Order offset) = BadInput
 file_status (TooManyHops limit) = LimitPassed
 file_status (OutOfPlace offset) = BadInput
 file_status (TooManyItems limit) = LimitPassed
+file_status (Fields fault) = fields_status fault

@@ -1,10 +1,11 @@
 //! Why a text is refused that a run reads, and the status that this gives.
 
 ghost use Rattle.std.specs.Prelude.{◌≡◌, ◌++◌, option_copied, OnOk};
-ghost use Rattle.refusals.specs.Texts.{path_text, file_text, message_status, fault_status, script_status, recording_status, file_status};
+ghost use Rattle.refusals.specs.Texts.{path_text, file_text, message_status, fault_status, script_status, recording_status, fields_status, file_status};
 
 use conf::ConfFault;
 use hms_io::Status;
+use list_texts::FieldsFault;
 use msg_body::{MessageError, MessageFault};
 use recording::RecordingFault;
 use rewrite_script::ScriptFault;
@@ -37,6 +38,8 @@ pub enum FileRefusal {
     OutOfPlace(u64),
     /// It is a recording of more items than this limit.
     TooManyItems(usize),
+    /// It is no list of fields. The fault is never out of memory.
+    Fields(FieldsFault),
 }
 
 impl FileRefusal {
@@ -55,6 +58,7 @@ impl FileRefusal {
             FileRefusal::TooManyHops(_) => Status::LimitPassed,
             FileRefusal::OutOfPlace(_) => Status::BadInput,
             FileRefusal::TooManyItems(_) => Status::LimitPassed,
+            FileRefusal::Fields(fault) => fields_status(*fault),
         }
     }
 }
@@ -97,6 +101,15 @@ fn recording_status(fault: RecordingFault) -> Status
     }
 }
 
+fn fields_status(fault: FieldsFault) -> Status
+    ensures { result ≡ fields_status fault }
+{
+    match fault {
+        FieldsFault::TooLong(_) => Status::LimitPassed,
+        _ => Status::BadInput,
+    }
+}
+
 /// Adds a path, after a space, where there is one.
 fn append_path(path: Option<&[u8]>, line: &mut Text) -> Result<(), Memory>
     ensures { OnOk result (line.new ≡ line.old ++ path_text (option_copied path.entry)) }
@@ -134,5 +147,9 @@ pub fn append_file(alloc: Global, refusal: &FileRefusal, line: &mut Text) -> Res
         FileRefusal::TooManyHops(limit) => append_number(alloc, b"hops ", *limit, line),
         FileRefusal::OutOfPlace(offset) => append_number(alloc, b"chain ", *offset as usize, line),
         FileRefusal::TooManyItems(limit) => append_number(alloc, b"items ", *limit, line),
+        FileRefusal::Fields(fault) => {
+            let text = format!(in alloc; "{fault}")?;
+            line.append(text.as_bytes())
+        }
     }
 }

@@ -7,6 +7,7 @@ ghost use Rattle.byte_grammar.specs.Classes.{is_line_byte};
 
 use crate::file::FileRefusal;
 use crate::hint_conf::conf_hint;
+use crate::hint_fields::{fields_hint, from_message_hint, to_message_hint};
 use crate::refusal::{CommandRefusal, Refusal, StepRefusal};
 use crate::role::Role;
 use component_ids::{BadReason, IdFault};
@@ -179,6 +180,7 @@ fn file_hint(role: Role, refusal: &FileRefusal) -> &'static str
              and directly after a `related` comes the `response` to it; a `script` is for audit"
         }
         FileRefusal::TooManyItems(_) => "there are more items than that",
+        FileRefusal::Fields(fault) => fields_hint(*fault),
     }
 }
 
@@ -390,6 +392,8 @@ fn command_hint(refusal: &CommandRefusal) -> &'static str
         CommandRefusal::Wishes(fault) => want_hint(fault),
         CommandRefusal::NotTaken(cause) => step_hint(*cause),
         CommandRefusal::Explain(fault) => explain_hint(*fault),
+        CommandRefusal::ToMessage(fault) => to_message_hint(*fault),
+        CommandRefusal::FromMessage(fault) => from_message_hint(*fault),
     }
 }
 

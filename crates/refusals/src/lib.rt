@@ -10,6 +10,7 @@
 mod file;
 mod hint;
 mod hint_conf;
+mod hint_fields;
 mod laws;
 mod limit_laws;
 mod refusal;

@@ -1,13 +1,14 @@
 //! Refusals: why a run is refused, the status that this gives, and the one line that says so.
 
 ghost use Rattle.std.specs.Prelude.{◌≡◌, IfOk};
-ghost use Rattle.refusals.specs.Refusal.{command_status, refusal_line, refusal_status, sign_status};
+ghost use Rattle.refusals.specs.Refusal.{command_status, refusal_line, refusal_status, sign_status, to_status};
 
 use crate::file::FileRefusal;
 use crate::refusal_text::append_refusal;
 use crate::role::Role;
 use component_ids::IdFault;
 use component_values::Lack;
+use field_lists::{FromFault, ToFault};
 use hms_io::Status;
 use normal_forms::ExplainFault;
 use sfv_text::{Memory, Text};
@@ -54,6 +55,10 @@ pub enum CommandRefusal {
     NotTaken(StepRefusal),
     /// The two records of a message aren't explained. The fault is never out of memory.
     Explain(ExplainFault),
+    /// A list of fields is turned into no message. The fault is never out of memory.
+    ToMessage(ToFault),
+    /// The message is turned into no list of fields. The fault is never out of memory.
+    FromMessage(FromFault),
 }
 
 /// Why a step of a script isn't taken.
@@ -99,6 +104,15 @@ fn sign_status(fault: SignFault) -> Status
     }
 }
 
+fn to_status(fault: ToFault) -> Status
+    ensures { result ≡ to_status fault }
+{
+    match fault {
+        ToFault::TooLarge(_) => Status::LimitPassed,
+        _ => Status::BadInput,
+    }
+}
+
 impl CommandRefusal {
     /// The status that the refusal gives.
     pub fn status(&self) -> Status
@@ -112,6 +126,8 @@ impl CommandRefusal {
             CommandRefusal::Wishes(_) => Status::BadInput,
             CommandRefusal::NotTaken(_) => Status::BadInput,
             CommandRefusal::Explain(_) => Status::BadInput,
+            CommandRefusal::ToMessage(fault) => to_status(*fault),
+            CommandRefusal::FromMessage(_) => Status::BadInput,
         }
     }
 }

@@ -4,6 +4,7 @@ ghost use Rattle.std.specs.Prelude.{◌≡◌, ◌++◌, ◌∷◌, codes, OnOk}
 ghost use Rattle.std.specs.Str.{byte};
 ghost use Rattle.component_ids.specs.Causes.{id_fault_text};
 ghost use Rattle.derived_values.specs.Words.{lack_word};
+ghost use Rattle.field_lists.specs.Words.{from_fault_text, to_fault_text};
 ghost use Rattle.normal_forms.specs.Words.{explain_fault_text};
 ghost use Rattle.signing.specs.Words.{sign_fault_text, want_fault_text};
 ghost use Rattle.refusals.specs.Texts.{role_text};
@@ -14,6 +15,7 @@ use crate::refusal::{CommandRefusal, Refusal, StepRefusal};
 use crate::role::Role;
 use component_ids::IdFault;
 use component_values::Lack;
+use field_lists::{FromFault, ToFault};
 use normal_forms::ExplainFault;
 use sfv_text::{Memory, Text, append_number, append_words};
 use signing::{SignFault, WantFault};
@@ -71,6 +73,20 @@ fn append_explain_fault(alloc: Global, fault: ExplainFault, line: &mut Text) -> 
     line.append(text.as_bytes())
 }
 
+fn append_to_fault(alloc: Global, fault: ToFault, line: &mut Text) -> Result<(), Memory>
+    ensures { OnOk result (line.new ≡ line.old ++ to_fault_text fault) }
+{
+    let text = format!(in alloc; "{fault}")?;
+    line.append(text.as_bytes())
+}
+
+fn append_from_fault(alloc: Global, fault: FromFault, line: &mut Text) -> Result<(), Memory>
+    ensures { OnOk result (line.new ≡ line.old ++ from_fault_text fault) }
+{
+    let text = format!(in alloc; "{fault}")?;
+    line.append(text.as_bytes())
+}
+
 fn append_command(alloc: Global, refusal: &CommandRefusal, line: &mut Text) -> Result<(), Memory>
     ensures { OnOk result (line.new ≡ line.old ++ command_text refusal.now) }
 {
@@ -82,6 +98,8 @@ fn append_command(alloc: Global, refusal: &CommandRefusal, line: &mut Text) -> R
         CommandRefusal::Wishes(fault) => append_want_fault(alloc, fault, line),
         CommandRefusal::NotTaken(cause) => append_step(alloc, *cause, line),
         CommandRefusal::Explain(fault) => append_explain_fault(alloc, *fault, line),
+        CommandRefusal::ToMessage(fault) => append_to_fault(alloc, *fault, line),
+        CommandRefusal::FromMessage(fault) => append_from_fault(alloc, *fault, line),
     }
 }
 

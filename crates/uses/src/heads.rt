@@ -1,13 +1,15 @@
-// Tests of msg_head and field_values.
+// Tests of line_index, msg_head and field_values.
 
 ghost use Rattle.std.specs.Iterator.{IsFinite};
 
 use field_values::{combined_pieces, count_lines, joined_value, line_pieces};
+use line_index::{LineIndex, LineSpan};
 use msg_body::{Expect, MessageRead, read_message};
 use msg_head::{
     HeadRead, HeadView, LineView, NamedFieldLines, Side, Start, TrailerRead, TrailerView,
     read_head, read_trailer,
 };
+use sfv_text::Memory;
 use std::alloc::Global;
 
 /// The text after the field line, where it begins with it.
@@ -149,4 +151,43 @@ fn are_combined(alloc: Global) -> bool {
 #[test]
 fn values_come_in_pieces(rt: HostRuntime) {
     assert!(rt; is_line() && are_combined(rt.alloc()));
+}
+
+const LINES: &[u8] = b"Host: a\r\nAccept: b\r\n";
+
+const HOST: LineSpan = LineSpan {
+    name: 0,
+    colon: 4,
+    end: 7,
+};
+
+const ACCEPT: LineSpan = LineSpan {
+    name: 9,
+    colon: 15,
+    end: 18,
+};
+
+// Whether the one line of the name is there.
+fn is_only(lines: &LineIndex<'_>, name: &[u8], span: LineSpan) -> bool {
+    let mut named = lines.named(name);
+    named.next() == Some(span) && named.is_empty()
+}
+
+// The example of line_index.
+fn are_found(alloc: Global) -> Result<bool, Memory> {
+    let mut spans = Vec::new(alloc);
+    spans.push(HOST)?;
+    spans.push(ACCEPT)?;
+    let lines = LineIndex::new(alloc, LINES, spans)?;
+    Ok(
+        lines.len() == 2
+            && is_only(&lines, b"host", HOST)
+            && is_only(&lines, b"accept", ACCEPT)
+            && lines.named(b"Host").is_empty(),
+    )
+}
+
+#[test]
+fn lines_are_found_by_name(rt: HostRuntime) {
+    assert!(rt; matches!(are_found(rt.alloc()), Ok(true)));
 }

@@ -30,6 +30,8 @@ mod digests;
 #[cfg(test)]
 mod explanations;
 #[cfg(test)]
+mod field_lists;
+#[cfg(test)]
 mod heads;
 #[cfg(test)]
 mod identifiers;
@@ -51,8 +53,6 @@ mod scripts;
 mod sign_runs;
 #[cfg(test)]
 mod signings;
-#[cfg(test)]
-mod spans;
 #[cfg(test)]
 mod values;
 #[cfg(test)]

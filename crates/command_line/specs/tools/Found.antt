@@ -6,7 +6,7 @@ use Rattle.sfv_text.specs.declared.pair.Pair.{Pair}
 use Rattle.command_line.specs.Options.{is_taken_by, option_of, row_of, words_of, AreOptions}
 use Rattle.command_line.specs.declared.options.CommandName.{CommandName}
 use Rattle.command_line.specs.declared.options.CommandOption.{CommandOption}
-use Rattle.command_line.specs.declared.options.CommandOption.TheVariants.{Conf, Now, Label, Request, Nonce, Wanted, Script, Other}
+use Rattle.command_line.specs.declared.options.CommandOption.TheVariants.{Conf, Now, Label, Request, Nonce, Wanted, Script, Other, Into}
 use Rattle.command_line.specs.declared.options.OptionWords.{OptionWords}
 
 -- the word of the option
@@ -19,6 +19,7 @@ word_in found Nonce = option_map (λ word. word.now) found.nonce
 word_in found Wanted = option_map (λ word. word.now) found.wanted
 word_in found Script = option_map (λ word. word.now) found.script
 word_in found Other = option_map (λ word. word.now) found.other
+word_in found Into = option_map (λ word. word.now) found.into
 
 -- the option with a word beside which this one can't come
 abbrev pub excluding_in : OptionWords → CommandOption → Option CommandOption
@@ -66,6 +67,7 @@ pub record HasOptions (command : CommandName) (words : List (List ℕ)) (found :
   pub wanted_is : IsWordOf words (codes "--wanted") (option_map (λ word. word.now) found.wanted)
   pub script_is : IsWordOf words (codes "--script") (option_map (λ word. word.now) found.script)
   pub other_is : IsWordOf words (codes "--other") (option_map (λ word. word.now) found.other)
+  pub into_is : IsWordOf words (codes "--into") (option_map (λ word. word.now) found.into)
 
 -- the options up to the words that are left, whose words were found
 pub record AreFoundBefore (command : CommandName) (found : OptionWords)

@@ -17,12 +17,12 @@ use Rattle.verdicts.specs.Contexts.{context_for}
 use Rattle.rewrite_script.specs.declared.rewrite.Rewrite.{Rewrite}
 use Rattle.gateway.specs.declared.fault.StreamFault.{StreamFault}
 use Rattle.gateway.specs.declared.fault.StreamFault.TheVariants.{NotWritten}
-use Rattle.refusals.specs.declared.role.Role.TheVariants.{Input, Other}
-use Rattle.refusals.specs.declared.file.FileRefusal.TheVariants.{Message as NoMessage}
+use Rattle.refusals.specs.declared.role.Role.TheVariants.{Input, Item, Other}
+use Rattle.refusals.specs.declared.file.FileRefusal.TheVariants.{TooLong, Message as NoMessage}
 use Rattle.refusals.specs.declared.refusal.Refusal.{Refusal}
 use Rattle.refusals.specs.declared.refusal.Refusal.TheVariants.{Of, Command}
 use Rattle.command_line.specs.Command.{CommandLine, IsCommand}
-use Rattle.commands.specs.Files.{FileNames, FileRole, file_bytes, file_count}
+use Rattle.commands.specs.Files.{FileNames, FileRole, file_bytes, file_count, file_names}
 use Rattle.commands.specs.Layers.{ReadsThen}
 use Rattle.commands.specs.MessageFiles.{IsMessageFile, IsMessageFileRefused}
 use Rattle.commands.specs.Messages.{IsInputMessage, IsInputRefused}
@@ -131,6 +131,21 @@ IsOwn (Refused refusal) = ⊥
 abbrev pub IsAfterInput : Outcome → Type 0
 IsAfterInput (Refused (Of Input (NoMessage fault))) = ⊤
 IsAfterInput outcome = IsOwn outcome
+
+-- a text of more bytes than it may have is refused
+abbrev pub too_long : ℕ → Outcome
+too_long limit = Refused (Of Input (TooLong limit))
+
+-- the outcome comes once all of a text was read, which isn't refused for its length
+abbrev pub IsAfterText : Outcome → Type 0
+IsAfterText (Refused (Of Input (TooLong limit))) = ⊥
+IsAfterText (Refused (Of Input refusal)) = ⊤
+IsAfterText (Refused (Of (Item index) refusal)) = ⊤
+IsAfterText outcome = IsOwn outcome
+
+-- of the files a configuration alone has this name
+abbrev pub conf_names : Option (List ℕ) → FileNames
+conf_names name = file_names name None None None None
 
 -- ---- how an outcome is written
 

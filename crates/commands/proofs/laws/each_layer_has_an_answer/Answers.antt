@@ -1,5 +1,6 @@
 use Rattle.commands.proofs.Answered.{has_configuration, has_message, have_params, have_values_or_lack}
 use Rattle.commands.proofs.Auditing.{has_audit}
+use Rattle.commands.proofs.ListTexts.{has_list}
 use Rattle.commands.proofs.RecordedTexts.{has_recording}
 use Rattle.commands.proofs.ScriptFiles.{has_script}
 use Rattle.commands.proofs.TakenFiles.{has_record, has_request, has_wanted}
@@ -20,4 +21,5 @@ returns c =
       values = have_values_or_lack;
       recording = has_recording;
       chain = has_audit;
+      list = has_list;
     }

@@ -1,6 +1,7 @@
 use Rattle.commands.proofs.Decided.{input_decided, params_decided, values_decided}
 use Rattle.commands.proofs.DecidedConf.{conf_decided}
 use Rattle.commands.proofs.Auditing.{chain_decided}
+use Rattle.commands.proofs.ListTexts.{list_decided}
 use Rattle.commands.proofs.RecordedTexts.{recording_decided}
 use Rattle.commands.proofs.ScriptFiles.{script_decided}
 use Rattle.commands.proofs.TakenFiles.{record_decided, request_decided, wanted_decided}
@@ -20,4 +21,5 @@ returns c = record {
   values = values_decided;
   recording = recording_decided;
   chain = chain_decided;
+  list = list_decided;
 }

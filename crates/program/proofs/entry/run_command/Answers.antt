@@ -1,13 +1,18 @@
-use Rattle.std.proofs.Common.{◌≡◌, ◌+◌, ◌≤◌, map, string_bytes, refl, Ok}
+use Rattle.std.proofs.Common.{◌≡◌, ◌+◌, ◌≤◌, Bool, option_map, map, string_bytes, refl, sym, subst, Ok}
 use Rattle.std.proofs.Math.Nat.{le_refl}
-use Rattle.command_line.specs.Command.{CommandLine, Help, HelpOf, Version, Base, Verify, Sign, Rewrite, Explain, Audit, Gateway, Sample, base_words, verify_words, sign_words, rewrite_words, explain_words, audit_words, gateway_words, sample_words}
-use Rattle.commands.specs.Files.{Conf, file_bytes}
-use Rattle.program.specs.Commands.{input_use, name_of, GivesAtMost, LosesFew}
+use Rattle.command_line.specs.Command.{CommandLine, Help, HelpOf, Version, Base, Verify, Sign, Rewrite, Explain, Audit, Gateway, Lists, Sample, base_words, verify_words, sign_words, rewrite_words, explain_words, audit_words, gateway_words, lists_words, sample_words}
+use Rattle.commands.specs.Files.{AreFound, file_bytes}
+use Rattle.commands.specs.Stops.{IfOutcome}
+use Rattle.refusals.specs.declared.refusal.TheConstants.{MAX_INPUT_BYTES}
+use Rattle.program.specs.Commands.{input_use, name_of, GivesAtMost, LosesFew, Whole}
+use Rattle.program.specs.Ends.{HasOutcome, Leaves}
+use Rattle.program.specs.Report.{ReportsTurned}
+use Rattle.program.specs.tools.Parts.{conf_names}
 use Rattle.command_line.proofs.Moments.{sample_bounded}
-use Rattle.program.proofs.AskedFiles.{asks_of, conf_asked, no_more, none_asked}
+use Rattle.program.proofs.AskedFiles.{asks_of, no_more, none_asked}
 use Rattle.program.proofs.Sampled.{sampled}
 use Rattle.program.proofs.Sources.{none_gone}
-use Rattle.program.proofs.Reports.{alone, never_read, never, no_command, nothing_named, of_command, spelled}
+use Rattle.program.proofs.Reports.{alone, never_read, no_command, nothing_named, of_command, spelled}
 use Rattle.program.proofs.entry.run_command.Goals as goal
 
 pub returns-in_default-clause-report : goal.returns-in_default-clause-report
@@ -238,33 +243,106 @@ returns-in-Explain-clause-files g c = c.over_message-in-Explain.ensures.asks.fil
 pub returns-in-Audit-clause-report : goal.returns-in-Audit-clause-report
 returns-in-Audit-clause-report g c =
     spelled (map string_bytes c.args.arguments.now) (Audit (audit_words c.in-Audit.words)) (rw c.in-Audit.is at c.in-Some.ensures.some) (g.F.Shelf.files c.args.shelf.now)
-    (c.over_recording.new.source ≡ c.args.source.now) (g.S.Source.left c.args.source.now) (g.S.Source.left c.over_recording.new.source) c.over_recording.result c.over_recording.ensures.report
+    (c.over_text.new.source ≡ c.args.source.now) (g.S.Source.left c.args.source.now) (g.S.Source.left c.over_text.new.source) c.over_text.result c.over_text.ensures.report
 
 pub returns-in-Audit-clause-few : goal.returns-in-Audit-clause-few
 returns-in-Audit-clause-few g c =
-    of_command (λ (line : CommandLine). LosesFew (input_use line) (g.S.Source.left c.args.source.now) (g.S.Source.left c.over_recording.new.source))
-    (map string_bytes c.args.arguments.now) (Audit (audit_words c.in-Audit.words)) (rw c.in-Audit.is at c.in-Some.ensures.some) c.over_recording.ensures.few
+    of_command (λ (line : CommandLine). LosesFew (input_use line) (g.S.Source.left c.args.source.now) (g.S.Source.left c.over_text.new.source))
+    (map string_bytes c.args.arguments.now) (Audit (audit_words c.in-Audit.words)) (rw c.in-Audit.is at c.in-Some.ensures.some) c.over_text.ensures.few
 
 pub returns-in-Audit-clause-given : goal.returns-in-Audit-clause-given
 returns-in-Audit-clause-given g c =
-    of_command (λ (line : CommandLine). GivesAtMost (input_use line) (g.S.Source.given c.args.source.now) (g.S.Source.given c.over_recording.new.source))
-    (map string_bytes c.args.arguments.now) (Audit (audit_words c.in-Audit.words)) (rw c.in-Audit.is at c.in-Some.ensures.some) c.over_recording.ensures.given
+    of_command (λ (line : CommandLine). GivesAtMost (input_use line) (g.S.Source.given c.args.source.now) (g.S.Source.given c.over_text.new.source))
+    (map string_bytes c.args.arguments.now) (Audit (audit_words c.in-Audit.words)) (rw c.in-Audit.is at c.in-Some.ensures.some) c.over_text.ensures.given
 
 pub returns-in-Audit-clause-asked : goal.returns-in-Audit-clause-asked
 returns-in-Audit-clause-asked g c =
-    asks_of (map string_bytes c.args.arguments.now) (Audit (audit_words c.in-Audit.words)) (rw c.in-Audit.is at c.in-Some.ensures.some) c.over_recording.result (g.F.Shelf.asked c.args.shelf.now) (g.F.Shelf.asked c.over_recording.new.shelf)
-    (conf_asked c.in-Audit.words.conf.now c.over_recording.result (g.F.Shelf.asked c.args.shelf.now) (g.F.Shelf.asked c.over_recording.new.shelf) c.over_recording.ensures.asked) c.over_recording.ensures.asked
+    asks_of (map string_bytes c.args.arguments.now) (Audit (audit_words c.in-Audit.words)) (rw c.in-Audit.is at c.in-Some.ensures.some) c.over_text.result (g.F.Shelf.asked c.args.shelf.now) (g.F.Shelf.asked c.over_text.new.shelf)
+    c.over_text.ensures.asked c.over_text.ensures.asks.asks
 
 pub returns-in-Audit-clause-reached : goal.returns-in-Audit-clause-reached
 returns-in-Audit-clause-reached g c =
-    of_command (λ (line : CommandLine). g.F.Shelf.reached c.over_recording.new.shelf ≤ g.F.Shelf.reached c.args.shelf.now + file_bytes (name_of line))
-    (map string_bytes c.args.arguments.now) (Audit (audit_words c.in-Audit.words)) (rw c.in-Audit.is at c.in-Some.ensures.some) c.over_recording.ensures.reached
+    of_command (λ (line : CommandLine). g.F.Shelf.reached c.over_text.new.shelf ≤ g.F.Shelf.reached c.args.shelf.now + file_bytes (name_of line))
+    (map string_bytes c.args.arguments.now) (Audit (audit_words c.in-Audit.words)) (rw c.in-Audit.is at c.in-Some.ensures.some) c.over_text.ensures.asks.reaches
 
 pub returns-in-Audit-clause-unread : goal.returns-in-Audit-clause-unread
 returns-in-Audit-clause-unread g c = λ none. never_read _ (none (Audit (audit_words c.in-Audit.words)) (rw c.in-Audit.is at c.in-Some.ensures.some))
 
 pub returns-in-Audit-clause-unasked : goal.returns-in-Audit-clause-unasked
-returns-in-Audit-clause-unasked g c = λ named. never c.in-Audit.words.conf.now (named (Audit (audit_words c.in-Audit.words)) (rw c.in-Audit.is at c.in-Some.ensures.some) Conf)
+returns-in-Audit-clause-unasked g c = λ named. c.over_text.ensures.asks.unasked (named (Audit (audit_words c.in-Audit.words)) (rw c.in-Audit.is at c.in-Some.ensures.some))
+
+pub returns-in-Audit-clause-files : goal.returns-in-Audit-clause-files
+returns-in-Audit-clause-files g c = c.over_text.ensures.asks.files
+
+pub returns-then-words-clause-report : goal.returns-then-words-clause-report
+returns-then-words-clause-report g c =
+    spelled (map string_bytes c.args.arguments.now) (Lists (lists_words c.in-Lists.words)) (rw c.in-Lists.is at c.in-Some.ensures.some) (g.F.Shelf.files c.args.shelf.now)
+    (c.over_text-then-words.new.source ≡ c.args.source.now) (g.S.Source.left c.args.source.now) (g.S.Source.left c.over_text-then-words.new.source) c.over_text-then-words.result (subst (λ (into : Bool). IfOutcome c.over_text-then-words.result (HasOutcome (ReportsTurned into (conf_names (option_map (λ word. word.now) c.in-Lists.words.conf))) (Leaves (Whole MAX_INPUT_BYTES) (c.over_text-then-words.new.source ≡ c.args.source.now) (g.S.Source.left c.args.source.now) (g.S.Source.left c.over_text-then-words.new.source))
+    (AreFound (g.F.Shelf.files c.args.shelf.now) (conf_names (option_map (λ word. word.now) c.in-Lists.words.conf))) (g.S.Source.left c.args.source.now))) (sym c.if-words.true) c.over_text-then-words.ensures.report)
+
+pub returns-then-words-clause-few : goal.returns-then-words-clause-few
+returns-then-words-clause-few g c =
+    of_command (λ (line : CommandLine). LosesFew (input_use line) (g.S.Source.left c.args.source.now) (g.S.Source.left c.over_text-then-words.new.source))
+    (map string_bytes c.args.arguments.now) (Lists (lists_words c.in-Lists.words)) (rw c.in-Lists.is at c.in-Some.ensures.some) c.over_text-then-words.ensures.few
+
+pub returns-then-words-clause-given : goal.returns-then-words-clause-given
+returns-then-words-clause-given g c =
+    of_command (λ (line : CommandLine). GivesAtMost (input_use line) (g.S.Source.given c.args.source.now) (g.S.Source.given c.over_text-then-words.new.source))
+    (map string_bytes c.args.arguments.now) (Lists (lists_words c.in-Lists.words)) (rw c.in-Lists.is at c.in-Some.ensures.some) c.over_text-then-words.ensures.given
+
+pub returns-then-words-clause-asked : goal.returns-then-words-clause-asked
+returns-then-words-clause-asked g c =
+    asks_of (map string_bytes c.args.arguments.now) (Lists (lists_words c.in-Lists.words)) (rw c.in-Lists.is at c.in-Some.ensures.some) c.over_text-then-words.result (g.F.Shelf.asked c.args.shelf.now) (g.F.Shelf.asked c.over_text-then-words.new.shelf)
+    c.over_text-then-words.ensures.asked c.over_text-then-words.ensures.asks.asks
+
+pub returns-then-words-clause-reached : goal.returns-then-words-clause-reached
+returns-then-words-clause-reached g c =
+    of_command (λ (line : CommandLine). g.F.Shelf.reached c.over_text-then-words.new.shelf ≤ g.F.Shelf.reached c.args.shelf.now + file_bytes (name_of line))
+    (map string_bytes c.args.arguments.now) (Lists (lists_words c.in-Lists.words)) (rw c.in-Lists.is at c.in-Some.ensures.some) c.over_text-then-words.ensures.asks.reaches
+
+pub returns-then-words-clause-unread : goal.returns-then-words-clause-unread
+returns-then-words-clause-unread g c = λ none. never_read _ (none (Lists (lists_words c.in-Lists.words)) (rw c.in-Lists.is at c.in-Some.ensures.some))
+
+pub returns-then-words-clause-unasked : goal.returns-then-words-clause-unasked
+returns-then-words-clause-unasked g c = λ named. c.over_text-then-words.ensures.asks.unasked (named (Lists (lists_words c.in-Lists.words)) (rw c.in-Lists.is at c.in-Some.ensures.some))
+
+pub returns-then-words-clause-files : goal.returns-then-words-clause-files
+returns-then-words-clause-files g c = c.over_text-then-words.ensures.asks.files
+
+pub returns-else-words-clause-report : goal.returns-else-words-clause-report
+returns-else-words-clause-report g c =
+    spelled (map string_bytes c.args.arguments.now) (Lists (lists_words c.in-Lists.words)) (rw c.in-Lists.is at c.in-Some.ensures.some) (g.F.Shelf.files c.args.shelf.now)
+    (c.over_message-else-words.new.source ≡ c.args.source.now) (g.S.Source.left c.args.source.now) (g.S.Source.left c.over_message-else-words.new.source) c.over_message-else-words.result (subst (λ (into : Bool). IfOutcome c.over_message-else-words.result (HasOutcome (ReportsTurned into (conf_names (option_map (λ word. word.now) c.in-Lists.words.conf))) (Leaves (Whole MAX_INPUT_BYTES) (c.over_message-else-words.new.source ≡ c.args.source.now) (g.S.Source.left c.args.source.now) (g.S.Source.left c.over_message-else-words.new.source))
+    (AreFound (g.F.Shelf.files c.args.shelf.now) (conf_names (option_map (λ word. word.now) c.in-Lists.words.conf))) (g.S.Source.left c.args.source.now))) (sym c.if-words.false) c.over_message-else-words.ensures.report)
+
+pub returns-else-words-clause-few : goal.returns-else-words-clause-few
+returns-else-words-clause-few g c =
+    of_command (λ (line : CommandLine). LosesFew (input_use line) (g.S.Source.left c.args.source.now) (g.S.Source.left c.over_message-else-words.new.source))
+    (map string_bytes c.args.arguments.now) (Lists (lists_words c.in-Lists.words)) (rw c.in-Lists.is at c.in-Some.ensures.some) c.over_message-else-words.ensures.few
+
+pub returns-else-words-clause-given : goal.returns-else-words-clause-given
+returns-else-words-clause-given g c =
+    of_command (λ (line : CommandLine). GivesAtMost (input_use line) (g.S.Source.given c.args.source.now) (g.S.Source.given c.over_message-else-words.new.source))
+    (map string_bytes c.args.arguments.now) (Lists (lists_words c.in-Lists.words)) (rw c.in-Lists.is at c.in-Some.ensures.some) c.over_message-else-words.ensures.given
+
+pub returns-else-words-clause-asked : goal.returns-else-words-clause-asked
+returns-else-words-clause-asked g c =
+    asks_of (map string_bytes c.args.arguments.now) (Lists (lists_words c.in-Lists.words)) (rw c.in-Lists.is at c.in-Some.ensures.some) c.over_message-else-words.result (g.F.Shelf.asked c.args.shelf.now) (g.F.Shelf.asked c.over_message-else-words.new.shelf)
+    c.over_message-else-words.ensures.asked c.over_message-else-words.ensures.asks.asks
+
+pub returns-else-words-clause-reached : goal.returns-else-words-clause-reached
+returns-else-words-clause-reached g c =
+    of_command (λ (line : CommandLine). g.F.Shelf.reached c.over_message-else-words.new.shelf ≤ g.F.Shelf.reached c.args.shelf.now + file_bytes (name_of line))
+    (map string_bytes c.args.arguments.now) (Lists (lists_words c.in-Lists.words)) (rw c.in-Lists.is at c.in-Some.ensures.some) c.over_message-else-words.ensures.asks.reaches
+
+pub returns-else-words-clause-unread : goal.returns-else-words-clause-unread
+returns-else-words-clause-unread g c = λ none. never_read _ (none (Lists (lists_words c.in-Lists.words)) (rw c.in-Lists.is at c.in-Some.ensures.some))
+
+pub returns-else-words-clause-unasked : goal.returns-else-words-clause-unasked
+returns-else-words-clause-unasked g c = λ named. c.over_message-else-words.ensures.asks.unasked (named (Lists (lists_words c.in-Lists.words)) (rw c.in-Lists.is at c.in-Some.ensures.some))
+
+pub returns-else-words-clause-files : goal.returns-else-words-clause-files
+returns-else-words-clause-files g c = c.over_message-else-words.ensures.asks.files
 
 pub sample_outcome-requires-clause-seed : goal.sample_outcome-requires-clause-seed
 sample_outcome-requires-clause-seed g c =

@@ -10,7 +10,7 @@ use Rattle.refusals.specs.declared.role.Role.TheVariants.{Other as OfOther}
 use Rattle.program.specs.tools.Parts.{HasOther, values_of}
 use Rattle.program.proofs.AskedFiles.{record_late}
 use Rattle.program.proofs.FaultCounts.{shelf_counts, text_counts}
-use Rattle.program.proofs.Recordings.{source_counts}
+use Rattle.program.proofs.TextInputs.{source_counts}
 use Rattle.program.proofs.Reports.{file_had, other_answers, record_had, record_stopped, same_related, text_stop}
 use Rattle.program.proofs.Sources.{none_gone}
 use Rattle.program.proofs.over_message.over_record.Goals as goal

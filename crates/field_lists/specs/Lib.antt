@@ -1,0 +1,9 @@
+pub mod Controls
+pub mod ToMessages
+pub mod ToCauses
+pub mod ListValues
+pub mod FromMessages
+pub mod FromCauses
+pub mod Words
+pub mod Laws
+pub mod tools

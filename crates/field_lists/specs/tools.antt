@@ -1,0 +1,5 @@
+pub mod Views
+pub mod Allowed
+pub mod PartViews
+pub mod Sizes
+pub mod FromViews

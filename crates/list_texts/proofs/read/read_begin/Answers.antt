@@ -1,0 +1,5 @@
+use Rattle.std.proofs.Common.{refl, codes}
+use Rattle.list_texts.proofs.read.read_begin.Goals as goal
+
+pub read_each-requires : goal.read_each-requires
+read_each-requires c = (codes "ield ", refl)

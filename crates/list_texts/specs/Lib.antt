@@ -1,0 +1,5 @@
+pub mod Lists
+pub mod Causes
+pub mod Words
+pub mod Laws
+pub mod tools

@@ -1,0 +1,3 @@
+pub mod FieldWalk
+pub mod FieldTexts
+pub mod Judged

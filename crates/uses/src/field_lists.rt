@@ -1,0 +1,337 @@
+// Tests of lists of fields.
+
+use component_ids::{Scheme, Types};
+use component_values::Context;
+use field_lists::{FromFault, ToFault, from_message, to_message};
+use list_texts::{FieldsFault, print_fields, read_fields};
+use msg_body::{Expect, MessageRead, MessageView, read_message};
+use std::alloc::Global;
+
+// A request with a query that is empty, and a field.
+const LIST: &[u8] = b"hms-fields 1\nfield 7 3\n:methodGET\nfield 7 5\n:schemehttps\n\
+    field 5 3\n:path/p?\nfield 10 1\n:authorityh\nfield 4 1\ndatex\ncontent 0\n\nend\n";
+
+// The same with the pseudo-header fields in their order.
+const ORDERED: &[u8] = b"hms-fields 1\nfield 7 3\n:methodGET\nfield 7 5\n:schemehttps\n\
+    field 10 1\n:authorityh\nfield 5 3\n:path/p?\nfield 4 1\ndatex\ncontent 0\n\nend\n";
+
+const MESSAGE: &[u8] = b"GET /p? HTTP/1.1\r\nhost: h\r\ndate: x\r\n\r\n";
+
+#[derive(Clone, Copy)]
+struct Row {
+    text: &'static [u8],
+    fault: Option<FieldsFault>,
+}
+
+const ROWS: [Row; 24] = [
+    Row {
+        text: LIST,
+        fault: None,
+    },
+    Row {
+        text: b"hms-fields 1\ncontent 0\n\nend\n",
+        fault: None,
+    },
+    Row {
+        text: b"hms-fields 1\ncontent 2\n\n\n\ntrailer 0 0\n\nend\n",
+        fault: None,
+    },
+    Row {
+        text: b"",
+        fault: Some(FieldsFault::Syntax(0)),
+    },
+    Row {
+        text: b"hms-fields 2\n",
+        fault: Some(FieldsFault::Syntax(11)),
+    },
+    Row {
+        text: b"hms-fields 1\n",
+        fault: Some(FieldsFault::Syntax(13)),
+    },
+    Row {
+        text: b"hms-fields 1\nend\n",
+        fault: Some(FieldsFault::Syntax(13)),
+    },
+    Row {
+        text: b"hms-fields 1\nfi",
+        fault: Some(FieldsFault::Syntax(15)),
+    },
+    Row {
+        text: b"hms-fields 1\ntrailer 0 0\n\n",
+        fault: Some(FieldsFault::Syntax(13)),
+    },
+    Row {
+        text: b"hms-fields 1\nfield 01 0\n",
+        fault: Some(FieldsFault::Syntax(20)),
+    },
+    Row {
+        text: b"hms-fields 1\nfield 1\n",
+        fault: Some(FieldsFault::Syntax(20)),
+    },
+    Row {
+        text: b"hms-fields 1\nfield 1 2\nabcd",
+        fault: Some(FieldsFault::Syntax(26)),
+    },
+    Row {
+        text: b"hms-fields 1\nfield 65537 0\n",
+        fault: Some(FieldsFault::TooLong(13)),
+    },
+    Row {
+        text: b"hms-fields 1\nfield 0 65537\nend",
+        fault: Some(FieldsFault::TooLong(13)),
+    },
+    Row {
+        text: b"hms-fields 1\nfield 65537 x",
+        fault: Some(FieldsFault::Syntax(25)),
+    },
+    Row {
+        text: b"hms-fields 1\nfield 65537 0",
+        fault: Some(FieldsFault::Syntax(26)),
+    },
+    Row {
+        text: b"hms-fields 1\nfield 65536 0\n",
+        fault: Some(FieldsFault::Syntax(27)),
+    },
+    Row {
+        text: b"hms-fields 1\ncontent 8388609\n",
+        fault: Some(FieldsFault::TooLong(13)),
+    },
+    Row {
+        text: b"hms-fields 1\ncontent 8388608\n",
+        fault: Some(FieldsFault::Syntax(29)),
+    },
+    Row {
+        text: b"hms-fields 1\ncontent 0\n\nfield 0 0\n\n",
+        fault: Some(FieldsFault::Syntax(24)),
+    },
+    Row {
+        text: b"hms-fields 1\ncontent 0\n\ntrailer 0 65537\n",
+        fault: Some(FieldsFault::TooLong(24)),
+    },
+    Row {
+        text: b"hms-fields 1\ncontent 0\n\nend",
+        fault: Some(FieldsFault::Syntax(27)),
+    },
+    Row {
+        text: b"hms-fields 1\ncontent 0\n\nend\nx",
+        fault: Some(FieldsFault::Syntax(28)),
+    },
+    Row {
+        text: b"hms-fields 1\nfield 1000000000000000 0\n",
+        fault: Some(FieldsFault::Syntax(34)),
+    },
+];
+
+// A list that is read is printed as it was.
+fn is_read(alloc: Global, row: &Row) -> bool {
+    match read_fields(alloc, row.text) {
+        Ok(list) => match print_fields(alloc, &list) {
+            Ok(text) => row.fault.is_none() && text.bytes() == row.text,
+            Err(_) => false,
+        },
+        Err(fault) => row.fault == Some(fault),
+    }
+}
+
+#[test]
+fn lists_are_read_and_printed(rt: HostRuntime) {
+    for row in &ROWS {
+        assert!(rt; is_read(rt.alloc(), row));
+    }
+}
+
+#[derive(Clone, Copy)]
+struct Turned {
+    text: &'static [u8],
+    // The message, or why there is none.
+    message: Result<&'static [u8], ToFault>,
+}
+
+const TURNED: [Turned; 20] = [
+    Turned {
+        text: LIST,
+        message: Ok(MESSAGE),
+    },
+    Turned {
+        text: b"hms-fields 1\nfield 7 3\n:status200\ncontent 0\n\nend\n",
+        message: Ok(b"HTTP/1.1 200 \r\ntransfer-encoding: chunked\r\n\r\n0\r\n\r\n"),
+    },
+    Turned {
+        text: b"hms-fields 1\nfield 7 3\n:status304\nfield 14 2\ncontent-length18\n\
+            content 0\n\nend\n",
+        message: Ok(b"HTTP/1.1 304 \r\ncontent-length: 18\r\n\r\n"),
+    },
+    Turned {
+        text: b"hms-fields 1\nfield 7 3\n:status200\nfield 14 3\ncontent-length 02\n\
+            content 2\nab\nend\n",
+        message: Ok(b"HTTP/1.1 200 \r\ncontent-length:  02\r\n\r\nab"),
+    },
+    Turned {
+        text: b"hms-fields 1\nfield 7 3\n:status200\ncontent 17\n0123456789abcdefg\n\
+            trailer 1 1\nxy\nend\n",
+        message: Ok(
+            b"HTTP/1.1 200 \r\ntransfer-encoding: chunked\r\n\r\n\
+            11\r\n0123456789abcdefg\r\n0\r\nx: y\r\n\r\n",
+        ),
+    },
+    Turned {
+        text: b"hms-fields 1\ncontent 0\n\nend\n",
+        message: Err(ToFault::Pseudo),
+    },
+    Turned {
+        text: b"hms-fields 1\nfield 7 3\n:methodGET\nfield 7 5\n:schemehttps\n\
+            field 5 1\n:path/\nfield 5 1\n:path/\ncontent 0\n\nend\n",
+        message: Err(ToFault::Pseudo),
+    },
+    Turned {
+        text: b"hms-fields 1\nfield 7 7\n:methodCONNECT\nfield 7 5\n:schemehttps\n\
+            field 5 1\n:path/\nfield 10 1\n:authorityh\ncontent 0\n\nend\n",
+        message: Err(ToFault::Pseudo),
+    },
+    Turned {
+        text: b"hms-fields 1\nfield 7 3\n:methodGET\nfield 7 5\n:schemeHttps\n\
+            field 5 1\n:path/\nfield 10 1\n:authorityh\ncontent 0\n\nend\n",
+        message: Err(ToFault::Pseudo),
+    },
+    Turned {
+        text: b"hms-fields 1\nfield 7 3\n:methodGET\nfield 7 5\n:schemehttps\n\
+            field 5 2\n:path/#\nfield 10 1\n:authorityh\ncontent 0\n\nend\n",
+        message: Err(ToFault::Pseudo),
+    },
+    Turned {
+        text: b"hms-fields 1\nfield 7 2\n:status20\ncontent 0\n\nend\n",
+        message: Err(ToFault::Pseudo),
+    },
+    Turned {
+        text: b"hms-fields 1\nfield 7 3\n:methodGET\nfield 7 4\n:schemehttp\n\
+            field 5 1\n:path/\nfield 10 1\n:authorityh\ncontent 0\n\nend\n",
+        message: Err(ToFault::SchemeOther),
+    },
+    Turned {
+        text: b"hms-fields 1\nfield 7 3\n:methodGET\nfield 7 5\n:schemehttps\n\
+            field 5 1\n:path/\nfield 10 1\n:authorityh\nfield 4 1\ndatex\nfield 4 1\nhosth\n\
+            content 0\n\nend\n",
+        message: Err(ToFault::BadField(5)),
+    },
+    Turned {
+        text: b"hms-fields 1\nfield 7 3\n:status200\nfield 7 3\n:status200\ncontent 0\n\nend\n",
+        message: Err(ToFault::BadField(1)),
+    },
+    Turned {
+        text: b"hms-fields 1\nfield 7 3\n:status200\nfield 1 1\na\n\ncontent 0\n\nend\n",
+        message: Err(ToFault::BadField(1)),
+    },
+    Turned {
+        text: b"hms-fields 1\nfield 7 3\n:status200\nfield 1 1\nax\ncontent 0\n\n\
+            trailer 1 1\nax\ntrailer 1 1\nAx\nend\n",
+        message: Err(ToFault::BadField(3)),
+    },
+    Turned {
+        text: b"hms-fields 1\nfield 7 3\n:status200\nfield 14 1\ncontent-length1\n\
+            content 0\n\nend\n",
+        message: Err(ToFault::BadLength),
+    },
+    Turned {
+        text: b"hms-fields 1\nfield 7 3\n:status200\nfield 14 1\ncontent-length0\n\
+            field 14 1\ncontent-length0\ncontent 0\n\nend\n",
+        message: Err(ToFault::BadLength),
+    },
+    Turned {
+        text: b"hms-fields 1\nfield 7 3\n:status204\ncontent 1\nx\nend\n",
+        message: Err(ToFault::BodyRefused),
+    },
+    Turned {
+        text: b"hms-fields 1\nfield 7 3\n:status200\nfield 14 1\ncontent-length0\n\
+            content 0\n\ntrailer 1 1\nax\nend\n",
+        message: Err(ToFault::BodyRefused),
+    },
+];
+
+fn is_turned(alloc: Global, row: &Turned) -> bool {
+    let Ok(list) = read_fields(alloc, row.text) else {
+        return false;
+    };
+    match to_message(alloc, &list, Scheme::Https) {
+        Ok(text) => row.message == Ok(text.bytes()),
+        Err(fault) => row.message == Err(fault),
+    }
+}
+
+#[test]
+fn lists_are_turned_into_messages(rt: HostRuntime) {
+    for row in &TURNED {
+        assert!(rt; is_turned(rt.alloc(), row));
+    }
+}
+
+#[derive(Clone, Copy)]
+struct Back {
+    message: &'static [u8],
+    // The list's text, or why there is none.
+    list: Result<&'static [u8], FromFault>,
+}
+
+const BACK: [Back; 7] = [
+    Back {
+        message: MESSAGE,
+        list: Ok(ORDERED),
+    },
+    Back {
+        message: b"POST HTTP://u?q HTTP/1.1\r\nHost: v\r\nA:  x\r\n  y \r\n\
+            Transfer-Encoding: chunked\r\nConnection: close\r\n\r\n2\r\nab\r\n0\r\nT: u\r\n\
+            Upgrade: v\r\n\r\n",
+        list: Ok(
+            b"hms-fields 1\nfield 7 4\n:methodPOST\nfield 7 4\n:schemehttp\nfield 10 1\n\
+            :authorityu\nfield 5 3\n:path/?q\nfield 1 3\nax y\ncontent 2\nab\ntrailer 1 1\ntu\n\
+            end\n",
+        ),
+    },
+    Back {
+        message: b"HTTP/1.1 204 No Content\r\n\r\n",
+        list: Ok(b"hms-fields 1\nfield 7 3\n:status204\ncontent 0\n\nend\n"),
+    },
+    Back {
+        message: b"OPTIONS * HTTP/1.1\r\nHost: h\r\n\r\n",
+        list: Err(FromFault::NoForm),
+    },
+    Back {
+        message: b"CONNECT h:1 HTTP/1.1\r\nHost: h\r\n\r\n",
+        list: Err(FromFault::NoForm),
+    },
+    Back {
+        message: b"GET / HTTP/1.1\r\n\r\n",
+        list: Err(FromFault::NoAuthority),
+    },
+    Back {
+        message: b"GET / HTTP/1.1\r\nHost: u@h\r\n\r\n",
+        list: Err(FromFault::NoAuthority),
+    },
+];
+
+fn is_list_of(alloc: Global, message: &MessageView<'_>, row: &Back) -> bool {
+    let Ok(types) = Types::standard(alloc) else {
+        return false;
+    };
+    let context = Context::of_message(message, Scheme::Https, &types);
+    match from_message(alloc, &context) {
+        Ok(list) => match print_fields(alloc, &list) {
+            Ok(text) => row.list == Ok(text.bytes()),
+            Err(_) => false,
+        },
+        Err(fault) => row.list == Err(fault),
+    }
+}
+
+fn is_turned_back(alloc: Global, row: &Back) -> bool {
+    match read_message(alloc, row.message, Expect::Any, false) {
+        Ok(MessageRead::Whole(message, _)) => is_list_of(alloc, &message, row),
+        _ => false,
+    }
+}
+
+#[test]
+fn messages_are_turned_into_lists(rt: HostRuntime) {
+    for row in &BACK {
+        assert!(rt; is_turned_back(rt.alloc(), row));
+    }
+}
