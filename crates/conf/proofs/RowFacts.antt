@@ -353,9 +353,19 @@ pub lists_fine : (document : Members) → NoBadPolicy document → (IsBad docume
     → HoldsOfNone (λ row. HoldsOfValue (IsBadList row.rule) document row) rows
 unfolding rows
 lists_fine document fine third fourth =
-    none_of_lists document rows (fine.each_request, (fine.each_response,
-    (not_in_one document Policy (codes "require-request") fine.request, (not_in_one document Policy (codes "require-response") fine.response,
-    (not_in_one document Sign (codes "components-request") third, (not_in_one document Sign (codes "components-response") fourth, tt))))))
+    none_of_lists document rows (
+      fine.each_request,
+      (
+        fine.each_response,
+        (
+          not_in_one document Policy (codes "require-request") fine.request,
+          (
+            not_in_one document Policy (codes "require-response") fine.response,
+            (not_in_one document Sign (codes "components-request") third, (not_in_one document Sign (codes "components-response") fourth, tt)),
+          ),
+        ),
+      ),
+    )
 
 pub each_request_least : (document : Members) → IsBadAmong document (codes "require-request")
     → IsLeastRow (λ row. HoldsOfValue (IsBadList row.rule) document row) (codes "policies.require-request")
@@ -388,19 +398,32 @@ pub request_least : (document : Members) → NoBadPolicy document → IsBad docu
     → IsLeastRow (λ row. HoldsOfValue (IsBadList row.rule) document row) (codes "sign.components-request")
 unfolding rows
 request_least document fine bad =
-    bad_is_least document (take 27 rows) (at_sign (codes "sign.components-request") (codes "components-request") rule.Components) (drop 28 rows) refl
-    (fine.each_request, (fine.each_response,
-    (not_in_one document Policy (codes "require-request") fine.request, (not_in_one document Policy (codes "require-response") fine.response, tt))))
+    bad_is_least document (take 27 rows) (at_sign (codes "sign.components-request") (codes "components-request") rule.Components) (drop 28 rows) refl (
+      fine.each_request,
+      (
+        fine.each_response,
+        (not_in_one document Policy (codes "require-request") fine.request, (not_in_one document Policy (codes "require-response") fine.response, tt)),
+      ),
+    )
     (in_one document Sign (codes "components-request") bad)
 
 pub response_least : (document : Members) → NoBadPolicy document → (IsBad document Sign (codes "components-request") → ⊥) → IsBad document Sign (codes "components-response")
     → IsLeastRow (λ row. HoldsOfValue (IsBadList row.rule) document row) (codes "sign.components-response")
 unfolding rows
 response_least document fine first bad =
-    bad_is_least document (take 28 rows) (at_sign (codes "sign.components-response") (codes "components-response") rule.Components) (drop 29 rows) refl
-    (fine.each_request, (fine.each_response,
-    (not_in_one document Policy (codes "require-request") fine.request, (not_in_one document Policy (codes "require-response") fine.response,
-    (not_in_one document Sign (codes "components-request") first, tt)))))
+    bad_is_least document (take 28 rows) (at_sign (codes "sign.components-response") (codes "components-response") rule.Components) (drop 29 rows) refl (
+      fine.each_request,
+      (
+        fine.each_response,
+        (
+          not_in_one document Policy (codes "require-request") fine.request,
+          (
+            not_in_one document Policy (codes "require-response") fine.response,
+            (not_in_one document Sign (codes "components-request") first, tt),
+          ),
+        ),
+      ),
+    )
     (in_one document Sign (codes "components-response") bad)
 
 -- ---- steps

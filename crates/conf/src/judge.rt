@@ -153,7 +153,12 @@ fn fails_in_array(test: ValueTest, document: &Table, row: &Row, array: &Array) -
         (tables_of (array_view array.now)) }
 {
     for value in array {
-        if fails(test, document, row.rule, member_of(value.as_table(), row.key)) {
+        if fails(
+            test,
+            document,
+            row.rule,
+            member_of(value.as_table(), row.key),
+        ) {
             return true;
         }
     }
@@ -173,7 +178,12 @@ fn fails_at(test: ValueTest, tables: FixedTables, row: &Row) -> bool
             Some(array) => fails_in_array(test, tables.document, row, array),
         };
     }
-    fails(test, tables.document, row.rule, tables.value_at(row.place, row.key))
+    fails(
+        test,
+        tables.document,
+        row.rule,
+        tables.value_at(row.place, row.key),
+    )
 }
 
 /// Whether the values of several keys don't go together, of which the rule's key is the first:

@@ -83,7 +83,12 @@ fn judge_tables_lists(alloc: Global, tables: FixedTables) -> Result<(), ConfFaul
         return Ok(());
     };
     judge_lists(alloc, array, "require-request", "policies.require-request")?;
-    judge_lists(alloc, array, "require-response", "policies.require-response")
+    judge_lists(
+        alloc,
+        array,
+        "require-response",
+        "policies.require-response",
+    )
 }
 
 /// Judges the lists of the policies, in the order of their paths' bytes.

@@ -31,8 +31,10 @@ fn tags_of(
     version: Version,
     table: Option<&Table>,
 ) -> Result<(Option<Text>, Option<Text>), Memory>
-    ensures { IfOk result (λ tags. tags ≡ (selected_tag version (table_members table.entry),
-        asked_tag version (table_members table.entry))) }
+    ensures { IfOk result (λ tags. tags ≡ (
+      selected_tag version (table_members table.entry),
+      asked_tag version (table_members table.entry),
+    )) }
 {
     let tag = read_tag(alloc, table)?;
     match version {

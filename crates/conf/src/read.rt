@@ -65,7 +65,13 @@ fn conf_of(alloc: Global, document: &Table) -> Result<Conf, ConfFault>
         sign,
         gateway,
     } = read_sections(alloc, tables)?;
-    let judged = Conf::new(scheme_in(document), keys, types, policies, nonces_of(tables));
+    let judged = Conf::new(
+        scheme_in(document),
+        keys,
+        types,
+        policies,
+        nonces_of(tables),
+    );
     let signing = with_sign_of(judged, sign);
     Ok(with_gateway_of(signing, gateway))
 }

@@ -156,8 +156,18 @@ const ROWS: [Row; 36] = [
     row!("scheme", Top, "scheme", Scheme),
     row!("sign", Top, "sign", Table),
     row!("sign.alg", Sign, "alg", Flag),
-    row!("sign.components-request", Sign, "components-request", Components),
-    row!("sign.components-response", Sign, "components-response", Components),
+    row!(
+        "sign.components-request",
+        Sign,
+        "components-request",
+        Components
+    ),
+    row!(
+        "sign.components-response",
+        Sign,
+        "components-response",
+        Components
+    ),
     row!("sign.digest", Sign, "digest", Digest),
     row!("sign.expires-after", Sign, "expires-after", Seconds),
     row!("sign.keyid", Sign, "keyid", Keyid, required),

@@ -148,8 +148,8 @@ module _ (v : Verification) (text : List ℕ) where
   name_clean ComponentBad fails = absurd (cc (fails.2))
   name_clean ComponentRepeated fails = absurd (cc (fails.1))
   name_clean ComponentRequired fails = absurd (
-    let at = some_and_parts (λ (policy : Policy). (id : ComponentId) × (Name text ≡ Identifier id) × IsFirstUncovered fails.0.ids (required_of v policy) id) (policy_of v.conf fails.0) fails.3 in
-    cc (at.2.1))
+      let at = some_and_parts (λ (policy : Policy). (id : ComponentId) × (Name text ≡ Identifier id) × IsFirstUncovered fails.0.ids (required_of v policy) id) (policy_of v.conf fails.0) fails.3 in
+      cc (at.2.1))
   name_clean Digest fails = absurd (cc (fails.1))
   name_clean InputAbsent fails = absurd (cc (fails.0))
   name_clean InputMalformed fails = absurd (cc (fails.0))

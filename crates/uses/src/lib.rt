@@ -30,8 +30,6 @@ mod digests;
 #[cfg(test)]
 mod explanations;
 #[cfg(test)]
-mod field_lists;
-#[cfg(test)]
 mod heads;
 #[cfg(test)]
 mod identifiers;
@@ -53,6 +51,8 @@ mod scripts;
 mod sign_runs;
 #[cfg(test)]
 mod signings;
+#[cfg(test)]
+mod turned_lists;
 #[cfg(test)]
 mod values;
 #[cfg(test)]

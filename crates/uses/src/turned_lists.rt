@@ -1,10 +1,11 @@
 // Tests of lists of fields.
 
+use crate::components::message_of;
 use component_ids::{Scheme, Types};
 use component_values::Context;
 use field_lists::{FromFault, ToFault, from_message, to_message};
 use list_texts::{FieldsFault, print_fields, read_fields};
-use msg_body::{Expect, MessageRead, MessageView, read_message};
+use msg_body::MessageView;
 use std::alloc::Global;
 
 // A request with a query that is empty, and a field.
@@ -323,9 +324,9 @@ fn is_list_of(alloc: Global, message: &MessageView<'_>, row: &Back) -> bool {
 }
 
 fn is_turned_back(alloc: Global, row: &Back) -> bool {
-    match read_message(alloc, row.message, Expect::Any, false) {
-        Ok(MessageRead::Whole(message, _)) => is_list_of(alloc, &message, row),
-        _ => false,
+    match message_of(alloc, row.message) {
+        Some(message) => is_list_of(alloc, &message, row),
+        None => false,
     }
 }
 
