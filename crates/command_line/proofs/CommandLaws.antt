@@ -7,7 +7,7 @@ use Rattle.std.proofs.lemmas.Bool.{cases_Bool}
 use Rattle.std.proofs.lemmas.Slice.Eq.{bytes_eq-Decides}
 use Rattle.sfv_text.specs.Keys.{value_of}
 use Rattle.sfv_text.specs.declared.pair.Pair.{Pair}
-use Rattle.command_line.specs.Command.{CommandLine, Help, HelpOf, Version, Base, Verify, Sign, Rewrite, Explain, Audit, Gateway, Lists, Sample, BaseWords, VerifyWords, SignWords, RewriteWords, ExplainWords, AuditWords, GatewayWords, ListsWords, SampleWords, IsCommand, SpellsBase, SpellsVerify, SpellsSign, SpellsRewrite, SpellsExplain, SpellsAudit, SpellsGateway, SpellsLists, SpellsSample}
+use Rattle.command_line.specs.Command.{CommandLine, Help, HelpOf, Version, Base, Verify, Sign, Rewrite, Explain, Audit, Gateway, Lists, Negotiate, Sample, BaseWords, VerifyWords, SignWords, RewriteWords, ExplainWords, AuditWords, GatewayWords, ListsWords, NegotiateWords, SampleWords, IsCommand, SpellsBase, SpellsVerify, SpellsSign, SpellsRewrite, SpellsExplain, SpellsAudit, SpellsGateway, SpellsLists, SpellsNegotiate, SpellsSample}
 use Rattle.command_line.specs.Laws.{HasOneCommand}
 use Rattle.command_line.specs.Names.{command_of, command_word}
 use Rattle.command_line.specs.Options.{into_word, words_of}
@@ -72,6 +72,10 @@ gateway_in options = record { conf = word_of options (codes "--conf") }
 lists_in : List (Pair (List ℕ)) → ListsWords
 lists_in options = record { into_message = bytes_eq (word_of options (codes "--into")) (codes "message"); conf = value_of options (codes "--conf") }
 
+negotiate_in : List (Pair (List ℕ)) → NegotiateWords
+negotiate_in options =
+    record { conf = word_of options (codes "--conf"); now = digits_value 10 (word_of options (codes "--now")); request = word_of options (codes "--request") }
+
 after_base : List (List ℕ) → CommandLine
 after_base [] = Help
 after_base (params ∷ words) = Base (base_in params (options_in words))
@@ -92,6 +96,7 @@ after_name name.Explain words = Explain (explain_in (options_in words))
 after_name name.Audit words = Audit (audit_in (options_in words))
 after_name name.Gateway words = Gateway (gateway_in (options_in words))
 after_name name.Lists words = Lists (lists_in (options_in words))
+after_name name.Negotiate words = Negotiate (negotiate_in (options_in words))
 after_name name.Sample words = after_sample words
 
 -- after `help`
@@ -181,6 +186,14 @@ lists_is arguments lists a =
     let into = into_read lists.into_message ∙ ap (λ (w : List ℕ). bytes_eq w (codes "message")) word in
     λ i. record { into_message = into i; conf = a.conf_is i }
 
+negotiate_is : (arguments : List (List ℕ)) (negotiate : NegotiateWords) (a : SpellsNegotiate arguments negotiate) → negotiate ≡ negotiate_in a.options
+unfolding negotiate_in word_of
+negotiate_is arguments negotiate a =
+    let conf : negotiate.conf ≡ word_of a.options (codes "--conf") = word_is a.options (codes "--conf") negotiate.conf a.conf_is in
+    let now = moment_is (value_of a.options (codes "--now")) negotiate.now a.now_is in
+    let request : negotiate.request ≡ word_of a.options (codes "--request") = word_is a.options (codes "--request") negotiate.request a.request_is in
+    λ i. record { conf = conf i; now = now i; request = request i }
+
 sample_is : (arguments : List (List ℕ)) (sample : SampleWords) (a : SpellsSample arguments sample) → sample ≡ sample_in a.seed a.count
 unfolding sample_in
 sample_is arguments sample a = λ i. record { seed = a.seed_is.1 i; count = a.count_is.1 i }
@@ -212,6 +225,7 @@ read_plain name.Explain words isnt = rw isnt refl
 read_plain name.Audit words isnt = rw isnt refl
 read_plain name.Gateway words isnt = rw isnt refl
 read_plain name.Lists words isnt = rw isnt refl
+read_plain name.Negotiate words isnt = rw isnt refl
 read_plain name.Sample words isnt = rw isnt refl
 
 read_help : (command : CommandName) → read (command_word command ∷ codes "--help" ∷ []) ≡ HelpOf command
@@ -224,6 +238,7 @@ read_help name.Explain = refl
 read_help name.Audit = refl
 read_help name.Gateway = refl
 read_help name.Lists = refl
+read_help name.Negotiate = refl
 read_help name.Sample = refl
 
 read_topic : (command : CommandName) → read (codes "help" ∷ command_word command ∷ []) ≡ HelpOf command
@@ -236,6 +251,7 @@ read_topic name.Explain = refl
 read_topic name.Audit = refl
 read_topic name.Gateway = refl
 read_topic name.Lists = refl
+read_topic name.Negotiate = refl
 read_topic name.Sample = refl
 
 is_read : (arguments : List (List ℕ)) (command : CommandLine) → IsCommand arguments command → read arguments ≡ command
@@ -267,6 +283,9 @@ is_read arguments (Gateway words) a = ap read a.joined
 is_read arguments (Lists words) a = ap read a.joined
     ∙ (read_plain name.Lists a.words (plain a.words a.options a.are.joined)
     ∙ (ap (λ (options : List (Pair (List ℕ))). Lists (lists_in options)) (are_in a.words a.options a.are.joined) ∙ ap Lists (sym (lists_is arguments words a))))
+is_read arguments (Negotiate words) a = ap read a.joined
+    ∙ (read_plain name.Negotiate a.words (plain a.words a.options a.are.joined)
+    ∙ (ap (λ (options : List (Pair (List ℕ))). Negotiate (negotiate_in options)) (are_in a.words a.options a.are.joined) ∙ ap Negotiate (sym (negotiate_is arguments words a))))
 is_read arguments (Sample words) a = ap read a.joined ∙ (read_plain name.Sample (a.seed ∷ a.count ∷ []) refl ∙ ap Sample (sym (sample_is arguments words a)))
 
 pub one_command : HasOneCommand

@@ -10,7 +10,7 @@ use Rattle.std.proofs.lemmas.Bool.Decides.{nat_tests}
 use Rattle.std.proofs.lemmas.Slice.Eq.{bytes_eq-Decides}
 use Rattle.sfv_text.specs.Keys.{have_distinct_keys, value_of}
 use Rattle.sfv_text.specs.declared.pair.Pair.{Pair}
-use Rattle.command_line.specs.Command.{VerifyWords, SignWords, RewriteWords, ExplainWords, AuditWords, GatewayWords, ListsWords, SampleWords, SpellsBase, SpellsVerify, SpellsSign, SpellsRewrite, SpellsExplain, SpellsAudit, SpellsGateway, SpellsLists, SpellsSample}
+use Rattle.command_line.specs.Command.{VerifyWords, SignWords, RewriteWords, ExplainWords, AuditWords, GatewayWords, ListsWords, NegotiateWords, SampleWords, SpellsBase, SpellsVerify, SpellsSign, SpellsRewrite, SpellsExplain, SpellsAudit, SpellsGateway, SpellsLists, SpellsNegotiate, SpellsSample}
 use Rattle.command_line.specs.Numbers.{is_number, IsCount, IsSeed}
 use Rattle.command_line.specs.Options.{into_word, is_into, may_have, takes, words_of, AreOptions}
 use Rattle.command_line.specs.declared.options.CommandName.{CommandName}
@@ -386,6 +386,40 @@ lists_with words options are = elim (has_word (value_of options (codes "--into")
 
 pub lists_of : (words : List (List ℕ)) → SomeOrNone (SpellsLists (codes "lists" ∷ words))
 lists_of words = with_or_none (SpellsLists (codes "lists" ∷ words)) name.Lists words (λ lists is. (is.options, lists_are words lists is)) (lists_with words)
+
+-- ---- `negotiate`
+
+negotiate_are : (words : List (List ℕ)) (negotiate : NegotiateWords) (is : SpellsNegotiate (codes "negotiate" ∷ words) negotiate) → AreOptions name.Negotiate words is.options
+negotiate_are words negotiate is = are_of name.Negotiate (codes "negotiate") words is.words is.options is.joined is.are
+
+negotiate_with : (words : List (List ℕ)) (options : List (Pair (List ℕ))) → AreOptions name.Negotiate words options → SomeOrNone (SpellsNegotiate (codes "negotiate" ∷ words))
+negotiate_with words options are = elim (needed_or_none options) [
+  | inr none ↦ inr (λ negotiate is.
+      let same = same_options name.Negotiate words options is.options are (negotiate_are words negotiate is) in
+      none negotiate.conf negotiate.now (subst (λ (all : List (Pair (List ℕ))). HasNeeded all negotiate.conf negotiate.now) same (is.conf_is, is.now_is)))
+  | inl some ↦ elim (has_word (value_of options (codes "--request"))) [
+    | inr none ↦ inr (λ negotiate is.
+        let same = same_options name.Negotiate words options is.options are (negotiate_are words negotiate is) in
+        no_word (value_of options (codes "--request")) negotiate.request none
+        (subst (λ (all : List (Pair (List ℕ))). value_of all (codes "--request") ≡ Some negotiate.request) same is.request_is))
+    | inl request ↦ inl (
+      record { conf = some.0; now = some.1; request = request.0 },
+      record {
+        words = words;
+        options = options;
+        joined = refl;
+        are = are;
+        conf_is = some.2.0;
+        now_is = some.2.1;
+        request_is = request.1;
+      },
+    )
+  ]
+]
+
+pub negotiate_of : (words : List (List ℕ)) → SomeOrNone (SpellsNegotiate (codes "negotiate" ∷ words))
+negotiate_of words =
+    with_or_none (SpellsNegotiate (codes "negotiate" ∷ words)) name.Negotiate words (λ negotiate is. (is.options, negotiate_are words negotiate is)) (negotiate_with words)
 
 -- ---- `sample`
 

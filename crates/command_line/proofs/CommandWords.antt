@@ -4,7 +4,7 @@ use Rattle.std.specs.Prelude.{IsSomeAnd, codes}
 use Rattle.std.specs.Str.Parse.{digits_value}
 use Rattle.sfv_text.specs.Keys.{value_of}
 use Rattle.sfv_text.specs.declared.pair.Pair.{Pair}
-use Rattle.command_line.specs.Command.{CommandLine, Help, HelpOf, Version, Base, Verify, Sign, Rewrite, Explain, Audit, Gateway, Lists, Sample, IsCommand, IsTimely, HasRightNonce}
+use Rattle.command_line.specs.Command.{CommandLine, Help, HelpOf, Version, Base, Verify, Sign, Rewrite, Explain, Audit, Gateway, Lists, Negotiate, Sample, IsCommand, IsTimely, HasRightNonce}
 use Rattle.command_line.specs.Options.{AreOptions}
 use Rattle.command_line.specs.declared.options.CommandName.{CommandName}
 use Rattle.command_line.proofs.Moments.{is_below}
@@ -30,6 +30,7 @@ timely arguments (Explain words) is = tt
 timely arguments (Audit words) is = tt
 timely arguments (Gateway words) is = tt
 timely arguments (Lists words) is = tt
+timely arguments (Negotiate words) is = moment_below _ is.words is.options is.are words.now is.now_is
 timely arguments (Sample words) is = tt
 
 pub right_nonce : (arguments : List (List ℕ)) (command : CommandLine) → IsCommand arguments command → HasRightNonce command
@@ -44,4 +45,5 @@ right_nonce arguments (Explain words) is = tt
 right_nonce arguments (Audit words) is = tt
 right_nonce arguments (Gateway words) is = tt
 right_nonce arguments (Lists words) is = tt
+right_nonce arguments (Negotiate words) is = tt
 right_nonce arguments (Sample words) is = tt

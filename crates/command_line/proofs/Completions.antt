@@ -187,6 +187,7 @@ needed_addable name.Explain = refl
 needed_addable name.Audit = refl
 needed_addable name.Gateway = refl
 needed_addable name.Lists = refl
+needed_addable name.Negotiate = refl
 needed_addable name.Sample = refl
 
 pub alone_for : (command : CommandName) (options : List (Pair (List ℕ))) → IsAlone options → IsAloneFor command options
@@ -198,6 +199,7 @@ alone_for name.Explain options alone = tt
 alone_for name.Audit options alone = tt
 alone_for name.Gateway options alone = tt
 alone_for name.Lists options alone = tt
+alone_for name.Negotiate options alone = tt
 alone_for name.Sample options alone = tt
 
 -- so right options begin a command

@@ -6,7 +6,7 @@ use Rattle.std.proofs.lemmas.Bool.{false≢true}
 use Rattle.std.proofs.lemmas.Slice.Eq.{bytes_eq-Decides}
 use Rattle.sfv_text.specs.Keys.{value_of}
 use Rattle.sfv_text.specs.declared.pair.Pair.{Pair}
-use Rattle.command_line.specs.Command.{AuditWords, BaseWords, ExplainWords, GatewayWords, ListsWords, RewriteWords, SampleWords, SignWords, VerifyWords, NoCommand, SpellsAudit, SpellsBase, SpellsExplain, SpellsGateway, SpellsLists, SpellsRewrite, SpellsSample, SpellsSign, SpellsVerify, CommandLine, Help, HelpOf, Version, Base, Verify, Sign, Rewrite, Explain, Audit, Gateway, Lists, Sample, IsCommand}
+use Rattle.command_line.specs.Command.{AuditWords, BaseWords, ExplainWords, GatewayWords, ListsWords, NegotiateWords, RewriteWords, SampleWords, SignWords, VerifyWords, NoCommand, SpellsAudit, SpellsBase, SpellsExplain, SpellsGateway, SpellsLists, SpellsNegotiate, SpellsRewrite, SpellsSample, SpellsSign, SpellsVerify, CommandLine, Help, HelpOf, Version, Base, Verify, Sign, Rewrite, Explain, Audit, Gateway, Lists, Negotiate, Sample, IsCommand}
 use Rattle.command_line.specs.Faults.{IsStart}
 use Rattle.command_line.specs.Names.{command_of, command_word}
 use Rattle.command_line.specs.Numbers.{IsCount, IsSeed}
@@ -85,6 +85,7 @@ command_is name.Explain = refl
 command_is name.Audit = refl
 command_is name.Gateway = refl
 command_is name.Lists = refl
+command_is name.Negotiate = refl
 command_is name.Sample = refl
 
 -- the command isn't help of one
@@ -158,6 +159,15 @@ named word words (Lists line) command is some isnt =
     let others : words ≡ is.words = (first_is word (codes "lists") words is.words is.joined).1 in
     subst (λ (c : CommandName). AfterName c words) (same_command word (codes "lists") words is.words command name.Lists is.joined refl some)
     (record { options = is.options; are = moved name.Lists words is.words is.options others is.are; alone = tt; has = ((into_word line.into_message, is.into_is), tt) })
+named word words (Negotiate line) command is some isnt =
+    let others : words ≡ is.words = (first_is word (codes "negotiate") words is.words is.joined).1 in
+    subst (λ (c : CommandName). AfterName c words) (same_command word (codes "negotiate") words is.words command name.Negotiate is.joined refl some)
+    (record {
+      options = is.options;
+      are = moved name.Negotiate words is.words is.options others is.are;
+      alone = tt;
+      has = ((line.conf, is.conf_is), (some_word (value_of is.options (codes "--now")) line.now is.now_is, ((line.request, is.request_is), tt)));
+    })
 named word words (Sample line) command is some isnt =
     let others : words ≡ is.seed ∷ is.count ∷ [] = (first_is word (codes "sample") words (is.seed ∷ is.count ∷ []) is.joined).1 in
     subst (λ (c : CommandName). AfterName c words) (same_command word (codes "sample") words (is.seed ∷ is.count ∷ []) command name.Sample is.joined refl some)
@@ -191,6 +201,7 @@ unnamed word words (Explain line) is none = absurd (some_none word (codes "expla
 unnamed word words (Audit line) is none = absurd (some_none word (codes "audit") words is.words name.Audit is.joined refl none)
 unnamed word words (Gateway line) is none = absurd (some_none word (codes "gateway") words is.words name.Gateway is.joined refl none)
 unnamed word words (Lists line) is none = absurd (some_none word (codes "lists") words is.words name.Lists is.joined refl none)
+unnamed word words (Negotiate line) is none = absurd (some_none word (codes "negotiate") words is.words name.Negotiate is.joined refl none)
 unnamed word words (Sample line) is none = absurd (some_none word (codes "sample") words (is.seed ∷ is.count ∷ []) name.Sample is.joined refl none)
 
 -- after the words before its options come the options of a command
@@ -213,6 +224,8 @@ started name.Gateway start words line starts is isnt =
     named (codes "gateway") words line name.Gateway (subst (λ (s : List (List ℕ)). IsCommand (s ++ words) line) starts is) refl isnt
 started name.Lists start words line starts is isnt =
     named (codes "lists") words line name.Lists (subst (λ (s : List (List ℕ)). IsCommand (s ++ words) line) starts is) refl isnt
+started name.Negotiate start words line starts is isnt =
+    named (codes "negotiate") words line name.Negotiate (subst (λ (s : List (List ℕ)). IsCommand (s ++ words) line) starts is) refl isnt
 started name.Sample start words line starts is isnt = absurd starts
 
 -- the words after those before its options aren't `--help` alone
@@ -239,6 +252,8 @@ started_plain name.Gateway start words line starts is none =
     no_help (codes "gateway") words line name.Gateway (subst (λ (s : List (List ℕ)). IsCommand (s ++ words) line) starts is) refl none
 started_plain name.Lists start words line starts is none =
     no_help (codes "lists") words line name.Lists (subst (λ (s : List (List ℕ)). IsCommand (s ++ words) line) starts is) refl none
+started_plain name.Negotiate start words line starts is none =
+    no_help (codes "negotiate") words line name.Negotiate (subst (λ (s : List (List ℕ)). IsCommand (s ++ words) line) starts is) refl none
 started_plain name.Sample start words line starts is none = absurd starts
 
 -- ---- to a command
@@ -349,6 +364,20 @@ lists_spelled words is =
       record { words = words; options = is.options; joined = refl; are = is.are; into_is = into.1; conf_is = refl },
     )
 
+pub negotiate_spelled : (words : List (List ℕ)) → IsOptionLine name.Negotiate words → (line : NegotiateWords) × SpellsNegotiate (codes "negotiate" ∷ words) line
+negotiate_spelled words is = (
+  record { conf = is.has.0.0; now = digits_value 10 is.has.1.0.0; request = is.has.1.1.0.0 },
+  record {
+    words = words;
+    options = is.options;
+    joined = refl;
+    are = is.are;
+    conf_is = is.has.0.1;
+    now_is = has_moment _ is.has.1.0.0 is.has.1.0.1;
+    request_is = is.has.1.1.0.1;
+  },
+)
+
 -- options with those that the command needs are a command after the words before them
 pub whole : (command : CommandName) (start words : List (List ℕ)) → IsStart command start → IsOptionLine command words → AreCommand (start ++ words)
 whole name.Base start words starts is =
@@ -370,6 +399,8 @@ whole name.Gateway start words starts is =
     let line = gateway_spelled words is in subst (λ (s : List (List ℕ)). AreCommand (s ++ words)) (sym starts) (Gateway line.0, line.1)
 whole name.Lists start words starts is =
     let line = lists_spelled words is in subst (λ (s : List (List ℕ)). AreCommand (s ++ words)) (sym starts) (Lists line.0, line.1)
+whole name.Negotiate start words starts is =
+    let line = negotiate_spelled words is in subst (λ (s : List (List ℕ)). AreCommand (s ++ words)) (sym starts) (Negotiate line.0, line.1)
 whole name.Sample start words starts is = absurd starts
 
 -- ---- no command
@@ -409,6 +440,9 @@ no_gateway words isnt none = none_after name.Gateway words isnt (λ is. let line
 
 pub no_lists : (words : List (List ℕ)) → asks_help words ≡ false → ((line : ListsWords) → SpellsLists (codes "lists" ∷ words) line → ⊥) → NoCommand (codes "lists" ∷ words)
 no_lists words isnt none = none_after name.Lists words isnt (λ is. let line = lists_spelled words is in none line.0 line.1)
+
+pub no_negotiate : (words : List (List ℕ)) → asks_help words ≡ false → ((line : NegotiateWords) → SpellsNegotiate (codes "negotiate" ∷ words) line → ⊥) → NoCommand (codes "negotiate" ∷ words)
+no_negotiate words isnt none = none_after name.Negotiate words isnt (λ is. let line = negotiate_spelled words is in none line.0 line.1)
 
 pub no_sample : (words : List (List ℕ)) → asks_help words ≡ false → ((line : SampleWords) → SpellsSample (codes "sample" ∷ words) line → ⊥) → NoCommand (codes "sample" ∷ words)
 no_sample words isnt none = none_after name.Sample words isnt (λ is.

@@ -163,6 +163,7 @@ not_help name.Explain all done word after more plain joined = plain_at all done 
 not_help name.Audit all done word after more plain joined = plain_at all done word after more plain joined
 not_help name.Gateway all done word after more plain joined = plain_at all done word after more plain joined
 not_help name.Lists all done word after more plain joined = plain_at all done word after more plain joined
+not_help name.Negotiate all done word after more plain joined = plain_at all done word after more plain joined
 not_help name.Sample all done word after more plain joined = plain_at all done word after more plain joined
 
 -- ---- no such option can come next
@@ -211,6 +212,7 @@ both_there Nonce given name.Explain found done others p taken excluded are same 
 both_there Nonce given name.Audit found done others p taken excluded are same alone = false≢true taken
 both_there Nonce given name.Gateway found done others p taken excluded are same alone = false≢true taken
 both_there Nonce given name.Lists found done others p taken excluded are same alone = false≢true taken
+both_there Nonce given name.Negotiate found done others p taken excluded are same alone = false≢true taken
 both_there Nonce given name.Sample found done others p taken excluded are same alone = false≢true taken
 both_there Wanted given name.Sign found done others p taken excluded are same alone =
     let nonce = (if_some (word_in found Nonce) Nonce given excluded).1 in
@@ -225,6 +227,7 @@ both_there Wanted given name.Explain found done others p taken excluded are same
 both_there Wanted given name.Audit found done others p taken excluded are same alone = false≢true taken
 both_there Wanted given name.Gateway found done others p taken excluded are same alone = false≢true taken
 both_there Wanted given name.Lists found done others p taken excluded are same alone = false≢true taken
+both_there Wanted given name.Negotiate found done others p taken excluded are same alone = false≢true taken
 both_there Wanted given name.Sample found done others p taken excluded are same alone = false≢true taken
 
 taken_key : (command : CommandName) (done others : List (Pair (List ℕ))) (p : Pair (List ℕ)) (words : List (List ℕ)) → AreOptions command words (done ++ p ∷ others)
@@ -290,6 +293,7 @@ plain_start name.Explain base sample = refl
 plain_start name.Audit base sample = refl
 plain_start name.Gateway base sample = refl
 plain_start name.Lists base sample = refl
+plain_start name.Negotiate base sample = refl
 plain_start name.Sample base sample = absurd (sample refl)
 
 -- words of which none begins with `--help`
@@ -303,6 +307,7 @@ plain_words name.Explain words plain = plain
 plain_words name.Audit words plain = plain
 plain_words name.Gateway words plain = plain
 plain_words name.Lists words plain = plain
+plain_words name.Negotiate words plain = plain
 plain_words name.Sample words plain = plain
 
 -- ---- the faults
@@ -335,6 +340,7 @@ start_command name.Explain start words starts = ap (λ (s : List (List ℕ)). fi
 start_command name.Audit start words starts = ap (λ (s : List (List ℕ)). first_command (s ++ words)) starts
 start_command name.Gateway start words starts = ap (λ (s : List (List ℕ)). first_command (s ++ words)) starts
 start_command name.Lists start words starts = ap (λ (s : List (List ℕ)). first_command (s ++ words)) starts
+start_command name.Negotiate start words starts = ap (λ (s : List (List ℕ)). first_command (s ++ words)) starts
 start_command name.Sample start words starts = absurd starts
 
 has_option : (command : CommandName) (start : List (List ℕ)) (found : OptionWords) (done : List (Pair (List ℕ))) (option : CommandOption) (word : List ℕ)
@@ -379,6 +385,7 @@ excluded_by Nonce given command found taken excluded =
     sign_takes name.Audit taken = absurd (false≢true taken)
     sign_takes name.Gateway taken = absurd (false≢true taken)
     sign_takes name.Lists taken = absurd (false≢true taken)
+    sign_takes name.Negotiate taken = absurd (false≢true taken)
     sign_takes name.Sample taken = absurd (false≢true taken)
 excluded_by Wanted given command found taken excluded =
     let nonce = if_some (word_in found Nonce) Nonce given excluded in
@@ -393,6 +400,7 @@ excluded_by Wanted given command found taken excluded =
     sign_takes name.Audit taken = absurd (false≢true taken)
     sign_takes name.Gateway taken = absurd (false≢true taken)
     sign_takes name.Lists taken = absurd (false≢true taken)
+    sign_takes name.Negotiate taken = absurd (false≢true taken)
     sign_takes name.Sample taken = absurd (false≢true taken)
 
 -- the word is a reason that the options before it make one

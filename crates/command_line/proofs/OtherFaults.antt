@@ -219,6 +219,7 @@ help_left_over command next after other = record {
     none name.Audit other begun = none_taken name.Audit (next ∷ begun.0) refl (line_of name.Audit begun)
     none name.Gateway other begun = none_taken name.Gateway (next ∷ begun.0) refl (line_of name.Gateway begun)
     none name.Lists other begun = none_taken name.Lists (next ∷ begun.0) refl (line_of name.Lists begun)
+    none name.Negotiate other begun = none_taken name.Negotiate (next ∷ begun.0) refl (line_of name.Negotiate begun)
     none name.Sample other begun =
         let words = line_of name.Sample begun in
         let same : codes "--help" ≡ words.0 = (first_is (codes "--help") words.0 (next ∷ begun.0) (words.1 ∷ []) words.2).0 in

@@ -5,14 +5,14 @@ use Rattle.std.specs.List.{find}
 use Rattle.std.specs.Str.{bytes_eq}
 use Rattle.std.proofs.lemmas.Bool.{cases_Bool, false≢true}
 use Rattle.std.proofs.lemmas.Slice.Eq.{bytes_eq-Decides}
-use Rattle.command_line.specs.Command.{CommandLine, Help, HelpOf, Version, Base, Verify, Sign, Rewrite, Explain, Audit, Gateway, Lists, Sample, IsCommand, NoCommand}
+use Rattle.command_line.specs.Command.{CommandLine, Help, HelpOf, Version, Base, Verify, Sign, Rewrite, Explain, Audit, Gateway, Lists, Negotiate, Sample, IsCommand, NoCommand}
 use Rattle.command_line.specs.Laws.{HasCommandOrNone}
 use Rattle.command_line.specs.Names.{command_of, command_word}
 use Rattle.command_line.specs.declared.options.CommandName.{CommandName}
 use Rattle.command_line.specs.declared.options.CommandName.TheVariants as name
 use Rattle.command_line.specs.tools.Wrong.{asks_help}
-use Rattle.command_line.proofs.CommandOrNone.{first_is, base_of, verify_of, sign_of, rewrite_of, explain_of, audit_of, gateway_of, lists_of, sample_of}
-use Rattle.command_line.proofs.FirstWords.{asked, command_is, help_asked, no_base, no_verify, no_sign, no_rewrite, no_explain, no_audit, no_gateway, no_lists, no_sample, unnamed}
+use Rattle.command_line.proofs.CommandOrNone.{first_is, base_of, verify_of, sign_of, rewrite_of, explain_of, audit_of, gateway_of, lists_of, negotiate_of, sample_of}
+use Rattle.command_line.proofs.FirstWords.{asked, command_is, help_asked, no_base, no_verify, no_sign, no_rewrite, no_explain, no_audit, no_gateway, no_lists, no_negotiate, no_sample, unnamed}
 
 abbrev SomeCommand : List (List ℕ) → Type 0
 SomeCommand arguments = ((command : CommandLine) × IsCommand arguments command) ⊎ NoCommand arguments
@@ -29,6 +29,7 @@ no_words (Explain words) is = cc is.joined
 no_words (Audit words) is = cc is.joined
 no_words (Gateway words) is = cc is.joined
 no_words (Lists words) is = cc is.joined
+no_words (Negotiate words) is = cc is.joined
 no_words (Sample words) is = cc is.joined
 
 plain : (command : CommandName) (words : List (List ℕ)) → asks_help words ≡ false → SomeCommand (command_word command ∷ words)
@@ -40,6 +41,7 @@ plain name.Explain words isnt = elim (explain_of words) [ inl some ↦ inl (Expl
 plain name.Audit words isnt = elim (audit_of words) [ inl some ↦ inl (Audit some.0, some.1) | inr none ↦ inr (no_audit words isnt none) ]
 plain name.Gateway words isnt = elim (gateway_of words) [ inl some ↦ inl (Gateway some.0, some.1) | inr none ↦ inr (no_gateway words isnt none) ]
 plain name.Lists words isnt = elim (lists_of words) [ inl some ↦ inl (Lists some.0, some.1) | inr none ↦ inr (no_lists words isnt none) ]
+plain name.Negotiate words isnt = elim (negotiate_of words) [ inl some ↦ inl (Negotiate some.0, some.1) | inr none ↦ inr (no_negotiate words isnt none) ]
 plain name.Sample words isnt = elim (sample_of words) [ inl some ↦ inl (Sample some.0, some.1) | inr none ↦ inr (no_sample words isnt none) ]
 
 after_command : (command : CommandName) (words : List (List ℕ)) → SomeCommand (command_word command ∷ words)
@@ -62,7 +64,7 @@ first_holds test (first ∷ others) command e = elim (cases_Bool (test first)) [
 pub name_is : (word : List ℕ) (command : CommandName) → command_of word ≡ Some command → word ≡ command_word command
 name_is word command some =
     (bytes_eq-Decides word (command_word command)).0 (first_holds (λ c. bytes_eq word (command_word c))
-    (name.Base ∷ name.Verify ∷ name.Sign ∷ name.Rewrite ∷ name.Explain ∷ name.Audit ∷ name.Gateway ∷ name.Lists ∷ name.Sample ∷ []) command some)
+    (name.Base ∷ name.Verify ∷ name.Sign ∷ name.Rewrite ∷ name.Explain ∷ name.Audit ∷ name.Gateway ∷ name.Lists ∷ name.Negotiate ∷ name.Sample ∷ []) command some)
 
 -- ---- after `help`
 

@@ -17,6 +17,7 @@ use Rattle.command_line.specs.declared.command.ExplainWords as explain
 use Rattle.command_line.specs.declared.command.AuditWords as audit
 use Rattle.command_line.specs.declared.command.GatewayWords as gateway
 use Rattle.command_line.specs.declared.command.ListsWords as lists
+use Rattle.command_line.specs.declared.command.NegotiateWords as negotiate
 use Rattle.command_line.specs.declared.command.SampleWords as sample
 use Rattle.command_line.specs.declared.command.Command.{Command}
 use Rattle.command_line.specs.declared.command.Command.TheVariants as command
@@ -75,6 +76,13 @@ pub record ListsWords : Type 0 where
   pub into_message : Bool
   pub conf : Option (List ℕ)
 
+-- the words of `negotiate`: the file of the configuration, the moment, and the file of the request
+-- that the input answers, and that asks for signatures
+pub record NegotiateWords : Type 0 where
+  pub conf : List ℕ
+  pub now : ℕ
+  pub request : List ℕ
+
 -- the words of `sample`: the seed, and the number of hops
 pub record SampleWords : Type 0 where
   pub seed : ℕ
@@ -109,6 +117,9 @@ pub data CommandLine : Type 0 where
   -- the message of a recorded list of fields, or the list of a message, by a configuration or
   -- without one
   Lists : ListsWords → CommandLine
+  -- the response with the signatures that its request asks for, and with the digest that it asks
+  -- for, by a configuration, at a moment
+  Negotiate : NegotiateWords → CommandLine
   -- the summary of the report on a chain that is drawn from a seed, with so many hops
   Sample : SampleWords → CommandLine
 
@@ -196,6 +207,18 @@ pub record SpellsLists (arguments : List (List ℕ)) (lists : ListsWords) : Type
   pub into_is : value_of options (codes "--into") ≡ Some (into_word lists.into_message)
   pub conf_is : lists.conf ≡ value_of options (codes "--conf")
 
+-- the arguments are `negotiate` and its options, all of which it needs
+pub record SpellsNegotiate (arguments : List (List ℕ)) (negotiate : NegotiateWords)
+    : Type 0 where
+  pub words : List (List ℕ)
+  pub options : List (Pair (List ℕ))
+  pub joined : arguments ≡ codes "negotiate" ∷ words
+  pub are : AreOptions name.Negotiate words options
+  pub conf_is : value_of options (codes "--conf") ≡ Some negotiate.conf
+  pub now_is : IsSomeAnd (value_of options (codes "--now"))
+      (λ digits. negotiate.now ≡ digits_value 10 digits)
+  pub request_is : value_of options (codes "--request") ≡ Some negotiate.request
+
 -- the arguments are `sample`, the seed and the number of hops
 pub record SpellsSample (arguments : List (List ℕ)) (sample : SampleWords) : Type 0 where
   pub seed : List ℕ
@@ -219,6 +242,7 @@ IsCommand arguments (Explain words) = SpellsExplain arguments words
 IsCommand arguments (Audit words) = SpellsAudit arguments words
 IsCommand arguments (Gateway words) = SpellsGateway arguments words
 IsCommand arguments (Lists words) = SpellsLists arguments words
+IsCommand arguments (Negotiate words) = SpellsNegotiate arguments words
 IsCommand arguments (Sample words) = SpellsSample arguments words
 
 -- the arguments spell no command
@@ -238,6 +262,7 @@ conf_of (Explain words) = words.conf
 conf_of (Audit words) = Some words.conf
 conf_of (Gateway words) = Some words.conf
 conf_of (Lists words) = words.conf
+conf_of (Negotiate words) = Some words.conf
 conf_of (Sample words) = None
 
 -- the file of the request that the input answers
@@ -253,6 +278,7 @@ request_of (Explain words) = words.request
 request_of (Audit words) = None
 request_of (Gateway words) = None
 request_of (Lists words) = None
+request_of (Negotiate words) = Some words.request
 request_of (Sample words) = None
 
 -- the file of the message that asks for signatures
@@ -330,6 +356,14 @@ lists_words words = record {
   conf = option_map (λ word. word.now) words.conf;
 }
 
+-- what the borrowed words of `negotiate` stand for
+abbrev pub negotiate_words : negotiate.NegotiateWords → NegotiateWords
+negotiate_words words = record {
+  conf = words.conf.now;
+  now = words.now;
+  request = words.request.now;
+}
+
 -- what the words of `sample` stand for
 abbrev pub sample_words : sample.SampleWords → SampleWords
 sample_words words = record { seed = words.seed; count = words.count }
@@ -347,12 +381,14 @@ line_of (command.Explain words) = Explain (explain_words words)
 line_of (command.Audit words) = Audit (audit_words words)
 line_of (command.Gateway words) = Gateway (gateway_words words)
 line_of (command.Lists words) = Lists (lists_words words)
+line_of (command.Negotiate words) = Negotiate (negotiate_words words)
 line_of (command.Sample words) = Sample (sample_words words)
 
 -- the moment is one of at most 15 digits
 abbrev pub IsTimely : CommandLine → Type 0
 IsTimely (Verify words) = words.now < 10 ^ MAX_MOMENT_DIGITS
 IsTimely (Sign words) = words.now < 10 ^ MAX_MOMENT_DIGITS
+IsTimely (Negotiate words) = words.now < 10 ^ MAX_MOMENT_DIGITS
 IsTimely command = ⊤
 
 -- a nonce is one of 1 to 256 bytes of a String

@@ -8,7 +8,7 @@ use Rattle.sfv_text.specs.declared.pair.Pair.{Pair}
 use Rattle.nonces.specs.declared.limits.TheConstants.{MAX_NONCE_BYTES}
 use Rattle.command_line.specs.Numbers.{is_number}
 use Rattle.command_line.specs.declared.options.CommandName.{CommandName}
-use Rattle.command_line.specs.declared.options.CommandName.TheVariants.{Base, Verify, Sign, Rewrite, Explain, Audit, Gateway, Lists, Sample}
+use Rattle.command_line.specs.declared.options.CommandName.TheVariants.{Base, Verify, Sign, Rewrite, Explain, Audit, Gateway, Lists, Negotiate, Sample}
 use Rattle.command_line.specs.declared.options.CommandOption.{CommandOption}
 use Rattle.command_line.specs.declared.options.CommandOption.TheVariants.{Conf, Now, Label, Request, Nonce, Wanted, Script, Other, Into}
 use Rattle.command_line.specs.declared.options.TheConstants.{MAX_MOMENT_DIGITS}
@@ -30,6 +30,7 @@ is_nonce word =
 abbrev pub into_word : Bool → List ℕ
 into_word into_message = if into_message then codes "message" else codes "fields"
 
+-- one of the two words that say it
 abbrev pub is_into : List ℕ → Bool
 is_into word = bytes_eq word (into_word true) || bytes_eq word (into_word false)
 
@@ -43,10 +44,14 @@ pub record OptionRow : Type 0 where
 abbrev pub row_of : CommandOption → OptionRow
 row_of Conf = record {
   word = codes "--conf";
-  commands = Base ∷ Verify ∷ Sign ∷ Rewrite ∷ Explain ∷ Audit ∷ Gateway ∷ Lists ∷ [];
+  commands = Base ∷ Verify ∷ Sign ∷ Rewrite ∷ Explain ∷ Audit ∷ Gateway ∷ Lists ∷ Negotiate ∷ [];
   may_have = is_file_name;
 }
-row_of Now = record { word = codes "--now"; commands = Verify ∷ Sign ∷ []; may_have = is_moment }
+row_of Now = record {
+  word = codes "--now";
+  commands = Verify ∷ Sign ∷ Negotiate ∷ [];
+  may_have = is_moment;
+}
 row_of Label = record {
   word = codes "--label";
   commands = Verify ∷ Rewrite ∷ Explain ∷ [];
@@ -54,7 +59,7 @@ row_of Label = record {
 }
 row_of Request = record {
   word = codes "--request";
-  commands = Base ∷ Verify ∷ Sign ∷ Rewrite ∷ Explain ∷ [];
+  commands = Base ∷ Verify ∷ Sign ∷ Rewrite ∷ Explain ∷ Negotiate ∷ [];
   may_have = is_file_name;
 }
 row_of Nonce = record { word = codes "--nonce"; commands = Sign ∷ []; may_have = is_nonce }
@@ -80,6 +85,7 @@ is_same_command Explain Explain = true
 is_same_command Audit Audit = true
 is_same_command Gateway Gateway = true
 is_same_command Lists Lists = true
+is_same_command Negotiate Negotiate = true
 is_same_command Sample Sample = true
 is_same_command command other = false
 

@@ -1,8 +1,8 @@
 //! The arguments of the program.
 
 ghost use Rattle.std.specs.Prelude.{◌≡◌, ◌∷◌, [], drop, false, None, map, codes, IfSome, IfNone, string_bytes};
-ghost use Rattle.command_line.specs.Command.{HasRightNonce, IsCommand, NoCommand, SpellsAudit, SpellsBase, SpellsExplain, SpellsGateway, SpellsLists, SpellsRewrite, SpellsSample, SpellsSign, SpellsVerify, line_of, IsTimely};
-ghost use Rattle.command_line.specs.Command.{AuditWords as AuditLine, BaseWords as BaseLine, ExplainWords as ExplainLine, GatewayWords as GatewayLine, ListsWords as ListsLine, RewriteWords as RewriteLine, SampleWords as SampleLine, SignWords as SignLine, VerifyWords as VerifyLine};
+ghost use Rattle.command_line.specs.Command.{HasRightNonce, IsCommand, NoCommand, SpellsAudit, SpellsBase, SpellsExplain, SpellsGateway, SpellsLists, SpellsNegotiate, SpellsRewrite, SpellsSample, SpellsSign, SpellsVerify, line_of, IsTimely};
+ghost use Rattle.command_line.specs.Command.{AuditWords as AuditLine, BaseWords as BaseLine, ExplainWords as ExplainLine, GatewayWords as GatewayLine, ListsWords as ListsLine, NegotiateWords as NegotiateLine, RewriteWords as RewriteLine, SampleWords as SampleLine, SignWords as SignLine, VerifyWords as VerifyLine};
 ghost use Rattle.command_line.specs.Names.{command_of, command_word};
 ghost use Rattle.command_line.specs.tools.Wrong.{asks_help};
 ghost use Rattle.command_line.specs.tools.After.{IsAfter, NoneAfter};
@@ -98,6 +98,17 @@ pub struct ListsWords<'a> {
     pub conf: Option<&'a str>,
 }
 
+/// The words of `negotiate`. They are borrowed.
+#[derive(Clone, Copy)]
+pub struct NegotiateWords<'a> {
+    /// The file of the configuration.
+    pub conf: &'a str,
+    /// The moment, in seconds since the epoch, at most 999,999,999,999,999.
+    pub now: u64,
+    /// The file of the request that the input answers, and that asks for signatures.
+    pub request: &'a str,
+}
+
 /// The words of `sample`: what its digits write.
 #[derive(Clone, Copy)]
 pub struct SampleWords {
@@ -135,6 +146,9 @@ pub enum Command<'a> {
     /// `lists`: the message of a recorded list of fields, or the list of a message (RFC 9113
     /// section 8.3, RFC 9114 section 4.3).
     Lists(ListsWords<'a>),
+    /// `negotiate`: the response with the signatures that its request asks for (RFC 9421 section
+    /// 5, RFC 9530 section 4).
+    Negotiate(NegotiateWords<'a>),
     /// `sample SEED COUNT`: the summary of the report on a chain of COUNT hops that is drawn from
     /// SEED.
     Sample(SampleWords),
@@ -345,6 +359,24 @@ fn read_lists<'a>(words: &'a [String]) -> Option<Command<'a>>
     }))
 }
 
+/// The words after `negotiate`.
+fn read_negotiate<'a>(words: &'a [String]) -> Option<Command<'a>>
+    ensures some { IfSome result
+        (λ command. IsAfter (codes "negotiate") (map string_bytes words.now) (line_of command)) }
+    ensures none { IfNone result ((negotiate : NegotiateLine)
+        → ¬ SpellsNegotiate (codes "negotiate" ∷ map string_bytes words.now) negotiate) }
+{
+    let found = read_options(CommandName::Negotiate, words)?;
+    let conf = found.conf?;
+    let now = found.now?;
+    let request = found.request?;
+    Some(Command::Negotiate(NegotiateWords {
+        conf,
+        now: moment_of(now),
+        request,
+    }))
+}
+
 /// The words after `sample`.
 fn read_sample<'a>(words: &'a [String]) -> Option<Command<'a>>
     ensures some { IfSome result
@@ -378,6 +410,7 @@ fn read_command<'a>(command: CommandName, words: &'a [String]) -> Option<Command
         CommandName::Audit => read_audit(words),
         CommandName::Gateway => read_gateway(words),
         CommandName::Lists => read_lists(words),
+        CommandName::Negotiate => read_negotiate(words),
         CommandName::Sample => read_sample(words),
     }
 }

@@ -169,6 +169,13 @@ fn needed(command: CommandName) -> &'static [CommandOption]
         CommandName::Explain => &[CommandOption::Label, CommandOption::Other],
         CommandName::Audit | CommandName::Gateway => &[CommandOption::Conf],
         CommandName::Lists => &[CommandOption::Into],
+        CommandName::Negotiate => {
+            &[
+                CommandOption::Conf,
+                CommandOption::Now,
+                CommandOption::Request,
+            ]
+        }
     }
 }
 

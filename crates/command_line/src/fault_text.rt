@@ -24,6 +24,7 @@ impl CommandName {
             }
             CommandName::Audit | CommandName::Gateway => "--conf FILE < RECORDING",
             CommandName::Lists => "--into message|fields [--conf FILE] < LIST",
+            CommandName::Negotiate => "--conf FILE --now SECONDS --request REQ < RESPONSE",
             CommandName::Sample => "SEED COUNT",
         }
     }
@@ -74,7 +75,7 @@ impl WordsReason {
             WordsReason::NoCommand => write!(
                 f,
                 "{word:?} is no command: first comes base, verify, sign, rewrite, explain, audit, \
-                 gateway, lists or sample"
+                 gateway, lists, negotiate or sample"
             ),
             WordsReason::LeftOver => write!(f, "{word:?} is a word too many"),
             WordsReason::NotTaken(command) => {

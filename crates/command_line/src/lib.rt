@@ -15,8 +15,8 @@ mod options;
 mod sample_words;
 
 pub use command::{
-    AuditWords, BaseWords, Command, ExplainWords, GatewayWords, ListsWords, RewriteWords,
-    SampleWords, SignWords, VerifyWords, after_name, read_words,
+    AuditWords, BaseWords, Command, ExplainWords, GatewayWords, ListsWords, NegotiateWords,
+    RewriteWords, SampleWords, SignWords, VerifyWords, after_name, read_words,
 };
 pub use fault::{WordsFault, WordsReason, words_fault};
 pub use laws::{a_sample_is_bounded, arguments_are_a_command_or_none, arguments_have_one_command};

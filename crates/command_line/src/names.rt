@@ -20,6 +20,7 @@ impl CommandName {
             "audit" => Some(CommandName::Audit),
             "gateway" => Some(CommandName::Gateway),
             "lists" => Some(CommandName::Lists),
+            "negotiate" => Some(CommandName::Negotiate),
             "sample" => Some(CommandName::Sample),
             _ => None,
         }
@@ -38,6 +39,7 @@ impl CommandName {
             CommandName::Audit => "audit",
             CommandName::Gateway => "gateway",
             CommandName::Lists => "lists",
+            CommandName::Negotiate => "negotiate",
             CommandName::Sample => "sample",
         }
     }

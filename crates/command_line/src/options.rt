@@ -35,6 +35,8 @@ pub enum CommandName {
     Gateway,
     /// `lists`.
     Lists,
+    /// `negotiate`.
+    Negotiate,
     /// `sample`, which has no options.
     Sample,
 }
@@ -142,7 +144,10 @@ impl CommandOption {
     {
         match self {
             CommandOption::Conf => !matches!(command, CommandName::Sample),
-            CommandOption::Now => matches!(command, CommandName::Verify | CommandName::Sign),
+            CommandOption::Now => matches!(
+                command,
+                CommandName::Verify | CommandName::Sign | CommandName::Negotiate
+            ),
             CommandOption::Label => matches!(
                 command,
                 CommandName::Verify | CommandName::Rewrite | CommandName::Explain

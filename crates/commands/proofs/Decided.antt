@@ -22,7 +22,7 @@ use Rattle.msg_body.specs.declared.whole.Reading.{Reading}
 use Rattle.refusals.specs.declared.file.FileRefusal.{FileRefusal}
 use Rattle.refusals.specs.declared.file.FileRefusal.TheVariants.{Missing, TooLong, Message as NoMessage, Conf, Script, Recording, Order, TooManyHops, OutOfPlace, TooManyItems, Fields}
 use Rattle.refusals.specs.declared.refusal.CommandRefusal.{CommandRefusal}
-use Rattle.refusals.specs.declared.refusal.CommandRefusal.TheVariants.{Syntax, Ids, Lacks, Sign, Wishes, NotTaken, Explain, ToMessage, FromMessage}
+use Rattle.refusals.specs.declared.refusal.CommandRefusal.TheVariants.{Syntax, Ids, Lacks, Sign, Wishes, NotTaken, Explain, ToMessage, FromMessage, Digest}
 use Rattle.commands.proofs.Lacking.{one_id}
 use Rattle.commands.proofs.LowerLaws.{one_list, no_fault, one_params, one_text, one_message_fault, text_no_fault}
 
@@ -101,6 +101,7 @@ params_cause params (Syntax i) (NotTaken g) a b = absurd b
 params_cause params (Syntax i) (Explain g) a b = absurd b
 params_cause params (Syntax i) (ToMessage g) a b = absurd b
 params_cause params (Syntax i) (FromMessage g) a b = absurd b
+params_cause params (Syntax i) (Digest g) a b = absurd b
 params_cause params (Ids f) (Syntax j) a b = absurd (b.none a.list a.reads)
 params_cause params (Ids f) (Ids g) a b = ap (λ (h : IdFault). Ids h) (one_id_fault params f g a b)
 params_cause params (Ids f) (Lacks m k) a b = absurd b
@@ -110,6 +111,7 @@ params_cause params (Ids f) (NotTaken g) a b = absurd b
 params_cause params (Ids f) (Explain g) a b = absurd b
 params_cause params (Ids f) (ToMessage g) a b = absurd b
 params_cause params (Ids f) (FromMessage g) a b = absurd b
+params_cause params (Ids f) (Digest g) a b = absurd b
 params_cause params (Lacks l i) d a b = absurd a
 params_cause params (Sign f) d a b = absurd a
 params_cause params (Wishes f) d a b = absurd a
@@ -117,6 +119,7 @@ params_cause params (NotTaken f) d a b = absurd a
 params_cause params (Explain f) d a b = absurd a
 params_cause params (ToMessage f) d a b = absurd a
 params_cause params (FromMessage f) d a b = absurd a
+params_cause params (Digest f) d a b = absurd a
 
 params_either : (params : List ℕ) (sig : SigParams) (c : CommandRefusal) → ReadsParams params sig → AreParamsRefused params c → ⊥
 params_either params sig (Syntax i) reads c = c.none (list_of sig) reads.reads
@@ -128,6 +131,7 @@ params_either params sig (NotTaken f) reads c = c
 params_either params sig (Explain f) reads c = c
 params_either params sig (ToMessage f) reads c = c
 params_either params sig (FromMessage f) reads c = c
+params_either params sig (Digest f) reads c = c
 
 pub params_decided : AreParamsDecided
 params_decided params = record {
@@ -147,6 +151,7 @@ values_cause context ids (NotTaken f) d a b = absurd a
 values_cause context ids (Explain f) d a b = absurd a
 values_cause context ids (ToMessage f) d a b = absurd a
 values_cause context ids (FromMessage f) d a b = absurd a
+values_cause context ids (Digest f) d a b = absurd a
 values_cause context ids (Lacks l i) (Syntax j) a b = absurd b
 values_cause context ids (Lacks l i) (Ids g) a b = absurd b
 values_cause context ids (Lacks l i) (Sign g) a b = absurd b
@@ -155,6 +160,7 @@ values_cause context ids (Lacks l i) (NotTaken g) a b = absurd b
 values_cause context ids (Lacks l i) (Explain g) a b = absurd b
 values_cause context ids (Lacks l i) (ToMessage g) a b = absurd b
 values_cause context ids (Lacks l i) (FromMessage g) a b = absurd b
+values_cause context ids (Lacks l i) (Digest g) a b = absurd b
 values_cause context ids (Lacks l i) (Lacks m k) a b =
     let same = first_lack_is_one context ids a.0 b.0 l m a.1 b.1 in
     let texts = one_id ids a.0 b.0 i k same.0 a.2 b.2 in
@@ -170,6 +176,7 @@ values_either context ids values (NotTaken f) have c = c
 values_either context ids values (Explain f) have c = c
 values_either context ids values (ToMessage f) have c = c
 values_either context ids values (FromMessage f) have c = c
+values_either context ids values (Digest f) have c = c
 values_either context ids values (Lacks l i) have c = none_lacks context ids values c.0 l have c.1
 
 pub values_decided : AreValuesDecided

@@ -12,9 +12,11 @@ pub mod LowerExplaining
 pub mod ListTexts
 pub mod LowerLaws
 pub mod LowerLists
+pub mod LowerNegotiating
 pub mod LowerRewriting
 pub mod LowerSigning
 pub mod NeededTables
+pub mod Negotiating
 pub mod OneOutcome
 pub mod OneRewriting
 pub mod OneSigning

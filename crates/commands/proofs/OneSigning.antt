@@ -21,7 +21,7 @@ use Rattle.commands.specs.Sign.{AreWishesRefused, IsSignRefused, ReportsEach, Re
 use Rattle.commands.specs.declared.outcome.Outcome.{Outcome}
 use Rattle.commands.specs.declared.outcome.Outcome.TheVariants.{Done, Refused}
 use Rattle.refusals.specs.declared.refusal.CommandRefusal.{CommandRefusal}
-use Rattle.refusals.specs.declared.refusal.CommandRefusal.TheVariants.{Syntax, Ids, Lacks, Sign, Wishes, NotTaken, Explain, ToMessage, FromMessage}
+use Rattle.refusals.specs.declared.refusal.CommandRefusal.TheVariants.{Syntax, Ids, Lacks, Sign, Wishes, NotTaken, Explain, ToMessage, FromMessage, Digest}
 use Rattle.refusals.specs.declared.refusal.Refusal.TheVariants.{Command}
 use Rattle.commands.proofs.Lacking.{id_there, one_id}
 use Rattle.commands.proofs.Signing.{fault_of, said, want_fault_of}
@@ -64,6 +64,7 @@ module _ (context : MessageContext) (spec : SignSpec) where
   one_refusal (Explain f) d a b = absurd a
   one_refusal (ToMessage f) d a b = absurd a
   one_refusal (FromMessage f) d a b = absurd a
+  one_refusal (Digest c) d a b = absurd a
   one_refusal (Lacks l i) (Syntax j) a b = absurd b
   one_refusal (Lacks l i) (Ids g) a b = absurd b
   one_refusal (Lacks l i) (Wishes g) a b = absurd b
@@ -71,6 +72,7 @@ module _ (context : MessageContext) (spec : SignSpec) where
   one_refusal (Lacks l i) (Explain g) a b = absurd b
   one_refusal (Lacks l i) (ToMessage g) a b = absurd b
   one_refusal (Lacks l i) (FromMessage g) a b = absurd b
+  one_refusal (Lacks l i) (Digest c) a b = absurd b
   one_refusal (Lacks l i) (Lacks m k) a b = same_lack l m i k a b
   one_refusal (Lacks l i) (Sign g) a b = absurd (sign_is g i l b a)
   one_refusal (Sign f) (Syntax j) a b = absurd b
@@ -80,6 +82,7 @@ module _ (context : MessageContext) (spec : SignSpec) where
   one_refusal (Sign f) (Explain g) a b = absurd b
   one_refusal (Sign f) (ToMessage g) a b = absurd b
   one_refusal (Sign f) (FromMessage g) a b = absurd b
+  one_refusal (Sign f) (Digest c) a b = absurd b
   one_refusal (Sign f) (Lacks m k) a b = absurd (sign_is f k m a b)
   one_refusal (Sign f) (Sign g) a b = ap (λ (h : SignFault). Sign h) (one_sign_fault context spec f g (said context spec f a) (said context spec g b))
 
@@ -120,6 +123,7 @@ module _ (conf : Configuration) (moment : ℕ) (wishes : Message) (configured : 
   one_unmet (Explain f) d a b = absurd a
   one_unmet (ToMessage f) d a b = absurd a
   one_unmet (FromMessage f) d a b = absurd a
+  one_unmet (Digest c) d a b = absurd a
   one_unmet (Wishes f) (Syntax i) a b = absurd b
   one_unmet (Wishes f) (Ids g) a b = absurd b
   one_unmet (Wishes f) (Lacks l i) a b = absurd b
@@ -128,6 +132,7 @@ module _ (conf : Configuration) (moment : ℕ) (wishes : Message) (configured : 
   one_unmet (Wishes f) (Explain g) a b = absurd b
   one_unmet (Wishes f) (ToMessage g) a b = absurd b
   one_unmet (Wishes f) (FromMessage g) a b = absurd b
+  one_unmet (Wishes f) (Digest c) a b = absurd b
   one_unmet (Wishes f) (Wishes g) a b = ap (λ (h : WantFault). Wishes h) (one_want_fault conf wishes f g configured a b)
 
   one_wished : (context : MessageContext) (one other : Outcome) → ReportsWished moment conf wishes context one → ReportsWished moment conf wishes context other → one ≡ other

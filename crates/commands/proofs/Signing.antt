@@ -1,21 +1,16 @@
 -- A signed message, or the refusal for which there is none; and messages with more than one signature.
-use Rattle.std.proofs.Common.{◌≡◌, ◌≢◌, ◌<◌, ◌≤◌, ◌+◌, ℕ, suc, Bool, List, [], ◌∷◌, length, get_or, drop, Option, Result, Ok, Err, refl, sym, ap, subst, ◌∙◌, inl, inr, arith}
+use Rattle.std.proofs.Common.{◌≢◌, ◌<◌, ℕ, zero, suc, List, [], ◌∷◌, length, Option, Some, None, Result, Ok, Err, refl, sym, ap, subst, inl, inr}
 use Rattle.std.specs.List.{slice_get}
-use Rattle.std.specs.Prelude.{IsTrue}
-use Rattle.std.proofs.lemmas.List.{drop_more, drop_all}
+use Rattle.std.specs.Prelude.{IsSomeAnd}
 use Rattle.std.proofs.lemmas.Option.{slice_get_within}
 use Rattle.byte_grammar.specs.Causes.{AnswersWhere}
-use Rattle.byte_grammar.proofs.Indices.{some_and_parts}
-use Rattle.msg_body.specs.Messages.{Message, Spells, SpellsMessage, is_expected}
-use Rattle.msg_body.specs.Outcome.{IsMessageUnlessMemory}
-use Rattle.msg_body.specs.Views.{MessageParts, message_of}
-use Rattle.msg_body.specs.declared.error.MessageError.{MessageError}
-use Rattle.msg_body.specs.declared.error.MessageError.TheVariants as message_error
-use Rattle.msg_body.specs.declared.expect.Expect.TheVariants.{Any}
-use Rattle.msg_body.specs.declared.read.MessageRead.{MessageRead}
-use Rattle.msg_body.specs.declared.read.MessageRead.TheVariants.{Whole, Partial}
+use Rattle.byte_grammar.proofs.Indices.{some_and, some_and_parts}
+use Rattle.msg_body.specs.Messages.{Message, message_text}
+use Rattle.negotiation.specs.Each.{IsEachFault, IsSignedEach, IsUnsignedAt, SpellsEach}
+use Rattle.negotiation.specs.declared.fault.EachFault.{EachFault}
+use Rattle.negotiation.specs.declared.fault.EachFault.TheVariants as each
 use Rattle.component_ids.specs.declared.id.ComponentId.{ComponentId}
-use Rattle.component_values.specs.Context.{MessageContext, answers_head, context_with}
+use Rattle.component_values.specs.Context.{MessageContext, context_with}
 use Rattle.component_values.specs.Values.{IsFirstLack, Lacks as LacksSo}
 use Rattle.derived_values.specs.declared.lack.Lack.{Lack}
 use Rattle.framing.specs.Framings.{is_request}
@@ -31,16 +26,15 @@ use Rattle.signing.specs.declared.fault.SignFault.{SignFault}
 use Rattle.signing.specs.declared.fault.SignFault.TheVariants as fault
 use Rattle.signing.specs.declared.spec.SignSpec.{SignSpec}
 use Rattle.commands.proofs.Lacking.{said_id}
-use Rattle.msg_body.proofs.WholeTexts.{at_length}
 use Rattle.commands.specs.Sign.{AreWishesRefused, IsSignRefused, ReportsEach, ReportsSign, ReportsWished}
 use Rattle.commands.specs.Stops.{IfOutcome, IfRefused, IsRefusalFor, ReadsNothing, stop_of_want}
 use Rattle.commands.specs.declared.outcome.Outcome.{Outcome}
 use Rattle.commands.specs.declared.outcome.Outcome.TheVariants.{Done, Refused}
 use Rattle.commands.specs.declared.stop.Stop.{Stop}
 use Rattle.commands.specs.declared.stop.Stop.TheVariants as ends
-use Rattle.commands.specs.tools.Signed.{HasIndexIn, SaysSignFault, IsSignedText, AreSignedSoFar}
+use Rattle.commands.specs.tools.Signed.{HasIndexIn, HasPlaceIn, IsSignedText, SaysEachFault, SaysSignFault}
 use Rattle.refusals.specs.declared.refusal.CommandRefusal.{CommandRefusal}
-use Rattle.refusals.specs.declared.refusal.CommandRefusal.TheVariants.{Syntax, Ids, Lacks, Sign, Wishes, NotTaken, Explain, ToMessage, FromMessage}
+use Rattle.refusals.specs.declared.refusal.CommandRefusal.TheVariants.{Syntax, Ids, Lacks, Sign, Wishes, NotTaken, Explain, ToMessage, FromMessage, Digest}
 use Rattle.refusals.specs.declared.refusal.Refusal.{Refusal}
 use Rattle.refusals.specs.declared.refusal.Refusal.TheVariants.{Command}
 
@@ -50,7 +44,7 @@ IsAnswered context spec result =
     (f : SignFault) → f ≢ fault.Memory → AnswersWhere fault.Memory result f (IsSignFault context spec f)
 
 -- a component that lacks a value is one of them
-lack_within : (context : MessageContext) (ids : List ComponentId) (index : ℕ) (lack : Lack) → IsFirstLack context ids index lack → index < length ids
+pub lack_within : (context : MessageContext) (ids : List ComponentId) (index : ℕ) (lack : Lack) → IsFirstLack context ids index lack → index < length ids
 lack_within context ids index lack first =
     let there = some_and_parts (λ (id : ComponentId). LacksSo context id lack) (slice_get ids index) first.there in
     slice_get_within ids index there.0 there.1
@@ -74,22 +68,26 @@ module _ (context : MessageContext) (spec : SignSpec) where
       let id = said_id spec.params.ids index lack stop says in
       rw id.2 (Lacks lack id.0, (index, first, id.1), refl)
 
-  -- a stop that says the fault refuses the command
+  -- a stop that says a fault refuses the command
+  pub fault_stopped : (f : SignFault) (stop : Stop) → IsSignFault context spec f → SaysSignFault spec.params.ids f stop → IfRefused stop (IsRefusalFor (IsSignRefused context spec) Command)
+  fault_stopped fault.Memory stop is says = rw says tt
+  fault_stopped fault.InputMalformed stop is says = rw says (Sign fault.InputMalformed, is, refl)
+  fault_stopped fault.SignatureMalformed stop is says = rw says (Sign fault.SignatureMalformed, is, refl)
+  fault_stopped fault.LabelThere stop is says = rw says (Sign fault.LabelThere, is, refl)
+  fault_stopped (fault.SelfCover index) stop is says = rw says (Sign (fault.SelfCover index), is, refl)
+  fault_stopped (fault.TooLong limit) stop is says = rw says (Sign (fault.TooLong limit), is, refl)
+  fault_stopped (fault.Lacks index lack) stop is says = lack_stopped index lack stop is says
+
+  -- the same of an answer
   pub sign_stopped : (f : SignFault) (stop : Stop) → IsAnswered context spec (Err f) → SaysSignFault spec.params.ids f stop
       → IfRefused stop (IsRefusalFor (IsSignRefused context spec) Command)
   sign_stopped fault.Memory stop answered says = rw says tt
-  sign_stopped fault.InputMalformed stop answered says =
-      rw says (Sign fault.InputMalformed, (answered fault.InputMalformed (λ e. absurd (cc e))).only refl, refl)
-  sign_stopped fault.SignatureMalformed stop answered says =
-      rw says (Sign fault.SignatureMalformed, (answered fault.SignatureMalformed (λ e. absurd (cc e))).only refl, refl)
-  sign_stopped fault.LabelThere stop answered says =
-      rw says (Sign fault.LabelThere, (answered fault.LabelThere (λ e. absurd (cc e))).only refl, refl)
-  sign_stopped (fault.SelfCover index) stop answered says =
-      rw says (Sign (fault.SelfCover index), (answered (fault.SelfCover index) (λ e. absurd (cc e))).only refl, refl)
-  sign_stopped (fault.TooLong limit) stop answered says =
-      rw says (Sign (fault.TooLong limit), (answered (fault.TooLong limit) (λ e. absurd (cc e))).only refl, refl)
-  sign_stopped (fault.Lacks index lack) stop answered says =
-      lack_stopped index lack stop ((answered (fault.Lacks index lack) (λ e. absurd (cc e))).only refl) says
+  sign_stopped fault.InputMalformed stop answered says = fault_stopped fault.InputMalformed stop ((answered fault.InputMalformed (λ e. absurd (cc e))).only refl) says
+  sign_stopped fault.SignatureMalformed stop answered says = fault_stopped fault.SignatureMalformed stop ((answered fault.SignatureMalformed (λ e. absurd (cc e))).only refl) says
+  sign_stopped fault.LabelThere stop answered says = fault_stopped fault.LabelThere stop ((answered fault.LabelThere (λ e. absurd (cc e))).only refl) says
+  sign_stopped (fault.SelfCover index) stop answered says = fault_stopped (fault.SelfCover index) stop ((answered (fault.SelfCover index) (λ e. absurd (cc e))).only refl) says
+  sign_stopped (fault.TooLong limit) stop answered says = fault_stopped (fault.TooLong limit) stop ((answered (fault.TooLong limit) (λ e. absurd (cc e))).only refl) says
+  sign_stopped (fault.Lacks index lack) stop answered says = fault_stopped (fault.Lacks index lack) stop ((answered (fault.Lacks index lack) (λ e. absurd (cc e))).only refl) says
 
   -- ---- no refusal
 
@@ -112,6 +110,7 @@ module _ (context : MessageContext) (spec : SignSpec) where
   fault_of (Explain f) is = absurd is
   fault_of (ToMessage f) is = absurd is
   fault_of (FromMessage f) is = absurd is
+  fault_of (Digest c) is = absurd is
   fault_of (Lacks lack id) is = (fault.Lacks is.0 lack, is.1)
   fault_of (Sign f) is = (f, said f is)
 
@@ -162,72 +161,75 @@ module _ (value : Option (List ℕ)) (moment : ℕ) (conf : Configuration) (cont
   asked_stopped stop stopped =
       says_more (ReportsEach context (spec ∷ [])) (ReportsSign value moment conf context) (Err stop) (λ outcome reports. record { spec = spec; is = is; reports = reports }) (stop_reported context spec [] stop stopped)
 
--- ---- a message that is read again
-
--- what is known of the answer, by the contract of what reads
-abbrev pub FindsAny : Bool → List ℕ → Result MessageRead MessageError → Type 0
-FindsAny to_head bytes result =
-    (message : Message) (used : ℕ) → SpellsMessage to_head message used bytes → IsTrue (is_expected Any message.head.start) → IsMessageUnlessMemory result message used
-
-module _ (context : MessageContext) (message : Message) (bytes : List ℕ) (spells : Spells (answers_head context.related) message bytes)
-    (to_head : Bool) (same : to_head ≡ answers_head context.related) (result : Result MessageRead MessageError) (found : FindsAny to_head bytes result) where
-  answered_by : (answer : Result MessageRead MessageError) → result ≡ answer → IsMessageUnlessMemory answer message (length bytes)
-  answered_by answer is =
-      let whole = at_length to_head bytes message (subst (λ (b : Bool). Spells b message bytes) (sym same) spells) in
-      subst (λ (r : Result MessageRead MessageError). IsMessageUnlessMemory r message (length bytes)) is (found message (length bytes) whole refl)
-
-  pub not_partial : ¬ (result ≡ Ok Partial)
-  not_partial is = answered_by (Ok Partial) is
-
-  pub only_memory : (error : MessageError) → result ≡ Err error → error ≡ message_error.Memory
-  only_memory error is = answered_by (Err error) is
-
-  -- the message that was read is the one that the bytes spell
-  pub same_message : (view : MessageParts) (count : ℕ) → result ≡ Ok (Whole view count) → message_of view ≡ message
-  same_message view count is = (answered_by (Ok (Whole view count)) is).0
-
-  pub spelled_again : (view : MessageParts) (count : ℕ) → result ≡ Ok (Whole view count) → Spells (answers_head context.related) (message_of view) bytes
-  spelled_again view count is = subst (λ (m : Message). Spells (answers_head context.related) m bytes) (sym (same_message view count is)) spells
-
 -- ---- more than one
 
-module _ (context : MessageContext) (specs : List SignSpec) where
-  -- the signature at an index of those after the first
-  module _ (first : SignSpec) (others : List SignSpec) (are : specs ≡ first ∷ others) where
-    pub other_is : (count : ℕ) (spec : SignSpec) → spec ≡ get_or others count spec → spec ≡ get_or specs (count + 1) spec
-    other_is count spec is =
-        let next : suc count ≡ count + 1 = omega arith in
-        rw are (subst (λ n. spec ≡ get_or (first ∷ others) n spec) next is)
+-- what is known of the answer, by the contract of what signs each
+abbrev pub EachAnswered : MessageContext → List SignSpec → Result (List ℕ) EachFault → Type 0
+EachAnswered context specs result =
+    (f : EachFault) → f ≢ each.Memory → AnswersWhere each.Memory result f (IsEachFault context specs f)
 
-  -- the signature at an index is the next one
-  next_is : (count : ℕ) (spec : SignSpec) → count < length specs → spec ≡ get_or specs count spec → drop count specs ≡ spec ∷ drop (count + 1) specs
-  next_is count spec lt is = drop_more specs count spec lt ∙ ap (λ (s : SignSpec). s ∷ drop (count + 1) specs) (sym is)
+-- a component that lacks a value is one of its signature
+pub index_of : (context : MessageContext) (spec : SignSpec) (f : SignFault) → IsSignFault context spec f → HasIndexIn (length spec.params.ids) f
+index_of context spec (fault.Lacks index lack) is = lack_within _ spec.params.ids index lack is.holds
+index_of context spec fault.Memory is = tt
+index_of context spec fault.InputMalformed is = tt
+index_of context spec fault.SignatureMalformed is = tt
+index_of context spec fault.LabelThere is = tt
+index_of context spec (fault.SelfCover index) is = tt
+index_of context spec (fault.TooLong limit) is = tt
 
-  module _ (count : ℕ) (spec : SignSpec) (text : List ℕ) (lt : count < length specs) (is : spec ≡ get_or specs count spec) (so_far : AreSignedSoFar context specs count text) where
-    -- what comes of the message so far with the signatures from there on comes of all
-    goes_on : (outcome : Outcome) → ReportsEach (context_with context so_far.message) (spec ∷ drop (count + 1) specs) outcome → ReportsEach context specs outcome
-    goes_on outcome reports =
-        so_far.others outcome (subst (λ (ss : List SignSpec). ReportsEach (context_with context so_far.message) ss outcome) (sym (next_is count spec lt is)) reports)
+-- a signature that isn't made is one of them
+pub place_in : (context : MessageContext) (specs : List SignSpec) (f : EachFault) → EachAnswered context specs (Err f) → HasPlaceIn specs f
+place_in context specs each.Memory answered = tt
+place_in context specs (each.Sign index f) answered =
+    let at = (answered (each.Sign index f) (λ e. absurd (cc e))).only refl in
+    let over = context_with context at.before in
+    let spec = some_and_parts (λ (s : SignSpec). IsSignFault over s f) (slice_get specs index) at.there in
+    some_and (λ (s : SignSpec). HasIndexIn (length s.params.ids) f) (slice_get specs index) spec.0 spec.1 (index_of over spec.0 f spec.2)
 
-    pub more_signed : (more : List ℕ) → ((message : Message) → Spells (answers_head context.related) message text → IsSignedText (context_with context message) spec more)
-        → AreSignedSoFar context specs (count + 1) more
-    more_signed more says =
-        let one = says so_far.message so_far.spells in
-        record { message = one.written; spells = one.spells; others = λ outcome reports. goes_on outcome (inl (one.written, one.is, reports)) }
+-- a message that has them all has them without a refusal
+each_made : (specs : List SignSpec) (context : MessageContext) (written : Message) → IsSignedEach context specs written → ReportsEach context specs (Done (message_text written))
+each_made [] context written is = ap (λ (m : Message). Done (message_text m)) is
+each_made (spec ∷ specs) context written (signed, faultless, rest) =
+    inl (signed, record { made = faultless.signed; none = λ cause refused. let f = fault_of context spec cause refused in faultless.none f.0 f.1 }, each_made specs (context_with context signed) written rest)
 
-    pub more_stopped : (stop : Stop)
-        → ((message : Message) → Spells (answers_head context.related) message text → IfRefused stop (IsRefusalFor (IsSignRefused (context_with context message) spec) Command))
-        → IfOutcome (Err stop) (ReportsEach context specs)
-    more_stopped stop says =
-        let now = context_with context so_far.message in
-        says_more (ReportsEach now (spec ∷ drop (count + 1) specs)) (ReportsEach context specs) (Err stop) goes_on
-        (stop_reported now spec (drop (count + 1) specs) stop (says so_far.message so_far.spells))
+pub each_reported : (specs : List SignSpec) (context : MessageContext) (text : List ℕ) → SpellsEach context specs text → ReportsEach context specs (Done text)
+each_reported specs context text spells =
+    subst (λ (t : List ℕ). ReportsEach context specs (Done t)) (sym spells.2.text) (each_made specs context spells.0 spells.1)
 
-  pub all_signed : (count : ℕ) (text : List ℕ) → length specs ≤ count → AreSignedSoFar context specs count text → ReportsEach context specs (Done text)
-  all_signed count text past so_far =
-      so_far.others (Done text)
-      (subst (λ (ss : List SignSpec). ReportsEach (context_with context so_far.message) ss (Done text)) (sym (drop_all count specs past))
-      (ap (λ (t : List ℕ). Done t) so_far.spells.text))
+-- a stop that says the fault of one of them refuses the command
+unsigned_at : (specs : List SignSpec) (context : MessageContext) (index : ℕ) (f : SignFault) (stop : Stop) → IsUnsignedAt context specs index f → SaysEachFault specs (each.Sign index f) stop
+    → IfOutcome (Err stop) (ReportsEach context specs)
+unsigned_at [] context index f stop at says = absurd at.there
+unsigned_at (spec ∷ specs) context zero f stop at says =
+    stop_reported context spec specs stop (fault_stopped context spec f stop (subst (λ (m : Message). IsSignFault (context_with context m) spec f) at.signed at.there) says)
+unsigned_at (spec ∷ specs) context (suc index) f stop at says =
+    let first = at.signed in
+    says_more (ReportsEach (context_with context first.0) specs) (ReportsEach context (spec ∷ specs)) (Err stop)
+    (λ outcome reports. inl (first.0, record { made = first.1.signed; none = λ cause refused. let g = fault_of context spec cause refused in first.1.none g.0 g.1 }, reports))
+    (unsigned_at specs (context_with context first.0) index f stop (record { before = at.before; signed = first.2; there = at.there }) says)
+
+pub each_stopped : (specs : List SignSpec) (context : MessageContext) (f : EachFault) (stop : Stop) → EachAnswered context specs (Err f) → SaysEachFault specs f stop → IfOutcome (Err stop) (ReportsEach context specs)
+each_stopped specs context each.Memory stop answered says = rw says tt
+each_stopped specs context (each.Sign index f) stop answered says = unsigned_at specs context index f stop ((answered (each.Sign index f) (λ e. absurd (cc e))).only refl) says
+
+pub each_quietly : (specs : List SignSpec) (f : EachFault) (stop : Stop) → SaysEachFault specs f stop → ReadsNothing (Err stop)
+each_quietly specs each.Memory stop says = rw says tt
+each_quietly specs (each.Sign index f) stop says = said_quietly (slice_get specs index) f stop says
+  where
+    said_of : (ids : List ComponentId) (g : SignFault) (s : Stop) → SaysSignFault ids g s → ReadsNothing (Err s)
+    said_of ids fault.Memory s is = rw is tt
+    said_of ids fault.InputMalformed s is = rw is tt
+    said_of ids fault.SignatureMalformed s is = rw is tt
+    said_of ids fault.LabelThere s is = rw is tt
+    said_of ids (fault.SelfCover place) s is = rw is tt
+    said_of ids (fault.TooLong limit) s is = rw is tt
+    said_of ids (fault.Lacks place lack) s (inl memory) = rw memory tt
+    said_of ids (fault.Lacks place lack) s (inr is) = let id = said_id ids place lack s is in rw id.2 tt
+
+    said_quietly : (o : Option SignSpec) (g : SignFault) (s : Stop) → IsSomeAnd o (λ spec. SaysSignFault spec.params.ids g s) → ReadsNothing (Err s)
+    said_quietly None g s is = absurd is
+    said_quietly (Some spec) g s is = said_of spec.params.ids g s is
 
 -- ---- what a message wishes
 
@@ -262,6 +264,7 @@ module _ (conf : Configuration) (moment : ℕ) (message : Message) (context : Me
   want_fault_of (Explain f) is = absurd is
   want_fault_of (ToMessage f) is = absurd is
   want_fault_of (FromMessage f) is = absurd is
+  want_fault_of (Digest c) is = absurd is
   want_fault_of (Wishes f) is = (f, is)
 
   no_want_fault : (specs : List SignSpec) → WantsAnswered conf message (Ok specs) → (f : WantFault) → ¬ IsWantFault conf message f

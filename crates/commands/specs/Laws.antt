@@ -22,6 +22,7 @@ use Rattle.commands.specs.Layers.{IsDecisive, HasAnswer}
 use Rattle.commands.specs.Lists.{IsListText, IsListRefused, ReportsIntoFields, ReportsIntoMessage}
 use Rattle.commands.specs.Messages.{IsInputMessage, IsInputRefused}
 use Rattle.commands.specs.MessageFiles.{IsMessageFile, IsMessageFileRefused, IsRequested, IsRequestRefused, IsWanted, IsWantedRefused, IsOfBytes}
+use Rattle.commands.specs.Negotiate.{ReportsNegotiation}
 use Rattle.recording.specs.Items.{PlacedItem}
 use Rattle.hop_audit.specs.Report.{IsAudit}
 use Rattle.rewrite_script.specs.Lines.{is_writable}
@@ -151,6 +152,14 @@ HasOneIntoFields =
     (context : MessageContext) (one other : Outcome) → ReportsIntoFields context one
     → ReportsIntoFields context other → one ≡ other
 
+-- a moment, a configuration that says what is signed, and the context of a response have at most
+-- one outcome of `negotiate`
+abbrev pub HasOneNegotiation : Type 0
+HasOneNegotiation =
+    (moment : ℕ) (conf : Configuration) (context : MessageContext) (one other : Outcome)
+    → IsSome conf.sign → ReportsNegotiation moment conf context one
+    → ReportsNegotiation moment conf context other → one ≡ other
+
 -- a seed and a number of hops have at most one outcome of `sample`
 abbrev pub HasOneSampling : Type 0
 HasOneSampling =
@@ -275,6 +284,14 @@ HasSomeIntoMessage =
 abbrev pub HasSomeIntoFields : Type 0
 HasSomeIntoFields =
     (context : MessageContext) → (outcome : Outcome) × ReportsIntoFields context outcome
+
+-- a moment, a configuration that says what is signed, and the context of a response whose request
+-- is known have an outcome of `negotiate`
+abbrev pub HasSomeNegotiation : Type 0
+HasSomeNegotiation =
+    (moment : ℕ) (conf : Configuration) (context : MessageContext) → IsSome conf.sign
+    → IsSome context.related
+    → (outcome : Outcome) × ReportsNegotiation moment conf context outcome
 
 -- they have an outcome of `sample`, which is what was asked for
 abbrev pub HasSomeSampling : Type 0

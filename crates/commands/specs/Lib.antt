@@ -9,6 +9,7 @@ pub mod Layers
 pub mod Lists
 pub mod MessageFiles
 pub mod Messages
+pub mod Negotiate
 pub mod Outcome
 pub mod Rewrite
 pub mod RewrittenMessages

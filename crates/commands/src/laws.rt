@@ -1,7 +1,7 @@
 //! Laws of what is read, and of what comes of it. Each function does nothing; its contract is the
 //! law.
 
-ghost use Rattle.commands.specs.Laws.{IsConfigurationDecided, AreTablesDecided, IsRequestDecided, IsWantedDecided, IsScriptDecided, IsInputDecided, AreParamsDecided, AreValuesDecided, HaveOneOutcome, HasConfiguration, HaveTables, HasRequest, HasWanted, HasScript, HasMessage, HaveParams, HaveValuesOrLack, HaveSomeOutcome, HasOneSigning, HasSomeSigning, IsValidWhereConfigured, HasOneRewritten, HasSomeRewritten, HasOneExplained, HasSomeExplained, IsRecordDecided, HasRecord, IsWritableWhereScripted, HaveValuesWhereScripted, HasOneAuditing, HasSomeAuditing, HasOneSampling, HasSomeSampling, IsRecordingDecided, IsChainDecided, HasRecording, HasAudit, IsListDecided, HasList, HasOneIntoFields, HasOneIntoMessage, HasSomeIntoFields, HasSomeIntoMessage};
+ghost use Rattle.commands.specs.Laws.{IsConfigurationDecided, AreTablesDecided, IsRequestDecided, IsWantedDecided, IsScriptDecided, IsInputDecided, AreParamsDecided, AreValuesDecided, HaveOneOutcome, HasConfiguration, HaveTables, HasRequest, HasWanted, HasScript, HasMessage, HaveParams, HaveValuesOrLack, HaveSomeOutcome, HasOneSigning, HasSomeSigning, IsValidWhereConfigured, HasOneRewritten, HasSomeRewritten, HasOneExplained, HasSomeExplained, IsRecordDecided, HasRecord, IsWritableWhereScripted, HaveValuesWhereScripted, HasOneAuditing, HasSomeAuditing, HasOneSampling, HasSomeSampling, IsRecordingDecided, IsChainDecided, HasRecording, HasAudit, IsListDecided, HasList, HasOneIntoFields, HasOneIntoMessage, HasSomeIntoFields, HasSomeIntoMessage, HasOneNegotiation, HasSomeNegotiation};
 ghost use Rattle.commands.specs.SignedMessages.{IsKeptWhereSigned, IsMessageWhereSigned, IsRightWhereSigned};
 ghost use Rattle.commands.specs.RewrittenMessages.{IsMessageWhereRewritten, HasVerdictWhereRewritten};
 
@@ -77,6 +77,12 @@ pub fn turning_has_one_outcome()
     ensures some_message { HasSomeIntoMessage }
     ensures fields { HasOneIntoFields }
     ensures some_fields { HasSomeIntoFields }
+{}
+
+/// What is signed as a request asks has one outcome.
+pub fn negotiating_has_one_outcome()
+    ensures one { HasOneNegotiation }
+    ensures some { HasSomeNegotiation }
 {}
 
 /// What is sampled has one outcome, and it is no refusal.

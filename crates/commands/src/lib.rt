@@ -7,7 +7,8 @@
 //! recorded chain of messages, over a configuration and an input that is a recording. `sample`
 //! writes the summary of the report on a chain that is drawn from a seed. `explain` writes the
 //! rewritings that lead two records of one message to messages that are alike. `lists` writes the
-//! message of a recorded list of fields, or the list of a message.
+//! message of a recorded list of fields, or the list of a message. `negotiate` writes a response
+//! with the signatures and the digest that its request asks for (RFC 9421 section 5).
 //!
 //! ```text
 //! let conf = read_configuration(alloc, Some("hms.toml"), &mut shelf)?;
@@ -31,6 +32,7 @@ mod laws;
 mod lists;
 mod message;
 mod message_file;
+mod negotiate;
 mod outcome;
 mod rewrite;
 mod sample;
@@ -46,14 +48,15 @@ pub use configured::read_configuration;
 pub use explain::explain_outcome;
 pub use laws::{
     auditing_has_one_outcome, each_layer_has_an_answer, each_layer_is_decided,
-    explaining_has_one_outcome, rewriting_has_one_outcome, signing_has_one_outcome,
-    turning_has_one_outcome, verdicts_have_one_outcome, what_is_rewritten_keeps_its_verdict,
-    what_is_signed_is_rightly_signed,
+    explaining_has_one_outcome, negotiating_has_one_outcome, rewriting_has_one_outcome,
+    signing_has_one_outcome, turning_has_one_outcome, verdicts_have_one_outcome,
+    what_is_rewritten_keeps_its_verdict, what_is_signed_is_rightly_signed,
 };
 pub use lists::{list_outcome, message_outcome};
 pub use message::message_of_role;
 pub use message_file::{fetch_message, fetched_message};
 pub use msg_body::Reading;
+pub use negotiate::negotiate_outcome;
 pub use outcome::Outcome;
 pub use rewrite::rewrite_outcome;
 pub use sample::sample_outcome;

@@ -1,13 +1,12 @@
 //! The command `sign`: the message with a signature (RFC 9421 section 3.1), or with those that
 //! another message wishes (section 5.1).
 
-ghost use Rattle.std.specs.Prelude.{◌≡◌, ◌≤◌, option_map, length, IfOk, IfSome, IsSome, IsTrue};
+ghost use Rattle.std.specs.Prelude.{◌≤◌, option_map, length, IfOk, IfSome, IsSome, IsTrue};
 ghost use Rattle.std.specs.List.{All, list_all};
 ghost use Rattle.sfv_text.specs.Range.{is_string_byte};
-ghost use Rattle.msg_body.specs.Messages.{Message, Spells};
 ghost use Rattle.msg_body.specs.Views.{message_of};
 ghost use Rattle.component_ids.specs.Identifiers.{is_id_in_range};
-ghost use Rattle.component_values.specs.Context.{HasWholeMessage, context_of, answers_head, context_with};
+ghost use Rattle.component_values.specs.Context.{HasWholeMessage, context_of};
 ghost use Rattle.conf.specs.ConfMeaning.{meaning};
 ghost use Rattle.nonces.specs.declared.limits.TheConstants.{MAX_MOMENT};
 ghost use Rattle.framing.specs.Framings.{is_request};
@@ -15,7 +14,7 @@ ghost use Rattle.signing.specs.Asked.{IsSpecOf};
 ghost use Rattle.signing.specs.Specs.{IsValidSpec};
 ghost use Rattle.commands.specs.Sign.{ReportsEach, ReportsSign, ReportsWished};
 ghost use Rattle.commands.specs.Stops.{IfOutcome, ReadsNothing};
-ghost use Rattle.commands.specs.tools.Signed.{HasIndexIn, SaysSignFault, IsOneText, SaysSigned};
+ghost use Rattle.commands.specs.tools.Signed.{HasIndexIn, HasPlaceIn, SaysEachFault, SaysSignFault, SaysSigned};
 
 use crate::base::stop_for_fault;
 use crate::outcome::Outcome;
@@ -23,7 +22,8 @@ use crate::stop::Stop;
 use component_values::{Context, ValueFault};
 use conf::Conf;
 use framing::is_request;
-use msg_body::{Expect, MessageError, MessageRead, MessageView, read_message};
+use msg_body::MessageView;
+use negotiation::{EachFault, sign_each};
 use refusals::{CommandRefusal, Refusal};
 use sfv_text::{Memory, Text};
 use signing::{SignFault, SignSpec, sign, spec_of, wanted};
@@ -57,59 +57,30 @@ fn signed_text(alloc: Global, context: &Context<'_, '_>, spec: &SignSpec) -> Res
     }
 }
 
-/// Want of memory, which is the one error of a text that is a message.
-fn only_memory(error: MessageError) -> Stop
-    requires { error ≡ MessageError.Memory }
-    ensures { result ≡ Stop.Memory }
+/// What stops a run over a message, where one of these signatures isn't made.
+pub(crate) fn stop_for_each_fault(alloc: Global, specs: &[SignSpec], fault: EachFault) -> Stop
+    requires valid { All IsValidSpec specs.now }
+    requires there { HasPlaceIn specs.now fault }
+    ensures { SaysEachFault specs.now fault result }
 {
-    match error {
-        MessageError::Memory => Stop::Memory,
-        _ => unreachable!(),
-    }
-}
-
-/// The message of these bytes, in place of the context's, with the signature that is asked for.
-fn signed_again(
-    alloc: Global,
-    bytes: &[u8],
-    context: &Context<'_, '_>,
-    spec: &SignSpec,
-) -> Result<Text, Stop>
-    requires valid { IsValidSpec spec.now }
-    requires spells { IsOneText (context_of context.now) bytes.now }
-    ensures { (message : Message)
-        → Spells (answers_head (context_of context.now).related) message bytes.now
-        → SaysSigned (context_with (context_of context.now) message) spec.now result }
-{
-    match read_message(alloc, bytes, Expect::Any, context.answers_head()) {
-        Ok(MessageRead::Whole(message, _)) => {
-            let context = Context {
-                message: &message,
-                ..*context
-            };
-            signed_text(alloc, &context, spec)
-        }
-        Ok(MessageRead::Partial) => unreachable!(),
-        Err(error) => Err(only_memory(error)),
+    match fault {
+        EachFault::Memory => Stop::Memory,
+        EachFault::Sign(index, fault) => stop_for_sign_fault(alloc, &specs[index], fault),
     }
 }
 
 /// The message of the context with each of these signatures in order, each over the message that
 /// the one before it gave.
-fn sign_each(alloc: Global, context: &Context<'_, '_>, specs: &[SignSpec]) -> Result<Outcome, Stop>
+fn sign_specs(alloc: Global, context: &Context<'_, '_>, specs: &[SignSpec]) -> Result<Outcome, Stop>
     requires valid { All IsValidSpec specs.now }
     requires whole { HasWholeMessage (context_of context.now) }
     ensures report { IfOutcome result (ReportsEach (context_of context.now) specs.now) }
     ensures reads_nothing { ReadsNothing result }
 {
-    let Some((first, others)) = specs.split_first() else {
-        return Ok(Outcome::Done(Text::from_bytes(alloc, context.message.bytes())?));
-    };
-    let mut text = signed_text(alloc, context, first)?;
-    for spec in others {
-        text = signed_again(alloc, text.bytes(), context, spec)?;
+    match sign_each(alloc, context, specs) {
+        Ok(text) => Ok(Outcome::Done(text)),
+        Err(fault) => Err(stop_for_each_fault(alloc, specs, fault)),
     }
-    Ok(Outcome::Done(text))
 }
 
 /// The signature that the configuration asks for.
@@ -173,5 +144,5 @@ pub fn wished_outcome(
     ensures reads_nothing { ReadsNothing result }
 {
     let specs = wanted(alloc, wishes, conf, now)?;
-    sign_each(alloc, context, specs.as_slice())
+    sign_specs(alloc, context, specs.as_slice())
 }

@@ -1,7 +1,7 @@
 //! What ends a run before it is done.
 
 ghost use Rattle.std.specs.Prelude.{◌≡◌};
-ghost use Rattle.refusals.specs.declared.refusal.CommandRefusal.TheVariants.{NotTaken};
+ghost use Rattle.refusals.specs.declared.refusal.CommandRefusal.TheVariants.{Digest, NotTaken};
 ghost use Rattle.refusals.specs.declared.refusal.Refusal.TheVariants.{Command, Of};
 ghost use Rattle.commands.specs.declared.stop.Stop.TheVariants.{Refused};
 ghost use Rattle.commands.specs.Stops.{stop_of_fill, stop_of_file, stop_of_message};
@@ -15,7 +15,7 @@ use list_texts::FieldsFault;
 use msg_body::{MessageError, MessageFault};
 use normal_forms::ExplainFault;
 use recording::RecordingFault;
-use refusals::{CommandRefusal, FileRefusal, Refusal, Role, StepRefusal};
+use refusals::{CommandRefusal, DigestRefusal, FileRefusal, Refusal, Role, StepRefusal};
 use rewrite_script::{MAX_SCRIPT_BYTES, ScriptFault};
 use rewrites::WalkFault;
 use sfv_read::SfError;
@@ -46,6 +46,13 @@ impl Stop {
         ensures { result ≡ Refused (Command (NotTaken cause)) }
     {
         Stop::Refused(Refusal::Command(CommandRefusal::NotTaken(cause)))
+    }
+
+    /// The refusal of a digest that isn't made.
+    pub(crate) fn of_digest(cause: DigestRefusal) -> Stop
+        ensures { result ≡ Refused (Command (Digest cause)) }
+    {
+        Stop::Refused(Refusal::Command(CommandRefusal::Digest(cause)))
     }
 
     /// What keeps the input from being read whole, of which this is the limit.

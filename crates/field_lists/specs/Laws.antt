@@ -30,6 +30,7 @@ HasMessageOrFault = (list : FieldList) (scheme : Scheme) →
     ((message : Message) × TurnsInto list scheme message)
     ⊎ ((fault : ToFault) × IsToFault list scheme fault)
 
+-- a list is turned into at most one message
 abbrev pub OneMessage : Type 0
 OneMessage = (list : FieldList) (scheme : Scheme) (message other : Message) →
     TurnsInto list scheme message → TurnsInto list scheme other → message ≡ other

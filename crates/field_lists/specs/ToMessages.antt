@@ -64,6 +64,7 @@ abbrev pub head_lines : Control → List Field → Bool → List FieldLine
 head_lines control others in_chunks =
     host_lines control ++ (map line_of_field others ++ coding_lines in_chunks)
 
+-- the start line, and the field lines
 abbrev pub head_with : Control → List Field → Bool → Head
 head_with control others in_chunks =
     record { start = start_of control; lines = head_lines control others in_chunks }

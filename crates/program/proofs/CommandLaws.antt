@@ -9,17 +9,21 @@ use Rattle.commands.proofs.NeededTables as tables
 use Rattle.commands.proofs.OneSigning as signing
 use Rattle.commands.proofs.ScriptFiles as scripts
 use Rattle.commands.proofs.LowerExplaining as explained
+use Rattle.commands.proofs.Negotiating as negotiating
 use Rattle.commands.proofs.LowerRewriting as rewritten
 use Rattle.commands.proofs.SignedMessages as signed
 use Rattle.commands.proofs.TakenFiles as files
 use Rattle.commands.proofs.Turning as turning
+use Rattle.negotiation.proofs.ChosenDigests as digests
+use Rattle.negotiation.proofs.WishedSignatures as negotiated
+use Rattle.negotiation.specs.Laws.{HasDigestWhereChosen, HasEachWished, IsMessageWhereNegotiated, KeepsEachSignature}
 use Rattle.field_lists.proofs.FromLaws as from
 use Rattle.field_lists.proofs.ListRows as list_rows
 use Rattle.field_lists.proofs.MessageRows as message_rows
 use Rattle.field_lists.proofs.ToLaws as to
 use Rattle.field_lists.proofs.WholeMessages as whole
 use Rattle.field_lists.specs.Laws.{HasListOrFromFault, HasMessageOrFault, IsWholeMessage, ListHasTheSame, MessageHasTheSame}
-use Rattle.commands.specs.Laws.{HasOneIntoFields, HasOneIntoMessage, HasSomeIntoFields, HasSomeIntoMessage, IsConfigurationDecided, AreTablesDecided, IsRecordDecided, IsRequestDecided, IsWantedDecided, IsInputDecided, AreParamsDecided, AreValuesDecided, HaveOneOutcome, HasConfiguration, HaveTables, HasRecord, HasRequest, HasWanted, HasMessage, HaveParams, HaveValuesOrLack, HaveSomeOutcome, HasOneSigning, HasSomeSigning, IsValidWhereConfigured, IsScriptDecided, HasScript, HasOneExplained, HasSomeExplained, HasOneRewritten, HasSomeRewritten, HaveValuesWhereScripted, IsWritableWhereScripted, HasAudit, HasOneAuditing, HasSomeAuditing, HasOneSampling, HasSomeSampling}
+use Rattle.commands.specs.Laws.{HasOneIntoFields, HasOneIntoMessage, HasSomeIntoFields, HasSomeIntoMessage, IsConfigurationDecided, AreTablesDecided, IsRecordDecided, IsRequestDecided, IsWantedDecided, IsInputDecided, AreParamsDecided, AreValuesDecided, HaveOneOutcome, HasConfiguration, HaveTables, HasRecord, HasRequest, HasWanted, HasMessage, HaveParams, HaveValuesOrLack, HaveSomeOutcome, HasOneSigning, HasSomeSigning, IsValidWhereConfigured, IsScriptDecided, HasScript, HasOneExplained, HasSomeExplained, HasOneRewritten, HasSomeRewritten, HaveValuesWhereScripted, IsWritableWhereScripted, HasAudit, HasOneAuditing, HasSomeAuditing, HasOneSampling, HasSomeSampling, HasOneNegotiation, HasSomeNegotiation}
 use Rattle.hop_audit.proofs.SameVerdicts as reports
 use Rattle.hop_audit.specs.Laws.{KeepsWhatIsPermitted}
 use Rattle.commands.specs.RewrittenMessages.{IsMessageWhereRewritten, HasVerdictWhereRewritten}
@@ -156,6 +160,24 @@ into_fields_law = turning.one_into_fields
 
 pub into_fields_answer : HasSomeIntoFields
 into_fields_answer = turning.some_into_fields
+
+pub negotiation_law : HasOneNegotiation
+negotiation_law = negotiating.one_negotiation
+
+pub negotiation_answer : HasSomeNegotiation
+negotiation_answer = negotiating.some_negotiation
+
+pub message_where_negotiated : IsMessageWhereNegotiated
+message_where_negotiated = negotiated.message_where_negotiated
+
+pub each_wished : HasEachWished
+each_wished = negotiated.each_wished
+
+pub keeps_each_signature : KeepsEachSignature
+keeps_each_signature = negotiated.kept_signatures
+
+pub digest_where_chosen : HasDigestWhereChosen
+digest_where_chosen = digests.chosen_digest
 
 pub whole_message : IsWholeMessage
 whole_message = whole.is_whole_message

@@ -13,6 +13,7 @@ mod AuditedTexts
 mod FaultCounts
 mod GatewayLaws
 mod Meanings
+mod NegotiatedInputs
 mod OneLines
 mod RewrittenInputs
 mod Sampled

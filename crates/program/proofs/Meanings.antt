@@ -48,11 +48,12 @@ use Rattle.refusals.proofs.Statuses.{status_of_refusal}
 use Rattle.program.specs.Commands.{AreFoundFor, name_of}
 use Rattle.program.specs.Intake.{IsIntake, TakenValues}
 use Rattle.program.specs.Ends.{Ends, HasReport}
-use Rattle.program.specs.Meanings.{HasExplanation, HasOneBase, HasOneChain, HasOneMeaning, HasWritten, HaveOneMeaning, IsExplanation, RunsAgreeWhereOneTag, TellsExplanation, TellsOneBase, TellsOneChain, TellsVerdicts, WritesExplanation, WritesOneBase, WritesOneChain, WritesSigned, WritesVerdicts}
+use Rattle.program.specs.Meanings.{HasExplanation, HasOneBase, HasOneChain, HasOneMeaning, HasWritten, HaveOneMeaning, IsExplanation, RunsAgreeWhereOneTag, TellsExplanation, TellsOneBase, TellsOneChain, TellsVerdicts, WritesExplanation, WritesNegotiated, WritesOneBase, WritesOneChain, WritesSigned, WritesVerdicts}
 use Rattle.program.specs.Report.{Reports, ReportsCommand}
 use Rattle.program.proofs.AuditLines.{report_lines_are}
 use Rattle.program.proofs.CommandLaws.{keeps_what_is_permitted, valid_where_configured}
 use Rattle.program.proofs.Explanations.{explained_is}
+use Rattle.program.proofs.NegotiatedInputs.{has_negotiated}
 use Rattle.program.proofs.OneLines.{params_in_range}
 use Rattle.program.proofs.SignedInputs.{has_signed}
 use Rattle.program.proofs.VerdictLines.{verdict_lines_are, verifies_key}
@@ -295,6 +296,21 @@ module _ (arguments : List (List ℕ)) (shelf : Option FileMap) (Same : Type 0) 
         output = output_of end.0;
         appended = end.3;
         tells = has_signed arguments words report.found report.holds.input (output_of end.0) is
+            (subst (λ (o : Outcome). Reports arguments report.found report.holds.input o) (written_is end.0 end.2) report.holds.reports);
+      }
+
+  pub writes_negotiated : Ends arguments shelf Same before left taken now status → WritesNegotiated arguments shelf before taken now status
+  writes_negotiated ends words is done =
+      let end = done_ends ends done in
+      let report = end.1 in
+      record {
+        found = report.found;
+        files = report.files;
+        input = report.holds.input;
+        known = report.holds.known;
+        output = output_of end.0;
+        appended = end.3;
+        tells = has_negotiated arguments words report.found report.holds.input (output_of end.0) is
             (subst (λ (o : Outcome). Reports arguments report.found report.holds.input o) (written_is end.0 end.2) report.holds.reports);
       }
 

@@ -5,7 +5,8 @@ use Rattle.std.specs.Fmt.{decimal}
 use Rattle.std.specs.List.{All, list_all, slice_get}
 use Rattle.std.specs.Str.{bytes_eq}
 use Rattle.std.proofs.lemmas.Bool.{and_from, and_parts, cases_Bool, eqb-true, false≢true, ltb-true, or_cases}
-use Rattle.std.proofs.lemmas.List.Elements.{All-cons, All-head, All-nil, All-tail}
+use Rattle.std.proofs.lemmas.List.Elements.{All-cons, All-contains, All-head, All-nil, All-tail}
+use Rattle.std.proofs.lemmas.Option.{get_or_from_slice_get, slice_get_within}
 use Rattle.std.proofs.lemmas.Str.{encode_ascii}
 use Rattle.std.proofs.lemmas.Slice.Eq.{bytes_eq-Decides}
 use Rattle.byte_grammar.specs.Classes.{is_line_byte}
@@ -36,7 +37,7 @@ use Rattle.msg_body.specs.Messages.{Message, message_text}
 use Rattle.msg_body.specs.WholeTexts.{any_message, one_request, reading_for}
 use Rattle.msg_body.specs.declared.whole.Reading.{Reading}
 use Rattle.framing.specs.Framings.{is_request}
-use Rattle.command_line.specs.Command.{CommandLine, Help, HelpOf, Version, Base, Verify, Sign, Rewrite, Explain, Audit, Gateway, Lists, Sample, SignWords, IsCommand, NoCommand}
+use Rattle.command_line.specs.Command.{CommandLine, Help, HelpOf, Version, Base, Verify, Sign, Rewrite, Explain, Audit, Gateway, Lists, Negotiate, Sample, SignWords, IsCommand, NoCommand}
 use Rattle.conf.specs.Configuration.{Configuration}
 use Rattle.conf.specs.Paths.{HoldsAtPath}
 use Rattle.conf.specs.Refusals.{IsConfFault}
@@ -60,7 +61,12 @@ use Rattle.signing.proofs.SomeSigned.{valid_where_asked, valid_where_wished}
 use Rattle.signing.specs.Signed.{IsSignedMessage}
 use Rattle.signing.specs.Specs.{IsValidSpec}
 use Rattle.signing.specs.Wishes.{AreWished}
+use Rattle.signing.specs.declared.fault.SignFault.TheVariants as sign_fault
 use Rattle.signing.specs.declared.spec.SignSpec.{SignSpec}
+use Rattle.negotiation.specs.NegotiateCauses.{IsNegotiateFault}
+use Rattle.negotiation.specs.Negotiated.{IsNegotiated}
+use Rattle.negotiation.specs.declared.fault.NegotiateFault.{NegotiateFault}
+use Rattle.negotiation.specs.declared.fault.NegotiateFault.TheVariants as nego
 use Rattle.verdicts.specs.Verdicts.{is_accepted}
 use Rattle.verdicts.specs.declared.outcome.Verdict.{Verdict}
 use Rattle.hop_audit.specs.Lines.{finds_fault}
@@ -76,6 +82,7 @@ use Rattle.commands.specs.Layers.{IsUnrefused, ReadsThen}
 use Rattle.commands.specs.Lists.{IsListRefused, IsListText, ReportsIntoFields, ReportsIntoMessage, ReportsMessageOf}
 use Rattle.commands.specs.MessageFiles.{IsMessageFileRefused}
 use Rattle.commands.specs.Messages.{IsInputRefused}
+use Rattle.commands.specs.Negotiate.{IsNegotiateRefused, IsRefusalOf, ReportsNegotiation}
 use Rattle.commands.specs.Rewrite.{IsStepRefused, IsTaken, ReportsRewriting, ReportsSteps}
 use Rattle.commands.specs.Sample.{sample_outcome}
 use Rattle.commands.specs.Scripts.{IsScriptRefused}
@@ -100,6 +107,7 @@ use Rattle.program.specs.Laws.{IsLineWhereRefused}
 use Rattle.program.specs.Intake.{IsIntake, IsIntakeRefused, TakenValues}
 use Rattle.program.specs.Report.{Answers, ReportsCommand, ReportsFiles, ReportsTurned}
 use Rattle.program.proofs.CommandLaws.{valid_where_configured}
+use Rattle.program.proofs.NegotiatedInputs.{negotiates_timely}
 use Rattle.program.proofs.SignedInputs.{signs_characters, signs_timely}
 
 -- ---- identifiers and keys
@@ -407,6 +415,31 @@ module _ (refusal : Refusal) where
   signing_refused words timely characters conf valid (Some wishes) context =
       of_layer (IsUnrefused (AreWished conf words.now wishes) (AreWishesRefused conf wishes)) (AreWishesRefused conf wishes) Command (ReportsEach context) (wishes_refused conf wishes) (λ specs wished. each_refused specs context (valid_where_wished conf words.now wishes specs valid timely wished.made))
 
+  valid_at : (specs : List SignSpec) (index : ℕ) (spec : SignSpec) → All IsValidSpec specs → slice_get specs index ≡ Some spec → IsValidSpec spec
+  valid_at specs index spec valid there = All-contains IsValidSpec specs spec valid (index, slice_get_within specs index spec there, get_or_from_slice_get specs index spec spec there)
+
+  digest_refused : (conf : Configuration) → IsValid conf → (now : ℕ) → now ≤ MAX_MOMENT → (context : MessageContext) (f : NegotiateFault) (cause : CommandRefusal) → IsRefusalOf now conf context f cause → is_clean (Command cause) ≡ true
+  digest_refused conf valid now timely context nego.Memory cause is = absurd is
+  digest_refused conf valid now timely context nego.WishMalformed cause is = rw is refl
+  digest_refused conf valid now timely context nego.Unacceptable cause is = rw is refl
+  digest_refused conf valid now timely context nego.DigestUnmet cause is = rw is refl
+  digest_refused conf valid now timely context (nego.Wanted f) cause is = rw is refl
+  digest_refused conf valid now timely context (nego.Sign index sign_fault.Memory) cause is = rw is refl
+  digest_refused conf valid now timely context (nego.Sign index sign_fault.InputMalformed) cause is = rw is refl
+  digest_refused conf valid now timely context (nego.Sign index sign_fault.SignatureMalformed) cause is = rw is refl
+  digest_refused conf valid now timely context (nego.Sign index sign_fault.LabelThere) cause is = rw is refl
+  digest_refused conf valid now timely context (nego.Sign index (sign_fault.SelfCover place)) cause is = rw is refl
+  digest_refused conf valid now timely context (nego.Sign index (sign_fault.TooLong limit)) cause is = rw is refl
+  digest_refused conf valid now timely context (nego.Sign index (sign_fault.Lacks place lack)) cause is =
+      let id = is.1 in
+      let spec = valid_at id.specs index id.spec (valid_where_wished conf now id.request id.specs valid timely id.wished) id.there in
+      rw is.2 (id_clean id.spec.params.ids place is.0 (ids_in_range id.spec.params spec.in_range) id.id_is)
+
+  negotiation_refused : (conf : Configuration) → IsValid conf → (now : ℕ) → now ≤ MAX_MOMENT → (context : MessageContext) → ReportsNegotiation now conf context (Refused refusal) → is_clean refusal ≡ true
+  negotiation_refused conf valid now timely context =
+      of_layer (IsUnrefused (IsNegotiated conf now context) (IsNegotiateFault conf now context)) (IsNegotiateRefused now conf context) Command (λ written outcome. outcome ≡ Done (message_text written))
+      (λ cause is. digest_refused conf valid now timely context is.0 cause is.2) (λ written made done. absurd (cc done))
+
   command_refused : (arguments : List (List ℕ)) (command : CommandLine) → IsCommand arguments command → (found : Found) (input : List ℕ) → ReportsCommand command found input (Refused refusal) → is_clean refusal ≡ true
   command_refused arguments Help is found input = λ same. absurd (cc same)
   command_refused arguments (HelpOf command) is found input = λ same. absurd (cc same)
@@ -430,6 +463,9 @@ module _ (refusal : Refusal) where
       (λ conf configured. audit_refused conf input)
   command_refused arguments (Gateway words) is found input = λ reports. absurd reports
   command_refused arguments (Lists words) is found input = turned_refused words.into_message (name_of (Lists words)) found input
+  command_refused arguments (Negotiate words) is found input =
+      of_files SignTable (λ taken. ReportsNegotiation words.now taken.conf taken.context) (name_of (Negotiate words)) found input
+      (λ taken configured. negotiation_refused taken.conf (valid_where_configured (Some words.conf) (found ConfFile) taken.conf configured) words.now (negotiates_timely arguments words is) taken.context)
   command_refused arguments (Sample words) is found input = λ reports. absurd (summary_not reports.0 reports.0.finds_fault refl reports.2)
 
 pub is_line_where_refused : IsLineWhereRefused

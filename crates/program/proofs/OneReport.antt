@@ -1,7 +1,7 @@
 -- Arguments, files and an input have one outcome.
 use Rattle.std.proofs.Common.{◌≡◌, Bool, true, false, List, ℕ, Option, Some, None, refl, sym, ◌∙◌}
 use Rattle.std.specs.Prelude.{⊤, IsSomeAnd}
-use Rattle.command_line.specs.Command.{CommandLine, Help, HelpOf, Version, Base, Verify, Sign, Rewrite, Explain, Audit, Gateway, Lists, Sample, IsCommand, NoCommand}
+use Rattle.command_line.specs.Command.{CommandLine, Help, HelpOf, Version, Base, Verify, Sign, Rewrite, Explain, Audit, Gateway, Lists, Negotiate, Sample, IsCommand, NoCommand}
 use Rattle.command_line.proofs.CommandLaws.{one_command}
 use Rattle.component_values.specs.Context.{MessageContext}
 use Rattle.msg_body.specs.Messages.{Message}
@@ -11,6 +11,7 @@ use Rattle.commands.specs.Explain.{ReportsExplanation}
 use Rattle.commands.specs.Files.{FileNames, Found, Conf as ConfFile}
 use Rattle.commands.specs.Layers.{IsDecisive}
 use Rattle.commands.specs.Lists.{ReportsIntoFields}
+use Rattle.commands.specs.Negotiate.{ReportsNegotiation}
 use Rattle.commands.specs.Rewrite.{ReportsRewriting}
 use Rattle.commands.specs.Sign.{ReportsSigning}
 use Rattle.commands.specs.Tables.{HasTables}
@@ -21,7 +22,7 @@ use Rattle.program.specs.Laws.{HasOneReport}
 use Rattle.program.specs.Commands.{name_of}
 use Rattle.program.specs.Intake.{TakenValues}
 use Rattle.program.specs.Report.{Answers, ReportsCommand, ReportsFiles, ReportsTurned}
-use Rattle.program.proofs.CommandLaws.{auditing_law, conf_decided, explaining_law, into_fields_law, into_message_law, params_decided, rewriting_law, sampling_law, signing_law, values_decided, verdicts_law}
+use Rattle.program.proofs.CommandLaws.{auditing_law, conf_decided, explaining_law, into_fields_law, into_message_law, negotiation_law, params_decided, rewriting_law, sampling_law, signing_law, values_decided, verdicts_law}
 use Rattle.program.proofs.IntakeLaws.{intake_decided}
 use Rattle.program.proofs.Layers.{HasOne, one_of_layers}
 
@@ -72,6 +73,9 @@ one_of_command (Explain words) found input =
 one_of_command (Audit words) found input = one_of_layers _ _ _ _ (conf_decided (Some words.conf) (found ConfFile)) (λ conf _. auditing_law conf input)
 one_of_command (Gateway words) found input = λ one other a b. absurd a
 one_of_command (Lists words) found input = one_of_turned words.into_message (name_of (Lists words)) found input
+one_of_command (Negotiate words) found input =
+    one_of_files SignTable (λ taken. ReportsNegotiation words.now taken.conf taken.context)
+    (λ taken has one other a b. negotiation_law words.now taken.conf taken.context one other has a b) (name_of (Negotiate words)) found input
 one_of_command (Sample words) found input = sampling_law words.seed words.count
 
 pub one_report_law : HasOneReport

@@ -14,7 +14,7 @@ use Rattle.command_line.specs.Command.{CommandLine, IsCommand, NoCommand}
 use Rattle.conf.specs.Configuration.{Configuration}
 use Rattle.msg_body.specs.Messages.{Message}
 use Rattle.msg_body.specs.Views.{MessageParts, message_of}
-use Rattle.msg_body.specs.WholeTexts.{reading_for}
+use Rattle.msg_body.specs.WholeTexts.{one_request, reading_for}
 use Rattle.commands.specs.Files.{FileNames, FileRole, Conf, Request, Wanted, Script, Other, Found, IsFound, AreFound, HasFound, file_names, file_bytes, file_count, file_limit}
 use Rattle.commands.specs.Layers.{ReadsFound, IsFileRefused}
 use Rattle.commands.specs.Messages.{IsInputMessage, IsInputRefused}
@@ -36,7 +36,7 @@ use Rattle.program.specs.Ends.{HasInput, HasOutcome, Leaves, HasReport, Ends, Co
 use Rattle.program.specs.Intake.{IsConfLacking, IsConfRead, IsIntakeRefused, IsReadToScript, named_count, names_of}
 use Rattle.program.specs.Report.{Answers, ReportsFiles, ReportsCommand}
 use Rattle.program.specs.declared.intake.FileWords.{FileWords}
-use Rattle.program.specs.tools.Parts.{Asks, FileValues, HasOther, ReportsMessage, ReportsRecord, taken_with}
+use Rattle.program.specs.tools.Parts.{Asks, FileValues, HasOther, HasRequested, ReportsMessage, ReportsRecord, taken_with}
 use Rattle.refusals.specs.declared.refusal.Refusal.{Refusal}
 use Rattle.refusals.specs.declared.file.FileRefusal.{FileRefusal}
 use Rattle.refusals.specs.declared.refusal.TheConstants.{MAX_CONF_BYTES, MAX_INPUT_BYTES}
@@ -469,6 +469,12 @@ other_answers None found related (Some other) is = absurd (cc is)
 other_answers (Some name) found related None is = absurd is
 other_answers (Some name) None related (Some other) is = absurd is
 other_answers (Some name) (Some text) related (Some other) is = (spelled_input related text other is).is
+
+-- a request is there where its file has a name
+pub has_requested : (name found : Option (List ℕ)) (related : Option Message) → IsMessageFile one_request name found related → HasRequested name related
+has_requested None found related is = tt
+has_requested (Some name) found None is = absurd is
+has_requested (Some name) found (Some request) is = refl
 
 -- files that are kept twice are kept
 pub keeps_both : (before middle now : Option FileMap) → KeepsFiles before middle → KeepsFiles middle now → KeepsFiles before now

@@ -1,5 +1,5 @@
 -- What comes of `sample`, for which nothing is read.
-use Rattle.std.proofs.Common.{◌≡◌, List, ℕ, Option, Result, refl}
+use Rattle.std.proofs.Common.{List, ℕ, Option, Result, refl}
 use Rattle.hms_io.specs.Files.{FileMap}
 use Rattle.command_line.specs.Command.{Sample, SampleWords}
 use Rattle.commands.specs.Files.{AreFound}

@@ -1,5 +1,5 @@
 -- A stream of messages in their places isn't refused.
-use Rattle.std.proofs.Common.{◌≡◌, ◌⊎◌, ◌<◌, ◌≤◌, ◌+◌, ◌++◌, ◌∙◌, inl, inr, arith, ℕ, List, [], ◌∷◌, Bool, Option, Some, None, Result, Ok, Err, length, refl, sym, ap, subst}
+use Rattle.std.proofs.Common.{◌≡◌, ◌≤◌, ◌+◌, ◌++◌, ◌∙◌, inl, inr, arith, ℕ, List, [], ◌∷◌, Bool, Option, Some, None, Result, Ok, Err, length, refl, sym, ap, subst}
 use Rattle.std.specs.Prelude.{IfSome}
 use Rattle.std.specs.List.{All, FoldsTo}
 use Rattle.std.proofs.lemmas.List.{append_assoc, append-nil, length-append}

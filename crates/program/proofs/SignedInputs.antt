@@ -132,7 +132,7 @@ not_refused reading written message (NoMessage f) short is refused = no_fault_of
 pub short_of : (to_head : Bool) (message : Message) (written : List ℕ) → Spells to_head message written → length written ≤ MAX_INPUT_BYTES
 short_of to_head message written spells = rw spells.text spells.is.short
 
-whole_is : (related : Option Message) (input written : List ℕ) (message signed : Message) → IsInputMessage (reading_for related) input message → Spells (answers_head related) signed written
+pub whole_is : (related : Option Message) (input written : List ℕ) (message signed : Message) → IsInputMessage (reading_for related) input message → Spells (answers_head related) signed written
     → signed.head.start ≡ message.head.start → IsWhole (reading_for related) written signed
 whole_is related input written message signed is spells start = record {
   expected = rw start is.whole.expected;
@@ -146,7 +146,7 @@ one_verdict conf moment context label [] are = absurd are
 one_verdict conf moment context label (verdict ∷ []) are = (verdict, refl, are.0)
 one_verdict conf moment context label (verdict ∷ other ∷ more) are = absurd are.1
 
-ok_or_policy : (v : Verification) (keyid : List ℕ) (verdict : Verdict) → IsRightlySigned v keyid → IsVerdict v verdict → IsOkOrPolicy verdict
+pub ok_or_policy : (v : Verification) (keyid : List ℕ) (verdict : Verdict) → IsRightlySigned v keyid → IsVerdict v verdict → IsOkOrPolicy verdict
 ok_or_policy v keyid (Accepted other) signed is = tt
 ok_or_policy v keyid (Failing rule place) signed is = elim (cases_Bool (is_rule_of_signing rule)) [
   | inr policy ↦ policy

@@ -5,7 +5,7 @@ use Rattle.std.specs.Prelude.{⊤, IsTrue, IsSome, IsSomeAnd}
 use Rattle.std.specs.List.{list_all, slice_get}
 use Rattle.byte_grammar.proofs.Indices.{some_and_parts}
 use Rattle.sfv_text.specs.Classes.{is_byte}
-use Rattle.command_line.specs.Command.{CommandLine, Help, HelpOf, Version, Base, Verify, Sign, Rewrite, Explain, Audit, Gateway, Lists, Sample, IsCommand, NoCommand}
+use Rattle.command_line.specs.Command.{CommandLine, Help, HelpOf, Version, Base, Verify, Sign, Rewrite, Explain, Audit, Gateway, Lists, Negotiate, Sample, IsCommand, NoCommand}
 use Rattle.command_line.proofs.SomeCommand.{command_or_none}
 use Rattle.component_ids.specs.declared.id.ComponentId.{ComponentId}
 use Rattle.component_ids.specs.declared.params.SigParams.{SigParams}
@@ -19,7 +19,7 @@ use Rattle.hop_audit.specs.declared.line.AuditLine.{AuditLine}
 use Rattle.commands.specs.Audit.{IsRecordingText, IsChainRefused, ReportsAudit, audit_outcome}
 use Rattle.commands.specs.Base.{ReportsValues, ReportsBase}
 use Rattle.commands.specs.Explain.{ReportsExplanation, WritesExplained, differing_text}
-use Rattle.commands.specs.Files.{FileNames, Found, FileRole, Conf as ConfFile, Script as ScriptFile, Other as OtherFile}
+use Rattle.commands.specs.Files.{FileNames, Found, FileRole, Conf as ConfFile, Request as RequestFile, Script as ScriptFile, Other as OtherFile}
 use Rattle.commands.specs.Layers.{ReadsThen, HasAnswer}
 use Rattle.commands.specs.Lists.{ReportsIntoFields, ReportsMessageOf}
 use Rattle.list_texts.specs.Lists.{list_text}
@@ -29,6 +29,7 @@ use Rattle.field_lists.specs.declared.to_fault.ToFault.{ToFault}
 use Rattle.field_lists.specs.FromCauses.{IsFromFault}
 use Rattle.field_lists.specs.declared.from_fault.FromFault.{FromFault}
 use Rattle.commands.specs.MessageFiles.{IsOfBytes}
+use Rattle.commands.specs.Negotiate.{ReportsNegotiation}
 use Rattle.commands.specs.Rewrite.{IsTaken, ReportsSteps, ReportsRewriting}
 use Rattle.commands.specs.Sign.{ReportsEach, ReportsSigning}
 use Rattle.commands.specs.declared.tables.Needs.{Needs}
@@ -48,14 +49,14 @@ use Rattle.program.specs.declared.help.TheConstants.{TITLE_TEXT, VERSION_TEXT}
 use Rattle.commands.specs.declared.outcome.Outcome.{Outcome}
 use Rattle.commands.specs.declared.outcome.Outcome.TheVariants.{Done, NotOk, Refused}
 use Rattle.refusals.specs.declared.refusal.Refusal.{Refusal}
-use Rattle.program.specs.Laws.{HasSomeReport, IsBaseDone, CanSignEach, IsSignDone, IsRewriteDone, IsExplainDone, IsServed, HasAll, HasAllToTurn, IsAnswered, IsComplete}
+use Rattle.program.specs.Laws.{HasSomeReport, IsBaseDone, CanSignEach, IsSignDone, IsNegotiateDone, IsRewriteDone, IsExplainDone, IsServed, HasAll, HasAllToTurn, IsAnswered, IsComplete}
 use Rattle.program.specs.Commands.{input_use, is_whole, name_of}
 use Rattle.program.specs.Intake.{IsConfRead, TakenValues}
 use Rattle.program.specs.Report.{Answers, ReportsCommand, ReportsFiles, ReportsTurned}
-use Rattle.program.proofs.CommandLaws.{conf_answer, explaining_answer, into_fields_answer, into_message_answer, list_or_from_fault, message_or_fault, params_answer, values_answer, verdicts_answer, signing_answer, rewriting_answer, auditing_answer, audit_answer, sampling_answer, writable_where_scripted, valid_where_configured}
+use Rattle.program.proofs.CommandLaws.{conf_answer, explaining_answer, into_fields_answer, into_message_answer, list_or_from_fault, message_or_fault, negotiation_answer, params_answer, values_answer, verdicts_answer, signing_answer, rewriting_answer, auditing_answer, audit_answer, sampling_answer, writable_where_scripted, valid_where_configured}
 use Rattle.program.proofs.IntakeLaws.{intake_answer}
 use Rattle.program.specs.tools.Parts.{HasOther}
-use Rattle.program.proofs.Reports.{other_answers}
+use Rattle.program.proofs.Reports.{has_requested, other_answers}
 use Rattle.program.proofs.Sources.{spelled_input}
 
 -- some outcome
@@ -132,6 +133,9 @@ some_of_command (Explain words) whole found input files bytes =
 some_of_command (Audit words) whole found input files bytes = some_of_layers _ _ _ _ (conf_answer (Some words.conf) (found ConfFile)) (λ conf _. auditing_answer conf input bytes)
 some_of_command (Gateway words) whole found input files bytes = absurd (cc whole)
 some_of_command (Lists words) whole found input files bytes = some_of_turned words.into_message (name_of (Lists words)) found input files bytes
+some_of_command (Negotiate words) whole found input files bytes =
+    some_of_layers _ _ _ _ (intake_answer SignTable (name_of (Negotiate words)) found input files bytes) (λ taken is.
+    negotiation_answer words.now taken.conf taken.context is.conf.tables (has_requested (Some words.request) (found RequestFile) taken.context.related is.requested))
 some_of_command (Sample words) whole found input files bytes = let some = sampling_answer words.seed words.count in (some.0, some.1)
 
 arguments_answer : (arguments : List (List ℕ)) → HasAnswer (IsCommand arguments) (λ (_ : ⊤). NoCommand arguments)
@@ -169,6 +173,9 @@ signing_answered own now conf None context done =
 signing_answered own now conf (Some wishes) context done =
     let next = each_answered done.0 context done.2 in
     (next.0, inl (done.0, done.1, next.1), next.2)
+
+negotiation_answered : (now : ℕ) (conf : Configuration) (context : MessageContext) → IsNegotiateDone now conf context → HasAnswered (ReportsNegotiation now conf context)
+negotiation_answered now conf context done = (Done (message_text done.0), inl (done.0, done.1, refl), inl refl)
 
 steps_answered : (script : List Rewriting) (label : Option (List ℕ)) (index : ℕ) (context : MessageContext) (after : Message) → Steps (IsTaken label) context script after
     → HasAnswered (ReportsSteps label index context script)
@@ -261,6 +268,9 @@ command_answered (Audit words) found input has =
     (next.0, inl (has.conf, has.configured, next.1), next.2)
 command_answered (Gateway words) found input has = absurd has
 command_answered (Lists words) found input has = turned_answered words.into_message (name_of (Lists words)) found input has
+command_answered (Negotiate words) found input has =
+    files_answered SignTable (λ taken. ReportsNegotiation words.now taken.conf taken.context) (λ taken. IsNegotiateDone words.now taken.conf taken.context)
+    (λ taken. negotiation_answered words.now taken.conf taken.context) (name_of (Negotiate words)) found input has
 command_answered (Sample words) found input has = sampling_answer words.seed words.count
 
 pub complete_law : IsComplete

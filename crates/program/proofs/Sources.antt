@@ -18,6 +18,7 @@ use Rattle.normal_forms.specs.declared.explanation.Explained.TheVariants.{Same a
 use Rattle.commands.specs.Explain.{ReportsExplanation, WritesExplained, differing_text}
 use Rattle.commands.specs.Messages.{IsInputMessage, IsInputRefused}
 use Rattle.msg_body.specs.WholeTexts.{reading_for}
+use Rattle.commands.specs.Negotiate.{ReportsNegotiation}
 use Rattle.commands.specs.Rewrite.{ReportsSteps, ReportsRewriting}
 use Rattle.commands.specs.Sign.{ReportsEach, ReportsSigning}
 use Rattle.rewrite_script.specs.declared.rewrite.Rewrite.{Rewrite}
@@ -184,6 +185,10 @@ pub own_of_signing : (nonce : Option (List ℕ)) (moment : ℕ) (conf : Configur
 own_of_signing text moment conf None context outcome is = own_of_each (is.spec ∷ []) context outcome is.reports
 own_of_signing text moment conf (Some wishes) context outcome (inl specs) = own_of_each specs.0 context outcome specs.2
 own_of_signing text moment conf (Some wishes) context outcome (inr cause) = subst IsOwn (sym cause.2) tt
+
+pub own_of_negotiation : (moment : ℕ) (conf : Configuration) (context : MessageContext) (outcome : Outcome) → ReportsNegotiation moment conf context outcome → IsOwn outcome
+own_of_negotiation moment conf context outcome (inl made) = subst IsOwn (sym made.2) tt
+own_of_negotiation moment conf context outcome (inr cause) = subst IsOwn (sym cause.2) tt
 
 own_of_steps : (script : List Rewrite) (label : Option (List ℕ)) (index : ℕ) (context : MessageContext) (outcome : Outcome) → ReportsSteps label index context script outcome → IsOwn outcome
 own_of_steps [] label index context outcome is = subst IsOwn (sym is) tt

@@ -2,7 +2,7 @@
 use Rattle.std.proofs.Common.{◌≡◌, ◌∙◌, ℕ, false, List, ◌∷◌, codes, ap, refl, sym}
 use Rattle.std.proofs.lemmas.Bool.{false≢true}
 use Rattle.std.proofs.lemmas.Slice.Eq.{bytes_eq-Decides}
-use Rattle.command_line.specs.Command.{Help, HelpOf, Version, Base, Verify, Sign, Rewrite, Explain, Audit, Gateway, Lists, Sample}
+use Rattle.command_line.specs.Command.{Help, HelpOf, Version, Base, Verify, Sign, Rewrite, Explain, Audit, Gateway, Lists, Negotiate, Sample}
 use Rattle.program.specs.Commands.{ReadsWhole}
 use Rattle.program.specs.tools.Parts.{begin_stream}
 
@@ -21,4 +21,5 @@ no_stream arguments none (Audit words) is = refl
 no_stream arguments none (Gateway words) is = absurd (named is.words (ap begin_stream (sym is.joined) ∙ none))
 no_stream arguments none (Explain words) is = refl
 no_stream arguments none (Lists words) is = refl
+no_stream arguments none (Negotiate words) is = refl
 no_stream arguments none (Sample words) is = refl

@@ -269,6 +269,7 @@ reads_whole (command.Rewrite words) not = refl
 reads_whole (command.Explain words) not = refl
 reads_whole (command.Audit words) not = refl
 reads_whole (command.Lists words) not = refl
+reads_whole (command.Negotiate words) not = refl
 reads_whole (command.Gateway words) not = absurd (not words refl)
 reads_whole (command.Sample words) not = refl
 

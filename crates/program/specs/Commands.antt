@@ -2,7 +2,7 @@
 use Rattle.std.specs.Prelude.{◌≡◌, ⊤, ◌+◌, ◌≤◌, ℕ, Bool, true, false, IsTrue, List, Option, None}
 use Rattle.hms_io.specs.Files.{FileMap}
 use Rattle.hms_io.specs.Reading.{LosesPrefix}
-use Rattle.command_line.specs.Command.{CommandLine, Help, HelpOf, Version, Base, Verify, Sign, Rewrite, Explain, Audit, Gateway, Lists, Sample, IsCommand, conf_of, request_of, wanted_of, script_of, other_of}
+use Rattle.command_line.specs.Command.{CommandLine, Help, HelpOf, Version, Base, Verify, Sign, Rewrite, Explain, Audit, Gateway, Lists, Negotiate, Sample, IsCommand, conf_of, request_of, wanted_of, script_of, other_of}
 use Rattle.commands.specs.Files.{FileRole, FileNames, Found, AreFound, file_names, file_bytes}
 use Rattle.refusals.specs.declared.refusal.TheConstants.{MAX_INPUT_BYTES, MAX_RECORDING_BYTES}
 
@@ -21,6 +21,7 @@ pub data InputUse : Type 0 where
   -- item by item, and what is written of an item before more is read
   Streamed : InputUse
 
+-- how each command reads it, and how much of it at most
 abbrev pub input_use : CommandLine → InputUse
 input_use Help = Unread
 input_use (HelpOf command) = Unread
@@ -33,6 +34,7 @@ input_use (Explain words) = Whole MAX_INPUT_BYTES
 input_use (Audit words) = Whole MAX_RECORDING_BYTES
 input_use (Gateway words) = Streamed
 input_use (Lists words) = Whole MAX_INPUT_BYTES
+input_use (Negotiate words) = Whole MAX_INPUT_BYTES
 input_use (Sample words) = Unread
 
 -- what the command comes to is known before anything is written

@@ -2,8 +2,8 @@
 use Rattle.std.specs.Prelude.{◌≡◌, ◌++◌, ℕ, List}
 use Rattle.std.specs.List.{flat_map}
 use Rattle.command_line.specs.declared.options.CommandName.{CommandName}
-use Rattle.command_line.specs.declared.options.CommandName.TheVariants.{Base, Verify, Sign, Rewrite, Explain, Audit, Gateway, Lists, Sample}
-use Rattle.program.specs.declared.help.TheConstants.{COMMANDS, TITLE_TEXT, VERIFY_TEXT, BASE_TEXT, SIGN_TEXT, REWRITE_TEXT, EXPLAIN_TEXT, AUDIT_TEXT, GATEWAY_TEXT, LISTS_TEXT, SAMPLE_TEXT, END_TEXT, VERSION_TEXT}
+use Rattle.command_line.specs.declared.options.CommandName.TheVariants.{Base, Verify, Sign, Rewrite, Explain, Audit, Gateway, Lists, Negotiate, Sample}
+use Rattle.program.specs.declared.help.TheConstants.{COMMANDS, TITLE_TEXT, VERIFY_TEXT, BASE_TEXT, SIGN_TEXT, REWRITE_TEXT, EXPLAIN_TEXT, AUDIT_TEXT, GATEWAY_TEXT, LISTS_TEXT, NEGOTIATE_TEXT, SAMPLE_TEXT, END_TEXT, VERSION_TEXT}
 use Rattle.commands.specs.declared.outcome.Outcome.{Outcome}
 use Rattle.commands.specs.declared.outcome.Outcome.TheVariants.{Done}
 
@@ -17,6 +17,7 @@ text_of Explain = EXPLAIN_TEXT.now
 text_of Audit = AUDIT_TEXT.now
 text_of Gateway = GATEWAY_TEXT.now
 text_of Lists = LISTS_TEXT.now
+text_of Negotiate = NEGOTIATE_TEXT.now
 text_of Sample = SAMPLE_TEXT.now
 
 -- what the program is, what each command does, and the statuses

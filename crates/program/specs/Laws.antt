@@ -4,7 +4,7 @@ use Rattle.std.specs.List.{list_all, list_any}
 use Rattle.hms_io.specs.declared.status.Status.{Status}
 use Rattle.hms_io.specs.declared.status.Status.TheVariants.{Done, NotOk}
 use Rattle.sfv_text.specs.Classes.{is_byte}
-use Rattle.command_line.specs.Command.{CommandLine, Help, HelpOf, Version, Base, Verify, Sign, Rewrite, Explain, Audit, Gateway, Lists, Sample, SignWords, VerifyWords, RewriteWords, AuditWords, GatewayWords, ListsWords, IsCommand}
+use Rattle.command_line.specs.Command.{CommandLine, Help, HelpOf, Version, Base, Verify, Sign, Rewrite, Explain, Audit, Gateway, Lists, Negotiate, Sample, SignWords, VerifyWords, RewriteWords, AuditWords, GatewayWords, ListsWords, NegotiateWords, IsCommand}
 use Rattle.component_ids.specs.declared.id.ComponentId.{ComponentId}
 use Rattle.component_ids.specs.declared.params.SigParams.{SigParams}
 use Rattle.component_values.specs.Context.{MessageContext, context_with}
@@ -22,11 +22,11 @@ use Rattle.commands.specs.Layers.{HasAnswer, IsDecisive, IsUnrefused}
 use Rattle.commands.specs.Lists.{IsListText}
 use Rattle.commands.specs.Messages.{IsInputMessage}
 use Rattle.commands.specs.Outcome.{status_of}
-use Rattle.commands.specs.MessageFiles.{IsWanted, IsOfBytes}
+use Rattle.commands.specs.MessageFiles.{IsRequested, IsWanted, IsOfBytes}
 use Rattle.commands.specs.Rewrite.{IsTaken}
 use Rattle.commands.specs.Scripts.{IsScripted}
 use Rattle.commands.specs.Sign.{AreWishesRefused, IsSignRefused}
-use Rattle.commands.specs.SignedMessages.{SignsAs}
+use Rattle.commands.specs.SignedMessages.{IsWishedAs, SignsAs}
 use Rattle.commands.specs.Verify.{verdicts_outcome}
 use Rattle.commands.specs.declared.outcome.Outcome.{Outcome}
 use Rattle.commands.specs.declared.outcome.Outcome.TheVariants.{Done as Written, Refused}
@@ -41,6 +41,8 @@ use Rattle.field_lists.specs.ListValues.{ListComesTo}
 use Rattle.field_lists.specs.ToCauses.{IsToFault, is_refused_name}
 use Rattle.field_lists.specs.declared.from_fault.FromFault.{FromFault}
 use Rattle.field_lists.specs.declared.to_fault.ToFault.{ToFault}
+use Rattle.negotiation.specs.NegotiateCauses.{IsNegotiateFault}
+use Rattle.negotiation.specs.Negotiated.{IsNegotiated}
 use Rattle.rewrite_script.specs.declared.rewrite.Rewrite.{Rewrite as Rewriting}
 use Rattle.recording.specs.Items.{PlacedItem}
 use Rattle.settings.specs.declared.gateway_conf.GatewayConf.{GatewayConf}
@@ -133,6 +135,13 @@ IsSignDone own moment conf (Some wishes) context =
     × IsUnrefused (AreWished conf moment wishes) (AreWishesRefused conf wishes) specs
     × CanSignEach context specs
 
+-- there is nothing for which the response isn't signed as its request asks
+abbrev pub IsNegotiateDone : ℕ → Configuration → MessageContext → Type 0
+IsNegotiateDone moment conf context =
+    (written : Message)
+    × IsUnrefused (IsNegotiated conf moment context) (IsNegotiateFault conf moment context)
+    written
+
 -- each step of the script can be taken, each on the message that the one before it gave
 abbrev pub IsRewriteDone : Option (List ℕ) → List Rewriting → MessageContext → Type 0
 IsRewriteDone label script context = (after : Message) × Steps (IsTaken label) context script after
@@ -198,6 +207,9 @@ HasAll (Audit words) found input = IsAuditable words found input
 HasAll (Gateway words) found input = ⊥
 HasAll (Lists words) found input =
     HasAllToTurn words.into_message (name_of (Lists words)) found input
+HasAll (Negotiate words) found input =
+    IsServed SignTable (name_of (Negotiate words)) found input
+    (λ taken. IsNegotiateDone words.now taken.conf taken.context)
 HasAll (Sample words) found input = ⊤
 
 -- the outcome is what was asked for, and no refusal
@@ -250,6 +262,43 @@ IsAcceptedWhereSigned =
     → VerifiesSigned signed verified label → other RequestFile ≡ found RequestFile
     → KnowsSigner signed verified found other label keyid
     → Reports signing found input (Written written) → Reports verifying other written outcome
+    → (verdict : Verdict) × IsOkOrPolicy verdict
+    × (outcome ≡ verdicts_outcome (label ∷ []) (verdict ∷ []))
+
+-- ---- what is signed as a request asks
+
+-- `verify` is asked for the label, with the request of `negotiate`
+pub record VerifiesNegotiated (negotiated : NegotiateWords) (verified : VerifyWords)
+    (label : List ℕ) : Type 0 where
+  pub request : verified.request ≡ Some negotiated.request
+  pub label_is : verified.label ≡ Some label
+
+-- The request wishes a signature of this label by the key of this `keyid`, and the configuration of
+-- `verify` has the same scheme, kinds of fields and key of this `keyid`.
+pub record KnowsNegotiator (negotiated : NegotiateWords) (found other : Found)
+    (verified : VerifyWords) (label keyid : List ℕ) : Type 0 where
+  pub conf : Configuration
+  pub configured : IsConfigured (Some negotiated.conf) (found ConfFile) conf
+  pub request : Message
+  pub requested : IsRequested (Some negotiated.request) (found RequestFile) (Some request)
+  pub wished : IsWishedAs conf request label keyid
+  pub next : Configuration
+  pub next_configured : IsConfigured (Some verified.conf) (other ConfFile) next
+  pub scheme : next.scheme ≡ conf.scheme
+  pub types : next.types ≡ conf.types
+  pub key : key_in next keyid ≡ key_in conf keyid
+
+-- What `negotiate` writes, given to `verify` with the same request, at any moment, is `ok` for each
+-- label that is wished, or names one of the rules 13 to 26, 33 and 34, which aren't of signing.
+abbrev pub IsAcceptedWhereNegotiated : Type 0
+IsAcceptedWhereNegotiated =
+    (negotiating verifying : List (List ℕ)) (negotiated : NegotiateWords)
+    (verified : VerifyWords) (label keyid : List ℕ) (found other : Found)
+    (input written : List ℕ) (outcome : Outcome)
+    → IsCommand negotiating (Negotiate negotiated) → IsCommand verifying (Verify verified)
+    → VerifiesNegotiated negotiated verified label → other RequestFile ≡ found RequestFile
+    → KnowsNegotiator negotiated found other verified label keyid
+    → Reports negotiating found input (Written written) → Reports verifying other written outcome
     → (verdict : Verdict) × IsOkOrPolicy verdict
     × (outcome ≡ verdicts_outcome (label ∷ []) (verdict ∷ []))
 
@@ -320,6 +369,8 @@ pub record IsSameList (conf : Configuration) (input written : List ℕ) : Type 0
       → ListComesTo list conf.types id result
       ↔ ComesTo (context_for conf message None) id result
 
+-- What is written has the values of the input: the message those of the list, or the list those of
+-- the message.
 abbrev pub IsSameTurned : Bool → Configuration → List ℕ → List ℕ → Type 0
 IsSameTurned true = IsSameMessage
 IsSameTurned false = IsSameList

@@ -5,9 +5,11 @@ use Rattle.std.specs.List.{All, Contains, zip}
 use Rattle.hms_io.specs.Files.{FileMap}
 use Rattle.hms_io.specs.declared.status.Status.{Status}
 use Rattle.hms_io.specs.declared.status.Status.TheVariants.{Done, NotOk}
-use Rattle.command_line.specs.Command.{Base, Verify, Sign, Explain, Audit, BaseWords, VerifyWords, SignWords, ExplainWords, AuditWords, IsCommand}
+use Rattle.command_line.specs.Command.{Base, Verify, Sign, Explain, Audit, Negotiate, BaseWords, VerifyWords, SignWords, ExplainWords, AuditWords, NegotiateWords, IsCommand}
 use Rattle.msg_body.specs.Messages.{Message, Spells}
 use Rattle.msg_body.specs.WholeTexts.{reading_for}
+use Rattle.sfv_text.specs.declared.pair.Pair.{Pair}
+use Rattle.sfv_text.specs.declared.value.Member.{Member}
 use Rattle.component_ids.specs.declared.id.ComponentId.{ComponentId}
 use Rattle.component_ids.specs.declared.params.SigParams.{SigParams}
 use Rattle.component_values.specs.Context.{MessageContext, answers_head}
@@ -16,7 +18,12 @@ use Rattle.component_values.specs.Values.{HaveValues}
 use Rattle.sig_base.specs.Laws.{HaveBase}
 use Rattle.sig_base.specs.SignatureBase.{signature_base}
 use Rattle.conf.specs.Configuration.{Configuration}
-use Rattle.signatures.specs.Signatures.{HasSignature}
+use Rattle.content_digest.specs.declared.algorithm.Algorithm.{Algorithm}
+use Rattle.signatures.specs.Signatures.{HasDict, HasSignature}
+use Rattle.signing.specs.Wishes.{wish_name}
+use Rattle.negotiation.specs.Laws.{IsSignedAsWished}
+use Rattle.negotiation.specs.NegotiateCauses.{HasDigestBy, HasRightDigests}
+use Rattle.negotiation.specs.Preferences.{IsChosen}
 use Rattle.verdicts.specs.Contexts.{context_for}
 use Rattle.verdicts.specs.Laws.{Agree, IsRightlySigned, IsTagOfTwo, base_of}
 use Rattle.verdicts.specs.VerdictLine.{verdict_line}
@@ -172,6 +179,36 @@ HasSigned =
     → IsCommand arguments (Sign words) → Reports arguments found input (Written output)
     → TellsSigned words found input output
 
+-- ---- `negotiate`
+
+-- The output is the response with each signature that the request wishes: of its label, components
+-- and parameters, and rightly signed. Each label that the response had keeps its signature
+-- parameters and its tag. Where the request asks for a digest, it is there, and it is right.
+pub record TellsNegotiated (words : NegotiateWords) (found : Found) (input output : List ℕ)
+    : Type 0 where
+  pub conf : Configuration
+  pub configured : IsConfigured (Some words.conf) (found ConfFile) conf
+  pub request : Message
+  pub requested : IsRequested (Some words.request) (found RequestFile) (Some request)
+  pub message : Message
+  pub is : IsInputMessage (reading_for (Some request)) input message
+  pub written : Message
+  pub spells : Spells (answers_head (Some request)) written output
+  pub wished : (wishes : List (Pair Member)) (wish : Pair Member)
+      → HasDict request wish_name wishes → Contains wishes wish
+      → IsSignedAsWished conf words.now (context_for conf written (Some request)) wish
+  pub kept : (label : List ℕ) (params : SigParams) (tag : List ℕ)
+      → HasSignature message label params tag → HasSignature written label params tag
+  pub digest : (algorithm : Algorithm) → IsChosen request algorithm
+      → HasDigestBy written algorithm × HasRightDigests written
+
+-- what `negotiate` writes is so
+abbrev pub HasNegotiated : Type 0
+HasNegotiated =
+    (arguments : List (List ℕ)) (words : NegotiateWords) (found : Found)
+    (input output : List ℕ) → IsCommand arguments (Negotiate words)
+    → Reports arguments found input (Written output) → TellsNegotiated words found input output
+
 -- ---- `explain`
 
 -- The output has two lists of steps, each of which the label's signature permits on the message
@@ -297,6 +334,13 @@ abbrev pub WritesSigned : List (List ℕ) → Option FileMap → Option (List �
 WritesSigned arguments shelf before taken now status =
     (words : SignWords) → IsCommand arguments (Sign words) → status ≡ Done
     → HasWritten (TellsSigned words) (AreFoundFor arguments shelf) before taken now
+
+-- where `negotiate` is done, a response that is signed as its request asks was written
+abbrev pub WritesNegotiated : List (List ℕ) → Option FileMap → Option (List ℕ)
+    → Option (List ℕ) → Option (List ℕ) → Status → Type 0
+WritesNegotiated arguments shelf before taken now status =
+    (words : NegotiateWords) → IsCommand arguments (Negotiate words) → status ≡ Done
+    → HasWritten (TellsNegotiated words) (AreFoundFor arguments shelf) before taken now
 
 -- where `explain` is done, whether the messages agree or not, an explanation was written
 abbrev pub WritesExplanation : List (List ℕ) → Option FileMap → Option (List ℕ)

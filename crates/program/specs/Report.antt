@@ -1,7 +1,7 @@
 -- What the program answers for its arguments, what was found in its files, and its input, and for
 -- nothing else.
 use Rattle.std.specs.Prelude.{⊤, ℕ, Bool, false, true, IsSomeAnd, List}
-use Rattle.command_line.specs.Command.{CommandLine, Help, HelpOf, Version, Base, Verify, Sign, Rewrite, Explain, Audit, Gateway, Lists, Sample, IsCommand, NoCommand}
+use Rattle.command_line.specs.Command.{CommandLine, Help, HelpOf, Version, Base, Verify, Sign, Rewrite, Explain, Audit, Gateway, Lists, Negotiate, Sample, IsCommand, NoCommand}
 use Rattle.conf.specs.Configuration.{Configuration}
 use Rattle.commands.specs.Audit.{ReportsAudit}
 use Rattle.commands.specs.Base.{ReportsBase}
@@ -10,6 +10,7 @@ use Rattle.commands.specs.Explain.{ReportsExplanation}
 use Rattle.commands.specs.Files.{FileNames, Found, Conf as ConfFile}
 use Rattle.commands.specs.Layers.{ReadsThen}
 use Rattle.commands.specs.Lists.{ReportsIntoFields, ReportsIntoMessage}
+use Rattle.commands.specs.Negotiate.{ReportsNegotiation}
 use Rattle.commands.specs.Rewrite.{ReportsRewriting}
 use Rattle.commands.specs.Sample.{ReportsSample}
 use Rattle.commands.specs.Sign.{ReportsSigning}
@@ -77,6 +78,9 @@ ReportsCommand (Audit words) found input =
 ReportsCommand (Gateway words) found input = λ outcome. ⊥
 ReportsCommand (Lists words) found input =
     ReportsTurned words.into_message (name_of (Lists words)) found input
+ReportsCommand (Negotiate words) found input =
+    ReportsFiles SignTable (λ taken. ReportsNegotiation words.now taken.conf taken.context)
+    (name_of (Negotiate words)) found input
 ReportsCommand (Sample words) found input = ReportsSample words.seed words.count
 
 -- The outcome for these arguments, what was found and this input. The arguments are judged first,

@@ -9,7 +9,7 @@ ghost use Rattle.program.specs.Commands.{GivesFew, NamesNoFile, ReadsNoInput, Re
 ghost use Rattle.program.specs.Ends.{AsksForNamed, HasReport, Ends, TellsWhy, WritesRefusal, CountsFaults, CountsReads};
 ghost use Rattle.program.specs.StreamEnds.{IsRefusedFor, WritesStream};
 ghost use Rattle.program.specs.StreamMeanings.{WritesPassed};
-ghost use Rattle.program.specs.Meanings.{WritesExplanation, WritesOneBase, WritesOneChain, WritesSigned, WritesVerdicts};
+ghost use Rattle.program.specs.Meanings.{WritesExplanation, WritesNegotiated, WritesOneBase, WritesOneChain, WritesSigned, WritesVerdicts};
 ghost use Rattle.refusals.specs.declared.refusal.Refusal.TheVariants.{Arguments};
 ghost use Rattle.commands.specs.declared.stop.Stop.TheVariants.{Refused};
 ghost use Rattle.commands.specs.Outcome.{output_of};
@@ -80,6 +80,7 @@ fn run_command<F: Shelf, S: Source>(
                 over_message(alloc, &words, shelf, source)
             }
         }
+        Command::Negotiate(words) => over_message(alloc, &words, shelf, source),
         Command::Sample(words) => sample_outcome(alloc, words.seed, words.count),
     }
 }
@@ -186,6 +187,8 @@ fn run_whole<F: Shelf, S: Source, K: Sink>(
         (S.left source.old) (K.taken out.old) (K.taken out.new) result.status }
     ensures sign { WritesSigned (map string_bytes arguments.now) (F.files shelf.old)
         (S.left source.old) (K.taken out.old) (K.taken out.new) result.status }
+    ensures negotiate { WritesNegotiated (map string_bytes arguments.now) (F.files shelf.old)
+        (S.left source.old) (K.taken out.old) (K.taken out.new) result.status }
     ensures explain { WritesExplanation (map string_bytes arguments.now) (F.files shelf.old)
         (S.left source.old) (K.taken out.old) (K.taken out.new) result.status }
     ensures audit { WritesOneChain (map string_bytes arguments.now) (F.files shelf.old)
@@ -249,14 +252,17 @@ pub fn run<F: Shelf, S: Source, K: Sink>(
 
     // What these commands wrote tells what it was made of: equal bases have equal parameters and
     // values, labels that are accepted with one tag under one key agree, each label that was there
-    // or is signed is there, two records that are explained agree on all that is covered, what is
-    // kept at a hop has one base on both sides of it, and a message that passes keeps the accepted
-    // signature, beside that of the gateway; no nonce is accepted twice.
+    // or is signed is there, each wish of a request is met in its response, two records that are
+    // explained agree on all that is covered, what is kept at a hop has one base on both sides of
+    // it, and a message that passes keeps the accepted signature, beside that of the gateway; no
+    // nonce is accepted twice.
     ensures base { WritesOneBase (map string_bytes arguments.now) (F.files shelf.old)
         (S.left source.old) (K.taken out.old) (K.taken out.new) result.status }
     ensures verify { WritesVerdicts (map string_bytes arguments.now) (F.files shelf.old)
         (S.left source.old) (K.taken out.old) (K.taken out.new) result.status }
     ensures sign { WritesSigned (map string_bytes arguments.now) (F.files shelf.old)
+        (S.left source.old) (K.taken out.old) (K.taken out.new) result.status }
+    ensures negotiate { WritesNegotiated (map string_bytes arguments.now) (F.files shelf.old)
         (S.left source.old) (K.taken out.old) (K.taken out.new) result.status }
     ensures explain { WritesExplanation (map string_bytes arguments.now) (F.files shelf.old)
         (S.left source.old) (K.taken out.old) (K.taken out.new) result.status }

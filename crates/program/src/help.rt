@@ -96,6 +96,16 @@ pub const LISTS_TEXT: &str = "
       hms lists --into message < fields.txt
 ";
 
+/// What `negotiate` does.
+pub const NEGOTIATE_TEXT: &str = "
+  hms negotiate --conf FILE --now SECONDS --request REQ < RESPONSE
+      RESPONSE with the signatures that `Accept-Signature` in REQ, the request
+      that it answers, asks for, and with the digest of its content that
+      `Want-Content-Digest` in REQ asks for.
+
+      hms negotiate --conf conf.toml --now \"$(date +%s)\" --request request.http < response.http
+";
+
 /// What `sample` does.
 pub const SAMPLE_TEXT: &str = "
   hms sample SEED COUNT
@@ -126,7 +136,7 @@ The manual page is hms(1), the whole manual docs/MANUAL.md.
 ";
 
 /// The commands, in the order of the help.
-pub const COMMANDS: [CommandName; 9] = [
+pub const COMMANDS: [CommandName; 10] = [
     CommandName::Verify,
     CommandName::Base,
     CommandName::Sign,
@@ -135,6 +145,7 @@ pub const COMMANDS: [CommandName; 9] = [
     CommandName::Audit,
     CommandName::Gateway,
     CommandName::Lists,
+    CommandName::Negotiate,
     CommandName::Sample,
 ];
 
@@ -151,6 +162,7 @@ fn text_of(command: CommandName) -> &'static str
         CommandName::Audit => AUDIT_TEXT,
         CommandName::Gateway => GATEWAY_TEXT,
         CommandName::Lists => LISTS_TEXT,
+        CommandName::Negotiate => NEGOTIATE_TEXT,
         CommandName::Sample => SAMPLE_TEXT,
     }
 }

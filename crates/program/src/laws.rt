@@ -1,7 +1,7 @@
 //! Laws of what the program answers. Each function does nothing; its contract is the law.
 
-ghost use Rattle.program.specs.Laws.{HasIntake, HasOneReport, HasSomeReport, IsComplete, IsServedInPlace, IsIntakeDecided, IsAcceptedWhereSigned, IsVerdictKept, IsKeptWherePermitted, IsLineWhereRefused, IsSameWhereTurned};
-ghost use Rattle.program.specs.Meanings.{HasExplanation, HasOneBase, HasOneChain, HasSigned, HaveOneMeaning, RunsAgreeWhereOneTag};
+ghost use Rattle.program.specs.Laws.{HasIntake, HasOneReport, HasSomeReport, IsComplete, IsServedInPlace, IsIntakeDecided, IsAcceptedWhereNegotiated, IsAcceptedWhereSigned, IsVerdictKept, IsKeptWherePermitted, IsLineWhereRefused, IsSameWhereTurned};
+ghost use Rattle.program.specs.Meanings.{HasExplanation, HasNegotiated, HasOneBase, HasOneChain, HasSigned, HaveOneMeaning, RunsAgreeWhereOneTag};
 
 /// For given arguments, files and input there is one outcome, and so one status and one output. So
 /// each row of the report is exact: its status and its output come there and nowhere else, out of
@@ -50,6 +50,16 @@ pub fn one_tag_has_one_meaning()
 pub fn what_is_signed_is_accepted()
     ensures signed { HasSigned }
     ensures accepted { IsAcceptedWhereSigned }
+{}
+
+/// What `negotiate` writes has each signature that its request wishes, rightly signed, keeps those
+/// that were there, and has the digest that the request asks for, which is that of its content.
+/// Given to `verify` with the same request, at any moment, it is `ok` for each label that is
+/// wished, or names one of the rules 13 to 26, 33 and 34; the configuration has the same scheme,
+/// kinds of fields and signing key.
+pub fn what_is_negotiated_is_accepted()
+    ensures negotiated { HasNegotiated }
+    ensures accepted { IsAcceptedWhereNegotiated }
 {}
 
 /// What `rewrite` writes under a label, given to `verify` with the same request, has the line of

@@ -9,7 +9,7 @@ ghost use Rattle.hms_io.specs.Files.{KeepsFiles};
 ghost use Rattle.component_values.specs.Context.{HasWholeMessage};
 ghost use Rattle.conf.specs.ConfMeaning.{meaning};
 ghost use Rattle.msg_body.specs.Views.{message_of};
-ghost use Rattle.commands.specs.Files.{AreFound, HasFound, Other};
+ghost use Rattle.commands.specs.Files.{AreFound, HasFound, Other, Request};
 ghost use Rattle.commands.specs.Stops.{IfOutcome, IfStopped, IsRefusalFor, ReadsNothing, CountsStop};
 ghost use Rattle.commands.specs.Tables.{HasTables};
 ghost use Rattle.refusals.specs.declared.refusal.TheConstants.{MAX_CONF_BYTES};
@@ -20,14 +20,17 @@ ghost use Rattle.program.specs.Commands.{LosesAtMost, Whole};
 ghost use Rattle.program.specs.Ends.{HasInput, HasOutcome, Leaves};
 ghost use Rattle.program.specs.Intake.{IsConfLacking, IsConfRead, names_of, read_order, taken_of};
 ghost use Rattle.program.specs.Report.{ReportsFiles};
-ghost use Rattle.program.specs.tools.Parts.{Asks, AsksUntil, CountsOne, HasOther, IsAfterInput, IsOwn, ReportsMessage, ReportsRecord, roles_read, values_of};
+ghost use Rattle.program.specs.tools.Parts.{Asks, AsksUntil, CountsOne, HasOther, HasRequested, IsAfterInput, IsOwn, ReportsMessage, ReportsRecord, roles_read, values_of};
 
 use crate::intake::{FileWords, FilesRead, Taken};
-use command_line::{BaseWords, ExplainWords, ListsWords, RewriteWords, SignWords, VerifyWords};
+use command_line::{
+    BaseWords, ExplainWords, ListsWords, NegotiateWords, RewriteWords, SignWords, VerifyWords,
+};
 use commands::{
     Needs, Outcome, Reading, Stop, base_outcome, check_tables, context_for, explain_outcome,
-    fetch_message, fetched_message, list_outcome, message_of_role, read_configuration,
-    read_script_file, rewrite_outcome, sign_outcome, verify_outcome, wished_outcome,
+    fetch_message, fetched_message, list_outcome, message_of_role, negotiate_outcome,
+    read_configuration, read_script_file, rewrite_outcome, sign_outcome, verify_outcome,
+    wished_outcome,
 };
 use conf::Conf;
 use hms_io::{Shelf, Source, fill};
@@ -68,6 +71,8 @@ pub trait OverMessage {
         requires tables { HasTables (tables self.now) (taken_of taken.now).conf }
         requires writable { IsTrue (list_all is_writable (taken_of taken.now).script) }
         requires whole { HasWholeMessage (taken_of taken.now).context }
+        requires requested { HasRequested (names self.now Request)
+            (taken_of taken.now).context.related }
         requires other { HasOther (names self.now Other) (taken_of taken.now).context.related
             (taken_of taken.now).other }
         ensures report { IfOutcome result (reports self.now (taken_of taken.now)) }
@@ -295,6 +300,41 @@ impl<'a> OverMessage for ListsWords<'a> {
     }
 }
 
+impl<'a> OverMessage for NegotiateWords<'a> {
+    ghost use Rattle.std.specs.Prelude.{◌<◌, ◌^◌, None, Some};
+    ghost use Rattle.command_line.specs.declared.options.TheConstants.{MAX_MOMENT_DIGITS};
+    ghost use Rattle.commands.specs.Files.{file_names};
+    ghost use Rattle.commands.specs.Negotiate.{ReportsNegotiation};
+    ghost use Rattle.commands.specs.declared.tables.Needs.TheVariants.{SignTable};
+
+    ghost is_in_range = { λ words. words.now < 10 ^ MAX_MOMENT_DIGITS };
+
+    ghost names = { λ words. file_names (Some words.conf.now) (Some words.request.now)
+        None None None };
+
+    ghost tables = { λ words. SignTable };
+
+    ghost reports = { λ words taken. ReportsNegotiation words.now taken.conf taken.context };
+
+    fn files<'s>(&'s self) -> FileWords<'s> {
+        FileWords {
+            conf: Some(self.conf),
+            request: Some(self.request),
+            wanted: None,
+            script: None,
+            other: None,
+        }
+    }
+
+    fn needs(&self) -> Needs {
+        Needs::SignTable
+    }
+
+    fn answer(&self, alloc: Global, taken: &Taken<'_>) -> Result<Outcome, Stop> {
+        negotiate_outcome(alloc, taken.conf, self.now, taken.context)
+    }
+}
+
 /// Does the command over the input, which has to be one whole message: a response to the request,
 /// or, where none is known, a message of either kind.
 fn over_input<'x, C: OverMessage>(
@@ -307,6 +347,7 @@ fn over_input<'x, C: OverMessage>(
     requires in_range { C.is_in_range command.now }
     requires tables { HasTables (C.tables command.now) (values_of files).conf }
     requires writable { IsTrue (list_all is_writable (values_of files).script) }
+    requires requested { HasRequested (C.names command.now Request) (values_of files).related }
     requires other { HasOther (C.names command.now Other) (values_of files).related
         (option_map (λ view. message_of view.now) other) }
     requires short { length input.now ≤ MAX_INPUT_BYTES }
@@ -340,6 +381,7 @@ fn over_source<C: OverMessage, S: Source>(
     requires in_range { C.is_in_range command.now }
     requires tables { HasTables (C.tables command.now) (values_of files).conf }
     requires writable { IsTrue (list_all is_writable (values_of files).script) }
+    requires requested { HasRequested (C.names command.now Request) (values_of files).related }
     requires other { HasOther (C.names command.now Other) (values_of files).related
         (option_map (λ view. message_of view.now) other) }
     ensures report { IfOutcome result (HasInput
@@ -375,6 +417,7 @@ fn over_record<C: OverMessage, F: Shelf, S: Source>(
     requires in_range { C.is_in_range command.now }
     requires tables { HasTables (C.tables command.now) (values_of files).conf }
     requires writable { IsTrue (list_all is_writable (values_of files).script) }
+    requires requested { HasRequested (C.names command.now Request) (values_of files).related }
     requires named { C.names command.now Other ≡ option_map (λ word. word.now) name }
     ensures report { IfOutcome result (λ outcome.
         HasFound (F.files shelf.old) (option_map (λ word. word.now) name.entry) (λ found.

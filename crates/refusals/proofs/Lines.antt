@@ -48,14 +48,16 @@ use Rattle.signing.specs.declared.fault.SignFault.TheVariants as sign
 use Rattle.signing.specs.declared.fault.WantFault.{WantFault}
 use Rattle.signing.specs.declared.fault.WantFault.TheVariants as want
 use Rattle.refusals.specs.Laws.{IsLineOfRefusal, is_clean, is_clean_command, is_clean_file}
-use Rattle.refusals.specs.Refusal.{command_text, refusal_text, step_text}
+use Rattle.refusals.specs.Refusal.{command_text, digest_text, refusal_text, step_text}
 use Rattle.refusals.specs.Texts.{file_text, path_text, role_text}
 use Rattle.refusals.specs.declared.file.FileRefusal.{FileRefusal}
 use Rattle.refusals.specs.declared.file.FileRefusal.TheVariants.{Missing, TooLong, Message, Conf, Script, Recording, Order, TooManyHops, OutOfPlace, TooManyItems, Fields}
 use Rattle.refusals.specs.declared.refusal.CommandRefusal.{CommandRefusal}
-use Rattle.refusals.specs.declared.refusal.CommandRefusal.TheVariants.{Syntax, Ids, Lacks, Sign, Wishes, NotTaken, Explain, ToMessage, FromMessage}
+use Rattle.refusals.specs.declared.refusal.CommandRefusal.TheVariants.{Syntax, Ids, Lacks, Sign, Wishes, NotTaken, Explain, ToMessage, FromMessage, Digest}
 use Rattle.refusals.specs.declared.refusal.Refusal.{Refusal}
 use Rattle.refusals.specs.declared.refusal.Refusal.TheVariants.{Arguments, Of, Command}
+use Rattle.refusals.specs.declared.refusal.DigestRefusal.{DigestRefusal}
+use Rattle.refusals.specs.declared.refusal.DigestRefusal.TheVariants.{Malformed, Unacceptable, Unmet}
 use Rattle.refusals.specs.declared.refusal.StepRefusal.{StepRefusal}
 use Rattle.refusals.specs.declared.refusal.StepRefusal.TheVariants.{LabelUnread, NotApplicable, NotPermitted}
 use Rattle.refusals.specs.declared.role.Role.{Role}
@@ -237,6 +239,11 @@ from_clean from.Memory = refl
 from_clean from.NoForm = refl
 from_clean from.NoAuthority = refl
 
+digest_clean : (cause : DigestRefusal) → IsClean (digest_text cause)
+digest_clean Malformed = refl
+digest_clean Unacceptable = refl
+digest_clean Unmet = refl
+
 command_clean : (refusal : CommandRefusal) → is_clean_command refusal ≡ true → IsClean (command_text refusal)
 command_clean (Syntax offset) clean = worded (codes "params-syntax ") offset refl
 command_clean (Ids f) clean = clean
@@ -247,6 +254,7 @@ command_clean (NotTaken cause) clean = step_clean cause
 command_clean (Explain f) clean = explain_clean f
 command_clean (ToMessage f) clean = to_clean f
 command_clean (FromMessage f) clean = from_clean f
+command_clean (Digest cause) clean = digest_clean cause
 
 -- ---- the line
 

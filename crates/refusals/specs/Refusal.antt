@@ -17,7 +17,9 @@ use Rattle.refusals.specs.Texts.{role_text, file_text, file_status}
 use Rattle.refusals.specs.declared.refusal.Refusal.{Refusal}
 use Rattle.refusals.specs.declared.refusal.Refusal.TheVariants.{Arguments, Of, Command}
 use Rattle.refusals.specs.declared.refusal.CommandRefusal.{CommandRefusal}
-use Rattle.refusals.specs.declared.refusal.CommandRefusal.TheVariants.{Syntax, Ids, Lacks, Sign, Wishes, NotTaken, Explain, ToMessage, FromMessage}
+use Rattle.refusals.specs.declared.refusal.CommandRefusal.TheVariants.{Syntax, Ids, Lacks, Sign, Wishes, NotTaken, Explain, ToMessage, FromMessage, Digest}
+use Rattle.refusals.specs.declared.refusal.DigestRefusal.{DigestRefusal}
+use Rattle.refusals.specs.declared.refusal.DigestRefusal.TheVariants.{Malformed, Unacceptable, Unmet}
 use Rattle.refusals.specs.declared.refusal.StepRefusal.{StepRefusal}
 use Rattle.refusals.specs.declared.refusal.StepRefusal.TheVariants.{LabelUnread, NotApplicable, NotPermitted}
 
@@ -27,9 +29,16 @@ step_text LabelUnread = codes "label-unread"
 step_text (NotApplicable index) = codes "not-applicable " ++ decimal index
 step_text (NotPermitted index) = codes "not-permitted " ++ decimal index
 
+-- why the digest that a request asks for isn't made (RFC 9530 section 4)
+abbrev pub digest_text : DigestRefusal → List ℕ
+digest_text Malformed = codes "wish-malformed"
+digest_text Unacceptable = codes "wish-unacceptable"
+digest_text Unmet = codes "wish-digest"
+
 -- why PARAMS are refused, which component lacks a value and how, why the message isn't signed, why
--- the wishes aren't met, why a step of a script isn't taken, why two messages aren't explained, or
--- why a list of fields is turned into no message, or a message into no list
+-- the wishes aren't met, why a step of a script isn't taken, why two messages aren't explained, why
+-- a list of fields is turned into no message, or a message into no list, or why the digest that a
+-- request asks for isn't made
 abbrev pub command_text : CommandRefusal → List ℕ
 command_text (Syntax offset) = codes "params-syntax " ++ decimal offset
 command_text (Ids fault) = id_fault_text fault
@@ -40,6 +49,7 @@ command_text (NotTaken cause) = step_text cause
 command_text (Explain fault) = explain_fault_text fault
 command_text (ToMessage fault) = to_fault_text fault
 command_text (FromMessage fault) = from_fault_text fault
+command_text (Digest cause) = digest_text cause
 
 -- what is refused, and why
 abbrev pub refusal_text : Refusal → List ℕ
@@ -72,6 +82,7 @@ command_status (NotTaken cause) = BadInput
 command_status (Explain fault) = BadInput
 command_status (ToMessage fault) = to_status fault
 command_status (FromMessage fault) = BadInput
+command_status (Digest cause) = BadInput
 
 -- the status of a refusal, by what is refused and why
 abbrev pub refusal_status : Refusal → Status

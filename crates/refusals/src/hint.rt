@@ -8,7 +8,7 @@ ghost use Rattle.byte_grammar.specs.Classes.{is_line_byte};
 use crate::file::FileRefusal;
 use crate::hint_conf::conf_hint;
 use crate::hint_fields::{fields_hint, from_message_hint, to_message_hint};
-use crate::refusal::{CommandRefusal, Refusal, StepRefusal};
+use crate::refusal::{CommandRefusal, DigestRefusal, Refusal, StepRefusal};
 use crate::role::Role;
 use component_ids::{BadReason, IdFault};
 use component_values::Lack;
@@ -284,8 +284,8 @@ fn want_hint(fault: &WantFault) -> &'static str
     match fault {
         WantFault::Memory => "out of memory",
         WantFault::Absent => {
-            "the message after --wanted has no field Accept-Signature, as `Accept-Signature: \
-             sig1=(\"@method\");keyid=\"k\"`"
+            "the message after --wanted, or the request of negotiate, has no field \
+             Accept-Signature, as `Accept-Signature: sig1=(\"@method\");keyid=\"k\"`"
         }
         WantFault::Malformed => "Accept-Signature is no Dictionary (RFC 9421 section 5.1)",
         WantFault::NotInnerList(_) => {
@@ -300,6 +300,26 @@ fn want_hint(fault: &WantFault) -> &'static str
         WantFault::AlgRefused(_) => "hms signs with alg=\"hmac-sha256\" alone",
         WantFault::AlgUnknown(_) => "there is no such alg; hms signs with alg=\"hmac-sha256\"",
         WantFault::KeyUnknown(_) => "`keys` of the configuration has no key of that keyid",
+    }
+}
+
+/// Why the digest that a request asks for isn't made.
+fn digest_hint(cause: DigestRefusal) -> &'static str
+    ensures { IsTrue (list_all is_line_byte result.now) }
+{
+    match cause {
+        DigestRefusal::Malformed => {
+            "Want-Content-Digest of the request is no Dictionary, or says something else than a \
+             whole number from 0 to 10, as `Want-Content-Digest: sha-512=3, sha-256=10`"
+        }
+        DigestRefusal::Unacceptable => {
+            "Want-Content-Digest of the request accepts neither sha-256 nor sha-512, with a number \
+             from 1 to 10"
+        }
+        DigestRefusal::Unmet => {
+            "the response has a Content-Digest that isn't that of its content, or not by the \
+             algorithm that the request prefers: take it off"
+        }
     }
 }
 
@@ -394,6 +414,7 @@ fn command_hint(refusal: &CommandRefusal) -> &'static str
         CommandRefusal::Explain(fault) => explain_hint(*fault),
         CommandRefusal::ToMessage(fault) => to_message_hint(*fault),
         CommandRefusal::FromMessage(fault) => from_message_hint(*fault),
+        CommandRefusal::Digest(cause) => digest_hint(*cause),
     }
 }
 

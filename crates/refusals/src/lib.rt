@@ -21,6 +21,7 @@ pub use file::FileRefusal;
 pub use laws::{a_refusal_has_a_status_of_its_own, a_refusal_is_one_line};
 pub use limit_laws::limits_are_these;
 pub use refusal::{
-    CommandRefusal, MAX_CONF_BYTES, MAX_INPUT_BYTES, MAX_RECORDING_BYTES, Refusal, StepRefusal,
+    CommandRefusal, DigestRefusal, MAX_CONF_BYTES, MAX_INPUT_BYTES, MAX_RECORDING_BYTES, Refusal,
+    StepRefusal,
 };
 pub use role::Role;

@@ -59,6 +59,8 @@ pub enum CommandRefusal {
     ToMessage(ToFault),
     /// The message is turned into no list of fields. The fault is never out of memory.
     FromMessage(FromFault),
+    /// The digest that a request asks for isn't made (RFC 9530 section 4).
+    Digest(DigestRefusal),
 }
 
 /// Why a step of a script isn't taken.
@@ -70,6 +72,19 @@ pub enum StepRefusal {
     NotApplicable(usize),
     /// The label's signature doesn't permit the step of this index.
     NotPermitted(usize),
+}
+
+/// Why the digest that a request asks for isn't made (RFC 9530 section 4).
+#[derive(Clone, Copy, PartialEq, Eq)]
+pub enum DigestRefusal {
+    /// The request's `Want-Content-Digest` is no Dictionary, or its member `sha-256` or `sha-512`
+    /// is no Integer from 0 to 10.
+    Malformed,
+    /// It accepts neither `sha-256` nor `sha-512`.
+    Unacceptable,
+    /// The response has a `Content-Digest` that isn't right, or that has no digest by the algorithm
+    /// that is asked for.
+    Unmet,
 }
 
 impl Refusal {
@@ -128,6 +143,7 @@ impl CommandRefusal {
             CommandRefusal::Explain(_) => Status::BadInput,
             CommandRefusal::ToMessage(fault) => to_status(*fault),
             CommandRefusal::FromMessage(_) => Status::BadInput,
+            CommandRefusal::Digest(_) => Status::BadInput,
         }
     }
 }

@@ -8,10 +8,10 @@ ghost use Rattle.field_lists.specs.Words.{from_fault_text, to_fault_text};
 ghost use Rattle.normal_forms.specs.Words.{explain_fault_text};
 ghost use Rattle.signing.specs.Words.{sign_fault_text, want_fault_text};
 ghost use Rattle.refusals.specs.Texts.{role_text};
-ghost use Rattle.refusals.specs.Refusal.{command_text, step_text, refusal_text};
+ghost use Rattle.refusals.specs.Refusal.{command_text, digest_text, step_text, refusal_text};
 
 use crate::file::append_file;
-use crate::refusal::{CommandRefusal, Refusal, StepRefusal};
+use crate::refusal::{CommandRefusal, DigestRefusal, Refusal, StepRefusal};
 use crate::role::Role;
 use component_ids::IdFault;
 use component_values::Lack;
@@ -87,6 +87,16 @@ fn append_from_fault(alloc: Global, fault: FromFault, line: &mut Text) -> Result
     line.append(text.as_bytes())
 }
 
+fn append_digest(cause: DigestRefusal, line: &mut Text) -> Result<(), Memory>
+    ensures { OnOk result (line.new ≡ line.old ++ digest_text cause) }
+{
+    match cause {
+        DigestRefusal::Malformed => line.append(b"wish-malformed"),
+        DigestRefusal::Unacceptable => line.append(b"wish-unacceptable"),
+        DigestRefusal::Unmet => line.append(b"wish-digest"),
+    }
+}
+
 fn append_command(alloc: Global, refusal: &CommandRefusal, line: &mut Text) -> Result<(), Memory>
     ensures { OnOk result (line.new ≡ line.old ++ command_text refusal.now) }
 {
@@ -100,6 +110,7 @@ fn append_command(alloc: Global, refusal: &CommandRefusal, line: &mut Text) -> R
         CommandRefusal::Explain(fault) => append_explain_fault(alloc, *fault, line),
         CommandRefusal::ToMessage(fault) => append_to_fault(alloc, *fault, line),
         CommandRefusal::FromMessage(fault) => append_from_fault(alloc, *fault, line),
+        CommandRefusal::Digest(cause) => append_digest(*cause, line),
     }
 }
 

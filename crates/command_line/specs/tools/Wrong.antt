@@ -11,7 +11,7 @@ use Rattle.command_line.specs.declared.fault.WordsReason.TheVariants.{NotTaken, 
 use Rattle.command_line.specs.declared.options.CommandName.{CommandName}
 use Rattle.command_line.specs.declared.options.CommandName.TheVariants as name
 use Rattle.command_line.specs.declared.options.CommandOption.{CommandOption}
-use Rattle.command_line.specs.declared.options.CommandOption.TheVariants.{Conf, Now, Label, Nonce, Wanted, Script, Other, Into}
+use Rattle.command_line.specs.declared.options.CommandOption.TheVariants.{Conf, Now, Label, Request, Nonce, Wanted, Script, Other, Into}
 use Rattle.command_line.specs.declared.options.OptionWords.{OptionWords}
 use Rattle.command_line.specs.tools.Found.{excluding_in, word_in, AreFoundBefore}
 
@@ -50,6 +50,7 @@ needed name.Explain = Label ∷ Other ∷ []
 needed name.Audit = Conf ∷ []
 needed name.Gateway = Conf ∷ []
 needed name.Lists = Into ∷ []
+needed name.Negotiate = Conf ∷ Now ∷ Request ∷ []
 needed name.Sample = []
 
 -- no options were found that can't be beside one another

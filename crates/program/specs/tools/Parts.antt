@@ -1,5 +1,5 @@
 -- What the parts of a run keep. No public clause cites this module.
-use Rattle.std.specs.Prelude.{◌≡◌, ◌⊎◌, ◌+◌, ◌≤◌, ⊤, ℕ, Bool, false, IsTrue, List, [], ◌∷◌, codes, Option, Some, None, Result, Err, option_map}
+use Rattle.std.specs.Prelude.{◌≡◌, ◌⊎◌, ◌+◌, ◌≤◌, ⊤, ℕ, Bool, false, IsTrue, List, [], ◌∷◌, codes, Option, Some, None, IsSome, Result, Err, option_map}
 use Rattle.std.specs.Io.KnownBytes.{Appends, Keeps}
 use Rattle.std.specs.List.{list_all}
 use Rattle.std.specs.Str.{bytes_eq}
@@ -59,6 +59,11 @@ values_of files = record {
 abbrev pub HasOther : Option (List ℕ) → Option Message → Option Message → Type 0
 HasOther name related None = name ≡ None
 HasOther name related (Some other) = IsMessage (answers_head related) other
+
+-- there is a request where its file has a name
+abbrev pub HasRequested : Option (List ℕ) → Option Message → Type 0
+HasRequested None related = ⊤
+HasRequested (Some name) related = IsSome related
 
 -- what is taken with this other record, if any, where the input is this message
 abbrev pub taken_with : FileValues → Option Message → Message → TakenValues

@@ -2,7 +2,7 @@ use Rattle.std.proofs.Common.{map, string_bytes, subst, sym}
 use Rattle.command_line.specs.Names.{command_word}
 use Rattle.command_line.specs.declared.options.CommandName.{CommandName}
 use Rattle.command_line.specs.tools.After.{NoneAfter}
-use Rattle.command_line.proofs.FirstWords.{help_asked, no_audit, no_base, no_explain, no_gateway, no_lists, no_rewrite, no_sample, no_sign, no_verify}
+use Rattle.command_line.proofs.FirstWords.{help_asked, no_audit, no_base, no_explain, no_gateway, no_lists, no_negotiate, no_rewrite, no_sample, no_sign, no_verify}
 use Rattle.command_line.proofs.OptionLists.{if_none}
 use Rattle.command_line.proofs.command.read_command.Goals as goal
 
@@ -56,6 +56,12 @@ returns-in-Lists-clause-none c =
     if_none c.read_lists.result
     (λ none. subst (λ (command : CommandName). NoneAfter (command_word command) (map string_bytes c.args.words.now)) (sym c.in-Lists.is)
     (no_lists (map string_bytes c.args.words.now) (sym c.if-asks_help.ensures) none)) c.read_lists.ensures.none
+
+pub returns-in-Negotiate-clause-none : goal.returns-in-Negotiate-clause-none
+returns-in-Negotiate-clause-none c =
+    if_none c.read_negotiate.result
+    (λ none. subst (λ (command : CommandName). NoneAfter (command_word command) (map string_bytes c.args.words.now)) (sym c.in-Negotiate.is)
+    (no_negotiate (map string_bytes c.args.words.now) (sym c.if-asks_help.ensures) none)) c.read_negotiate.ensures.none
 
 pub returns-in-Sample-clause-none : goal.returns-in-Sample-clause-none
 returns-in-Sample-clause-none c =

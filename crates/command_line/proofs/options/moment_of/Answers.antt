@@ -1,4 +1,4 @@
-use Rattle.std.proofs.Common.{◌≡◌, ◌<◌, ◌^◌, ◌∙◌, ◌+◌, ◌-◌, ℕ, List, ap, arith, get_or, length, sym, subst, take}
+use Rattle.std.proofs.Common.{◌≡◌, ◌<◌, ◌^◌, ◌∙◌, ◌+◌, ℕ, List, ap, arith, get_or, length, sym, subst, take}
 use Rattle.std.proofs.lemmas.List.{take_all}
 use Rattle.std.specs.Str.Parse.{digits_value}
 use Rattle.command_line.proofs.Moments.{digit_here, is_below, more_below, value_more}

@@ -16,5 +16,5 @@ returns-in_err-specs-clause-report c =
 
 pub returns-clause-report : goal.returns-clause-report
 returns-clause-report c =
-    wished (meaning c.args.conf.now) c.args.now (message_of c.args.wishes.now) (context_of c.args.context.now) c.in_ok-specs.specs c.sign_each.result c.in_ok-specs.ensures.ok c.in_ok-specs.ensures.fault
-    (subst (λ (ss : List SignSpec). IfOutcome c.sign_each.result (ReportsEach (context_of c.args.context.now) ss)) c.as_slice.ensures c.sign_each.ensures.report)
+    wished (meaning c.args.conf.now) c.args.now (message_of c.args.wishes.now) (context_of c.args.context.now) c.in_ok-specs.specs c.sign_specs.result c.in_ok-specs.ensures.ok c.in_ok-specs.ensures.fault
+    (subst (λ (ss : List SignSpec). IfOutcome c.sign_specs.result (ReportsEach (context_of c.args.context.now) ss)) c.as_slice.ensures c.sign_specs.ensures.report)

@@ -1,5 +1,5 @@
 use Rattle.std.proofs.Common.{◌≡◌, ◌⊎◌, ◌+◌, ◌≤◌, inl, map, string_bytes, ap}
-use Rattle.command_line.specs.Command.{CommandLine, Base, Verify, Sign, Explain, Audit, Gateway, GatewayWords, gateway_words}
+use Rattle.command_line.specs.Command.{CommandLine, Base, Verify, Sign, Explain, Audit, Gateway, Negotiate, GatewayWords, gateway_words}
 use Rattle.command_line.proofs.CommandLaws.{one_command}
 use Rattle.commands.specs.Files.{Found, AreFound, Conf, file_bytes}
 use Rattle.program.specs.Commands.{GivesAtMost, LosesFew, input_use, name_of}
@@ -45,6 +45,9 @@ returns-in-Some-clause-sign g c = λ words is done. absurd (cc (one_command (map
 
 pub returns-in-Some-clause-explain : goal.returns-in-Some-clause-explain
 returns-in-Some-clause-explain g c = λ words is done. absurd (cc (one_command (map string_bytes c.args.arguments.now) (Gateway (gateway_words c.in-Some.words)) (Explain words) c.in-Some.ensures.some is))
+
+pub returns-in-Some-clause-negotiate : goal.returns-in-Some-clause-negotiate
+returns-in-Some-clause-negotiate g c = λ words is done. absurd (cc (one_command (map string_bytes c.args.arguments.now) (Gateway (gateway_words c.in-Some.words)) (Negotiate words) c.in-Some.ensures.some is))
 
 pub returns-in-Some-clause-audit : goal.returns-in-Some-clause-audit
 returns-in-Some-clause-audit g c = λ words is done. absurd (cc (one_command (map string_bytes c.args.arguments.now) (Gateway (gateway_words c.in-Some.words)) (Audit words) c.in-Some.ensures.some is))

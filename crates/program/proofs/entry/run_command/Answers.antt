@@ -1,6 +1,6 @@
 use Rattle.std.proofs.Common.{◌≡◌, ◌+◌, ◌≤◌, Bool, option_map, map, string_bytes, refl, sym, subst, Ok}
 use Rattle.std.proofs.Math.Nat.{le_refl}
-use Rattle.command_line.specs.Command.{CommandLine, Help, HelpOf, Version, Base, Verify, Sign, Rewrite, Explain, Audit, Gateway, Lists, Sample, base_words, verify_words, sign_words, rewrite_words, explain_words, audit_words, gateway_words, lists_words, sample_words}
+use Rattle.command_line.specs.Command.{CommandLine, Help, HelpOf, Version, Base, Verify, Sign, Rewrite, Explain, Audit, Gateway, Lists, Negotiate, Sample, base_words, verify_words, sign_words, rewrite_words, explain_words, audit_words, gateway_words, lists_words, negotiate_words, sample_words}
 use Rattle.commands.specs.Files.{AreFound, file_bytes}
 use Rattle.commands.specs.Stops.{IfOutcome}
 use Rattle.refusals.specs.declared.refusal.TheConstants.{MAX_INPUT_BYTES}
@@ -343,6 +343,40 @@ returns-else-words-clause-unasked g c = λ named. c.over_message-else-words.ensu
 
 pub returns-else-words-clause-files : goal.returns-else-words-clause-files
 returns-else-words-clause-files g c = c.over_message-else-words.ensures.asks.files
+
+pub returns-in-Negotiate-clause-report : goal.returns-in-Negotiate-clause-report
+returns-in-Negotiate-clause-report g c =
+    spelled (map string_bytes c.args.arguments.now) (Negotiate (negotiate_words c.in-Negotiate.words)) (rw c.in-Negotiate.is at c.in-Some.ensures.some) (g.F.Shelf.files c.args.shelf.now)
+    (c.over_message-in-Negotiate.new.source ≡ c.args.source.now) (g.S.Source.left c.args.source.now) (g.S.Source.left c.over_message-in-Negotiate.new.source) c.over_message-in-Negotiate.result c.over_message-in-Negotiate.ensures.report
+
+pub returns-in-Negotiate-clause-few : goal.returns-in-Negotiate-clause-few
+returns-in-Negotiate-clause-few g c =
+    of_command (λ (line : CommandLine). LosesFew (input_use line) (g.S.Source.left c.args.source.now) (g.S.Source.left c.over_message-in-Negotiate.new.source))
+    (map string_bytes c.args.arguments.now) (Negotiate (negotiate_words c.in-Negotiate.words)) (rw c.in-Negotiate.is at c.in-Some.ensures.some) c.over_message-in-Negotiate.ensures.few
+
+pub returns-in-Negotiate-clause-given : goal.returns-in-Negotiate-clause-given
+returns-in-Negotiate-clause-given g c =
+    of_command (λ (line : CommandLine). GivesAtMost (input_use line) (g.S.Source.given c.args.source.now) (g.S.Source.given c.over_message-in-Negotiate.new.source))
+    (map string_bytes c.args.arguments.now) (Negotiate (negotiate_words c.in-Negotiate.words)) (rw c.in-Negotiate.is at c.in-Some.ensures.some) c.over_message-in-Negotiate.ensures.given
+
+pub returns-in-Negotiate-clause-asked : goal.returns-in-Negotiate-clause-asked
+returns-in-Negotiate-clause-asked g c =
+    asks_of (map string_bytes c.args.arguments.now) (Negotiate (negotiate_words c.in-Negotiate.words)) (rw c.in-Negotiate.is at c.in-Some.ensures.some) c.over_message-in-Negotiate.result (g.F.Shelf.asked c.args.shelf.now) (g.F.Shelf.asked c.over_message-in-Negotiate.new.shelf)
+    c.over_message-in-Negotiate.ensures.asked c.over_message-in-Negotiate.ensures.asks.asks
+
+pub returns-in-Negotiate-clause-reached : goal.returns-in-Negotiate-clause-reached
+returns-in-Negotiate-clause-reached g c =
+    of_command (λ (line : CommandLine). g.F.Shelf.reached c.over_message-in-Negotiate.new.shelf ≤ g.F.Shelf.reached c.args.shelf.now + file_bytes (name_of line))
+    (map string_bytes c.args.arguments.now) (Negotiate (negotiate_words c.in-Negotiate.words)) (rw c.in-Negotiate.is at c.in-Some.ensures.some) c.over_message-in-Negotiate.ensures.asks.reaches
+
+pub returns-in-Negotiate-clause-unread : goal.returns-in-Negotiate-clause-unread
+returns-in-Negotiate-clause-unread g c = λ none. never_read _ (none (Negotiate (negotiate_words c.in-Negotiate.words)) (rw c.in-Negotiate.is at c.in-Some.ensures.some))
+
+pub returns-in-Negotiate-clause-unasked : goal.returns-in-Negotiate-clause-unasked
+returns-in-Negotiate-clause-unasked g c = λ named. c.over_message-in-Negotiate.ensures.asks.unasked (named (Negotiate (negotiate_words c.in-Negotiate.words)) (rw c.in-Negotiate.is at c.in-Some.ensures.some))
+
+pub returns-in-Negotiate-clause-files : goal.returns-in-Negotiate-clause-files
+returns-in-Negotiate-clause-files g c = c.over_message-in-Negotiate.ensures.asks.files
 
 pub sample_outcome-requires-clause-seed : goal.sample_outcome-requires-clause-seed
 sample_outcome-requires-clause-seed g c =

@@ -1,7 +1,7 @@
 use Rattle.std.proofs.Common.{◌≡◌, map, string_bytes}
 use Rattle.program.specs.Ends.{HasReport}
 use Rattle.program.proofs.AskedFiles.{asks_stopped, asks_written}
-use Rattle.program.proofs.Meanings.{writes_explanation, writes_one_base, writes_one_chain, writes_signed, writes_verdicts}
+use Rattle.program.proofs.Meanings.{writes_explanation, writes_negotiated, writes_one_base, writes_one_chain, writes_signed, writes_verdicts}
 use Rattle.program.proofs.WrittenOutcomes.{ends_stopped, ends_written, no_command_stopped, reads_stopped, reads_written, why_stopped, why_written}
 use Rattle.program.proofs.entry.run_whole.Goals as goal
 
@@ -35,6 +35,11 @@ returns-in-Ok-clause-sign g c =
 pub returns-in-Ok-clause-explain : goal.returns-in-Ok-clause-explain
 returns-in-Ok-clause-explain g c =
     writes_explanation (map string_bytes c.args.arguments.now) (g.F.Shelf.files c.args.shelf.now) (c.run_command.new.source ≡ c.args.source.now) (g.S.Source.left c.args.source.now) (g.S.Source.left c.run_command.new.source)
+    (g.K.Sink.taken c.args.out.now) (g.K.Sink.taken c.write_outcome.new.out) c.write_outcome.result.status (returns-in-Ok-clause-ends g c)
+
+pub returns-in-Ok-clause-negotiate : goal.returns-in-Ok-clause-negotiate
+returns-in-Ok-clause-negotiate g c =
+    writes_negotiated (map string_bytes c.args.arguments.now) (g.F.Shelf.files c.args.shelf.now) (c.run_command.new.source ≡ c.args.source.now) (g.S.Source.left c.args.source.now) (g.S.Source.left c.run_command.new.source)
     (g.K.Sink.taken c.args.out.now) (g.K.Sink.taken c.write_outcome.new.out) c.write_outcome.result.status (returns-in-Ok-clause-ends g c)
 
 pub returns-in-Ok-clause-audit : goal.returns-in-Ok-clause-audit
@@ -83,6 +88,11 @@ returns-in-Err-clause-sign g c =
 pub returns-in-Err-clause-explain : goal.returns-in-Err-clause-explain
 returns-in-Err-clause-explain g c =
     writes_explanation (map string_bytes c.args.arguments.now) (g.F.Shelf.files c.args.shelf.now) (c.run_command.new.source ≡ c.args.source.now) (g.S.Source.left c.args.source.now) (g.S.Source.left c.run_command.new.source)
+    (g.K.Sink.taken c.args.out.now) (g.K.Sink.taken c.end_stopped.new.out) c.end_stopped.result.status (returns-in-Err-clause-ends g c)
+
+pub returns-in-Err-clause-negotiate : goal.returns-in-Err-clause-negotiate
+returns-in-Err-clause-negotiate g c =
+    writes_negotiated (map string_bytes c.args.arguments.now) (g.F.Shelf.files c.args.shelf.now) (c.run_command.new.source ≡ c.args.source.now) (g.S.Source.left c.args.source.now) (g.S.Source.left c.run_command.new.source)
     (g.K.Sink.taken c.args.out.now) (g.K.Sink.taken c.end_stopped.new.out) c.end_stopped.result.status (returns-in-Err-clause-ends g c)
 
 pub returns-in-Err-clause-audit : goal.returns-in-Err-clause-audit

@@ -4,8 +4,8 @@ use Rattle.component_values.specs.Context.{HasWholeMessage, MessageContext}
 use Rattle.msg_body.specs.Views.{message_of}
 use Rattle.commands.specs.Messages.{IsInputMessage}
 use Rattle.msg_body.specs.declared.whole.Reading.{Reading}
-use Rattle.commands.specs.Files.{Other}
-use Rattle.program.specs.tools.Parts.{HasOther, values_of}
+use Rattle.commands.specs.Files.{Other, Request}
+use Rattle.program.specs.tools.Parts.{HasOther, HasRequested, values_of}
 use Rattle.program.proofs.Sources.{after_answer, after_refusal, spelled_input}
 use Rattle.std.proofs.lemmas.Result.{err_from_is_err_and}
 use Rattle.program.proofs.over_message.over_input.Goals as goal
@@ -28,3 +28,7 @@ answer-requires-clause-whole g c =
 pub answer-requires-clause-other : goal.answer-requires-clause-other
 answer-requires-clause-other g c =
     subst (λ (context : MessageContext). HasOther (g.C.OverMessage.names c.args.command.now Other) context.related (option_map (λ view. message_of view.now) c.args.other)) (sym c.context_for-context.ensures) c.requires.other
+
+pub answer-requires-clause-requested : goal.answer-requires-clause-requested
+answer-requires-clause-requested g c =
+    subst (λ (context : MessageContext). HasRequested (g.C.OverMessage.names c.args.command.now Request) context.related) (sym c.context_for-context.ensures) c.requires.requested

@@ -3,6 +3,7 @@ use Rattle.std.specs.Prelude.{IsTrue, option_map}
 use Rattle.std.specs.List.{list_all}
 use Rattle.std.proofs.lemmas.Result.{err_from_is_err_and}
 use Rattle.conf.specs.ConfMeaning.{meaning}
+use Rattle.msg_body.specs.Messages.{Message}
 use Rattle.msg_body.specs.Views.{message_of}
 use Rattle.msg_body.specs.WholeTexts.{any_message, one_request}
 use Rattle.commands.specs.Files.{FileNames, Conf, Other, Request, Script, Wanted}
@@ -14,9 +15,10 @@ use Rattle.rewrite_script.specs.Lines.{is_writable}
 use Rattle.rewrite_script.specs.declared.limits.TheConstants.{MAX_SCRIPT_BYTES}
 use Rattle.rewrite_script.specs.declared.rewrite.Rewrite.{Rewrite}
 use Rattle.program.specs.Intake.{IsConfLacking, names_of}
+use Rattle.program.specs.tools.Parts.{HasRequested}
 use Rattle.program.proofs.AskedFiles.{asked_conf, asked_request, asked_script, asked_until, asked_wanted, late_asked, until_conf, until_request, until_script, until_wanted}
 use Rattle.program.proofs.FaultCounts.{after_shelf, shelf_counts, text_counts}
-use Rattle.program.proofs.Reports.{all_read, asks_all, asks_none, conf_stopped, keeps_both, message_had, message_refused, read_before, refused_before, request_stopped, same_related, script_stopped, script_writable, wishes_stopped}
+use Rattle.program.proofs.Reports.{all_read, asks_all, asks_none, conf_stopped, has_requested, keeps_both, message_had, message_refused, read_before, refused_before, request_stopped, same_related, script_stopped, script_writable, wishes_stopped}
 use Rattle.program.proofs.Sources.{none_gone}
 use Rattle.program.proofs.over_message.over_message.Goals as goal
 
@@ -221,6 +223,17 @@ over_record-requires-clause-writable g c =
 
 pub over_record-requires-clause-named : goal.over_record-requires-clause-named
 over_record-requires-clause-named g c = ap (λ (names : FileNames). names Other) c.files-names.ensures
+
+pub over_record-requires-clause-requested : goal.over_record-requires-clause-requested
+over_record-requires-clause-requested g c =
+    let words = c.files-names.result in
+    let shelf = g.F.Shelf.files c.args.shelf.now in
+    let first = g.F.Shelf.files c.read_needed.new.shelf in
+    let related = option_map (λ view. message_of view) c.in_ok-related.related in
+    let requested = message_had shelf words Request one_request c.in_ok-request.request _ _ related first c.in_ok-conf.ensures.files c.of_request.ensures c.as_ref.ensures.value c.in_ok-request.ensures.ok c.in_ok-related.ensures.ok in
+    let same = same_related (λ view. view.now) c.as_ref-3.result c.in_ok-related.related c.as_ref-3.ensures.value in
+    subst (λ (names : FileNames). HasRequested (names Request) (option_map (λ view. message_of view.now) c.as_ref-3.result)) (sym c.files-names.ensures)
+    (subst (λ (r : Option Message). HasRequested (names_of words Request) r) (sym same) (has_requested (names_of words Request) requested.found related requested.holds))
 
 pub returns-clause-report : goal.returns-clause-report
 returns-clause-report g c =

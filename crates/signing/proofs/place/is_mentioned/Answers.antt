@@ -1,4 +1,4 @@
-use Rattle.std.proofs.Common.{ℕ, List, Option, None, ap, is_some, subst, sym, ◌∙◌}
+use Rattle.std.proofs.Common.{ℕ, List, Option, None, ap, subst, sym, ◌∙◌}
 use Rattle.memchr.specs.Find.{FindsNeedle}
 use Rattle.msg_head.specs.Values.{combined_value, joined_value}
 use Rattle.msg_head.specs.declared.error.Side.TheVariants.{Header}

@@ -1,0 +1,3 @@
+pub mod Preferring
+pub mod Signing
+pub mod Judged
