@@ -9,10 +9,10 @@ use Rattle.sfv_text.specs.Keys.{value_of}
 use Rattle.sfv_text.specs.declared.pair.Pair.{Pair}
 use Rattle.command_line.specs.Command.{CommandLine, Help, HelpOf, Version, Base, Verify, Sign, Rewrite, Explain, Audit, Gateway, Lists, Negotiate, Sample, BaseWords, VerifyWords, SignWords, RewriteWords, ExplainWords, AuditWords, GatewayWords, ListsWords, NegotiateWords, SampleWords, IsCommand, SpellsBase, SpellsVerify, SpellsSign, SpellsRewrite, SpellsExplain, SpellsAudit, SpellsGateway, SpellsLists, SpellsNegotiate, SpellsSample}
 use Rattle.command_line.specs.Laws.{HasOneCommand}
-use Rattle.command_line.specs.Names.{command_of, command_word}
-use Rattle.command_line.specs.Options.{into_word, words_of}
-use Rattle.command_line.specs.declared.options.CommandName.{CommandName}
-use Rattle.command_line.specs.declared.options.CommandName.TheVariants as name
+use Rattle.command_options.specs.Names.{command_of, command_word}
+use Rattle.command_options.specs.Options.{into_word, words_of}
+use Rattle.command_options.specs.declared.options.CommandName.{CommandName}
+use Rattle.command_options.specs.declared.options.CommandName.TheVariants as name
 use Rattle.command_line.specs.tools.Wrong.{asks_help}
 
 -- ---- what words are read as

@@ -11,11 +11,11 @@ use Rattle.std.proofs.lemmas.Slice.Eq.{bytes_eq-Decides}
 use Rattle.sfv_text.specs.Keys.{have_distinct_keys, value_of}
 use Rattle.sfv_text.specs.declared.pair.Pair.{Pair}
 use Rattle.command_line.specs.Command.{VerifyWords, SignWords, RewriteWords, ExplainWords, AuditWords, GatewayWords, ListsWords, NegotiateWords, SampleWords, SpellsBase, SpellsVerify, SpellsSign, SpellsRewrite, SpellsExplain, SpellsAudit, SpellsGateway, SpellsLists, SpellsNegotiate, SpellsSample}
-use Rattle.command_line.specs.Numbers.{is_number, IsCount, IsSeed}
-use Rattle.command_line.specs.Options.{into_word, is_into, may_have, takes, words_of, AreOptions}
-use Rattle.command_line.specs.declared.options.CommandName.{CommandName}
-use Rattle.command_line.specs.declared.options.CommandName.TheVariants as name
-use Rattle.command_line.proofs.OptionLists.{begins, no_single, one_list, value_had}
+use Rattle.command_options.specs.Numbers.{is_number, IsCount, IsSeed}
+use Rattle.command_options.specs.Options.{into_word, is_into, may_have, takes, words_of, AreOptions}
+use Rattle.command_options.specs.declared.options.CommandName.{CommandName}
+use Rattle.command_options.specs.declared.options.CommandName.TheVariants as name
+use Rattle.command_options.proofs.OptionLists.{begins, one_list, value_had}
 
 pub first_is : (a b : List ℕ) (x y : List (List ℕ)) → a ∷ x ≡ b ∷ y → (a ≡ b) × (x ≡ y)
 first_is a b x y e = (cc, cc)
@@ -35,6 +35,11 @@ word_or_not word (first ∷ []) = elim (cases_Bool (bytes_eq first word)) [
   | inr other ↦ inr (λ e. not_named first word [] [] other e)
 ]
 word_or_not word (first ∷ second ∷ more) = inr (λ e. absurd cc)
+
+-- one word is no pair
+no_single : (options : List (Pair (List ℕ))) (word : List ℕ) → word ∷ [] ≡ words_of options → ⊥
+no_single [] word e = absurd cc
+no_single (p ∷ others) word e = absurd cc
 
 -- words in pairs
 pairs_or_none : (words : List (List ℕ)) → ((options : List (Pair (List ℕ))) × (words ≡ words_of options)) ⊎ ((options : List (Pair (List ℕ))) → words ≡ words_of options → ⊥)

@@ -1,14 +1,15 @@
--- The moment and the nonce of a command: its options may have no other words.
+-- The moment, the nonce and the numbers of a command: its words may be no others.
 use Rattle.std.proofs.Common.{◌≡◌, ◌<◌, ◌^◌, ℕ, List, Option, Some, None, refl, sym, subst}
 use Rattle.std.specs.Prelude.{IsSomeAnd, codes}
 use Rattle.std.specs.Str.Parse.{digits_value}
 use Rattle.sfv_text.specs.Keys.{value_of}
 use Rattle.sfv_text.specs.declared.pair.Pair.{Pair}
 use Rattle.command_line.specs.Command.{CommandLine, Help, HelpOf, Version, Base, Verify, Sign, Rewrite, Explain, Audit, Gateway, Lists, Negotiate, Sample, IsCommand, IsTimely, HasRightNonce}
-use Rattle.command_line.specs.Options.{AreOptions}
-use Rattle.command_line.specs.declared.options.CommandName.{CommandName}
-use Rattle.command_line.proofs.Moments.{is_below}
-use Rattle.command_line.proofs.OptionLists.{value_had, word_had}
+use Rattle.command_line.specs.Laws.{IsSampleBounded}
+use Rattle.command_options.specs.Options.{AreOptions}
+use Rattle.command_options.specs.declared.options.CommandName.{CommandName}
+use Rattle.command_options.proofs.Moments.{below_digits, is_below}
+use Rattle.command_options.proofs.OptionLists.{value_had, word_had}
 
 moment_below : (command : CommandName) (words : List (List ℕ)) (options : List (Pair (List ℕ))) → AreOptions command words options
     → (now : ℕ) → IsSomeAnd (value_of options (codes "--now")) (λ digits. now ≡ digits_value 10 digits) → now < 10 ^ 15
@@ -47,3 +48,7 @@ right_nonce arguments (Gateway words) is = tt
 right_nonce arguments (Lists words) is = tt
 right_nonce arguments (Negotiate words) is = tt
 right_nonce arguments (Sample words) is = tt
+
+pub sample_bounded : IsSampleBounded
+sample_bounded arguments sample is =
+    (subst (λ (n : ℕ). n < 10 ^ 9) (sym is.seed_is.1) (below_digits 9 is.seed is.seed_is.0), is.count_is.2)

@@ -1,23 +1,25 @@
 -- Options that begin a command: those that it needs can be added to them.
-use Rattle.std.proofs.Common.{◌≡◌, ℕ, Bool, true, false, ◌&&◌, List, [], ◌∷◌, ◌++◌, Some, None, inl, inr, refl, sym, ap, subst, ◌∙◌, append_assoc}
-use Rattle.std.specs.Prelude.{codes, if◌then◌else◌}
+use Rattle.std.proofs.Common.{◌≡◌, ℕ, Bool, true, false, ◌&&◌, List, [], ◌∷◌, ◌++◌, Option, Some, None, inl, inr, refl, sym, ap, subst, ◌∙◌, append_assoc}
+use Rattle.std.specs.Prelude.{codes, if◌then◌else◌, option_map, unwrap_or}
 use Rattle.std.specs.List.{list_all, list_any}
 use Rattle.std.specs.Str.{bytes_eq}
-use Rattle.std.proofs.lemmas.Bool.{cases_Bool, and_parts, false≢true}
+use Rattle.std.proofs.lemmas.Bool.{and_from, cases_Bool, and_parts, false≢true}
+use Rattle.std.proofs.lemmas.Grind.{flat_map-append}
 use Rattle.std.proofs.lemmas.List.{append-nil}
 use Rattle.sfv_text.specs.Keys.{has_key, value_of}
 use Rattle.sfv_text.specs.declared.pair.Pair.{Pair}
-use Rattle.sfv_text.proofs.PutLaws.{put_new_distinct}
+use Rattle.sfv_text.proofs.PutLaws.{put_new, put_new_distinct, put_value}
+use Rattle.byte_grammar.proofs.ListLaws.{all_joined}
 use Rattle.command_line.specs.Faults.{BeginsCommand, IsStart}
-use Rattle.command_line.specs.Options.{is_taken_by, may_have, option_of, row_of, takes, words_of, AreOptions}
-use Rattle.command_line.specs.declared.options.CommandName.{CommandName}
-use Rattle.command_line.specs.declared.options.CommandName.TheVariants as name
-use Rattle.command_line.specs.declared.options.CommandOption.{CommandOption}
-use Rattle.command_line.specs.declared.options.CommandOption.TheVariants.{Conf, Now, Label, Request, Nonce, Wanted, Script, Other, Into}
+use Rattle.command_options.specs.Options.{is_taken_by, may_have, option_of, row_of, takes, words_of, AreOptions}
+use Rattle.command_options.specs.declared.options.CommandName.{CommandName}
+use Rattle.command_options.specs.declared.options.CommandName.TheVariants as name
+use Rattle.command_options.specs.declared.options.CommandOption.{CommandOption}
+use Rattle.command_options.specs.declared.options.CommandOption.TheVariants.{Conf, Now, Label, Request, Nonce, Wanted, Script, Other, Into}
 use Rattle.command_line.specs.tools.Wrong.{needed, AreCommand}
 use Rattle.command_line.proofs.CommandOrNone.{has_word}
 use Rattle.command_line.proofs.FirstWords.{HasAll, HasOne, IsAlone, IsAloneFor, whole}
-use Rattle.command_line.proofs.OptionLists.{found_none, option_named, snoc_test, value_more, words_joined}
+use Rattle.command_options.proofs.OptionLists.{found_none}
 
 -- ---- one more option
 
@@ -49,6 +51,13 @@ example_had Script = refl
 example_had Other = refl
 example_had Into = refl
 
+-- a test of the option of its own name
+option_tested : (test : CommandOption → Bool) (option : CommandOption) → unwrap_or (option_map test (option_of (row_of option).word)) false ≡ test option
+option_tested test option = ap (λ (found : Option CommandOption). unwrap_or (option_map test found) false) (option_is option)
+
+words_joined : (done rest : List (Pair (List ℕ))) → words_of (done ++ rest) ≡ words_of done ++ words_of rest
+words_joined done rest = flat_map-append (λ (option : Pair (List ℕ)). option.key ∷ option.value ∷ []) done rest
+
 abbrev pub pair_of : CommandOption → List ℕ → Pair (List ℕ)
 pair_of option word = record { key = (row_of option).word; value = word }
 
@@ -59,14 +68,15 @@ pub with_one : (command : CommandName) (done : List (Pair (List ℕ))) (option :
 with_one command done option word are new taken had = record {
   joined = refl;
   distinct = put_new_distinct done (row_of option).word word are.distinct new;
-  taken = snoc_test (λ p. takes command p.key) done (pair_of option word) are.taken (option_named (is_taken_by command) (row_of option).word option (option_is option) ∙ taken);
-  had = snoc_test (λ p. may_have p.key p.value) done (pair_of option word) are.had (option_named (λ o. (row_of o).may_have word) (row_of option).word option (option_is option) ∙ had);
+  taken = all_joined (λ (p : Pair (List ℕ)). takes command p.key) done (pair_of option word ∷ []) are.taken (and_from (takes command (row_of option).word) true (option_tested (is_taken_by command) option ∙ taken) refl);
+  had = all_joined (λ (p : Pair (List ℕ)). may_have p.key p.value) done (pair_of option word ∷ []) are.had (and_from (may_have (row_of option).word word) true (option_tested (λ o. (row_of o).may_have word) option ∙ had) refl);
 }
 
 -- its value, and those of the others
 value_with : (done : List (Pair (List ℕ))) (option : CommandOption) (word name : List ℕ) → list_any (has_key (row_of option).word) done ≡ false
     → value_of (done ++ pair_of option word ∷ []) name ≡ (if bytes_eq (row_of option).word name then Some word else value_of done name)
-value_with done option word name new = value_more name done (pair_of option word) new
+value_with done option word name new =
+    ap (λ (all : List (Pair (List ℕ))). value_of all name) (put_new done (row_of option).word word new) ∙ put_value (row_of option).word word name done
 
 kept_with : (done : List (Pair (List ℕ))) (option : CommandOption) (word : List ℕ) → list_any (has_key (row_of option).word) done ≡ false
     → (other : CommandOption) → HasOne done other → HasOne (done ++ pair_of option word ∷ []) other

@@ -8,12 +8,12 @@ use Rattle.sfv_text.specs.Keys.{value_of}
 use Rattle.sfv_text.specs.declared.pair.Pair.{Pair}
 use Rattle.command_line.specs.Command.{AuditWords, BaseWords, ExplainWords, GatewayWords, ListsWords, NegotiateWords, RewriteWords, SampleWords, SignWords, VerifyWords, NoCommand, SpellsAudit, SpellsBase, SpellsExplain, SpellsGateway, SpellsLists, SpellsNegotiate, SpellsRewrite, SpellsSample, SpellsSign, SpellsVerify, CommandLine, Help, HelpOf, Version, Base, Verify, Sign, Rewrite, Explain, Audit, Gateway, Lists, Negotiate, Sample, IsCommand}
 use Rattle.command_line.specs.Faults.{IsStart}
-use Rattle.command_line.specs.Names.{command_of, command_word}
-use Rattle.command_line.specs.Numbers.{IsCount, IsSeed}
-use Rattle.command_line.specs.Options.{into_word, row_of, AreOptions}
-use Rattle.command_line.specs.declared.options.CommandName.{CommandName}
-use Rattle.command_line.specs.declared.options.CommandName.TheVariants as name
-use Rattle.command_line.specs.declared.options.CommandOption.{CommandOption}
+use Rattle.command_options.specs.Names.{command_of, command_word}
+use Rattle.command_options.specs.Numbers.{IsCount, IsSeed}
+use Rattle.command_options.specs.Options.{into_word, row_of, AreOptions}
+use Rattle.command_options.specs.declared.options.CommandName.{CommandName}
+use Rattle.command_options.specs.declared.options.CommandName.TheVariants as name
+use Rattle.command_options.specs.declared.options.CommandOption.{CommandOption}
 use Rattle.command_line.specs.tools.Wrong.{asks_help, needed, AreCommand}
 use Rattle.command_line.proofs.CommandOrNone.{first_is, has_moment, into_given, word_or_not}
 

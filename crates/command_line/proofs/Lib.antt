@@ -3,8 +3,7 @@ pub mod CommandOrNone
 pub mod CommandWords
 pub mod Completions
 pub mod FirstWords
-pub mod Moments
 pub mod OptionFaults
-pub mod OptionLists
 pub mod OtherFaults
+pub mod Results
 pub mod SomeCommand

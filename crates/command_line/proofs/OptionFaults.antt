@@ -1,6 +1,6 @@
 -- Why words are no options of a command.
 use Rattle.std.proofs.Common.{◌≡◌, ◌⊎◌, ℕ, Bool, true, false, ◌||◌, List, [], ◌∷◌, ◌++◌, Option, Some, None, inl, inr, refl, sym, ap, subst, ◌∙◌, append_assoc}
-use Rattle.std.specs.Prelude.{codes, not, is_none, is_some, if◌then◌else◌, IfErr, IfOk, Result, Ok, Err, map, string_bytes}
+use Rattle.std.specs.Prelude.{codes, not, is_none, is_some, if◌then◌else◌, option_map, unwrap_or, IfErr, IfOk, Result, Ok, Err, map, string_bytes}
 use Rattle.std.specs.List.{find, list_any}
 use Rattle.std.specs.Str.{bytes_eq}
 use Rattle.std.proofs.lemmas.Bool.{cases_Bool, false≢true}
@@ -10,21 +10,21 @@ use Rattle.sfv_text.specs.Keys.{has_key, value_of}
 use Rattle.sfv_text.specs.declared.pair.Pair.{Pair}
 use Rattle.command_line.specs.Command.{IsCommand}
 use Rattle.command_line.specs.Faults.{BeginsCommand, AreParted, HasOption, IsReason, IsStart, IsWordsFault, Need}
-use Rattle.command_line.specs.Names.{command_word, first_command}
-use Rattle.command_line.specs.Options.{is_taken_by, may_have, option_of, row_of, takes, words_of, AreOptions}
+use Rattle.command_options.specs.Names.{command_word, first_command}
+use Rattle.command_options.specs.Options.{is_taken_by, may_have, option_of, row_of, takes, words_of, AreOptions}
 use Rattle.command_line.specs.declared.fault.NextWords.{NextWords}
 use Rattle.command_line.specs.declared.fault.WordsReason.{WordsReason}
 use Rattle.command_line.specs.declared.fault.WordsReason.TheVariants.{NoWords, NoCommand, LeftOver, NotTaken, Twice, Excluded, NoWord, BadWord, Missing, NoParams, NoSeed, BadSeed, NoCount, BadCount}
-use Rattle.command_line.specs.declared.options.CommandName.{CommandName}
-use Rattle.command_line.specs.declared.options.CommandName.TheVariants as name
-use Rattle.command_line.specs.declared.options.CommandOption.{CommandOption}
-use Rattle.command_line.specs.declared.options.CommandOption.TheVariants.{Conf, Now, Label, Request, Nonce, Wanted, Script, Other, Into}
-use Rattle.command_line.specs.declared.options.OptionWords.{OptionWords}
-use Rattle.command_line.specs.tools.Found.{excluding_in, word_in, AreWordsOf}
+use Rattle.command_options.specs.declared.options.CommandName.{CommandName}
+use Rattle.command_options.specs.declared.options.CommandName.TheVariants as name
+use Rattle.command_options.specs.declared.options.CommandOption.{CommandOption}
+use Rattle.command_options.specs.declared.options.CommandOption.TheVariants.{Conf, Now, Label, Request, Nonce, Wanted, Script, Other, Into}
+use Rattle.command_options.specs.declared.options.OptionWords.{OptionWords}
+use Rattle.command_options.specs.Found.{excluding_in, word_in, AreWordsOf}
 use Rattle.command_line.specs.tools.Wrong.{needed, AreFound, AreNextWords, BeginsNoHelp, IsFoundAlone, IsNameReason, IsNextName, IsNextOrEnd}
 use Rattle.command_line.proofs.Completions.{alone_for, alone_with, begins_name, begins_options, example, none_with, pair_of}
 use Rattle.command_line.proofs.FirstWords.{HasAll, HasOne, IsAlone, IsAloneFor, IsOptionLine, NotHelp, started, started_plain}
-use Rattle.command_line.proofs.OptionLists.{all_at, begins, begins_with, first_holds, found_none, name_is, named_option, new_at, none_found_yet, one_more_found, value_none}
+use Rattle.command_options.proofs.OptionLists.{begins, comes_next, found_none, name_is, none_found_yet, one_more_found, value_none}
 
 no_word : (found : Option (List ℕ)) (word : List ℕ) → found ≡ None → found ≡ Some word → ⊥
 no_word found word none some = let e : None ≡ Some word = sym none ∙ some in absurd cc
@@ -126,8 +126,8 @@ at_word : (done options : List (Pair (List ℕ))) (word next : List ℕ) (more :
     → (p : Pair (List ℕ)) × (others : List (Pair (List ℕ))) × (options ≡ done ++ p ∷ others) × (word ≡ p.key) × (next ≡ p.value)
 at_word done options word next more same =
     let rest = begins done options (word ∷ next ∷ more) same in
-    let first = begins_with rest.0 word next more rest.2 in
-    (first.0, first.1, rest.1 ∙ ap (λ (all : List (Pair (List ℕ))). done ++ all) first.2, first.3, first.4)
+    let others = begins (record { key = word; value = next } ∷ []) rest.0 more rest.2 in
+    (record { key = word; value = next }, others.0, rest.1 ∙ ap (λ (all : List (Pair (List ℕ))). done ++ all) others.1, refl, refl)
 
 joined_twice : (a b c d : List (List ℕ)) → ((a ++ b) ++ c) ++ d ≡ a ++ (b ++ (c ++ d))
 joined_twice a b c d = append_assoc (a ++ b) c d ∙ append_assoc a b (c ++ d)
@@ -230,19 +230,24 @@ both_there Wanted given name.Lists found done others p taken excluded are same a
 both_there Wanted given name.Negotiate found done others p taken excluded are same alone = false≢true taken
 both_there Wanted given name.Sample found done others p taken excluded are same alone = false≢true taken
 
-taken_key : (command : CommandName) (done others : List (Pair (List ℕ))) (p : Pair (List ℕ)) (words : List (List ℕ)) → AreOptions command words (done ++ p ∷ others)
-    → takes command p.key ≡ true
-taken_key command done others p words are = all_at (λ p. takes command p.key) done others p are.taken
+taken_key : (command : CommandName) (found : OptionWords) (done others : List (Pair (List ℕ))) (p : Pair (List ℕ)) (words : List (List ℕ))
+    → AreOptions command words (done ++ p ∷ others) → AreWordsOf found done → takes command p.key ≡ true
+taken_key command found done others p words are are_found =
+    let next = comes_next command found done others p words are are_found in
+    ap (λ (o : Option CommandOption). unwrap_or (option_map (is_taken_by command) o) false) next.1.named ∙ next.1.taken
+
+one_option : (option other : CommandOption) → Some option ≡ Some other → option ≡ other
+one_option option other e = cc
 
 not_next : (reason : WordsReason) (command : CommandName) (found : OptionWords) (done others : List (Pair (List ℕ))) (p : Pair (List ℕ)) (name : List ℕ) (words : List (List ℕ))
     → IsNameReason command found name reason → AreWordsOf found done → name ≡ p.key → AreOptions command words (done ++ p ∷ others)
     → IsAloneFor command (done ++ p ∷ others) → ⊥
 not_next (NotTaken other) command found done others p name words is are_found same are alone =
-    false≢true (sym is.1 ∙ (ap (takes command) same ∙ taken_key command done others p words are))
+    false≢true (sym is.1 ∙ (ap (takes command) same ∙ taken_key command found done others p words are are_found))
 not_next (Twice other option) command found done others p name words is are_found same are alone =
-    let named : p.key ≡ (row_of option).word = sym same ∙ name_is name option is.1 in
-    let none : word_in found option ≡ None =
-    are_found option ∙ (ap (λ (n : List ℕ). value_of done n) (sym named) ∙ value_none p.key done (new_at done others p are.distinct)) in
+    let next = comes_next command found done others p words are are_found in
+    let option_is : next.0 ≡ option = one_option next.0 option (sym next.1.named ∙ (ap option_of (sym same) ∙ is.1)) in
+    let none : word_in found option ≡ None = subst (λ (o : CommandOption). word_in found o ≡ None) option_is next.1.is_new in
     false≢true (ap (λ (x : Option (List ℕ)). is_some x) (sym none) ∙ is.2)
 not_next (Excluded option given) command found done others p name words is are_found same are alone =
     both_there option given command found done others p is.1 is.2 are_found (sym same ∙ name_is name option is.0) alone
@@ -503,9 +508,6 @@ word_wrong command start all found name word after option starts so_far plain ne
       command_is = sym (start_command command start all starts);
     }
   where
-    had : (o : CommandOption) → Some o ≡ Some option → (row_of o).may_have word ≡ true → (row_of option).may_have word ≡ true
-    had o same is = let e : o ≡ option = cc in subst (λ (o : CommandOption). (row_of o).may_have word ≡ true) e is
-
     none : BeginsCommand (((start ++ words_of so_far.before.done) ++ name ∷ []) ++ word ∷ []) → ⊥
     none begun =
         let both = subst (λ (words : List (List ℕ)). BeginsCommand words) (append_assoc (start ++ words_of so_far.before.done) (name ∷ []) (word ∷ [])) begun in
@@ -513,22 +515,22 @@ word_wrong command start all found name word after option starts so_far plain ne
         (not_help command all so_far.before.done name (word ∷ after) (word ∷ both.0) plain so_far.before.joined) in
         let spot = at_word so_far.before.done line.options name word both.0 line.are.joined in
         let all_had = subst (λ (options : List (Pair (List ℕ))). AreOptions command (words_of so_far.before.done ++ name ∷ word ∷ both.0) options) spot.2 line.are in
-        let is : may_have spot.0.key spot.0.value ≡ true = all_at (λ p. may_have p.key p.value) so_far.before.done spot.1 spot.0 all_had.had in
-        let found_had = named_option (option_of spot.0.key) (λ o. (row_of o).may_have spot.0.value) is in
-        let key_had : (row_of found_had.0).may_have word ≡ true = subst (λ (w : List ℕ). (row_of found_had.0).may_have w ≡ true) (sym spot.4) found_had.2 in
-        false≢true (sym bad ∙ had found_had.0 (sym found_had.1 ∙ (ap option_of (sym spot.3) ∙ next.named)) key_had)
+        let comes = comes_next command found so_far.before.done spot.1 spot.0 (words_of so_far.before.done ++ name ∷ word ∷ both.0) all_had so_far.before.are_found in
+        let option_is : comes.0 ≡ option = one_option comes.0 option (sym comes.1.named ∙ (ap option_of (sym spot.3) ∙ next.named)) in
+        let had : (row_of comes.0).may_have word ≡ true = subst (λ (w : List ℕ). (row_of comes.0).may_have w ≡ true) (sym spot.4) comes.1.had in
+        false≢true (sym bad ∙ subst (λ (o : CommandOption). (row_of o).may_have word ≡ true) option_is had)
 
 -- ---- options that are missing
 
--- one of those that the command needs
+-- one of those that the command needs, and that passes a test
 one_of : (test : CommandOption → Bool) (wanted : List CommandOption) (options : List (Pair (List ℕ))) (option : CommandOption) → find test wanted ≡ Some option
-    → HasAll options wanted → HasOne options option
+    → HasAll options wanted → HasOne options option × (test option ≡ true)
 one_of test [] options option e has = absurd cc
 one_of test (first ∷ wanted) options option e has = elim (cases_Bool (test first)) [
   | inl holds ↦
       let same : Some first ≡ Some option = rw holds at e in
       let first_is : first ≡ option = cc in
-      subst (λ (o : CommandOption). HasOne options o) first_is has.0
+      subst (λ (o : CommandOption). HasOne options o × (test o ≡ true)) first_is (has.0, holds)
   | inr other ↦ one_of test wanted options option (rw other at e) has.1
 ]
 
@@ -585,9 +587,10 @@ missing command start all found option starts so_far lacks = record {
         let after = started command start (all ++ more) line starts (subst (λ (words : List (List ℕ)). IsCommand words line) (append_assoc start all more) is) none_of in
         let same : words_of so_far.before.done ++ more ≡ words_of after.options = ap (λ (words : List (List ℕ)). words ++ more) (sym whole) ∙ after.are.joined in
         let rest = begins so_far.before.done after.options more same in
-        let has = one_of (λ option. not (is_some (word_in found option))) (needed command) after.options option lacks after.has in
+        let one = one_of (λ option. not (is_some (word_in found option))) (needed command) after.options option lacks after.has in
+        let has = one.0 in
         let none : value_of so_far.before.done (row_of option).word ≡ None =
-        sym (so_far.before.are_found option) ∙ lacks_word (word_in found option) (first_holds (λ option. not (is_some (word_in found option))) (needed command) option lacks) in
+        sym (so_far.before.are_found option) ∙ lacks_word (word_in found option) one.1 in
         let some : value_of (so_far.before.done ++ rest.0) (row_of option).word ≡ Some has.0 =
         ap (λ (options : List (Pair (List ℕ))). value_of options (row_of option).word) (sym rest.1) ∙ has.1 in
         subst (λ (words : List (List ℕ)). list_any (λ other. bytes_eq other (row_of option).word) words ≡ true) (sym rest.2)

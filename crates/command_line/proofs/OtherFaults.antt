@@ -8,12 +8,12 @@ use Rattle.std.proofs.lemmas.Slice.Eq.{bytes_eq-Decides}
 use Rattle.sfv_text.specs.declared.pair.Pair.{Pair}
 use Rattle.command_line.specs.Command.{CommandLine, Base, Help, HelpOf, Version, Sample, IsCommand}
 use Rattle.command_line.specs.Faults.{BeginsCommand, IsWordsFault}
-use Rattle.command_line.specs.Names.{command_of, command_word}
-use Rattle.command_line.specs.Numbers.{IsCount, IsSeed}
-use Rattle.command_line.specs.Options.{takes, words_of}
+use Rattle.command_options.specs.Names.{command_of, command_word}
+use Rattle.command_options.specs.Numbers.{IsCount, IsSeed}
+use Rattle.command_options.specs.Options.{takes, words_of}
 use Rattle.command_line.specs.declared.fault.WordsReason.TheVariants.{NoWords, NoCommand, LeftOver, NoParams, NoSeed, BadSeed, NoCount, BadCount}
-use Rattle.command_line.specs.declared.options.CommandName.{CommandName}
-use Rattle.command_line.specs.declared.options.CommandName.TheVariants as name
+use Rattle.command_options.specs.declared.options.CommandName.{CommandName}
+use Rattle.command_options.specs.declared.options.CommandName.TheVariants as name
 use Rattle.command_line.specs.tools.Wrong.{is_text_name, AreCommand}
 use Rattle.command_line.proofs.CommandOrNone.{first_is}
 use Rattle.command_line.proofs.FirstWords.{AfterName, IsNoHelp, IsOptionLine, command_is, named, no_help, unnamed}

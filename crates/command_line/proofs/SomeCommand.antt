@@ -7,9 +7,9 @@ use Rattle.std.proofs.lemmas.Bool.{cases_Bool, false≢true}
 use Rattle.std.proofs.lemmas.Slice.Eq.{bytes_eq-Decides}
 use Rattle.command_line.specs.Command.{CommandLine, Help, HelpOf, Version, Base, Verify, Sign, Rewrite, Explain, Audit, Gateway, Lists, Negotiate, Sample, IsCommand, NoCommand}
 use Rattle.command_line.specs.Laws.{HasCommandOrNone}
-use Rattle.command_line.specs.Names.{command_of, command_word}
-use Rattle.command_line.specs.declared.options.CommandName.{CommandName}
-use Rattle.command_line.specs.declared.options.CommandName.TheVariants as name
+use Rattle.command_options.specs.Names.{command_of, command_word}
+use Rattle.command_options.specs.declared.options.CommandName.{CommandName}
+use Rattle.command_options.specs.declared.options.CommandName.TheVariants as name
 use Rattle.command_line.specs.tools.Wrong.{asks_help}
 use Rattle.command_line.proofs.CommandOrNone.{first_is, base_of, verify_of, sign_of, rewrite_of, explain_of, audit_of, gateway_of, lists_of, negotiate_of, sample_of}
 use Rattle.command_line.proofs.FirstWords.{asked, command_is, help_asked, no_base, no_verify, no_sign, no_rewrite, no_explain, no_audit, no_gateway, no_lists, no_negotiate, no_sample, unnamed}

@@ -3,12 +3,12 @@ use Rattle.std.specs.Prelude.{◌≡◌, ◌⊎◌, ◌<◌, ◌^◌, ⊤, ℕ, 
 use Rattle.std.specs.Str.Parse.{digits_value}
 use Rattle.sfv_text.specs.Keys.{value_of}
 use Rattle.sfv_text.specs.declared.pair.Pair.{Pair}
-use Rattle.command_line.specs.Names.{command_word}
-use Rattle.command_line.specs.Numbers.{IsCount, IsSeed}
-use Rattle.command_line.specs.Options.{into_word, is_nonce, AreOptions}
-use Rattle.command_line.specs.declared.options.TheConstants.{MAX_MOMENT_DIGITS}
-use Rattle.command_line.specs.declared.options.CommandName.{CommandName}
-use Rattle.command_line.specs.declared.options.CommandName.TheVariants as name
+use Rattle.command_options.specs.Names.{command_word}
+use Rattle.command_options.specs.Numbers.{IsCount, IsSeed}
+use Rattle.command_options.specs.Options.{into_word, is_nonce, AreOptions}
+use Rattle.command_options.specs.declared.options.TheConstants.{MAX_MOMENT_DIGITS}
+use Rattle.command_options.specs.declared.options.CommandName.{CommandName}
+use Rattle.command_options.specs.declared.options.CommandName.TheVariants as name
 use Rattle.command_line.specs.declared.command.BaseWords as base
 use Rattle.command_line.specs.declared.command.VerifyWords as verify
 use Rattle.command_line.specs.declared.command.SignWords as sign

@@ -6,12 +6,12 @@ use Rattle.std.specs.Str.{bytes_eq}
 use Rattle.sfv_text.specs.Keys.{has_key}
 use Rattle.sfv_text.specs.declared.pair.Pair.{Pair}
 use Rattle.command_line.specs.Command.{CommandLine, HelpOf, IsCommand}
-use Rattle.command_line.specs.Names.{command_of, command_word, first_command}
-use Rattle.command_line.specs.Numbers.{IsCount, IsSeed}
-use Rattle.command_line.specs.Options.{row_of, takes, words_of, AreOptions}
-use Rattle.command_line.specs.declared.options.CommandName.{CommandName}
-use Rattle.command_line.specs.declared.options.CommandName.TheVariants as name
-use Rattle.command_line.specs.declared.options.CommandOption.{CommandOption}
+use Rattle.command_options.specs.Names.{command_of, command_word, first_command}
+use Rattle.command_options.specs.Numbers.{IsCount, IsSeed}
+use Rattle.command_options.specs.Options.{row_of, takes, words_of, AreOptions}
+use Rattle.command_options.specs.declared.options.CommandName.{CommandName}
+use Rattle.command_options.specs.declared.options.CommandName.TheVariants as name
+use Rattle.command_options.specs.declared.options.CommandOption.{CommandOption}
 use Rattle.command_line.specs.declared.fault.WordsReason.{WordsReason}
 use Rattle.command_line.specs.declared.fault.WordsReason.TheVariants.{NoWords, NoCommand, LeftOver, NotTaken, Twice, Excluded, NoWord, BadWord, Missing, NoParams, NoSeed, BadSeed, NoCount, BadCount}
 

@@ -1,7 +1,7 @@
 -- Laws of commands.
 use Rattle.std.specs.Prelude.{◌≡◌, ◌⊎◌, ◌<◌, ◌≤◌, ◌^◌, ℕ, List}
 use Rattle.command_line.specs.Command.{CommandLine, IsCommand, NoCommand, SampleWords, SpellsSample}
-use Rattle.command_line.specs.declared.sample_words.TheConstants.{MAX_SAMPLE_HOPS, MAX_SEED_DIGITS}
+use Rattle.command_options.specs.declared.sample_words.TheConstants.{MAX_SAMPLE_HOPS, MAX_SEED_DIGITS}
 
 -- the arguments spell at most one command
 abbrev pub HasOneCommand : Type 0

@@ -3,12 +3,11 @@
 ghost use Rattle.std.specs.Prelude.{◌≡◌, ◌∷◌, [], drop, false, None, map, codes, IfSome, IfNone, string_bytes};
 ghost use Rattle.command_line.specs.Command.{HasRightNonce, IsCommand, NoCommand, SpellsAudit, SpellsBase, SpellsExplain, SpellsGateway, SpellsLists, SpellsNegotiate, SpellsRewrite, SpellsSample, SpellsSign, SpellsVerify, line_of, IsTimely};
 ghost use Rattle.command_line.specs.Command.{AuditWords as AuditLine, BaseWords as BaseLine, ExplainWords as ExplainLine, GatewayWords as GatewayLine, ListsWords as ListsLine, NegotiateWords as NegotiateLine, RewriteWords as RewriteLine, SampleWords as SampleLine, SignWords as SignLine, VerifyWords as VerifyLine};
-ghost use Rattle.command_line.specs.Names.{command_of, command_word};
+ghost use Rattle.command_options.specs.Names.{command_of, command_word};
 ghost use Rattle.command_line.specs.tools.Wrong.{asks_help};
 ghost use Rattle.command_line.specs.tools.After.{IsAfter, NoneAfter};
 
-use crate::options::{CommandName, moment_of, read_options};
-use crate::sample_words::{count_of, seed_of};
+use command_options::{CommandName, count_of, moment_of, read_options, seed_of};
 
 /// The words of `base`. They are borrowed.
 #[derive(Clone, Copy)]

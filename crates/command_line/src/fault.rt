@@ -5,14 +5,13 @@ ghost use Rattle.std.specs.List.{find};
 ghost use Rattle.std.specs.Str.{bytes_eq};
 ghost use Rattle.command_line.specs.Command.{CommandLine, IsCommand, NoCommand};
 ghost use Rattle.command_line.specs.Faults.{IsStart, IsWordsFault};
-ghost use Rattle.command_line.specs.Names.{command_word, first_command};
-ghost use Rattle.command_line.specs.Numbers.{IsSeed};
-ghost use Rattle.command_line.specs.tools.Found.{word_in};
+ghost use Rattle.command_options.specs.Names.{command_word, first_command};
+ghost use Rattle.command_options.specs.Numbers.{IsSeed};
+ghost use Rattle.command_options.specs.Found.{word_in};
 ghost use Rattle.command_line.specs.tools.Wrong.{is_text_name, needed, AreCommand, AreFound, BeginsNoHelp, HasFault, IsNameReason, IsNextName, IsNextOrEnd};
 
 use crate::command::{first_of, read_words};
-use crate::options::{CommandName, CommandOption, OptionWords};
-use crate::sample_words::{count_of, seed_of};
+use command_options::{CommandName, CommandOption, OptionWords, count_of, seed_of};
 
 /// What is wrong with a word, or missing after the last one.
 #[derive(Clone, Copy)]

@@ -9,18 +9,14 @@ mod command;
 mod fault;
 mod fault_text;
 mod laws;
-mod limit_laws;
-mod names;
-mod options;
-mod sample_words;
 
 pub use command::{
     AuditWords, BaseWords, Command, ExplainWords, GatewayWords, ListsWords, NegotiateWords,
     RewriteWords, SampleWords, SignWords, VerifyWords, after_name, read_words,
 };
+pub use command_options::{
+    CommandName, CommandOption, MAX_COUNT_DIGITS, MAX_MOMENT_DIGITS, MAX_NONCE_BYTES,
+    MAX_SAMPLE_HOPS, MAX_SEED_DIGITS,
+};
 pub use fault::{WordsFault, WordsReason, words_fault};
 pub use laws::{a_sample_is_bounded, arguments_are_a_command_or_none, arguments_have_one_command};
-pub use limit_laws::limits_are_these;
-pub use nonces::MAX_NONCE_BYTES;
-pub use options::{CommandName, CommandOption, MAX_MOMENT_DIGITS};
-pub use sample_words::{MAX_COUNT_DIGITS, MAX_SAMPLE_HOPS, MAX_SEED_DIGITS};

@@ -1,6 +1,5 @@
 -- What is read at each layer is a value, or has a cause to be refused.
-use Rattle.std.proofs.Common.{◌≡◌, inl, inr, ℕ, List, [], ◌∷◌, length, Option, Some, None, refl, sym, subst}
-use Rattle.std.proofs.lemmas.Bool.{cases_lt}
+use Rattle.std.proofs.Common.{◌≡◌, inl, inr, ℕ, List, [], ◌∷◌, Option, Some, None, refl, sym, subst}
 use Rattle.sfv_text.specs.declared.value.InnerList.{InnerList}
 use Rattle.sfv_read.specs.Fault.{IsSfError}
 use Rattle.sfv_read.specs.Reads.{ReadsInner}
@@ -11,52 +10,16 @@ use Rattle.component_values.specs.Context.{MessageContext}
 use Rattle.component_values.specs.Values.{Lacks as LacksSo}
 use Rattle.msg_body.specs.Messages.{Message}
 use Rattle.conf.specs.Configuration.{Configuration}
-use Rattle.settings.specs.Standard.{standard_configuration}
 use Rattle.verdicts.specs.declared.outcome.Verdict.{Verdict}
 use Rattle.commands.specs.Base.{AreParamsRefused}
-use Rattle.commands.specs.Configured.{IsConfText, IsConfTextRefused}
 use Rattle.commands.specs.Covered.{ReadsParams}
-use Rattle.commands.specs.Laws.{HasConfiguration, HasMessage, HaveParams, HaveValuesOrLack, HaveSomeOutcome}
-use Rattle.commands.specs.Layers.{HasAnswer, ReadsFound, IsFileRefused}
+use Rattle.commands.specs.Laws.{HaveParams, HaveValuesOrLack, HaveSomeOutcome}
+use Rattle.intake.specs.Layers.{HasAnswer}
 use Rattle.commands.specs.Verify.{AreAsked, AreVerdicts, verdicts_outcome}
 use Rattle.verdicts.specs.Verification.{or_no_label, verification_for}
-use Rattle.refusals.specs.declared.refusal.TheConstants.{MAX_CONF_BYTES, MAX_INPUT_BYTES}
-use Rattle.refusals.specs.declared.file.FileRefusal.{FileRefusal}
-use Rattle.refusals.specs.declared.file.FileRefusal.TheVariants.{Missing, TooLong, Message as NoMessage, Conf}
 use Rattle.refusals.specs.declared.refusal.CommandRefusal.TheVariants.{Syntax, Ids, Lacks}
 use Rattle.commands.proofs.Lacking.{id_there}
-use Rattle.commands.proofs.LowerAnswers.{conf_answer_of, empty_says, inner_or_not, inner_fault, ids_answer, message_answer, values_or_lack, some_labels, some_verdict}
-
--- ---- the configuration
-
-text_answer : (text : List ℕ) → HasAnswer (IsConfText text) (IsConfTextRefused text)
-text_answer text = elim (cases_lt MAX_CONF_BYTES (length text)) [
-  | inl long ↦ inr (TooLong MAX_CONF_BYTES, (refl, long))
-  | inr short ↦ elim (conf_answer_of text) [
-    | inl says ↦ inl (says.0, (short, says.1))
-    | inr fault ↦ inr (Conf fault.0, (short, fault.1))
-  ]
-]
-
-module _ {V : Type 0} (Reads : List ℕ → V → Type 0) (Causes : List ℕ → FileRefusal → Type 0) (answer : (text : List ℕ) → HasAnswer (Reads text) (Causes text)) where
-  pub found_answer : (found : Option (List ℕ)) → HasAnswer (ReadsFound Reads found) (IsFileRefused Causes found)
-  found_answer None = inr (Missing, refl)
-  found_answer (Some text) = answer text
-
-pub has_configuration : HasConfiguration
-has_configuration None found = inl (standard_configuration, empty_says)
-has_configuration (Some name) found = found_answer IsConfText IsConfTextRefused text_answer found
-
--- ---- the input
-
-pub has_message : HasMessage
-has_message r input bytes = elim (cases_lt MAX_INPUT_BYTES (length input)) [
-  | inl long ↦ inr (TooLong MAX_INPUT_BYTES, (refl, long))
-  | inr short ↦ elim (message_answer r input short) [
-    | inl found ↦ inl (found.0, record { are_bytes = bytes; within = short; whole = found.1 })
-    | inr fault ↦ inr (NoMessage fault.0, (short, fault.1))
-  ]
-]
+use Rattle.commands.proofs.LowerAnswers.{inner_or_not, inner_fault, ids_answer, values_or_lack, some_labels, some_verdict}
 
 -- ---- PARAMS
 

@@ -12,7 +12,8 @@ use Rattle.recording.specs.declared.limits.TheConstants.{MAX_HOPS}
 use Rattle.hop_audit.specs.declared.line.AuditLine.{AuditLine}
 use Rattle.commands.specs.Audit.{IsRecordingText, IsChainRefused, ReportsChain, ReportsAudit, audit_outcome}
 use Rattle.commands.specs.Laws.{HasOneAuditing, HasSomeAuditing, IsChainDecided, HasAudit}
-use Rattle.commands.specs.Stops.{IfOutcome, stop_of_chain}
+use Rattle.intake.specs.Stops.{stop_of_chain}
+use Rattle.commands.specs.Outcome.{IfOutcome}
 use Rattle.commands.specs.declared.outcome.Outcome.{Outcome}
 use Rattle.commands.specs.declared.outcome.Outcome.TheVariants.{Refused}
 use Rattle.refusals.specs.declared.file.FileRefusal.{FileRefusal}

@@ -1,5 +1,5 @@
 -- What is read at each layer is one value, or has one cause to be refused.
-use Rattle.std.proofs.Common.{◌≡◌, ℕ, List, sym, ap, subst, ◌∙◌, arith}
+use Rattle.std.proofs.Common.{◌≡◌, ℕ, List, ap, subst}
 use Rattle.byte_grammar.proofs.OffsetLaws.{one_offset}
 use Rattle.sfv_text.specs.declared.value.InnerList.{InnerList}
 use Rattle.sfv_read.specs.Reads.{ReadsInner}
@@ -12,74 +12,13 @@ use Rattle.component_ids.specs.declared.params.SigParams.{SigParams}
 use Rattle.component_values.specs.Context.{MessageContext}
 use Rattle.component_values.specs.Values.{HaveValues}
 use Rattle.component_values.proofs.FirstLacks.{have_one_list, first_lack_is_one, none_lacks}
-use Rattle.msg_body.specs.Messages.{Message}
-use Rattle.msg_body.specs.declared.error.MessageFault.{MessageFault}
 use Rattle.commands.specs.Base.{HasIdFault, AreParamsRefused, IsValueLacking}
 use Rattle.commands.specs.Covered.{ReadsParams}
-use Rattle.commands.specs.Laws.{IsInputDecided, AreParamsDecided, AreValuesDecided}
-use Rattle.commands.specs.Messages.{IsInputMessage, IsInputRefused}
-use Rattle.msg_body.specs.declared.whole.Reading.{Reading}
-use Rattle.refusals.specs.declared.file.FileRefusal.{FileRefusal}
-use Rattle.refusals.specs.declared.file.FileRefusal.TheVariants.{Missing, TooLong, Message as NoMessage, Conf, Script, Recording, Order, TooManyHops, OutOfPlace, TooManyItems, Fields}
+use Rattle.commands.specs.Laws.{AreParamsDecided, AreValuesDecided}
 use Rattle.refusals.specs.declared.refusal.CommandRefusal.{CommandRefusal}
 use Rattle.refusals.specs.declared.refusal.CommandRefusal.TheVariants.{Syntax, Ids, Lacks, Sign, Wishes, NotTaken, Explain, ToMessage, FromMessage, Digest}
 use Rattle.commands.proofs.Lacking.{one_id}
-use Rattle.commands.proofs.LowerLaws.{one_list, no_fault, one_params, one_text, one_message_fault, text_no_fault}
-
--- ---- the input
-
-input_cause : (r : Reading) (input : List ℕ) (c d : FileRefusal) → IsInputRefused r input c → IsInputRefused r input d → c ≡ d
-input_cause r input Missing d a b = absurd a
-input_cause r input (Conf f) d a b = absurd a
-input_cause r input (Script f) d a b = absurd a
-input_cause r input (Recording f) d a b = absurd a
-input_cause r input (Order i) d a b = absurd a
-input_cause r input (TooManyHops i) d a b = absurd a
-input_cause r input (OutOfPlace i) d a b = absurd a
-input_cause r input (TooManyItems i) d a b = absurd a
-input_cause r input (Fields f) d a b = absurd a
-input_cause r input (TooLong n) Missing a b = absurd b
-input_cause r input (TooLong n) (Conf g) a b = absurd b
-input_cause r input (TooLong n) (Script g) a b = absurd b
-input_cause r input (TooLong n) (Recording g) a b = absurd b
-input_cause r input (TooLong n) (Order j) a b = absurd b
-input_cause r input (TooLong n) (TooManyHops j) a b = absurd b
-input_cause r input (TooLong n) (OutOfPlace j) a b = absurd b
-input_cause r input (TooLong n) (TooManyItems j) a b = absurd b
-input_cause r input (TooLong n) (Fields g) a b = absurd b
-input_cause r input (TooLong n) (TooLong m) a b = ap (λ (limit : ℕ). TooLong limit) (a.0 ∙ sym b.0)
-input_cause r input (TooLong n) (NoMessage g) a b = absurd (omega (arith, a.1, b.0))
-input_cause r input (NoMessage f) Missing a b = absurd b
-input_cause r input (NoMessage f) (Conf g) a b = absurd b
-input_cause r input (NoMessage f) (Script g) a b = absurd b
-input_cause r input (NoMessage f) (Recording g) a b = absurd b
-input_cause r input (NoMessage f) (Order j) a b = absurd b
-input_cause r input (NoMessage f) (TooManyHops j) a b = absurd b
-input_cause r input (NoMessage f) (OutOfPlace j) a b = absurd b
-input_cause r input (NoMessage f) (TooManyItems j) a b = absurd b
-input_cause r input (NoMessage f) (Fields g) a b = absurd b
-input_cause r input (NoMessage f) (TooLong m) a b = absurd (omega (arith, a.0, b.1))
-input_cause r input (NoMessage f) (NoMessage g) a b = ap (λ (h : MessageFault). NoMessage h) (one_message_fault r input f g a.1 b.1)
-
-input_either : (r : Reading) (input : List ℕ) (message : Message) (c : FileRefusal) → IsInputMessage r input message → IsInputRefused r input c → ⊥
-input_either r input message Missing is c = c
-input_either r input message (Conf f) is c = c
-input_either r input message (Script f) is c = c
-input_either r input message (Recording f) is c = c
-input_either r input message (Order i) is c = c
-input_either r input message (TooManyHops i) is c = c
-input_either r input message (OutOfPlace i) is c = c
-input_either r input message (TooManyItems i) is c = c
-input_either r input message (Fields f) is c = c
-input_either r input message (TooLong n) is c = let within = is.within in omega (arith, within, c.1)
-input_either r input message (NoMessage f) is c = text_no_fault r input message f is.whole c.1
-
-pub input_decided : IsInputDecided
-input_decided r input = record {
-  value = λ a b is also. one_text r.to_head input a b is.whole.spells also.whole.spells;
-  cause = input_cause r input;
-  either = input_either r input;
-}
+use Rattle.commands.proofs.LowerLaws.{one_list, no_fault, one_params}
 
 -- ---- PARAMS
 

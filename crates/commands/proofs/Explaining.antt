@@ -29,7 +29,8 @@ use Rattle.refusals.specs.declared.refusal.CommandRefusal.TheVariants.{Explain}
 use Rattle.commands.specs.Explain.{IsDifference, ReportsExplanation, WritesExplained, differing_text, explained_text}
 use Rattle.commands.specs.Laws.{HasOneExplained, HasSomeExplained}
 use Rattle.commands.specs.Layers.{IsUnrefused}
-use Rattle.commands.specs.Stops.{IfOutcome, ReadsNothing, stop_of_explain}
+use Rattle.intake.specs.Stops.{stop_of_explain}
+use Rattle.commands.specs.Outcome.{IfOutcome, ReadsNothing}
 use Rattle.commands.specs.tools.Explained.{HasCovered}
 use Rattle.commands.specs.declared.outcome.Outcome.{Outcome}
 use Rattle.commands.specs.declared.outcome.Outcome.TheVariants.{Done, NotOk, Refused}

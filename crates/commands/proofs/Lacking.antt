@@ -15,9 +15,9 @@ use Rattle.component_values.specs.Values.{IsFirstLack}
 use Rattle.component_values.specs.Context.{MessageContext}
 use Rattle.commands.specs.Base.{ReportsValues}
 use Rattle.refusals.specs.declared.refusal.CommandRefusal.TheVariants.{Lacks as LacksValue}
-use Rattle.commands.specs.declared.stop.Stop.{Stop}
+use Rattle.intake.specs.declared.stop.Stop.{Stop}
 use Rattle.commands.specs.tools.Prepared.{SaysFault, stop_for_lack}
-use Rattle.commands.specs.Stops.{IfOutcome}
+use Rattle.commands.specs.Outcome.{IfOutcome}
 
 -- the component at an index has an identifier
 pub id_there : (P : ComponentId → Type 0) (ids : List ComponentId) (index : ℕ) → IsSomeAnd (slice_get ids index) P

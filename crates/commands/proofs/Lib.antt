@@ -1,13 +1,11 @@
 pub mod Answered
 pub mod Auditing
 pub mod Decided
-pub mod DecidedConf
 pub mod Explaining
-pub mod FoundFiles
 pub mod Lacking
 pub mod LowerAnswers
 pub mod LowerAudit
-pub mod LowerConf
+pub mod LowerVerdicts
 pub mod LowerExplaining
 pub mod ListTexts
 pub mod LowerLaws
@@ -15,7 +13,6 @@ pub mod LowerLists
 pub mod LowerNegotiating
 pub mod LowerRewriting
 pub mod LowerSigning
-pub mod NeededTables
 pub mod Negotiating
 pub mod OneOutcome
 pub mod OneRewriting
@@ -24,12 +21,9 @@ pub mod RecordedTexts
 pub mod Rewriting
 pub mod RewrittenMessages
 pub mod Sampled
-pub mod ScriptFiles
 pub mod SignedKeys
 pub mod SignedMessages
 pub mod Signing
 pub mod Stopping
-pub mod TakenFiles
-pub mod Texts
 pub mod Turning
 pub mod VerdictLines

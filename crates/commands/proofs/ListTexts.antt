@@ -9,7 +9,8 @@ use Rattle.list_texts.specs.declared.fault.FieldsFault.TheVariants as fault
 use Rattle.list_texts.specs.declared.list.FieldList.{FieldList}
 use Rattle.commands.specs.Laws.{IsListDecided, HasList}
 use Rattle.commands.specs.Lists.{IsListText, IsListRefused, ReportsIntoMessage}
-use Rattle.commands.specs.Stops.{IfOutcome, stop_of_fields}
+use Rattle.intake.specs.Stops.{stop_of_fields}
+use Rattle.commands.specs.Outcome.{IfOutcome}
 use Rattle.refusals.specs.declared.file.FileRefusal.{FileRefusal}
 use Rattle.refusals.specs.declared.file.FileRefusal.TheVariants.{Missing, TooLong, Message, Conf, Script, Recording, Order, TooManyHops, OutOfPlace, TooManyItems, Fields}
 use Rattle.refusals.specs.declared.refusal.TheConstants.{MAX_INPUT_BYTES}

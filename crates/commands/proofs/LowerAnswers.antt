@@ -1,6 +1,5 @@
 -- Laws of the crates below that something is read or has a fault, in the form that the proofs here
 -- use.
-use Rattle.std.proofs.Common.{refl}
 use Rattle.sfv_read.specs.Laws.{HasValueOrNone, HasFault}
 use Rattle.sfv_read.specs.Reads.{ReadsInner}
 use Rattle.sfv_read.proofs.Readings.{inner_is_decided, inner_judges}
@@ -9,22 +8,10 @@ use Rattle.component_ids.specs.Laws.{HasAnswer as HasIdsAnswer}
 use Rattle.component_ids.proofs.Judged as ids
 use Rattle.component_values.specs.Laws.{HaveOrLack}
 use Rattle.component_values.proofs.FirstLacks.{have_or_lack}
-use Rattle.msg_body.specs.Laws.{IsWholeOrNot}
-use Rattle.msg_body.proofs.WholeTexts.{is_whole_or_not}
-use Rattle.conf.specs.Laws.{HasConfAnswer, IsStandardOfEmpty}
-use Rattle.conf.proofs.AnswerLaws as conf
-use Rattle.conf.proofs.EmptyLaws.{empty_configures}
-use Rattle.settings.specs.Standard.{standard_configuration}
 use Rattle.signatures.specs.Laws.{HasLabels}
 use Rattle.signatures.proofs.Reading.{has_labels}
 use Rattle.verdicts.specs.Laws.{HasVerdict}
 use Rattle.verdicts.proofs.Judging.{has_verdict}
-
-pub conf_answer_of : HasConfAnswer
-conf_answer_of = conf.has_answer
-
-pub empty_says : IsStandardOfEmpty
-empty_says = empty_configures standard_configuration refl
 
 pub inner_or_not : HasValueOrNone ReadsInner
 inner_or_not = inner_is_decided
@@ -37,9 +24,6 @@ ids_answer = ids.has_answer
 
 pub values_or_lack : HaveOrLack
 values_or_lack = have_or_lack
-
-pub message_answer : IsWholeOrNot
-message_answer = is_whole_or_not
 
 pub some_labels : HasLabels
 some_labels = has_labels

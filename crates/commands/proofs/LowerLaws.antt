@@ -4,8 +4,7 @@ use Rattle.sfv_text.specs.declared.value.InnerList.{InnerList}
 use Rattle.sfv_read.specs.Reads.{ReadsInner}
 use Rattle.sfv_read.proofs.Readings.{inner_has_one_value}
 use Rattle.msg_body.proofs.OneMessages.{one_message_law}
-use Rattle.msg_body.specs.Laws.{OneMessage, OneFaultOfText, NoFaultOfWhole}
-use Rattle.msg_body.proofs.WholeTexts.{no_fault_of_whole, one_fault_of_text}
+use Rattle.msg_body.specs.Laws.{OneMessage}
 use Rattle.component_ids.specs.Causes.{IsIdFault}
 use Rattle.component_ids.specs.SignatureParams.{IsSigParams, list_of}
 use Rattle.component_ids.specs.declared.fault.IdFault.{IdFault}
@@ -27,11 +26,3 @@ one_params a b is_a is_b same = one_value (list_of b) a b (is_a, same) (is_b, re
 -- an input is the text of one message
 pub one_text : OneMessage
 one_text = one_message_law
-
--- an input that isn't one whole message has one fault
-pub one_message_fault : OneFaultOfText
-one_message_fault = one_fault_of_text
-
--- and one that is has none
-pub text_no_fault : NoFaultOfWhole
-text_no_fault = no_fault_of_whole

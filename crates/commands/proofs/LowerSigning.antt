@@ -1,12 +1,7 @@
 -- Laws of what is signed, in the form that the proofs here use.
-use Rattle.conf.proofs.ConfLaws as conf
-use Rattle.conf.specs.Laws.{IsValidWhereRead}
 use Rattle.signing.proofs.OneSigned as one
 use Rattle.signing.proofs.SomeSigned as some
 use Rattle.signing.specs.Laws.{HasOneSignedMessage, HasOneSignFault, HasSignedMessageOrFault, HasOneSpec, HasSpec, HasOneListOfSpecs, HasOneWantFault, HasSpecsOrFault}
-
-pub valid_where_read : IsValidWhereRead
-valid_where_read = conf.valid_where_read
 
 pub one_signed_message : HasOneSignedMessage
 one_signed_message = one.one_signed_message

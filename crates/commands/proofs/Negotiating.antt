@@ -30,11 +30,12 @@ use Rattle.signing.specs.declared.fault.WantFault.TheVariants as want
 use Rattle.signing.specs.declared.spec.SignSpec.{SignSpec}
 use Rattle.commands.specs.Laws.{HasOneNegotiation, HasSomeNegotiation}
 use Rattle.commands.specs.Negotiate.{IsIdOfWish, IsNegotiateRefused, IsRefusalOf, ReportsNegotiation}
-use Rattle.commands.specs.Stops.{IfOutcome, IfRefused, IsRefusalFor, ReadsNothing, stop_of_want}
+use Rattle.intake.specs.Stops.{IfRefused, IsRefusalFor, stop_of_want}
+use Rattle.commands.specs.Outcome.{IfOutcome, ReadsNothing}
 use Rattle.commands.specs.declared.outcome.Outcome.{Outcome}
 use Rattle.commands.specs.declared.outcome.Outcome.TheVariants.{Done, Refused}
-use Rattle.commands.specs.declared.stop.Stop.{Stop}
-use Rattle.commands.specs.declared.stop.Stop.TheVariants as ends
+use Rattle.intake.specs.declared.stop.Stop.{Stop}
+use Rattle.intake.specs.declared.stop.Stop.TheVariants as ends
 use Rattle.commands.specs.tools.Signed.{HasIndexIn, HasPlaceIn, SaysEachFault, SaysSignFault}
 use Rattle.refusals.specs.declared.refusal.CommandRefusal.{CommandRefusal}
 use Rattle.refusals.specs.declared.refusal.CommandRefusal.TheVariants.{Digest, Lacks, Sign, Wishes}

@@ -7,7 +7,7 @@ use Rattle.verdicts.specs.declared.outcome.Verdict.{Verdict}
 use Rattle.commands.specs.Laws.{HaveOneOutcome}
 use Rattle.commands.specs.Verify.{AreAsked, AreVerdicts, verdicts_outcome}
 use Rattle.verdicts.specs.Verification.{verification_for, or_no_label}
-use Rattle.commands.proofs.LowerConf.{one_list_of_labels, one_verdict}
+use Rattle.commands.proofs.LowerVerdicts.{one_list_of_labels, one_verdict}
 
 labels_one : (label : Option (List ℕ)) (message : Message) (a b : List (List ℕ)) → AreAsked label message a → AreAsked label message b → a ≡ b
 labels_one None message a b is also =

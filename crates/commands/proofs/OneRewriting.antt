@@ -13,7 +13,7 @@ use Rattle.rewrites.specs.Decisions.{HasMessageOrNone, PermitsOrNot}
 use Rattle.rewrites.specs.Permitted.{Permits}
 use Rattle.signatures.proofs.Reading.{has_one_signature, has_signature_or_not, has_no_failure_where_read}
 use Rattle.commands.specs.Laws.{HasOneRewritten, HasSomeRewritten}
-use Rattle.commands.specs.Layers.{HasAnswer}
+use Rattle.intake.specs.Layers.{HasAnswer}
 use Rattle.commands.specs.Rewrite.{IsRead, IsTaken, IsStepRefused, ReportsSteps}
 use Rattle.commands.specs.declared.outcome.Outcome.{Outcome}
 use Rattle.commands.specs.declared.outcome.Outcome.TheVariants.{Done, Refused}

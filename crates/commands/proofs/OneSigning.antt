@@ -15,8 +15,9 @@ use Rattle.signing.specs.declared.fault.SignFault.{SignFault}
 use Rattle.signing.specs.declared.fault.SignFault.TheVariants as fault
 use Rattle.signing.specs.declared.fault.WantFault.{WantFault}
 use Rattle.signing.specs.declared.spec.SignSpec.{SignSpec}
-use Rattle.commands.specs.Laws.{HasOneSigning, HasSomeSigning, IsValidWhereConfigured}
-use Rattle.commands.specs.Layers.{HasAnswer, IsUnrefused}
+use Rattle.commands.specs.Laws.{HasOneSigning, HasSomeSigning}
+use Rattle.intake.specs.Layers.{HasAnswer}
+use Rattle.commands.specs.Layers.{IsUnrefused}
 use Rattle.commands.specs.Sign.{AreWishesRefused, IsSignRefused, ReportsEach, ReportsWished}
 use Rattle.commands.specs.declared.outcome.Outcome.{Outcome}
 use Rattle.commands.specs.declared.outcome.Outcome.TheVariants.{Done, Refused}
@@ -25,7 +26,7 @@ use Rattle.refusals.specs.declared.refusal.CommandRefusal.TheVariants.{Syntax, I
 use Rattle.refusals.specs.declared.refusal.Refusal.TheVariants.{Command}
 use Rattle.commands.proofs.Lacking.{id_there, one_id}
 use Rattle.commands.proofs.Signing.{fault_of, said, want_fault_of}
-use Rattle.commands.proofs.LowerSigning.{valid_where_read, one_signed_message, one_sign_fault, signed_or_fault, one_spec, has_spec, one_list_of_specs, one_want_fault, specs_or_fault}
+use Rattle.commands.proofs.LowerSigning.{one_signed_message, one_sign_fault, signed_or_fault, one_spec, has_spec, one_list_of_specs, one_want_fault, specs_or_fault}
 
 -- ---- one signature
 
@@ -165,8 +166,3 @@ has_some_signing given moment conf None context sign is key =
     let rest = some_of_each (spec.0 ∷ []) context in
     (rest.0, record { spec = spec.0; is = spec.1; reports = rest.1 })
 has_some_signing given moment conf (Some wishes) context sign is key = some_wished conf moment wishes (rw is refl) context
-
-pub is_valid_where_configured : IsValidWhereConfigured
-is_valid_where_configured None found conf configured = valid_where_read [] conf configured
-is_valid_where_configured (Some name) (Some text) conf configured = valid_where_read text conf configured.1
-is_valid_where_configured (Some name) None conf configured = absurd configured

@@ -9,7 +9,8 @@ use Rattle.recording.specs.declared.fault.RecordingFault.TheVariants as fault
 use Rattle.recording.specs.Causes.{IsRecordingFault}
 use Rattle.commands.specs.Audit.{IsRecordingText, IsRecordingRefused, ReportsAudit}
 use Rattle.commands.specs.Laws.{IsRecordingDecided, HasRecording}
-use Rattle.commands.specs.Stops.{IfOutcome, stop_of_recording}
+use Rattle.intake.specs.Stops.{stop_of_recording}
+use Rattle.commands.specs.Outcome.{IfOutcome}
 use Rattle.refusals.specs.declared.file.FileRefusal.{FileRefusal}
 use Rattle.refusals.specs.declared.file.FileRefusal.TheVariants.{Missing, TooLong, Message, Conf, Script, Recording, Order, TooManyHops, OutOfPlace, TooManyItems, Fields}
 use Rattle.refusals.specs.declared.refusal.TheConstants.{MAX_RECORDING_BYTES}

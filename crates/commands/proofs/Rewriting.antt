@@ -22,7 +22,8 @@ use Rattle.signatures.specs.declared.place.Place.{Place}
 use Rattle.signatures.specs.declared.rule.Rule.{Rule}
 use Rattle.signatures.proofs.Reading.{has_no_failure_where_read}
 use Rattle.commands.specs.Rewrite.{IsRead, IsTaken, IsStepRefused, ReportsSteps}
-use Rattle.commands.specs.Stops.{IfOutcome, ReadsNothing, stop_of_walk}
+use Rattle.intake.specs.Stops.{stop_of_walk}
+use Rattle.commands.specs.Outcome.{IfOutcome, ReadsNothing}
 use Rattle.commands.specs.declared.outcome.Outcome.{Outcome}
 use Rattle.commands.specs.declared.outcome.Outcome.TheVariants.{Done, Refused}
 use Rattle.commands.specs.tools.Rewritten.{HasRead, IsJudged}

@@ -27,11 +27,12 @@ use Rattle.signing.specs.declared.fault.SignFault.TheVariants as fault
 use Rattle.signing.specs.declared.spec.SignSpec.{SignSpec}
 use Rattle.commands.proofs.Lacking.{said_id}
 use Rattle.commands.specs.Sign.{AreWishesRefused, IsSignRefused, ReportsEach, ReportsSign, ReportsWished}
-use Rattle.commands.specs.Stops.{IfOutcome, IfRefused, IsRefusalFor, ReadsNothing, stop_of_want}
+use Rattle.intake.specs.Stops.{IfRefused, IsRefusalFor, stop_of_want}
+use Rattle.commands.specs.Outcome.{IfOutcome, ReadsNothing}
 use Rattle.commands.specs.declared.outcome.Outcome.{Outcome}
 use Rattle.commands.specs.declared.outcome.Outcome.TheVariants.{Done, Refused}
-use Rattle.commands.specs.declared.stop.Stop.{Stop}
-use Rattle.commands.specs.declared.stop.Stop.TheVariants as ends
+use Rattle.intake.specs.declared.stop.Stop.{Stop}
+use Rattle.intake.specs.declared.stop.Stop.TheVariants as ends
 use Rattle.commands.specs.tools.Signed.{HasIndexIn, HasPlaceIn, IsSignedText, SaysEachFault, SaysSignFault}
 use Rattle.refusals.specs.declared.refusal.CommandRefusal.{CommandRefusal}
 use Rattle.refusals.specs.declared.refusal.CommandRefusal.TheVariants.{Syntax, Ids, Lacks, Sign, Wishes, NotTaken, Explain, ToMessage, FromMessage, Digest}

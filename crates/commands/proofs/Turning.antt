@@ -15,7 +15,8 @@ use Rattle.field_lists.specs.declared.to_fault.ToFault.{ToFault}
 use Rattle.field_lists.specs.declared.to_fault.ToFault.TheVariants as to
 use Rattle.commands.specs.Laws.{HasOneIntoFields, HasOneIntoMessage, HasSomeIntoFields, HasSomeIntoMessage}
 use Rattle.commands.specs.Lists.{IsListText, ReportsIntoFields, ReportsIntoMessage, ReportsMessageOf}
-use Rattle.commands.specs.Stops.{IfOutcome, stop_of_from, stop_of_to}
+use Rattle.intake.specs.Stops.{stop_of_from, stop_of_to}
+use Rattle.commands.specs.Outcome.{IfOutcome}
 use Rattle.commands.specs.declared.outcome.Outcome.{Outcome}
 use Rattle.commands.specs.declared.outcome.Outcome.TheVariants.{Done, Refused}
 use Rattle.refusals.specs.declared.file.FileRefusal.{FileRefusal}

@@ -1,5 +1,5 @@
--- Laws of what is read, and of what comes of it.
-use Rattle.std.specs.Prelude.{◌≡◌, ◌⊎◌, ⊤, ℕ, IsTrue, List, Option, Some, IsSome}
+-- Laws of what a command makes of what was read.
+use Rattle.std.specs.Prelude.{◌≡◌, ◌⊎◌, ℕ, IsTrue, List, Option, Some, IsSome}
 use Rattle.std.specs.FinMap as map
 use Rattle.hms_io.specs.declared.status.Status.TheVariants.{Done, NotOk}
 use Rattle.std.specs.List.{list_all}
@@ -9,74 +9,24 @@ use Rattle.component_values.specs.Context.{MessageContext, HasWholeMessage, answ
 use Rattle.component_values.specs.Values.{HaveValues}
 use Rattle.msg_body.specs.Messages.{Message, IsMessage}
 use Rattle.conf.specs.Configuration.{Configuration}
-use Rattle.settings.specs.Valid.{IsValid}
 use Rattle.settings.specs.declared.sign_conf.SignConf.{SignConf}
-use Rattle.msg_body.specs.declared.whole.Reading.{Reading}
-use Rattle.commands.specs.declared.tables.Needs.{Needs}
 use Rattle.commands.specs.Audit.{IsRecordingText, IsRecordingRefused, IsChainRefused, ReportsAudit}
 use Rattle.commands.specs.Base.{AreParamsRefused, IsValueLacking}
-use Rattle.commands.specs.Configured.{IsConfigured, IsConfRefused}
 use Rattle.commands.specs.Covered.{ReadsParams}
 use Rattle.commands.specs.Explain.{ReportsExplanation}
-use Rattle.commands.specs.Layers.{IsDecisive, HasAnswer}
+use Rattle.intake.specs.Layers.{IsDecisive, HasAnswer}
 use Rattle.commands.specs.Lists.{IsListText, IsListRefused, ReportsIntoFields, ReportsIntoMessage}
-use Rattle.commands.specs.Messages.{IsInputMessage, IsInputRefused}
-use Rattle.commands.specs.MessageFiles.{IsMessageFile, IsMessageFileRefused, IsRequested, IsRequestRefused, IsWanted, IsWantedRefused, IsOfBytes}
 use Rattle.commands.specs.Negotiate.{ReportsNegotiation}
 use Rattle.recording.specs.Items.{PlacedItem}
 use Rattle.hop_audit.specs.Report.{IsAudit}
 use Rattle.rewrite_script.specs.Lines.{is_writable}
-use Rattle.rewrite_script.specs.Scripts.{HaveValues as HaveStepValues}
 use Rattle.rewrite_script.specs.declared.rewrite.Rewrite.{Rewrite}
 use Rattle.commands.specs.Rewrite.{ReportsRewriting}
-use Rattle.commands.specs.Scripts.{IsScripted, IsScriptRefused}
 use Rattle.commands.specs.Outcome.{status_of}
 use Rattle.commands.specs.Sample.{ReportsSample}
 use Rattle.commands.specs.Sign.{ReportsSigning}
-use Rattle.commands.specs.Tables.{HasTables, IsTableMissing}
 use Rattle.commands.specs.Verify.{ReportsVerdicts}
 use Rattle.commands.specs.declared.outcome.Outcome.{Outcome}
-
--- what was found under a name is at most one configuration, or is refused for at most one cause
-abbrev pub IsConfigurationDecided : Type 0
-IsConfigurationDecided =
-    (name found : Option (List ℕ)) → IsDecisive (IsConfigured name found) (IsConfRefused name found)
-
--- a configuration has what is needed, or is refused for at most one cause
-abbrev pub AreTablesDecided : Type 0
-AreTablesDecided =
-    (needs : Needs) (conf : Configuration)
-    → IsDecisive (λ (_ : ⊤). HasTables needs conf) (IsTableMissing needs conf)
-
--- what was found under a name is at most one request, or is refused for at most one cause
-abbrev pub IsRequestDecided : Type 0
-IsRequestDecided =
-    (name found : Option (List ℕ))
-    → IsDecisive (IsRequested name found) (IsRequestRefused name found)
-
--- what was found under a name is at most one message that wishes signatures, or is refused for at
--- most one cause
-abbrev pub IsWantedDecided : Type 0
-IsWantedDecided =
-    (name found : Option (List ℕ)) → IsDecisive (IsWanted name found) (IsWantedRefused name found)
-
--- what was found under a name is at most one message, read in this way, or is refused for at most
--- one cause
-abbrev pub IsRecordDecided : Type 0
-IsRecordDecided =
-    (reading : Reading) (name found : Option (List ℕ))
-    → IsDecisive (IsMessageFile reading name found) (IsMessageFileRefused reading name found)
-
--- what was found under a name is at most one script, or is refused for at most one cause
-abbrev pub IsScriptDecided : Type 0
-IsScriptDecided =
-    (name found : Option (List ℕ)) → IsDecisive (IsScripted name found) (IsScriptRefused name found)
-
--- an input is at most one message, read in this way, or is refused for at most one cause
-abbrev pub IsInputDecided : Type 0
-IsInputDecided =
-    (reading : Reading) (input : List ℕ)
-    → IsDecisive (IsInputMessage reading input) (IsInputRefused reading input)
 
 -- PARAMS are at most one value of signature parameters, or are refused for at most one cause
 abbrev pub AreParamsDecided : Type 0
@@ -168,48 +118,6 @@ HasOneSampling =
 
 -- ---- each has an answer
 
--- what was found under a name is a configuration, or there is a cause to refuse it
-abbrev pub HasConfiguration : Type 0
-HasConfiguration =
-    (name found : Option (List ℕ)) → HasAnswer (IsConfigured name found) (IsConfRefused name found)
-
--- a configuration has what is needed, or there is a cause to refuse it
-abbrev pub HaveTables : Type 0
-HaveTables =
-    (needs : Needs) (conf : Configuration)
-    → HasAnswer (λ (_ : ⊤). HasTables needs conf) (IsTableMissing needs conf)
-
--- what was found under a name, and is of bytes, is a request, or there is a cause to refuse it
-abbrev pub HasRequest : Type 0
-HasRequest =
-    (name found : Option (List ℕ)) → IsOfBytes found
-    → HasAnswer (IsRequested name found) (IsRequestRefused name found)
-
--- what was found under a name, and is of bytes, is a message that wishes signatures, or there is a
--- cause to refuse it
-abbrev pub HasWanted : Type 0
-HasWanted =
-    (name found : Option (List ℕ)) → IsOfBytes found
-    → HasAnswer (IsWanted name found) (IsWantedRefused name found)
-
--- what was found under a name, and is of bytes, is a message, read in this way, or there is a cause
--- to refuse it
-abbrev pub HasRecord : Type 0
-HasRecord =
-    (reading : Reading) (name found : Option (List ℕ)) → IsOfBytes found
-    → HasAnswer (IsMessageFile reading name found) (IsMessageFileRefused reading name found)
-
--- what was found under a name is a script, or there is a cause to refuse it
-abbrev pub HasScript : Type 0
-HasScript =
-    (name found : Option (List ℕ)) → HasAnswer (IsScripted name found) (IsScriptRefused name found)
-
--- an input of bytes is a message, read in this way, or there is a cause to refuse it
-abbrev pub HasMessage : Type 0
-HasMessage =
-    (reading : Reading) (input : List ℕ) → IsTrue (list_all is_byte input)
-    → HasAnswer (IsInputMessage reading input) (IsInputRefused reading input)
-
 -- PARAMS are signature parameters, or there is a cause to refuse them
 abbrev pub HaveParams : Type 0
 HaveParams = (params : List ℕ) → HasAnswer (ReadsParams params) (AreParamsRefused params)
@@ -298,21 +206,3 @@ abbrev pub HasSomeSampling : Type 0
 HasSomeSampling =
     (seed count : ℕ) → (outcome : Outcome) × ReportsSample seed count outcome
     × ((status_of outcome ≡ Done) ⊎ (status_of outcome ≡ NotOk))
-
--- lines can write a script that was found
-abbrev pub IsWritableWhereScripted : Type 0
-IsWritableWhereScripted =
-    (name found : Option (List ℕ)) (script : List Rewrite) → IsScripted name found script
-    → IsTrue (list_all is_writable script)
-
--- the words of a script that was found have values
-abbrev pub HaveValuesWhereScripted : Type 0
-HaveValuesWhereScripted =
-    (name found : Option (List ℕ)) (script : List Rewrite) → IsScripted name found script
-    → HaveStepValues script
-
--- a configuration that was found is a valid one
-abbrev pub IsValidWhereConfigured : Type 0
-IsValidWhereConfigured =
-    (name found : Option (List ℕ)) (conf : Configuration)
-    → IsConfigured name found conf → IsValid conf

@@ -1,8 +1,10 @@
 -- What a run comes to: its status and its whole output.
-use Rattle.std.specs.Prelude.{ℕ, List}
+use Rattle.std.specs.Prelude.{ℕ, List, Result, Ok, Err}
 use Rattle.hms_io.specs.declared.status.Status.{Status}
 use Rattle.hms_io.specs.declared.status.Status.TheVariants.{Done as Success, NotOk as Failure}
 use Rattle.refusals.specs.Refusal.{refusal_line, refusal_status}
+use Rattle.intake.specs.declared.stop.Stop.{Stop}
+use Rattle.intake.specs.declared.stop.Stop.TheVariants.{Memory, ReadFault, Refused as IsStopped}
 use Rattle.commands.specs.declared.outcome.Outcome.{Outcome}
 use Rattle.commands.specs.declared.outcome.Outcome.TheVariants.{Done, NotOk, Refused}
 
@@ -17,3 +19,17 @@ abbrev pub output_of : Outcome → List ℕ
 output_of (Done text) = text
 output_of (NotOk text) = text
 output_of (Refused refusal) = refusal_line refusal
+
+-- where a run comes to an outcome, this holds of it
+abbrev pub IfOutcome : Result Outcome Stop → (Outcome → Type 0) → Type 0
+IfOutcome (Ok outcome) P = P outcome
+IfOutcome (Err Memory) P = Unit {0}
+IfOutcome (Err ReadFault) P = Unit {0}
+IfOutcome (Err (IsStopped refusal)) P = P (Refused refusal)
+
+-- nothing was read
+abbrev pub ReadsNothing : Result Outcome Stop → Type 0
+ReadsNothing (Ok outcome) = Unit {0}
+ReadsNothing (Err Memory) = Unit {0}
+ReadsNothing (Err ReadFault) = ⊥
+ReadsNothing (Err (IsStopped refusal)) = Unit {0}

@@ -4,12 +4,12 @@ ghost use Rattle.std.specs.Prelude.{◌≤◌, length};
 ghost use Rattle.conf.specs.ConfMeaning.{meaning};
 ghost use Rattle.refusals.specs.declared.refusal.TheConstants.{MAX_RECORDING_BYTES};
 ghost use Rattle.commands.specs.Audit.{ReportsAudit};
-ghost use Rattle.commands.specs.Stops.{IfOutcome, ReadsNothing};
+ghost use Rattle.commands.specs.Outcome.{IfOutcome, ReadsNothing};
 
 use crate::outcome::Outcome;
-use crate::stop::Stop;
 use conf::Conf;
 use hop_audit::{append_report, audit, finds_fault};
+use intake::Stop;
 use recording::read_recording;
 use sfv_text::Text;
 use std::alloc::Global;

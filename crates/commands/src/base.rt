@@ -8,13 +8,13 @@ ghost use Rattle.component_values.specs.Faults.{HasIndexBelow};
 ghost use Rattle.component_values.specs.Context.{context_of};
 ghost use Rattle.commands.specs.Base.{ReportsBase, ReportsValues};
 ghost use Rattle.commands.specs.tools.Prepared.{SaysFault};
-ghost use Rattle.commands.specs.Stops.{IfOutcome, ReadsNothing};
+ghost use Rattle.commands.specs.Outcome.{IfOutcome, ReadsNothing};
 
 use crate::covered::read_signature_params;
 use crate::outcome::Outcome;
-use crate::stop::Stop;
 use component_ids::{ComponentId, SigParams, print_id};
 use component_values::{Context, ValueFault, prepare};
+use intake::Stop;
 use refusals::{CommandRefusal, Refusal};
 use sig_base::base_bytes;
 use std::alloc::Global;

@@ -5,10 +5,10 @@ ghost use Rattle.component_ids.specs.SignatureParams.{are_sig_params_in_range};
 ghost use Rattle.commands.specs.Covered.{ReadsParams};
 ghost use Rattle.commands.specs.Base.{AreParamsRefused};
 ghost use Rattle.refusals.specs.declared.refusal.Refusal.TheVariants.{Command};
-ghost use Rattle.commands.specs.Stops.{IfRefused, IsRefusalFor};
+ghost use Rattle.intake.specs.Stops.{IfRefused, IsRefusalFor};
 
-use crate::stop::Stop;
 use component_ids::{SigParams, read_params};
+use intake::Stop;
 use sfv_read::read_inner;
 use std::alloc::Global;
 

@@ -7,13 +7,13 @@ ghost use Rattle.component_ids.specs.Identifiers.{is_id_in_range};
 ghost use Rattle.component_values.specs.Context.{HasWholeMessage, context_of, context_with};
 ghost use Rattle.msg_body.specs.Views.{message_of};
 ghost use Rattle.commands.specs.Explain.{differing_text, explained_text, IsDifference, ReportsExplanation};
-ghost use Rattle.commands.specs.Stops.{IfOutcome, ReadsNothing};
+ghost use Rattle.commands.specs.Outcome.{IfOutcome, ReadsNothing};
 ghost use Rattle.commands.specs.tools.Explained.{HasCovered};
 
 use crate::outcome::Outcome;
-use crate::stop::Stop;
 use component_ids::{ComponentId, print_id};
 use component_values::Context;
+use intake::Stop;
 use msg_body::MessageView;
 use normal_forms::{Explained, explain};
 use rewrite_script::{Rewrite, print_script};

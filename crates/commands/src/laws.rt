@@ -1,20 +1,13 @@
-//! Laws of what is read, and of what comes of it. Each function does nothing; its contract is the
+//! Laws of what a command makes of what was read. Each function does nothing; its contract is the
 //! law.
 
-ghost use Rattle.commands.specs.Laws.{IsConfigurationDecided, AreTablesDecided, IsRequestDecided, IsWantedDecided, IsScriptDecided, IsInputDecided, AreParamsDecided, AreValuesDecided, HaveOneOutcome, HasConfiguration, HaveTables, HasRequest, HasWanted, HasScript, HasMessage, HaveParams, HaveValuesOrLack, HaveSomeOutcome, HasOneSigning, HasSomeSigning, IsValidWhereConfigured, HasOneRewritten, HasSomeRewritten, HasOneExplained, HasSomeExplained, IsRecordDecided, HasRecord, IsWritableWhereScripted, HaveValuesWhereScripted, HasOneAuditing, HasSomeAuditing, HasOneSampling, HasSomeSampling, IsRecordingDecided, IsChainDecided, HasRecording, HasAudit, IsListDecided, HasList, HasOneIntoFields, HasOneIntoMessage, HasSomeIntoFields, HasSomeIntoMessage, HasOneNegotiation, HasSomeNegotiation};
+ghost use Rattle.commands.specs.Laws.{AreParamsDecided, AreValuesDecided, HaveOneOutcome, HaveParams, HaveValuesOrLack, HaveSomeOutcome, HasOneSigning, HasSomeSigning, HasOneRewritten, HasSomeRewritten, HasOneExplained, HasSomeExplained, HasOneAuditing, HasSomeAuditing, HasOneSampling, HasSomeSampling, IsRecordingDecided, IsChainDecided, HasRecording, HasAudit, IsListDecided, HasList, HasOneIntoFields, HasOneIntoMessage, HasSomeIntoFields, HasSomeIntoMessage, HasOneNegotiation, HasSomeNegotiation};
 ghost use Rattle.commands.specs.SignedMessages.{IsKeptWhereSigned, IsMessageWhereSigned, IsRightWhereSigned};
 ghost use Rattle.commands.specs.RewrittenMessages.{IsMessageWhereRewritten, HasVerdictWhereRewritten};
 
 /// What a layer reads is at most one value, or there is at most one cause to refuse it, and not
 /// both. So where each layer is judged after the one before it, there is at most one outcome.
 pub fn each_layer_is_decided()
-    ensures configuration { IsConfigurationDecided }
-    ensures tables { AreTablesDecided }
-    ensures request { IsRequestDecided }
-    ensures wanted { IsWantedDecided }
-    ensures other { IsRecordDecided }
-    ensures script { IsScriptDecided }
-    ensures input { IsInputDecided }
     ensures params { AreParamsDecided }
     ensures values { AreValuesDecided }
     ensures recording { IsRecordingDecided }
@@ -24,13 +17,6 @@ pub fn each_layer_is_decided()
 
 /// What a layer reads is some value, or there is some cause to refuse it.
 pub fn each_layer_has_an_answer()
-    ensures configuration { HasConfiguration }
-    ensures tables { HaveTables }
-    ensures request { HasRequest }
-    ensures wanted { HasWanted }
-    ensures other { HasRecord }
-    ensures script { HasScript }
-    ensures input { HasMessage }
     ensures params { HaveParams }
     ensures values { HaveValuesOrLack }
     ensures recording { HasRecording }
@@ -48,15 +34,12 @@ pub fn verdicts_have_one_outcome()
 pub fn signing_has_one_outcome()
     ensures one { HasOneSigning }
     ensures some { HasSomeSigning }
-    ensures valid { IsValidWhereConfigured }
 {}
 
 /// What a script makes of a message has one outcome.
 pub fn rewriting_has_one_outcome()
     ensures one { HasOneRewritten }
     ensures some { HasSomeRewritten }
-    ensures writable { IsWritableWhereScripted }
-    ensures values { HaveValuesWhereScripted }
 {}
 
 /// What is explained of two records of one message has one outcome.

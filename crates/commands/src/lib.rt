@@ -1,22 +1,18 @@
 //! The commands of `hms` over a configuration and a message: the signature base that `base` writes
 //! (RFC 9421 section 2.5), the verdicts that `verify` writes (section 3.2), the signed message
 //! that `sign` writes (sections 3.1 and 5.1), and the message after the steps of a script that
-//! `rewrite` writes (section 1.1). Before them come the configuration, the request that the input
-//! answers, the message that wishes signatures, and the script, each in a file or none; the input,
-//! which is to be one whole message; and the context that all give. `audit` writes the report on a
-//! recorded chain of messages, over a configuration and an input that is a recording. `sample`
-//! writes the summary of the report on a chain that is drawn from a seed. `explain` writes the
-//! rewritings that lead two records of one message to messages that are alike. `lists` writes the
-//! message of a recorded list of fields, or the list of a message. `negotiate` writes a response
-//! with the signatures and the digest that its request asks for (RFC 9421 section 5).
+//! `rewrite` writes (section 1.1). They go over what `intake` reads, and over the context that all
+//! of it gives. `audit` writes the report on a recorded chain of messages, over a configuration and
+//! an input that is a recording. `sample` writes the summary of the report on a chain that is drawn
+//! from a seed. `explain` writes the rewritings that lead two records of one message to messages
+//! that are alike. `lists` writes the message of a recorded list of fields, or the list of a
+//! message. `negotiate` writes a response with the signatures and the digest that its request asks
+//! for (RFC 9421 section 5).
 //!
 //! ```text
 //! let conf = read_configuration(alloc, Some("hms.toml"), &mut shelf)?;
-//! let text = fetch_message(alloc, Role::Request, Some("request.http"), &mut shelf)?;
-//! let request = fetched_message(alloc, Role::Request, Reading::of_request(), text.as_ref())?;
-//! let reading = Reading::of_input(request.as_ref());
-//! let message = message_of_role(alloc, reading, Role::Input, input)?;
-//! let context = context_for(&conf, &message, request.as_ref());
+//! let message = message_of_role(alloc, Reading::of_input(None), Role::Input, input)?;
+//! let context = context_for(&conf, &message, None);
 //! let outcome = base_outcome(alloc, b"(\"@authority\")", &context)?;
 //! outcome.status()             // Status::Done
 //! outcome.into_output(alloc)?  // the line of `@authority`, and that of the signature parameters
@@ -25,26 +21,19 @@
 
 mod audit;
 mod base;
-mod configured;
 mod covered;
 mod explain;
 mod laws;
 mod lists;
-mod message;
-mod message_file;
 mod negotiate;
 mod outcome;
 mod rewrite;
 mod sample;
-mod script_file;
 mod sign;
-mod stop;
-mod tables;
 mod verify;
 
 pub use audit::audit_outcome;
 pub use base::base_outcome;
-pub use configured::read_configuration;
 pub use explain::explain_outcome;
 pub use laws::{
     auditing_has_one_outcome, each_layer_has_an_answer, each_layer_is_decided,
@@ -53,16 +42,10 @@ pub use laws::{
     what_is_rewritten_keeps_its_verdict, what_is_signed_is_rightly_signed,
 };
 pub use lists::{list_outcome, message_outcome};
-pub use message::message_of_role;
-pub use message_file::{fetch_message, fetched_message};
-pub use msg_body::Reading;
 pub use negotiate::negotiate_outcome;
 pub use outcome::Outcome;
 pub use rewrite::rewrite_outcome;
 pub use sample::sample_outcome;
-pub use script_file::read_script_file;
 pub use sign::{sign_outcome, wished_outcome};
-pub use stop::Stop;
-pub use tables::{Needs, check_tables};
 pub use verdicts::context_for;
 pub use verify::verify_outcome;

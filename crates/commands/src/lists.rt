@@ -6,13 +6,13 @@ ghost use Rattle.component_values.specs.Context.{context_of};
 ghost use Rattle.conf.specs.ConfMeaning.{meaning};
 ghost use Rattle.refusals.specs.declared.refusal.TheConstants.{MAX_INPUT_BYTES};
 ghost use Rattle.commands.specs.Lists.{ReportsIntoFields, ReportsIntoMessage};
-ghost use Rattle.commands.specs.Stops.{IfOutcome, ReadsNothing};
+ghost use Rattle.commands.specs.Outcome.{IfOutcome, ReadsNothing};
 
 use crate::outcome::Outcome;
-use crate::stop::Stop;
 use component_values::Context;
 use conf::Conf;
 use field_lists::{from_message, to_message};
+use intake::Stop;
 use list_texts::{print_fields, read_fields};
 use std::alloc::Global;
 

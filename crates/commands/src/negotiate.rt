@@ -10,13 +10,14 @@ ghost use Rattle.negotiation.specs.declared.fault.NegotiateFault.TheVariants.{Si
 ghost use Rattle.nonces.specs.declared.limits.TheConstants.{MAX_MOMENT};
 ghost use Rattle.refusals.specs.declared.refusal.Refusal.TheVariants.{Command};
 ghost use Rattle.commands.specs.Negotiate.{IsNegotiateRefused, ReportsNegotiation};
-ghost use Rattle.commands.specs.Stops.{IfOutcome, IfRefused, IsRefusalFor, ReadsNothing};
+ghost use Rattle.intake.specs.Stops.{IfRefused, IsRefusalFor};
+ghost use Rattle.commands.specs.Outcome.{IfOutcome, ReadsNothing};
 
 use crate::outcome::Outcome;
 use crate::sign::stop_for_each_fault;
-use crate::stop::Stop;
 use component_values::Context;
 use conf::Conf;
+use intake::Stop;
 use negotiation::{EachFault, NegotiateFault, negotiate};
 use refusals::DigestRefusal;
 use signing::{SignFault, wanted};

@@ -6,12 +6,12 @@ ghost use Rattle.std.specs.List.{list_all};
 ghost use Rattle.component_values.specs.Context.{HasWholeMessage, context_of};
 ghost use Rattle.rewrite_script.specs.Lines.{is_writable};
 ghost use Rattle.commands.specs.Rewrite.{ReportsRewriting};
-ghost use Rattle.commands.specs.Stops.{IfOutcome, ReadsNothing};
+ghost use Rattle.commands.specs.Outcome.{IfOutcome, ReadsNothing};
 ghost use Rattle.commands.specs.tools.Rewritten.{IsJudged};
 
 use crate::outcome::Outcome;
-use crate::stop::Stop;
 use component_values::Context;
+use intake::Stop;
 use rewrite_script::Rewrite;
 use rewrites::{Judgement, Watcher, permits, walk};
 use sfv_text::Memory;

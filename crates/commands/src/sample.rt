@@ -3,10 +3,10 @@
 ghost use Rattle.std.specs.Prelude.{◌<◌, ◌≤◌};
 ghost use Rattle.recording.specs.declared.limits.TheConstants.{MAX_HOPS};
 ghost use Rattle.commands.specs.Sample.{ReportsSample};
-ghost use Rattle.commands.specs.Stops.{IfOutcome, ReadsNothing};
+ghost use Rattle.commands.specs.Outcome.{IfOutcome, ReadsNothing};
 
 use crate::outcome::Outcome;
-use crate::stop::Stop;
+use intake::Stop;
 use samples::{append_summary, sample};
 use sfv_text::Text;
 use std::alloc::Global;

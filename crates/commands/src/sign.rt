@@ -13,15 +13,15 @@ ghost use Rattle.framing.specs.Framings.{is_request};
 ghost use Rattle.signing.specs.Asked.{IsSpecOf};
 ghost use Rattle.signing.specs.Specs.{IsValidSpec};
 ghost use Rattle.commands.specs.Sign.{ReportsEach, ReportsSign, ReportsWished};
-ghost use Rattle.commands.specs.Stops.{IfOutcome, ReadsNothing};
+ghost use Rattle.commands.specs.Outcome.{IfOutcome, ReadsNothing};
 ghost use Rattle.commands.specs.tools.Signed.{HasIndexIn, HasPlaceIn, SaysEachFault, SaysSignFault, SaysSigned};
 
 use crate::base::stop_for_fault;
 use crate::outcome::Outcome;
-use crate::stop::Stop;
 use component_values::{Context, ValueFault};
 use conf::Conf;
 use framing::is_request;
+use intake::Stop;
 use msg_body::MessageView;
 use negotiation::{EachFault, sign_each};
 use refusals::{CommandRefusal, Refusal};

@@ -6,12 +6,13 @@ use Rattle.hms_io.specs.declared.read_write.FillError.{FillError}
 use Rattle.hms_io.specs.declared.read_write.FillError.TheVariants.{Memory as NoFillMemory, Failed, TooLong as Longer}
 use Rattle.hms_io.specs.declared.status.Status.{Status}
 use Rattle.command_line.specs.Command.{CommandLine, IsCommand}
-use Rattle.commands.specs.Files.{FileNames, FileRole, Conf, Request, Wanted, Script, HasFound, file_count, file_names}
-use Rattle.commands.specs.Stops.{IfOutcome, IfStopped, IsRefusalFor, stop_of_fill}
+use Rattle.intake.specs.Files.{FileNames, FileRole, Conf, Request, Wanted, Script, HasFound, file_count, file_names}
+use Rattle.intake.specs.Stops.{IfStopped, IsRefusalFor, stop_of_fill}
+use Rattle.commands.specs.Outcome.{IfOutcome}
 use Rattle.commands.specs.declared.outcome.Outcome.{Outcome}
 use Rattle.commands.specs.declared.outcome.Outcome.TheVariants.{Done, NotOk, Refused}
-use Rattle.commands.specs.declared.stop.Stop.{Stop}
-use Rattle.commands.specs.declared.stop.Stop.TheVariants.{Memory, ReadFault, Refused as IsRefused}
+use Rattle.intake.specs.declared.stop.Stop.{Stop}
+use Rattle.intake.specs.declared.stop.Stop.TheVariants.{Memory, ReadFault, Refused as IsRefused}
 use Rattle.refusals.specs.declared.file.FileRefusal.{FileRefusal}
 use Rattle.refusals.specs.declared.refusal.TheConstants.{MAX_CONF_BYTES, MAX_INPUT_BYTES}
 use Rattle.rewrite_script.specs.declared.limits.TheConstants.{MAX_SCRIPT_BYTES}
@@ -22,7 +23,7 @@ use Rattle.refusals.specs.declared.role.Role.TheVariants as role
 use Rattle.program.specs.Commands.{name_of}
 use Rattle.program.specs.Ends.{AsksFor, AsksForNamed}
 use Rattle.program.specs.Intake.{named_count, read_order, roles_until}
-use Rattle.program.specs.declared.intake.FileWords.{FileWords}
+use Rattle.intake.specs.declared.taken.FileWords.{FileWords}
 use Rattle.program.specs.tools.Parts.{Asks, AsksOf, AsksUntil, IsAfterInput, conf_names, IsWritten, IsWrittenStop, refusal_of, roles_read}
 use Rattle.program.proofs.Reports.{AsksOne, IfRefusedFor, count_step, of_command, one_counted, weighed}
 

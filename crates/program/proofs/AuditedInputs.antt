@@ -5,8 +5,8 @@ use Rattle.command_line.specs.Command.{CommandLine, Audit, AuditWords}
 use Rattle.command_line.proofs.CommandLaws.{one_command}
 use Rattle.conf.specs.Configuration.{Configuration}
 use Rattle.commands.specs.Audit.{ReportsAudit}
-use Rattle.commands.specs.Configured.{IsConfigured}
-use Rattle.commands.specs.Files.{Found, Conf as ConfFile}
+use Rattle.intake.specs.Configured.{IsConfigured}
+use Rattle.intake.specs.Files.{Found, Conf as ConfFile}
 use Rattle.commands.specs.declared.outcome.Outcome.{Outcome}
 use Rattle.commands.specs.declared.outcome.Outcome.TheVariants.{Refused}
 use Rattle.refusals.specs.Laws.{IsOfRefusal}

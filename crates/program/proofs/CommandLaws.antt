@@ -1,18 +1,20 @@
--- Laws of the commands, in the form that the proofs here use.
+-- Laws of what is read and of the commands, in the form that the proofs here use.
 use Rattle.commands.proofs.Answered as answered
 use Rattle.commands.proofs.Auditing as audits
 use Rattle.commands.proofs.Decided as decided
-use Rattle.commands.proofs.DecidedConf as configured
+use Rattle.intake.proofs.Answered as found
+use Rattle.intake.proofs.Decided as inputs
+use Rattle.intake.proofs.DecidedConf as configured
 use Rattle.commands.proofs.OneOutcome as verdicts
 use Rattle.commands.proofs.Sampled as samples
-use Rattle.commands.proofs.NeededTables as tables
+use Rattle.intake.proofs.NeededTables as tables
 use Rattle.commands.proofs.OneSigning as signing
-use Rattle.commands.proofs.ScriptFiles as scripts
+use Rattle.intake.proofs.ScriptFiles as scripts
 use Rattle.commands.proofs.LowerExplaining as explained
 use Rattle.commands.proofs.Negotiating as negotiating
 use Rattle.commands.proofs.LowerRewriting as rewritten
 use Rattle.commands.proofs.SignedMessages as signed
-use Rattle.commands.proofs.TakenFiles as files
+use Rattle.intake.proofs.TakenFiles as files
 use Rattle.commands.proofs.Turning as turning
 use Rattle.negotiation.proofs.ChosenDigests as digests
 use Rattle.negotiation.proofs.WishedSignatures as negotiated
@@ -23,7 +25,8 @@ use Rattle.field_lists.proofs.MessageRows as message_rows
 use Rattle.field_lists.proofs.ToLaws as to
 use Rattle.field_lists.proofs.WholeMessages as whole
 use Rattle.field_lists.specs.Laws.{HasListOrFromFault, HasMessageOrFault, IsWholeMessage, ListHasTheSame, MessageHasTheSame}
-use Rattle.commands.specs.Laws.{HasOneIntoFields, HasOneIntoMessage, HasSomeIntoFields, HasSomeIntoMessage, IsConfigurationDecided, AreTablesDecided, IsRecordDecided, IsRequestDecided, IsWantedDecided, IsInputDecided, AreParamsDecided, AreValuesDecided, HaveOneOutcome, HasConfiguration, HaveTables, HasRecord, HasRequest, HasWanted, HasMessage, HaveParams, HaveValuesOrLack, HaveSomeOutcome, HasOneSigning, HasSomeSigning, IsValidWhereConfigured, IsScriptDecided, HasScript, HasOneExplained, HasSomeExplained, HasOneRewritten, HasSomeRewritten, HaveValuesWhereScripted, IsWritableWhereScripted, HasAudit, HasOneAuditing, HasSomeAuditing, HasOneSampling, HasSomeSampling, HasOneNegotiation, HasSomeNegotiation}
+use Rattle.intake.specs.Laws.{IsConfigurationDecided, AreTablesDecided, IsRecordDecided, IsRequestDecided, IsWantedDecided, IsInputDecided, HasConfiguration, HaveTables, HasRecord, HasRequest, HasWanted, HasMessage, IsValidWhereConfigured, IsScriptDecided, HasScript, HaveValuesWhereScripted, IsWritableWhereScripted}
+use Rattle.commands.specs.Laws.{HasOneIntoFields, HasOneIntoMessage, HasSomeIntoFields, HasSomeIntoMessage, AreParamsDecided, AreValuesDecided, HaveOneOutcome, HaveParams, HaveValuesOrLack, HaveSomeOutcome, HasOneSigning, HasSomeSigning, HasOneExplained, HasSomeExplained, HasOneRewritten, HasSomeRewritten, HasAudit, HasOneAuditing, HasSomeAuditing, HasOneSampling, HasSomeSampling, HasOneNegotiation, HasSomeNegotiation}
 use Rattle.hop_audit.proofs.SameVerdicts as reports
 use Rattle.hop_audit.specs.Laws.{KeepsWhatIsPermitted}
 use Rattle.commands.specs.RewrittenMessages.{IsMessageWhereRewritten, HasVerdictWhereRewritten}
@@ -48,7 +51,7 @@ pub explaining_answer : HasSomeExplained
 explaining_answer = explained.has_some_explained
 
 pub input_decided : IsInputDecided
-input_decided = decided.input_decided
+input_decided = inputs.input_decided
 
 pub params_decided : AreParamsDecided
 params_decided = decided.params_decided
@@ -60,13 +63,13 @@ pub verdicts_law : HaveOneOutcome
 verdicts_law = verdicts.verdicts_law
 
 pub conf_answer : HasConfiguration
-conf_answer = answered.has_configuration
+conf_answer = found.has_configuration
 
 pub request_answer : HasRequest
 request_answer = files.has_request
 
 pub input_answer : HasMessage
-input_answer = answered.has_message
+input_answer = found.has_message
 
 pub params_answer : HaveParams
 params_answer = answered.have_params
@@ -96,7 +99,7 @@ pub signing_answer : HasSomeSigning
 signing_answer = signing.has_some_signing
 
 pub valid_where_configured : IsValidWhereConfigured
-valid_where_configured = signing.is_valid_where_configured
+valid_where_configured = configured.is_valid_where_configured
 
 pub message_where_signed : IsMessageWhereSigned
 message_where_signed = signed.message_where_signed

@@ -1,10 +1,10 @@
 -- The counts of faults where a file isn't taken, or isn't read.
 use Rattle.std.proofs.Common.{◌≡◌, ◌∙◌, inl, ℕ, Result, Err, refl, subst}
 use Rattle.hms_io.specs.Cause.{Rose}
-use Rattle.commands.specs.Stops.{CountsStop, IfRefused}
+use Rattle.intake.specs.Stops.{CountsStop, IfRefused}
 use Rattle.commands.specs.declared.outcome.Outcome.{Outcome}
-use Rattle.commands.specs.declared.stop.Stop.{Stop}
-use Rattle.commands.specs.declared.stop.Stop.TheVariants.{Memory, ReadFault, Refused as IsRefused}
+use Rattle.intake.specs.declared.stop.Stop.{Stop}
+use Rattle.intake.specs.declared.stop.Stop.TheVariants.{Memory, ReadFault, Refused as IsRefused}
 use Rattle.refusals.specs.declared.refusal.Refusal.{Refusal}
 use Rattle.program.specs.tools.Parts.{CountsOne}
 

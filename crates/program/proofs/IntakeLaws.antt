@@ -4,12 +4,12 @@ use Rattle.msg_body.specs.Messages.{Message}
 use Rattle.msg_body.specs.WholeTexts.{reading_for}
 use Rattle.conf.specs.Configuration.{Configuration}
 use Rattle.verdicts.specs.Contexts.{context_for}
-use Rattle.commands.specs.Files.{FileNames, Found, Conf as ConfFile, Request as RequestFile, Wanted as WantedFile, Script as ScriptFile, Other as OtherFile}
-use Rattle.commands.specs.Layers.{HasAnswer}
-use Rattle.commands.specs.MessageFiles.{IsMessageFileRefused, IsRequestRefused, IsRequested}
-use Rattle.commands.specs.Messages.{IsInputMessage, IsInputRefused}
-use Rattle.commands.specs.Tables.{HasTables, IsTableMissing}
-use Rattle.commands.specs.declared.tables.Needs.{Needs}
+use Rattle.intake.specs.Files.{FileNames, Found, Conf as ConfFile, Request as RequestFile, Wanted as WantedFile, Script as ScriptFile, Other as OtherFile}
+use Rattle.intake.specs.Layers.{HasAnswer}
+use Rattle.intake.specs.MessageFiles.{IsMessageFileRefused, IsRequestRefused, IsRequested}
+use Rattle.intake.specs.Messages.{IsInputMessage, IsInputRefused}
+use Rattle.intake.specs.Tables.{HasTables, IsTableMissing}
+use Rattle.intake.specs.declared.tables.Needs.{Needs}
 use Rattle.refusals.specs.declared.file.FileRefusal.{FileRefusal}
 use Rattle.refusals.specs.declared.refusal.Refusal.{Refusal}
 use Rattle.refusals.specs.declared.refusal.Refusal.TheVariants.{Arguments, Of, Command}

@@ -1,12 +1,13 @@
 -- Of what is judged in layers, one outcome comes.
 use Rattle.std.proofs.Common.{◌≡◌, inl, inr, sym, ap, subst, ◌∙◌, Result, Ok, Err}
-use Rattle.commands.specs.Layers.{ReadsThen, IsDecisive}
+use Rattle.intake.specs.Layers.{IsDecisive}
+use Rattle.commands.specs.Layers.{ReadsThen}
 use Rattle.commands.specs.declared.outcome.Outcome.{Outcome}
 use Rattle.commands.specs.declared.outcome.Outcome.TheVariants.{Refused}
 use Rattle.refusals.specs.declared.refusal.Refusal.{Refusal}
-use Rattle.commands.specs.declared.stop.Stop.{Stop}
-use Rattle.commands.specs.declared.stop.Stop.TheVariants.{Memory, ReadFault, Refused as IsRefused}
-use Rattle.commands.specs.Stops.{IfOutcome}
+use Rattle.intake.specs.declared.stop.Stop.{Stop}
+use Rattle.intake.specs.declared.stop.Stop.TheVariants.{Memory, ReadFault, Refused as IsRefused}
+use Rattle.commands.specs.Outcome.{IfOutcome}
 
 -- at most one outcome
 abbrev pub HasOne : (Outcome → Type 0) → Type 0

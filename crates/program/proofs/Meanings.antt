@@ -30,16 +30,16 @@ use Rattle.hop_audit.specs.Lines.{finds_fault, report_text}
 use Rattle.hop_audit.specs.declared.line.AuditLine.{AuditLine}
 use Rattle.hop_audit.proofs.OneBases.{is_kept_with_its_base_at_hops, tells_what_changed_at_hops}
 use Rattle.commands.specs.Audit.{ReportsAudit, audit_outcome}
-use Rattle.commands.specs.Configured.{IsConfigured}
+use Rattle.intake.specs.Configured.{IsConfigured}
 use Rattle.commands.specs.Covered.{ReadsParams}
 use Rattle.commands.specs.Explain.{ReportsExplanation}
-use Rattle.commands.specs.Files.{FileNames, Found, Conf as ConfFile, Request as RequestFile, Other as OtherFile}
-use Rattle.commands.specs.MessageFiles.{IsMessageFile, IsRequested}
-use Rattle.commands.specs.Messages.{IsInputMessage}
+use Rattle.intake.specs.Files.{FileNames, Found, Conf as ConfFile, Request as RequestFile, Other as OtherFile}
+use Rattle.intake.specs.MessageFiles.{IsMessageFile, IsRequested}
+use Rattle.intake.specs.Messages.{IsInputMessage}
 use Rattle.commands.specs.Outcome.{output_of, status_of}
 use Rattle.commands.specs.Verify.{AreVerdicts, verdict_lines, verdicts_outcome}
-use Rattle.commands.specs.declared.tables.Needs.{Needs}
-use Rattle.commands.specs.declared.tables.Needs.TheVariants.{Nothing}
+use Rattle.intake.specs.declared.tables.Needs.{Needs}
+use Rattle.intake.specs.declared.tables.Needs.TheVariants.{Nothing}
 use Rattle.commands.specs.declared.outcome.Outcome.{Outcome}
 use Rattle.commands.specs.declared.outcome.Outcome.TheVariants.{Done as Written, NotOk as Counted, Refused}
 use Rattle.refusals.specs.Laws.{IsOfRefusal}

@@ -23,11 +23,11 @@ use Rattle.verdicts.specs.Laws.{IsRightlySigned}
 use Rattle.verdicts.specs.Rules.{key_in}
 use Rattle.verdicts.specs.Verification.{verification_for}
 use Rattle.verdicts.specs.declared.outcome.Verdict.{Verdict}
-use Rattle.commands.specs.Configured.{IsConfigured}
-use Rattle.commands.specs.Files.{Found, Conf as ConfFile, Request as RequestFile}
+use Rattle.intake.specs.Configured.{IsConfigured}
+use Rattle.intake.specs.Files.{Found, Conf as ConfFile, Request as RequestFile}
 use Rattle.commands.specs.Layers.{IsUnrefused}
-use Rattle.commands.specs.MessageFiles.{IsRequested}
-use Rattle.commands.specs.Messages.{IsInputMessage}
+use Rattle.intake.specs.MessageFiles.{IsRequested}
+use Rattle.intake.specs.Messages.{IsInputMessage}
 use Rattle.commands.specs.SignedMessages.{IsWishedAs}
 use Rattle.commands.specs.Verify.{verdicts_outcome}
 use Rattle.commands.specs.declared.outcome.Outcome.{Outcome}

@@ -74,25 +74,25 @@ use Rattle.hop_audit.specs.Report.{IsAudit}
 use Rattle.hop_audit.specs.declared.line.AuditLine.{AuditLine}
 use Rattle.commands.specs.Audit.{IsChainRefused, IsRecordingRefused, IsRecordingText, ReportsAudit, ReportsChain, audit_outcome}
 use Rattle.commands.specs.Base.{AreParamsRefused, HasIdFault, IsValueLacking, ReportsBase, ReportsValues}
-use Rattle.commands.specs.Configured.{IsConfigured, IsConfRefused}
+use Rattle.intake.specs.Configured.{IsConfigured, IsConfRefused}
 use Rattle.commands.specs.Covered.{ReadsParams}
 use Rattle.commands.specs.Explain.{ReportsExplanation, WritesExplained, differing_text}
-use Rattle.commands.specs.Files.{FileNames, Found, Conf as ConfFile, Request as RequestFile, Wanted as WantedFile, Script as ScriptFile, Other as OtherFile}
+use Rattle.intake.specs.Files.{FileNames, Found, Conf as ConfFile, Request as RequestFile, Wanted as WantedFile, Script as ScriptFile, Other as OtherFile}
 use Rattle.commands.specs.Layers.{IsUnrefused, ReadsThen}
 use Rattle.commands.specs.Lists.{IsListRefused, IsListText, ReportsIntoFields, ReportsIntoMessage, ReportsMessageOf}
-use Rattle.commands.specs.MessageFiles.{IsMessageFileRefused}
-use Rattle.commands.specs.Messages.{IsInputRefused}
+use Rattle.intake.specs.MessageFiles.{IsMessageFileRefused}
+use Rattle.intake.specs.Messages.{IsInputRefused}
 use Rattle.commands.specs.Negotiate.{IsNegotiateRefused, IsRefusalOf, ReportsNegotiation}
 use Rattle.commands.specs.Rewrite.{IsStepRefused, IsTaken, ReportsRewriting, ReportsSteps}
 use Rattle.commands.specs.Sample.{sample_outcome}
-use Rattle.commands.specs.Scripts.{IsScriptRefused}
+use Rattle.intake.specs.Scripts.{IsScriptRefused}
 use Rattle.commands.specs.Sign.{AreWishesRefused, IsSignRefused, ReportsEach, ReportsSigning}
-use Rattle.commands.specs.Tables.{IsTableMissing}
+use Rattle.intake.specs.Tables.{IsTableMissing}
 use Rattle.commands.specs.Verify.{ReportsVerdicts, verdicts_outcome}
 use Rattle.commands.specs.declared.outcome.Outcome.{Outcome}
 use Rattle.commands.specs.declared.outcome.Outcome.TheVariants.{Done, NotOk, Refused}
-use Rattle.commands.specs.declared.tables.Needs.{Needs}
-use Rattle.commands.specs.declared.tables.Needs.TheVariants.{Nothing, SignTable, GatewayTables}
+use Rattle.intake.specs.declared.tables.Needs.{Needs}
+use Rattle.intake.specs.declared.tables.Needs.TheVariants.{Nothing, SignTable, GatewayTables}
 use Rattle.refusals.specs.Laws.{is_clean, is_clean_file}
 use Rattle.refusals.proofs.Lines.{is_line_of_refusal, number_clean}
 use Rattle.refusals.specs.declared.file.FileRefusal.{FileRefusal}

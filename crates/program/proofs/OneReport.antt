@@ -8,16 +8,16 @@ use Rattle.msg_body.specs.Messages.{Message}
 use Rattle.component_ids.specs.declared.params.SigParams.{SigParams}
 use Rattle.commands.specs.Base.{ReportsValues, ReportsBase}
 use Rattle.commands.specs.Explain.{ReportsExplanation}
-use Rattle.commands.specs.Files.{FileNames, Found, Conf as ConfFile}
-use Rattle.commands.specs.Layers.{IsDecisive}
+use Rattle.intake.specs.Files.{FileNames, Found, Conf as ConfFile}
+use Rattle.intake.specs.Layers.{IsDecisive}
 use Rattle.commands.specs.Lists.{ReportsIntoFields}
 use Rattle.commands.specs.Negotiate.{ReportsNegotiation}
 use Rattle.commands.specs.Rewrite.{ReportsRewriting}
 use Rattle.commands.specs.Sign.{ReportsSigning}
-use Rattle.commands.specs.Tables.{HasTables}
+use Rattle.intake.specs.Tables.{HasTables}
 use Rattle.commands.specs.Verify.{ReportsVerdicts}
-use Rattle.commands.specs.declared.tables.Needs.{Needs}
-use Rattle.commands.specs.declared.tables.Needs.TheVariants.{Nothing, SignTable}
+use Rattle.intake.specs.declared.tables.Needs.{Needs}
+use Rattle.intake.specs.declared.tables.Needs.TheVariants.{Nothing, SignTable}
 use Rattle.program.specs.Laws.{HasOneReport}
 use Rattle.program.specs.Commands.{name_of}
 use Rattle.program.specs.Intake.{TakenValues}

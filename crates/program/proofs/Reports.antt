@@ -15,27 +15,27 @@ use Rattle.conf.specs.Configuration.{Configuration}
 use Rattle.msg_body.specs.Messages.{Message}
 use Rattle.msg_body.specs.Views.{MessageParts, message_of}
 use Rattle.msg_body.specs.WholeTexts.{one_request, reading_for}
-use Rattle.commands.specs.Files.{FileNames, FileRole, Conf, Request, Wanted, Script, Other, Found, IsFound, AreFound, HasFound, file_names, file_bytes, file_count, file_limit}
-use Rattle.commands.specs.Layers.{ReadsFound, IsFileRefused}
-use Rattle.commands.specs.Messages.{IsInputMessage, IsInputRefused}
-use Rattle.commands.specs.MessageFiles.{IsMessageFile, IsMessageFileRefused, IsTaken, IsMessageIn, IsTextRefused, IsRequested, IsRequestRefused, IsWanted, IsWantedRefused}
-use Rattle.commands.specs.Scripts.{IsScripted, IsScriptRefused}
+use Rattle.intake.specs.Files.{FileNames, FileRole, Conf, Request, Wanted, Script, Other, Found, IsFound, AreFound, HasFound, file_names, file_bytes, file_count, file_limit}
+use Rattle.intake.specs.Layers.{ReadsFound, IsFileRefused}
+use Rattle.intake.specs.Messages.{IsInputMessage, IsInputRefused}
+use Rattle.intake.specs.MessageFiles.{IsMessageFile, IsMessageFileRefused, IsTaken, IsMessageIn, IsTextRefused, IsRequested, IsRequestRefused, IsWanted, IsWantedRefused}
+use Rattle.intake.specs.Scripts.{IsScripted, IsScriptRefused}
 use Rattle.rewrite_script.specs.Lines.{is_writable}
 use Rattle.rewrite_script.specs.declared.rewrite.Rewrite.{Rewrite}
 use Rattle.program.proofs.CommandLaws.{writable_where_scripted}
 use Rattle.msg_body.specs.declared.whole.Reading.{Reading}
-use Rattle.commands.specs.Configured.{IsConfigured, IsConfRefused}
-use Rattle.commands.specs.Tables.{HasTables, IsTableMissing}
-use Rattle.commands.specs.declared.tables.Needs.{Needs}
+use Rattle.intake.specs.Configured.{IsConfigured, IsConfRefused}
+use Rattle.intake.specs.Tables.{HasTables, IsTableMissing}
+use Rattle.intake.specs.declared.tables.Needs.{Needs}
 use Rattle.refusals.specs.Laws.{IsOfRefusal}
 use Rattle.refusals.specs.Refusal.{refusal_status}
 use Rattle.refusals.proofs.Statuses.{status_of_refusal}
-use Rattle.commands.specs.Outcome.{status_of, output_of}
+use Rattle.commands.specs.Outcome.{status_of, output_of, IfOutcome}
 use Rattle.program.specs.Commands.{InputUse, Unread, Whole, input_use, name_of, AreFoundFor}
 use Rattle.program.specs.Ends.{HasInput, HasOutcome, Leaves, HasReport, Ends, CountsFaults}
 use Rattle.program.specs.Intake.{IsConfLacking, IsConfRead, IsIntakeRefused, IsReadToScript, named_count, names_of}
 use Rattle.program.specs.Report.{Answers, ReportsFiles, ReportsCommand}
-use Rattle.program.specs.declared.intake.FileWords.{FileWords}
+use Rattle.intake.specs.declared.taken.FileWords.{FileWords}
 use Rattle.program.specs.tools.Parts.{Asks, FileValues, HasOther, HasRequested, ReportsMessage, ReportsRecord, taken_with}
 use Rattle.refusals.specs.declared.refusal.Refusal.{Refusal}
 use Rattle.refusals.specs.declared.file.FileRefusal.{FileRefusal}
@@ -46,9 +46,9 @@ use Rattle.refusals.specs.declared.role.Role.TheVariants.{Conf as OfConf, Reques
 use Rattle.refusals.specs.declared.refusal.Refusal.TheVariants.{Arguments, Of}
 use Rattle.commands.specs.declared.outcome.Outcome.{Outcome}
 use Rattle.commands.specs.declared.outcome.Outcome.TheVariants.{Done, NotOk, Refused}
-use Rattle.commands.specs.declared.stop.Stop.{Stop}
-use Rattle.commands.specs.declared.stop.Stop.TheVariants.{Memory, ReadFault as ReadFailed, Refused as IsRefused}
-use Rattle.commands.specs.Stops.{IfStopped, IfOutcome, IfRefused, IsRefusalFor}
+use Rattle.intake.specs.declared.stop.Stop.{Stop}
+use Rattle.intake.specs.declared.stop.Stop.TheVariants.{Memory, ReadFault as ReadFailed, Refused as IsRefused}
+use Rattle.intake.specs.Stops.{IfStopped, IfRefused, IsRefusalFor}
 use Rattle.command_line.proofs.CommandLaws.{one_command}
 use Rattle.program.proofs.Layers.{went_on}
 use Rattle.program.proofs.Sources.{LeavesInput, spelled_input}

@@ -13,19 +13,19 @@ use Rattle.whole_rewrites.specs.Laws.{IsReadAs}
 use Rattle.rewrites.specs.Laws.{rests_on_conf}
 use Rattle.verdicts.specs.Verdicts.{IsVerdict}
 use Rattle.verdicts.specs.declared.outcome.Verdict.{Verdict}
-use Rattle.commands.specs.Configured.{IsConfigured}
+use Rattle.intake.specs.Configured.{IsConfigured}
 use Rattle.verdicts.specs.Contexts.{context_for}
-use Rattle.commands.specs.Files.{Found, Conf as ConfFile, Request as RequestFile, Script as ScriptFile}
-use Rattle.commands.specs.Messages.{IsInputMessage}
+use Rattle.intake.specs.Files.{Found, Conf as ConfFile, Request as RequestFile, Script as ScriptFile}
+use Rattle.intake.specs.Messages.{IsInputMessage}
 use Rattle.msg_body.specs.WholeTexts.{IsWhole, reading_for}
-use Rattle.commands.specs.MessageFiles.{IsRequested}
+use Rattle.intake.specs.MessageFiles.{IsRequested}
 use Rattle.commands.specs.Rewrite.{ReportsRewriting}
-use Rattle.commands.specs.Scripts.{IsScripted}
+use Rattle.intake.specs.Scripts.{IsScripted}
 use Rattle.commands.specs.Verify.{ReportsVerdicts}
 use Rattle.verdicts.specs.Verification.{verification_for}
 use Rattle.commands.specs.declared.outcome.Outcome.{Outcome}
 use Rattle.commands.specs.declared.outcome.Outcome.TheVariants.{Done}
-use Rattle.commands.specs.declared.tables.Needs.TheVariants.{Nothing}
+use Rattle.intake.specs.declared.tables.Needs.TheVariants.{Nothing}
 use Rattle.refusals.specs.declared.refusal.Refusal.{Refusal}
 use Rattle.refusals.specs.declared.refusal.Refusal.TheVariants.{Arguments, Of, Command}
 use Rattle.refusals.specs.declared.refusal.TheConstants.{MAX_INPUT_BYTES}

@@ -2,11 +2,11 @@
 use Rattle.std.proofs.Common.{List, ℕ, Option, Result, refl}
 use Rattle.hms_io.specs.Files.{FileMap}
 use Rattle.command_line.specs.Command.{Sample, SampleWords}
-use Rattle.commands.specs.Files.{AreFound}
+use Rattle.intake.specs.Files.{AreFound}
 use Rattle.commands.specs.Sample.{ReportsSample}
-use Rattle.commands.specs.Stops.{IfOutcome}
+use Rattle.commands.specs.Outcome.{IfOutcome}
 use Rattle.commands.specs.declared.outcome.Outcome.{Outcome}
-use Rattle.commands.specs.declared.stop.Stop.{Stop}
+use Rattle.intake.specs.declared.stop.Stop.{Stop}
 use Rattle.program.specs.Commands.{input_use, name_of}
 use Rattle.program.specs.Ends.{HasOutcome, Leaves}
 use Rattle.program.specs.Report.{ReportsCommand}

@@ -31,8 +31,8 @@ use Rattle.gateway.specs.declared.fault.StreamFault.{StreamFault}
 use Rattle.gateway.specs.declared.fault.StreamFault.TheVariants as stream
 use Rattle.gateway.specs.declared.gateway_record.GatewayRecord.{GatewayRecord}
 use Rattle.refusals.specs.declared.refusal.Refusal.{Refusal}
-use Rattle.commands.specs.Files.{Found, Conf as ConfFile}
-use Rattle.commands.specs.declared.tables.Needs.TheVariants.{GatewayTables}
+use Rattle.intake.specs.Files.{Found, Conf as ConfFile}
+use Rattle.intake.specs.declared.tables.Needs.TheVariants.{GatewayTables}
 use Rattle.command_line.specs.Command.{GatewayWords}
 use Rattle.program.specs.Laws.{IsServedInPlace}
 use Rattle.refusals.specs.declared.file.FileRefusal.{FileRefusal}

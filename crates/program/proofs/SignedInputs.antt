@@ -7,10 +7,10 @@ use Rattle.std.proofs.lemmas.Bool.{and_parts, cases_Bool}
 use Rattle.sfv_text.specs.Keys.{value_of}
 use Rattle.sfv_text.specs.Range.{is_string_byte}
 use Rattle.command_line.specs.Command.{CommandLine, Sign, Verify, SignWords, VerifyWords, IsCommand, SpellsSign}
-use Rattle.command_line.specs.Options.{is_moment, may_have}
+use Rattle.command_options.specs.Options.{is_moment, may_have}
 use Rattle.command_line.proofs.CommandLaws.{one_command}
-use Rattle.command_line.proofs.Moments.{is_below}
-use Rattle.command_line.proofs.OptionLists.{value_had, word_had}
+use Rattle.command_options.proofs.Moments.{is_below}
+use Rattle.command_options.proofs.OptionLists.{value_had, word_had}
 use Rattle.nonces.specs.declared.limits.TheConstants.{MAX_MOMENT, MAX_NONCE_BYTES}
 use Rattle.msg_body.specs.Messages.{Message, Spells}
 use Rattle.component_values.specs.Context.{MessageContext, answers_head}
@@ -23,23 +23,23 @@ use Rattle.verdicts.specs.Verification.{Verification}
 use Rattle.verdicts.specs.declared.outcome.Verdict.{Verdict}
 use Rattle.verdicts.specs.declared.outcome.Verdict.TheVariants.{Ok as Accepted, Rule as Failing}
 use Rattle.verdicts.proofs.RightlySigned.{holds_rules_of_signing}
-use Rattle.commands.specs.Configured.{IsConfigured}
+use Rattle.intake.specs.Configured.{IsConfigured}
 use Rattle.verdicts.specs.Contexts.{context_for}
-use Rattle.commands.specs.Files.{Found, Conf as ConfFile, Request as RequestFile, Wanted as WantedFile}
+use Rattle.intake.specs.Files.{Found, Conf as ConfFile, Request as RequestFile, Wanted as WantedFile}
 use Rattle.settings.specs.Valid.{IsValid}
-use Rattle.commands.specs.Messages.{IsInputMessage, IsInputRefused}
+use Rattle.intake.specs.Messages.{IsInputMessage, IsInputRefused}
 use Rattle.msg_body.proofs.OneMessages.{one_message_law}
 use Rattle.msg_body.proofs.WholeTexts.{no_fault_of_whole}
 use Rattle.msg_body.specs.WholeTexts.{IsWhole, reading_for}
 use Rattle.msg_body.specs.declared.whole.Reading.{Reading}
-use Rattle.commands.specs.MessageFiles.{IsRequested, IsWanted}
+use Rattle.intake.specs.MessageFiles.{IsRequested, IsWanted}
 use Rattle.commands.specs.Sign.{ReportsSigning}
 use Rattle.commands.specs.SignedMessages.{SignsAs}
 use Rattle.commands.specs.Verify.{AreVerdicts, ReportsVerdicts, verdicts_outcome}
 use Rattle.verdicts.specs.Verification.{verification_for}
 use Rattle.commands.specs.declared.outcome.Outcome.{Outcome}
 use Rattle.commands.specs.declared.outcome.Outcome.TheVariants.{Done}
-use Rattle.commands.specs.declared.tables.Needs.TheVariants.{Nothing}
+use Rattle.intake.specs.declared.tables.Needs.TheVariants.{Nothing}
 use Rattle.refusals.specs.declared.file.FileRefusal.{FileRefusal}
 use Rattle.refusals.specs.declared.file.FileRefusal.TheVariants.{Missing, TooLong, Message as NoMessage, Conf as NoConf, Script as NoScript, Recording as NoRecording, Order, TooManyHops, OutOfPlace, TooManyItems, Fields}
 use Rattle.refusals.specs.declared.refusal.Refusal.{Refusal}

@@ -19,8 +19,9 @@ use Rattle.hop_audit.specs.declared.line.AuditLine.{AuditLine}
 use Rattle.commands.specs.Audit.{IsRecordingText, IsChainRefused, ReportsAudit, audit_outcome}
 use Rattle.commands.specs.Base.{ReportsValues, ReportsBase}
 use Rattle.commands.specs.Explain.{ReportsExplanation, WritesExplained, differing_text}
-use Rattle.commands.specs.Files.{FileNames, Found, FileRole, Conf as ConfFile, Request as RequestFile, Script as ScriptFile, Other as OtherFile}
-use Rattle.commands.specs.Layers.{ReadsThen, HasAnswer}
+use Rattle.intake.specs.Files.{FileNames, Found, FileRole, Conf as ConfFile, Request as RequestFile, Script as ScriptFile, Other as OtherFile}
+use Rattle.intake.specs.Layers.{HasAnswer}
+use Rattle.commands.specs.Layers.{ReadsThen}
 use Rattle.commands.specs.Lists.{ReportsIntoFields, ReportsMessageOf}
 use Rattle.list_texts.specs.Lists.{list_text}
 use Rattle.list_texts.specs.declared.list.FieldList.{FieldList}
@@ -28,12 +29,12 @@ use Rattle.field_lists.specs.ToCauses.{IsToFault}
 use Rattle.field_lists.specs.declared.to_fault.ToFault.{ToFault}
 use Rattle.field_lists.specs.FromCauses.{IsFromFault}
 use Rattle.field_lists.specs.declared.from_fault.FromFault.{FromFault}
-use Rattle.commands.specs.MessageFiles.{IsOfBytes}
+use Rattle.intake.specs.MessageFiles.{IsOfBytes}
 use Rattle.commands.specs.Negotiate.{ReportsNegotiation}
 use Rattle.commands.specs.Rewrite.{IsTaken, ReportsSteps, ReportsRewriting}
 use Rattle.commands.specs.Sign.{ReportsEach, ReportsSigning}
-use Rattle.commands.specs.declared.tables.Needs.{Needs}
-use Rattle.commands.specs.declared.tables.Needs.TheVariants.{Nothing, SignTable}
+use Rattle.intake.specs.declared.tables.Needs.{Needs}
+use Rattle.intake.specs.declared.tables.Needs.TheVariants.{Nothing, SignTable}
 use Rattle.msg_body.specs.Messages.{Message, IsMessage, message_text}
 use Rattle.settings.specs.declared.sign_conf.SignConf.{SignConf}
 use Rattle.rewrite_script.specs.Lines.{is_writable}

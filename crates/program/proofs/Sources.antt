@@ -16,7 +16,7 @@ use Rattle.verdicts.specs.declared.outcome.Verdict.{Verdict}
 use Rattle.normal_forms.specs.declared.explanation.Explained.{Explained}
 use Rattle.normal_forms.specs.declared.explanation.Explained.TheVariants.{Same as SameForms, Differs}
 use Rattle.commands.specs.Explain.{ReportsExplanation, WritesExplained, differing_text}
-use Rattle.commands.specs.Messages.{IsInputMessage, IsInputRefused}
+use Rattle.intake.specs.Messages.{IsInputMessage, IsInputRefused}
 use Rattle.msg_body.specs.WholeTexts.{reading_for}
 use Rattle.commands.specs.Negotiate.{ReportsNegotiation}
 use Rattle.commands.specs.Rewrite.{ReportsSteps, ReportsRewriting}
@@ -39,9 +39,10 @@ use Rattle.refusals.specs.declared.file.FileRefusal.{FileRefusal}
 use Rattle.refusals.specs.declared.file.FileRefusal.TheVariants.{Missing, TooLong, Message as NoMessage, Conf as NoConf, Script as NoScript, Recording as NoRecording, Order, TooManyHops, OutOfPlace, TooManyItems, Fields}
 use Rattle.commands.specs.declared.outcome.Outcome.{Outcome}
 use Rattle.commands.specs.declared.outcome.Outcome.TheVariants.{Done, NotOk, Refused}
-use Rattle.commands.specs.declared.stop.Stop.{Stop}
-use Rattle.commands.specs.declared.stop.Stop.TheVariants.{Memory, ReadFault, Refused as IsRefused}
-use Rattle.commands.specs.Stops.{IfOutcome, IfRefused, IsRefusalFor, ReadsNothing, CountsStop, stop_of_fill}
+use Rattle.intake.specs.declared.stop.Stop.{Stop}
+use Rattle.intake.specs.declared.stop.Stop.TheVariants.{Memory, ReadFault, Refused as IsRefused}
+use Rattle.intake.specs.Stops.{IfRefused, IsRefusalFor, CountsStop, stop_of_fill}
+use Rattle.commands.specs.Outcome.{IfOutcome, ReadsNothing}
 use Rattle.program.proofs.Layers.{both, went_on}
 
 -- some input, the known bytes where they are known, that is longer than n

@@ -30,7 +30,7 @@ use Rattle.gateway.specs.Streams.{AddsRecord, IsServedTo, LeadTo, MeetsBody, Mee
 use Rattle.gateway.specs.declared.gateway_record.GatewayRecord.{GatewayRecord}
 use Rattle.gateway.specs.declared.gateway_record.GatewayRecord.TheVariants.{Pass}
 use Rattle.refusals.specs.declared.refusal.Refusal.{Refusal}
-use Rattle.commands.specs.Files.{Found, AreFound, Conf as ConfFile}
+use Rattle.intake.specs.Files.{Found, AreFound, Conf as ConfFile}
 use Rattle.program.specs.Commands.{name_of}
 use Rattle.program.specs.StreamEnds.{EndsStream}
 use Rattle.program.specs.StreamMeanings.{AcceptsOnce, ComesWith, PassesRightly, TellsRecords, TellsStream, judged_by}

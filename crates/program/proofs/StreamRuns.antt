@@ -28,12 +28,12 @@ use Rattle.refusals.specs.declared.refusal.Refusal.{Refusal}
 use Rattle.refusals.specs.declared.refusal.Refusal.TheVariants.{Of}
 use Rattle.refusals.specs.declared.role.Role.TheVariants.{Conf as OfConf, Input}
 use Rattle.refusals.proofs.Statuses.{status_of_refusal}
-use Rattle.commands.specs.Files.{Found, HasFound, Conf as ConfFile, file_names}
-use Rattle.commands.specs.Stops.{IfStopped, IsRefusalFor}
+use Rattle.intake.specs.Files.{Found, HasFound, Conf as ConfFile, file_names}
+use Rattle.intake.specs.Stops.{IfStopped, IsRefusalFor}
 use Rattle.commands.specs.declared.outcome.Outcome.TheVariants.{Refused}
-use Rattle.commands.specs.declared.stop.Stop.{Stop}
-use Rattle.commands.specs.declared.stop.Stop.TheVariants.{Memory as NoMemory, ReadFault as ReadFailed, Refused as StopRefused}
-use Rattle.commands.specs.declared.tables.Needs.TheVariants.{GatewayTables}
+use Rattle.intake.specs.declared.stop.Stop.{Stop}
+use Rattle.intake.specs.declared.stop.Stop.TheVariants.{Memory as NoMemory, ReadFault as ReadFailed, Refused as StopRefused}
+use Rattle.intake.specs.declared.tables.Needs.TheVariants.{GatewayTables}
 use Rattle.program.specs.Commands.{LosesFew, ReadsWhole, Streamed, input_use, is_whole}
 use Rattle.program.specs.Ends.{CountsFaults, CountsReads, TellsWhy}
 use Rattle.program.specs.Intake.{IsConfLacking, IsConfRead}

@@ -6,13 +6,14 @@ use Rattle.hms_io.specs.Reading.{LosesPrefix, GivesAll}
 use Rattle.hms_io.specs.declared.read_write.FillError.{FillError}
 use Rattle.hms_io.specs.declared.read_write.FillError.TheVariants.{Memory as NoFillMemory, Failed, TooLong as Longer}
 use Rattle.conf.specs.Configuration.{Configuration}
-use Rattle.commands.specs.Configured.{IsConfigured, IsConfRefused}
-use Rattle.commands.specs.Files.{AreFound, HasFound, file_names}
-use Rattle.commands.specs.Stops.{CountsStop, IfOutcome, IfStopped, IsRefusalFor, stop_of_fill}
+use Rattle.intake.specs.Configured.{IsConfigured, IsConfRefused}
+use Rattle.intake.specs.Files.{AreFound, HasFound, file_names}
+use Rattle.intake.specs.Stops.{CountsStop, IfStopped, IsRefusalFor, stop_of_fill}
+use Rattle.commands.specs.Outcome.{IfOutcome}
 use Rattle.commands.specs.declared.outcome.Outcome.{Outcome}
 use Rattle.commands.specs.declared.outcome.Outcome.TheVariants.{Done, NotOk, Refused}
-use Rattle.commands.specs.declared.stop.Stop.{Stop}
-use Rattle.commands.specs.declared.stop.Stop.TheVariants.{Memory, ReadFault, Refused as IsRefused}
+use Rattle.intake.specs.declared.stop.Stop.{Stop}
+use Rattle.intake.specs.declared.stop.Stop.TheVariants.{Memory, ReadFault, Refused as IsRefused}
 use Rattle.refusals.specs.declared.file.FileRefusal.TheVariants.{Missing, TooLong, Message, Conf as NoConf, Script as NoScript, Recording, Order, TooManyHops, OutOfPlace, TooManyItems, Fields}
 use Rattle.refusals.specs.declared.refusal.Refusal.{Refusal}
 use Rattle.refusals.specs.declared.refusal.Refusal.TheVariants.{Arguments, Of, Command}

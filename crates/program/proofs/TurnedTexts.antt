@@ -10,13 +10,13 @@ use Rattle.list_texts.specs.declared.list.FieldList.{FieldList}
 use Rattle.msg_body.specs.Messages.{Message as MessageValue}
 use Rattle.msg_body.specs.WholeTexts.{reading_for}
 use Rattle.verdicts.specs.Contexts.{context_for}
-use Rattle.commands.specs.Configured.{IsConfigured}
-use Rattle.commands.specs.Files.{Found, Conf as ConfFile}
+use Rattle.intake.specs.Configured.{IsConfigured}
+use Rattle.intake.specs.Files.{Found, Conf as ConfFile}
 use Rattle.commands.specs.Lists.{IsListRefused, ReportsIntoFields, ReportsIntoMessage, ReportsMessageOf}
-use Rattle.commands.specs.Messages.{IsInputMessage}
+use Rattle.intake.specs.Messages.{IsInputMessage}
 use Rattle.commands.specs.declared.outcome.Outcome.{Outcome}
 use Rattle.commands.specs.declared.outcome.Outcome.TheVariants.{Done, Refused}
-use Rattle.commands.specs.declared.tables.Needs.TheVariants.{Nothing}
+use Rattle.intake.specs.declared.tables.Needs.TheVariants.{Nothing}
 use Rattle.refusals.specs.declared.file.FileRefusal.{FileRefusal}
 use Rattle.refusals.specs.declared.file.FileRefusal.TheVariants.{Missing, TooLong, Message, Conf as NoConf, Script as NoScript, Recording, Order, TooManyHops, OutOfPlace, TooManyItems, Fields}
 use Rattle.refusals.specs.declared.refusal.Refusal.{Refusal}

@@ -55,9 +55,9 @@ use Rattle.verdicts.specs.Verification.{Verification, or_no_label, verification_
 use Rattle.verdicts.specs.declared.outcome.Verdict.{Verdict}
 use Rattle.verdicts.specs.declared.outcome.Verdict.TheVariants.{Ok as Accepted, Rule as Failing}
 use Rattle.verdicts.proofs.Places.{place_in_range}
-use Rattle.command_line.proofs.OptionLists.{word_had}
+use Rattle.command_options.proofs.OptionLists.{word_had}
 use Rattle.command_line.specs.Command.{SpellsVerify, VerifyWords}
-use Rattle.command_line.specs.Options.{may_have}
+use Rattle.command_options.specs.Options.{may_have}
 use Rattle.commands.specs.Verify.{AreAsked, AreVerdicts}
 use Rattle.refusals.specs.Laws.{IsLine}
 use Rattle.refusals.proofs.Lines.{number_clean}

@@ -3,7 +3,7 @@ use Rattle.std.specs.Prelude.{◌≡◌, ⊤, ◌+◌, ◌≤◌, ℕ, Bool, tru
 use Rattle.hms_io.specs.Files.{FileMap}
 use Rattle.hms_io.specs.Reading.{LosesPrefix}
 use Rattle.command_line.specs.Command.{CommandLine, Help, HelpOf, Version, Base, Verify, Sign, Rewrite, Explain, Audit, Gateway, Lists, Negotiate, Sample, IsCommand, conf_of, request_of, wanted_of, script_of, other_of}
-use Rattle.commands.specs.Files.{FileRole, FileNames, Found, AreFound, file_names, file_bytes}
+use Rattle.intake.specs.Files.{FileRole, FileNames, Found, AreFound, file_names, file_bytes}
 use Rattle.refusals.specs.declared.refusal.TheConstants.{MAX_INPUT_BYTES, MAX_RECORDING_BYTES}
 
 -- the name of the file of each role

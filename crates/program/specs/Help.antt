@@ -1,8 +1,8 @@
 -- What `--help` and `--version` come to, and the help of one command.
 use Rattle.std.specs.Prelude.{◌≡◌, ◌++◌, ℕ, List}
 use Rattle.std.specs.List.{flat_map}
-use Rattle.command_line.specs.declared.options.CommandName.{CommandName}
-use Rattle.command_line.specs.declared.options.CommandName.TheVariants.{Base, Verify, Sign, Rewrite, Explain, Audit, Gateway, Lists, Negotiate, Sample}
+use Rattle.command_options.specs.declared.options.CommandName.{CommandName}
+use Rattle.command_options.specs.declared.options.CommandName.TheVariants.{Base, Verify, Sign, Rewrite, Explain, Audit, Gateway, Lists, Negotiate, Sample}
 use Rattle.program.specs.declared.help.TheConstants.{COMMANDS, TITLE_TEXT, VERIFY_TEXT, BASE_TEXT, SIGN_TEXT, REWRITE_TEXT, EXPLAIN_TEXT, AUDIT_TEXT, GATEWAY_TEXT, LISTS_TEXT, NEGOTIATE_TEXT, SAMPLE_TEXT, END_TEXT, VERSION_TEXT}
 use Rattle.commands.specs.declared.outcome.Outcome.{Outcome}
 use Rattle.commands.specs.declared.outcome.Outcome.TheVariants.{Done}

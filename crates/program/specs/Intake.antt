@@ -8,20 +8,20 @@ use Rattle.component_values.specs.Context.{MessageContext, context_of}
 use Rattle.conf.specs.Configuration.{Configuration}
 use Rattle.conf.specs.ConfMeaning.{meaning}
 use Rattle.verdicts.specs.Contexts.{context_for}
-use Rattle.commands.specs.Configured.{IsConfigured, IsConfRefused}
-use Rattle.commands.specs.Files.{FileNames, FileRole, Found, Conf as ConfFile, Request as RequestFile, Wanted as WantedFile, Script as ScriptFile, Other as OtherFile, file_names}
-use Rattle.commands.specs.MessageFiles.{IsMessageFile, IsMessageFileRefused, IsRequested, IsRequestRefused, IsWanted, IsWantedRefused}
-use Rattle.commands.specs.Messages.{IsInputMessage, IsInputRefused}
-use Rattle.commands.specs.Scripts.{IsScripted, IsScriptRefused}
-use Rattle.commands.specs.Tables.{HasTables, IsTableMissing}
-use Rattle.commands.specs.declared.tables.Needs.{Needs}
+use Rattle.intake.specs.Configured.{IsConfigured, IsConfRefused}
+use Rattle.intake.specs.Files.{FileNames, FileRole, Found, Conf as ConfFile, Request as RequestFile, Wanted as WantedFile, Script as ScriptFile, Other as OtherFile, file_names}
+use Rattle.intake.specs.MessageFiles.{IsMessageFile, IsMessageFileRefused, IsRequested, IsRequestRefused, IsWanted, IsWantedRefused}
+use Rattle.intake.specs.Messages.{IsInputMessage, IsInputRefused}
+use Rattle.intake.specs.Scripts.{IsScripted, IsScriptRefused}
+use Rattle.intake.specs.Tables.{HasTables, IsTableMissing}
+use Rattle.intake.specs.declared.tables.Needs.{Needs}
 use Rattle.rewrite_script.specs.declared.rewrite.Rewrite.{Rewrite}
 use Rattle.refusals.specs.declared.file.FileRefusal.{FileRefusal}
 use Rattle.refusals.specs.declared.refusal.Refusal.{Refusal}
 use Rattle.refusals.specs.declared.refusal.Refusal.TheVariants.{Of}
 use Rattle.refusals.specs.declared.role.Role.TheVariants.{Conf, Request, Wanted, Script, Other, Input}
-use Rattle.program.specs.declared.intake.FileWords.{FileWords}
-use Rattle.program.specs.declared.intake.Taken.{Taken}
+use Rattle.intake.specs.declared.taken.FileWords.{FileWords}
+use Rattle.intake.specs.declared.taken.Taken.{Taken}
 
 -- the names that the words give
 abbrev pub names_of : FileWords → FileNames

@@ -15,23 +15,24 @@ use Rattle.msg_body.specs.Views.{message_content}
 use Rattle.msg_body.specs.WholeTexts.{reading_for}
 use Rattle.conf.specs.Configuration.{Configuration}
 use Rattle.commands.specs.Audit.{IsChainRefused, IsRecordingText, audit_outcome}
-use Rattle.commands.specs.Configured.{IsConfigured}
+use Rattle.intake.specs.Configured.{IsConfigured}
 use Rattle.commands.specs.Covered.{ReadsParams}
-use Rattle.commands.specs.Files.{FileNames, Found, FileRole, Conf as ConfFile, Request as RequestFile, Wanted as WantedFile, Script as ScriptFile}
-use Rattle.commands.specs.Layers.{HasAnswer, IsDecisive, IsUnrefused}
+use Rattle.intake.specs.Files.{FileNames, Found, FileRole, Conf as ConfFile, Request as RequestFile, Wanted as WantedFile, Script as ScriptFile}
+use Rattle.intake.specs.Layers.{HasAnswer, IsDecisive}
+use Rattle.commands.specs.Layers.{IsUnrefused}
 use Rattle.commands.specs.Lists.{IsListText}
-use Rattle.commands.specs.Messages.{IsInputMessage}
+use Rattle.intake.specs.Messages.{IsInputMessage}
 use Rattle.commands.specs.Outcome.{status_of}
-use Rattle.commands.specs.MessageFiles.{IsRequested, IsWanted, IsOfBytes}
+use Rattle.intake.specs.MessageFiles.{IsRequested, IsWanted, IsOfBytes}
 use Rattle.commands.specs.Rewrite.{IsTaken}
-use Rattle.commands.specs.Scripts.{IsScripted}
+use Rattle.intake.specs.Scripts.{IsScripted}
 use Rattle.commands.specs.Sign.{AreWishesRefused, IsSignRefused}
 use Rattle.commands.specs.SignedMessages.{IsWishedAs, SignsAs}
 use Rattle.commands.specs.Verify.{verdicts_outcome}
 use Rattle.commands.specs.declared.outcome.Outcome.{Outcome}
 use Rattle.commands.specs.declared.outcome.Outcome.TheVariants.{Done as Written, Refused}
-use Rattle.commands.specs.declared.tables.Needs.{Needs}
-use Rattle.commands.specs.declared.tables.Needs.TheVariants.{Nothing, SignTable, GatewayTables}
+use Rattle.intake.specs.declared.tables.Needs.{Needs}
+use Rattle.intake.specs.declared.tables.Needs.TheVariants.{Nothing, SignTable, GatewayTables}
 use Rattle.framing.specs.Framings.{is_request}
 use Rattle.list_texts.specs.Lists.{list_text}
 use Rattle.list_texts.specs.declared.list.FieldList.{FieldList}

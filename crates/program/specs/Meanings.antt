@@ -44,12 +44,12 @@ use Rattle.hop_audit.specs.declared.line.AuditLine.TheVariants.{Label as LabelLi
 use Rattle.hop_audit.specs.declared.line.Fate.{Fate}
 use Rattle.refusals.specs.Laws.{IsLine}
 use Rattle.commands.specs.Audit.{IsRecordingText}
-use Rattle.commands.specs.Configured.{IsConfigured}
+use Rattle.intake.specs.Configured.{IsConfigured}
 use Rattle.commands.specs.Covered.{ReadsParams}
 use Rattle.commands.specs.Explain.{differing_text, explained_text}
-use Rattle.commands.specs.Files.{Found, Conf as ConfFile, Request as RequestFile, Wanted as WantedFile, Other as OtherFile}
-use Rattle.commands.specs.MessageFiles.{IsMessageFile, IsRequested, IsWanted}
-use Rattle.commands.specs.Messages.{IsInputMessage}
+use Rattle.intake.specs.Files.{Found, Conf as ConfFile, Request as RequestFile, Wanted as WantedFile, Other as OtherFile}
+use Rattle.intake.specs.MessageFiles.{IsMessageFile, IsRequested, IsWanted}
+use Rattle.intake.specs.Messages.{IsInputMessage}
 use Rattle.commands.specs.Outcome.{output_of, status_of}
 use Rattle.commands.specs.SignedMessages.{SignsAs}
 use Rattle.commands.specs.Verify.{AreAsked, verdict_lines}

@@ -5,9 +5,9 @@ use Rattle.command_line.specs.Command.{CommandLine, Help, HelpOf, Version, Base,
 use Rattle.conf.specs.Configuration.{Configuration}
 use Rattle.commands.specs.Audit.{ReportsAudit}
 use Rattle.commands.specs.Base.{ReportsBase}
-use Rattle.commands.specs.Configured.{IsConfigured, IsConfRefused}
+use Rattle.intake.specs.Configured.{IsConfigured, IsConfRefused}
 use Rattle.commands.specs.Explain.{ReportsExplanation}
-use Rattle.commands.specs.Files.{FileNames, Found, Conf as ConfFile}
+use Rattle.intake.specs.Files.{FileNames, Found, Conf as ConfFile}
 use Rattle.commands.specs.Layers.{ReadsThen}
 use Rattle.commands.specs.Lists.{ReportsIntoFields, ReportsIntoMessage}
 use Rattle.commands.specs.Negotiate.{ReportsNegotiation}
@@ -16,8 +16,8 @@ use Rattle.commands.specs.Sample.{ReportsSample}
 use Rattle.commands.specs.Sign.{ReportsSigning}
 use Rattle.commands.specs.Verify.{ReportsVerdicts}
 use Rattle.commands.specs.declared.outcome.Outcome.{Outcome}
-use Rattle.commands.specs.declared.tables.Needs.{Needs}
-use Rattle.commands.specs.declared.tables.Needs.TheVariants.{Nothing, SignTable}
+use Rattle.intake.specs.declared.tables.Needs.{Needs}
+use Rattle.intake.specs.declared.tables.Needs.TheVariants.{Nothing, SignTable}
 use Rattle.program.specs.Commands.{name_of}
 use Rattle.program.specs.Help.{ReportsHelp, ReportsHelpOf, ReportsVersion}
 use Rattle.program.specs.Intake.{TakenValues, IsIntake, IsIntakeRefused}

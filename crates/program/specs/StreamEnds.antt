@@ -11,8 +11,8 @@ use Rattle.recording.specs.declared.limits.TheConstants.{MAX_ITEMS}
 use Rattle.gateway.specs.Served.{Serves}
 use Rattle.gateway.specs.declared.fault.StreamFault.{StreamFault}
 use Rattle.gateway.specs.declared.fault.StreamFault.TheVariants as stream
-use Rattle.commands.specs.Files.{Found, AreFound, Conf as ConfFile}
-use Rattle.commands.specs.declared.tables.Needs.TheVariants.{GatewayTables}
+use Rattle.intake.specs.Files.{Found, AreFound, Conf as ConfFile}
+use Rattle.intake.specs.declared.tables.Needs.TheVariants.{GatewayTables}
 use Rattle.refusals.specs.Refusal.{refusal_line, refusal_status}
 use Rattle.refusals.specs.declared.file.FileRefusal.{FileRefusal}
 use Rattle.refusals.specs.declared.file.FileRefusal.TheVariants.{Recording, OutOfPlace, TooManyItems}

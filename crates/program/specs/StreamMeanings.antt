@@ -21,7 +21,7 @@ use Rattle.gateway.specs.Streams.{IsServedTo, LeadTo, StreamState}
 use Rattle.gateway.specs.declared.gateway_record.GatewayRecord.{GatewayRecord}
 use Rattle.gateway.specs.declared.gateway_record.GatewayRecord.TheVariants.{Pass}
 use Rattle.refusals.specs.declared.refusal.Refusal.{Refusal}
-use Rattle.commands.specs.Files.{Found, AreFound}
+use Rattle.intake.specs.Files.{Found, AreFound}
 use Rattle.program.specs.Commands.{name_of}
 use Rattle.program.specs.StreamEnds.{EndsServed}
 

@@ -18,7 +18,6 @@
 mod ended;
 mod entry;
 mod help;
-mod intake;
 mod laws;
 mod over_message;
 mod over_stream;

@@ -9,9 +9,10 @@ ghost use Rattle.hms_io.specs.Files.{KeepsFiles};
 ghost use Rattle.component_values.specs.Context.{HasWholeMessage};
 ghost use Rattle.conf.specs.ConfMeaning.{meaning};
 ghost use Rattle.msg_body.specs.Views.{message_of};
-ghost use Rattle.commands.specs.Files.{AreFound, HasFound, Other, Request};
-ghost use Rattle.commands.specs.Stops.{IfOutcome, IfStopped, IsRefusalFor, ReadsNothing, CountsStop};
-ghost use Rattle.commands.specs.Tables.{HasTables};
+ghost use Rattle.intake.specs.Files.{AreFound, HasFound, Other, Request};
+ghost use Rattle.intake.specs.Stops.{IfStopped, IsRefusalFor, CountsStop};
+ghost use Rattle.commands.specs.Outcome.{IfOutcome, ReadsNothing};
+ghost use Rattle.intake.specs.Tables.{HasTables};
 ghost use Rattle.refusals.specs.declared.refusal.TheConstants.{MAX_CONF_BYTES};
 ghost use Rattle.refusals.specs.declared.refusal.Refusal.TheVariants.{Of};
 ghost use Rattle.refusals.specs.declared.role.Role.TheVariants.{Conf as OfConf};
@@ -22,27 +23,28 @@ ghost use Rattle.program.specs.Intake.{IsConfLacking, IsConfRead, names_of, read
 ghost use Rattle.program.specs.Report.{ReportsFiles};
 ghost use Rattle.program.specs.tools.Parts.{Asks, AsksUntil, CountsOne, HasOther, HasRequested, IsAfterInput, IsOwn, ReportsMessage, ReportsRecord, roles_read, values_of};
 
-use crate::intake::{FileWords, FilesRead, Taken};
 use command_line::{
     BaseWords, ExplainWords, ListsWords, NegotiateWords, RewriteWords, SignWords, VerifyWords,
 };
 use commands::{
-    Needs, Outcome, Reading, Stop, base_outcome, check_tables, context_for, explain_outcome,
-    fetch_message, fetched_message, list_outcome, message_of_role, negotiate_outcome,
-    read_configuration, read_script_file, rewrite_outcome, sign_outcome, verify_outcome,
-    wished_outcome,
+    Outcome, base_outcome, context_for, explain_outcome, list_outcome, negotiate_outcome,
+    rewrite_outcome, sign_outcome, verify_outcome, wished_outcome,
 };
 use conf::Conf;
 use hms_io::{Shelf, Source, fill};
+use intake::{
+    FileWords, FilesRead, Needs, Reading, Stop, Taken, check_tables, fetch_message,
+    fetched_message, message_of_role, read_configuration, read_script_file,
+};
 use msg_body::MessageView;
 use refusals::{MAX_INPUT_BYTES, Role};
 use std::alloc::Global;
 
 /// A command over a configuration and one whole message.
 pub trait OverMessage {
-    ghost use Rattle.commands.specs.Files.{FileNames};
+    ghost use Rattle.intake.specs.Files.{FileNames};
     ghost use Rattle.commands.specs.declared.outcome.Outcome.{Outcome};
-    ghost use Rattle.commands.specs.declared.tables.Needs.{Needs};
+    ghost use Rattle.intake.specs.declared.tables.Needs.{Needs};
     ghost use Rattle.program.specs.Intake.{TakenValues};
 
     // Its words are in their ranges.
@@ -83,8 +85,8 @@ pub trait OverMessage {
 impl<'a> OverMessage for BaseWords<'a> {
     ghost use Rattle.std.specs.Prelude.{⊤, None, option_map};
     ghost use Rattle.commands.specs.Base.{ReportsBase};
-    ghost use Rattle.commands.specs.Files.{file_names};
-    ghost use Rattle.commands.specs.declared.tables.Needs.TheVariants.{Nothing};
+    ghost use Rattle.intake.specs.Files.{file_names};
+    ghost use Rattle.intake.specs.declared.tables.Needs.TheVariants.{Nothing};
 
     ghost is_in_range = { λ words. ⊤ };
 
@@ -116,10 +118,10 @@ impl<'a> OverMessage for BaseWords<'a> {
 
 impl<'a> OverMessage for VerifyWords<'a> {
     ghost use Rattle.std.specs.Prelude.{◌<◌, ◌^◌, None, Some, option_map};
-    ghost use Rattle.command_line.specs.declared.options.TheConstants.{MAX_MOMENT_DIGITS};
-    ghost use Rattle.commands.specs.Files.{file_names};
+    ghost use Rattle.command_options.specs.declared.options.TheConstants.{MAX_MOMENT_DIGITS};
+    ghost use Rattle.intake.specs.Files.{file_names};
     ghost use Rattle.commands.specs.Verify.{ReportsVerdicts};
-    ghost use Rattle.commands.specs.declared.tables.Needs.TheVariants.{Nothing};
+    ghost use Rattle.intake.specs.declared.tables.Needs.TheVariants.{Nothing};
 
     ghost is_in_range = { λ words. words.now < 10 ^ MAX_MOMENT_DIGITS };
 
@@ -152,11 +154,11 @@ impl<'a> OverMessage for VerifyWords<'a> {
 
 impl<'a> OverMessage for SignWords<'a> {
     ghost use Rattle.std.specs.Prelude.{◌<◌, ◌^◌, None, Some, option_map, IfSome, IsTrue};
-    ghost use Rattle.command_line.specs.Options.{is_nonce};
-    ghost use Rattle.command_line.specs.declared.options.TheConstants.{MAX_MOMENT_DIGITS};
-    ghost use Rattle.commands.specs.Files.{file_names};
+    ghost use Rattle.command_options.specs.Options.{is_nonce};
+    ghost use Rattle.command_options.specs.declared.options.TheConstants.{MAX_MOMENT_DIGITS};
+    ghost use Rattle.intake.specs.Files.{file_names};
     ghost use Rattle.commands.specs.Sign.{ReportsSigning};
-    ghost use Rattle.commands.specs.declared.tables.Needs.TheVariants.{SignTable};
+    ghost use Rattle.intake.specs.declared.tables.Needs.TheVariants.{SignTable};
 
     ghost is_in_range = { λ words. (words.now < 10 ^ MAX_MOMENT_DIGITS)
         × IfSome (option_map (λ word. word.now) words.nonce) (λ nonce. IsTrue (is_nonce nonce)) };
@@ -194,9 +196,9 @@ impl<'a> OverMessage for SignWords<'a> {
 
 impl<'a> OverMessage for RewriteWords<'a> {
     ghost use Rattle.std.specs.Prelude.{⊤, None, Some, option_map};
-    ghost use Rattle.commands.specs.Files.{file_names};
+    ghost use Rattle.intake.specs.Files.{file_names};
     ghost use Rattle.commands.specs.Rewrite.{ReportsRewriting};
-    ghost use Rattle.commands.specs.declared.tables.Needs.TheVariants.{Nothing};
+    ghost use Rattle.intake.specs.declared.tables.Needs.TheVariants.{Nothing};
 
     ghost is_in_range = { λ words. ⊤ };
 
@@ -230,8 +232,8 @@ impl<'a> OverMessage for RewriteWords<'a> {
 impl<'a> OverMessage for ExplainWords<'a> {
     ghost use Rattle.std.specs.Prelude.{⊤, IsSomeAnd, None, Some, option_map};
     ghost use Rattle.commands.specs.Explain.{ReportsExplanation};
-    ghost use Rattle.commands.specs.Files.{file_names};
-    ghost use Rattle.commands.specs.declared.tables.Needs.TheVariants.{Nothing};
+    ghost use Rattle.intake.specs.Files.{file_names};
+    ghost use Rattle.intake.specs.declared.tables.Needs.TheVariants.{Nothing};
 
     ghost is_in_range = { λ words. ⊤ };
 
@@ -268,9 +270,9 @@ impl<'a> OverMessage for ExplainWords<'a> {
 
 impl<'a> OverMessage for ListsWords<'a> {
     ghost use Rattle.std.specs.Prelude.{⊤, None, option_map};
-    ghost use Rattle.commands.specs.Files.{file_names};
+    ghost use Rattle.intake.specs.Files.{file_names};
     ghost use Rattle.commands.specs.Lists.{ReportsIntoFields};
-    ghost use Rattle.commands.specs.declared.tables.Needs.TheVariants.{Nothing};
+    ghost use Rattle.intake.specs.declared.tables.Needs.TheVariants.{Nothing};
 
     ghost is_in_range = { λ words. ⊤ };
 
@@ -302,10 +304,10 @@ impl<'a> OverMessage for ListsWords<'a> {
 
 impl<'a> OverMessage for NegotiateWords<'a> {
     ghost use Rattle.std.specs.Prelude.{◌<◌, ◌^◌, None, Some};
-    ghost use Rattle.command_line.specs.declared.options.TheConstants.{MAX_MOMENT_DIGITS};
-    ghost use Rattle.commands.specs.Files.{file_names};
+    ghost use Rattle.command_options.specs.declared.options.TheConstants.{MAX_MOMENT_DIGITS};
+    ghost use Rattle.intake.specs.Files.{file_names};
     ghost use Rattle.commands.specs.Negotiate.{ReportsNegotiation};
-    ghost use Rattle.commands.specs.declared.tables.Needs.TheVariants.{SignTable};
+    ghost use Rattle.intake.specs.declared.tables.Needs.TheVariants.{SignTable};
 
     ghost is_in_range = { λ words. words.now < 10 ^ MAX_MOMENT_DIGITS };
 

@@ -18,10 +18,11 @@ use crate::ended::Ended;
 use crate::entry::{end_stopped, write_outcome};
 use crate::over_message::read_needed;
 use command_line::GatewayWords;
-use commands::{Needs, Outcome};
+use commands::Outcome;
 use conf::Conf;
 use gateway::{MAX_ITEMS, StreamFault, serve};
 use hms_io::{Shelf, Sink, Source, Status};
+use intake::Needs;
 use refusals::{FileRefusal, Refusal, Role};
 use std::alloc::Global;
 

@@ -3,17 +3,19 @@
 
 ghost use Rattle.std.specs.Prelude.{◌≡◌, ◌+◌, ◌≤◌};
 ghost use Rattle.conf.specs.ConfMeaning.{meaning};
-ghost use Rattle.commands.specs.Files.{AreFound};
-ghost use Rattle.commands.specs.Stops.{IfOutcome, CountsStop};
+ghost use Rattle.intake.specs.Files.{AreFound};
+ghost use Rattle.intake.specs.Stops.{CountsStop};
+ghost use Rattle.commands.specs.Outcome.{IfOutcome};
 ghost use Rattle.program.specs.Commands.{LosesAtMost, Whole};
 ghost use Rattle.program.specs.Ends.{HasInput, HasOutcome, Leaves};
 ghost use Rattle.program.specs.Report.{ReportsConfigured};
 ghost use Rattle.program.specs.tools.Parts.{Asks, AsksUntil, CountsOne, conf_names};
 
 use command_line::{AuditWords, ListsWords};
-use commands::{Outcome, Stop, audit_outcome, message_outcome, read_configuration};
+use commands::{Outcome, audit_outcome, message_outcome};
 use conf::Conf;
 use hms_io::{Shelf, Source, fill};
+use intake::{Stop, read_configuration};
 use refusals::{MAX_INPUT_BYTES, MAX_RECORDING_BYTES};
 use std::alloc::Global;
 
@@ -23,7 +25,7 @@ pub trait OverText {
     ghost use Rattle.hms_io.specs.declared.read_write.TheConstants.{MAX_LIMIT};
     ghost use Rattle.conf.specs.Configuration.{Configuration};
     ghost use Rattle.conf.specs.ConfMeaning.{meaning};
-    ghost use Rattle.commands.specs.Stops.{IfOutcome, ReadsNothing};
+    ghost use Rattle.commands.specs.Outcome.{IfOutcome, ReadsNothing};
     ghost use Rattle.commands.specs.declared.outcome.Outcome.{Outcome};
     ghost use Rattle.program.specs.tools.Parts.{IsAfterText, too_long};
 

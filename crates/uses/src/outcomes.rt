@@ -1,12 +1,10 @@
 // Tests of refusals and commands.
 
-use commands::{
-    Outcome, Reading, base_outcome, context_for, message_of_role, read_configuration,
-    verify_outcome,
-};
+use commands::{Outcome, base_outcome, context_for, verify_outcome};
 use component_values::Context;
 use conf::Conf;
 use hms_io::{MemShelf, Status};
+use intake::{Reading, message_of_role, read_configuration};
 use msg_body::{Expect, MessageFault, MessageView};
 use refusals::{FileRefusal, Refusal, Role};
 use sfv_text::{Memory, Text};

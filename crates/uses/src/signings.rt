@@ -4,11 +4,11 @@ ghost use Rattle.std.specs.Prelude.{IfSome};
 ghost use Rattle.signing.specs.Specs.{IsValidSpec};
 
 use crate::components::message_of;
-use commands::{Reading, message_of_role};
 use component_ids::print_params;
 use component_values::Context;
 use conf::{Conf, read_conf};
 use content_digest::Algorithm;
+use intake::{Reading, message_of_role};
 use refusals::Role;
 use signing::{SignFault, SignSpec, sign, spec_of, wanted};
 use std::alloc::Global;

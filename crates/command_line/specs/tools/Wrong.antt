@@ -3,17 +3,17 @@ use Rattle.std.specs.Prelude.{◌≡◌, ℕ, Bool, false, ◌||◌, is_none, is
 use Rattle.std.specs.Str.{bytes_eq}
 use Rattle.command_line.specs.Command.{CommandLine, IsCommand}
 use Rattle.command_line.specs.Faults.{IsWordsFault}
-use Rattle.command_line.specs.Options.{is_taken_by, option_of, row_of, takes}
+use Rattle.command_options.specs.Options.{is_taken_by, option_of, row_of, takes}
 use Rattle.command_line.specs.declared.fault.NextWords.{NextWords}
 use Rattle.command_line.specs.declared.fault.WordsFault.{WordsFault}
 use Rattle.command_line.specs.declared.fault.WordsReason.{WordsReason}
 use Rattle.command_line.specs.declared.fault.WordsReason.TheVariants.{NotTaken, Twice, Excluded}
-use Rattle.command_line.specs.declared.options.CommandName.{CommandName}
-use Rattle.command_line.specs.declared.options.CommandName.TheVariants as name
-use Rattle.command_line.specs.declared.options.CommandOption.{CommandOption}
-use Rattle.command_line.specs.declared.options.CommandOption.TheVariants.{Conf, Now, Label, Request, Nonce, Wanted, Script, Other, Into}
-use Rattle.command_line.specs.declared.options.OptionWords.{OptionWords}
-use Rattle.command_line.specs.tools.Found.{excluding_in, word_in, AreFoundBefore}
+use Rattle.command_options.specs.declared.options.CommandName.{CommandName}
+use Rattle.command_options.specs.declared.options.CommandName.TheVariants as name
+use Rattle.command_options.specs.declared.options.CommandOption.{CommandOption}
+use Rattle.command_options.specs.declared.options.CommandOption.TheVariants.{Conf, Now, Label, Request, Nonce, Wanted, Script, Other, Into}
+use Rattle.command_options.specs.declared.options.OptionWords.{OptionWords}
+use Rattle.command_options.specs.Found.{excluding_in, word_in, AreFoundBefore}
 
 -- the words have the fault
 abbrev pub HasFault : List (List ℕ) → WordsFault → Type 0

@@ -7,8 +7,8 @@ use Rattle.component_values.specs.declared.fault.ValueFault.{ValueFault}
 use Rattle.component_values.specs.declared.fault.ValueFault.TheVariants as fault
 use Rattle.refusals.specs.declared.refusal.Refusal.TheVariants.{Command}
 use Rattle.refusals.specs.declared.refusal.CommandRefusal.TheVariants.{Lacks}
-use Rattle.commands.specs.declared.stop.Stop.{Stop}
-use Rattle.commands.specs.declared.stop.Stop.TheVariants.{Memory, Refused}
+use Rattle.intake.specs.declared.stop.Stop.{Stop}
+use Rattle.intake.specs.declared.stop.Stop.TheVariants.{Memory, Refused}
 
 -- the refusal for a component that lacks a value so, and has this identifier
 abbrev pub stop_for_lack : Lack → List ℕ → Stop

@@ -14,9 +14,9 @@ use Rattle.signing.specs.Signed.{IsSignedMessage}
 use Rattle.signing.specs.declared.spec.SignSpec.{SignSpec}
 use Rattle.commands.specs.Layers.{IsUnrefused}
 use Rattle.commands.specs.Sign.{IsSignRefused}
-use Rattle.commands.specs.Stops.{IfRefused, IsRefusalFor}
-use Rattle.commands.specs.declared.stop.Stop.{Stop}
-use Rattle.commands.specs.declared.stop.Stop.TheVariants as ends
+use Rattle.intake.specs.Stops.{IfRefused, IsRefusalFor}
+use Rattle.intake.specs.declared.stop.Stop.{Stop}
+use Rattle.intake.specs.declared.stop.Stop.TheVariants as ends
 use Rattle.commands.specs.tools.Prepared.{SaysFault}
 
 -- the index of a component that lacks a value is below this count

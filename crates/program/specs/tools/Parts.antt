@@ -22,21 +22,20 @@ use Rattle.refusals.specs.declared.file.FileRefusal.TheVariants.{TooLong, Messag
 use Rattle.refusals.specs.declared.refusal.Refusal.{Refusal}
 use Rattle.refusals.specs.declared.refusal.Refusal.TheVariants.{Of, Command}
 use Rattle.command_line.specs.Command.{CommandLine, IsCommand}
-use Rattle.commands.specs.Files.{FileNames, FileRole, file_bytes, file_count, file_names}
+use Rattle.intake.specs.Files.{FileNames, FileRole, file_bytes, file_count, file_names}
 use Rattle.commands.specs.Layers.{ReadsThen}
-use Rattle.commands.specs.MessageFiles.{IsMessageFile, IsMessageFileRefused}
-use Rattle.commands.specs.Messages.{IsInputMessage, IsInputRefused}
-use Rattle.commands.specs.Outcome.{output_of, status_of}
+use Rattle.intake.specs.MessageFiles.{IsMessageFile, IsMessageFileRefused}
+use Rattle.intake.specs.Messages.{IsInputMessage, IsInputRefused}
+use Rattle.commands.specs.Outcome.{output_of, status_of, IfOutcome}
 use Rattle.commands.specs.declared.outcome.Outcome.{Outcome}
 use Rattle.commands.specs.declared.outcome.Outcome.TheVariants.{Done, NotOk, Refused}
-use Rattle.commands.specs.declared.stop.Stop.{Stop}
-use Rattle.commands.specs.declared.stop.Stop.TheVariants.{ReadFault, Memory as NoMemory, Refused as StopRefused}
-use Rattle.commands.specs.Stops.{IfOutcome}
+use Rattle.intake.specs.declared.stop.Stop.{Stop}
+use Rattle.intake.specs.declared.stop.Stop.TheVariants.{ReadFault, Memory as NoMemory, Refused as StopRefused}
 use Rattle.program.specs.Commands.{name_of}
 use Rattle.program.specs.Ends.{AppendsPrefix, CountsFaults, OneRose}
 use Rattle.program.specs.Intake.{TakenValues, named_count, read_order, roles_until}
 use Rattle.program.specs.Report.{Answers}
-use Rattle.program.specs.declared.intake.FilesRead.{FilesRead}
+use Rattle.intake.specs.declared.taken.FilesRead.{FilesRead}
 
 -- what was read of the files of a command, the other record of the message aside
 pub record FileValues : Type 0 where

@@ -1,9 +1,9 @@
 use Rattle.std.proofs.Common.{map, string_bytes, subst, sym}
-use Rattle.command_line.specs.Names.{command_word}
-use Rattle.command_line.specs.declared.options.CommandName.{CommandName}
+use Rattle.command_options.specs.Names.{command_word}
+use Rattle.command_options.specs.declared.options.CommandName.{CommandName}
 use Rattle.command_line.specs.tools.After.{NoneAfter}
 use Rattle.command_line.proofs.FirstWords.{help_asked, no_audit, no_base, no_explain, no_gateway, no_lists, no_negotiate, no_rewrite, no_sample, no_sign, no_verify}
-use Rattle.command_line.proofs.OptionLists.{if_none}
+use Rattle.command_line.proofs.Results.{if_none}
 use Rattle.command_line.proofs.command.read_command.Goals as goal
 
 pub returns-then-asks_help-clause-some : goal.returns-then-asks_help-clause-some

@@ -1,8 +1,8 @@
 use Rattle.std.proofs.Common.{Some, refl, sym, ap, ◌∙◌, map, string_bytes}
 use Rattle.std.specs.Prelude.{codes}
-use Rattle.command_line.specs.Options.{into_word}
+use Rattle.command_options.specs.Options.{into_word}
 use Rattle.command_line.proofs.CommandOrNone.{into_is}
-use Rattle.command_line.proofs.OptionLists.{value_had}
+use Rattle.command_options.proofs.OptionLists.{value_had}
 use Rattle.command_line.proofs.command.read_lists.Goals as goal
 
 pub returns-clause-some : goal.returns-clause-some

@@ -1,6 +1,6 @@
 use Rattle.std.proofs.Common.{List, ℕ, map, string_bytes, subst, sym}
 use Rattle.command_line.specs.tools.After.{NoneAfter}
-use Rattle.command_line.proofs.OptionLists.{if_none}
+use Rattle.command_line.proofs.Results.{if_none}
 use Rattle.command_line.proofs.SomeCommand.{name_is}
 use Rattle.command_line.proofs.command.read_named.Goals as goal
 

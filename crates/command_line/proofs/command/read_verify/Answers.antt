@@ -1,6 +1,6 @@
 use Rattle.std.proofs.Common.{sym}
 use Rattle.std.specs.Prelude.{codes}
-use Rattle.command_line.proofs.OptionLists.{value_had}
+use Rattle.command_options.proofs.OptionLists.{value_had}
 use Rattle.command_line.proofs.command.read_verify.Goals as goal
 
 pub moment_of-requires : goal.moment_of-requires

@@ -1,6 +1,6 @@
 use Rattle.command_line.specs.Command.{line_of}
 use Rattle.command_line.proofs.CommandWords.{timely, right_nonce}
-use Rattle.command_line.proofs.OptionLists.{if_some}
+use Rattle.command_line.proofs.Results.{if_some}
 use Rattle.command_line.proofs.command.read_words.Goals as goal
 
 pub returns-clause-timely : goal.returns-clause-timely

@@ -1,7 +1,7 @@
 use Rattle.std.proofs.Common.{◌∷◌, List, ℕ, map, string_bytes, sym, subst, refl}
 use Rattle.std.specs.Prelude.{codes}
 use Rattle.command_line.specs.tools.Wrong.{AreCommand, HasFault}
-use Rattle.command_line.proofs.OptionLists.{if_none, if_some}
+use Rattle.command_line.proofs.Results.{if_none, if_some}
 use Rattle.command_line.proofs.OtherFaults.{no_params}
 use Rattle.command_line.proofs.fault.base_fault.Goals as goal
 

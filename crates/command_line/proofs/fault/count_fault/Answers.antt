@@ -3,7 +3,7 @@ use Rattle.std.specs.Prelude.{codes}
 use Rattle.command_line.specs.Faults.{IsWordsFault}
 use Rattle.command_line.specs.tools.Wrong.{AreCommand}
 use Rattle.command_line.specs.declared.fault.WordsReason.TheVariants.{LeftOver, BadCount}
-use Rattle.command_line.specs.declared.options.CommandName.TheVariants.{Sample}
+use Rattle.command_options.specs.declared.options.CommandName.TheVariants.{Sample}
 use Rattle.command_line.proofs.OtherFaults.{bad_count, no_count, sample_left_over, sample_whole}
 use Rattle.command_line.proofs.fault.count_fault.Goals as goal
 

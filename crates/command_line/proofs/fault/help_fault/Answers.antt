@@ -1,7 +1,7 @@
 use Rattle.std.proofs.Common.{List, ℕ, ◌∷◌, subst, sym, Some}
 use Rattle.std.specs.Prelude.{codes}
 use Rattle.command_line.specs.Faults.{IsWordsFault}
-use Rattle.command_line.specs.Names.{command_word}
+use Rattle.command_options.specs.Names.{command_word}
 use Rattle.command_line.specs.tools.Wrong.{AreCommand}
 use Rattle.command_line.specs.declared.fault.WordsReason.TheVariants.{LeftOver}
 use Rattle.command_line.proofs.OtherFaults.{help_command, help_left_over}

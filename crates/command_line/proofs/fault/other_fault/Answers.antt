@@ -4,7 +4,7 @@ use Rattle.command_line.specs.Faults.{IsWordsFault}
 use Rattle.command_line.specs.tools.Wrong.{AreCommand, HasFault}
 use Rattle.command_line.specs.declared.fault.WordsReason.TheVariants.{LeftOver, NoCommand}
 use Rattle.std.proofs.lemmas.Slice.Eq.{bytes_eq-Decides}
-use Rattle.command_line.proofs.OptionLists.{if_none, if_some}
+use Rattle.command_line.proofs.Results.{if_none, if_some}
 use Rattle.command_line.proofs.OtherFaults.{no_command, no_words, text_command, text_left_over}
 use Rattle.command_line.proofs.fault.other_fault.Goals as goal
 

@@ -1,7 +1,7 @@
 use Rattle.std.proofs.Common.{List, ℕ, ◌∷◌, subst, sym}
-use Rattle.command_line.specs.Names.{command_word}
+use Rattle.command_options.specs.Names.{command_word}
 use Rattle.command_line.specs.tools.Wrong.{AreCommand, HasFault}
-use Rattle.command_line.proofs.OptionLists.{if_none, if_some}
+use Rattle.command_line.proofs.Results.{if_none, if_some}
 use Rattle.command_line.proofs.fault.plain_fault.Goals as goal
 
 pub returns-in-Some-clause-none : goal.returns-in-Some-clause-none

@@ -3,8 +3,8 @@ use Rattle.std.specs.Prelude.{codes}
 use Rattle.command_line.specs.Faults.{IsWordsFault}
 use Rattle.command_line.specs.tools.Wrong.{AreCommand, HasFault}
 use Rattle.command_line.specs.declared.fault.WordsReason.TheVariants.{BadSeed}
-use Rattle.command_line.specs.declared.options.CommandName.TheVariants.{Sample}
-use Rattle.command_line.proofs.OptionLists.{if_none, if_some}
+use Rattle.command_options.specs.declared.options.CommandName.TheVariants.{Sample}
+use Rattle.command_line.proofs.Results.{if_none, if_some}
 use Rattle.command_line.proofs.OtherFaults.{bad_seed, no_seed}
 use Rattle.command_line.proofs.fault.sample_fault.Goals as goal
 

@@ -1,9 +1,9 @@
 use Rattle.std.proofs.Common.{[], ◌∷◌, map, string_bytes, subst, sym}
-use Rattle.command_line.specs.Names.{command_word}
-use Rattle.command_line.specs.declared.options.CommandName.{CommandName}
+use Rattle.command_options.specs.Names.{command_word}
+use Rattle.command_options.specs.declared.options.CommandName.{CommandName}
 use Rattle.command_line.specs.tools.Wrong.{HasFault}
 use Rattle.command_line.proofs.OptionFaults.{plain_start, plain_words}
-use Rattle.command_line.proofs.OptionLists.{if_none, if_some}
+use Rattle.command_line.proofs.Results.{if_none, if_some}
 use Rattle.command_line.proofs.fault.unhelped_fault.Goals as goal
 
 pub returns-in-Sample-clause-some : goal.returns-in-Sample-clause-some

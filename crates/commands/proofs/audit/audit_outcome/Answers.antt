@@ -3,7 +3,7 @@ use Rattle.std.proofs.lemmas.Result.{err_from_is_err_and}
 use Rattle.conf.specs.ConfMeaning.{meaning}
 use Rattle.commands.proofs.Auditing.{chain_stop}
 use Rattle.commands.proofs.RecordedTexts.{recording_stop}
-use Rattle.commands.proofs.Texts.{all_bytes}
+use Rattle.intake.proofs.Texts.{all_bytes}
 use Rattle.commands.proofs.audit.audit_outcome.Goals as goal
 
 pub returns-in_err-recording-clause-report : goal.returns-in_err-recording-clause-report

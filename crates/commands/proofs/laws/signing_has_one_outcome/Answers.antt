@@ -1,5 +1,5 @@
-use Rattle.commands.proofs.OneSigning.{has_some_signing, is_valid_where_configured, one_signing}
+use Rattle.commands.proofs.OneSigning.{has_some_signing, one_signing}
 use Rattle.commands.proofs.laws.signing_has_one_outcome.Goals as goal
 
 pub returns : goal.returns
-returns c = record { one = one_signing; some = has_some_signing; valid = is_valid_where_configured }
+returns c = record { one = one_signing; some = has_some_signing }

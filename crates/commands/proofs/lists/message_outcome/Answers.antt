@@ -2,7 +2,7 @@ use Rattle.std.proofs.Common.{arith, inl, refl}
 use Rattle.std.proofs.lemmas.Result.{err_from_is_err_and}
 use Rattle.conf.specs.ConfMeaning.{meaning}
 use Rattle.commands.proofs.ListTexts.{list_stop}
-use Rattle.commands.proofs.Texts.{all_bytes}
+use Rattle.intake.proofs.Texts.{all_bytes}
 use Rattle.commands.proofs.Turning.{to_stop}
 use Rattle.commands.proofs.lists.message_outcome.Goals as goal
 

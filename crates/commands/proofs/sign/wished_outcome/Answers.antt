@@ -5,7 +5,7 @@ use Rattle.msg_body.specs.Views.{message_of}
 use Rattle.component_values.specs.Context.{context_of}
 use Rattle.signing.specs.declared.spec.SignSpec.{SignSpec}
 use Rattle.commands.specs.Sign.{ReportsEach}
-use Rattle.commands.specs.Stops.{IfOutcome}
+use Rattle.commands.specs.Outcome.{IfOutcome}
 use Rattle.commands.proofs.Signing.{want_stopped, wished}
 use Rattle.commands.proofs.sign.wished_outcome.Goals as goal
 

@@ -1,5 +1,5 @@
 use Rattle.std.proofs.Common.{arith}
-use Rattle.commands.proofs.Texts.{all_bytes}
+use Rattle.intake.proofs.Texts.{all_bytes}
 use Rattle.program.proofs.entry.of_bytes.Goals as goal
 
 pub returns-clause-are : goal.returns-clause-are

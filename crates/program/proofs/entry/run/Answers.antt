@@ -1,7 +1,7 @@
 use Rattle.std.proofs.Common.{◌≡◌, ◌⊎◌, ◌+◌, ◌≤◌, inl, map, string_bytes, ap}
 use Rattle.command_line.specs.Command.{CommandLine, Base, Verify, Sign, Explain, Audit, Gateway, Negotiate, GatewayWords, gateway_words}
 use Rattle.command_line.proofs.CommandLaws.{one_command}
-use Rattle.commands.specs.Files.{Found, AreFound, Conf, file_bytes}
+use Rattle.intake.specs.Files.{Found, AreFound, Conf, file_bytes}
 use Rattle.program.specs.Commands.{GivesAtMost, LosesFew, input_use, name_of}
 use Rattle.program.specs.Ends.{AsksFor, HasReport, WritesRefusal}
 use Rattle.program.specs.StreamEnds.{EndsStream}

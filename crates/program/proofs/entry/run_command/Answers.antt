@@ -1,14 +1,14 @@
 use Rattle.std.proofs.Common.{◌≡◌, ◌+◌, ◌≤◌, Bool, option_map, map, string_bytes, refl, sym, subst, Ok}
 use Rattle.std.proofs.Math.Nat.{le_refl}
 use Rattle.command_line.specs.Command.{CommandLine, Help, HelpOf, Version, Base, Verify, Sign, Rewrite, Explain, Audit, Gateway, Lists, Negotiate, Sample, base_words, verify_words, sign_words, rewrite_words, explain_words, audit_words, gateway_words, lists_words, negotiate_words, sample_words}
-use Rattle.commands.specs.Files.{AreFound, file_bytes}
-use Rattle.commands.specs.Stops.{IfOutcome}
+use Rattle.intake.specs.Files.{AreFound, file_bytes}
+use Rattle.commands.specs.Outcome.{IfOutcome}
 use Rattle.refusals.specs.declared.refusal.TheConstants.{MAX_INPUT_BYTES}
 use Rattle.program.specs.Commands.{input_use, name_of, GivesAtMost, LosesFew, Whole}
 use Rattle.program.specs.Ends.{HasOutcome, Leaves}
 use Rattle.program.specs.Report.{ReportsTurned}
 use Rattle.program.specs.tools.Parts.{conf_names}
-use Rattle.command_line.proofs.Moments.{sample_bounded}
+use Rattle.command_line.proofs.CommandWords.{sample_bounded}
 use Rattle.program.proofs.AskedFiles.{asks_of, no_more, none_asked}
 use Rattle.program.proofs.Sampled.{sampled}
 use Rattle.program.proofs.Sources.{none_gone}

@@ -2,9 +2,9 @@ use Rattle.std.proofs.Common.{subst, sym}
 use Rattle.std.specs.Prelude.{option_map}
 use Rattle.component_values.specs.Context.{HasWholeMessage, MessageContext}
 use Rattle.msg_body.specs.Views.{message_of}
-use Rattle.commands.specs.Messages.{IsInputMessage}
+use Rattle.intake.specs.Messages.{IsInputMessage}
 use Rattle.msg_body.specs.declared.whole.Reading.{Reading}
-use Rattle.commands.specs.Files.{Other, Request}
+use Rattle.intake.specs.Files.{Other, Request}
 use Rattle.program.specs.tools.Parts.{HasOther, HasRequested, values_of}
 use Rattle.program.proofs.Sources.{after_answer, after_refusal, spelled_input}
 use Rattle.std.proofs.lemmas.Result.{err_from_is_err_and}

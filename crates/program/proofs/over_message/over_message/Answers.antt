@@ -6,9 +6,9 @@ use Rattle.conf.specs.ConfMeaning.{meaning}
 use Rattle.msg_body.specs.Messages.{Message}
 use Rattle.msg_body.specs.Views.{message_of}
 use Rattle.msg_body.specs.WholeTexts.{any_message, one_request}
-use Rattle.commands.specs.Files.{FileNames, Conf, Other, Request, Script, Wanted}
-use Rattle.commands.specs.MessageFiles.{IsRequestRefused, IsWantedRefused}
-use Rattle.commands.specs.Scripts.{IsScripted, IsScriptRefused}
+use Rattle.intake.specs.Files.{FileNames, Conf, Other, Request, Script, Wanted}
+use Rattle.intake.specs.MessageFiles.{IsRequestRefused, IsWantedRefused}
+use Rattle.intake.specs.Scripts.{IsScripted, IsScriptRefused}
 use Rattle.refusals.specs.declared.refusal.TheConstants.{MAX_INPUT_BYTES}
 use Rattle.refusals.specs.declared.role.Role.TheVariants.{Conf as OfConf, Request as OfRequest, Script as OfScript, Wanted as OfWanted}
 use Rattle.rewrite_script.specs.Lines.{is_writable}

@@ -4,8 +4,8 @@ use Rattle.std.proofs.lemmas.Result.{err_from_is_err_and}
 use Rattle.msg_body.specs.Messages.{Message}
 use Rattle.msg_body.specs.Views.{message_of}
 use Rattle.msg_body.specs.WholeTexts.{reading_for}
-use Rattle.commands.specs.Files.{Other}
-use Rattle.commands.specs.MessageFiles.{IsMessageFileRefused}
+use Rattle.intake.specs.Files.{Other}
+use Rattle.intake.specs.MessageFiles.{IsMessageFileRefused}
 use Rattle.refusals.specs.declared.role.Role.TheVariants.{Other as OfOther}
 use Rattle.program.specs.tools.Parts.{HasOther, values_of}
 use Rattle.program.proofs.AskedFiles.{record_late}

@@ -4,8 +4,8 @@ use Rattle.conf.specs.ConfMeaning.{meaning}
 use Rattle.std.proofs.Common.{ℕ}
 use Rattle.refusals.specs.declared.refusal.Refusal.TheVariants.{Of}
 use Rattle.refusals.specs.declared.role.Role.TheVariants.{Conf as OfConf}
-use Rattle.commands.specs.Stops.{IsRefusalFor}
-use Rattle.commands.specs.Tables.{IsTableMissing}
+use Rattle.intake.specs.Stops.{IsRefusalFor}
+use Rattle.intake.specs.Tables.{IsTableMissing}
 use Rattle.program.proofs.FaultCounts.{refused_counts}
 use Rattle.program.proofs.Reports.{conf_lacking, needed_had, table_lacking}
 use Rattle.program.proofs.over_message.read_needed.Goals as goal

@@ -2,7 +2,8 @@ use Rattle.std.proofs.Common.{◌≡◌, ◌+◌, ℕ, List, Result, Err, sym, a
 use Rattle.conf.specs.ConfMeaning.{meaning}
 use Rattle.hms_io.specs.Reading.{LosesPrefix}
 use Rattle.hms_io.specs.declared.read_write.FillError.{FillError}
-use Rattle.commands.specs.Stops.{IfOutcome, stop_of_fill}
+use Rattle.intake.specs.Stops.{stop_of_fill}
+use Rattle.commands.specs.Outcome.{IfOutcome}
 use Rattle.program.specs.Commands.{Whole}
 use Rattle.program.specs.Ends.{HasInput, Leaves}
 use Rattle.program.proofs.Sources.{all_gone}

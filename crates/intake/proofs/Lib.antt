@@ -1,0 +1,10 @@
+pub mod Answered
+pub mod Decided
+pub mod DecidedConf
+pub mod FoundFiles
+pub mod LowerLaws
+pub mod NeededTables
+pub mod ScriptFiles
+pub mod Stopping
+pub mod TakenFiles
+pub mod Texts

@@ -1,0 +1,9 @@
+pub mod Configured
+pub mod Files
+pub mod Laws
+pub mod Layers
+pub mod MessageFiles
+pub mod Messages
+pub mod Scripts
+pub mod Stops
+pub mod Tables
