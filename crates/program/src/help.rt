@@ -89,9 +89,9 @@ pub const GATEWAY_TEXT: &str = "
 /// What `lists` does.
 pub const LISTS_TEXT: &str = "
   hms lists --into message|fields [--conf FILE] < LIST
-      The message of HTTP/1.1 that LIST, the fields of a message of HTTP/2 or
-      HTTP/3 as they were recorded, stands for; or, with `--into fields`, the
-      list of a message. FILE gives the scheme.
+      LIST as a message of HTTP/1.1: LIST has the fields of a message of HTTP/2
+      or HTTP/3 as they were recorded. With `--into fields`, the list of a
+      message. FILE gives the scheme.
 
       hms lists --into message < fields.txt
 ";
@@ -99,9 +99,9 @@ pub const LISTS_TEXT: &str = "
 /// What `negotiate` does.
 pub const NEGOTIATE_TEXT: &str = "
   hms negotiate --conf FILE --now SECONDS --request REQ < RESPONSE
-      RESPONSE with the signatures that `Accept-Signature` in REQ, the request
-      that it answers, asks for, and with the digest of its content that
-      `Want-Content-Digest` in REQ asks for.
+      RESPONSE signed as the request in REQ asks: with the signatures that its
+      `Accept-Signature` asks for, and with the digest of the content that its
+      `Want-Content-Digest` asks for.
 
       hms negotiate --conf conf.toml --now \"$(date +%s)\" --request request.http < response.http
 ";
