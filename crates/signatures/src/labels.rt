@@ -11,7 +11,7 @@ pub(crate) fn keys_of(alloc: Global, dict: &Dict) -> Result<Labels, Memory>
     ensures { IfOk result (λ keys. keys ≡ map (λ member. member.key) dict.now) }
 {
     let members = dict.as_slice();
-    let mut keys = Labels::new(alloc);
+    let mut keys = Labels::with_capacity(alloc, members.len())?;
     for member in members {
         keys.push(member.key.copy(alloc)?)?;
     }

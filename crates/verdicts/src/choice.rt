@@ -1,6 +1,6 @@
 //! Which policy judges a signature, and how long nonces are remembered by the policies.
 
-ghost use Rattle.std.specs.Prelude.{◌≡◌, ◌≤◌, IfSome, option_copied};
+ghost use Rattle.std.specs.Prelude.{◌≡◌, ◌≤◌, None, [], ◌∷◌, IfSome, option_copied};
 ghost use Rattle.settings.specs.ConfMeaning.{meaning};
 ghost use Rattle.settings.specs.ValidSections.{IsValidPolicy};
 ghost use Rattle.nonces.specs.declared.limits.TheConstants.{MAX_WINDOW};
@@ -9,12 +9,27 @@ ghost use Rattle.verdicts.specs.Choice.{policy_of, window_of};
 use component_ids::SigParams;
 use settings::{Conf, Policy};
 
+/// The one policy of which there is no other, where it selects no tag.
+fn sole_default(policies: &[Policy]) -> Option<&Policy>
+    ensures { IfSome result
+        (λ policy. (policies.now ≡ policy.now ∷ []) × (policy.now.selects ≡ None)) }
+{
+    match policies {
+        [policy] if policy.selects.is_none() => Some(policy),
+        _ => None,
+    }
+}
+
 /// The policy by which the signature parameters are judged, that of their `tag`; none where there
 /// is no such policy. It takes no memory.
 pub fn policy_of<'c>(conf: &'c Conf, params: &SigParams) -> Option<&'c Policy>
     ensures is { option_copied result ≡ policy_of (meaning conf.now) params.now }
     ensures valid { IfSome result (λ policy. IsValidPolicy policy.now) }
 {
+    // then the signature isn't asked for its tag
+    if let Some(policy) = sole_default(conf.policies().as_slice()) {
+        return Some(policy);
+    }
     match params.params.string(b"tag") {
         Some(tag) => conf.policy_for(Some(tag.bytes())),
         None => conf.policy_for(None),

@@ -1,6 +1,6 @@
 //! The line of a label and its verdict. Each function adds its part at the end of the lines.
 
-ghost use Rattle.std.specs.Prelude.{◌≡◌, ◌++◌, ◌∷◌, OnOk, IsTrue};
+ghost use Rattle.std.specs.Prelude.{◌≡◌, ◌++◌, ◌∷◌, OnOk, IsTrue, codes};
 ghost use Rattle.std.specs.Fmt.{decimal};
 ghost use Rattle.std.specs.Str.{byte};
 ghost use Rattle.component_ids.specs.Reasons.{word_of};
@@ -45,17 +45,19 @@ fn append_place(alloc: Global, place: &Place, line: &mut Text) -> Result<(), Mem
     }
 }
 
-/// Adds a verdict.
+/// Adds a verdict, after a space, and LF.
 fn append_verdict(alloc: Global, verdict: &Verdict, line: &mut Text) -> Result<(), Memory>
     requires { IsTrue (is_verdict_in_range verdict.now) }
-    ensures { OnOk result (line.new ≡ line.old ++ verdict_text verdict.now) }
+    ensures { OnOk result (line.new ≡ line.old
+        ++ byte " " ∷ (verdict_text verdict.now ++ codes "\n")) }
 {
     match verdict {
-        Verdict::Ok { .. } => line.append(b"ok"),
+        Verdict::Ok { .. } => line.append(b" ok\n"),
         Verdict::Rule { number, place } => {
-            append_number(alloc, b"rule ", number.number() as usize, line)?;
+            append_number(alloc, b" rule ", number.number() as usize, line)?;
             append_words(b" ", number.word().as_bytes(), line)?;
-            append_place(alloc, place, line)
+            append_place(alloc, place, line)?;
+            line.append(b"\n")
         }
     }
 }
@@ -71,7 +73,6 @@ pub fn append_verdict_line(
     requires { IsTrue (is_verdict_in_range verdict.now) }
     ensures { OnOk result (lines.new ≡ lines.old ++ verdict_line (label.now, verdict.now)) }
 {
-    append_words(label, b" ", lines)?;
-    append_verdict(alloc, verdict, lines)?;
-    lines.append(b"\n")
+    lines.append(label)?;
+    append_verdict(alloc, verdict, lines)
 }

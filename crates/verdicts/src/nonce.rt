@@ -70,12 +70,12 @@ pub(crate) fn judge_nonce<L: Ledger>(
         (moment_of (option_copied seen.entry)) keyid.now nonce) (nonce_of params.now)) result }
     ensures steps { steps.old ≤ steps.new }
 {
-    let Some(nonce) = params.params.string(b"nonce") else {
-        return judge_absent(policy.nonce);
-    };
     if !asks_new(policy.nonce) {
         return Ok(());
     }
+    let Some(nonce) = params.params.string(b"nonce") else {
+        return judge_absent(policy.nonce);
+    };
     if is_replay(seen, keyid, nonce.bytes(), steps) {
         return Err(LabelFault::Rule(Rule::NonceRepeated, Place::None));
     }

@@ -1,14 +1,19 @@
-use Rattle.std.proofs.Common.{◌<◌, ◌≤◌, ℕ, List, [], ◌++◌, length, take, get_or, sym, ap, subst, ◌∙◌, append_assoc, arith}
+use Rattle.std.proofs.Common.{◌≡◌, ◌<◌, ◌≤◌, ℕ, List, [], ◌++◌, ◌+◌, ◌==◌, Bool, false, length, take, get_or, refl, sym, ap, ◌∙◌, append_assoc, arith}
 use Rattle.std.specs.Prelude.{slice_index_or}
 use Rattle.std.specs.List.{flat_map, zip}
 use Rattle.std.proofs.lemmas.Option.{slice_get-get_or}
+use Rattle.component_ids.specs.Identifiers.{id_text}
 use Rattle.component_ids.specs.declared.id.ComponentId.{ComponentId}
 use Rattle.sig_base.specs.SignatureBase.{component_line}
-use Rattle.sig_base.proofs.Lines.{lines_more, zip_all}
+use Rattle.sig_base.specs.tools.Feed.{end_before, line_begin}
+use Rattle.sig_base.proofs.Lines.{line_closes, lines_more, some_lines, zip_all}
 use Rattle.sig_base.proofs.base.feed_lines.Goals as goal
 
 no_id : ComponentId
 no_id = record { name = []; params = [] }
+
+pub loop-index-init : goal.loop-index-init
+loop-index-init g c text fed = (text, fed, refl)
 
 pub loop-index-preserved : goal.loop-index-preserved
 loop-index-preserved g c text fed =
@@ -19,15 +24,26 @@ loop-index-preserved g c text fed =
     let in_values : i < length values = omega (arith, c.loop-index-test.true, c.len-index-end.ensures.is) in
     let there = slice_get-get_or ids i no_id in_ids in
     let id = get_or ids i no_id in
+    let value = slice_index_or values i [] in
     let before = flat_map component_line (take i (zip ids values)) in
-    let whole = append_assoc text before (component_line (id, slice_index_or values i [])) ∙ ap (λ t. text ++ t) (sym (lines_more ids values i id there in_values)) in
-    subst (λ (fed : List ℕ). g.A.Absorb.absorbed c.feed_line.new.into fed) whole
-    (c.feed_line.ensures id there (text ++ before) (c.loop-index.invariant text fed))
+    let owed = c.loop-index.invariant text fed in
+    let closed = line_closes owed.0 (end_before (i == 0)) (id_text id) value (text ++ before) owed.2 in
+    let whole = append_assoc text before (component_line (id, value)) ∙ ap (λ (t : List ℕ). text ++ t) (sym (lines_more ids values i id there in_values)) in
+    let more : (i + 1 == 0) ≡ false = some_lines i in (
+      owed.0 ++ (line_begin (i == 0) (id_text id) ++ value),
+      c.feed_line.ensures id there owed.0 owed.1,
+      ap (λ (b : Bool). (owed.0 ++ (line_begin (i == 0) (id_text id) ++ value)) ++ end_before b) more ∙ (closed ∙ whole),
+    )
 
 pub returns : goal.returns
 returns g c text fed =
     let ids = c.args.prepared.now.params.ids in
     let values = c.args.prepared.now.values in
-    let all : length values ≤ c.loop-index.index = omega (arith, c.loop-index-test.false, c.len-index-end.ensures.is) in
-    subst (λ (lines : List (ComponentId × List ℕ)). g.A.Absorb.absorbed c.loop-index.into (text ++ flat_map component_line lines)) (zip_all ids values c.loop-index.index all)
-    (c.loop-index.invariant text fed)
+    let i = c.loop-index.index in
+    let all : length values ≤ i = omega (arith, c.loop-index-test.false, c.len-index-end.ensures.is) in
+    let last : i ≡ length values = omega (arith, c.loop-index.auto.index-end, c.loop-index-test.false, c.len-index-end.ensures.is) in
+    let owed = c.loop-index.invariant text fed in (
+      owed.0,
+      owed.1,
+      ap (λ (n : ℕ). owed.0 ++ end_before (n == 0)) (sym last) ∙ (owed.2 ∙ ap (λ (lines : List (ComponentId × List ℕ)). text ++ flat_map component_line lines) (zip_all ids values i all)),
+    )
