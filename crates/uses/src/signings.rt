@@ -1,15 +1,24 @@
-// Tests of signing, and of what conf says of it.
+// Tests of signing, of what conf says of it, and of negotiation.
 
-ghost use Rattle.std.specs.Prelude.{IfSome};
+ghost use Rattle.std.specs.Prelude.{IfSome, IsSome};
+ghost use Rattle.framing.specs.Framings.{is_head_request};
+ghost use Rattle.msg_body.specs.Messages.{IsMessage};
+ghost use Rattle.msg_body.specs.Views.{message_of as message_in};
+ghost use Rattle.component_values.specs.Context.{HasWholeMessage, context_of};
+ghost use Rattle.settings.specs.ConfMeaning.{meaning};
 ghost use Rattle.signing.specs.Specs.{IsValidSpec};
 
 use crate::components::message_of;
+use commands::{Outcome, wished_outcome};
 use component_ids::print_params;
 use component_values::Context;
 use conf::{Conf, read_conf};
 use content_digest::Algorithm;
 use intake::{Reading, message_of_role};
+use msg_body::MessageView;
+use negotiation::{EachFault, NegotiateFault, negotiate, sign_each};
 use refusals::Role;
+use sfv_text::Text;
 use signing::{SignFault, SignSpec, sign, spec_of, wanted};
 use std::alloc::Global;
 
@@ -302,4 +311,308 @@ fn wishes_are_met_or_have_a_fault(rt: HostRuntime) {
     for (index, row) in WISHED.iter().enumerate() {
         assert!(rt; is_wished(rt.alloc(), row), "at {index}");
     }
+}
+
+// What a response that is signed as its request asks comes to.
+#[derive(Clone, Copy)]
+enum Answer {
+    Written(&'static [u8]),
+    // What is said of a fault of the wishes, or of a digest.
+    Refused(&'static [u8]),
+    // The wish at the index is the first whose signature isn't made.
+    Unsigned(usize, SignFault),
+}
+
+fn is_answer(alloc: Global, answered: &Result<Text, NegotiateFault>, answer: Answer) -> bool {
+    match (answered, answer) {
+        (Ok(text), Answer::Written(written)) => text.bytes() == written,
+        (Err(NegotiateFault::Sign(index, fault)), Answer::Unsigned(place, cause)) => {
+            *index == place && *fault == cause
+        }
+        (Err(fault), Answer::Refused(word)) => match format!(in alloc; "{fault}") {
+            Ok(text) => text.as_bytes() == word,
+            Err(_) => false,
+        },
+        _ => false,
+    }
+}
+
+// The response to the request.
+fn response_of<'m>(
+    alloc: Global,
+    request: &MessageView<'_>,
+    text: &'m [u8],
+) -> Option<MessageView<'m>>
+    ensures { IfSome result (λ view.
+        IsMessage (is_head_request (message_in request.now).head.start) (message_in view)) }
+{
+    if text.len() > 1_000 {
+        return None;
+    }
+    match message_of_role(alloc, Reading::of_input(Some(request)), Role::Input, text) {
+        Ok(view) => Some(view),
+        Err(_) => None,
+    }
+}
+
+struct Negotiated {
+    conf: &'static [u8],
+    request: &'static [u8],
+    response: &'static [u8],
+    answer: Answer,
+}
+
+// A request for two signatures, the second over the first.
+const BOTH: &[u8] = b"GET / HTTP/1.1\r\nHost: h\r\n\
+    Accept-Signature: a=(\"content-digest\"), \
+    b=(\"signature\";key=\"a\" \"content-digest\")\r\n\r\n";
+
+const HELLO: &[u8] = b"HTTP/1.1 200 OK\r\nContent-Length: 18\r\n\r\n{\"hello\": \"world\"}";
+
+// The tags were made apart from this repository.
+const WITH_SHA_256: &[u8] = b"HTTP/1.1 200 OK\r\nContent-Length: 18\r\n\
+    Content-Digest: sha-256=:X48E9qOokqqrvdts8nOJRJN3OWDUoyWxBf7kbu9DBPE=:\r\n\
+    Signature-Input: sig1=(\"@status\" \"content-digest\")\
+    ;created=1618884473;keyid=\"test-shared-secret\"\r\n\
+    Signature: sig1=:/3Qk4Nyw+fNzc7nJnt7ELOzk+p7msZ8sKYc0+s6voNc=:\r\n\r\n\
+    {\"hello\": \"world\"}";
+
+const WITH_SHA_512: &[u8] = b"HTTP/1.1 200 OK\r\nContent-Length: 18\r\n\
+    Content-Digest: sha-512=:WZDPaVn/7XgHaAy8pmojAkGWoRx2UFChF41A2svX+TaPm+AbwAgBWnrIiYllu7BNNyea\
+    ldVLvRwEmTHWXvJwew==:\r\n\
+    Signature-Input: sig1=(\"@status\" \"content-digest\")\
+    ;created=1618884473;keyid=\"test-shared-secret\"\r\n\
+    Signature: sig1=:dCV3gqv0eoTb0pEcUd3jSwCUR7N7c4C5Q6b1N7NNx8w=:\r\n\r\n\
+    {\"hello\": \"world\"}";
+
+const WITH_BOTH: &[u8] = b"HTTP/1.1 200 OK\r\nContent-Length: 18\r\n\
+    Content-Digest: sha-256=:X48E9qOokqqrvdts8nOJRJN3OWDUoyWxBf7kbu9DBPE=:\r\n\
+    Signature-Input: a=(\"content-digest\");created=1618884473;keyid=\"test-shared-secret\"\r\n\
+    Signature: a=:gwlRaXDHuuuxHH+YETYoDsMV5/9/PscX7PAI8KW9BfE=:\r\n\
+    Signature-Input: b=(\"signature\";key=\"a\" \"content-digest\")\
+    ;created=1618884473;keyid=\"test-shared-secret\"\r\n\
+    Signature: b=:y8wLmPh1WBs3QuAGV3p/Dn9SC/gK+z4hd0H85U8V4Bw=:\r\n\r\n\
+    {\"hello\": \"world\"}";
+
+// A response with both digests and a signature, and the same with another one beside it.
+const SIGNED_BEFORE: &[u8] = b"HTTP/1.1 200 OK\r\nContent-Length: 18\r\n\
+    Content-Digest: sha-256=:X48E9qOokqqrvdts8nOJRJN3OWDUoyWxBf7kbu9DBPE=:, \
+    sha-512=:WZDPaVn/7XgHaAy8pmojAkGWoRx2UFChF41A2svX+TaPm+AbwAgBWnrIiYllu7BNNyealdVLvRwEmTHWXvJw\
+    ew==:\r\n\
+    Signature-Input: old=(\"@status\");created=1618884473;keyid=\"test-shared-secret\"\r\n\
+    Signature: old=:EapX26RbmWsmRo0hrlBKnfzIQq25z69O/tMHqHBfAn8=:\r\n\r\n\
+    {\"hello\": \"world\"}";
+
+const SIGNED_AGAIN: &[u8] = b"HTTP/1.1 200 OK\r\nContent-Length: 18\r\n\
+    Content-Digest: sha-256=:X48E9qOokqqrvdts8nOJRJN3OWDUoyWxBf7kbu9DBPE=:, \
+    sha-512=:WZDPaVn/7XgHaAy8pmojAkGWoRx2UFChF41A2svX+TaPm+AbwAgBWnrIiYllu7BNNyealdVLvRwEmTHWXvJw\
+    ew==:\r\n\
+    Signature-Input: old=(\"@status\");created=1618884473;keyid=\"test-shared-secret\"\r\n\
+    Signature: old=:EapX26RbmWsmRo0hrlBKnfzIQq25z69O/tMHqHBfAn8=:\r\n\
+    Signature-Input: new=(\"signature\";key=\"old\" \"content-digest\" \"@method\";req)\
+    ;created=1618884473;keyid=\"test-shared-secret\"\r\n\
+    Signature: new=:viNda9Qkhdkc9eqn4cSpT+ijVs2sqlLCek5sxUb1yO4=:\r\n\r\n\
+    {\"hello\": \"world\"}";
+
+const NEGOTIATED: [Negotiated; 5] = [
+    Negotiated {
+        conf: CONF,
+        request: b"GET / HTTP/1.1\r\nHost: h\r\nWant-Content-Digest: sha-512=3, sha-256=10\r\n\
+            Accept-Signature: sig1=(\"@status\" \"content-digest\");created\r\n\r\n",
+        response: HELLO,
+        answer: Answer::Written(WITH_SHA_256),
+    },
+    // Of the same preferences the first is taken, whatever is configured.
+    Negotiated {
+        conf: CONF_OF_DIGEST,
+        request: b"GET / HTTP/1.1\r\nHost: h\r\nWant-Content-Digest: sha-512=5, sha-256=5\r\n\
+            Accept-Signature: sig1=(\"@status\" \"content-digest\");created\r\n\r\n",
+        response: HELLO,
+        answer: Answer::Written(WITH_SHA_512),
+    },
+    Negotiated {
+        conf: CONF,
+        request: b"GET / HTTP/1.1\r\nHost: h\r\nWant-Content-Digest: sha-256=5, sha-512=5\r\n\
+            Accept-Signature: sig1=(\"@status\" \"content-digest\");created\r\n\r\n",
+        response: HELLO,
+        answer: Answer::Written(WITH_SHA_256),
+    },
+    Negotiated {
+        conf: CONF_OF_DIGEST,
+        request: BOTH,
+        response: HELLO,
+        answer: Answer::Written(WITH_BOTH),
+    },
+    Negotiated {
+        conf: CONF,
+        request: b"GET / HTTP/1.1\r\nHost: h\r\nWant-Content-Digest: sha-256=1\r\n\
+            Accept-Signature: \
+            new=(\"signature\";key=\"old\" \"content-digest\" \"@method\";req)\r\n\r\n",
+        response: SIGNED_BEFORE,
+        answer: Answer::Written(SIGNED_AGAIN),
+    },
+];
+
+// Beside each cause but the last there is one that is judged after it.
+const UNMET: [Negotiated; 7] = [
+    Negotiated {
+        conf: CONF,
+        request: b"GET / HTTP/1.1\r\nWant-Content-Digest: sha-256=11, sha-512=0\r\n\
+            Accept-Signature: a=(), b=1\r\n\r\n",
+        response: b"HTTP/1.1 200\r\nContent-Digest: (\r\nSignature: (\r\n\r\n",
+        answer: Answer::Refused(b"wish-malformed"),
+    },
+    Negotiated {
+        conf: CONF,
+        request: b"GET / HTTP/1.1\r\nWant-Content-Digest: sha-256=0, md5=10\r\n\
+            Accept-Signature: a=(), b=1\r\n\r\n",
+        response: b"HTTP/1.1 200\r\nContent-Digest: (\r\nSignature: (\r\n\r\n",
+        answer: Answer::Refused(b"wish-unacceptable"),
+    },
+    Negotiated {
+        conf: CONF,
+        request: b"GET / HTTP/1.1\r\nWant-Content-Digest: sha-256=1\r\n\
+            Accept-Signature: a=(), b=1\r\n\r\n",
+        response: b"HTTP/1.1 200\r\nContent-Digest: sha-256=:AAAA:\r\nSignature: (\r\n\r\n",
+        answer: Answer::Refused(b"wish-digest"),
+    },
+    // The digest is right, and the other one is asked for.
+    Negotiated {
+        conf: CONF,
+        request: b"GET / HTTP/1.1\r\nWant-Content-Digest: sha-512=2, sha-256=1\r\n\
+            Accept-Signature: a=(), b=1\r\n\r\n",
+        response: b"HTTP/1.1 200\r\nSignature: (\r\nContent-Length: 18\r\n\
+            Content-Digest: sha-256=:X48E9qOokqqrvdts8nOJRJN3OWDUoyWxBf7kbu9DBPE=:\r\n\r\n\
+            {\"hello\": \"world\"}",
+        answer: Answer::Refused(b"wish-digest"),
+    },
+    Negotiated {
+        conf: CONF,
+        request: b"GET / HTTP/1.1\r\nWant-Content-Digest: sha-256=1\r\n\
+            Accept-Signature: a=(), b=1\r\n\r\n",
+        response: b"HTTP/1.1 200\r\nSignature: (\r\n\r\n",
+        answer: Answer::Refused(b"wanted-list 1"),
+    },
+    Negotiated {
+        conf: CONF,
+        request: b"GET / HTTP/1.1\r\nWant-Content-Digest: sha-256=1\r\n\
+            Accept-Signature: a=(), b=(\"@status\" \"signature\")\r\n\r\n",
+        response: b"HTTP/1.1 200\r\nSignature: (\r\n\r\n",
+        answer: Answer::Unsigned(0, SignFault::SignatureMalformed),
+    },
+    Negotiated {
+        conf: CONF,
+        request: b"GET / HTTP/1.1\r\nWant-Content-Digest: sha-256=1\r\n\
+            Accept-Signature: a=(), b=(\"@status\" \"signature\")\r\n\r\n",
+        response: b"HTTP/1.1 200\r\n\r\n",
+        answer: Answer::Unsigned(1, SignFault::SelfCover(1)),
+    },
+];
+
+fn is_negotiated(alloc: Global, row: &Negotiated) -> bool {
+    let Ok(conf) = read_conf(alloc, row.conf) else {
+        return false;
+    };
+    let Some(_) = conf.sign() else {
+        return false;
+    };
+    let Some(request) = message_of(alloc, row.request) else {
+        return false;
+    };
+    let Some(response) = response_of(alloc, &request, row.response) else {
+        return false;
+    };
+    let context = Context {
+        message: &response,
+        related: Some(&request),
+        scheme: conf.scheme(),
+        types: conf.types(),
+    };
+    let answered = negotiate(alloc, &context, &conf, MOMENT);
+    is_answer(alloc, &answered, row.answer)
+}
+
+#[test]
+fn responses_are_signed_as_their_requests_ask(rt: HostRuntime) {
+    for (index, row) in NEGOTIATED.iter().enumerate() {
+        assert!(rt; is_negotiated(rt.alloc(), row), "at {index}");
+    }
+}
+
+#[test]
+fn the_first_cause_against_a_response_is_answered(rt: HostRuntime) {
+    for (index, row) in UNMET.iter().enumerate() {
+        assert!(rt; is_negotiated(rt.alloc(), row), "at {index}");
+    }
+}
+
+// Whether the wishes of the request come to the text: each signed in order, and by the command
+// `sign`.
+fn are_signed(alloc: Global, conf: &Conf, context: &Context<'_, '_>, written: &[u8]) -> bool
+    requires table { IsSome (meaning conf.now).sign }
+    requires whole { HasWholeMessage (context_of context.now) }
+{
+    let Some(request) = context.related else {
+        return false;
+    };
+    let Ok(specs) = wanted(alloc, request, conf, MOMENT) else {
+        return false;
+    };
+    let Ok(text) = sign_each(alloc, context, specs.as_slice()) else {
+        return false;
+    };
+    match wished_outcome(alloc, conf, MOMENT, request, context) {
+        Ok(Outcome::Done(output)) => text.bytes() == written && output.bytes() == written,
+        _ => false,
+    }
+}
+
+// Whether nothing is added where nothing is to be signed, and a second signature of a label isn't
+// made.
+fn is_label_signed_once(alloc: Global, conf: &Conf, context: &Context<'_, '_>) -> bool
+    requires whole { HasWholeMessage (context_of context.now) }
+{
+    let Some(first) = asked_of(alloc, conf, false, false) else {
+        return false;
+    };
+    let Some(second) = asked_of(alloc, conf, false, true) else {
+        return false;
+    };
+    let Ok(text) = sign_each(alloc, context, &[]) else {
+        return false;
+    };
+    if text.bytes() != context.message.bytes() {
+        return false;
+    }
+    match sign_each(alloc, context, &[first, second]) {
+        Ok(_) => false,
+        Err(fault) => fault == EachFault::Sign(1, SignFault::LabelThere),
+    }
+}
+
+fn is_each_signed(alloc: Global, text: &[u8]) -> bool {
+    let Ok(conf) = read_conf(alloc, CONF_OF_DIGEST) else {
+        return false;
+    };
+    let Some(_) = conf.sign() else {
+        return false;
+    };
+    let Some(request) = message_of(alloc, BOTH) else {
+        return false;
+    };
+    let Some(response) = response_of(alloc, &request, text) else {
+        return false;
+    };
+    let context = Context {
+        message: &response,
+        related: Some(&request),
+        scheme: conf.scheme(),
+        types: conf.types(),
+    };
+    are_signed(alloc, &conf, &context, WITH_BOTH) && is_label_signed_once(alloc, &conf, &context)
+}
+
+#[test]
+fn each_wish_is_signed_over_the_message_before_it(rt: HostRuntime) {
+    assert!(rt; is_each_signed(rt.alloc(), HELLO));
 }
