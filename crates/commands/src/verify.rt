@@ -105,6 +105,28 @@ fn asked_labels(
     }
 }
 
+/// The lines of the verdicts on the labels that are asked for.
+fn report_labels(
+    alloc: Global,
+    conf: &Conf,
+    now: u64,
+    label: Option<&str>,
+    exchange: &mut Exchange<'_, '_>,
+) -> Result<Outcome, Memory>
+    requires { now ≤ MAX_MOMENT }
+    ensures { IfOk result (ReportsVerdicts (option_map (λ word. word.now) label.entry)
+        now (meaning conf.now) exchange.old.context) }
+{
+    let labels = asked_labels(alloc, label, exchange)?;
+    let verifier = Verifier {
+        conf,
+        moment: now,
+        seen: None,
+    };
+    let blank = Blank::new(1);
+    write_lines::<Brand>(alloc, exchange, &verifier, labels.as_slice(), blank)
+}
+
 /// The lines of the verdicts on the labels that are asked for: on the given one, whether or not the
 /// message has it, or else on each that the message has, and on `-` where it has none. The moment
 /// is in seconds since the epoch. No nonce is remembered.
@@ -120,12 +142,5 @@ pub fn verify_outcome(
         now (meaning conf.now) (context_of context.now)) }
 {
     let mut exchange = Exchange::new(alloc, *context);
-    let labels = asked_labels(alloc, label, &mut exchange)?;
-    let verifier = Verifier {
-        conf,
-        moment: now,
-        seen: None,
-    };
-    let blank = Blank::new(1);
-    write_lines::<Brand>(alloc, &mut exchange, &verifier, labels.as_slice(), blank)
+    report_labels(alloc, conf, now, label, &mut exchange)
 }

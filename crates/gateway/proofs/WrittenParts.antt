@@ -1,5 +1,5 @@
 -- Texts that are written in parts.
-use Rattle.std.proofs.Common.{◌≡◌, ◌+◌, ◌≤◌, ℕ, Bool, List, ◌++◌, length, take, codes, append-nil, Option, Some, Result, Ok, Err, sym, subst, ◌∙◌, arith}
+use Rattle.std.proofs.Common.{◌≡◌, ◌+◌, ◌≤◌, ℕ, Bool, List, [], ◌++◌, length, take, codes, append-nil, Option, Some, Result, Ok, Err, sym, ap, subst, ◌∙◌, arith}
 use Rattle.std.specs.Prelude.{IfOk, IsErrAnd}
 use Rattle.std.proofs.Math.Bool.{and-true}
 use Rattle.std.proofs.lemmas.List.{length-append, take-append-le}
@@ -46,6 +46,10 @@ failed_end answer index label message line written a b c d is line_is same whole
     subst (λ (r : GatewayRecord). AppendsPart a d (record_line answer ++ passed_text r)) (sym is) all
 
 -- ---- what a call answers
+
+-- what is appended to nothing is all there is
+pub appended_alone : (bytes line begun more : List ℕ) → bytes ≡ line → line ≡ begun ++ more → begun ≡ [] → bytes ≡ more
+appended_alone bytes line begun more bytes_are line_is none = bytes_are ∙ (line_is ∙ ap (λ (t : List ℕ). t ++ more) none)
 
 -- the fault of a `?` is this one
 pub as_fault : (P : Result Bool StreamFault → Type 0) (own : StreamFault) (result : Result Bool StreamFault) → IsErrAnd result (λ e. e ≡ own) → P (Err own) → P result

@@ -50,46 +50,44 @@ fn append_bad(alloc: Global, fault: BadFault, line: &mut Text) -> Result<(), Mem
     }
 }
 
-/// The line of a record. That of a message that passes says how many bytes come after it.
-fn line_of(alloc: Global, answer: &GatewayRecord) -> Result<Text, Memory>
+/// Appends the line of a record. That of a message that passes says how many bytes come after it.
+fn append_line(alloc: Global, answer: &GatewayRecord, line: &mut Text) -> Result<(), Memory>
     requires { IsTrue (is_record_in_range answer.now) }
-    ensures { IfOk result (λ line. line ≡ record_line answer.now) }
+    ensures { OnOk result (line.new ≡ line.old ++ record_line answer.now) }
 {
-    let mut line = Text::new(alloc);
     match answer {
         GatewayRecord::Pass {
             index,
             label,
             message,
         } => {
-            append_number(alloc, b"pass ", *index, &mut line)?;
-            append_words(b" ", label.bytes(), &mut line)?;
-            append_number(alloc, b" ", message.bytes().len(), &mut line)?;
-            line.append(b"\n")?;
+            append_number(alloc, b"pass ", *index, line)?;
+            append_words(b" ", label.bytes(), line)?;
+            append_number(alloc, b" ", message.bytes().len(), line)?;
+            line.append(b"\n")
         }
         GatewayRecord::Stop {
             index,
             label,
             verdict,
         } => {
-            append_number(alloc, b"stop ", *index, &mut line)?;
+            append_number(alloc, b"stop ", *index, line)?;
             line.append(b" ")?;
-            append_verdict_line(alloc, label.bytes(), verdict, &mut line)?;
+            append_verdict_line(alloc, label.bytes(), verdict, line)
         }
         GatewayRecord::Held { index, fault } => {
-            append_number(alloc, b"held ", *index, &mut line)?;
+            append_number(alloc, b"held ", *index, line)?;
             line.append(b" ")?;
-            append_held(alloc, fault, &mut line)?;
-            line.append(b"\n")?;
+            append_held(alloc, fault, line)?;
+            line.append(b"\n")
         }
         GatewayRecord::Bad { index, fault } => {
-            append_number(alloc, b"bad ", *index, &mut line)?;
+            append_number(alloc, b"bad ", *index, line)?;
             line.append(b" ")?;
-            append_bad(alloc, *fault, &mut line)?;
-            line.append(b"\n")?;
+            append_bad(alloc, *fault, line)?;
+            line.append(b"\n")
         }
     }
-    Ok(line)
 }
 
 /// Writes the record, and answers whether the message passes. Out of memory nothing is written.
@@ -106,7 +104,8 @@ pub(crate) fn write_record<K: Sink>(
     ensures later { K.faults sink.old ≤ K.faults sink.new }
     ensures idle { K.idle sink.new ≤ K.idle sink.old + failed_writes result }
 {
-    let line = line_of(alloc, answer)?;
+    let mut line = Text::new(alloc);
+    append_line(alloc, answer, &mut line)?;
     put_all(sink, line.bytes())?;
     if let GatewayRecord::Pass { message, .. } = answer {
         put_all(sink, message.bytes())?;

@@ -13,7 +13,6 @@ use verdicts::{SignedLabel, Verdict, Verifier};
 
 /// A message of a chain with its moment, all that is read of it, each part once, and what is known
 /// of the tags of its labels. A contract sees what its labels are judged by.
-#[derive(Drop)]
 pub(crate) struct Stage<'a, 'r> {
     conf: &'a Conf,
     /// In seconds since the epoch.
@@ -21,6 +20,20 @@ pub(crate) struct Stage<'a, 'r> {
     pub(crate) exchange: Exchange<'a, 'r>,
     pub(crate) signatures: MessageSignatures,
     pub(crate) known: KnownTags,
+}
+
+// Dropped by one call: each function that holds a stage would else drop each of its parts in turn,
+// at each of its ends, and be proved so.
+impl<'a, 'r> Drop for Stage<'a, 'r> {
+    fn drop(self) {
+        let Stage {
+            conf: _,
+            moment: _,
+            exchange: _,
+            signatures: _,
+            known: _,
+        } = self;
+    }
 }
 
 impl<'a, 'r> Model for Stage<'a, 'r> {

@@ -2,12 +2,12 @@ use Rattle.std.proofs.Common.{◌≡◌, ◌≤◌, ◌+◌, arith}
 use Rattle.gateway.specs.RecordTexts.{record_line, record_text}
 use Rattle.gateway.specs.declared.fault.StreamFault.TheVariants.{NotWritten}
 use Rattle.gateway.specs.tools.HeldStreams.{WritesText}
-use Rattle.gateway.proofs.WrittenParts.{as_fault, failed_end, failed_message, failed_once}
+use Rattle.gateway.proofs.WrittenParts.{appended_alone, as_fault, failed_end, failed_message, failed_once}
 use Rattle.gateway.proofs.record_text.write_record.Goals as goal
 
 pub returns-in_err-put_all-2-clause-writes : goal.returns-in_err-put_all-2-clause-writes
 returns-in_err-put_all-2-clause-writes g c =
-    let line_is : c.bytes.result.now ≡ record_line c.args.answer.now = cc (c.bytes.ensures, c.in_ok-line.ensures) in
+    let line_is : c.bytes.result.now ≡ record_line c.args.answer.now = appended_alone _ _ _ _ c.bytes.ensures c.in_ok-append_line.ensures c.new-line.ensures in
     as_fault (WritesText (record_text c.args.answer.now) (g.K.Sink.taken c.args.sink.now) (g.K.Sink.taken c.put_all-in-Pass.new.sink)) NotWritten c.from_residual-in_err-put_all-2.result
     c.from_residual-in_err-put_all-2.ensures.1
     (failed_message c.args.answer.now c.in-Pass.index c.in-Pass.label c.in-Pass.message c.bytes.result.now c.bytes-in-Pass.result.now (g.K.Sink.taken c.args.sink.now) (g.K.Sink.taken c.put_all.new.sink)
@@ -15,7 +15,7 @@ returns-in_err-put_all-2-clause-writes g c =
 
 pub returns-in_err-put_all-3-clause-writes : goal.returns-in_err-put_all-3-clause-writes
 returns-in_err-put_all-3-clause-writes g c =
-    let line_is : c.bytes.result.now ≡ record_line c.args.answer.now = cc (c.bytes.ensures, c.in_ok-line.ensures) in
+    let line_is : c.bytes.result.now ≡ record_line c.args.answer.now = appended_alone _ _ _ _ c.bytes.ensures c.in_ok-append_line.ensures c.new-line.ensures in
     as_fault (WritesText (record_text c.args.answer.now) (g.K.Sink.taken c.args.sink.now) (g.K.Sink.taken c.put_all-in-Pass-2.new.sink)) NotWritten c.from_residual-in_err-put_all-3.result
     c.from_residual-in_err-put_all-3.ensures.1
     (failed_end c.args.answer.now c.in-Pass.index c.in-Pass.label c.in-Pass.message c.bytes.result.now c.bytes-in-Pass.result.now (g.K.Sink.taken c.args.sink.now) (g.K.Sink.taken c.put_all.new.sink)
