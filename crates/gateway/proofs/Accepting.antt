@@ -6,6 +6,7 @@ use Rattle.std.proofs.lemmas.List.{take_all}
 use Rattle.std.proofs.lemmas.Option.{slice_get-get_or}
 use Rattle.byte_grammar.specs.Causes.{AnswersWhere}
 use Rattle.msg_body.specs.Messages.{Message}
+use Rattle.component_ids.specs.declared.params.SigParams.{SigParams}
 use Rattle.signatures.specs.Rules.{IsLabelUnread}
 use Rattle.signatures.specs.Signatures.{HasSignature}
 use Rattle.signatures.specs.declared.label.LabelFault.{LabelFault}
@@ -20,7 +21,7 @@ use Rattle.verdicts.specs.declared.outcome.Verdict.TheVariants.{Ok as Accepted, 
 use Rattle.verdicts.proofs.Judging.{has_one_verdict, unread_is_first}
 use Rattle.gateway.specs.Accepted.{AreRefused, IsFirstAccepted, IsRefusal}
 use Rattle.gateway.specs.declared.accepted.AcceptedLabel.{AcceptedLabel}
-use Rattle.gateway.specs.tools.Judged.{IsAcceptedLabel, IsFirstLabel, SaysUnread}
+use Rattle.gateway.specs.tools.Judged.{IsAcceptedLabel, IsFirstLabel, IsJudgedBy, IsJudgedLabel}
 
 -- the verdict says that the label isn't accepted
 abbrev IsRefusedBy : Verification → Verdict → Type 0
@@ -35,11 +36,17 @@ pub not_accepted : (v : Verification) (rule : Rule) (place : Place) → IsVerdic
 not_accepted v rule place fails = never_accepted v (Refused rule place) (fails, refl)
 
 -- nor is one that isn't read
-pub unread_verdict : (v : Verification) (fault : LabelFault) (verdict : Verdict) (result : Result LabelRead LabelFault)
-    → ((rule : Rule) (place : Place) → AnswersWhere OutOfMemory result (Unread rule place) (IsLabelUnread v.context.message v.label rule place)) → result ≡ Err fault → SaysUnread fault verdict → IsRefusedBy v verdict
-unread_verdict v OutOfMemory verdict result says is told = absurd told
-unread_verdict v (Unread rule place) verdict result says is told =
-    subst (IsRefusedBy v) (sym told) (unread_is_first v rule place ((says rule place).only is), refl)
+pub unread_label : (message : Message) (v : Verification) (rule : Rule) (place : Place) (result : Result LabelRead LabelFault)
+    → ((r : Rule) (p : Place) → AnswersWhere OutOfMemory result (Unread r p) (IsLabelUnread v.context.message v.label r p)) → result ≡ Err (Unread rule place) → IsJudgedLabel message v (Err (Refused rule place))
+unread_label message v rule place result says is = (unread_is_first v rule place ((says rule place).only is), refl)
+
+-- what comes of a label that was read, by the verdict on it
+pub judged_label : (message : Message) (v : Verification) (params : SigParams) (tag : List ℕ) (verdict : Verdict) (given : Result AcceptedLabel Verdict) → HasSignature message v.label params tag → IsVerdict v verdict
+    → IsJudgedBy v.label params verdict given → IsJudgedLabel message v given
+judged_label message v params tag (Accepted keyid) given has is told =
+    subst (IsJudgedLabel message v) (sym told) (is, record { label_is = refl; keyid_is = refl; tag = tag; signature = has })
+judged_label message v params tag (Refused rule place) given has is told =
+    subst (IsJudgedLabel message v) (sym told) (is, refl)
 
 module _ (judged_by : List ℕ → Verification) where
   abbrev IsNotAccepted : List ℕ → Type 0

@@ -3,7 +3,7 @@
 ghost use Rattle.std.specs.Prelude.{◌≡◌, ◌≢◌, ◌≤◌, [], IfOk, MatchOption, option_copied};
 ghost use Rattle.verdicts.specs.Verification.{IsAt, verification_by};
 ghost use Rattle.gateway.specs.Accepted.{AreRefused};
-ghost use Rattle.gateway.specs.tools.Judged.{IsFirstLabel, IsJudged, IsJudgedLabel, SaysUnread};
+ghost use Rattle.gateway.specs.tools.Judged.{IsFirstLabel, IsJudged, IsJudgedBy, IsJudgedLabel};
 
 use component_ids::SigParams;
 use nonces::Steps;
@@ -31,13 +31,25 @@ pub(crate) enum Judged {
     Refused { label: Text, verdict: Verdict },
 }
 
-/// The verdict on a label that isn't read.
-fn verdict_of(fault: LabelFault) -> Result<Verdict, Memory>
-    ensures { IfOk result (SaysUnread fault) }
+/// The label with these signature parameters, where the verdict accepts it, or else the verdict.
+fn judged_by(
+    alloc: Global,
+    label: &[u8],
+    params: SigParams,
+    verdict: Verdict,
+) -> Result<Result<AcceptedLabel, Verdict>, Memory>
+    ensures { IfOk result (IsJudgedBy label.now params verdict) }
 {
-    match fault {
-        LabelFault::Memory => Err(Memory),
-        LabelFault::Rule(number, place) => Ok(Verdict::Rule { number, place }),
+    match verdict {
+        Verdict::Ok { keyid } => {
+            let label = Text::from_bytes(alloc, label)?;
+            Ok(Ok(AcceptedLabel {
+                label,
+                keyid,
+                params,
+            }))
+        }
+        Verdict::Rule { number, place } => Ok(Err(Verdict::Rule { number, place })),
     }
 }
 
@@ -55,22 +67,20 @@ fn judge_label<L: Ledger>(
     ensures exchange { exchange.new.context ≡ exchange.old.context }
     ensures steps { steps.old ≤ steps.new }
 {
-    let read = match exchange.label(alloc, label) {
-        Ok(read) => read,
-        Err(fault) => return Ok(Err(verdict_of(fault)?)),
-    };
-    let signed = SignedLabel {
-        label,
-        read: &read,
-        is_right: None,
-    };
-    match verifier.verdict_on(alloc, exchange, &signed, steps)? {
-        Verdict::Ok { keyid } => Ok(Ok(AcceptedLabel {
-            label: Text::from_bytes(alloc, label)?,
-            keyid,
-            params: read.params,
-        })),
-        Verdict::Rule { number, place } => Ok(Err(Verdict::Rule { number, place })),
+    match exchange.label(alloc, label) {
+        Ok(read) => {
+            let signed = SignedLabel {
+                label,
+                read: &read,
+                is_right: None,
+            };
+            let verdict = verifier.verdict_on(alloc, exchange, &signed, steps)?;
+            judged_by(alloc, label, read.params, verdict)
+        }
+        Err(fault) => match fault {
+            LabelFault::Memory => Err(Memory),
+            LabelFault::Rule(number, place) => Ok(Err(Verdict::Rule { number, place })),
+        },
     }
 }
 
@@ -93,7 +103,7 @@ fn first_accepted<L: Ledger>(
     for label in labels {
         match judge_label(alloc, exchange, verifier, label.bytes(), steps)? {
             Ok(accepted) => return Ok(Some(accepted)),
-            Err(_) => (),
+            Err(verdict) => drop(verdict),
         }
     }
     Ok(None)

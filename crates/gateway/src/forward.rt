@@ -192,8 +192,7 @@ impl<'a> Forwarding<'a> {
         };
         match self.meet_text(alloc, context, text, steps)? {
             Some(met) => Ok(met),
-            // what was given is a message
-            None => unreachable!(),
+            None => unreachable!(), // what was given is a message
         }
     }
 

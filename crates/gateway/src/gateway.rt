@@ -9,11 +9,12 @@ ghost use Rattle.recording.specs.declared.limits.TheConstants.{MAX_ITEMS};
 ghost use Rattle.settings.specs.ConfMeaning.{meaning};
 ghost use Rattle.settings.specs.ValidSections.{IsValidGateway};
 ghost use Rattle.settings.specs.declared.gateway_conf.GatewayConf.{GatewayConf};
-ghost use Rattle.gateway.specs.Arrivals.{IsSized, arrival_of, arrival_reading};
+ghost use Rattle.gateway.specs.Arrivals.{IsAnswered, IsSized, arrival_of, arrival_reading};
 ghost use Rattle.gateway.specs.RecordTexts.{is_record_in_range};
 ghost use Rattle.gateway.specs.Records.{Answers};
 ghost use Rattle.gateway.specs.Seen.{IsAdvanced, nothing_seen};
-ghost use Rattle.gateway.specs.tools.Judged.{IsAcceptedLabel, IsOutcome, IsOutcomeOf, MayBeRemembered, RemembersAccepted, SaysForwardedFrom, SaysRelated, related_read};
+ghost use Rattle.gateway.specs.declared.accepted.Judged.{Judged};
+ghost use Rattle.gateway.specs.tools.Judged.{IsAnswerOf, IsOutcome, IsOutcomeOf, MayBeRemembered, SaysJudged, SaysRelated, related_read};
 
 use crate::accepted::{AcceptedLabel, Judged, judge};
 use crate::arrival::Arrival;
@@ -120,10 +121,8 @@ impl Outcome {
     fn refused(answer: GatewayRecord) -> Outcome
         ensures { result ≡ record { answer = answer; accepted = None } }
     {
-        Outcome {
-            answer,
-            accepted: None,
-        }
+        let accepted = None;
+        Outcome { answer, accepted }
     }
 }
 
@@ -140,11 +139,8 @@ impl<'c> Gateway<'c> {
         }) }
     {
         let book = NonceBook::open(alloc, conf.nonces(), window_of(conf), now)?;
-        Ok(Gateway {
-            conf,
-            book,
-            count: 0,
-        })
+        let count = 0;
+        Ok(Gateway { conf, book, count })
     }
 
     /// The nonces that it remembers. The moment is that of the last message, or of `open`.
@@ -176,18 +172,35 @@ impl<'c> Gateway<'c> {
         }
     }
 
-    /// What becomes of the exchange's message, where the label is accepted.
+    /// What comes of the labels of a message that are asked for.
+    fn judge_asked<L: Ledger>(
+        &self,
+        alloc: Global,
+        exchange: &mut Exchange<'_, '_>,
+        steps: &mut Steps<L>,
+    ) -> Result<Judged, Memory>
+        ensures judged { IfOk result (SaysJudged self.now exchange.old.context) }
+        ensures exchange { exchange.new.context ≡ exchange.old.context }
+        ensures steps { steps.old ≤ steps.new }
+    {
+        let (conf, moment) = (self.conf, self.book.moment());
+        let seen = Some(&self.book);
+        let verifier = Verifier { conf, moment, seen };
+        let labels = asked_labels(alloc, self.label(), exchange)?;
+        judge(alloc, exchange, &verifier, labels.as_slice(), steps)
+    }
+
+    /// The record of the exchange's message, of which the label is accepted.
     fn forward(
         &self,
         alloc: Global,
         exchange: &Exchange<'_, '_>,
         accepted: &AcceptedLabel,
-    ) -> Result<Forwarded, Memory>
+    ) -> Result<GatewayRecord, Memory>
         requires whole { HasWholeMessage exchange.now.context }
-        requires accepted { IsAcceptedLabel exchange.now.context.message accepted.now.label
-            accepted.now.keyid accepted.now }
+        requires judged { SaysJudged self.now exchange.now.context (Judged.Accepted accepted.now) }
         ensures { (settings : GatewayConf) → self.now.conf.gateway ≡ Some settings → IfOk result
-            (SaysForwardedFrom settings self.now exchange.now.context accepted.now) }
+            (IsAnswerOf settings self.now exchange.now.context accepted.now) }
     {
         self.book.keeps_limits();
         let forwarding = Forwarding {
@@ -196,7 +209,15 @@ impl<'c> Gateway<'c> {
             accepted,
         };
         let steps = self.settings().steps.as_slice();
-        forwarding.forward(alloc, &exchange.context(), steps)
+        let index = self.count;
+        match forwarding.forward(alloc, &exchange.context(), steps)? {
+            Forwarded::Signed(message) => Ok(GatewayRecord::Pass {
+                index,
+                label: accepted.label.copy(alloc)?,
+                message,
+            }),
+            Forwarded::Held(fault) => Ok(GatewayRecord::Held { index, fault }),
+        }
     }
 
     /// What comes of a message that was read.
@@ -212,35 +233,48 @@ impl<'c> Gateway<'c> {
         ensures now { IfOk result (λ outcome. MayBeRemembered self.now outcome.accepted) }
         ensures steps { steps.old ≤ steps.new }
     {
-        let verifier = Verifier {
-            conf: self.conf,
-            moment: self.book.moment(),
-            seen: Some(&self.book),
-        };
-        let labels = asked_labels(alloc, self.label(), exchange)?;
-        let index = self.count;
-        let accepted = match judge(alloc, exchange, &verifier, labels.as_slice(), steps)? {
-            Judged::Accepted(accepted) => accepted,
-            Judged::Refused { label, verdict } => {
-                return Ok(Outcome::refused(GatewayRecord::Stop {
-                    index,
-                    label,
-                    verdict,
-                }));
+        match self.judge_asked(alloc, exchange, steps)? {
+            Judged::Accepted(accepted) => {
+                let answer = self.forward(alloc, exchange, &accepted)?;
+                let accepted = Some(accepted);
+                Ok(Outcome { answer, accepted })
             }
-        };
-        let answer = match self.forward(alloc, exchange, &accepted)? {
-            Forwarded::Signed(message) => GatewayRecord::Pass {
-                index,
-                label: accepted.label.copy(alloc)?,
-                message,
-            },
-            Forwarded::Held(fault) => GatewayRecord::Held { index, fault },
-        };
-        Ok(Outcome {
-            answer,
-            accepted: Some(accepted),
-        })
+            Judged::Refused { label, verdict } => Ok(Outcome::refused(GatewayRecord::Stop {
+                index: self.count,
+                label,
+                verdict,
+            })),
+        }
+    }
+
+    /// What comes of a message, of which this is the request that it answers.
+    fn judge_read<L: Ledger>(
+        &self,
+        alloc: Global,
+        arrival: Arrival<'_>,
+        related: Option<&MessageView<'_>>,
+        steps: &mut Steps<L>,
+    ) -> Result<Outcome, Memory>
+        requires sized { IsSized (arrival_of arrival) }
+        requires answers { IsAnswered (arrival_of arrival).related
+            (option_map (λ request. message_of request.now) related) }
+        ensures is { (settings : GatewayConf) → self.now.conf.gateway ≡ Some settings → IfOk result
+            (IsOutcome settings self.now (arrival_of arrival.entry)) }
+        ensures now { IfOk result (λ outcome. MayBeRemembered self.now outcome.accepted) }
+        ensures steps { steps.old ≤ steps.new }
+    {
+        let index = self.count;
+        let reading = reading_of(arrival, related);
+        match whole_message(alloc, reading, arrival.text()) {
+            Ok(message) => {
+                let mut exchange = Exchange::of(alloc, message, related, self.conf);
+                self.judge_message(alloc, &mut exchange, steps)
+            }
+            Err(fault) => {
+                let fault = BadFault::Message(bad_fault(fault)?);
+                Ok(Outcome::refused(GatewayRecord::Bad { index, fault }))
+            }
+        }
     }
 
     /// What comes of a message.
@@ -257,34 +291,9 @@ impl<'c> Gateway<'c> {
         ensures steps { steps.old ≤ steps.new }
     {
         let index = self.count;
-        let related = match related_request(alloc, arrival)? {
-            Ok(related) => related,
-            Err(fault) => return Ok(Outcome::refused(GatewayRecord::Bad { index, fault })),
-        };
-        let reading = reading_of(arrival, related.as_ref());
-        match whole_message(alloc, reading, arrival.text()) {
-            Ok(message) => {
-                let mut exchange = Exchange::of(alloc, message, related.as_ref(), self.conf);
-                self.judge_message(alloc, &mut exchange, steps)
-            }
-            Err(fault) => {
-                let fault = BadFault::Message(bad_fault(fault)?);
-                Ok(Outcome::refused(GatewayRecord::Bad { index, fault }))
-            }
-        }
-    }
-
-    /// Remembers the nonce of the label that is accepted, if any.
-    fn keep_nonce<L: Ledger>(&mut self, accepted: Option<AcceptedLabel>, steps: &mut Steps<L>)
-        requires { MayBeRemembered self.old accepted }
-        ensures remembers { RemembersAccepted self.old.conf accepted self.old.seen self.new.seen }
-        ensures moment { self.new.seen.moment ≡ self.old.seen.moment }
-        ensures count { self.new.count ≡ self.old.count }
-        ensures conf { self.new.conf ≡ self.old.conf }
-        ensures steps { steps.old ≤ steps.new }
-    {
-        if let Some(accepted) = accepted {
-            remember(&mut self.book, self.conf, &accepted, steps);
+        match related_request(alloc, arrival)? {
+            Ok(related) => self.judge_read(alloc, arrival, related.as_ref(), steps),
+            Err(fault) => Ok(Outcome::refused(GatewayRecord::Bad { index, fault })),
         }
     }
 
@@ -313,7 +322,7 @@ impl<'c> Gateway<'c> {
     {
         self.book.advance(now, steps);
         let Outcome { answer, accepted } = self.judge_arrival(alloc, arrival, steps)?;
-        self.keep_nonce(accepted, steps);
+        remember(&mut self.book, self.conf, accepted.as_ref(), steps);
         self.count += 1;
         Ok(answer)
     }

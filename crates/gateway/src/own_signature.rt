@@ -5,10 +5,11 @@ ghost use Rattle.component_values.specs.Context.{HasWholeMessage, MessageContext
 ghost use Rattle.nonces.specs.declared.limits.TheConstants.{MAX_MOMENT};
 ghost use Rattle.settings.specs.ConfMeaning.{meaning};
 ghost use Rattle.signing.specs.SignCauses.{IsSignFault};
+ghost use Rattle.signing.specs.Specs.{IsValidSpec};
 ghost use Rattle.signing.specs.declared.fault.SignFault.{SignFault};
 ghost use Rattle.component_ids.specs.declared.params.SigParams.{SigParams};
 ghost use Rattle.gateway.specs.Forwarded.{IsHeldFor};
-ghost use Rattle.gateway.specs.tools.Judged.{SaysForwarded};
+ghost use Rattle.gateway.specs.tools.Judged.{SaysForwarded, SaysSigned};
 ghost use Rattle.gateway.specs.tools.Walked.{HasSignatureOf};
 
 use crate::accepted::AcceptedLabel;
@@ -47,6 +48,28 @@ fn held_fault(alloc: Global, spec: &SignSpec, fault: SignFault) -> Result<HeldFa
     }
 }
 
+/// Signs the message as is asked, unless that changes what the accepted signature covers.
+fn sign_by(
+    alloc: Global,
+    context: &Context<'_, '_>,
+    spec: &SignSpec,
+    accepted: &AcceptedLabel,
+) -> Result<Forwarded, Memory>
+    requires valid { IsValidSpec spec.now }
+    requires whole { HasWholeMessage (context_of context.now) }
+    requires signature { HasSignatureOf accepted.now (context_of context.now).message }
+    ensures { IfOk result (SaysSigned (context_of context.now) accepted.now.params spec.now) }
+{
+    let text = match sign_beside(alloc, context, spec) {
+        Ok(text) => text,
+        Err(fault) => return Ok(Forwarded::Held(held_fault(alloc, spec, fault)?)),
+    };
+    match first_self_cover(spec.label.bytes(), accepted.params.ids.as_slice()) {
+        Some(_) => Ok(Forwarded::Held(HeldFault::Covered)),
+        None => Ok(Forwarded::Signed(text)),
+    }
+}
+
 /// Signs the message by the configuration, unless that changes what the accepted signature covers.
 pub(crate) fn sign_accepted(
     alloc: Global,
@@ -64,12 +87,5 @@ pub(crate) fn sign_accepted(
 {
     let of_request = is_request(context.message.start());
     let spec = spec_of(alloc, conf, of_request, now, None)?;
-    let text = match sign_beside(alloc, context, &spec) {
-        Ok(text) => text,
-        Err(fault) => return Ok(Forwarded::Held(held_fault(alloc, &spec, fault)?)),
-    };
-    match first_self_cover(spec.label.bytes(), accepted.params.ids.as_slice()) {
-        Some(_) => Ok(Forwarded::Held(HeldFault::Covered)),
-        None => Ok(Forwarded::Signed(text)),
-    }
+    sign_by(alloc, context, &spec, accepted)
 }

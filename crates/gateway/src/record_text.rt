@@ -1,7 +1,6 @@
 //! The text of a record. Each function adds its part at the end of the line.
 
 ghost use Rattle.std.specs.Prelude.{◌≡◌, ◌≤◌, ◌+◌, ◌++◌, IfOk, IsTrue, OnOk};
-ghost use Rattle.signing.specs.Words.{sign_fault_text};
 ghost use Rattle.gateway.specs.Records.{is_pass};
 ghost use Rattle.gateway.specs.RecordTexts.{bad_text, held_text, is_held_in_range, is_record_in_range, record_line, record_text};
 ghost use Rattle.gateway.specs.Served.{CountsSink, failed_writes};
@@ -12,23 +11,18 @@ use crate::gateway_record::{BadFault, GatewayRecord, HeldFault};
 use component_ids::print_id;
 use hms_io::{Sink, put_all};
 use sfv_text::{Memory, Text, append_number, append_words};
-use signing::SignFault;
 use std::alloc::Global;
 use verdicts::append_verdict_line;
-
-fn append_sign_fault(alloc: Global, fault: SignFault, line: &mut Text) -> Result<(), Memory>
-    ensures { OnOk result (line.new ≡ line.old ++ sign_fault_text fault) }
-{
-    let text = format!(in alloc; "{fault}")?;
-    line.append(text.as_bytes())
-}
 
 fn append_held(alloc: Global, fault: &HeldFault, line: &mut Text) -> Result<(), Memory>
     requires { IsTrue (is_held_in_range fault.now) }
     ensures { OnOk result (line.new ≡ line.old ++ held_text fault.now) }
 {
     match fault {
-        HeldFault::Sign(fault) => append_sign_fault(alloc, *fault, line),
+        HeldFault::Sign(fault) => {
+            let text = format!(in alloc; "{fault}")?;
+            line.append(text.as_bytes())
+        }
         HeldFault::Lacks(lack, id) => {
             let id = print_id(alloc, id)?;
             line.append(lack.word().as_bytes())?;

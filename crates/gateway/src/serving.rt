@@ -37,7 +37,11 @@ fn serve_item<K: Sink, L: Ledger>(
     ensures idle { K.idle sink.new ≤ K.idle sink.old + failed_writes result }
 {
     match stream.meet(alloc, item, steps)? {
-        Some(answer) => write_record(alloc, &answer, sink),
+        Some(answer) => {
+            let passes = write_record(alloc, &answer, sink);
+            drop(answer); // by one call, and not part by part
+            passes
+        }
         None => Ok(true),
     }
 }
@@ -49,8 +53,11 @@ fn serve_items<S: Source, K: Sink, L: Ledger>(
     reader: &mut ItemReader,
     source: &mut S,
     sink: &mut K,
-    steps: &mut Steps<L>,
+    blank: Blank,
 ) -> Result<bool, StreamFault>
+    requires name { blank.name ≡ L.name }
+    requires parts { blank.parts ≡ L.parts }
+    requires some { 0 < blank.parts }
     requires begin { stream.old ≡ stream_held stream.old.conf }
     requires unread { reader.old ≡ nothing_read }
     requires gateway { IsSome stream.old.conf.gateway }
@@ -65,43 +72,14 @@ fn serve_items<S: Source, K: Sink, L: Ledger>(
     ensures idle_reads { S.idle source.new ≤ S.idle source.old + 1 }
     ensures idle_writes { K.idle sink.new ≤ K.idle sink.old + failed_writes result }
 {
+    let mut steps: Steps<L> = Steps::new(blank);
     let mut all_pass = true;
     'items: while reader.next(source)? {
-        let passes = serve_item(alloc, stream, reader.item(), sink, steps)?;
+        let passes = serve_item(alloc, stream, reader.item(), sink, &mut steps)?;
         all_pass = all_pass && passes;
     }
     stream.finish()?;
     Ok(all_pass)
-}
-
-/// The same as `serve`, where steps are counted.
-fn serve_counted<S: Source, K: Sink, L: Ledger>(
-    alloc: Global,
-    conf: &Conf,
-    source: &mut S,
-    sink: &mut K,
-    blank: Blank,
-) -> Result<bool, StreamFault>
-    requires name { blank.name ≡ L.name }
-    requires parts { blank.parts ≡ L.parts }
-    requires some { 0 < blank.parts }
-    requires sign { IsSome (meaning conf.now).sign }
-    requires gateway { IsSome (meaning conf.now).gateway }
-    ensures served { (settings : GatewayConf) → (meaning conf.now).gateway ≡ Some settings
-        → Serves (meaning conf.now) settings (S.left source.old) (S.left source.new)
-        (K.taken sink.old) (K.taken sink.new) result }
-    ensures source { CountsSource (S.faults source.old) (S.faults source.new) result }
-    ensures sink { CountsSink (K.faults sink.old) (K.faults sink.new) result }
-    ensures source_later { S.faults source.old ≤ S.faults source.new }
-    ensures sink_later { K.faults sink.old ≤ K.faults sink.new }
-    ensures ended { S.ended source.old ≡ 0 → S.ended source.new ≤ 1 }
-    ensures idle_reads { S.idle source.new ≤ S.idle source.old + 1 }
-    ensures idle_writes { K.idle sink.new ≤ K.idle sink.old + failed_writes result }
-{
-    let mut steps: Steps<L> = Steps::new(blank);
-    let mut stream = Stream::open(alloc, conf)?;
-    let mut reader = ItemReader::new(alloc);
-    serve_items(alloc, &mut stream, &mut reader, source, sink, &mut steps)
 }
 
 /// Serves the recording that the source gives, item by item: the record of each message is written
@@ -128,5 +106,7 @@ pub fn serve<S: Source, K: Sink>(
     ensures idle_reads { S.idle source.new ≤ S.idle source.old + 1 }
     ensures idle_writes { K.idle sink.new ≤ K.idle sink.old + failed_writes result }
 {
-    serve_counted::<S, K, Brand>(alloc, conf, source, sink, Blank::new(1))
+    let mut stream = Stream::open(alloc, conf)?;
+    let mut reader = ItemReader::new(alloc);
+    serve_items::<S, K, Brand>(alloc, &mut stream, &mut reader, source, sink, Blank::new(1))
 }

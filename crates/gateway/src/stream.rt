@@ -1,14 +1,13 @@
 //! The items of a stream, as they come to a gateway.
 
-ghost use Rattle.std.specs.Prelude.{◌≡◌, ◌≤◌, ◌<◌, None, Some, IfOk, IfSome, IsSome, IsTrue, OnOk, length};
+ghost use Rattle.std.specs.Prelude.{◌≡◌, ◌≤◌, ◌<◌, None, Some, IfOk, IsSome, OnOk, length};
 ghost use Rattle.msg_body.specs.declared.limits.TheConstants.{MAX_MESSAGE_BYTES};
 ghost use Rattle.recording.specs.Items.{placed};
 ghost use Rattle.recording.specs.declared.limits.TheConstants.{MAX_ITEMS};
 ghost use Rattle.settings.specs.ConfMeaning.{meaning};
 ghost use Rattle.settings.specs.declared.gateway_conf.GatewayConf.{GatewayConf};
 ghost use Rattle.gateway.specs.Arrivals.{IsSized, arrival_of};
-ghost use Rattle.gateway.specs.RecordTexts.{is_record_in_range};
-ghost use Rattle.gateway.specs.tools.HeldStreams.{CanMeet, SaysAdded, SaysFinished, SaysFree, SaysMet, answered, answered_by, stream_held};
+ghost use Rattle.gateway.specs.tools.HeldStreams.{AnswersInRange, CanMeet, SaysAdded, SaysFinished, SaysFree, SaysMet, answered, answered_by, stream_held};
 
 use crate::arrival::Arrival;
 use crate::fault::StreamFault;
@@ -94,8 +93,7 @@ impl<'c> Stream<'c> {
         requires alone { self.old.related ≡ None }
         ensures added { (settings : GatewayConf) → self.old.conf.gateway ≡ Some settings
             → SaysAdded settings self.old self.new (arrival_of arrival.entry) result }
-        ensures in_range { IfOk result (λ answer. IfSome answer (λ given.
-            IsTrue (is_record_in_range given))) }
+        ensures in_range { AnswersInRange result }
     {
         let answer = self.gateway.step(alloc, self.moment, arrival, steps)?;
         Ok(Some(answer))
@@ -112,8 +110,7 @@ impl<'c> Stream<'c> {
         requires few { self.old.count < MAX_ITEMS }
         ensures added { (settings : GatewayConf) → self.old.conf.gateway ≡ Some settings
             → SaysAdded settings self.old self.new (answered self.old.related text.now) result }
-        ensures in_range { IfOk result (λ answer. IfSome answer (λ given.
-            IsTrue (is_record_in_range given))) }
+        ensures in_range { AnswersInRange result }
     {
         match self.related.take() {
             None => {
@@ -156,8 +153,7 @@ impl<'c> Stream<'c> {
         requires { CanMeet self.old (placed item) }
         ensures met { (settings : GatewayConf) → self.old.conf.gateway ≡ Some settings
             → SaysMet settings self.old self.new (placed item.entry) result }
-        ensures in_range { IfOk result (λ answer. IfSome answer (λ given.
-            IsTrue (is_record_in_range given))) }
+        ensures in_range { AnswersInRange result }
     {
         match item.body {
             ItemBody::At(moment) => {

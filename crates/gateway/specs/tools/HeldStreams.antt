@@ -1,5 +1,5 @@
 -- A stream as it is held. No public clause cites this module.
-use Rattle.std.specs.Prelude.{◌≡◌, ◌≤◌, ◌<◌, ◌+◌, ⊤, ℕ, Bool, Option, Some, None, option_map, IfSome, Result, Ok, Err, List, [], ◌∷◌, ◌++◌, length}
+use Rattle.std.specs.Prelude.{◌≡◌, ◌≤◌, ◌<◌, ◌+◌, ⊤, ℕ, Bool, Option, Some, None, option_map, IfOk, IfSome, IsTrue, Result, Ok, Err, List, [], ◌∷◌, ◌++◌, length}
 use Rattle.std.specs.Io.KnownBytes.{Appends, Keeps}
 use Rattle.std.specs.List.{list_all}
 use Rattle.msg_body.specs.declared.limits.TheConstants.{MAX_MESSAGE_BYTES}
@@ -14,7 +14,7 @@ use Rattle.gateway.specs.Arrivals.{Arrival}
 use Rattle.gateway.specs.Records.{is_pass}
 use Rattle.gateway.specs.Seen.{nothing_seen}
 use Rattle.gateway.specs.Served.{AppendsPart}
-use Rattle.gateway.specs.RecordTexts.{record_text, records_text}
+use Rattle.gateway.specs.RecordTexts.{is_record_in_range, record_text, records_text}
 use Rattle.gateway.specs.Streams.{AddsRecord, MeetsItem, RelatedRequest, StreamState}
 use Rattle.gateway.specs.declared.fault.StreamFault.{StreamFault}
 use Rattle.gateway.specs.declared.fault.StreamFault.TheVariants.{Memory, NotWritten, OutOfPlace}
@@ -72,6 +72,11 @@ CanMeetBody held (stored kind text) = length text ≤ MAX_MESSAGE_BYTES
 -- it can come next
 abbrev pub CanMeet : HeldStream → PlacedItem → Type 0
 CanMeet held item = (held.count < MAX_ITEMS) × CanMeetBody held item.body
+
+-- the record that is answered is in range
+abbrev pub AnswersInRange : Result (Option GatewayRecord) StreamFault → Type 0
+AnswersInRange result =
+    IfOk result (λ answer. IfSome answer (λ given. IsTrue (is_record_in_range given)))
 
 -- the records that an answer adds
 abbrev pub added : Option GatewayRecord → List GatewayRecord

@@ -9,13 +9,12 @@ use Rattle.nonces.specs.Books.{Book}
 use Rattle.settings.specs.Configuration.{Configuration}
 use Rattle.settings.specs.declared.gateway_conf.GatewayConf.{GatewayConf}
 use Rattle.signatures.specs.Signatures.{HasSignature}
-use Rattle.signatures.specs.declared.label.LabelFault.{LabelFault}
-use Rattle.signatures.specs.declared.label.LabelFault.TheVariants.{Memory as OutOfMemory, Rule as Unread}
+use Rattle.verdicts.specs.Asked.{AreAsked}
 use Rattle.verdicts.specs.Verdicts.{Accepts, IsVerdict, is_accepted}
 use Rattle.verdicts.specs.Verification.{Verification}
 use Rattle.verdicts.specs.declared.outcome.Verdict.{Verdict}
-use Rattle.verdicts.specs.declared.outcome.Verdict.TheVariants.{Rule as Refused}
-use Rattle.gateway.specs.Accepted.{IsFirstAccepted, IsRefusal}
+use Rattle.verdicts.specs.declared.outcome.Verdict.TheVariants.{Ok as Accepted, Rule as Refused}
+use Rattle.gateway.specs.Accepted.{IsFirstAccepted, IsRefusal, verification_seen}
 use Rattle.gateway.specs.Arrivals.{Arrival, IsAnswered, IsBad, IsRead}
 use Rattle.gateway.specs.Forwarded.{IsForwarded, IsHeldFor, IsOwnSpec, IsPassed}
 use Rattle.gateway.specs.Records.{GatewayState, IsRecordOf}
@@ -26,6 +25,7 @@ use Rattle.gateway.specs.declared.accepted.Judged.TheVariants as judged
 use Rattle.gateway.specs.declared.gateway.Outcome.{Outcome}
 use Rattle.gateway.specs.declared.gateway_record.BadFault.{BadFault}
 use Rattle.gateway.specs.declared.gateway_record.BadFault.TheVariants.{Related as BadRelated}
+use Rattle.gateway.specs.declared.gateway_record.GatewayRecord.{GatewayRecord}
 use Rattle.gateway.specs.declared.own_signature.Forwarded.{Forwarded}
 use Rattle.gateway.specs.declared.own_signature.Forwarded.TheVariants as forwarded
 use Rattle.signing.specs.declared.spec.SignSpec.{SignSpec}
@@ -38,10 +38,11 @@ pub record IsAcceptedLabel (message : Message) (label keyid : List ℕ) (accepte
   pub tag : List ℕ
   pub signature : HasSignature message label accepted.params tag
 
--- the verdict on a label is the rule by which it isn't read
-abbrev pub SaysUnread : LabelFault → Verdict → Type 0
-SaysUnread OutOfMemory verdict = ⊥
-SaysUnread (Unread rule place) verdict = verdict ≡ Refused rule place
+-- the label with these parameters, where the verdict accepts it, or else the verdict
+abbrev pub IsJudgedBy : List ℕ → SigParams → Verdict → Result AcceptedLabel Verdict → Type 0
+IsJudgedBy label params (Accepted keyid) given =
+    given ≡ Ok (record { label = label; keyid = keyid; params = params })
+IsJudgedBy label params (Refused rule place) given = given ≡ Err (Refused rule place)
 
 -- what comes of a label: it is accepted, or this is its verdict, by which it isn't
 abbrev pub IsJudgedLabel : Message → Verification → Result AcceptedLabel Verdict → Type 0
@@ -68,12 +69,15 @@ abbrev pub SaysRelated : Arrival → Result (Option Message) BadFault → Type 0
 SaysRelated arrival (Ok related) = IsAnswered arrival.related related
 SaysRelated arrival (Err fault) = (fault ≡ BadRelated) × IsBad arrival BadRelated
 
--- the signed message, or why it is held, by what is asked to be signed at this moment
+-- the signed message, or why it is held, by what is asked to be signed
+abbrev pub SaysSigned : MessageContext → SigParams → SignSpec → Forwarded → Type 0
+SaysSigned context params spec (forwarded.Signed text) = IsPassed context params spec text
+SaysSigned context params spec (forwarded.Held fault) = IsHeldFor context params spec fault
+
+-- the same by what the configuration asks to be signed at this moment
 abbrev pub SaysForwarded : Configuration → ℕ → MessageContext → SigParams → Forwarded → Type 0
-SaysForwarded conf now context params (forwarded.Signed text) = (spec : SignSpec)
-    × IsOwnSpec conf now context.message spec × IsPassed context params spec text
-SaysForwarded conf now context params (forwarded.Held fault) = (spec : SignSpec)
-    × IsOwnSpec conf now context.message spec × IsHeldFor context params spec fault
+SaysForwarded conf now context params outcome = (spec : SignSpec)
+    × IsOwnSpec conf now context.message spec × SaysSigned context params spec outcome
 
 -- what is to be remembered after the outcome
 abbrev pub RemembersAccepted : Configuration → Option AcceptedLabel → Book → Book → Type 0
@@ -114,3 +118,16 @@ MayBeRemembered state accepted = IfSome accepted (IsAcceptedNow state.conf state
 abbrev pub IsOutcomeOf : GatewayConf → GatewayState → MessageContext → Outcome → Type 0
 IsOutcomeOf settings state context outcome = (arrival : Arrival)
     → IsRead state.conf arrival context → IsOutcome settings state arrival outcome
+
+-- what comes of the labels that are asked for of the message
+abbrev pub SaysJudged : GatewayState → MessageContext → Judged → Type 0
+SaysJudged state context given = (labels : List (List ℕ))
+    × ((settings : GatewayConf) → state.conf.gateway ≡ Some settings
+    → AreAsked settings.label context.message labels)
+    × IsJudged context.message (verification_seen state.conf state.seen context) labels given
+
+-- with this record the label is accepted
+abbrev pub IsAnswerOf : GatewayConf → GatewayState → MessageContext → AcceptedLabel
+    → GatewayRecord → Type 0
+IsAnswerOf settings state context accepted answer =
+    IsOutcomeOf settings state context (record { answer = answer; accepted = Some accepted })

@@ -23,7 +23,7 @@ pub loop-label-preserved : goal.loop-label-preserved
 loop-label-preserved g c =
     let judged = verification_by c.args.verifier.now c.args.exchange.now.context in
     let label = c.label-item.result in
-    let verdict = c.in-Err.field-0 in
+    let verdict = c.in-Err.verdict in
     let met = c.loop-label.exchange.context in
     let here : IsJudgedLabel met.message (verification_by c.args.verifier.now met c.bytes.result.now) (Err verdict) = rw c.in-Err.is at c.in_ok-accepted.ensures.judged in
     let own : IsJudgedLabel c.args.exchange.now.context.message (judged label) (Err verdict) =

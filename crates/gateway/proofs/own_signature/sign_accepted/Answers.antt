@@ -1,51 +1,18 @@
-use Rattle.std.proofs.Common.{◌≡◌, ◌∙◌, ℕ, List, Bool, false, None, ap, refl, subst}
-use Rattle.std.specs.List.{list_any}
+use Rattle.std.proofs.Common.{◌∙◌, Bool, None, ap, subst}
 use Rattle.framing.specs.Framings.{is_request}
-use Rattle.component_ids.specs.declared.id.ComponentId.{ComponentId}
 use Rattle.component_values.specs.Context.{context_of}
 use Rattle.settings.specs.ConfMeaning.{meaning}
 use Rattle.signing.specs.Asked.{IsSpecOf}
-use Rattle.signing.specs.SignCauses.{IsFirstSelfCover, covers_itself}
-use Rattle.gateway.proofs.Signable.{covered_at, signable}
+use Rattle.gateway.specs.tools.Judged.{SaysForwarded, SaysSigned}
+use Rattle.gateway.proofs.Stepping.{ok_more}
 use Rattle.gateway.proofs.own_signature.sign_accepted.Goals as goal
-
-pub sign_beside-requires-clause-signature : goal.sign_beside-requires-clause-signature
-sign_beside-requires-clause-signature c =
-    (c.args.accepted.now.label, c.args.accepted.now.params, c.requires.signature.0, c.requires.signature.1)
-
-pub held_fault-requires : goal.held_fault-requires
-held_fault-requires c = (context_of c.args.context.now, λ other. (c.in-Err.ensures.fault c.in-Err.fault other).only refl)
-
-pub returns-in-Err : goal.returns-in-Err
-returns-in-Err c =
-    let of_request = c.is_request-of_request.ensures ∙ ap is_request c.start.ensures in
-    let spec = c.in_ok-spec.spec in
-    let own = subst (λ (b : Bool). IsSpecOf (meaning c.args.conf.now) b c.args.now None spec) of_request c.in_ok-spec.ensures.is in
-    (spec, own, c.in_ok-held_fault-in-Err.ensures (context_of c.args.context.now) c.args.accepted.now.params (λ other. (c.in-Err.ensures.fault c.in-Err.fault other).only refl))
-
-pub returns-in-Some : goal.returns-in-Some
-returns-in-Some c =
-    let of_request = c.is_request-of_request.ensures ∙ ap is_request c.start.ensures in
-    let spec = c.in_ok-spec.spec in
-    let own = subst (λ (b : Bool). IsSpecOf (meaning c.args.conf.now) b c.args.now None spec) of_request c.in_ok-spec.ensures.is in
-    let first = subst (λ (ids : List ComponentId). IsFirstSelfCover c.bytes.result.now ids c.in-Some.field-0) c.as_slice.ensures c.in-Some.ensures.some in
-    let first_own = subst (λ (label : List ℕ). IsFirstSelfCover label c.args.accepted.now.params.ids c.in-Some.field-0) c.bytes.ensures first in
-    (spec, own, (signable (context_of c.args.context.now) spec c.in-Ok.text c.in-Ok.ensures.fault, covered_at c.args.accepted.now.params spec c.in-Some.field-0 first_own))
 
 pub returns : goal.returns
 returns c =
-    let of_request = c.is_request-of_request.ensures ∙ ap is_request c.start.ensures in
+    let conf = meaning c.args.conf.now in
+    let context = context_of c.args.context.now in
     let spec = c.in_ok-spec.spec in
-    let own = subst (λ (b : Bool). IsSpecOf (meaning c.args.conf.now) b c.args.now None spec) of_request c.in_ok-spec.ensures.is in
-    let none = subst (λ (ids : List ComponentId). list_any (covers_itself c.bytes.result.now) ids ≡ false) c.as_slice.ensures c.in-None.ensures.none in
-    let none_own = subst (λ (label : List ℕ). list_any (covers_itself label) c.args.accepted.now.params.ids ≡ false) c.bytes.ensures none in (
-      spec,
-      own,
-      record {
-        signable = signable (context_of c.args.context.now) spec c.in-Ok.text c.in-Ok.ensures.fault;
-        uncovered = none_own;
-        written = c.in-Ok.ensures.spells.0;
-        signed = c.in-Ok.ensures.spells.1;
-        text_is = c.in-Ok.ensures.spells.2.text;
-      },
-    )
+    let of_request = c.is_request-of_request.ensures ∙ ap is_request c.start.ensures in
+    let own = subst (λ (b : Bool). IsSpecOf conf b c.args.now None spec) of_request c.in_ok-spec.ensures.is in
+    ok_more (SaysSigned context c.args.accepted.now.params spec) (SaysForwarded conf c.args.now context c.args.accepted.now.params) c.sign_by.result
+    (λ outcome says. (spec, own, says)) c.sign_by.ensures

@@ -1,4 +1,4 @@
-use Rattle.std.proofs.Common.{◌≤◌, ◌+◌, Bool, false, true, ◌&&◌, Result, Err, refl, sym, ap, ◌∙◌, arith}
+use Rattle.std.proofs.Common.{◌≡◌, ◌≤◌, ◌+◌, Bool, false, true, ◌&&◌, Result, Err, refl, sym, ap, ◌∙◌, arith}
 use Rattle.recording.specs.Items.{placed}
 use Rattle.gateway.specs.Served.{Serves, failed_writes}
 use Rattle.gateway.specs.Streams.{stream_fault_of}
@@ -6,6 +6,7 @@ use Rattle.gateway.specs.declared.fault.StreamFault.{StreamFault}
 use Rattle.gateway.proofs.ServedItems.{done_can, done_kept_sink, done_more, done_passed, done_unmet, done_unread, done_waiting, idle_at_end, idle_at_most, idle_no_more, idle_within, never_idle, none_done, reads_as}
 use Rattle.gateway.proofs.WrittenParts.{as_fault}
 use Rattle.gateway.proofs.serving.serve_items.Goals as goal
+use Rattle.gateway.proofs.serving.serve_items.Goals.{then-all_pass, else-all_pass}
 
 pub items-init : goal.items-init
 items-init g c = record {
@@ -35,23 +36,15 @@ returns-in_err-passes-clause-served g c = λ settings is.
     c.in_err-passes.field-0.0 c.from_residual-in_err-passes.result c.from_residual-in_err-passes.ensures.1
     (done_unmet _ _ _ (g.S.Source.left c.next.new.source) _ _ _ c.next.new.self _ _ c.items.invariant.done (placed c.item.result) reads c.next.ensures.within c.item.ensures c.serve_item.new.stream (g.K.Sink.taken c.serve_item.new.sink) c.in_err-passes.field-0.0 c.in_err-passes.ensures.meets settings is)
 
-pub items-preserved-then-all_pass : goal.items-preserved-then-all_pass
-items-preserved-then-all_pass g c =
-    let reads = reads_as c.items.reader c.next.new.self (g.S.Source.left c.items.source) (g.S.Source.left c.next.new.source) c.in_ok-next.field-0 true c.if-branch.true c.in_ok-next.ensures.reads in
-    record {
-      done = done_more _ _ _ (g.S.Source.left c.next.new.source) _ _ _ c.next.new.self _ _ c.items.invariant.done (placed c.item.result) reads c.next.ensures.within c.item.ensures c.serve_item.new.stream (g.K.Sink.taken c.serve_item.new.sink) c.in_ok-passes.passes c.in_ok-passes.passes (ap (λ (b : Bool). b && c.in_ok-passes.passes) (sym c.if-all_pass.true)) c.in_ok-passes.ensures.meets;
-      source = c.in_ok-next.ensures.faults ∙ c.items.invariant.source;
-      sink = done_kept_sink _ _ _ (g.S.Source.left c.next.new.source) _ _ _ c.next.new.self _ _ c.items.invariant.done (placed c.item.result) reads c.next.ensures.within c.item.ensures c.serve_item.new.stream (g.K.Sink.taken c.serve_item.new.sink) (g.K.Sink.faults c.items.sink) (g.K.Sink.faults c.serve_item.new.sink) c.in_ok-passes.passes c.in_ok-passes.ensures.faults ∙ c.items.invariant.sink;
-      unended = λ e. c.in_ok-next.ensures.unended c.if-branch.true (c.items.invariant.unended e);
-      idle_reads = never_idle (g.S.Source.idle c.args.source.now) (g.S.Source.idle c.items.source) (g.S.Source.idle c.next.new.source) c.in_ok-next.field-0 c.items.invariant.idle_reads c.if-branch.true c.in_ok-next.ensures.idle;
-      idle_writes = idle_no_more (g.K.Sink.idle c.args.sink.now) (g.K.Sink.idle c.items.sink) (g.K.Sink.idle c.serve_item.new.sink) c.items.invariant.idle_writes c.in_ok-passes.ensures.idle;
-    }
-
 pub items-preserved : goal.items-preserved
 items-preserved g c =
     let reads = reads_as c.items.reader c.next.new.self (g.S.Source.left c.items.source) (g.S.Source.left c.next.new.source) c.in_ok-next.field-0 true c.if-branch.true c.in_ok-next.ensures.reads in
+    let both : c.if-all_pass.all_pass ≡ (c.items.all_pass && c.in_ok-passes.passes) = elim c.if-all_pass.branch [
+      | then-all_pass w ↦ w.all_pass-is ∙ ap (λ (b : Bool). b && c.in_ok-passes.passes) (sym w.if-all_pass.true)
+      | else-all_pass w ↦ w.all_pass-is ∙ (w.if-all_pass.false ∙ ap (λ (b : Bool). b && c.in_ok-passes.passes) (sym w.if-all_pass.false))
+    ] in
     record {
-      done = done_more _ _ _ (g.S.Source.left c.next.new.source) _ _ _ c.next.new.self _ _ c.items.invariant.done (placed c.item.result) reads c.next.ensures.within c.item.ensures c.serve_item.new.stream (g.K.Sink.taken c.serve_item.new.sink) c.in_ok-passes.passes c.items.all_pass (c.if-all_pass.false ∙ ap (λ (b : Bool). b && c.in_ok-passes.passes) (sym c.if-all_pass.false)) c.in_ok-passes.ensures.meets;
+      done = done_more _ _ _ (g.S.Source.left c.next.new.source) _ _ _ c.next.new.self _ _ c.items.invariant.done (placed c.item.result) reads c.next.ensures.within c.item.ensures c.serve_item.new.stream (g.K.Sink.taken c.serve_item.new.sink) c.in_ok-passes.passes c.if-all_pass.all_pass both c.in_ok-passes.ensures.meets;
       source = c.in_ok-next.ensures.faults ∙ c.items.invariant.source;
       sink = done_kept_sink _ _ _ (g.S.Source.left c.next.new.source) _ _ _ c.next.new.self _ _ c.items.invariant.done (placed c.item.result) reads c.next.ensures.within c.item.ensures c.serve_item.new.stream (g.K.Sink.taken c.serve_item.new.sink) (g.K.Sink.faults c.items.sink) (g.K.Sink.faults c.serve_item.new.sink) c.in_ok-passes.passes c.in_ok-passes.ensures.faults ∙ c.items.invariant.sink;
       unended = λ e. c.in_ok-next.ensures.unended c.if-branch.true (c.items.invariant.unended e);

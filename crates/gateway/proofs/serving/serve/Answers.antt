@@ -3,7 +3,7 @@ use Rattle.gateway.specs.Served.{Serves}
 use Rattle.gateway.specs.declared.fault.StreamFault.TheVariants.{Memory}
 use Rattle.gateway.proofs.ServedEnds.{ends_unopened}
 use Rattle.gateway.proofs.WrittenParts.{as_fault}
-use Rattle.gateway.proofs.serving.serve_counted.Goals as goal
+use Rattle.gateway.proofs.serving.serve.Goals as goal
 
 pub returns-in_err-stream-clause-served : goal.returns-in_err-stream-clause-served
 returns-in_err-stream-clause-served g c = λ settings is.
