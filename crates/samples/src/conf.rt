@@ -49,23 +49,37 @@ fn push_plain(alloc: Global, ids: &mut Ids, name: &[u8]) -> Result<(), Memory>
     })
 }
 
+/// Adds the covered components of a sample's signature to none.
+fn push_covered(alloc: Global, ids: &mut Ids) -> Result<(), Memory>
+    requires { ids.old ≡ [] }
+    ensures { OnOk result (ids.new ≡ sample_params.ids) }
+{
+    push_plain(alloc, ids, b"@method")?;
+    push_plain(alloc, ids, b"@authority")?;
+    push_plain(alloc, ids, b"@path")?;
+    push_plain(alloc, ids, b"date")?;
+    push_plain(alloc, ids, b"content-digest")
+}
+
+/// Adds the parameters of a sample's signature to none.
+fn put_parameters(alloc: Global, params: &mut Params) -> Result<(), Memory>
+    requires { params.old ≡ [] }
+    ensures { OnOk result (params.new ≡ sample_params.params) }
+{
+    let created = Text::from_bytes(alloc, b"created")?;
+    params.put(created, BareItem::Integer(MOMENT as i64))?;
+    let keyid = BareItem::Str(Text::from_bytes(alloc, b"sample")?);
+    params.put(Text::from_bytes(alloc, b"keyid")?, keyid)
+}
+
 /// The covered components and the parameters of a sample's signature.
 fn sample_params(alloc: Global) -> Result<SigParams, Memory>
     ensures { IfOk result (λ params. params ≡ sample_params) }
 {
     let mut ids = Ids::new(alloc);
-    push_plain(alloc, &mut ids, b"@method")?;
-    push_plain(alloc, &mut ids, b"@authority")?;
-    push_plain(alloc, &mut ids, b"@path")?;
-    push_plain(alloc, &mut ids, b"date")?;
-    push_plain(alloc, &mut ids, b"content-digest")?;
+    push_covered(alloc, &mut ids)?;
     let mut params = Params::new(alloc);
-    params.put(
-        Text::from_bytes(alloc, b"created")?,
-        BareItem::Integer(MOMENT as i64),
-    )?;
-    let keyid = BareItem::Str(Text::from_bytes(alloc, b"sample")?);
-    params.put(Text::from_bytes(alloc, b"keyid")?, keyid)?;
+    put_parameters(alloc, &mut params)?;
     Ok(SigParams { ids, params })
 }
 

@@ -4,7 +4,7 @@ ghost use Rattle.std.specs.Prelude.{◌≡◌, ◌<◌, ◌++◌, ℕ, IfOk, OnO
 ghost use Rattle.component_values.specs.Context.{context_of};
 ghost use Rattle.settings.specs.ConfMeaning.{meaning};
 ghost use Rattle.samples.specs.Chains.{IsUnsigned, sample_context};
-ghost use Rattle.samples.specs.Requests.{content_of, request_text, sample_configuration};
+ghost use Rattle.samples.specs.Requests.{content_of, request_text, sample_configuration, sample_spec};
 ghost use Rattle.samples.specs.tools.Made.{SpellsSample};
 
 use crate::conf::sample_spec;
@@ -14,7 +14,7 @@ use component_values::Context;
 use msg_body::{Reading, whole_message};
 use settings::Conf;
 use sfv_text::{Memory, Text};
-use signing::{SignFault, sign};
+use signing::{SignFault, SignSpec, sign};
 use std::alloc::Global;
 use verdicts::context_for;
 
@@ -48,6 +48,24 @@ fn request_text(alloc: Global, seed: u64) -> Result<Text, Memory>
     Ok(text)
 }
 
+/// The message of the context, signed as that of a sample is.
+fn signed_by(alloc: Global, context: &Context<'_, '_>, spec: &SignSpec) -> Result<Text, Memory>
+    requires context { context_of context.now ≡ sample_context (context_of context.now).message }
+    requires unsigned { (seed : ℕ) × IsUnsigned seed (context_of context.now).message }
+    requires spec { spec.now ≡ sample_spec }
+    ensures { (seed : ℕ) → IsUnsigned seed (context_of context.now).message
+        → IfOk result (SpellsSample seed) }
+{
+    match sign(alloc, context, spec) {
+        Ok(signed) => Ok(signed),
+        Err(fault) => match fault {
+            SignFault::Memory => Err(Memory),
+            // nothing keeps the request of a sample from being signed
+            _ => unreachable!(),
+        },
+    }
+}
+
 /// The message of the context, signed.
 fn signed_message(alloc: Global, context: &Context<'_, '_>) -> Result<Text, Memory>
     requires context { context_of context.now ≡ sample_context (context_of context.now).message }
@@ -56,14 +74,7 @@ fn signed_message(alloc: Global, context: &Context<'_, '_>) -> Result<Text, Memo
         → IfOk result (SpellsSample seed) }
 {
     let spec = sample_spec(alloc)?;
-    match sign(alloc, context, &spec) {
-        Ok(signed) => Ok(signed),
-        Err(fault) => match fault {
-            SignFault::Memory => Err(Memory),
-            // nothing keeps the request of a sample from being signed
-            _ => unreachable!(),
-        },
-    }
+    signed_by(alloc, context, &spec)
 }
 
 /// The unsigned request of these bytes, signed.

@@ -5,10 +5,10 @@ use Rattle.signing.specs.Specs.{IsValidSpec}
 use Rattle.signing.specs.declared.spec.SignSpec.{SignSpec}
 use Rattle.samples.proofs.Signed.{never_refused, says_text}
 use Rattle.samples.proofs.Valid.{spec_valid}
-use Rattle.samples.proofs.request.signed_message.Goals as goal
+use Rattle.samples.proofs.request.signed_by.Goals as goal
 
 pub sign-requires-clause-valid : goal.sign-requires-clause-valid
-sign-requires-clause-valid c = subst (λ (s : SignSpec). IsValidSpec s) (sym c.in_ok-spec.ensures) spec_valid
+sign-requires-clause-valid c = subst (λ (s : SignSpec). IsValidSpec s) (sym c.requires.spec) spec_valid
 
 pub sign-requires-clause-whole : goal.sign-requires-clause-whole
 sign-requires-clause-whole c =
@@ -16,9 +16,9 @@ sign-requires-clause-whole c =
 
 pub returns-in-Ok : goal.returns-in-Ok
 returns-in-Ok c = λ seed is.
-    says_text seed (context_of c.args.context.now) c.in_ok-spec.spec c.in-Ok.signed is c.requires.context c.in_ok-spec.ensures
+    says_text seed (context_of c.args.context.now) c.args.spec.now c.in-Ok.signed is c.requires.context c.requires.spec
     c.in-Ok.ensures.spells
 
 pub unreachable-requires : goal.unreachable-requires
 unreachable-requires c =
-    never_refused c.requires.unsigned.0 (context_of c.args.context.now) c.in_ok-spec.spec c.in-Err.fault c.requires.unsigned.1 c.requires.context c.in_ok-spec.ensures c.in_default.not-Memory c.in-Err.ensures.fault
+    never_refused c.requires.unsigned.0 (context_of c.args.context.now) c.args.spec.now c.in-Err.fault c.requires.unsigned.1 c.requires.context c.requires.spec c.in_default.not-Memory c.in-Err.ensures.fault
