@@ -15,6 +15,7 @@ mod GatewayLaws
 mod Meanings
 mod NegotiatedInputs
 mod OneLines
+mod RestFiles
 mod RewrittenInputs
 mod Sampled
 mod ServableStreams

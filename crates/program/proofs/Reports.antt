@@ -1,6 +1,6 @@
 -- The outcome of arguments, files and an input.
 use Rattle.std.proofs.Common.{◌≡◌, ◌+◌, ◌≤◌, inl, inr, ℕ, suc, Bool, true, false, List, [], ◌∷◌, Option, Some, None, Result, Err, refl, sym, ap, subst, ◌∙◌, arith}
-use Rattle.std.specs.Prelude.{IfSome, IfNone, IsTrue, is_some, option_map, length, sum_by}
+use Rattle.std.specs.Prelude.{IfSome, IfNone, IsTrue, is_some, option_map, length}
 use Rattle.std.specs.List.{filter, list_all}
 use Rattle.std.proofs.lemmas.Bool.{false≢true}
 use Rattle.std.proofs.lemmas.List.Sums.{sum_by-cons}
@@ -36,7 +36,7 @@ use Rattle.program.specs.Ends.{HasInput, HasOutcome, Leaves, HasReport, Ends, Co
 use Rattle.program.specs.Intake.{IsConfLacking, IsConfRead, IsIntakeRefused, IsReadToScript, named_count, names_of}
 use Rattle.program.specs.Report.{Answers, ReportsFiles, ReportsCommand}
 use Rattle.intake.specs.declared.taken.FileWords.{FileWords}
-use Rattle.program.specs.tools.Parts.{Asks, FileValues, HasOther, HasRequested, ReportsMessage, ReportsRecord, taken_with}
+use Rattle.program.specs.tools.Parts.{Asks, AsksOne, FileValues, HasOther, HasRequested, ReportsMessage, ReportsRecord, named_bytes, taken_with}
 use Rattle.refusals.specs.declared.refusal.Refusal.{Refusal}
 use Rattle.refusals.specs.declared.file.FileRefusal.{FileRefusal}
 use Rattle.refusals.specs.declared.refusal.TheConstants.{MAX_CONF_BYTES, MAX_INPUT_BYTES}
@@ -501,10 +501,7 @@ count_step names role roles = by_name (names role) refl where
   by_name None is = rw is (nothing_more (named_count names roles))
   by_name (Some x) is = rw is (one_more (named_count names roles))
 
-abbrev named_bytes : FileNames → List FileRole → ℕ
-named_bytes names roles = sum_by (λ role. file_limit role + 1) (filter (λ role. is_some (names role)) roles)
-
-bytes_step : (names : FileNames) (role : FileRole) (roles : List FileRole) → named_bytes names (role ∷ roles) ≡ weighed (file_limit role + 1) (names role) + named_bytes names roles
+pub bytes_step : (names : FileNames) (role : FileRole) (roles : List FileRole) → named_bytes names (role ∷ roles) ≡ weighed (file_limit role + 1) (names role) + named_bytes names roles
 bytes_step names role roles = by_name (names role) refl where
   by_name : (name : Option (List ℕ)) → names role ≡ name → named_bytes names (role ∷ roles) ≡ weighed (file_limit role + 1) name + named_bytes names roles
   by_name None is = rw is (nothing_more (named_bytes names roles))
@@ -532,13 +529,6 @@ files_measured names =
     let conf = bytes_step names Conf (Request ∷ Wanted ∷ Script ∷ Other ∷ []) in
     omega (arith, conf, request, wanted, script, other)
 
--- of one file, or none where it isn't named, a shelf is asked
-pub record AsksOne {X S : Type 0} (files : S → Option FileMap) (asked reached : S → ℕ) (weight : ℕ) (name : Option X) (before now : S) : Type 0 where
-  pub keeps : KeepsFiles (files before) (files now)
-  pub asks : asked now ≤ asked before + 1
-  pub reaches : reached now ≤ reached before + weight
-  pub unasked : IfNone name (now ≡ before)
-
 -- of none
 keeps_same : (shelf : Option FileMap) → KeepsFiles shelf shelf
 keeps_same None = tt
@@ -561,7 +551,7 @@ pub one_counted : {X S : Type 0} (asked : S → ℕ) (f : X → List ℕ) (weigh
 one_counted asked f weight None before now same one = omega (arith, ap asked same)
 one_counted asked f weight (Some x) before now same one = one
 
-not_named : {X S : Type 0} (f : X → List ℕ) (name : Option X) (before now : S) → option_map f name ≡ None → IfNone name (now ≡ before) → now ≡ before
+pub not_named : {X S : Type 0} (f : X → List ℕ) (name : Option X) (before now : S) → option_map f name ≡ None → IfNone name (now ≡ before) → now ≡ before
 not_named f None before now none same = same
 not_named f (Some x) before now none same = absurd (cc none)
 

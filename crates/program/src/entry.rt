@@ -181,18 +181,6 @@ fn run_whole<F: Shelf, S: Source, K: Sink>(
     ensures why { TellsWhy (WritesRefusal (HasReport (map string_bytes arguments.now)
         (F.files shelf.old) (source.new ≡ source.old) (S.left source.old) (S.left source.new))
         (K.taken out.old) (K.taken out.new)) result.status result.refusal }
-    ensures base { WritesOneBase (map string_bytes arguments.now) (F.files shelf.old)
-        (S.left source.old) (K.taken out.old) (K.taken out.new) result.status }
-    ensures verify { WritesVerdicts (map string_bytes arguments.now) (F.files shelf.old)
-        (S.left source.old) (K.taken out.old) (K.taken out.new) result.status }
-    ensures sign { WritesSigned (map string_bytes arguments.now) (F.files shelf.old)
-        (S.left source.old) (K.taken out.old) (K.taken out.new) result.status }
-    ensures negotiate { WritesNegotiated (map string_bytes arguments.now) (F.files shelf.old)
-        (S.left source.old) (K.taken out.old) (K.taken out.new) result.status }
-    ensures explain { WritesExplanation (map string_bytes arguments.now) (F.files shelf.old)
-        (S.left source.old) (K.taken out.old) (K.taken out.new) result.status }
-    ensures audit { WritesOneChain (map string_bytes arguments.now) (F.files shelf.old)
-        (S.left source.old) (K.taken out.old) (K.taken out.new) result.status }
     ensures refused { NoCommand (map string_bytes arguments.now)
         → (result.status ≡ Status.BadArguments)
         ⊎ ((result.status ≡ Status.WriteFault) ⊎ (result.status ≡ Status.OutOfMemory)) }

@@ -1,15 +1,15 @@
 //! Commands over a configuration and one whole message, and their steps: the configuration is read,
 //! then the request that the message answers, the message that wishes signatures, the script, the
 //! other record of the message, the source, and its message; the context is made, and the command
-//! is done over all of them.
+//! is done over all of them. What is large is dropped by a call, so that its drop is proved once.
 
-ghost use Rattle.std.specs.Prelude.{◌≡◌, ◌≤◌, ◌+◌, IfNone, IfOk, IfErr, IsTrue, length, option_map};
+ghost use Rattle.std.specs.Prelude.{◌≡◌, ◌≤◌, ◌+◌, [], ◌∷◌, None, Option, IfOk, IfErr, IsTrue, length, option_map};
 ghost use Rattle.std.specs.List.{list_all};
-ghost use Rattle.hms_io.specs.Files.{KeepsFiles};
+ghost use Rattle.hms_io.specs.Files.{FileMap};
 ghost use Rattle.component_values.specs.Context.{HasWholeMessage};
 ghost use Rattle.conf.specs.ConfMeaning.{meaning};
 ghost use Rattle.msg_body.specs.Views.{message_of};
-ghost use Rattle.intake.specs.Files.{AreFound, HasFound, Other, Request};
+ghost use Rattle.intake.specs.Files.{Conf as ConfFile, HasFound, Other, Request, file_names};
 ghost use Rattle.intake.specs.Stops.{IfStopped, IsRefusalFor, CountsStop};
 ghost use Rattle.commands.specs.Outcome.{IfOutcome, ReadsNothing};
 ghost use Rattle.intake.specs.Tables.{HasTables};
@@ -17,11 +17,10 @@ ghost use Rattle.refusals.specs.declared.refusal.TheConstants.{MAX_CONF_BYTES};
 ghost use Rattle.refusals.specs.declared.refusal.Refusal.TheVariants.{Of};
 ghost use Rattle.refusals.specs.declared.role.Role.TheVariants.{Conf as OfConf};
 ghost use Rattle.rewrite_script.specs.Lines.{is_writable};
-ghost use Rattle.program.specs.Commands.{LosesAtMost, Whole};
-ghost use Rattle.program.specs.Ends.{HasInput, HasOutcome, Leaves};
+ghost use Rattle.program.specs.Commands.{Whole};
+ghost use Rattle.program.specs.Ends.{HasInput, Leaves};
 ghost use Rattle.program.specs.Intake.{IsConfLacking, IsConfRead, names_of, read_order, taken_of};
-ghost use Rattle.program.specs.Report.{ReportsFiles};
-ghost use Rattle.program.specs.tools.Parts.{Asks, AsksUntil, CountsOne, HasOther, HasRequested, IsAfterInput, IsOwn, ReportsMessage, ReportsRecord, roles_read, values_of};
+ghost use Rattle.program.specs.tools.Parts.{Asks, AsksOne, AsksRest, AsksUntil, HasConf, HasFilesOutcome, HasOther, HasRequest, HasRequested, IsAfterInput, IsOwn, ReadsAtMost, ReportsMessage, ReportsRecord, UsesDevices, roles_read, values_of};
 
 use command_line::{
     BaseWords, ExplainWords, ListsWords, NegotiateWords, RewriteWords, SignWords, VerifyWords,
@@ -82,6 +81,20 @@ pub trait OverMessage {
         ensures reads_nothing { ReadsNothing result };
 }
 
+/// The names of these files, and of no other.
+fn conf_and_request<'a>(conf: Option<&'a str>, request: Option<&'a str>) -> FileWords<'a>
+    ensures { file_names (option_map (λ word. word.now) conf.entry)
+        (option_map (λ word. word.now) request.entry) None None None ≡ names_of result }
+{
+    FileWords {
+        conf,
+        request,
+        wanted: None,
+        script: None,
+        other: None,
+    }
+}
+
 impl<'a> OverMessage for BaseWords<'a> {
     ghost use Rattle.std.specs.Prelude.{⊤, None, option_map};
     ghost use Rattle.commands.specs.Base.{ReportsBase};
@@ -98,13 +111,7 @@ impl<'a> OverMessage for BaseWords<'a> {
     ghost reports = { λ words taken. ReportsBase words.params.now taken.context };
 
     fn files<'s>(&'s self) -> FileWords<'s> {
-        FileWords {
-            conf: self.conf,
-            request: self.request,
-            wanted: None,
-            script: None,
-            other: None,
-        }
+        conf_and_request(self.conf, self.request)
     }
 
     fn needs(&self) -> Needs {
@@ -134,13 +141,7 @@ impl<'a> OverMessage for VerifyWords<'a> {
         words.now taken.conf taken.context };
 
     fn files<'s>(&'s self) -> FileWords<'s> {
-        FileWords {
-            conf: Some(self.conf),
-            request: self.request,
-            wanted: None,
-            script: None,
-            other: None,
-        }
+        conf_and_request(Some(self.conf), self.request)
     }
 
     fn needs(&self) -> Needs {
@@ -284,13 +285,7 @@ impl<'a> OverMessage for ListsWords<'a> {
     ghost reports = { λ words taken. ReportsIntoFields taken.context };
 
     fn files<'s>(&'s self) -> FileWords<'s> {
-        FileWords {
-            conf: self.conf,
-            request: None,
-            wanted: None,
-            script: None,
-            other: None,
-        }
+        conf_and_request(self.conf, None)
     }
 
     fn needs(&self) -> Needs {
@@ -319,13 +314,7 @@ impl<'a> OverMessage for NegotiateWords<'a> {
     ghost reports = { λ words taken. ReportsNegotiation words.now taken.conf taken.context };
 
     fn files<'s>(&'s self) -> FileWords<'s> {
-        FileWords {
-            conf: Some(self.conf),
-            request: Some(self.request),
-            wanted: None,
-            script: None,
-            other: None,
-        }
+        conf_and_request(Some(self.conf), Some(self.request))
     }
 
     fn needs(&self) -> Needs {
@@ -369,7 +358,9 @@ fn over_input<'x, C: OverMessage>(
         other,
         context: &context,
     };
-    command.answer(alloc, &taken)
+    let answer = command.answer(alloc, &taken);
+    drop(message);
+    answer
 }
 
 /// Does the command over what the source gives: reads it to its end, or one byte past the limit.
@@ -392,11 +383,8 @@ fn over_source<C: OverMessage, S: Source>(
         (Leaves (Whole MAX_INPUT_BYTES) (source.new ≡ source.old)
         (S.left source.old) (S.left source.new)) (S.left source.old)) }
     ensures cause { CountsStop (S.faults source.old) (S.faults source.new) result }
-    ensures later { S.faults source.old ≤ S.faults source.new }
-    ensures few { LosesAtMost (MAX_INPUT_BYTES + 1) (S.left source.old) (S.left source.new) }
-    ensures given { S.given source.new ≤ S.given source.old + (MAX_INPUT_BYTES + 1) }
-    ensures ended { S.ended source.old ≡ 0 → S.ended source.new ≤ 1 }
-    ensures idle { S.idle source.new ≤ S.idle source.old + 1 }
+    ensures reads { ReadsAtMost S.left S.given S.ended S.idle S.faults
+        (MAX_INPUT_BYTES + 1) source.old source.new }
     ensures late { IfOutcome result (λ outcome. roles_read outcome ≡ read_order) }
 {
     let input = match fill(alloc, source, MAX_INPUT_BYTES) {
@@ -427,24 +415,86 @@ fn over_record<C: OverMessage, F: Shelf, S: Source>(
         (option_map (λ word. word.now) name.entry) found)
         (Leaves (Whole MAX_INPUT_BYTES) (source.new ≡ source.old)
         (S.left source.old) (S.left source.new)) (S.left source.old) outcome)) }
-    ensures cause { CountsOne (source.new ≡ source.old) (F.faults shelf.old) (F.faults shelf.new)
-        (S.faults source.old) (S.faults source.new) result }
-    ensures shelf_later { F.faults shelf.old ≤ F.faults shelf.new }
-    ensures source_later { S.faults source.old ≤ S.faults source.new }
-    ensures few { LosesAtMost (MAX_INPUT_BYTES + 1) (S.left source.old) (S.left source.new) }
-    ensures given { S.given source.new ≤ S.given source.old + (MAX_INPUT_BYTES + 1) }
-    ensures ended { S.ended source.old ≡ 0 → S.ended source.new ≤ 1 }
-    ensures idle { S.idle source.new ≤ S.idle source.old + 1 }
-    ensures files { KeepsFiles (F.files shelf.old) (F.files shelf.new) }
-    ensures asked { F.asked shelf.new ≤ F.asked shelf.old + 1 }
-    ensures reached { F.reached shelf.new ≤ F.reached shelf.old + (MAX_INPUT_BYTES + 1) }
-    ensures unasked { IfNone name.entry (shelf.new ≡ shelf.old) }
+    ensures uses { UsesDevices F.faults S.left S.given S.ended S.idle S.faults (MAX_INPUT_BYTES + 1)
+        result shelf.old shelf.new source.old source.new }
+    ensures asks { AsksOne F.files F.asked F.reached (MAX_INPUT_BYTES + 1) name.entry
+        shelf.old shelf.new }
     ensures late { IfOutcome result (λ outcome. roles_read outcome ≡ read_order) }
 {
     let text = fetch_message(alloc, Role::Other, name, shelf)?;
     let reading = Reading::of_input(files.related);
     let other = fetched_message(alloc, Role::Other, reading, text.as_ref())?;
     over_source(alloc, command, files, other.as_ref(), source)
+}
+
+/// Does the command over the message that asks for signatures and the script, in the named files,
+/// and then over the other record of the message and what the source gives.
+fn over_wishes<C: OverMessage, F: Shelf, S: Source>(
+    alloc: Global,
+    command: &C,
+    conf: &Conf,
+    related: Option<&MessageView<'_>>,
+    shelf: &mut F,
+    source: &mut S,
+) -> Result<Outcome, Stop>
+    requires in_range { C.is_in_range command.now }
+    requires tables { HasTables (C.tables command.now) (meaning conf.now) }
+    requires requested { HasRequested (C.names command.now Request)
+        (option_map (λ view. message_of view.now) related) }
+    ensures report { (first : Option FileMap) → HasRequest (C.tables command.now)
+        (C.names command.now) first (F.files shelf.old) (meaning conf.now)
+        (option_map (λ view. message_of view.now) related.entry)
+        → IfOutcome result (HasFilesOutcome (C.tables command.now) (C.reports command.now)
+        (C.names command.now) first (source.new ≡ source.old)
+        (S.left source.old) (S.left source.new)) }
+    ensures uses { UsesDevices F.faults S.left S.given S.ended S.idle S.faults (MAX_INPUT_BYTES + 1)
+        result shelf.old shelf.new source.old source.new }
+    ensures asks { AsksRest F.files F.asked F.reached (C.names command.now)
+        (ConfFile ∷ Request ∷ []) result shelf.old shelf.new }
+{
+    let names = command.files();
+    let wanted = fetch_message(alloc, Role::Wanted, names.wanted, shelf)?;
+    let wishes = fetched_message(alloc, Role::Wanted, Reading::of_any(), wanted.as_ref())?;
+    let script = read_script_file(alloc, names.script, shelf)?;
+    let files = FilesRead {
+        conf,
+        related,
+        wishes: wishes.as_ref(),
+        script: script.as_slice(),
+    };
+    let answer = over_record(alloc, command, files, names.other, shelf, source);
+    drop(wishes);
+    answer
+}
+
+/// Does the command over the request that the input answers, in the named file, and then over the
+/// other files and what the source gives.
+fn over_request<C: OverMessage, F: Shelf, S: Source>(
+    alloc: Global,
+    command: &C,
+    conf: &Conf,
+    shelf: &mut F,
+    source: &mut S,
+) -> Result<Outcome, Stop>
+    requires in_range { C.is_in_range command.now }
+    requires tables { HasTables (C.tables command.now) (meaning conf.now) }
+    ensures report { (first : Option FileMap) → HasConf (C.tables command.now)
+        (C.names command.now) first (F.files shelf.old) (meaning conf.now)
+        → IfOutcome result (HasFilesOutcome (C.tables command.now) (C.reports command.now)
+        (C.names command.now) first (source.new ≡ source.old)
+        (S.left source.old) (S.left source.new)) }
+    ensures uses { UsesDevices F.faults S.left S.given S.ended S.idle S.faults (MAX_INPUT_BYTES + 1)
+        result shelf.old shelf.new source.old source.new }
+    ensures asks { AsksRest F.files F.asked F.reached (C.names command.now)
+        (ConfFile ∷ []) result shelf.old shelf.new }
+{
+    let names = command.files();
+    let request = fetch_message(alloc, Role::Request, names.request, shelf)?;
+    let reading = Reading::of_request();
+    let related = fetched_message(alloc, Role::Request, reading, request.as_ref())?;
+    let answer = over_wishes(alloc, command, conf, related.as_ref(), shelf, source);
+    drop(related);
+    answer
 }
 
 /// Reads the configuration in the named file, or that of the empty text, and refuses one that lacks
@@ -462,16 +512,19 @@ pub(crate) fn read_needed<F: Shelf>(
         HasFound (F.files shelf.old) (option_map (λ word. word.now) name.entry) (λ found.
         IsRefusalFor (IsConfLacking needs (option_map (λ word. word.now) name.entry) found)
         (λ cause. Of OfConf cause) refusal))) }
-    ensures files { KeepsFiles (F.files shelf.old) (F.files shelf.new) }
     ensures cause { CountsStop (F.faults shelf.old) (F.faults shelf.new) result }
     ensures later { F.faults shelf.old ≤ F.faults shelf.new }
-    ensures asked { F.asked shelf.new ≤ F.asked shelf.old + 1 }
-    ensures reached { F.reached shelf.new ≤ F.reached shelf.old + (MAX_CONF_BYTES + 1) }
-    ensures unasked { IfNone name.entry (shelf.new ≡ shelf.old) }
+    ensures asks { AsksOne F.files F.asked F.reached (MAX_CONF_BYTES + 1) name.entry
+        shelf.old shelf.new }
 {
     let conf = read_configuration(alloc, name, shelf)?;
-    check_tables(alloc, needs, &conf)?;
-    Ok(conf)
+    match check_tables(alloc, needs, &conf) {
+        Ok(()) => Ok(conf),
+        Err(stop) => {
+            drop(conf);
+            Err(stop)
+        }
+    }
 }
 
 /// Does the command over the files that it names and what the source gives: the configuration, the
@@ -484,19 +537,11 @@ pub fn over_message<C: OverMessage, F: Shelf, S: Source>(
     source: &mut S,
 ) -> Result<Outcome, Stop>
     requires { C.is_in_range command.now }
-    ensures report { IfOutcome result (HasOutcome
-        (ReportsFiles (C.tables command.now) (C.reports command.now) (C.names command.now))
-        (Leaves (Whole MAX_INPUT_BYTES) (source.new ≡ source.old)
-        (S.left source.old) (S.left source.new))
-        (AreFound (F.files shelf.old) (C.names command.now)) (S.left source.old)) }
-    ensures cause { CountsOne (source.new ≡ source.old) (F.faults shelf.old) (F.faults shelf.new)
-        (S.faults source.old) (S.faults source.new) result }
-    ensures shelf_later { F.faults shelf.old ≤ F.faults shelf.new }
-    ensures source_later { S.faults source.old ≤ S.faults source.new }
-    ensures few { LosesAtMost (MAX_INPUT_BYTES + 1) (S.left source.old) (S.left source.new) }
-    ensures given { S.given source.new ≤ S.given source.old + (MAX_INPUT_BYTES + 1) }
-    ensures ended { S.ended source.old ≡ 0 → S.ended source.new ≤ 1 }
-    ensures idle { S.idle source.new ≤ S.idle source.old + 1 }
+    ensures report { IfOutcome result (HasFilesOutcome (C.tables command.now)
+        (C.reports command.now) (C.names command.now) (F.files shelf.old)
+        (source.new ≡ source.old) (S.left source.old) (S.left source.new)) }
+    ensures uses { UsesDevices F.faults S.left S.given S.ended S.idle S.faults (MAX_INPUT_BYTES + 1)
+        result shelf.old shelf.new source.old source.new }
     ensures asks { Asks (C.names command.now) (F.files shelf.old) (F.files shelf.new)
         (F.asked shelf.old) (F.asked shelf.new) (F.reached shelf.old) (F.reached shelf.new)
         (shelf.new ≡ shelf.old) }
@@ -504,21 +549,7 @@ pub fn over_message<C: OverMessage, F: Shelf, S: Source>(
 {
     let names = command.files();
     let conf = read_needed(alloc, command.needs(), names.conf, shelf)?;
-    let request = fetch_message(alloc, Role::Request, names.request, shelf)?;
-    let related = fetched_message(
-        alloc,
-        Role::Request,
-        Reading::of_request(),
-        request.as_ref(),
-    )?;
-    let wanted = fetch_message(alloc, Role::Wanted, names.wanted, shelf)?;
-    let wishes = fetched_message(alloc, Role::Wanted, Reading::of_any(), wanted.as_ref())?;
-    let script = read_script_file(alloc, names.script, shelf)?;
-    let files = FilesRead {
-        conf: &conf,
-        related: related.as_ref(),
-        wishes: wishes.as_ref(),
-        script: script.as_slice(),
-    };
-    over_record(alloc, command, files, names.other, shelf, source)
+    let answer = over_request(alloc, command, &conf, shelf, source);
+    drop(conf);
+    answer
 }

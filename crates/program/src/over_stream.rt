@@ -105,7 +105,11 @@ pub(crate) fn over_stream<F: Shelf, S: Source, K: Sink>(
         (K.faults out.old) (K.faults out.new) }
 {
     match read_needed(alloc, Needs::GatewayTables, Some(words.conf), shelf) {
-        Ok(conf) => serve_source(alloc, &conf, source, out),
+        Ok(conf) => {
+            let ended = serve_source(alloc, &conf, source, out);
+            drop(conf);
+            ended
+        }
         Err(stop) => end_stopped(alloc, stop, out),
     }
 }

@@ -6,10 +6,10 @@ ghost use Rattle.conf.specs.ConfMeaning.{meaning};
 ghost use Rattle.intake.specs.Files.{AreFound};
 ghost use Rattle.intake.specs.Stops.{CountsStop};
 ghost use Rattle.commands.specs.Outcome.{IfOutcome};
-ghost use Rattle.program.specs.Commands.{LosesAtMost, Whole};
+ghost use Rattle.program.specs.Commands.{Whole};
 ghost use Rattle.program.specs.Ends.{HasInput, HasOutcome, Leaves};
 ghost use Rattle.program.specs.Report.{ReportsConfigured};
-ghost use Rattle.program.specs.tools.Parts.{Asks, AsksUntil, CountsOne, conf_names};
+ghost use Rattle.program.specs.tools.Parts.{Asks, AsksUntil, ReadsAtMost, UsesDevices, conf_names};
 
 use command_line::{AuditWords, ListsWords};
 use commands::{Outcome, audit_outcome, message_outcome};
@@ -116,11 +116,8 @@ fn over_source<C: OverText, S: Source>(
         (Leaves (Whole (C.most command.now)) (source.new ≡ source.old)
         (S.left source.old) (S.left source.new)) (S.left source.old)) }
     ensures cause { CountsStop (S.faults source.old) (S.faults source.new) result }
-    ensures later { S.faults source.old ≤ S.faults source.new }
-    ensures few { LosesAtMost (C.most command.now + 1) (S.left source.old) (S.left source.new) }
-    ensures given { S.given source.new ≤ S.given source.old + (C.most command.now + 1) }
-    ensures ended { S.ended source.old ≡ 0 → S.ended source.new ≤ 1 }
-    ensures idle { S.idle source.new ≤ S.idle source.old + 1 }
+    ensures reads { ReadsAtMost S.left S.given S.ended S.idle S.faults
+        (C.most command.now + 1) source.old source.new }
 {
     let limit = command.limit();
     let input = match fill(alloc, source, limit) {
@@ -144,14 +141,8 @@ pub fn over_text<C: OverText, F: Shelf, S: Source>(
         (S.left source.old) (S.left source.new))
         (AreFound (F.files shelf.old) (conf_names (C.conf_name command.now)))
         (S.left source.old)) }
-    ensures cause { CountsOne (source.new ≡ source.old) (F.faults shelf.old) (F.faults shelf.new)
-        (S.faults source.old) (S.faults source.new) result }
-    ensures shelf_later { F.faults shelf.old ≤ F.faults shelf.new }
-    ensures source_later { S.faults source.old ≤ S.faults source.new }
-    ensures few { LosesAtMost (C.most command.now + 1) (S.left source.old) (S.left source.new) }
-    ensures given { S.given source.new ≤ S.given source.old + (C.most command.now + 1) }
-    ensures ended { S.ended source.old ≡ 0 → S.ended source.new ≤ 1 }
-    ensures idle { S.idle source.new ≤ S.idle source.old + 1 }
+    ensures uses { UsesDevices F.faults S.left S.given S.ended S.idle S.faults
+        (C.most command.now + 1) result shelf.old shelf.new source.old source.new }
     ensures asks { Asks (conf_names (C.conf_name command.now))
         (F.files shelf.old) (F.files shelf.new)
         (F.asked shelf.old) (F.asked shelf.new) (F.reached shelf.old) (F.reached shelf.new)
@@ -160,5 +151,7 @@ pub fn over_text<C: OverText, F: Shelf, S: Source>(
         (F.asked shelf.old) (F.asked shelf.new) }
 {
     let conf = read_configuration(alloc, command.conf(), shelf)?;
-    over_source(alloc, command, &conf, source)
+    let answer = over_source(alloc, command, &conf, source);
+    drop(conf);
+    answer
 }

@@ -1,7 +1,7 @@
 -- What the parts of a run keep. No public clause cites this module.
-use Rattle.std.specs.Prelude.{◌≡◌, ◌⊎◌, ◌+◌, ◌≤◌, ⊤, ℕ, Bool, false, IsTrue, List, [], ◌∷◌, codes, Option, Some, None, IsSome, Result, Err, option_map}
+use Rattle.std.specs.Prelude.{◌≡◌, ◌⊎◌, ◌+◌, ◌≤◌, ⊤, ℕ, Bool, false, IsTrue, List, [], ◌∷◌, codes, sum_by, Option, Some, None, IfNone, IsSome, is_some, Result, Err, option_map}
 use Rattle.std.specs.Io.KnownBytes.{Appends, Keeps}
-use Rattle.std.specs.List.{list_all}
+use Rattle.std.specs.List.{filter, list_all}
 use Rattle.std.specs.Str.{bytes_eq}
 use Rattle.sfv_text.specs.Classes.{is_byte}
 use Rattle.hms_io.specs.Files.{FileMap, KeepsFiles}
@@ -17,24 +17,26 @@ use Rattle.verdicts.specs.Contexts.{context_for}
 use Rattle.rewrite_script.specs.declared.rewrite.Rewrite.{Rewrite}
 use Rattle.gateway.specs.declared.fault.StreamFault.{StreamFault}
 use Rattle.gateway.specs.declared.fault.StreamFault.TheVariants.{NotWritten}
+use Rattle.refusals.specs.declared.refusal.TheConstants.{MAX_INPUT_BYTES}
 use Rattle.refusals.specs.declared.role.Role.TheVariants.{Input, Item, Other}
 use Rattle.refusals.specs.declared.file.FileRefusal.TheVariants.{TooLong, Message as NoMessage}
 use Rattle.refusals.specs.declared.refusal.Refusal.{Refusal}
 use Rattle.refusals.specs.declared.refusal.Refusal.TheVariants.{Of, Command}
 use Rattle.command_line.specs.Command.{CommandLine, IsCommand}
-use Rattle.intake.specs.Files.{FileNames, FileRole, file_bytes, file_count, file_names}
+use Rattle.intake.specs.Files.{AreFound, FileNames, FileRole, Conf as ConfFile, Request as RequestFile, HasFound, file_bytes, file_count, file_limit, file_names}
 use Rattle.commands.specs.Layers.{ReadsThen}
-use Rattle.intake.specs.MessageFiles.{IsMessageFile, IsMessageFileRefused}
+use Rattle.intake.specs.MessageFiles.{IsMessageFile, IsMessageFileRefused, IsRequested}
 use Rattle.intake.specs.Messages.{IsInputMessage, IsInputRefused}
 use Rattle.commands.specs.Outcome.{output_of, status_of, IfOutcome}
 use Rattle.commands.specs.declared.outcome.Outcome.{Outcome}
 use Rattle.commands.specs.declared.outcome.Outcome.TheVariants.{Done, NotOk, Refused}
 use Rattle.intake.specs.declared.stop.Stop.{Stop}
+use Rattle.intake.specs.declared.tables.Needs.{Needs}
 use Rattle.intake.specs.declared.stop.Stop.TheVariants.{ReadFault, Memory as NoMemory, Refused as StopRefused}
-use Rattle.program.specs.Commands.{name_of}
-use Rattle.program.specs.Ends.{AppendsPrefix, CountsFaults, OneRose}
-use Rattle.program.specs.Intake.{TakenValues, named_count, read_order, roles_until}
-use Rattle.program.specs.Report.{Answers}
+use Rattle.program.specs.Commands.{LosesAtMost, Whole, name_of}
+use Rattle.program.specs.Ends.{AppendsPrefix, CountsFaults, HasOutcome, Leaves, OneRose}
+use Rattle.program.specs.Intake.{IsConfRead, TakenValues, named_count, read_order, roles_until}
+use Rattle.program.specs.Report.{Answers, ReportsFiles}
 use Rattle.intake.specs.declared.taken.FilesRead.{FilesRead}
 
 -- what was read of the files of a command, the other record of the message aside
@@ -90,6 +92,45 @@ ReportsRecord Then files name found input =
     (IsMessageFileRefused (reading_for files.related) name found) (λ refusal. Of Other refusal)
     (λ other. ReportsMessage Then files other input)
 
+-- the configuration was read, of files that are kept since
+pub record HasConf (needs : Needs) (names : FileNames) (first now : Option FileMap)
+    (conf : Configuration) : Type 0 where
+  pub kept : KeepsFiles first now
+  pub configured : HasFound first (names ConfFile)
+      (λ found. IsConfRead needs (names ConfFile) found conf)
+
+-- it was, and the request that the input answers, where one is named
+pub record HasRequest (needs : Needs) (names : FileNames) (first now : Option FileMap)
+    (conf : Configuration) (related : Option Message) : Type 0 where
+  pub before : HasConf needs names first now conf
+  pub requested : HasFound first (names RequestFile)
+      (λ found. IsRequested (names RequestFile) found related)
+
+-- a run comes to an outcome with the files of these names
+abbrev pub HasFilesOutcome : Needs → Answers → FileNames → Option FileMap → Type 0
+    → Option (List ℕ) → Option (List ℕ) → Outcome → Type 0
+HasFilesOutcome needs Then names shelf Same before now =
+    HasOutcome (ReportsFiles needs Then names) (Leaves (Whole MAX_INPUT_BYTES) Same before now)
+    (AreFound shelf names) before
+
+-- of a source at most so many bytes are read: it isn't read after its end, and each read but one
+-- gives a byte
+pub record ReadsAtMost {S : Type 0} (left : S → Option (List ℕ))
+    (given ended idle faults : S → ℕ) (most : ℕ) (before now : S) : Type 0 where
+  pub later : faults before ≤ faults now
+  pub few : LosesAtMost most (left before) (left now)
+  pub gives : given now ≤ given before + most
+  pub ends : ended before ≡ 0 → ended now ≤ 1
+  pub idles : idle now ≤ idle before + 1
+
+-- a shelf is asked for one file, or for none where it has no name
+pub record AsksOne {X S : Type 0} (files : S → Option FileMap) (asked reached : S → ℕ)
+    (weight : ℕ) (name : Option X) (before now : S) : Type 0 where
+  pub keeps : KeepsFiles (files before) (files now)
+  pub asks : asked now ≤ asked before + 1
+  pub reaches : reached now ≤ reached before + weight
+  pub unasked : IfNone name (now ≡ before)
+
 -- of the files of these names at most so many were asked for, and so many bytes read, and where no
 -- file has a name, the shelf is the same
 pub record Asks (names : FileNames) (before now : Option FileMap)
@@ -109,6 +150,24 @@ abbrev pub AsksUntil : FileNames → Result Outcome Stop → ℕ → ℕ → Typ
 AsksUntil names result before now =
     IfOutcome result (λ outcome. now ≤ before + named_count names (roles_read outcome))
 
+-- how many bytes are read of the files of these roles that have a name
+abbrev pub named_bytes : FileNames → List FileRole → ℕ
+named_bytes names roles =
+    sum_by (λ role. file_limit role + 1) (filter (λ role. is_some (names role)) roles)
+
+-- the same of files and of bytes, where those of the first roles were asked for before
+pub record AsksRest {S : Type 0} (files : S → Option FileMap) (asked reached : S → ℕ)
+    (names : FileNames) (roles : List FileRole) (result : Result Outcome Stop) (before now : S)
+    : Type 0 where
+  pub kept : KeepsFiles (files before) (files now)
+  pub until : (n : ℕ) → asked before ≤ n + named_count names roles
+      → AsksUntil names result n (asked now)
+  pub asks : (n : ℕ) → asked before ≤ n + named_count names roles
+      → asked now ≤ n + file_count names
+  pub reaches : (n : ℕ) → reached before ≤ n + named_bytes names roles
+      → reached now ≤ n + file_bytes names
+  pub unasked : ((role : FileRole) → names role ≡ None) → now ≡ before
+
 -- the same for arguments, and at any end at most all are asked for
 pub record AsksOf (arguments : List (List ℕ)) (result : Result Outcome Stop) (before now : ℕ)
     : Type 0 where
@@ -123,6 +182,16 @@ CountsOne Same shelf shelf_now source source_now (Err ReadFault) =
     OneRose Same shelf shelf_now source source_now
 CountsOne Same shelf shelf_now source source_now result =
     (shelf_now ≡ shelf) × (source_now ≡ source)
+
+-- of the source at most so many bytes are read, and of both devices only a failed read raises just
+-- one of the counts of faults
+pub record UsesDevices {F S : Type 0} (shelf_faults : F → ℕ) (left : S → Option (List ℕ))
+    (given ended idle faults : S → ℕ) (most : ℕ) (result : Result Outcome Stop)
+    (shelf shelf_now : F) (source source_now : S) : Type 0 where
+  pub cause : CountsOne (source_now ≡ source) (shelf_faults shelf) (shelf_faults shelf_now)
+      (faults source) (faults source_now) result
+  pub later : shelf_faults shelf ≤ shelf_faults shelf_now
+  pub reads : ReadsAtMost left given ended idle faults most source source_now
 
 -- the outcome is the command's own: no refusal, or one of the command
 abbrev pub IsOwn : Outcome → Type 0

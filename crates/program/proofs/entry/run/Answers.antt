@@ -7,6 +7,7 @@ use Rattle.program.specs.Ends.{AsksFor, HasReport, WritesRefusal}
 use Rattle.program.specs.StreamEnds.{EndsStream}
 use Rattle.program.specs.StreamMeanings.{TellsStream}
 use Rattle.program.proofs.AskedFiles.{conf_told}
+use Rattle.program.proofs.Meanings.{writes_explanation, writes_negotiated, writes_one_base, writes_one_chain, writes_signed, writes_verdicts}
 use Rattle.program.proofs.Reports.{never, of_command}
 use Rattle.program.proofs.StreamRecords.{told_rightly}
 use Rattle.program.proofs.StreamRuns.{for_gateway, stream_few, why_stream, why_whole_told}
@@ -94,3 +95,33 @@ returns-in-None-clause-why g c =
 
 pub returns-in-None-clause-passed : goal.returns-in-None-clause-passed
 returns-in-None-clause-passed g c = λ words is. absurd (cc (c.in-None.ensures.none (Gateway words) is))
+
+pub returns-in-None-clause-base : goal.returns-in-None-clause-base
+returns-in-None-clause-base g c =
+    writes_one_base (map string_bytes c.args.arguments.now) (g.F.Shelf.files c.args.shelf.now) (c.run_whole.new.source ≡ c.args.source.now) (g.S.Source.left c.args.source.now) (g.S.Source.left c.run_whole.new.source)
+    (g.K.Sink.taken c.args.out.now) (g.K.Sink.taken c.run_whole.new.out) c.run_whole.result.status c.run_whole.ensures.ends
+
+pub returns-in-None-clause-verify : goal.returns-in-None-clause-verify
+returns-in-None-clause-verify g c =
+    writes_verdicts (map string_bytes c.args.arguments.now) (g.F.Shelf.files c.args.shelf.now) (c.run_whole.new.source ≡ c.args.source.now) (g.S.Source.left c.args.source.now) (g.S.Source.left c.run_whole.new.source)
+    (g.K.Sink.taken c.args.out.now) (g.K.Sink.taken c.run_whole.new.out) c.run_whole.result.status c.run_whole.ensures.ends
+
+pub returns-in-None-clause-sign : goal.returns-in-None-clause-sign
+returns-in-None-clause-sign g c =
+    writes_signed (map string_bytes c.args.arguments.now) (g.F.Shelf.files c.args.shelf.now) (c.run_whole.new.source ≡ c.args.source.now) (g.S.Source.left c.args.source.now) (g.S.Source.left c.run_whole.new.source)
+    (g.K.Sink.taken c.args.out.now) (g.K.Sink.taken c.run_whole.new.out) c.run_whole.result.status c.run_whole.ensures.ends
+
+pub returns-in-None-clause-explain : goal.returns-in-None-clause-explain
+returns-in-None-clause-explain g c =
+    writes_explanation (map string_bytes c.args.arguments.now) (g.F.Shelf.files c.args.shelf.now) (c.run_whole.new.source ≡ c.args.source.now) (g.S.Source.left c.args.source.now) (g.S.Source.left c.run_whole.new.source)
+    (g.K.Sink.taken c.args.out.now) (g.K.Sink.taken c.run_whole.new.out) c.run_whole.result.status c.run_whole.ensures.ends
+
+pub returns-in-None-clause-negotiate : goal.returns-in-None-clause-negotiate
+returns-in-None-clause-negotiate g c =
+    writes_negotiated (map string_bytes c.args.arguments.now) (g.F.Shelf.files c.args.shelf.now) (c.run_whole.new.source ≡ c.args.source.now) (g.S.Source.left c.args.source.now) (g.S.Source.left c.run_whole.new.source)
+    (g.K.Sink.taken c.args.out.now) (g.K.Sink.taken c.run_whole.new.out) c.run_whole.result.status c.run_whole.ensures.ends
+
+pub returns-in-None-clause-audit : goal.returns-in-None-clause-audit
+returns-in-None-clause-audit g c =
+    writes_one_chain (map string_bytes c.args.arguments.now) (g.F.Shelf.files c.args.shelf.now) (c.run_whole.new.source ≡ c.args.source.now) (g.S.Source.left c.args.source.now) (g.S.Source.left c.run_whole.new.source)
+    (g.K.Sink.taken c.args.out.now) (g.K.Sink.taken c.run_whole.new.out) c.run_whole.result.status c.run_whole.ensures.ends

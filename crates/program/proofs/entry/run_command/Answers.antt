@@ -78,12 +78,12 @@ returns-in-Base-clause-report g c =
 pub returns-in-Base-clause-few : goal.returns-in-Base-clause-few
 returns-in-Base-clause-few g c =
     of_command (λ (line : CommandLine). LosesFew (input_use line) (g.S.Source.left c.args.source.now) (g.S.Source.left c.over_message.new.source))
-    (map string_bytes c.args.arguments.now) (Base (base_words c.in-Base.words)) (rw c.in-Base.is at c.in-Some.ensures.some) c.over_message.ensures.few
+    (map string_bytes c.args.arguments.now) (Base (base_words c.in-Base.words)) (rw c.in-Base.is at c.in-Some.ensures.some) c.over_message.ensures.uses.reads.few
 
 pub returns-in-Base-clause-given : goal.returns-in-Base-clause-given
 returns-in-Base-clause-given g c =
     of_command (λ (line : CommandLine). GivesAtMost (input_use line) (g.S.Source.given c.args.source.now) (g.S.Source.given c.over_message.new.source))
-    (map string_bytes c.args.arguments.now) (Base (base_words c.in-Base.words)) (rw c.in-Base.is at c.in-Some.ensures.some) c.over_message.ensures.given
+    (map string_bytes c.args.arguments.now) (Base (base_words c.in-Base.words)) (rw c.in-Base.is at c.in-Some.ensures.some) c.over_message.ensures.uses.reads.gives
 
 pub returns-in-Base-clause-asked : goal.returns-in-Base-clause-asked
 returns-in-Base-clause-asked g c =
@@ -112,12 +112,12 @@ returns-in-Verify-clause-report g c =
 pub returns-in-Verify-clause-few : goal.returns-in-Verify-clause-few
 returns-in-Verify-clause-few g c =
     of_command (λ (line : CommandLine). LosesFew (input_use line) (g.S.Source.left c.args.source.now) (g.S.Source.left c.over_message-in-Verify.new.source))
-    (map string_bytes c.args.arguments.now) (Verify (verify_words c.in-Verify.words)) (rw c.in-Verify.is at c.in-Some.ensures.some) c.over_message-in-Verify.ensures.few
+    (map string_bytes c.args.arguments.now) (Verify (verify_words c.in-Verify.words)) (rw c.in-Verify.is at c.in-Some.ensures.some) c.over_message-in-Verify.ensures.uses.reads.few
 
 pub returns-in-Verify-clause-given : goal.returns-in-Verify-clause-given
 returns-in-Verify-clause-given g c =
     of_command (λ (line : CommandLine). GivesAtMost (input_use line) (g.S.Source.given c.args.source.now) (g.S.Source.given c.over_message-in-Verify.new.source))
-    (map string_bytes c.args.arguments.now) (Verify (verify_words c.in-Verify.words)) (rw c.in-Verify.is at c.in-Some.ensures.some) c.over_message-in-Verify.ensures.given
+    (map string_bytes c.args.arguments.now) (Verify (verify_words c.in-Verify.words)) (rw c.in-Verify.is at c.in-Some.ensures.some) c.over_message-in-Verify.ensures.uses.reads.gives
 
 pub returns-in-Verify-clause-asked : goal.returns-in-Verify-clause-asked
 returns-in-Verify-clause-asked g c =
@@ -146,12 +146,12 @@ returns-in-Sign-clause-report g c =
 pub returns-in-Sign-clause-few : goal.returns-in-Sign-clause-few
 returns-in-Sign-clause-few g c =
     of_command (λ (line : CommandLine). LosesFew (input_use line) (g.S.Source.left c.args.source.now) (g.S.Source.left c.over_message-in-Sign.new.source))
-    (map string_bytes c.args.arguments.now) (Sign (sign_words c.in-Sign.words)) (rw c.in-Sign.is at c.in-Some.ensures.some) c.over_message-in-Sign.ensures.few
+    (map string_bytes c.args.arguments.now) (Sign (sign_words c.in-Sign.words)) (rw c.in-Sign.is at c.in-Some.ensures.some) c.over_message-in-Sign.ensures.uses.reads.few
 
 pub returns-in-Sign-clause-given : goal.returns-in-Sign-clause-given
 returns-in-Sign-clause-given g c =
     of_command (λ (line : CommandLine). GivesAtMost (input_use line) (g.S.Source.given c.args.source.now) (g.S.Source.given c.over_message-in-Sign.new.source))
-    (map string_bytes c.args.arguments.now) (Sign (sign_words c.in-Sign.words)) (rw c.in-Sign.is at c.in-Some.ensures.some) c.over_message-in-Sign.ensures.given
+    (map string_bytes c.args.arguments.now) (Sign (sign_words c.in-Sign.words)) (rw c.in-Sign.is at c.in-Some.ensures.some) c.over_message-in-Sign.ensures.uses.reads.gives
 
 pub returns-in-Sign-clause-asked : goal.returns-in-Sign-clause-asked
 returns-in-Sign-clause-asked g c =
@@ -180,12 +180,12 @@ returns-in-Rewrite-clause-report g c =
 pub returns-in-Rewrite-clause-few : goal.returns-in-Rewrite-clause-few
 returns-in-Rewrite-clause-few g c =
     of_command (λ (line : CommandLine). LosesFew (input_use line) (g.S.Source.left c.args.source.now) (g.S.Source.left c.over_message-in-Rewrite.new.source))
-    (map string_bytes c.args.arguments.now) (Rewrite (rewrite_words c.in-Rewrite.words)) (rw c.in-Rewrite.is at c.in-Some.ensures.some) c.over_message-in-Rewrite.ensures.few
+    (map string_bytes c.args.arguments.now) (Rewrite (rewrite_words c.in-Rewrite.words)) (rw c.in-Rewrite.is at c.in-Some.ensures.some) c.over_message-in-Rewrite.ensures.uses.reads.few
 
 pub returns-in-Rewrite-clause-given : goal.returns-in-Rewrite-clause-given
 returns-in-Rewrite-clause-given g c =
     of_command (λ (line : CommandLine). GivesAtMost (input_use line) (g.S.Source.given c.args.source.now) (g.S.Source.given c.over_message-in-Rewrite.new.source))
-    (map string_bytes c.args.arguments.now) (Rewrite (rewrite_words c.in-Rewrite.words)) (rw c.in-Rewrite.is at c.in-Some.ensures.some) c.over_message-in-Rewrite.ensures.given
+    (map string_bytes c.args.arguments.now) (Rewrite (rewrite_words c.in-Rewrite.words)) (rw c.in-Rewrite.is at c.in-Some.ensures.some) c.over_message-in-Rewrite.ensures.uses.reads.gives
 
 pub returns-in-Rewrite-clause-asked : goal.returns-in-Rewrite-clause-asked
 returns-in-Rewrite-clause-asked g c =
@@ -214,12 +214,12 @@ returns-in-Explain-clause-report g c =
 pub returns-in-Explain-clause-few : goal.returns-in-Explain-clause-few
 returns-in-Explain-clause-few g c =
     of_command (λ (line : CommandLine). LosesFew (input_use line) (g.S.Source.left c.args.source.now) (g.S.Source.left c.over_message-in-Explain.new.source))
-    (map string_bytes c.args.arguments.now) (Explain (explain_words c.in-Explain.words)) (rw c.in-Explain.is at c.in-Some.ensures.some) c.over_message-in-Explain.ensures.few
+    (map string_bytes c.args.arguments.now) (Explain (explain_words c.in-Explain.words)) (rw c.in-Explain.is at c.in-Some.ensures.some) c.over_message-in-Explain.ensures.uses.reads.few
 
 pub returns-in-Explain-clause-given : goal.returns-in-Explain-clause-given
 returns-in-Explain-clause-given g c =
     of_command (λ (line : CommandLine). GivesAtMost (input_use line) (g.S.Source.given c.args.source.now) (g.S.Source.given c.over_message-in-Explain.new.source))
-    (map string_bytes c.args.arguments.now) (Explain (explain_words c.in-Explain.words)) (rw c.in-Explain.is at c.in-Some.ensures.some) c.over_message-in-Explain.ensures.given
+    (map string_bytes c.args.arguments.now) (Explain (explain_words c.in-Explain.words)) (rw c.in-Explain.is at c.in-Some.ensures.some) c.over_message-in-Explain.ensures.uses.reads.gives
 
 pub returns-in-Explain-clause-asked : goal.returns-in-Explain-clause-asked
 returns-in-Explain-clause-asked g c =
@@ -248,12 +248,12 @@ returns-in-Audit-clause-report g c =
 pub returns-in-Audit-clause-few : goal.returns-in-Audit-clause-few
 returns-in-Audit-clause-few g c =
     of_command (λ (line : CommandLine). LosesFew (input_use line) (g.S.Source.left c.args.source.now) (g.S.Source.left c.over_text.new.source))
-    (map string_bytes c.args.arguments.now) (Audit (audit_words c.in-Audit.words)) (rw c.in-Audit.is at c.in-Some.ensures.some) c.over_text.ensures.few
+    (map string_bytes c.args.arguments.now) (Audit (audit_words c.in-Audit.words)) (rw c.in-Audit.is at c.in-Some.ensures.some) c.over_text.ensures.uses.reads.few
 
 pub returns-in-Audit-clause-given : goal.returns-in-Audit-clause-given
 returns-in-Audit-clause-given g c =
     of_command (λ (line : CommandLine). GivesAtMost (input_use line) (g.S.Source.given c.args.source.now) (g.S.Source.given c.over_text.new.source))
-    (map string_bytes c.args.arguments.now) (Audit (audit_words c.in-Audit.words)) (rw c.in-Audit.is at c.in-Some.ensures.some) c.over_text.ensures.given
+    (map string_bytes c.args.arguments.now) (Audit (audit_words c.in-Audit.words)) (rw c.in-Audit.is at c.in-Some.ensures.some) c.over_text.ensures.uses.reads.gives
 
 pub returns-in-Audit-clause-asked : goal.returns-in-Audit-clause-asked
 returns-in-Audit-clause-asked g c =
@@ -283,12 +283,12 @@ returns-then-words-clause-report g c =
 pub returns-then-words-clause-few : goal.returns-then-words-clause-few
 returns-then-words-clause-few g c =
     of_command (λ (line : CommandLine). LosesFew (input_use line) (g.S.Source.left c.args.source.now) (g.S.Source.left c.over_text-then-words.new.source))
-    (map string_bytes c.args.arguments.now) (Lists (lists_words c.in-Lists.words)) (rw c.in-Lists.is at c.in-Some.ensures.some) c.over_text-then-words.ensures.few
+    (map string_bytes c.args.arguments.now) (Lists (lists_words c.in-Lists.words)) (rw c.in-Lists.is at c.in-Some.ensures.some) c.over_text-then-words.ensures.uses.reads.few
 
 pub returns-then-words-clause-given : goal.returns-then-words-clause-given
 returns-then-words-clause-given g c =
     of_command (λ (line : CommandLine). GivesAtMost (input_use line) (g.S.Source.given c.args.source.now) (g.S.Source.given c.over_text-then-words.new.source))
-    (map string_bytes c.args.arguments.now) (Lists (lists_words c.in-Lists.words)) (rw c.in-Lists.is at c.in-Some.ensures.some) c.over_text-then-words.ensures.given
+    (map string_bytes c.args.arguments.now) (Lists (lists_words c.in-Lists.words)) (rw c.in-Lists.is at c.in-Some.ensures.some) c.over_text-then-words.ensures.uses.reads.gives
 
 pub returns-then-words-clause-asked : goal.returns-then-words-clause-asked
 returns-then-words-clause-asked g c =
@@ -318,12 +318,12 @@ returns-else-words-clause-report g c =
 pub returns-else-words-clause-few : goal.returns-else-words-clause-few
 returns-else-words-clause-few g c =
     of_command (λ (line : CommandLine). LosesFew (input_use line) (g.S.Source.left c.args.source.now) (g.S.Source.left c.over_message-else-words.new.source))
-    (map string_bytes c.args.arguments.now) (Lists (lists_words c.in-Lists.words)) (rw c.in-Lists.is at c.in-Some.ensures.some) c.over_message-else-words.ensures.few
+    (map string_bytes c.args.arguments.now) (Lists (lists_words c.in-Lists.words)) (rw c.in-Lists.is at c.in-Some.ensures.some) c.over_message-else-words.ensures.uses.reads.few
 
 pub returns-else-words-clause-given : goal.returns-else-words-clause-given
 returns-else-words-clause-given g c =
     of_command (λ (line : CommandLine). GivesAtMost (input_use line) (g.S.Source.given c.args.source.now) (g.S.Source.given c.over_message-else-words.new.source))
-    (map string_bytes c.args.arguments.now) (Lists (lists_words c.in-Lists.words)) (rw c.in-Lists.is at c.in-Some.ensures.some) c.over_message-else-words.ensures.given
+    (map string_bytes c.args.arguments.now) (Lists (lists_words c.in-Lists.words)) (rw c.in-Lists.is at c.in-Some.ensures.some) c.over_message-else-words.ensures.uses.reads.gives
 
 pub returns-else-words-clause-asked : goal.returns-else-words-clause-asked
 returns-else-words-clause-asked g c =
@@ -352,12 +352,12 @@ returns-in-Negotiate-clause-report g c =
 pub returns-in-Negotiate-clause-few : goal.returns-in-Negotiate-clause-few
 returns-in-Negotiate-clause-few g c =
     of_command (λ (line : CommandLine). LosesFew (input_use line) (g.S.Source.left c.args.source.now) (g.S.Source.left c.over_message-in-Negotiate.new.source))
-    (map string_bytes c.args.arguments.now) (Negotiate (negotiate_words c.in-Negotiate.words)) (rw c.in-Negotiate.is at c.in-Some.ensures.some) c.over_message-in-Negotiate.ensures.few
+    (map string_bytes c.args.arguments.now) (Negotiate (negotiate_words c.in-Negotiate.words)) (rw c.in-Negotiate.is at c.in-Some.ensures.some) c.over_message-in-Negotiate.ensures.uses.reads.few
 
 pub returns-in-Negotiate-clause-given : goal.returns-in-Negotiate-clause-given
 returns-in-Negotiate-clause-given g c =
     of_command (λ (line : CommandLine). GivesAtMost (input_use line) (g.S.Source.given c.args.source.now) (g.S.Source.given c.over_message-in-Negotiate.new.source))
-    (map string_bytes c.args.arguments.now) (Negotiate (negotiate_words c.in-Negotiate.words)) (rw c.in-Negotiate.is at c.in-Some.ensures.some) c.over_message-in-Negotiate.ensures.given
+    (map string_bytes c.args.arguments.now) (Negotiate (negotiate_words c.in-Negotiate.words)) (rw c.in-Negotiate.is at c.in-Some.ensures.some) c.over_message-in-Negotiate.ensures.uses.reads.gives
 
 pub returns-in-Negotiate-clause-asked : goal.returns-in-Negotiate-clause-asked
 returns-in-Negotiate-clause-asked g c =

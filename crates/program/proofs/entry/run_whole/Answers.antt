@@ -1,7 +1,6 @@
 use Rattle.std.proofs.Common.{◌≡◌, map, string_bytes}
 use Rattle.program.specs.Ends.{HasReport}
 use Rattle.program.proofs.AskedFiles.{asks_stopped, asks_written}
-use Rattle.program.proofs.Meanings.{writes_explanation, writes_negotiated, writes_one_base, writes_one_chain, writes_signed, writes_verdicts}
 use Rattle.program.proofs.WrittenOutcomes.{ends_stopped, ends_written, no_command_stopped, reads_stopped, reads_written, why_stopped, why_written}
 use Rattle.program.proofs.entry.run_whole.Goals as goal
 
@@ -16,36 +15,6 @@ pub returns-in-Ok-clause-why : goal.returns-in-Ok-clause-why
 returns-in-Ok-clause-why g c =
     why_written (HasReport (map string_bytes c.args.arguments.now) (g.F.Shelf.files c.args.shelf.now) (c.run_command.new.source ≡ c.args.source.now) (g.S.Source.left c.args.source.now) (g.S.Source.left c.run_command.new.source))
     (g.K.Sink.taken c.args.out.now) (g.K.Sink.taken c.write_outcome.new.out) c.in-Ok.outcome c.write_outcome.result.status c.write_outcome.result.refusal (c.in-Ok.ensures.report) c.write_outcome.ensures.ends
-
-pub returns-in-Ok-clause-base : goal.returns-in-Ok-clause-base
-returns-in-Ok-clause-base g c =
-    writes_one_base (map string_bytes c.args.arguments.now) (g.F.Shelf.files c.args.shelf.now) (c.run_command.new.source ≡ c.args.source.now) (g.S.Source.left c.args.source.now) (g.S.Source.left c.run_command.new.source)
-    (g.K.Sink.taken c.args.out.now) (g.K.Sink.taken c.write_outcome.new.out) c.write_outcome.result.status (returns-in-Ok-clause-ends g c)
-
-pub returns-in-Ok-clause-verify : goal.returns-in-Ok-clause-verify
-returns-in-Ok-clause-verify g c =
-    writes_verdicts (map string_bytes c.args.arguments.now) (g.F.Shelf.files c.args.shelf.now) (c.run_command.new.source ≡ c.args.source.now) (g.S.Source.left c.args.source.now) (g.S.Source.left c.run_command.new.source)
-    (g.K.Sink.taken c.args.out.now) (g.K.Sink.taken c.write_outcome.new.out) c.write_outcome.result.status (returns-in-Ok-clause-ends g c)
-
-pub returns-in-Ok-clause-sign : goal.returns-in-Ok-clause-sign
-returns-in-Ok-clause-sign g c =
-    writes_signed (map string_bytes c.args.arguments.now) (g.F.Shelf.files c.args.shelf.now) (c.run_command.new.source ≡ c.args.source.now) (g.S.Source.left c.args.source.now) (g.S.Source.left c.run_command.new.source)
-    (g.K.Sink.taken c.args.out.now) (g.K.Sink.taken c.write_outcome.new.out) c.write_outcome.result.status (returns-in-Ok-clause-ends g c)
-
-pub returns-in-Ok-clause-explain : goal.returns-in-Ok-clause-explain
-returns-in-Ok-clause-explain g c =
-    writes_explanation (map string_bytes c.args.arguments.now) (g.F.Shelf.files c.args.shelf.now) (c.run_command.new.source ≡ c.args.source.now) (g.S.Source.left c.args.source.now) (g.S.Source.left c.run_command.new.source)
-    (g.K.Sink.taken c.args.out.now) (g.K.Sink.taken c.write_outcome.new.out) c.write_outcome.result.status (returns-in-Ok-clause-ends g c)
-
-pub returns-in-Ok-clause-negotiate : goal.returns-in-Ok-clause-negotiate
-returns-in-Ok-clause-negotiate g c =
-    writes_negotiated (map string_bytes c.args.arguments.now) (g.F.Shelf.files c.args.shelf.now) (c.run_command.new.source ≡ c.args.source.now) (g.S.Source.left c.args.source.now) (g.S.Source.left c.run_command.new.source)
-    (g.K.Sink.taken c.args.out.now) (g.K.Sink.taken c.write_outcome.new.out) c.write_outcome.result.status (returns-in-Ok-clause-ends g c)
-
-pub returns-in-Ok-clause-audit : goal.returns-in-Ok-clause-audit
-returns-in-Ok-clause-audit g c =
-    writes_one_chain (map string_bytes c.args.arguments.now) (g.F.Shelf.files c.args.shelf.now) (c.run_command.new.source ≡ c.args.source.now) (g.S.Source.left c.args.source.now) (g.S.Source.left c.run_command.new.source)
-    (g.K.Sink.taken c.args.out.now) (g.K.Sink.taken c.write_outcome.new.out) c.write_outcome.result.status (returns-in-Ok-clause-ends g c)
 
 pub returns-in-Ok-clause-reads : goal.returns-in-Ok-clause-reads
 returns-in-Ok-clause-reads g c =
@@ -69,36 +38,6 @@ pub returns-in-Err-clause-why : goal.returns-in-Err-clause-why
 returns-in-Err-clause-why g c =
     why_stopped (HasReport (map string_bytes c.args.arguments.now) (g.F.Shelf.files c.args.shelf.now) (c.run_command.new.source ≡ c.args.source.now) (g.S.Source.left c.args.source.now) (g.S.Source.left c.run_command.new.source))
     (g.K.Sink.taken c.args.out.now) (g.K.Sink.taken c.end_stopped.new.out) c.in-Err.stop c.end_stopped.result.status c.end_stopped.result.refusal c.in-Err.ensures.report c.end_stopped.ensures.ends
-
-pub returns-in-Err-clause-base : goal.returns-in-Err-clause-base
-returns-in-Err-clause-base g c =
-    writes_one_base (map string_bytes c.args.arguments.now) (g.F.Shelf.files c.args.shelf.now) (c.run_command.new.source ≡ c.args.source.now) (g.S.Source.left c.args.source.now) (g.S.Source.left c.run_command.new.source)
-    (g.K.Sink.taken c.args.out.now) (g.K.Sink.taken c.end_stopped.new.out) c.end_stopped.result.status (returns-in-Err-clause-ends g c)
-
-pub returns-in-Err-clause-verify : goal.returns-in-Err-clause-verify
-returns-in-Err-clause-verify g c =
-    writes_verdicts (map string_bytes c.args.arguments.now) (g.F.Shelf.files c.args.shelf.now) (c.run_command.new.source ≡ c.args.source.now) (g.S.Source.left c.args.source.now) (g.S.Source.left c.run_command.new.source)
-    (g.K.Sink.taken c.args.out.now) (g.K.Sink.taken c.end_stopped.new.out) c.end_stopped.result.status (returns-in-Err-clause-ends g c)
-
-pub returns-in-Err-clause-sign : goal.returns-in-Err-clause-sign
-returns-in-Err-clause-sign g c =
-    writes_signed (map string_bytes c.args.arguments.now) (g.F.Shelf.files c.args.shelf.now) (c.run_command.new.source ≡ c.args.source.now) (g.S.Source.left c.args.source.now) (g.S.Source.left c.run_command.new.source)
-    (g.K.Sink.taken c.args.out.now) (g.K.Sink.taken c.end_stopped.new.out) c.end_stopped.result.status (returns-in-Err-clause-ends g c)
-
-pub returns-in-Err-clause-explain : goal.returns-in-Err-clause-explain
-returns-in-Err-clause-explain g c =
-    writes_explanation (map string_bytes c.args.arguments.now) (g.F.Shelf.files c.args.shelf.now) (c.run_command.new.source ≡ c.args.source.now) (g.S.Source.left c.args.source.now) (g.S.Source.left c.run_command.new.source)
-    (g.K.Sink.taken c.args.out.now) (g.K.Sink.taken c.end_stopped.new.out) c.end_stopped.result.status (returns-in-Err-clause-ends g c)
-
-pub returns-in-Err-clause-negotiate : goal.returns-in-Err-clause-negotiate
-returns-in-Err-clause-negotiate g c =
-    writes_negotiated (map string_bytes c.args.arguments.now) (g.F.Shelf.files c.args.shelf.now) (c.run_command.new.source ≡ c.args.source.now) (g.S.Source.left c.args.source.now) (g.S.Source.left c.run_command.new.source)
-    (g.K.Sink.taken c.args.out.now) (g.K.Sink.taken c.end_stopped.new.out) c.end_stopped.result.status (returns-in-Err-clause-ends g c)
-
-pub returns-in-Err-clause-audit : goal.returns-in-Err-clause-audit
-returns-in-Err-clause-audit g c =
-    writes_one_chain (map string_bytes c.args.arguments.now) (g.F.Shelf.files c.args.shelf.now) (c.run_command.new.source ≡ c.args.source.now) (g.S.Source.left c.args.source.now) (g.S.Source.left c.run_command.new.source)
-    (g.K.Sink.taken c.args.out.now) (g.K.Sink.taken c.end_stopped.new.out) c.end_stopped.result.status (returns-in-Err-clause-ends g c)
 
 pub returns-in-Err-clause-refused : goal.returns-in-Err-clause-refused
 returns-in-Err-clause-refused g c = λ none.

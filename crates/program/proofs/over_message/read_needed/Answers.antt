@@ -15,18 +15,25 @@ returns-in_err-conf-clause-refused g c =
     let p = err_from_is_err_and c.from_residual.result c.from_residual.ensures.1 in
     rw (p.1, p.2) (conf_lacking c.args.needs (g.F.Shelf.files c.args.shelf.now) (option_map (λ word. word.now) c.args.name) c.in_err-conf.field-0.0 c.in_err-conf.ensures.refused)
 
-pub returns-in_err-check_tables-clause-refused : goal.returns-in_err-check_tables-clause-refused
-returns-in_err-check_tables-clause-refused g c =
-    let p = err_from_is_err_and c.from_residual-in_err-check_tables.result c.from_residual-in_err-check_tables.ensures.1 in
-    rw (p.1, p.2) (table_lacking c.args.needs (g.F.Shelf.files c.args.shelf.now) (option_map (λ word. word.now) c.args.name) (meaning c.in_ok-conf.conf) c.in_err-check_tables.field-0.0
-    c.in_ok-conf.ensures.ok c.in_err-check_tables.ensures.refused)
+pub returns-in-Err-clause-refused : goal.returns-in-Err-clause-refused
+returns-in-Err-clause-refused g c =
+    table_lacking c.args.needs (g.F.Shelf.files c.args.shelf.now) (option_map (λ word. word.now) c.args.name) (meaning c.in_ok-conf.conf) c.in-Err.stop
+    c.in_ok-conf.ensures.ok c.in-Err.ensures.refused
 
-pub returns-in_err-check_tables-clause-cause : goal.returns-in_err-check_tables-clause-cause
-returns-in_err-check_tables-clause-cause g c =
-    let p = err_from_is_err_and c.from_residual-in_err-check_tables.result c.from_residual-in_err-check_tables.ensures.1 in
-    rw (p.1, p.2) (refused_counts ℕ (IsRefusalFor (IsTableMissing c.args.needs (meaning c.in_ok-conf.conf)) (λ cause. Of OfConf cause)) c.in_err-check_tables.field-0.0
-    (g.F.Shelf.faults c.args.shelf.now) (g.F.Shelf.faults c.read_configuration.new.shelf) c.in_err-check_tables.ensures.refused c.in_ok-conf.ensures.cause)
+pub returns-in-Err-clause-cause : goal.returns-in-Err-clause-cause
+returns-in-Err-clause-cause g c =
+    refused_counts ℕ (IsRefusalFor (IsTableMissing c.args.needs (meaning c.in_ok-conf.conf)) (λ cause. Of OfConf cause)) c.in-Err.stop
+    (g.F.Shelf.faults c.args.shelf.now) (g.F.Shelf.faults c.read_configuration.new.shelf) c.in-Err.ensures.refused c.in_ok-conf.ensures.cause
 
-pub returns-clause-ok : goal.returns-clause-ok
-returns-clause-ok g c =
-    needed_had c.args.needs (g.F.Shelf.files c.args.shelf.now) (option_map (λ word. word.now) c.args.name) (meaning c.in_ok-conf.conf) c.in_ok-conf.ensures.ok c.in_ok-check_tables.ensures.ok
+pub returns-in-Ok-clause-ok : goal.returns-in-Ok-clause-ok
+returns-in-Ok-clause-ok g c =
+    needed_had c.args.needs (g.F.Shelf.files c.args.shelf.now) (option_map (λ word. word.now) c.args.name) (meaning c.in_ok-conf.conf) c.in_ok-conf.ensures.ok c.in-Ok.ensures.ok
+
+pub returns-in_err-conf-clause-asks : goal.returns-in_err-conf-clause-asks
+returns-in_err-conf-clause-asks g c = record { keeps = c.in_err-conf.ensures.files; asks = c.in_err-conf.ensures.asked; reaches = c.in_err-conf.ensures.reached; unasked = c.in_err-conf.ensures.unasked }
+
+pub returns-in-Err-clause-asks : goal.returns-in-Err-clause-asks
+returns-in-Err-clause-asks g c = record { keeps = c.in_ok-conf.ensures.files; asks = c.in_ok-conf.ensures.asked; reaches = c.in_ok-conf.ensures.reached; unasked = c.in_ok-conf.ensures.unasked }
+
+pub returns-in-Ok-clause-asks : goal.returns-in-Ok-clause-asks
+returns-in-Ok-clause-asks g c = record { keeps = c.in_ok-conf.ensures.files; asks = c.in_ok-conf.ensures.asked; reaches = c.in_ok-conf.ensures.reached; unasked = c.in_ok-conf.ensures.unasked }

@@ -34,6 +34,14 @@ returns-clause-report g c =
     text_outcome (g.C.OverText.reports c.args.command.now (meaning c.args.conf.now)) (g.C.OverText.most c.args.command.now) (c.fill.new.source ≡ c.args.source.now) c.in-Ok.input c.bytes.result.now
     (g.S.Source.left c.args.source.now) (g.S.Source.left c.fill.new.source) c.bytes.ensures c.in-Ok.ensures.whole c.answer.result c.answer.ensures.report c.answer.ensures.after
 
-pub returns-clause-few : goal.returns-clause-few
-returns-clause-few g c =
-    all_gone _ (g.S.Source.left c.args.source.now) (g.S.Source.left c.fill.new.source) c.in-Ok.input c.in-Ok.ensures.whole (rw c.limit-limit.ensures.limit at c.in-Ok.ensures.within)
+pub returns-in-Err-clause-reads : goal.returns-in-Err-clause-reads
+returns-in-Err-clause-reads g c = rw (sym c.limit-limit.ensures.limit) (record { later = c.in-Err.ensures.later; few = c.in-Err.ensures.prefix; gives = c.in-Err.ensures.few; ends = c.in-Err.ensures.ended; idles = c.in-Err.ensures.idle })
+
+pub returns-clause-reads : goal.returns-clause-reads
+returns-clause-reads g c = record {
+  later = c.in-Ok.ensures.later;
+  few = all_gone _ (g.S.Source.left c.args.source.now) (g.S.Source.left c.fill.new.source) c.in-Ok.input c.in-Ok.ensures.whole (rw c.limit-limit.ensures.limit at c.in-Ok.ensures.within);
+  gives = rw c.limit-limit.ensures.limit at c.in-Ok.ensures.few;
+  ends = c.in-Ok.ensures.ended;
+  idles = c.in-Ok.ensures.idle;
+}
