@@ -1,10 +1,11 @@
 -- What is written of an explanation of two messages.
 use Rattle.std.proofs.Common.{◌≡◌, ◌≢◌, ◌<◌, ◌∙◌, ℕ, true, List, length, Some, Ok, Err, inl, inr, refl, sym, ap, subst}
-use Rattle.std.specs.Prelude.{IsSomeAnd, IsTrue}
+use Rattle.std.specs.Prelude.{IfOk, IsSomeAnd, IsTrue, Result}
 use Rattle.std.specs.List.{list_all, slice_get}
 use Rattle.std.proofs.lemmas.Bool.{and_parts}
 use Rattle.std.proofs.lemmas.Option.{slice_get_within}
 use Rattle.byte_grammar.specs.Causes.{AnswersWhere}
+use Rattle.byte_grammar.specs.declared.memory.Memory.{Memory}
 use Rattle.byte_grammar.proofs.Indices.{all_at, some_and, some_and_at, some_and_parts}
 use Rattle.msg_body.specs.Messages.{Message}
 use Rattle.component_ids.specs.Identifiers.{is_id_in_range}
@@ -94,14 +95,10 @@ pub id_in_range : (params : SigParams) (index : ℕ) (id : ComponentId) → are_
 id_in_range params index id ranged at =
     all_at is_id_in_range params.ids index id (and_parts (list_all is_id_in_range params.ids) (are_params_in_range params.params) ranged).0 at
 
-pub difference_is : (message : Message) (label : List ℕ) (index : ℕ) (params : SigParams) (tag text : List ℕ) (id : ComponentId) → HasSignature message label params tag → slice_get params.ids index ≡ Some id
-    → text ≡ differing_text id → IsDifference message label index (NotOk text)
-difference_is message label index params tag text id has at is = record {
-  params = params;
-  tag = tag;
-  signature = has;
-  there = some_and (λ (i : ComponentId). NotOk text ≡ NotOk (differing_text i)) (slice_get params.ids index) id at (ap NotOk is);
-}
+pub difference_is : (message : Message) (label : List ℕ) (index : ℕ) (params : SigParams) (tag : List ℕ) (result : Result Outcome Memory) → HasSignature message label params tag
+    → IfOk result (λ outcome. IsSomeAnd (slice_get params.ids index) (λ id. outcome ≡ NotOk (differing_text id))) → IfOk result (IsDifference message label index)
+difference_is message label index params tag (Ok outcome) has there = record { params = params; tag = tag; signature = has; there = there }
+difference_is message label index params tag (Err memory) has there = tt
 
 pub covered_where_differs : (first second : MessageContext) (label : List ℕ) (index : ℕ) → Explains first second label (Differs index) → HasCovered first.message label index
 covered_where_differs first second label index is =

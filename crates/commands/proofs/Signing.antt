@@ -135,7 +135,10 @@ module _ (context : MessageContext) (spec : SignSpec) where
   }
 
   -- what comes of one signature
-  stop_reported : (specs : List SignSpec) (stop : Stop) → IfRefused stop (IsRefusalFor (IsSignRefused context spec) Command) → IfOutcome (Err stop) (ReportsEach context (spec ∷ specs))
+  pub text_reported : (text : List ℕ) → IsSignedText context spec text → ReportsEach context (spec ∷ []) (Done text)
+  text_reported text made = inl (made.written, made.is, ap (λ (t : List ℕ). Done t) made.spells.text)
+
+  pub stop_reported : (specs : List SignSpec) (stop : Stop) → IfRefused stop (IsRefusalFor (IsSignRefused context spec) Command) → IfOutcome (Err stop) (ReportsEach context (spec ∷ specs))
   stop_reported specs ends.Memory is = tt
   stop_reported specs ends.ReadFault is = tt
   stop_reported specs (ends.Refused refusal) is = inr (is.0, is.1, ap (λ (r : Refusal). Refused r) is.2)
@@ -155,12 +158,8 @@ says_more P Q (Err (ends.Refused refusal)) more is = more (Refused refusal) is
 -- ---- the signature that a configuration asks for
 
 module _ (value : Option (List ℕ)) (moment : ℕ) (conf : Configuration) (context : MessageContext) (spec : SignSpec) (is : IsSpecOf conf (is_request context.message.head.start) moment value spec) where
-  pub asked_made : (text : List ℕ) → IsSignedText context spec text → ReportsSign value moment conf context (Done text)
-  asked_made text made = record { spec = spec; is = is; reports = inl (made.written, made.is, ap (λ (t : List ℕ). Done t) made.spells.text) }
-
-  pub asked_stopped : (stop : Stop) → IfRefused stop (IsRefusalFor (IsSignRefused context spec) Command) → IfOutcome (Err stop) (ReportsSign value moment conf context)
-  asked_stopped stop stopped =
-      says_more (ReportsEach context (spec ∷ [])) (ReportsSign value moment conf context) (Err stop) (λ outcome reports. record { spec = spec; is = is; reports = reports }) (stop_reported context spec [] stop stopped)
+  pub asked : (result : Result Outcome Stop) → IfOutcome result (ReportsEach context (spec ∷ [])) → IfOutcome result (ReportsSign value moment conf context)
+  asked result = says_more (ReportsEach context (spec ∷ [])) (ReportsSign value moment conf context) result (λ outcome reports. record { spec = spec; is = is; reports = reports })
 
 -- ---- more than one
 

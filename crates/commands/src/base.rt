@@ -41,7 +41,11 @@ fn base_of(alloc: Global, sig: &SigParams, context: &Context<'_, '_>) -> Result<
     ensures reads_nothing { ReadsNothing result }
 {
     match prepare(alloc, context, sig) {
-        Ok(prepared) => Ok(Outcome::Done(base_bytes(alloc, &prepared)?)),
+        Ok(prepared) => {
+            let base = base_bytes(alloc, &prepared);
+            drop(prepared);
+            Ok(Outcome::Done(base?))
+        }
         Err(fault) => Err(stop_for_fault(alloc, sig.ids.as_slice(), fault)),
     }
 }

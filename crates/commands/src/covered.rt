@@ -20,5 +20,7 @@ pub fn read_signature_params(alloc: Global, params: &[u8]) -> Result<SigParams, 
         IfRefused stop (IsRefusalFor (AreParamsRefused params.now) Command)) }
 {
     let list = read_inner(alloc, params)?;
-    Ok(read_params(alloc, &list)?)
+    let read = read_params(alloc, &list);
+    drop(list);
+    Ok(read?)
 }

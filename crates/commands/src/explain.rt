@@ -2,16 +2,19 @@
 //! are alike, and that the signature of a label permits, or the first covered field that differs
 //! (RFC 9421 section 1.1).
 
-ghost use Rattle.std.specs.Prelude.{◌≡◌, IfOk, IsTrue};
+ghost use Rattle.std.specs.Prelude.{◌≡◌, ◌<◌, ◌++◌, IfOk, OnOk, IsSomeAnd, IsTrue, length, slice_get};
 ghost use Rattle.component_ids.specs.Identifiers.{is_id_in_range};
+ghost use Rattle.component_ids.specs.SignatureParams.{are_sig_params_in_range};
 ghost use Rattle.component_values.specs.Context.{HasWholeMessage, context_of, context_with};
 ghost use Rattle.msg_body.specs.Views.{message_of};
+ghost use Rattle.rewrite_script.specs.Scripts.{script_text};
 ghost use Rattle.commands.specs.Explain.{differing_text, explained_text, IsDifference, ReportsExplanation};
 ghost use Rattle.commands.specs.Outcome.{IfOutcome, ReadsNothing};
+ghost use Rattle.commands.specs.declared.outcome.Outcome.TheVariants.{NotOk};
 ghost use Rattle.commands.specs.tools.Explained.{HasCovered};
 
 use crate::outcome::Outcome;
-use component_ids::{ComponentId, print_id};
+use component_ids::{ComponentId, SigParams, print_id};
 use component_values::Context;
 use intake::Stop;
 use msg_body::MessageView;
@@ -21,16 +24,37 @@ use sfv_text::{Memory, Text, append_number, append_words};
 use signatures::{LabelFault, read_label};
 use std::alloc::Global;
 
+/// Adds the lines of the steps.
+fn append_script(alloc: Global, script: &[Rewrite], text: &mut Text) -> Result<(), Memory>
+    ensures { OnOk result (text.new ≡ text.old ++ script_text script.now) }
+{
+    let lines = print_script(alloc, script)?;
+    text.append(lines.bytes())
+}
+
+/// Adds how many steps lead from each of two messages to one that is like the other's, and the
+/// steps.
+fn append_explained(
+    alloc: Global,
+    first: &[Rewrite],
+    second: &[Rewrite],
+    text: &mut Text,
+) -> Result<(), Memory>
+    ensures { OnOk result (text.new ≡ text.old ++ explained_text first.now second.now) }
+{
+    append_number(alloc, b"explained ", first.len(), text)?;
+    append_number(alloc, b" ", second.len(), text)?;
+    text.append(b"\n")?;
+    append_script(alloc, first, text)?;
+    append_script(alloc, second, text)
+}
+
 /// How many steps lead from each of two messages to one that is like the other's, and the steps.
 fn explained_text(alloc: Global, first: &[Rewrite], second: &[Rewrite]) -> Result<Text, Memory>
     ensures { IfOk result (λ text. text ≡ explained_text first.now second.now) }
 {
     let mut text = Text::new(alloc);
-    append_number(alloc, b"explained ", first.len(), &mut text)?;
-    append_number(alloc, b" ", second.len(), &mut text)?;
-    text.append(b"\n")?;
-    text.append(print_script(alloc, first)?.bytes())?;
-    text.append(print_script(alloc, second)?.bytes())?;
+    append_explained(alloc, first, second, &mut text)?;
     Ok(text)
 }
 
@@ -46,6 +70,16 @@ fn differing_text(alloc: Global, id: &ComponentId) -> Result<Text, Memory>
     Ok(text)
 }
 
+/// The line of the component of this index, of those that these parameters cover.
+fn differing_outcome(alloc: Global, params: &SigParams, index: usize) -> Result<Outcome, Memory>
+    requires in_range { IsTrue (are_sig_params_in_range params.now) }
+    requires within { index < length params.now.ids }
+    ensures { IfOk result (λ outcome. IsSomeAnd (slice_get params.now.ids index)
+        (λ id. outcome ≡ NotOk (differing_text id))) }
+{
+    Ok(Outcome::NotOk(differing_text(alloc, params.ids.get(index))?))
+}
+
 /// The line of the component of this index, of those that the label's signature covers.
 fn difference(
     alloc: Global,
@@ -57,7 +91,11 @@ fn difference(
     ensures { IfOk result (IsDifference (message_of message.now) label.now index) }
 {
     match read_label(alloc, message, label) {
-        Ok(read) => Ok(Outcome::NotOk(differing_text(alloc, read.params.ids.get(index))?)),
+        Ok(read) => {
+            let outcome = differing_outcome(alloc, &read.params, index);
+            drop(read);
+            outcome
+        }
         Err(LabelFault::Memory) => Err(Memory),
         Err(LabelFault::Rule(_, _)) => unreachable!(),
     }

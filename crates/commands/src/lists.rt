@@ -23,8 +23,9 @@ pub fn message_outcome(alloc: Global, conf: &Conf, input: &[u8]) -> Result<Outco
     ensures reads_nothing { ReadsNothing result }
 {
     let list = read_fields(alloc, input)?;
-    let message = to_message(alloc, &list, conf.scheme())?;
-    Ok(Outcome::Done(message))
+    let message = to_message(alloc, &list, conf.scheme());
+    drop(list);
+    Ok(Outcome::Done(message?))
 }
 
 /// The list of fields that the context's message is turned into.
@@ -33,6 +34,7 @@ pub fn list_outcome(alloc: Global, context: &Context<'_, '_>) -> Result<Outcome,
     ensures reads_nothing { ReadsNothing result }
 {
     let list = from_message(alloc, context)?;
-    let text = print_fields(alloc, &list)?;
-    Ok(Outcome::Done(text))
+    let text = print_fields(alloc, &list);
+    drop(list);
+    Ok(Outcome::Done(text?))
 }

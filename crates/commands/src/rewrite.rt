@@ -1,15 +1,17 @@
 //! The command `rewrite`: the message after the steps of a script, as it may come to its recipient,
 //! and whether the signature of a label permits each of them (RFC 9421 section 1.1).
 
-ghost use Rattle.std.specs.Prelude.{Some, option_map, IfOk, IsTrue};
+ghost use Rattle.std.specs.Prelude.{ℕ, List, Some, option_map, IfOk, IsTrue};
 ghost use Rattle.std.specs.List.{list_all};
 ghost use Rattle.component_values.specs.Context.{HasWholeMessage, context_of};
 ghost use Rattle.rewrite_script.specs.Lines.{is_writable};
+ghost use Rattle.signatures.specs.Signatures.{HasSignature};
 ghost use Rattle.commands.specs.Rewrite.{ReportsRewriting};
 ghost use Rattle.commands.specs.Outcome.{IfOutcome, ReadsNothing};
 ghost use Rattle.commands.specs.tools.Rewritten.{IsJudged};
 
 use crate::outcome::Outcome;
+use component_ids::SigParams;
 use component_values::Context;
 use intake::Stop;
 use rewrite_script::Rewrite;
@@ -17,6 +19,26 @@ use rewrites::{Judgement, Watcher, permits, walk};
 use sfv_text::Memory;
 use signatures::{LabelFault, read_label};
 use std::alloc::Global;
+
+/// Judges a step by the label's signature, which has these parameters.
+fn judge(
+    alloc: Global,
+    label: &[u8],
+    context: &Context<'_, '_>,
+    step: &Rewrite,
+    params: &SigParams,
+) -> Result<Judgement, Memory>
+    requires writable { IsTrue (is_writable step.now) }
+    requires signature { (tag : List ℕ)
+        × HasSignature (context_of context.now).message label.now params.now tag }
+    ensures { IfOk result (IsJudged (Some label.now) (context_of context.now) step.now) }
+{
+    if permits(alloc, context, step, label, params)? {
+        Ok(Judgement::Permitted)
+    } else {
+        Ok(Judgement::Forbidden)
+    }
+}
 
 /// Judges a step by the signature that the label has in the context's message.
 fn judged_by(
@@ -28,15 +50,14 @@ fn judged_by(
     requires writable { IsTrue (is_writable step.now) }
     ensures { IfOk result (IsJudged (Some label.now) (context_of context.now) step.now) }
 {
-    let read = match read_label(alloc, context.message, label) {
-        Ok(read) => read,
-        Err(LabelFault::Rule(_, _)) => return Ok(Judgement::Unjudged),
-        Err(LabelFault::Memory) => return Err(Memory),
-    };
-    if permits(alloc, context, step, label, &read.params)? {
-        Ok(Judgement::Permitted)
-    } else {
-        Ok(Judgement::Forbidden)
+    match read_label(alloc, context.message, label) {
+        Ok(read) => {
+            let judgement = judge(alloc, label, context, step, &read.params);
+            drop(read);
+            judgement
+        }
+        Err(LabelFault::Rule(_, _)) => Ok(Judgement::Unjudged),
+        Err(LabelFault::Memory) => Err(Memory),
     }
 }
 

@@ -1,7 +1,7 @@
 //! The command `sign`: the message with a signature (RFC 9421 section 3.1), or with those that
 //! another message wishes (section 5.1).
 
-ghost use Rattle.std.specs.Prelude.{◌≤◌, option_map, length, IfOk, IfSome, IsSome, IsTrue};
+ghost use Rattle.std.specs.Prelude.{◌≤◌, [], ◌∷◌, option_map, length, IfOk, IfSome, IsSome, IsTrue};
 ghost use Rattle.std.specs.List.{All, list_all};
 ghost use Rattle.sfv_text.specs.Range.{is_string_byte};
 ghost use Rattle.msg_body.specs.Views.{message_of};
@@ -14,7 +14,7 @@ ghost use Rattle.signing.specs.Asked.{IsSpecOf};
 ghost use Rattle.signing.specs.Specs.{IsValidSpec};
 ghost use Rattle.commands.specs.Sign.{ReportsEach, ReportsSign, ReportsWished};
 ghost use Rattle.commands.specs.Outcome.{IfOutcome, ReadsNothing};
-ghost use Rattle.commands.specs.tools.Signed.{HasIndexIn, HasPlaceIn, SaysEachFault, SaysSignFault, SaysSigned};
+ghost use Rattle.commands.specs.tools.Signed.{HasIndexIn, HasPlaceIn, SaysEachFault, SaysSignFault};
 
 use crate::base::stop_for_fault;
 use crate::outcome::Outcome;
@@ -25,7 +25,7 @@ use intake::Stop;
 use msg_body::MessageView;
 use negotiation::{EachFault, sign_each};
 use refusals::{CommandRefusal, Refusal};
-use sfv_text::{Memory, Text};
+use sfv_text::Memory;
 use signing::{SignFault, SignSpec, sign, spec_of, wanted};
 use std::alloc::Global;
 
@@ -46,13 +46,14 @@ fn stop_for_sign_fault(alloc: Global, spec: &SignSpec, fault: SignFault) -> Stop
 }
 
 /// The message of the context with the signature that is asked for.
-fn signed_text(alloc: Global, context: &Context<'_, '_>, spec: &SignSpec) -> Result<Text, Stop>
+fn sign_spec(alloc: Global, context: &Context<'_, '_>, spec: &SignSpec) -> Result<Outcome, Stop>
     requires valid { IsValidSpec spec.now }
     requires whole { HasWholeMessage (context_of context.now) }
-    ensures { SaysSigned (context_of context.now) spec.now result }
+    ensures report { IfOutcome result (ReportsEach (context_of context.now) (spec.now ∷ [])) }
+    ensures reads_nothing { ReadsNothing result }
 {
     match sign(alloc, context, spec) {
-        Ok(text) => Ok(text),
+        Ok(text) => Ok(Outcome::Done(text)),
         Err(fault) => Err(stop_for_sign_fault(alloc, spec, fault)),
     }
 }
@@ -124,7 +125,7 @@ pub fn sign_outcome(
     ensures reads_nothing { ReadsNothing result }
 {
     let spec = asked_spec(alloc, conf, now, nonce, context)?;
-    Ok(Outcome::Done(signed_text(alloc, context, &spec)?))
+    sign_spec(alloc, context, &spec)
 }
 
 /// The message of the context with each signature that another message wishes, in order, each over

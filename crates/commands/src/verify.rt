@@ -33,11 +33,14 @@ fn write_line<L: Ledger>(
     ensures exchange { exchange.new.context ≡ exchange.old.context }
 {
     let verdict = verifier.verdict(alloc, exchange, label, steps)?;
-    append_verdict_line(alloc, label, &verdict, lines)?;
-    Ok(match verdict {
+    let is_accepted = match verdict {
         Verdict::Ok { .. } => true,
         Verdict::Rule { .. } => false,
-    })
+    };
+    let written = append_verdict_line(alloc, label, &verdict, lines);
+    drop(verdict);
+    written?;
+    Ok(is_accepted)
 }
 
 /// Adds the lines of the labels, in order. It answers whether all are accepted.

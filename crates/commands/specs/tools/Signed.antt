@@ -1,5 +1,5 @@
 -- What is answered for a message that isn't signed. No public clause cites this module.
-use Rattle.std.specs.Prelude.{◌≡◌, ◌<◌, ⊤, ℕ, List, length, slice_get, IsSomeAnd, Result, Ok, Err}
+use Rattle.std.specs.Prelude.{◌≡◌, ◌<◌, ⊤, ℕ, List, length, slice_get, IsSomeAnd}
 use Rattle.msg_body.specs.Messages.{Message, Spells}
 use Rattle.component_ids.specs.declared.id.ComponentId.{ComponentId}
 use Rattle.component_values.specs.Context.{MessageContext, answers_head}
@@ -14,7 +14,6 @@ use Rattle.signing.specs.Signed.{IsSignedMessage}
 use Rattle.signing.specs.declared.spec.SignSpec.{SignSpec}
 use Rattle.commands.specs.Layers.{IsUnrefused}
 use Rattle.commands.specs.Sign.{IsSignRefused}
-use Rattle.intake.specs.Stops.{IfRefused, IsRefusalFor}
 use Rattle.intake.specs.declared.stop.Stop.{Stop}
 use Rattle.intake.specs.declared.stop.Stop.TheVariants as ends
 use Rattle.commands.specs.tools.Prepared.{SaysFault}
@@ -48,9 +47,3 @@ pub record IsSignedText (context : MessageContext) (spec : SignSpec) (text : Lis
   pub written : Message
   pub spells : Spells (answers_head context.related) written text
   pub is : IsUnrefused (IsSignedMessage context spec) (IsSignRefused context spec) written
-
--- the text of the signed message, or what stops it from being signed
-abbrev pub SaysSigned : MessageContext → SignSpec → Result (List ℕ) Stop → Type 0
-SaysSigned context spec (Ok text) = IsSignedText context spec text
-SaysSigned context spec (Err stop) =
-    IfRefused stop (IsRefusalFor (IsSignRefused context spec) Command)

@@ -1,13 +1,14 @@
 use Rattle.msg_body.specs.Views.{message_of}
-use Rattle.commands.proofs.Explaining.{covered_read, id_in_range}
+use Rattle.commands.proofs.Explaining.{covered_read, difference_is}
 use Rattle.commands.proofs.Rewriting.{not_read}
 use Rattle.commands.proofs.explain.difference.Goals as goal
 
-pub get-requires : goal.get-requires
-get-requires c = covered_read (message_of c.args.message.now) c.args.label.now c.args.index c.in-Ok.read.params c.in-Ok.read.tag c.requires c.in-Ok.ensures.ok
+pub differing_outcome-outcome-requires-clause-within : goal.differing_outcome-outcome-requires-clause-within
+differing_outcome-outcome-requires-clause-within c = covered_read (message_of c.args.message.now) c.args.label.now c.args.index c.in-Ok.read.params c.in-Ok.read.tag c.requires c.in-Ok.ensures.ok
 
-pub differing_text-requires : goal.differing_text-requires
-differing_text-requires c = id_in_range c.in-Ok.read.params c.args.index c.get.result.now c.in-Ok.ensures.in_range c.get.ensures
+pub returns-in-Ok : goal.returns-in-Ok
+returns-in-Ok c =
+    difference_is (message_of c.args.message.now) c.args.label.now c.args.index c.in-Ok.read.params c.in-Ok.read.tag c.differing_outcome-outcome.result c.in-Ok.ensures.ok c.differing_outcome-outcome.ensures
 
 pub unreachable-requires : goal.unreachable-requires
 unreachable-requires c =

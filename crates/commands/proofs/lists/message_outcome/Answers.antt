@@ -11,8 +11,8 @@ returns-in_err-list-clause-report c =
     let p = err_from_is_err_and c.from_residual.result c.from_residual.ensures.1 in
     rw (p.1, p.2) (list_stop (meaning c.args.conf.now) c.args.input.now c.in_err-list.field-0.0 c.requires c.in_err-list.ensures.fault)
 
-pub to_message-requires : goal.to_message-requires
-to_message-requires c = c.in_ok-list.ensures.ok.within.content
+pub to_message-message-requires : goal.to_message-message-requires
+to_message-message-requires c = c.in_ok-list.ensures.ok.within.content
 
 pub returns-in_err-message-clause-report : goal.returns-in_err-message-clause-report
 returns-in_err-message-clause-report c =
