@@ -47,6 +47,19 @@ fn field_of(alloc: Global, name: &[u8], value: Text) -> Result<Field, Memory>
     Ok(Field { name, value })
 }
 
+// Adds a field of this name.
+fn push_field(
+    alloc: Global,
+    name: &[u8],
+    value: Text,
+    fields: &mut Sequence<Field>,
+) -> Result<(), Memory>
+    ensures { OnOk result (fields.new ≡ fields.old ++ (field_of name.now value ∷ [])) }
+{
+    let field = field_of(alloc, name, value)?;
+    Ok(fields.push(field)?)
+}
+
 // The scheme of a request: that of its target in lower case, or the configured one.
 fn scheme_of(alloc: Global, context: &Context<'_, '_>, target: Target<'_>) -> Result<Text, Memory>
     ensures { (line : RequestLine) → IfOk result (λ text. text
@@ -171,10 +184,10 @@ fn request_fields(alloc: Global, texts: RequestTexts) -> Result<Sequence<Field>,
     ensures { IfOk result (λ fields. fields ≡ pseudo_fields (request (control_in texts))) }
 {
     let mut fields = Sequence::new(alloc);
-    fields.push(field_of(alloc, b":method", texts.method)?)?;
-    fields.push(field_of(alloc, b":scheme", texts.scheme)?)?;
-    fields.push(field_of(alloc, b":authority", texts.authority)?)?;
-    fields.push(field_of(alloc, b":path", texts.path)?)?;
+    push_field(alloc, b":method", texts.method, &mut fields)?;
+    push_field(alloc, b":scheme", texts.scheme, &mut fields)?;
+    push_field(alloc, b":authority", texts.authority, &mut fields)?;
+    push_field(alloc, b":path", texts.path, &mut fields)?;
     Ok(fields)
 }
 

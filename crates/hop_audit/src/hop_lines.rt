@@ -148,6 +148,7 @@ fn add_own_lines(
     let mut marks = marks_of(alloc, &before.signatures)?;
     let walked = walk(alloc, &before.exchange.context(), script, &mut marks)?;
     let (explained, stopped) = explanation(&walked, after.exchange.message().bytes());
+    drop(walked);
     lines.push(AuditLine::Hop {
         index,
         explained,

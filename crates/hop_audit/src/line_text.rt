@@ -1,8 +1,9 @@
 //! The text of a report. Each function adds its part at the end of the text.
 
-ghost use Rattle.std.specs.Prelude.{◌≡◌, ◌++◌, OnOk, IsTrue};
+ghost use Rattle.std.specs.Prelude.{◌≡◌, ◌++◌, ◌∷◌, OnOk, IsTrue, codes};
+ghost use Rattle.std.specs.Str.{byte};
 ghost use Rattle.component_ids.specs.Identifiers.{id_text, is_id_in_range};
-ghost use Rattle.hop_audit.specs.Lines.{are_lines_in_range, explanation_text, fate_text, finds_fault, is_counted, is_fate_in_range, is_line_in_range, line_text, report_text};
+ghost use Rattle.hop_audit.specs.Lines.{are_lines_in_range, explanation_text, fate_text, finds_fault, hop_line, is_counted, is_fate_in_range, is_line_in_range, line_text, permission_word, report_text};
 
 use crate::line::{AuditLine, Fate};
 use component_ids::{ComponentId, print_id};
@@ -55,6 +56,38 @@ fn append_explanation(
     }
 }
 
+/// Adds the line of a hop that says whether it is explained.
+fn append_hop(
+    alloc: Global,
+    index: usize,
+    explained: bool,
+    stopped: Option<usize>,
+    text: &mut Text,
+) -> Result<(), Memory>
+    ensures { OnOk result
+        (text.new ≡ text.old ++ hop_line index (explanation_text explained stopped)) }
+{
+    append_number(alloc, b"hop ", index, text)?;
+    text.append(b" ")?;
+    append_explanation(alloc, explained, stopped, text)?;
+    text.append(b"\n")
+}
+
+/// Adds what a line says after its label: whether the hop is permitted, and the signature's fate.
+fn append_judged(alloc: Global, permitted: bool, fate: &Fate, text: &mut Text) -> Result<(), Memory>
+    requires { IsTrue (is_fate_in_range fate.now) }
+    ensures { OnOk result (text.new ≡ text.old ++ (byte " " ∷ (permission_word permitted
+        ++ byte " " ∷ (fate_text fate.now ++ codes "\n")))) }
+{
+    text.append(if permitted {
+        b" permitted ".as_slice()
+    } else {
+        b" not-permitted "
+    })?;
+    append_fate(alloc, fate, text)?;
+    text.append(b"\n")
+}
+
 /// Adds a line.
 fn append_line(alloc: Global, line: &AuditLine, text: &mut Text) -> Result<(), Memory>
     requires { IsTrue (is_line_in_range line.now) }
@@ -74,12 +107,7 @@ fn append_line(alloc: Global, line: &AuditLine, text: &mut Text) -> Result<(), M
             index,
             explained,
             stopped,
-        } => {
-            append_number(alloc, b"hop ", *index, text)?;
-            text.append(b" ")?;
-            append_explanation(alloc, *explained, *stopped, text)?;
-            text.append(b"\n")
-        }
+        } => append_hop(alloc, *index, *explained, *stopped, text),
         AuditLine::Unread { index, label } => {
             append_number(alloc, b"hop ", *index, text)?;
             append_words(b" ", label.bytes(), text)?;
@@ -93,13 +121,7 @@ fn append_line(alloc: Global, line: &AuditLine, text: &mut Text) -> Result<(), M
         } => {
             append_number(alloc, b"hop ", *index, text)?;
             append_words(b" ", label.bytes(), text)?;
-            text.append(if *permitted {
-                b" permitted ".as_slice()
-            } else {
-                b" not-permitted "
-            })?;
-            append_fate(alloc, fate, text)?;
-            text.append(b"\n")
+            append_judged(alloc, *permitted, fate, text)
         }
     }
 }

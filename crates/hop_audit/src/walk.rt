@@ -82,6 +82,7 @@ impl Watcher for Marks<'_> {
     ) -> Result<Judgement, Memory> {
         let condition = StepCondition::of(alloc, context, step)?;
         mark_all(&condition, &mut self.marks);
+        drop(condition);
         Ok(Judgement::Permitted)
     }
 }

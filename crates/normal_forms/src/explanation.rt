@@ -95,7 +95,9 @@ fn judge(
     if let Some(basis) = first_other(first.message, second.message) {
         return Err(ExplainFault::OtherBasis(basis));
     }
-    Ok(explain_for(alloc, first, second, &read.params)?)
+    let explained = explain_for(alloc, first, second, &read.params);
+    drop(read);
+    Ok(explained?)
 }
 
 /// How the context's messages, two records of one message, are explained for the label's signature.

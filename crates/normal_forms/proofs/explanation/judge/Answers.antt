@@ -17,7 +17,7 @@ returns-in-Some-first_other c = λ own.
 
 pub returns : goal.returns
 returns c = (
-  c.in_ok-explain_for.ensures c.args.label.now c.in-Ok.read.tag c.in-Ok.ensures.ok,
+  c.in_ok-explained.ensures c.args.label.now c.in-Ok.read.tag c.in-Ok.ensures.ok,
   no_cause (context_of c.args.first.now) (context_of c.args.second.now) c.args.label.now c.in-Ok.read.params c.in-Ok.read.tag c.in-Ok.ensures.ok (sym c.in_default.ensures)
       c.in_default-first_other.ensures,
 )
