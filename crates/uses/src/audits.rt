@@ -1,9 +1,15 @@
 //! Of `hop_audit`: the report on a chain of two hops. The first changes the case of a name that is
 //! covered, as its script says; the second changes the value, and its script says nothing.
 
-use conf::empty_conf;
-use hop_audit::{append_report, audit, finds_fault};
-use recording::read_recording;
+ghost use Rattle.std.specs.Prelude.{All, IsTrue};
+ghost use Rattle.recording.specs.Items.{IsShort};
+ghost use Rattle.recording.specs.Recordings.{AreItems, bodies};
+ghost use Rattle.hop_audit.specs.Lines.{are_lines_in_range};
+
+use crate::given::conf_of;
+use conf::Conf;
+use hop_audit::{AuditLine, append_report, audit, finds_fault};
+use recording::{Recording, read_recording};
 use sfv_text::Text;
 use std::alloc::Global;
 
@@ -41,20 +47,35 @@ hop 2 unexplained\n\
 hop 2 a not-permitted changed \"date\"\n\
 message 2 a rule 16 key-unknown\n";
 
-fn is_reported(alloc: Global) -> bool {
-    let Ok(conf) = empty_conf(alloc) else {
-        return false;
-    };
-    let Ok(recording) = read_recording(alloc, RECORDING) else {
-        return false;
-    };
-    let Ok(lines) = audit(alloc, &recording, &conf) else {
-        return false;
-    };
+// Whether the lines are the report.
+fn is_report(alloc: Global, lines: &[AuditLine]) -> bool
+    requires { IsTrue (are_lines_in_range lines.now) }
+{
     let mut text = Text::new(alloc);
-    match append_report(alloc, lines.as_slice(), &mut text) {
-        Ok(()) => finds_fault(lines.as_slice()) && text.bytes() == REPORT,
+    append_report(alloc, lines, &mut text).is_ok() && text.bytes() == REPORT && finds_fault(lines)
+}
+
+fn is_audited(alloc: Global, recording: &Recording<'_>, conf: &Conf) -> bool
+    requires are { AreItems (bodies recording.now) }
+    requires short { All IsShort (bodies recording.now) }
+{
+    match audit(alloc, recording, conf) {
+        Ok(lines) => is_report(alloc, lines.as_slice()),
         Err(_) => false,
+    }
+}
+
+fn is_audited_by(alloc: Global, conf: &Conf) -> bool {
+    match read_recording(alloc, RECORDING) {
+        Ok(recording) => is_audited(alloc, &recording, conf),
+        Err(_) => false,
+    }
+}
+
+fn is_reported(alloc: Global) -> bool {
+    match conf_of(alloc, b"") {
+        Some(given) => is_audited_by(alloc, &given.conf),
+        None => false,
     }
 }
 

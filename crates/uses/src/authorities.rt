@@ -11,7 +11,6 @@ enum Answer {
     Many,
 }
 
-#[derive(Clone, Copy)]
 struct Case {
     query: &'static [u8],
     name: &'static [u8],

@@ -3,7 +3,8 @@
 ghost use Rattle.std.specs.Prelude.{IsTrue};
 ghost use Rattle.component_ids.specs.SignatureParams.{are_sig_params_in_range};
 
-use crate::components::{Fed, REQUEST, RESPONSE, message_of, params_of};
+use crate::components::{Fed, REQUEST, RESPONSE, params_of};
+use crate::given::message;
 use component_ids::{Scheme, SigParams, Types};
 use component_values::{Context, Prepared, prepare};
 use msg_body::MessageView;
@@ -39,7 +40,6 @@ fn is_base(alloc: Global, prepared: &Prepared<'_, '_>, base: &[u8]) -> bool {
 }
 
 // A request, the response to it, signature parameters, and the base over them.
-#[derive(Clone, Copy)]
 struct Exchange {
     request: &'static [u8],
     response: &'static [u8],
@@ -47,56 +47,65 @@ struct Exchange {
     base: &'static [u8],
 }
 
-const EXCHANGES: [Exchange; 1] = [Exchange {
+const EXCHANGE: Exchange = Exchange {
     request: REQUEST,
     response: RESPONSE,
     params: PARAMS,
     base: BASE,
-}];
+};
 
-// Whether the response to the request has the base over the signature parameters.
-fn has_base(
-    alloc: Global,
-    request: &MessageView<'_>,
-    response: &MessageView<'_>,
-    params: &SigParams,
-    base: &[u8],
-) -> bool
+// Whether the context has the base over the signature parameters.
+fn is_base_over(alloc: Global, context: &Context<'_, '_>, params: &SigParams, base: &[u8]) -> bool
     requires { IsTrue (are_sig_params_in_range params.now) }
 {
-    let Ok(types) = Types::standard(alloc) else {
-        return false;
-    };
-    let context = Context {
-        message: response,
-        related: Some(request),
-        scheme: Scheme::Https,
-        types: &types,
-    };
-    match prepare(alloc, &context, params) {
+    match prepare(alloc, context, params) {
         Ok(prepared) => is_base(alloc, &prepared, base),
         Err(_) => false,
     }
 }
 
-fn holds(alloc: Global, exchange: &Exchange) -> bool {
-    let Some(params) = params_of(alloc, exchange.params) else {
-        return false;
-    };
-    match (
-        message_of(alloc, exchange.request),
-        message_of(alloc, exchange.response),
-    ) {
-        (Some(request), Some(response)) => {
-            has_base(alloc, &request, &response, &params, exchange.base)
+fn has_base(alloc: Global, context: &Context<'_, '_>, exchange: &Exchange) -> bool {
+    match params_of(alloc, exchange.params) {
+        Some(params) => is_base_over(alloc, context, &params, exchange.base),
+        None => false,
+    }
+}
+
+fn has_base_of(
+    alloc: Global,
+    request: &MessageView<'_>,
+    response: &MessageView<'_>,
+    exchange: &Exchange,
+) -> bool {
+    match Types::standard(alloc) {
+        Ok(types) => {
+            let context = Context {
+                message: response,
+                related: Some(request),
+                scheme: Scheme::Https,
+                types: &types,
+            };
+            has_base(alloc, &context, exchange)
         }
-        _ => false,
+        Err(_) => false,
+    }
+}
+
+fn is_answered(alloc: Global, request: &MessageView<'_>, exchange: &Exchange) -> bool {
+    match message(alloc, exchange.response) {
+        Some(response) => has_base_of(alloc, request, &response.view, exchange),
+        None => false,
+    }
+}
+
+fn holds(alloc: Global, exchange: &Exchange) -> bool {
+    match message(alloc, exchange.request) {
+        Some(request) => is_answered(alloc, &request.view, exchange),
+        None => false,
     }
 }
 
 #[test]
 fn the_base_of_a_response_is_that_of_the_rfc(rt: HostRuntime) {
-    for exchange in &EXCHANGES {
-        assert!(rt; holds(rt.alloc(), exchange));
-    }
+    assert!(rt; holds(rt.alloc(), &EXCHANGE));
 }

@@ -1,14 +1,13 @@
 // Tests of msg_body, chunks and framing.
 
 use crate::heads::are_pieces;
-use chunks::{ChunksRead, read_chunks};
+use chunks::{ChunksRead, ChunksView, read_chunks};
 use framing::{Framing, read_framing};
-use msg_body::{Expect, MAX_MESSAGE_BYTES, MessageError, MessageRead, read_message};
-use msg_head::{HeadRead, Side, read_head};
+use msg_body::{Expect, MAX_MESSAGE_BYTES, MessageError, MessageRead, MessageView, read_message};
+use msg_head::{HeadRead, HeadView, Side, read_head};
 use std::alloc::Global;
 
 // A text, the message that it begins with, and how it is read.
-#[derive(Clone, Copy)]
 struct Read {
     bytes: &'static [u8],
     to_head: bool,
@@ -64,21 +63,22 @@ const READS: [Read; 5] = [
     },
 ];
 
+// Whether the message is the row's.
+fn is_message(view: &MessageView<'_>, row: &Read) -> bool {
+    view.framing() == row.framing
+        && view.content_len() == row.content.len()
+        && are_pieces(view.content_pieces(), row.content)
+        && view.line_count(Side::Trailer) == row.trailers
+}
+
 // Whether the message that the text begins with is read like this.
 fn is_read(alloc: Global, row: &Read) -> bool {
     if row.bytes.len() > MAX_MESSAGE_BYTES {
         return false;
     }
     match read_message(alloc, row.bytes, Expect::Any, row.to_head) {
-        Ok(MessageRead::Whole(view, used)) => {
-            used == row.used
-                && view.framing() == row.framing
-                && view.content_len() == row.content.len()
-                && are_pieces(view.content_pieces(), row.content)
-                && view.line_count(Side::Trailer) == row.trailers
-        }
-        Ok(MessageRead::Partial) => false,
-        Err(_) => false,
+        Ok(MessageRead::Whole(view, used)) => used == row.used && is_message(&view, row),
+        _ => false,
     }
 }
 
@@ -90,7 +90,6 @@ fn each_framing_is_read(rt: HostRuntime) {
 }
 
 // A text of the other kind than expected, and the error that comes.
-#[derive(Clone, Copy)]
 struct Refused {
     bytes: &'static [u8],
     expect: Expect,
@@ -139,7 +138,6 @@ fn messages_of_the_other_kind_are_refused(rt: HostRuntime) {
 }
 
 // A head, whether it answers a HEAD request, and how its content is framed.
-#[derive(Clone, Copy)]
 struct Head {
     bytes: &'static [u8],
     to_head: bool,
@@ -168,12 +166,16 @@ const HEADS: [Head; 3] = [
     },
 ];
 
+fn has_framing(head: &HeadView<'_>, row: &Head) -> bool {
+    match read_framing(head, row.to_head) {
+        Ok(framed) => framed.framing == row.framing && framed.length == row.length,
+        Err(_) => false,
+    }
+}
+
 fn is_framed(alloc: Global, row: &Head) -> bool {
     match read_head(alloc, row.bytes) {
-        Ok(HeadRead::Whole(head, _)) => match read_framing(&head, row.to_head) {
-            Ok(framed) => framed.framing == row.framing && framed.length == row.length,
-            Err(_) => false,
-        },
+        Ok(HeadRead::Whole(head, _)) => has_framing(&head, row),
         _ => false,
     }
 }
@@ -187,7 +189,6 @@ fn an_answer_to_a_head_request_has_no_content(rt: HostRuntime) {
 }
 
 // Chunks, and what they hold.
-#[derive(Clone, Copy)]
 struct Held {
     bytes: &'static [u8],
     used: usize,
@@ -210,17 +211,17 @@ const HELD: [Held; 2] = [
     },
 ];
 
+fn are_chunks(chunks: &ChunksView<'_>, row: &Held) -> bool {
+    chunks.chunk_count() == row.count
+        && chunks.content_len() == row.content.len()
+        && chunks.is_empty() == row.content.is_empty()
+        && are_pieces(chunks.pieces(), row.content)
+}
+
 fn is_held(alloc: Global, row: &Held) -> bool {
     match read_chunks(alloc, row.bytes) {
-        Ok(ChunksRead::Whole(chunks, used)) => {
-            used == row.used
-                && chunks.chunk_count() == row.count
-                && chunks.content_len() == row.content.len()
-                && chunks.is_empty() == row.content.is_empty()
-                && are_pieces(chunks.pieces(), row.content)
-        }
-        Ok(ChunksRead::Partial) => false,
-        Err(_) => false,
+        Ok(ChunksRead::Whole(chunks, used)) => used == row.used && are_chunks(&chunks, row),
+        _ => false,
     }
 }
 

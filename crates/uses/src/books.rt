@@ -355,7 +355,6 @@ const OVER_HOURS: [Arrival<'static>; 12] = [
 ];
 
 // A new book, and what comes of the signatures that arrive.
-#[derive(Clone, Copy)]
 struct Course<'a> {
     capacity: usize,
     window: u64,
@@ -397,7 +396,6 @@ const COURSES: [Course<'static>; 5] = [
 ];
 
 // A book beside a plain list of the moments until which each of 32 nonces is seen.
-#[derive(Clone, Copy)]
 struct Walk {
     capacity: usize,
     window: u64,
@@ -500,17 +498,26 @@ fn opened(alloc: Global, capacity: usize, window: u64, moment: u64) -> Option<No
     NonceBook::open(alloc, capacity, window, moment).ok()
 }
 
-// Whether each arrival is answered as it has to be.
-fn is_answered<L: Ledger>(alloc: Global, course: &Course<'_>, steps: &mut Steps<L>) -> bool {
-    let Some(mut book) = opened(alloc, course.capacity, course.window, course.moment) else {
-        return false;
-    };
-    for arrival in course.arrivals {
-        if answer_of(&mut book, arrival, steps) != arrival.answer {
+// Whether the book answers each arrival as it has to be.
+fn are_answered<L: Ledger>(
+    book: &mut NonceBook,
+    arrivals: &[Arrival<'_>],
+    steps: &mut Steps<L>,
+) -> bool {
+    for arrival in arrivals {
+        if answer_of(book, arrival, steps) != arrival.answer {
             return false;
         }
     }
     true
+}
+
+// The same of a new book.
+fn is_answered<L: Ledger>(alloc: Global, course: &Course<'_>, steps: &mut Steps<L>) -> bool {
+    match opened(alloc, course.capacity, course.window, course.moment) {
+        Some(mut book) => are_answered(&mut book, course.arrivals, steps),
+        None => false,
+    }
 }
 
 // How many entries of the list live.
@@ -555,20 +562,24 @@ fn agrees<L: Ledger>(
     book.len() == live_count(untils, now)
 }
 
-// Whether the book of a walk answers each arrival as the list does.
-fn is_walked<L: Ledger>(alloc: Global, walk: &Walk, steps: &mut Steps<L>) -> bool {
-    let Some(mut book) = opened(alloc, walk.capacity, walk.window, 1) else {
-        return false;
-    };
+// Whether the book answers each arrival of a walk as the list does.
+fn is_walked_by<L: Ledger>(book: &mut NonceBook, pace: u64, steps: &mut Steps<L>) -> bool {
     let mut untils = [0u64; 32];
     let mut draw = 7u64;
     for _arrival in 0..ARRIVALS {
         draw = draw.wrapping_mul(6_364_136_223_846_793_005).wrapping_add(1);
-        if !agrees(&mut book, &mut untils, walk.pace, draw >> 33, steps) {
+        if !agrees(book, &mut untils, pace, draw >> 33, steps) {
             return false;
         }
     }
     true
+}
+
+fn is_walked<L: Ledger>(alloc: Global, walk: &Walk, steps: &mut Steps<L>) -> bool {
+    match opened(alloc, walk.capacity, walk.window, 1) {
+        Some(mut book) => is_walked_by(&mut book, walk.pace, steps),
+        None => false,
+    }
 }
 
 // Whether all courses and walks are as they have to be.

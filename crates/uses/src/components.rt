@@ -3,13 +3,14 @@
 ghost use Rattle.std.specs.Prelude.{IfSome, IsTrue};
 ghost use Rattle.component_ids.specs.SignatureParams.{are_sig_params_in_range};
 
+use crate::given::message;
 use component_ids::{ComponentId, Scheme, SigParams, read_params};
-use derived_values::derived_value;
+use derived_values::{Derived, derived_value};
 use field_values::combined_text;
-use msg_body::{Expect, MessageRead, MessageView, read_message};
+use msg_body::MessageView;
 use msg_head::Side;
 use sfv_read::read_inner;
-use sfv_text::{Absorb, Memory, Params, Text};
+use sfv_text::{Absorb, Params, Text};
 use std::alloc::Global;
 
 // The request and the response of RFC 9421 section 2.4.
@@ -31,10 +32,15 @@ Content-Digest: sha-512=:0Y6iCBzGg5rZtoXS95Ijz03mslf6KAMCloESHObfwnHJDbkkWWQz6Ph
 {\"busy\": true, \"message\": \"Your call is very important to us\"}";
 
 // What was fed.
-#[derive(Drop)]
 pub(crate) struct Fed {
     text: Text,
     failed: bool,
+}
+
+impl Drop for Fed {
+    fn drop(self) {
+        let Fed { text: _, failed: _ } = self;
+    }
 }
 
 impl Fed {
@@ -67,44 +73,44 @@ pub(crate) fn params_of(alloc: Global, text: &[u8]) -> Option<SigParams>
     ensures { IfSome result (λ params. IsTrue (are_sig_params_in_range params)) }
 {
     match read_inner(alloc, text) {
-        Ok(list) => match read_params(alloc, &list) {
-            Ok(params) => Some(params),
-            Err(_) => None,
-        },
+        Ok(list) => read_params(alloc, &list).ok(),
         Err(_) => None,
     }
 }
 
-pub(crate) fn message_of(alloc: Global, bytes: &[u8]) -> Option<MessageView<'_>> {
-    if bytes.len() > 1_000 {
-        return None;
-    }
-    match read_message(alloc, bytes, Expect::Any, false) {
-        Ok(MessageRead::Whole(view, _)) => Some(view),
-        _ => None,
+// Whether these bytes are fed.
+fn is_fed(alloc: Global, value: &Derived<'_>, wanted: &[u8]) -> bool {
+    let mut fed = Fed::new(alloc);
+    value.feed(&mut fed);
+    fed.is(wanted)
+}
+
+// Whether the message has this value of the derived component, or has none.
+fn is_value(
+    alloc: Global,
+    message: &MessageView<'_>,
+    id: &ComponentId,
+    wanted: Option<&[u8]>,
+) -> bool {
+    match derived_value(alloc, message, Scheme::Https, id) {
+        Ok(value) => match wanted {
+            Some(bytes) => is_fed(alloc, &value, bytes),
+            None => false,
+        },
+        Err(_) => wanted.is_none(),
     }
 }
 
-// The value of the derived component of that name, fed.
-fn fed_value(alloc: Global, message: &MessageView<'_>, name: &[u8]) -> Result<Option<Fed>, Memory> {
-    let id = ComponentId {
-        name: Text::from_bytes(alloc, name)?,
-        params: Params::new(alloc),
-    };
-    match derived_value(alloc, message, Scheme::Https, &id) {
-        Ok(value) => {
-            let mut fed = Fed::new(alloc);
-            value.feed(&mut fed);
-            Ok(Some(fed))
+fn has_value(alloc: Global, message: &MessageView<'_>, name: &[u8], wanted: Option<&[u8]>) -> bool {
+    match Text::from_bytes(alloc, name) {
+        Ok(name) => {
+            let id = ComponentId {
+                name,
+                params: Params::new(alloc),
+            };
+            is_value(alloc, message, &id, wanted)
         }
-        Err(_) => Ok(None),
-    }
-}
-
-fn has_value(alloc: Global, message: &MessageView<'_>, name: &[u8], wanted: &[u8]) -> bool {
-    match fed_value(alloc, message, name) {
-        Ok(Some(fed)) => fed.is(wanted),
-        _ => false,
+        Err(_) => false,
     }
 }
 
@@ -118,13 +124,15 @@ fn is_combined(alloc: Global, message: &MessageView<'_>, name: &[u8], wanted: &[
 const WITH_TARGET: &[u8] =
     b"GET http://EXAMPLE.com:80?a=1 HTTP/1.1\r\nVia: 1.1 a\r\nVia: 1.1 b\r\n\r\n";
 
+fn has_values(alloc: Global, message: &MessageView<'_>) -> bool {
+    has_value(alloc, message, b"@authority", Some(b"example.com"))
+        && has_value(alloc, message, b"@status", None)
+        && is_combined(alloc, message, b"via", b"1.1 a, 1.1 b")
+}
+
 fn are_values(alloc: Global) -> bool {
-    match message_of(alloc, WITH_TARGET) {
-        Some(message) => {
-            has_value(alloc, &message, b"@authority", b"example.com")
-                && !has_value(alloc, &message, b"@status", b"")
-                && is_combined(alloc, &message, b"via", b"1.1 a, 1.1 b")
-        }
+    match message(alloc, WITH_TARGET) {
+        Some(request) => has_values(alloc, &request.view),
         None => false,
     }
 }

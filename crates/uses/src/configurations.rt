@@ -1,56 +1,105 @@
 //! Of `conf` and `settings`: what a configuration says that no command shows yet, keys that
 //! are added to it, and lists of covered components. How it says what is signed: see `signings`.
 
-use conf::{empty_conf, read_conf};
+use crate::given::conf_of;
+use conf::{Conf, empty_conf};
 use settings::read_covered;
 use std::alloc::Global;
-
-// Whether so many nonces are kept by the text.
-fn are_kept(alloc: Global, text: &[u8], nonces: usize) -> bool {
-    match read_conf(alloc, text) {
-        Ok(conf) => conf.nonces() == nonces,
-        Err(_) => false,
-    }
-}
-
-// Whether a key that is added to the empty configuration is the one key in it.
-fn is_added(alloc: Global) -> bool {
-    let Ok(mut conf) = empty_conf(alloc) else {
-        return false;
-    };
-    let added = match conf.key(b"a") {
-        Some(_) => return false,
-        None => conf.add_key(b"a", b"1"),
-    };
-    added.is_ok() && conf.key(b"a") == Some(b"1".as_slice()) && conf.key(b"b").is_none()
-}
-
-#[test]
-fn nonces_are_counted_and_keys_added(rt: HostRuntime) {
-    let alloc = rt.alloc();
-    assert!(rt; are_kept(alloc, b"", 65_536) && are_kept(alloc, b"policy.nonces = 1", 1));
-    assert!(rt; is_added(alloc));
-}
 
 const POLICIES: &[u8] = b"version = 2\nnonces = 7\n\
 policies = [{ tag = \"app\", max-age = 5 }, { max-age = 6 }]";
 
-// Whether the policy that is chosen for the tag has this `max-age`.
-fn has_age(alloc: Global, tag: Option<&[u8]>, max_age: u64) -> bool {
-    let Ok(conf) = read_conf(alloc, POLICIES) else {
-        return false;
-    };
-    match conf.policy_for(tag) {
-        Some(policy) => policy.max_age == max_age && conf.policies().len() == 2,
+// A configuration, how many nonces are kept by it and how many policies it has, and the `max-age`
+// of the one that is chosen for a tag.
+struct Row {
+    text: &'static [u8],
+    nonces: usize,
+    policies: usize,
+    tag: Option<&'static [u8]>,
+    max_age: u64,
+}
+
+const ROWS: [Row; 5] = [
+    Row {
+        text: b"",
+        nonces: 65_536,
+        policies: 1,
+        tag: None,
+        max_age: 300,
+    },
+    Row {
+        text: b"policy.nonces = 1",
+        nonces: 1,
+        policies: 1,
+        tag: None,
+        max_age: 300,
+    },
+    Row {
+        text: POLICIES,
+        nonces: 7,
+        policies: 2,
+        tag: Some(b"app"),
+        max_age: 5,
+    },
+    Row {
+        text: POLICIES,
+        nonces: 7,
+        policies: 2,
+        tag: Some(b"ap"),
+        max_age: 6,
+    },
+    Row {
+        text: POLICIES,
+        nonces: 7,
+        policies: 2,
+        tag: None,
+        max_age: 6,
+    },
+];
+
+// Whether the configuration says what the row does.
+fn is_said(conf: &Conf, row: &Row) -> bool {
+    match conf.policy_for(row.tag) {
+        Some(policy) => {
+            policy.max_age == row.max_age
+                && conf.policies().len() == row.policies
+                && conf.nonces() == row.nonces
+        }
+        None => false,
+    }
+}
+
+fn holds(alloc: Global, row: &Row) -> bool {
+    match conf_of(alloc, row.text) {
+        Some(given) => is_said(&given.conf, row),
         None => false,
     }
 }
 
 #[test]
-fn the_policy_of_the_tag_is_chosen(rt: HostRuntime) {
-    let alloc = rt.alloc();
-    assert!(rt; has_age(alloc, Some(b"app"), 5) && has_age(alloc, Some(b"ap"), 6));
-    assert!(rt; has_age(alloc, None, 6) && are_kept(alloc, POLICIES, 7));
+fn nonces_are_counted_and_the_policy_of_the_tag_is_chosen(rt: HostRuntime) {
+    for (index, row) in ROWS.iter().enumerate() {
+        assert!(rt; holds(rt.alloc(), row), "at {index}");
+    }
+}
+
+// Whether a key that is added to a configuration without keys is the one key in it.
+fn takes_key(conf: &mut Conf) -> bool {
+    match conf.key(b"a") {
+        Some(_) => false,
+        None => {
+            conf.add_key(b"a", b"1").is_ok()
+                && conf.key(b"a") == Some(b"1".as_slice())
+                && conf.key(b"b").is_none()
+        }
+    }
+}
+
+fn is_added(alloc: Global) -> bool {
+    match empty_conf(alloc) {
+        Ok(mut conf) => takes_key(&mut conf),
+        Err(_) => false,
+    }
 }
 
 // How many components the text covers; None where it is no list of them.
@@ -62,8 +111,9 @@ fn covered_in(alloc: Global, text: &[u8]) -> Option<usize> {
 }
 
 #[test]
-fn a_list_of_covered_components_is_read(rt: HostRuntime) {
+fn keys_are_added_and_lists_of_components_read(rt: HostRuntime) {
     let alloc = rt.alloc();
+    assert!(rt; is_added(alloc));
     assert!(rt; covered_in(alloc, b"(\"date\" \"@authority\")") == Some(2));
     assert!(rt; covered_in(alloc, b"();a").is_none());
 }

@@ -14,7 +14,6 @@ use std::{fs, io};
 const TEXT: &[u8] = b"GET /a HTTP/1.1";
 
 // The text is read byte by byte, in 15 calls, and call 15 gives the end.
-#[derive(Clone, Copy)]
 struct Filling<'a> {
     limit: usize,
     fails: &'a [u64],
@@ -66,7 +65,6 @@ fn is_filled(alloc: Global, row: &Filling<'_>) -> bool {
 }
 
 // What is written goes into room for 20 bytes, two bytes a call.
-#[derive(Clone, Copy)]
 struct Putting<'a> {
     text: &'a [u8],
     fails: &'a [u64],
@@ -172,12 +170,14 @@ fn is_taken<F: Shelf>(alloc: Global, shelf: &mut F, row: &Taking<'_>) -> bool {
     }
 }
 
-fn shelf_of(alloc: Global) -> Result<MemShelf, Memory> {
-    let mut shelf = MemShelf::new(alloc, &[0, 5])?;
+fn put_files(shelf: &mut MemShelf) -> Result<(), Memory> {
     shelf.put("a", b"an earlier file of that name")?;
     shelf.put("empty", b"")?;
-    shelf.put("a", TEXT)?;
-    Ok(shelf)
+    shelf.put("a", TEXT)
+}
+
+fn are_files_right(alloc: Global, shelf: &mut MemShelf) -> bool {
+    put_files(shelf).is_ok() && are_taken(alloc, shelf, &TAKINGS)
 }
 
 fn are_taken<F: Shelf>(alloc: Global, shelf: &mut F, rows: &[Taking<'_>]) -> bool {
@@ -189,13 +189,16 @@ fn are_taken<F: Shelf>(alloc: Global, shelf: &mut F, rows: &[Taking<'_>]) -> boo
     true
 }
 
+fn is_shelf_right(alloc: Global) -> bool {
+    match MemShelf::new(alloc, &[0, 5]) {
+        Ok(mut shelf) => are_files_right(alloc, &mut shelf),
+        Err(_) => false,
+    }
+}
+
 #[test]
 fn a_file_in_memory_is_taken_whole_or_not_at_all(rt: HostRuntime) {
-    let is_right = match shelf_of(rt.alloc()) {
-        Ok(mut shelf) => are_taken(rt.alloc(), &mut shelf, &TAKINGS),
-        Err(_) => false,
-    };
-    assert!(rt; is_right);
+    assert!(rt; is_shelf_right(rt.alloc()));
 }
 
 // What a call of a reader or a writer does: it gives or takes at most so many bytes, or fails.
@@ -230,7 +233,6 @@ impl<'a> Read for TurnReader<'a> {
     }
 }
 
-#[derive(Clone, Copy)]
 struct Reading<'a> {
     turns: &'a [Turn],
     wanted: Result<&'a [u8], FillError>,
@@ -302,7 +304,6 @@ impl<'a> Write for TurnWriter<'a> {
 }
 
 // The answer to each of two writes of three bytes, and how many flushes they make in all.
-#[derive(Clone, Copy)]
 struct Writing {
     turn: Turn,
     wanted: Result<usize, Failed>,
@@ -406,16 +407,23 @@ const FILES: [Taking<'static>; 8] = [
     },
 ];
 
+fn fill_folder<R: Files>(rt: &R) {
+    let _ = fs::create_dir(rt, "shelf");
+    let _ = fs::write(rt, "shelf/a", TEXT);
+    let _ = fs::write(rt, "shelf/b ", b"b");
+}
+
+fn empty_folder<R: Files>(rt: &R) {
+    let _ = fs::remove_file(rt, "shelf/a");
+    let _ = fs::remove_file(rt, "shelf/b ");
+    let _ = fs::remove_dir(rt, "shelf");
+}
+
 #[test]
 fn a_file_of_a_folder_is_taken_whole_or_not_at_all(rt: HostRuntime) {
-    let _ = fs::create_dir(&rt, "shelf");
-    let _ = fs::write(&rt, "shelf/a", TEXT);
-    let _ = fs::write(&rt, "shelf/b ", b"b");
-    let mut shelf = DirShelf::new(&rt);
-    assert!(rt; are_taken(rt.alloc(), &mut shelf, &FILES));
-    let _ = fs::remove_file(&rt, "shelf/a");
-    let _ = fs::remove_file(&rt, "shelf/b ");
-    let _ = fs::remove_dir(&rt, "shelf");
+    fill_folder(&rt);
+    assert!(rt; are_taken(rt.alloc(), &mut DirShelf::new(&rt), &FILES));
+    empty_folder(&rt);
 }
 
 // A file that many reads give is taken whole where the limit is its length, and is too long for one

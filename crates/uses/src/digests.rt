@@ -1,7 +1,8 @@
 // Tests of content_digest.
 
+use crate::given::message;
 use content_digest::{Algorithm, DigestFault, check_digest, make_digest};
-use msg_body::{Expect, MAX_MESSAGE_BYTES, MessageRead, MessageView, read_message};
+use msg_body::MessageView;
 use std::alloc::Global;
 
 // Requests with the content of RFC 9421 appendix B.2, `{"hello": "world"}`.
@@ -17,7 +18,6 @@ const WITH_LF: &[u8] = b"POST / HTTP/1.1\r\nContent-Length: 19\r\n\r\n{\"hello\"
 const BARE: &[u8] = b"GET / HTTP/1.1\r\n\r\n";
 
 // A message, an algorithm, and the digest of the content by it.
-#[derive(Clone, Copy)]
 struct Made {
     message: &'static [u8],
     algorithm: Algorithm,
@@ -66,28 +66,22 @@ const MADE: [Made; 7] = [
     },
 ];
 
-// The message that the bytes are; None where they are none.
-fn view_of(alloc: Global, bytes: &[u8]) -> Option<MessageView<'_>> {
-    if bytes.len() > MAX_MESSAGE_BYTES {
-        return None;
-    }
-    match read_message(alloc, bytes, Expect::Any, false) {
-        Ok(MessageRead::Whole(view, _)) => Some(view),
-        Ok(MessageRead::Partial) => None,
-        Err(_) => None,
+fn is_made_of(alloc: Global, view: &MessageView<'_>, row: &Made) -> bool {
+    match make_digest(alloc, row.algorithm, view) {
+        Ok(text) => text.bytes() == row.text,
+        Err(_) => false,
     }
 }
 
 // Whether the digest is made, and agrees with the content.
 fn is_made(alloc: Global, row: &Made) -> bool {
-    let Some(view) = view_of(alloc, row.message) else {
-        return false;
-    };
-    let is_right = match make_digest(alloc, row.algorithm, &view) {
-        Ok(text) => text.bytes() == row.text,
-        Err(_) => false,
-    };
-    is_right && check_digest(alloc, row.text, &view).is_ok()
+    match message(alloc, row.message) {
+        Some(given) => {
+            is_made_of(alloc, &given.view, row)
+                && check_digest(alloc, row.text, &given.view).is_ok()
+        }
+        None => false,
+    }
 }
 
 // The example of content_digest.
@@ -116,13 +110,17 @@ fn is_mismatch(fault: &DigestFault, start: &[u8]) -> bool {
     }
 }
 
-fn is_fault_with_both(alloc: Global) -> bool {
-    let Some(view) = view_of(alloc, CHUNKED) else {
-        return false;
-    };
-    match check_digest(alloc, b"sha-256=:AAAA:", &view) {
+fn has_both(alloc: Global, view: &MessageView<'_>) -> bool {
+    match check_digest(alloc, b"sha-256=:AAAA:", view) {
         Ok(_) => false,
         Err(fault) => is_mismatch(&fault, b"\x5f\x8f\x04\xf6\xa3\xa8\x92\xaa"),
+    }
+}
+
+fn is_fault_with_both(alloc: Global) -> bool {
+    match message(alloc, CHUNKED) {
+        Some(given) => has_both(alloc, &given.view),
+        None => false,
     }
 }
 

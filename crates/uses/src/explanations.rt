@@ -1,13 +1,16 @@
 // Tests of normal_forms.
 
-ghost use Rattle.std.specs.Prelude.{IfSome, false};
+ghost use Rattle.std.specs.Prelude.{List, ℕ, false};
 ghost use Rattle.msg_body.specs.Messages.{IsMessage};
 ghost use Rattle.msg_body.specs.Views.{message_of};
+ghost use Rattle.component_values.specs.Context.{HasWholeMessage, context_of};
+ghost use Rattle.signatures.specs.Signatures.{HasSignature};
 
+use crate::given::message;
 use crate::scripts::is_printed;
-use component_ids::{Scheme, Types};
+use component_ids::{Scheme, SigParams, Types};
 use component_values::Context;
-use msg_body::{MessageView, Reading, whole_message};
+use msg_body::MessageView;
 use msg_head::Side;
 use normal_forms::{Basis, ExplainFault, Explained, FixedName, explain, normal_form};
 use signatures::read_label;
@@ -88,7 +91,6 @@ signature:s=:AA==:\r\n\r\n\
 b:1, 2\r\n\r\n";
 
 // A record, the steps that make it normal for the label `s`, and the normal message.
-#[derive(Clone, Copy)]
 struct Form {
     message: &'static [u8],
     steps: &'static [u8],
@@ -113,29 +115,19 @@ const FORMS: [Form; 3] = [
     },
 ];
 
-fn view_of(alloc: Global, bytes: &[u8]) -> Option<MessageView<'_>>
-    ensures { IfSome result (λ view. IsMessage false (message_of view)) }
+// Whether the message of the context has the row's normal form for the label.
+fn is_normal(
+    alloc: Global,
+    context: &Context<'_, '_>,
+    label: &[u8],
+    params: &SigParams,
+    row: &Form,
+) -> bool
+    requires whole { HasWholeMessage (context_of context.now) }
+    requires signature { (tag : List ℕ)
+        × HasSignature (context_of context.now).message label.now params.now tag }
 {
-    if bytes.len() > 1_000 {
-        return None;
-    }
-    match whole_message(alloc, Reading::of_any(), bytes) {
-        Ok(view) => Some(view),
-        Err(_) => None,
-    }
-}
-
-fn has_form(alloc: Global, message: &MessageView<'_>, row: &Form) -> bool
-    requires { IsMessage false (message_of message.now) }
-{
-    let Ok(read) = read_label(alloc, message, b"s") else {
-        return false;
-    };
-    let Ok(types) = Types::standard(alloc) else {
-        return false;
-    };
-    let context = Context::of_message(message, Scheme::Http, &types);
-    match normal_form(alloc, &context, b"s", &read.params) {
+    match normal_form(alloc, context, label, params) {
         Ok(normal) => {
             normal.message.bytes() == row.normal
                 && is_printed(alloc, normal.steps.as_slice(), row.steps)
@@ -144,10 +136,30 @@ fn has_form(alloc: Global, message: &MessageView<'_>, row: &Form) -> bool
     }
 }
 
-fn is_form(alloc: Global, row: &Form) -> bool {
-    match view_of(alloc, row.message) {
-        Some(message) => has_form(alloc, &message, row),
+fn has_form(alloc: Global, context: &Context<'_, '_>, row: &Form) -> bool
+    requires { HasWholeMessage (context_of context.now) }
+{
+    let label = b"s";
+    match read_label(alloc, context.message, label) {
+        Ok(read) => is_normal(alloc, context, label, &read.params, row),
+        Err(_) => false,
+    }
+}
+
+fn is_form_by(alloc: Global, types: &Types, row: &Form) -> bool {
+    match message(alloc, row.message) {
+        Some(given) => {
+            let context = Context::of_message(&given.view, Scheme::Http, types);
+            has_form(alloc, &context, row)
+        }
         None => false,
+    }
+}
+
+fn is_form(alloc: Global, row: &Form) -> bool {
+    match Types::standard(alloc) {
+        Ok(types) => is_form_by(alloc, &types, row),
+        Err(_) => false,
     }
 }
 
@@ -165,7 +177,6 @@ signature:s=:AA==:\r\n\
 signature-input:s=(\"a\")\r\n\r\n";
 
 // What is said of two records: the steps of each, the index of a component, or a fault.
-#[derive(Clone, Copy)]
 enum Said {
     Same(&'static [u8], &'static [u8]),
     Differs(usize),
@@ -173,7 +184,6 @@ enum Said {
 }
 
 // A record of what was sent, and what is said of it beside the one of what was received.
-#[derive(Clone, Copy)]
 struct Record {
     message: &'static [u8],
     said: Said,
@@ -205,14 +215,13 @@ Signature: s=:AA==:\r\n\r\n",
     },
 ];
 
-fn is_as_said(alloc: Global, answer: &Result<Explained, ExplainFault>, said: Said) -> bool {
-    match (answer, said) {
-        (Ok(Explained::Same { first, second }), Said::Same(steps, others)) => {
-            is_printed(alloc, first.as_slice(), steps)
-                && is_printed(alloc, second.as_slice(), others)
+fn is_as_said(alloc: Global, explained: &Explained, said: &Said) -> bool {
+    match (explained, said) {
+        (Explained::Same { first, second }, Said::Same(steps, others)) => {
+            is_printed(alloc, first.as_slice(), *steps)
+                && is_printed(alloc, second.as_slice(), *others)
         }
-        (Ok(Explained::Differs { index }), Said::Differs(wanted)) => *index == wanted,
-        (Err(fault), Said::Fault(wanted)) => *fault == wanted,
+        (Explained::Differs { index }, Said::Differs(wanted)) => index == wanted,
         _ => false,
     }
 }
@@ -221,23 +230,43 @@ fn are_explained(
     alloc: Global,
     message: &MessageView<'_>,
     other: &MessageView<'_>,
-    said: Said,
+    types: &Types,
+    said: &Said,
 ) -> bool
     requires first { IsMessage false (message_of message.now) }
     requires second { IsMessage false (message_of other.now) }
 {
-    let Ok(types) = Types::standard(alloc) else {
-        return false;
-    };
-    let first = Context::of_message(message, Scheme::Http, &types);
-    let second = Context::of_message(other, Scheme::Http, &types);
-    is_as_said(alloc, &explain(alloc, &first, &second, b"s"), said)
+    let first = Context::of_message(message, Scheme::Http, types);
+    let second = Context::of_message(other, Scheme::Http, types);
+    match explain(alloc, &first, &second, b"s") {
+        Ok(explained) => is_as_said(alloc, &explained, said),
+        Err(fault) => match said {
+            Said::Fault(wanted) => fault == *wanted,
+            _ => false,
+        },
+    }
+}
+
+fn is_explained_beside(alloc: Global, other: &MessageView<'_>, types: &Types, row: &Record) -> bool
+    requires { IsMessage false (message_of other.now) }
+{
+    match message(alloc, row.message) {
+        Some(given) => are_explained(alloc, &given.view, other, types, &row.said),
+        None => false,
+    }
+}
+
+fn is_explained_by(alloc: Global, types: &Types, row: &Record) -> bool {
+    match message(alloc, RECEIVED) {
+        Some(other) => is_explained_beside(alloc, &other.view, types, row),
+        None => false,
+    }
 }
 
 fn is_explained(alloc: Global, row: &Record) -> bool {
-    match (view_of(alloc, row.message), view_of(alloc, RECEIVED)) {
-        (Some(message), Some(other)) => are_explained(alloc, &message, &other, row.said),
-        _ => false,
+    match Types::standard(alloc) {
+        Ok(types) => is_explained_by(alloc, &types, row),
+        Err(_) => false,
     }
 }
 

@@ -2,9 +2,10 @@
 
 ghost use Rattle.std.specs.Iterator.{IsFinite};
 
+use crate::given::message;
 use field_values::{combined_pieces, count_lines, joined_value, line_pieces};
 use line_index::{LineIndex, LineSpan};
-use msg_body::{Expect, MessageRead, read_message};
+use msg_body::MessageView;
 use msg_head::{
     HeadRead, HeadView, LineView, NamedFieldLines, Side, Start, TrailerRead, TrailerView,
     read_head, read_trailer,
@@ -20,8 +21,11 @@ fn after_line<'a>(text: &'a [u8], line: LineView<'_>) -> Option<&'a [u8]> {
     after_raw.strip_prefix(b"\r\n".as_slice())
 }
 
-/// Whether the field lines of the head together are the text.
-fn are_lines(head: &HeadView<'_>, text: &[u8]) -> bool {
+/// Whether the head has so many field lines, which together are the text.
+fn are_lines(head: &HeadView<'_>, count: usize, text: &[u8]) -> bool {
+    if head.line_count() != count {
+        return false;
+    }
     let mut left = text;
     for index in 0..head.line_count() {
         let Some(rest) = after_line(left, head.line(index)) else {
@@ -69,16 +73,14 @@ const RESPONSE_LINES: &[u8] = b"A:b\r\n c\r\n\t\r\nD: e\r\n";
 // The example of msg_head.
 fn is_request(alloc: Global) -> bool {
     match read_head(alloc, REQUEST) {
-        Ok(HeadRead::Whole(head, used)) => {
-            used == 37 && head.line_count() == 1 && are_lines(&head, REQUEST_LINES)
-        }
+        Ok(HeadRead::Whole(head, used)) => { used == 37 && are_lines(&head, 1, REQUEST_LINES) }
         _ => false,
     }
 }
 
 // The reason phrase of a status line is in no signature base.
-fn is_not_found(start: Start<'_>) -> bool {
-    match start {
+fn is_not_found(head: &HeadView<'_>) -> bool {
+    match head.start() {
         Start::Status {
             version,
             code,
@@ -93,7 +95,7 @@ fn is_not_found(start: Start<'_>) -> bool {
 fn is_response(alloc: Global) -> bool {
     match read_head(alloc, RESPONSE) {
         Ok(HeadRead::Whole(head, used)) => {
-            used == 40 && is_not_found(head.start()) && are_lines(&head, RESPONSE_LINES)
+            used == 40 && is_not_found(&head) && are_lines(&head, 2, RESPONSE_LINES)
         }
         _ => false,
     }
@@ -135,16 +137,17 @@ fn is_value(alloc: Global, lines: NamedFieldLines<'_, '_>, text: &[u8]) -> bool 
     }
 }
 
+fn is_combined(alloc: Global, view: &MessageView<'_>) -> bool {
+    are_pieces(combined_pieces(view, Side::Header, b"x"), b"a b, c")
+        && count_lines(view, Side::Header, b"x") == 2
+        && is_value(alloc, view.lines_named(Side::Header, b"x"), b"a b, c")
+}
+
 // The example of field_values.
 fn are_combined(alloc: Global) -> bool {
-    let bytes = b"GET / HTTP/1.1\r\nX: a\r\n  b \r\nx: c\r\n\r\n";
-    match read_message(alloc, bytes, Expect::Any, false) {
-        Ok(MessageRead::Whole(view, _)) => {
-            are_pieces(combined_pieces(&view, Side::Header, b"x"), b"a b, c")
-                && count_lines(&view, Side::Header, b"x") == 2
-                && is_value(alloc, view.lines_named(Side::Header, b"x"), b"a b, c")
-        }
-        _ => false,
+    match message(alloc, b"GET / HTTP/1.1\r\nX: a\r\n  b \r\nx: c\r\n\r\n") {
+        Some(given) => is_combined(alloc, &given.view),
+        None => false,
     }
 }
 
@@ -173,18 +176,18 @@ fn is_only(lines: &LineIndex<'_>, name: &[u8], span: LineSpan) -> bool {
     named.next() == Some(span) && named.is_empty()
 }
 
+fn are_two(lines: &LineIndex<'_>) -> bool {
+    lines.len() == 2
+        && is_only(lines, b"host", HOST)
+        && is_only(lines, b"accept", ACCEPT)
+        && lines.named(b"Host").is_empty()
+}
+
 // The example of line_index.
 fn are_found(alloc: Global) -> Result<bool, Memory> {
-    let mut spans = Vec::new(alloc);
-    spans.push(HOST)?;
-    spans.push(ACCEPT)?;
+    let spans = vec![in alloc; HOST, ACCEPT]?;
     let lines = LineIndex::new(alloc, LINES, spans)?;
-    Ok(
-        lines.len() == 2
-            && is_only(&lines, b"host", HOST)
-            && is_only(&lines, b"accept", ACCEPT)
-            && lines.named(b"Host").is_empty(),
-    )
+    Ok(are_two(&lines))
 }
 
 #[test]

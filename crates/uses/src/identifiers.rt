@@ -1,66 +1,98 @@
 // Tests of component_ids.
 
-use component_ids::{
-    ComponentId, FieldKind, ParamsText, Types, print_id, print_params, read_params,
-};
-use sfv_read::read_inner;
-use sfv_text::{Memory, Params, Text};
+ghost use Rattle.std.specs.Prelude.{IsTrue};
+ghost use Rattle.component_ids.specs.Identifiers.{is_id_in_range};
+ghost use Rattle.component_ids.specs.SignatureParams.{are_sig_params_in_range};
+
+use crate::components::params_of;
+use component_ids::{ComponentId, FieldKind, ParamsText, SigParams, Types, print_id, print_params};
+use sfv_text::{Params, Text};
 use std::alloc::Global;
 
-// Whether the signature parameters are read, copied and printed as they are written.
-fn are_printed(alloc: Global, text: &[u8]) -> bool {
-    let Ok(list) = read_inner(alloc, text) else {
-        return false;
-    };
-    let Ok(params) = read_params(alloc, &list) else {
-        return false;
-    };
-    match params.copy(alloc) {
-        Ok(copy) => match print_params(alloc, &copy) {
-            Ok(printed) => printed.bytes() == text,
-            Err(_) => false,
-        },
+// Whether the signature parameters are printed as the text.
+fn is_text_of(alloc: Global, params: &SigParams, text: &[u8]) -> bool
+    requires { IsTrue (are_sig_params_in_range params.now) }
+{
+    match print_params(alloc, params) {
+        Ok(printed) => printed.bytes() == text,
         Err(_) => false,
     }
 }
 
-// Whether the text of signature parameters has that of the second identifier at its place.
-fn has_second(alloc: Global, text: &[u8], second: &[u8]) -> bool {
-    let Ok(list) = read_inner(alloc, text) else {
-        return false;
-    };
-    let Ok(params) = read_params(alloc, &list) else {
-        return false;
-    };
+// Whether they are copied and printed as the text.
+fn are_printed(alloc: Global, params: &SigParams, text: &[u8]) -> bool
+    requires { IsTrue (are_sig_params_in_range params.now) }
+{
+    match params.copy(alloc) {
+        Ok(copy) => is_text_of(alloc, &copy, text),
+        Err(_) => false,
+    }
+}
+
+// Whether their text has that of the second identifier at its place.
+fn has_second(alloc: Global, params: &SigParams, text: &[u8], second: &[u8]) -> bool
+    requires { IsTrue (are_sig_params_in_range params.now) }
+{
     if params.ids.len() < 2 {
         return false;
     }
-    match ParamsText::of(alloc, &params) {
+    match ParamsText::of(alloc, params) {
         Ok(printed) => printed.text() == text && printed.id_text(1) == second,
         Err(_) => false,
     }
 }
 
-// Whether an identifier is copied and printed.
-fn is_printed(alloc: Global) -> Result<bool, Memory> {
-    let id = ComponentId {
-        name: Text::from_bytes(alloc, b"a")?,
-        params: Params::new(alloc),
-    };
-    let copy = id.copy(alloc)?;
-    Ok(print_id(alloc, &copy)?.bytes() == br#""a""#.as_slice())
+fn are_as_written(alloc: Global, text: &[u8], second: &[u8]) -> bool {
+    match params_of(alloc, text) {
+        Some(params) => {
+            are_printed(alloc, &params, text) && has_second(alloc, &params, text, second)
+        }
+        None => false,
+    }
+}
+
+// Whether an identifier is printed as the text.
+fn is_printed(alloc: Global, id: &ComponentId, text: &[u8]) -> bool
+    requires { IsTrue (is_id_in_range id.now) }
+{
+    match print_id(alloc, id) {
+        Ok(printed) => printed.bytes() == text,
+        Err(_) => false,
+    }
+}
+
+// Whether it is copied and printed.
+fn is_copied(alloc: Global, id: &ComponentId, text: &[u8]) -> bool
+    requires { IsTrue (is_id_in_range id.now) }
+{
+    match id.copy(alloc) {
+        Ok(copy) => is_printed(alloc, &copy, text),
+        Err(_) => false,
+    }
+}
+
+fn is_identifier(alloc: Global) -> bool {
+    match Text::from_bytes(alloc, b"a") {
+        Ok(name) => {
+            let id = ComponentId {
+                name,
+                params: Params::new(alloc),
+            };
+            is_copied(alloc, &id, br#""a""#)
+        }
+        Err(_) => false,
+    }
 }
 
 // The example of component_ids.
 #[test]
 fn signature_parameters_and_identifiers_are_copied_and_printed(rt: HostRuntime) {
-    assert!(rt; are_printed(rt.alloc(), br#"("@method" "date");created=1"#));
-    assert!(rt; has_second(rt.alloc(), br#"("@method" "date");created=1"#, br#""date""#));
-    assert!(rt; is_printed(rt.alloc()) == Ok(true));
+    let alloc = rt.alloc();
+    assert!(rt; are_as_written(alloc, br#"("@method" "date");created=1"#, br#""date""#));
+    assert!(rt; is_identifier(alloc));
 }
 
 // A name, and its kind where it is structured.
-#[derive(Clone, Copy)]
 struct Kind {
     name: &'static [u8],
     kind: Option<FieldKind>,
@@ -99,20 +131,20 @@ const KINDS: [Kind; 7] = [
     },
 ];
 
-fn are_kinds(alloc: Global) -> bool {
-    let Ok(mut types) = Types::standard(alloc) else {
-        return false;
-    };
-    if types.add(b"age", FieldKind::Item).is_err() {
-        return false;
+fn are_kinds(types: &mut Types) -> bool {
+    types.add(b"age", FieldKind::Item).is_ok()
+        && types.add(b"signature", FieldKind::List).is_ok()
+        && KINDS.iter().all(|row| types.kind_of(row.name) == row.kind)
+}
+
+fn are_added(alloc: Global) -> bool {
+    match Types::standard(alloc) {
+        Ok(mut types) => are_kinds(&mut types),
+        Err(_) => false,
     }
-    if types.add(b"signature", FieldKind::List).is_err() {
-        return false;
-    }
-    KINDS.iter().all(|row| types.kind_of(row.name) == row.kind)
 }
 
 #[test]
 fn a_field_has_the_kind_that_was_added_last(rt: HostRuntime) {
-    assert!(rt; are_kinds(rt.alloc()));
+    assert!(rt; are_added(rt.alloc()));
 }

@@ -2,13 +2,9 @@
 #![tactic(auto)]
 
 #[cfg(test)]
-mod audit_runs;
-#[cfg(test)]
 mod audits;
 #[cfg(test)]
 mod authorities;
-#[cfg(test)]
-mod base_runs;
 #[cfg(test)]
 mod bases;
 #[cfg(test)]
@@ -30,6 +26,8 @@ mod digests;
 #[cfg(test)]
 mod explanations;
 #[cfg(test)]
+mod given;
+#[cfg(test)]
 mod heads;
 #[cfg(test)]
 mod identifiers;
@@ -47,8 +45,6 @@ mod rewrite_runs;
 mod runs;
 #[cfg(test)]
 mod scripts;
-#[cfg(test)]
-mod sign_runs;
 #[cfg(test)]
 mod signings;
 #[cfg(test)]

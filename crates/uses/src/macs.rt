@@ -6,7 +6,6 @@ use std::alloc::Global;
 
 const DIGITS: &[u8; 16] = b"0123456789abcdef";
 
-#[derive(Clone, Copy)]
 struct Vector<'a> {
     key: &'a [u8],
     text: &'a [u8],

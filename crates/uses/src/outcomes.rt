@@ -1,71 +1,60 @@
 // Tests of refusals and commands.
 
+ghost use Rattle.std.specs.Prelude.{IsTrue};
+ghost use Rattle.verdicts.specs.Verdicts.{is_verdict_in_range};
+
+use crate::given::{GivenConf, message};
 use commands::{Outcome, base_outcome, context_for, verify_outcome};
 use component_values::Context;
 use conf::Conf;
 use hms_io::{MemShelf, Status};
-use intake::{Reading, message_of_role, read_configuration};
-use msg_body::{Expect, MessageFault, MessageView};
+use intake::read_configuration;
+use msg_body::MessageView;
 use refusals::{FileRefusal, Refusal, Role};
 use sfv_text::{Memory, Text};
 use std::alloc::Global;
 use verdicts::{Place, Rule, Verdict, append_verdict_line};
 
-fn is_verdict_line(alloc: Global) -> Result<bool, Memory> {
-    let mut lines = Text::from_bytes(alloc, b"a ok\n")?;
+// Whether the verdict's line is added, and with the one before it is the text.
+fn is_added(alloc: Global, verdict: &Verdict, lines: &mut Text, text: &[u8]) -> bool
+    requires { IsTrue (is_verdict_in_range verdict.now) }
+{
+    append_verdict_line(alloc, b"sig1", verdict, lines).is_ok() && lines.bytes() == text
+}
+
+fn is_verdict_line(alloc: Global) -> bool {
     let verdict = Verdict::Rule {
         number: Rule::ComponentRepeated,
         place: Place::Index(1),
     };
-    append_verdict_line(alloc, b"sig1", &verdict, &mut lines)?;
-    Ok(lines.bytes() == b"a ok\nsig1 rule 11 component-repeated 1\n".as_slice())
+    match Text::from_bytes(alloc, b"a ok\n") {
+        Ok(mut lines) => {
+            let text = b"a ok\nsig1 rule 11 component-repeated 1\n";
+            is_added(alloc, &verdict, &mut lines, text)
+        }
+        Err(_) => false,
+    }
 }
 
-fn is_refused(
-    alloc: Global,
-    role: Role,
-    refusal: FileRefusal,
-    line: &[u8],
-    status: Status,
-) -> Result<bool, Memory> {
-    let refusal = Refusal::Of(role, refusal);
-    let text = refusal.line(alloc)?;
-    Ok(text.bytes() == line && refusal.status() == status)
+fn has_line(alloc: Global, refusal: &Refusal, line: &[u8], status: Status) -> bool {
+    match refusal.line(alloc) {
+        Ok(text) => text.bytes() == line && refusal.status() == status,
+        Err(_) => false,
+    }
 }
 
-fn is_truncated_line(alloc: Global) -> Result<bool, Memory> {
-    let refusal = FileRefusal::Message(MessageFault::Truncated(0));
-    let line = b"refused input truncated 0\n";
-    is_refused(alloc, Role::Input, refusal, line, Status::BadInput)
-}
-
-fn is_item_line(alloc: Global) -> Result<bool, Memory> {
-    let refusal = FileRefusal::TooLong(1_048_576);
+fn is_item_line(alloc: Global) -> bool {
+    let refusal = Refusal::Of(Role::Item(12), FileRefusal::TooLong(1_048_576));
     let line = b"refused item 12 bytes 1048576\n";
-    is_refused(alloc, Role::Item(12), refusal, line, Status::LimitPassed)
-}
-
-fn is_wanted_line(alloc: Global) -> Result<bool, Memory> {
-    let line = b"refused wanted missing\n";
-    is_refused(
-        alloc,
-        Role::Wanted,
-        FileRefusal::Missing,
-        line,
-        Status::FileMissing,
-    )
+    has_line(alloc, &refusal, line, Status::LimitPassed)
 }
 
 #[test]
-fn lines_of_a_verdict_and_of_refusals(rt: HostRuntime) {
-    assert!(rt; is_verdict_line(rt.alloc()) == Ok(true));
-    assert!(rt; is_truncated_line(rt.alloc()) == Ok(true));
-    assert!(rt; is_item_line(rt.alloc()) == Ok(true));
-    assert!(rt; is_wanted_line(rt.alloc()) == Ok(true));
+fn lines_of_a_verdict_and_of_a_refusal(rt: HostRuntime) {
+    assert!(rt; is_verdict_line(rt.alloc()) && is_item_line(rt.alloc()));
 }
 
 // A configuration, an input, PARAMS, and what the two commands write.
-#[derive(Clone, Copy)]
 struct Run {
     conf: &'static [u8],
     input: &'static [u8],
@@ -74,13 +63,13 @@ struct Run {
     lines: &'static [u8],
 }
 
-const RUNS: [Run; 1] = [Run {
+const RUN: Run = Run {
     conf: b"scheme = \"http\"",
     input: b"GET / HTTP/1.1\r\nHost: example.com:80\r\n\r\n",
     params: br#"("@authority")"#,
     base: b"\"@authority\": example.com\n\"@signature-params\": (\"@authority\")",
     lines: b"- rule 1 input-absent\n",
-}];
+};
 
 fn shelf_of(alloc: Global, text: &[u8]) -> Result<MemShelf, Memory> {
     let mut shelf = MemShelf::new(alloc, &[])?;
@@ -88,26 +77,9 @@ fn shelf_of(alloc: Global, text: &[u8]) -> Result<MemShelf, Memory> {
     Ok(shelf)
 }
 
-fn conf_of(alloc: Global, text: &[u8]) -> Option<Conf> {
-    let Ok(mut shelf) = shelf_of(alloc, text) else {
-        return None;
-    };
-    match read_configuration(alloc, Some("hms.toml"), &mut shelf) {
-        Ok(conf) => Some(conf),
-        Err(_) => None,
-    }
-}
-
-fn message_of(alloc: Global, input: &[u8]) -> Option<MessageView<'_>> {
-    if input.len() > 1_000 {
-        return None;
-    }
-    let reading = Reading {
-        expect: Expect::Request,
-        to_head: false,
-    };
-    match message_of_role(alloc, reading, Role::Input, input) {
-        Ok(view) => Some(view),
+fn configured(alloc: Global, shelf: &mut MemShelf) -> Option<GivenConf> {
+    match read_configuration(alloc, Some("hms.toml"), shelf) {
+        Ok(conf) => Some(GivenConf { conf }),
         Err(_) => None,
     }
 }
@@ -135,19 +107,33 @@ fn has_verdicts(alloc: Global, conf: &Conf, context: &Context<'_, '_>, run: &Run
     }
 }
 
+fn has_both<'x>(alloc: Global, conf: &'x Conf, view: &'x MessageView<'_>, run: &Run) -> bool {
+    let context = context_for(conf, view, None);
+    has_base(alloc, &context, run) && has_verdicts(alloc, conf, &context, run)
+}
+
+fn is_run_by(alloc: Global, conf: &Conf, run: &Run) -> bool {
+    match message(alloc, run.input) {
+        Some(input) => has_both(alloc, conf, &input.view, run),
+        None => false,
+    }
+}
+
+fn is_run(alloc: Global, shelf: &mut MemShelf, run: &Run) -> bool {
+    match configured(alloc, shelf) {
+        Some(given) => is_run_by(alloc, &given.conf, run),
+        None => false,
+    }
+}
+
 fn holds(alloc: Global, run: &Run) -> bool {
-    match (conf_of(alloc, run.conf), message_of(alloc, run.input)) {
-        (Some(conf), Some(message)) => {
-            let context = context_for(&conf, &message, None);
-            has_base(alloc, &context, run) && has_verdicts(alloc, &conf, &context, run)
-        }
-        _ => false,
+    match shelf_of(alloc, run.conf) {
+        Ok(mut shelf) => is_run(alloc, &mut shelf, run),
+        Err(_) => false,
     }
 }
 
 #[test]
 fn base_and_verdicts_by_a_configuration(rt: HostRuntime) {
-    for run in &RUNS {
-        assert!(rt; holds(rt.alloc(), run));
-    }
+    assert!(rt; holds(rt.alloc(), &RUN));
 }

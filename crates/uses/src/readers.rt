@@ -58,7 +58,6 @@ fn strict_text(kind: Kind, alloc: Global, text: &[u8]) -> Result<Text, SfError> 
 }
 
 // A text, and the strict text of its value.
-#[derive(Clone, Copy)]
 struct Reads {
     kind: Kind,
     text: &'static [u8],
@@ -130,7 +129,6 @@ fn texts_read_as_their_values(rt: HostRuntime) {
 }
 
 // Texts that aren't read, and why.
-#[derive(Clone, Copy)]
 struct Refuses {
     kind: Kind,
     fault: SfError,

@@ -4,7 +4,6 @@ use hms_io::MemSource;
 use recording::{ItemBody, ItemFault, ItemReader, RecordingFault, Role, read_recording};
 use std::alloc::Global;
 
-#[derive(Clone, Copy)]
 struct Row {
     text: &'static [u8],
     // How many items are read, or why none are.
@@ -169,13 +168,6 @@ fn is_read(alloc: Global, row: &Row) -> bool {
     }
 }
 
-#[test]
-fn recordings_are_read(rt: HostRuntime) {
-    for row in &ROWS {
-        assert!(rt; is_read(rt.alloc(), row));
-    }
-}
-
 // The items and their places.
 const PARTS: &[u8] = b"hms-recording 1\nat 5\nrelated 2\nab\nresponse 3\ncde\nscript 1\nf\nend\n";
 
@@ -226,11 +218,18 @@ fn is_read_in_pieces(alloc: Global, row: &Row, piece: usize) -> bool {
     }
 }
 
-#[test]
-fn items_come_in_any_pieces(rt: HostRuntime) {
-    for row in &ROWS {
-        for piece in 1..45 {
-            assert!(rt; is_read_in_pieces(rt.alloc(), row, piece));
+fn is_read_in_any_pieces(alloc: Global, row: &Row) -> bool {
+    for piece in 1..45 {
+        if !is_read_in_pieces(alloc, row, piece) {
+            return false;
         }
+    }
+    true
+}
+
+#[test]
+fn recordings_are_read_whole_and_in_any_pieces(rt: HostRuntime) {
+    for row in &ROWS {
+        assert!(rt; is_read(rt.alloc(), row) && is_read_in_any_pieces(rt.alloc(), row));
     }
 }

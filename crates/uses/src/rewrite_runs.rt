@@ -1,11 +1,9 @@
 // A message that is rewritten, step by step.
 
-use crate::runs::{CONF, arguments_of, joined};
-use hms_io::{MemShelf, MemSink, MemSource, Status};
-use program::run;
+use crate::runs::{CONF, Devices, Ending, Moves, ends, ends_as, joined};
+use hms_io::{MemShelf, Status};
 use sfv_text::{Memory, Text};
 use std::alloc::Global;
-use std::test::Fail;
 
 // The request of RFC 9421 appendix B.2 with the signature of B.2.5, and two lines of one name that
 // it doesn't cover.
@@ -89,53 +87,86 @@ const REWRITE: [&str; 5] = ["rewrite", "--script", "s", "--label", "sig-b25"];
 
 const VERIFY: [&str; 5] = ["verify", "--conf", "c", "--now", "1618884473"];
 
-// What the run of these words writes over the input, where it is done.
-fn written(
-    alloc: Global,
-    words: &[&str],
-    script: &[u8],
-    input: &[u8],
-) -> Result<Option<Text>, Memory> {
-    let arguments = arguments_of(alloc, words)?;
-    let mut shelf = MemShelf::new(alloc, &[])?;
-    shelf.put("c", CONF)?;
-    shelf.put("s", script)?;
-    let mut source = MemSource::new(alloc, input, 1_000, &[])?;
-    let mut sink = MemSink::new(alloc, 100_000, 1_000, &[])?;
-    let ended = run(
-        alloc,
-        arguments.as_slice(),
-        &mut shelf,
-        &mut source,
-        &mut sink,
-    );
-    if ended.status != Status::Done {
-        return Ok(None);
-    }
-    Ok(Some(Text::from_bytes(alloc, sink.taken())?))
+// Over the input, whole at once, and whole writes.
+fn devices_of(alloc: Global, input: &[u8]) -> Result<Devices, Memory> {
+    let moves = Moves {
+        shelf: &[],
+        source: &[],
+        sink: &[],
+        piece: 1_000,
+        room: 100_000,
+        taken: 1_000,
+    };
+    Devices::new(alloc, input, &moves)
 }
 
-fn is_ok(alloc: Global, message: &[u8]) -> Result<bool, Memory> {
-    match written(alloc, &VERIFY, b"", message)? {
-        Some(lines) => Ok(lines.bytes() == b"sig-b25 ok\n".as_slice()),
-        None => Ok(false),
+fn scripted(alloc: Global, script: &[u8], input: &[u8]) -> Result<Devices, Memory> {
+    let mut devices = devices_of(alloc, input)?;
+    devices.shelf.put("c", CONF)?;
+    devices.shelf.put("s", script)?;
+    Ok(devices)
+}
+
+fn output_of(alloc: Global, words: &[&str], devices: &mut Devices) -> Option<Text> {
+    match ends(alloc, words, devices) {
+        Some(Status::Done) => Text::from_bytes(alloc, devices.sink.taken()).ok(),
+        _ => None,
+    }
+}
+
+// What the run of these words writes over the input, where it is done.
+fn written(alloc: Global, words: &[&str], script: &[u8], input: &[u8]) -> Option<Text> {
+    match scripted(alloc, script, input) {
+        Ok(mut devices) => output_of(alloc, words, &mut devices),
+        Err(_) => None,
+    }
+}
+
+fn is_ok(alloc: Global, message: &[u8]) -> bool {
+    match written(alloc, &VERIFY, b"", message) {
+        Some(lines) => lines.bytes() == b"sig-b25 ok\n".as_slice(),
+        None => false,
+    }
+}
+
+// Takes the step, where it is permitted, and answers whether the signature is kept.
+fn take_step(alloc: Global, message: &mut Text, step: &[u8]) -> Option<bool> {
+    match written(alloc, &REWRITE, step, message.bytes()) {
+        Some(after) => {
+            let is_kept = is_ok(alloc, after.bytes());
+            *message = after;
+            Some(is_kept)
+        }
+        None => None,
+    }
+}
+
+// How many steps are taken of the message, each of which keeps its signature; else None.
+fn count_kept(alloc: Global, message: &mut Text) -> Option<usize> {
+    let mut taken = 0_usize;
+    for step in &STEPS {
+        match take_step(alloc, message, *step) {
+            Some(true) => taken = taken.saturating_add(1),
+            Some(false) => return None,
+            None => {}
+        }
+    }
+    Some(taken)
+}
+
+fn are_kept(alloc: Global) -> bool {
+    match Text::from_bytes(alloc, MESSAGE) {
+        Ok(mut message) => match count_kept(alloc, &mut message) {
+            Some(taken) => taken > 20,
+            None => false,
+        },
+        Err(_) => false,
     }
 }
 
 #[test]
-fn permitted_steps_keep_a_signature(rt: HostRuntime) -> Result<(), Fail> {
-    let alloc = rt.alloc();
-    let mut message = Text::from_bytes(alloc, MESSAGE)?;
-    let mut taken = 0_usize;
-    for (index, step) in STEPS.iter().enumerate() {
-        if let Some(after) = written(alloc, &REWRITE, step, message.bytes())? {
-            assert!(rt; is_ok(alloc, after.bytes())?, "after step {index}");
-            message = after;
-            taken = taken.saturating_add(1);
-        }
-    }
-    assert!(rt; taken > 20, "{taken} steps");
-    Ok(())
+fn permitted_steps_keep_a_signature(rt: HostRuntime) {
+    assert!(rt; are_kept(rt.alloc()));
 }
 
 // The request of appendix B.2 with the digest of its content, up to the chunks that this comes in.
@@ -242,31 +273,31 @@ const RUNS: [Run; 9] = [
     },
 ];
 
+fn put_digests(alloc: Global, shelf: &mut MemShelf) -> Result<(), Memory> {
+    let conf = joined(alloc, &[CONF, DIGESTS])?;
+    shelf.put("d", conf.bytes())
+}
+
+fn comes_so(alloc: Global, row: &Run, input: &[u8], output: &[u8]) -> Result<bool, Memory> {
+    let mut devices = scripted(alloc, row.script, input)?;
+    put_digests(alloc, &mut devices.shelf)?;
+    devices.shelf.put("i", b"types.date = \"item\"\n")?;
+    let ending = Ending {
+        status: row.status,
+        taken: output,
+    };
+    Ok(ends_as(alloc, row.words, &mut devices, &ending))
+}
+
 fn comes_out(alloc: Global, row: &Run) -> Result<bool, Memory> {
-    let arguments = arguments_of(alloc, row.words)?;
     let input = joined(alloc, row.input)?;
     let output = joined(alloc, row.output)?;
-    let mut shelf = MemShelf::new(alloc, &[])?;
-    shelf.put("c", CONF)?;
-    shelf.put("d", joined(alloc, &[CONF, DIGESTS])?.bytes())?;
-    shelf.put("i", b"types.date = \"item\"\n")?;
-    shelf.put("s", row.script)?;
-    let mut source = MemSource::new(alloc, input.bytes(), 1_000, &[])?;
-    let mut sink = MemSink::new(alloc, 100_000, 1_000, &[])?;
-    let ended = run(
-        alloc,
-        arguments.as_slice(),
-        &mut shelf,
-        &mut source,
-        &mut sink,
-    );
-    Ok(ended.status == row.status && sink.taken() == output.bytes())
+    comes_so(alloc, row, input.bytes(), output.bytes())
 }
 
 #[test]
-fn whole_messages_are_rewritten(rt: HostRuntime) -> Result<(), Fail> {
+fn whole_messages_are_rewritten(rt: HostRuntime) {
     for (index, row) in RUNS.iter().enumerate() {
-        assert!(rt; comes_out(rt.alloc(), row)?, "row {index}");
+        assert!(rt; comes_out(rt.alloc(), row) == Ok(true), "row {index}");
     }
-    Ok(())
 }

@@ -1,12 +1,9 @@
-// The program over devices in memory, the messages that its runs share, verdicts on labels, and
-// words that come to one line. What a user sees beside this is a case of cases/.
+// The program over devices in memory. What a user sees of it is a case of cases/.
 
-use crate::sign_runs::{TAGGED, WISHES};
 use hms_io::{MemShelf, MemSink, MemSource, Status};
 use program::run;
 use sfv_text::{Memory, Text};
 use std::alloc::{AllocError, Global};
-use std::test::Fail;
 
 pub fn arguments_of(alloc: Global, words: &[&str]) -> Result<Vec<String>, AllocError> {
     let mut all = Vec::new(alloc);
@@ -25,58 +22,78 @@ pub fn joined(alloc: Global, texts: &[&[u8]]) -> Result<Text, Memory> {
     Ok(all)
 }
 
-// Whether the words come to the status and the output, over a shelf whose file `c` is the
-// configuration, `u` the request of RFC 9421 appendix B.2, `h` one whose method is HEAD, and `w`,
-// `v` and `l` wish signatures. Input and output are the parts one after another, and go in pieces
-// of other sizes.
-pub fn comes_to(
-    alloc: Global,
-    words: &[&str],
-    conf: &[u8],
-    input: &[&[u8]],
-    status: Status,
-    output: &[&[u8]],
-) -> Result<bool, Memory> {
-    let input = joined(alloc, input)?;
-    let output = joined(alloc, output)?;
-    let arguments = arguments_of(alloc, words)?;
-    let mut shelf = MemShelf::new(alloc, &[])?;
-    shelf.put("c", conf)?;
-    shelf.put("u", joined(alloc, &[REQUEST, LENGTH, CONTENT])?.bytes())?;
-    shelf.put("h", b"HEAD / HTTP/1.1\r\n\r\n")?;
-    shelf.put("w", WISHES)?;
-    shelf.put("v", TAGGED)?;
-    shelf.put("l", b"HTTP/1.1 401\r\nAccept-Signature: a=1\r\n\r\n")?;
-    let mut source = MemSource::new(alloc, input.bytes(), 50 + input.bytes().len() / 1_000, &[])?;
-    let mut sink = MemSink::new(alloc, 100_000, 7, &[])?;
-    let ended = run(
-        alloc,
-        arguments.as_slice(),
-        &mut shelf,
-        &mut source,
-        &mut sink,
-    );
-    Ok(ended.status == status && sink.taken() == output.bytes())
+// Which calls of the devices of a run fail, how many bytes a read gives at most, for how many there
+// is room in the output, and how many of them a write takes at most.
+#[derive(Clone, Copy)]
+pub struct Moves<'a> {
+    pub shelf: &'a [u64],
+    pub source: &'a [u64],
+    pub sink: &'a [u64],
+    pub piece: usize,
+    pub room: usize,
+    pub taken: usize,
 }
 
-pub const DATED: &[u8] = b"GET / HTTP/1.1\r\nDate: Tue, 20 Apr 2021 02:07:55 GMT\r\n\r\n";
+// The devices of a run, dropped by one call.
+pub struct Devices {
+    pub shelf: MemShelf,
+    pub source: MemSource,
+    pub sink: MemSink,
+}
 
-// The request of RFC 9421 appendix B.2 without its Content-Digest: lines, its length, the rest.
-pub const REQUEST: &[u8] = b"POST /foo?param=Value&Pet=dog HTTP/1.1\r\n\
-Host: example.com\r\n\
-Date: Tue, 20 Apr 2021 02:07:55 GMT\r\n\
-Content-Type: application/json\r\n";
+impl Drop for Devices {
+    fn drop(self) {
+        let Devices {
+            shelf: _,
+            source: _,
+            sink: _,
+        } = self;
+    }
+}
 
-pub const LENGTH: &[u8] = b"Content-Length: 18\r\n";
+impl Devices {
+    // Without files, over the input.
+    pub fn new(alloc: Global, input: &[u8], moves: &Moves<'_>) -> Result<Devices, Memory> {
+        let shelf = MemShelf::new(alloc, moves.shelf)?;
+        let source = MemSource::new(alloc, input, moves.piece.max(1), moves.source)?;
+        let sink = MemSink::new(alloc, moves.room, moves.taken.max(1), moves.sink)?;
+        Ok(Devices {
+            shelf,
+            source,
+            sink,
+        })
+    }
+}
 
-pub const CONTENT: &[u8] = b"\r\n{\"hello\": \"world\"}";
+fn status_of(alloc: Global, arguments: &[String], devices: &mut Devices) -> Status {
+    let ended = run(
+        alloc,
+        arguments,
+        &mut devices.shelf,
+        &mut devices.source,
+        &mut devices.sink,
+    );
+    ended.status
+}
 
-// The signature of appendix B.2.5.
-pub const INPUT: &[u8] = b"Signature-Input: sig-b25=(\"date\" \"@authority\" \"content-type\")\
-;created=1618884473;keyid=\"test-shared-secret\"\r\n";
+// The status that the words come to; None without memory for them.
+pub fn ends(alloc: Global, words: &[&str], devices: &mut Devices) -> Option<Status> {
+    match arguments_of(alloc, words) {
+        Ok(arguments) => Some(status_of(alloc, arguments.as_slice(), devices)),
+        Err(_) => None,
+    }
+}
 
-pub const SIGNATURE: &[u8] =
-    b"Signature: sig-b25=:pxcQw6G3AjtMBQjwo8XzkZf/bws5LelbaMk5rGIGtE8=:\r\n";
+// How a run ends: its status, and what is written.
+#[derive(Clone, Copy)]
+pub struct Ending<'a> {
+    pub status: Status,
+    pub taken: &'a [u8],
+}
+
+pub fn ends_as(alloc: Global, words: &[&str], devices: &mut Devices, ending: &Ending<'_>) -> bool {
+    ends(alloc, words, devices) == Some(ending.status) && devices.sink.taken() == ending.taken
+}
 
 // The key of RFC 9421 appendix B.1.5, and three structured fields.
 pub const CONF: &[u8] = b"[keys]\n\
@@ -87,252 +104,276 @@ example-dict = \"dictionary\"\n\
 x-list = \"list\"\n\
 x-item = \"item\"\n";
 
-// The verdicts on the labels of a message at a moment, by the key of the standard and a policy, or
-// why the message is refused.
-struct Verdicts {
-    policy: &'static [u8],
-    now: &'static str,
-    message: &'static [&'static [u8]],
+// Calls of the shelf, the source and the sink that fail, and what the run comes to.
+struct Failing {
+    words: &'static [&'static str],
+    shelf: &'static [u64],
+    source: &'static [u64],
+    sink: &'static [u64],
     status: Status,
-    lines: &'static [u8],
+    taken: &'static [u8],
 }
 
-fn has_verdicts(alloc: Global, row: &Verdicts) -> Result<bool, Memory> {
-    let conf = joined(alloc, &[CONF, row.policy])?;
-    let words = ["verify", "--conf", "c", "--now", row.now];
-    comes_to(
-        alloc,
-        &words,
-        conf.bytes(),
-        row.message,
-        row.status,
-        &[row.lines],
-    )
-}
-
-const MOMENT: &str = "1618884473";
-
-// The lines of a request without content that the standard's signature is right for.
-const BARE: &[u8] = b"GET /foo HTTP/1.1\r\n\
+// The signed request of 344 bytes.
+const SIGNED: &[u8] = b"POST /foo?param=Value&Pet=dog HTTP/1.1\r\n\
 Host: example.com\r\n\
 Date: Tue, 20 Apr 2021 02:07:55 GMT\r\n\
-Content-Type: application/json\r\n";
+Content-Type: application/json\r\n\
+Content-Length: 18\r\n\
+Signature-Input: sig-b25=(\"date\" \"@authority\" \"content-type\")\
+;created=1618884473;keyid=\"test-shared-secret\"\r\n\
+Signature: sig-b25=:pxcQw6G3AjtMBQjwo8XzkZf/bws5LelbaMk5rGIGtE8=:\r\n\
+\r\n{\"hello\": \"world\"}";
 
-const END: &[u8] = b"\r\n";
-
-// The first 31 bytes of the tag.
-const CUT_SIGNATURE: &[u8] =
-    b"Signature: sig-b25=:pxcQw6G3AjtMBQjwo8XzkZf/bws5LelbaMk5rGIGtA==:\r\n";
-
-// A label whose tag is wrong: the parts around its moment, and what comes after its key.
-const UNTRUE: &[u8] = b"GET / HTTP/1.1\r\nSignature-Input: a=();created=";
-
-const KEYID: &[u8] = b";keyid=\"test-shared-secret\"";
-
-const WRONG: &[u8] = b"\r\nSignature: a=:AAAA:\r\n\r\n";
-
-const VERDICTS: [Verdicts; 17] = [
-    Verdicts {
-        policy: b"",
-        now: MOMENT,
-        message: &[REQUEST, LENGTH, INPUT, SIGNATURE, CONTENT],
-        status: Status::Done,
-        lines: b"sig-b25 ok\n",
-    },
-    Verdicts {
-        policy: b"",
-        now: MOMENT,
-        message: &[BARE, INPUT, SIGNATURE, END],
-        status: Status::Done,
-        lines: b"sig-b25 ok\n",
-    },
-    Verdicts {
-        policy: b"",
-        now: MOMENT,
-        message: &[REQUEST, LENGTH, INPUT, CUT_SIGNATURE, CONTENT],
-        status: Status::NotOk,
-        lines: b"sig-b25 rule 32 mac-mismatch\n",
-    },
-    Verdicts {
-        policy: b"",
-        now: MOMENT,
-        message: &[BARE, INPUT, CUT_SIGNATURE, END],
-        status: Status::NotOk,
-        lines: b"sig-b25 rule 32 mac-mismatch\n",
-    },
-    Verdicts {
-        policy: b"",
-        now: MOMENT,
-        message: &[BARE, INPUT, END],
-        status: Status::NotOk,
-        lines: b"sig-b25 rule 3 signature-absent\n",
-    },
-    Verdicts {
-        policy: b"",
-        now: "1",
-        message: &[REQUEST, LENGTH, CONTENT],
-        status: Status::NotOk,
-        lines: b"- rule 1 input-absent\n",
-    },
-    Verdicts {
-        policy: b"",
-        now: MOMENT,
-        message: &[BARE, b"Signature-Input: a=(\r\n", SIGNATURE, END],
-        status: Status::NotOk,
-        lines: b"- rule 2 input-malformed\n",
-    },
-    Verdicts {
-        policy: b"",
-        now: "100",
-        message: &[UNTRUE, b"100", KEYID, b";alg=\"ed25519\"", WRONG],
-        status: Status::NotOk,
-        lines: b"a rule 13 alg-refused ed25519\n",
-    },
-    Verdicts {
-        policy: b"",
-        now: "100",
-        message: &[UNTRUE, b"100", KEYID, b";alg=\"x\"", WRONG],
-        status: Status::NotOk,
-        lines: b"a rule 14 alg-unknown \"x\"\n",
-    },
-    Verdicts {
-        policy: b"",
-        now: "1000",
-        message: &[UNTRUE, b"1060", KEYID, WRONG],
-        status: Status::NotOk,
-        lines: b"a rule 32 mac-mismatch\n",
-    },
-    Verdicts {
-        policy: b"",
-        now: "1000",
-        message: &[UNTRUE, b"1061", KEYID, WRONG],
-        status: Status::NotOk,
-        lines: b"a rule 19 created-ahead\n",
-    },
-    Verdicts {
-        policy: b"",
-        now: "1000",
-        message: &[UNTRUE, b"700", KEYID, WRONG],
-        status: Status::NotOk,
-        lines: b"a rule 32 mac-mismatch\n",
-    },
-    Verdicts {
-        policy: b"",
-        now: "1000",
-        message: &[UNTRUE, b"699", KEYID, WRONG],
-        status: Status::NotOk,
-        lines: b"a rule 20 too-old\n",
-    },
-    Verdicts {
-        policy: b"",
-        now: "100",
-        message: &[
-            b"GET /?a=1&a=2 HTTP/1.1\r\n\
-Signature-Input: a=(\"@query-param\";name=\"a\");created=100",
-            KEYID,
-            WRONG,
-        ],
-        status: Status::NotOk,
-        lines: b"a rule 28 ambiguous \"@query-param\";name=\"a\"\n",
-    },
-    Verdicts {
-        policy: b"[policy]\nnonce = \"require\"",
-        now: MOMENT,
-        message: &[BARE, INPUT, SIGNATURE, END],
-        status: Status::NotOk,
-        lines: b"sig-b25 rule 24 nonce-absent\n",
-    },
-    Verdicts {
-        policy: b"",
-        now: "1",
-        message: &[],
-        status: Status::BadInput,
-        lines: b"refused input truncated 0\n",
-    },
-    Verdicts {
-        policy: b"",
-        now: "1",
-        message: &[REQUEST, LENGTH, INPUT, SIGNATURE, CONTENT, b"x"],
-        status: Status::BadInput,
-        lines: b"refused input trailing 344\n",
-    },
-];
-
-#[test]
-fn verdicts_on_labels(rt: HostRuntime) -> Result<(), Fail> {
-    for row in &VERDICTS {
-        assert!(rt; has_verdicts(rt.alloc(), row)?, "at {:?}", row.lines);
-    }
-    Ok(())
+// Over this request, in seven pieces and an end, which is the file `o` too, and a sink for 50
+// bytes, which takes three at a call.
+fn ends_so(alloc: Global, row: &Failing) -> Result<bool, Memory> {
+    let moves = Moves {
+        shelf: row.shelf,
+        source: row.source,
+        sink: row.sink,
+        piece: 50,
+        room: 50,
+        taken: 3,
+    };
+    let mut devices = Devices::new(alloc, SIGNED, &moves)?;
+    devices.shelf.put("c", CONF)?;
+    devices.shelf.put("o", SIGNED)?;
+    let ending = Ending {
+        status: row.status,
+        taken: row.taken,
+    };
+    Ok(ends_as(alloc, row.words, &mut devices, &ending))
 }
 
-// Words that come to one line, over the file `c` and a message with odd labels.
-struct Line {
-    words: &'static [&'static str],
-    conf: &'static [u8],
-    status: Status,
-    line: &'static [u8],
-}
+const VERIFY: &[&str] = &["verify", "--conf", "c", "--now", "1618884473"];
 
-const ODD: &[u8] = b"GET / HTTP/1.1\r\nSignature-Input: a=()\r\nSignature: a=1\r\n\r\n";
+const BASE: &[&str] = &["base", r#"("date")"#];
 
-const LINES: [Line; 8] = [
-    Line {
-        words: &["verify", "--conf", "c", "--now", "1", "--label", "a"],
-        conf: CONF,
-        status: Status::NotOk,
-        line: b"a rule 8 signature-not-bytes\n",
+const EXPLAIN: &[&str] = &["explain", "--label", "sig-b25", "--other", "o"];
+
+const FAILING: [Failing; 26] = [
+    Failing {
+        words: VERIFY,
+        shelf: &[0],
+        source: &[],
+        sink: &[],
+        status: Status::ReadFault,
+        taken: b"",
     },
-    Line {
-        words: &["verify", "--label", "z", "--now", "1", "--conf", "c"],
-        conf: CONF,
-        status: Status::NotOk,
-        line: b"z rule 5 label-not-in-input\n",
+    Failing {
+        words: VERIFY,
+        shelf: &[],
+        source: &[0],
+        sink: &[],
+        status: Status::ReadFault,
+        taken: b"",
     },
-    Line {
-        words: &["verify", "--conf", "c", "--now", "1", "--now", "2"],
-        conf: b"keys = 1",
+    Failing {
+        words: VERIFY,
+        shelf: &[],
+        source: &[1],
+        sink: &[],
+        status: Status::ReadFault,
+        taken: b"",
+    },
+    Failing {
+        words: VERIFY,
+        shelf: &[],
+        source: &[2],
+        sink: &[],
+        status: Status::ReadFault,
+        taken: b"",
+    },
+    Failing {
+        words: VERIFY,
+        shelf: &[],
+        source: &[3],
+        sink: &[],
+        status: Status::ReadFault,
+        taken: b"",
+    },
+    Failing {
+        words: VERIFY,
+        shelf: &[],
+        source: &[4],
+        sink: &[],
+        status: Status::ReadFault,
+        taken: b"",
+    },
+    Failing {
+        words: VERIFY,
+        shelf: &[],
+        source: &[5],
+        sink: &[],
+        status: Status::ReadFault,
+        taken: b"",
+    },
+    Failing {
+        words: VERIFY,
+        shelf: &[],
+        source: &[6],
+        sink: &[],
+        status: Status::ReadFault,
+        taken: b"",
+    },
+    Failing {
+        words: VERIFY,
+        shelf: &[],
+        source: &[7],
+        sink: &[],
+        status: Status::ReadFault,
+        taken: b"",
+    },
+    Failing {
+        words: VERIFY,
+        shelf: &[],
+        source: &[],
+        sink: &[0],
+        status: Status::WriteFault,
+        taken: b"",
+    },
+    Failing {
+        words: VERIFY,
+        shelf: &[],
+        source: &[],
+        sink: &[1],
+        status: Status::WriteFault,
+        taken: b"sig",
+    },
+    Failing {
+        words: VERIFY,
+        shelf: &[],
+        source: &[],
+        sink: &[2],
+        status: Status::WriteFault,
+        taken: b"sig-b2",
+    },
+    Failing {
+        words: VERIFY,
+        shelf: &[],
+        source: &[],
+        sink: &[3],
+        status: Status::WriteFault,
+        taken: b"sig-b25 o",
+    },
+    // no call comes after these
+    Failing {
+        words: VERIFY,
+        shelf: &[1],
+        source: &[8],
+        sink: &[4],
+        status: Status::Done,
+        taken: b"sig-b25 ok\n",
+    },
+    // no file is named
+    Failing {
+        words: BASE,
+        shelf: &[0],
+        source: &[3],
+        sink: &[],
+        status: Status::ReadFault,
+        taken: b"",
+    },
+    Failing {
+        words: BASE,
+        shelf: &[],
+        source: &[],
+        sink: &[1],
+        status: Status::WriteFault,
+        taken: b"\"da",
+    },
+    // the sink is full
+    Failing {
+        words: BASE,
+        shelf: &[0],
+        source: &[8],
+        sink: &[],
+        status: Status::WriteFault,
+        taken: b"\"date\": Tue, 20 Apr 2021 02:07:55 GMT\n\"@signature-",
+    },
+    // nothing is read
+    Failing {
+        words: &["base"],
+        shelf: &[0],
+        source: &[0],
+        sink: &[],
         status: Status::BadArguments,
-        line: b"refused words\n",
+        taken: b"refused words\n",
     },
-    Line {
-        words: &["verify", "--conf", "d", "--now", "1"],
-        conf: b"keys = 1",
+    Failing {
+        words: &["base", "(", "--conf", "d"],
+        shelf: &[1],
+        source: &[0],
+        sink: &[],
         status: Status::FileMissing,
-        line: b"refused conf missing\n",
+        taken: b"refused conf missing\n",
     },
-    Line {
-        words: &["verify", "--conf", "c", "--now", "1"],
-        conf: b"keys = 1",
-        status: Status::BadConf,
-        line: b"refused conf 4 keys\n",
+    // the second file is asked for, and no input is read
+    Failing {
+        words: &["base", "(", "--conf", "c", "--request", "d"],
+        shelf: &[1],
+        source: &[0],
+        sink: &[],
+        status: Status::ReadFault,
+        taken: b"",
     },
-    Line {
-        words: &["base", "(", "--conf", "c"],
-        conf: b"keys = 1",
-        status: Status::BadConf,
-        line: b"refused conf 4 keys\n",
+    Failing {
+        words: &["base", "(", "--conf", "c", "--request", "d"],
+        shelf: &[2],
+        source: &[0],
+        sink: &[],
+        status: Status::FileMissing,
+        taken: b"refused request missing\n",
     },
-    Line {
-        words: &["verify", "--conf", "c", "--now", "1"],
-        conf: b"[policy]\nmax-age = 0",
-        status: Status::BadConf,
-        line: b"refused conf 5 policy.max-age\n",
+    // the other record is asked for, and then the input
+    Failing {
+        words: EXPLAIN,
+        shelf: &[0],
+        source: &[],
+        sink: &[],
+        status: Status::ReadFault,
+        taken: b"",
     },
-    Line {
-        words: &["verify", "--conf", "c", "--now", "1"],
-        conf: b"[policy]\nmaxage = 5",
-        status: Status::BadConf,
-        line: b"refused conf 3 policy\n",
+    Failing {
+        words: EXPLAIN,
+        shelf: &[1],
+        source: &[3],
+        sink: &[],
+        status: Status::ReadFault,
+        taken: b"",
+    },
+    Failing {
+        words: EXPLAIN,
+        shelf: &[1],
+        source: &[8],
+        sink: &[3],
+        status: Status::WriteFault,
+        taken: b"explained",
+    },
+    // the sink is full
+    Failing {
+        words: EXPLAIN,
+        shelf: &[1],
+        source: &[8],
+        sink: &[],
+        status: Status::WriteFault,
+        taken: b"explained 12 12\ncase h 0 host\npad h 0 - -\ncase h 1",
+    },
+    // no input is read
+    Failing {
+        words: &["explain", "--label", "sig-b25", "--other", "d"],
+        shelf: &[1],
+        source: &[0],
+        sink: &[],
+        status: Status::FileMissing,
+        taken: b"refused other missing\n",
     },
 ];
 
 #[test]
-fn words_that_come_to_one_line(rt: HostRuntime) -> Result<(), Fail> {
-    for row in &LINES {
-        let alloc = rt.alloc();
-        let is_so = comes_to(alloc, row.words, row.conf, &[ODD], row.status, &[row.line])?;
-        assert!(rt; is_so, "at {:?}", row.words);
+fn each_failing_call_ends_the_run(rt: HostRuntime) {
+    for (index, row) in FAILING.iter().enumerate() {
+        assert!(rt; ends_so(rt.alloc(), row) == Ok(true), "at {index}");
     }
-    Ok(())
 }

@@ -1,6 +1,6 @@
 // Tests of signing, of what conf says of it, and of negotiation.
 
-ghost use Rattle.std.specs.Prelude.{IfSome, IsSome};
+ghost use Rattle.std.specs.Prelude.{IfSome, IsSome, All};
 ghost use Rattle.framing.specs.Framings.{is_head_request};
 ghost use Rattle.msg_body.specs.Messages.{IsMessage};
 ghost use Rattle.msg_body.specs.Views.{message_of as message_in};
@@ -8,18 +8,15 @@ ghost use Rattle.component_values.specs.Context.{HasWholeMessage, context_of};
 ghost use Rattle.settings.specs.ConfMeaning.{meaning};
 ghost use Rattle.signing.specs.Specs.{IsValidSpec};
 
-use crate::components::message_of;
+use crate::given::{GivenConf, conf_of, message, response};
 use commands::{Outcome, wished_outcome};
 use component_ids::print_params;
 use component_values::Context;
-use conf::{Conf, read_conf};
+use conf::Conf;
 use content_digest::Algorithm;
-use intake::{Reading, message_of_role};
 use msg_body::MessageView;
 use negotiation::{EachFault, NegotiateFault, negotiate, sign_each};
-use refusals::Role;
-use sfv_text::Text;
-use signing::{SignFault, SignSpec, sign, spec_of, wanted};
+use signing::{SignFault, SignSpec, WantFault, sign, spec_of, wanted};
 use std::alloc::Global;
 
 const MOMENT: u64 = 1_618_884_473;
@@ -56,7 +53,6 @@ digest = "sha-512"
 "#;
 
 // What is asked for: the label, its parameters in strict text, and the digest that is added.
-#[derive(Clone, Copy)]
 struct Spec {
     label: &'static [u8],
     params: &'static [u8],
@@ -77,7 +73,6 @@ fn is_spec(alloc: Global, spec: &SignSpec, row: &Spec) -> bool
 }
 
 // What a configuration asks for, of a request or a response, with the nonce `n` or without one.
-#[derive(Clone, Copy)]
 struct Asked {
     conf: &'static [u8],
     of_request: bool,
@@ -120,27 +115,39 @@ const ASKED: [Asked; 3] = [
     },
 ];
 
+// The configuration of the text, where it says what is signed.
+fn signing_conf(alloc: Global, text: &[u8]) -> Option<GivenConf>
+    ensures { IfSome result (λ given. IsSome (meaning given.conf).sign) }
+{
+    match conf_of(alloc, text) {
+        Some(given) => match given.conf.sign() {
+            Some(_) => Some(given),
+            None => None,
+        },
+        None => None,
+    }
+}
+
+// What is asked for of a message of the kind, with the nonce `n` or without one.
 fn asked_of(alloc: Global, conf: &Conf, of_request: bool, has_nonce: bool) -> Option<SignSpec>
+    requires { IsSome (meaning conf.now).sign }
     ensures { IfSome result IsValidSpec }
 {
-    let Some(_) = conf.sign() else {
-        return None;
+    let nonce = if has_nonce {
+        Some(b"n".as_slice())
+    } else {
+        None
     };
-    let spec = match has_nonce {
-        true => spec_of(alloc, conf, of_request, MOMENT, Some(b"n")),
-        false => spec_of(alloc, conf, of_request, MOMENT, None),
-    };
-    match spec {
+    match spec_of(alloc, conf, of_request, MOMENT, nonce) {
         Ok(spec) => Some(spec),
         Err(_) => None,
     }
 }
 
-fn is_asked(alloc: Global, row: &Asked) -> bool {
-    let Ok(conf) = read_conf(alloc, row.conf) else {
-        return false;
-    };
-    match asked_of(alloc, &conf, row.of_request, row.has_nonce) {
+fn is_asked(alloc: Global, conf: &Conf, row: &Asked) -> bool
+    requires { IsSome (meaning conf.now).sign }
+{
+    match asked_of(alloc, conf, row.of_request, row.has_nonce) {
         Some(spec) => is_spec(alloc, &spec, &row.spec),
         None => false,
     }
@@ -149,7 +156,10 @@ fn is_asked(alloc: Global, row: &Asked) -> bool {
 #[test]
 fn a_configuration_says_what_is_signed(rt: HostRuntime) {
     for (index, row) in ASKED.iter().enumerate() {
-        assert!(rt; is_asked(rt.alloc(), row), "at {index}");
+        assert!(rt;
+            is_so(rt.alloc(), row.conf, &Judged::Asked(row)),
+            "at {index}"
+        );
     }
 }
 
@@ -186,7 +196,6 @@ const WITH_DIGEST: &[u8] = b"POST / HTTP/1.1\r\n\
     5\r\n{\"hel\r\nd\r\nlo\": \"world\"}\r\n0\r\n\r\n";
 
 // A message, and what is written of it, or why it isn't signed.
-#[derive(Clone, Copy)]
 struct Signed {
     conf: &'static [u8],
     message: &'static [u8],
@@ -216,30 +225,34 @@ const SIGNED: [Signed; 4] = [
     },
 ];
 
-// Signs the message by what is asked for, and compares what comes of it.
-fn comes_to(alloc: Global, conf: &Conf, spec: &SignSpec, row: &Signed) -> bool
-    requires { IsValidSpec spec.now }
+// Whether signing by what is asked for comes to the row's text or fault.
+fn comes_to(alloc: Global, context: &Context<'_, '_>, spec: &SignSpec, row: &Signed) -> bool
+    requires valid { IsValidSpec spec.now }
+    requires whole { HasWholeMessage (context_of context.now) }
 {
-    if row.message.len() > 1_000 {
-        return false;
-    }
-    let Ok(view) = message_of_role(alloc, Reading::of_any(), Role::Input, row.message) else {
-        return false;
-    };
-    let context = Context::of_message(&view, conf.scheme(), conf.types());
-    match (sign(alloc, &context, spec), row.written) {
-        (Ok(text), Ok(written)) => text.bytes() == written,
-        (Err(fault), Err(wanted)) => fault == wanted,
-        _ => false,
+    match sign(alloc, context, spec) {
+        Ok(text) => row.written == Ok(text.bytes()),
+        Err(fault) => row.written == Err(fault),
     }
 }
 
-fn is_signed(alloc: Global, row: &Signed) -> bool {
-    let Ok(conf) = read_conf(alloc, row.conf) else {
-        return false;
-    };
-    match asked_of(alloc, &conf, true, false) {
-        Some(spec) => comes_to(alloc, &conf, &spec, row),
+fn is_signed_as(alloc: Global, conf: &Conf, spec: &SignSpec, row: &Signed) -> bool
+    requires { IsValidSpec spec.now }
+{
+    match message(alloc, row.message) {
+        Some(given) => {
+            let context = Context::of_message(&given.view, conf.scheme(), conf.types());
+            comes_to(alloc, &context, spec, row)
+        }
+        None => false,
+    }
+}
+
+fn is_signed(alloc: Global, conf: &Conf, row: &Signed) -> bool
+    requires { IsSome (meaning conf.now).sign }
+{
+    match asked_of(alloc, conf, true, false) {
+        Some(spec) => is_signed_as(alloc, conf, &spec, row),
         None => false,
     }
 }
@@ -247,12 +260,14 @@ fn is_signed(alloc: Global, row: &Signed) -> bool {
 #[test]
 fn messages_are_signed_or_have_a_fault(rt: HostRuntime) {
     for (index, row) in SIGNED.iter().enumerate() {
-        assert!(rt; is_signed(rt.alloc(), row), "at {index}");
+        assert!(rt;
+            is_so(rt.alloc(), row.conf, &Judged::Signed(row)),
+            "at {index}"
+        );
     }
 }
 
 // A message, and its one wish, or why its wishes aren't met.
-#[derive(Clone, Copy)]
 struct Wished {
     message: &'static [u8],
     wish: Result<Spec, &'static [u8]>,
@@ -279,82 +294,92 @@ const WISHED: [Wished; 3] = [
     },
 ];
 
-fn is_met(alloc: Global, conf: &Conf, row: &Wished) -> bool {
-    let Some(_) = conf.sign() else {
-        return false;
-    };
-    let Some(view) = message_of(alloc, row.message) else {
-        return false;
-    };
-    match (wanted(alloc, &view, conf, MOMENT), row.wish) {
-        (Ok(specs), Ok(wish)) => match specs.as_slice() {
-            [spec] => is_spec(alloc, spec, &wish),
-            _ => false,
-        },
-        (Err(fault), Err(word)) => match format!(in alloc; "{fault}") {
-            Ok(text) => text.as_bytes() == word,
-            Err(_) => false,
-        },
+// Whether what is wished is the row's one wish.
+fn is_wish(alloc: Global, specs: &[SignSpec], row: &Wished) -> bool
+    requires { All IsValidSpec specs.now }
+{
+    match (specs, &row.wish) {
+        ([spec], Ok(wish)) => is_spec(alloc, spec, wish),
         _ => false,
     }
 }
 
-fn is_wished(alloc: Global, row: &Wished) -> bool {
-    match read_conf(alloc, CONF) {
-        Ok(conf) => is_met(alloc, &conf, row),
-        Err(_) => false,
+fn is_unmet(alloc: Global, fault: &WantFault, row: &Wished) -> bool {
+    match (format!(in alloc; "{fault}"), &row.wish) {
+        (Ok(text), Err(word)) => text.as_bytes() == *word,
+        _ => false,
+    }
+}
+
+fn is_met(alloc: Global, conf: &Conf, view: &MessageView<'_>, row: &Wished) -> bool
+    requires { IsSome (meaning conf.now).sign }
+{
+    match wanted(alloc, view, conf, MOMENT) {
+        Ok(specs) => is_wish(alloc, specs.as_slice(), row),
+        Err(fault) => is_unmet(alloc, &fault, row),
+    }
+}
+
+fn is_wished(alloc: Global, conf: &Conf, row: &Wished) -> bool
+    requires { IsSome (meaning conf.now).sign }
+{
+    match message(alloc, row.message) {
+        Some(given) => is_met(alloc, conf, &given.view, row),
+        None => false,
     }
 }
 
 #[test]
 fn wishes_are_met_or_have_a_fault(rt: HostRuntime) {
     for (index, row) in WISHED.iter().enumerate() {
-        assert!(rt; is_wished(rt.alloc(), row), "at {index}");
+        assert!(rt; is_so(rt.alloc(), CONF, &Judged::Wished(row)), "at {index}");
     }
 }
 
 // What a response that is signed as its request asks comes to.
-#[derive(Clone, Copy)]
 enum Answer {
     Written(&'static [u8]),
     // What is said of a fault of the wishes, or of a digest.
     Refused(&'static [u8]),
     // The wish at the index is the first whose signature isn't made.
     Unsigned(usize, SignFault),
+    // What is written where each wish is signed, by `sign_each` and by the command `sign`.
+    Each(&'static [u8]),
 }
 
-fn is_answer(alloc: Global, answered: &Result<Text, NegotiateFault>, answer: Answer) -> bool {
-    match (answered, answer) {
-        (Ok(text), Answer::Written(written)) => text.bytes() == written,
-        (Err(NegotiateFault::Sign(index, fault)), Answer::Unsigned(place, cause)) => {
-            *index == place && *fault == cause
+fn is_refused(alloc: Global, fault: &NegotiateFault, word: &[u8]) -> bool {
+    match format!(in alloc; "{fault}") {
+        Ok(text) => text.as_bytes() == word,
+        Err(_) => false,
+    }
+}
+
+fn is_fault(alloc: Global, fault: &NegotiateFault, answer: &Answer) -> bool {
+    match (fault, answer) {
+        (NegotiateFault::Sign(index, fault), Answer::Unsigned(place, cause)) => {
+            index == place && fault == cause
         }
-        (Err(fault), Answer::Refused(word)) => match format!(in alloc; "{fault}") {
-            Ok(text) => text.as_bytes() == word,
-            Err(_) => false,
-        },
+        (_, Answer::Refused(word)) => is_refused(alloc, fault, word),
         _ => false,
     }
 }
 
-// The response to the request.
-fn response_of<'m>(
-    alloc: Global,
-    request: &MessageView<'_>,
-    text: &'m [u8],
-) -> Option<MessageView<'m>>
-    ensures { IfSome result (λ view.
-        IsMessage (is_head_request (message_in request.now).head.start) (message_in view)) }
+// Whether the response of the context, signed as its request asks, comes to the answer.
+fn is_answered(alloc: Global, conf: &Conf, context: &Context<'_, '_>, answer: &Answer) -> bool
+    requires table { IsSome (meaning conf.now).sign }
+    requires request { IsSome (context_of context.now).related }
+    requires whole { HasWholeMessage (context_of context.now) }
 {
-    if text.len() > 1_000 {
-        return None;
-    }
-    match message_of_role(alloc, Reading::of_input(Some(request)), Role::Input, text) {
-        Ok(view) => Some(view),
-        Err(_) => None,
+    match negotiate(alloc, context, conf, MOMENT) {
+        Ok(text) => match answer {
+            Answer::Written(written) => text.bytes() == *written,
+            _ => false,
+        },
+        Err(fault) => is_fault(alloc, &fault, answer),
     }
 }
 
+// A response, its request, and what it comes to.
 struct Negotiated {
     conf: &'static [u8],
     request: &'static [u8],
@@ -414,7 +439,7 @@ const SIGNED_AGAIN: &[u8] = b"HTTP/1.1 200 OK\r\nContent-Length: 18\r\n\
     Signature: new=:viNda9Qkhdkc9eqn4cSpT+ijVs2sqlLCek5sxUb1yO4=:\r\n\r\n\
     {\"hello\": \"world\"}";
 
-const NEGOTIATED: [Negotiated; 5] = [
+const NEGOTIATED: [Negotiated; 6] = [
     Negotiated {
         conf: CONF,
         request: b"GET / HTTP/1.1\r\nHost: h\r\nWant-Content-Digest: sha-512=3, sha-256=10\r\n\
@@ -442,6 +467,12 @@ const NEGOTIATED: [Negotiated; 5] = [
         request: BOTH,
         response: HELLO,
         answer: Answer::Written(WITH_BOTH),
+    },
+    Negotiated {
+        conf: CONF_OF_DIGEST,
+        request: BOTH,
+        response: HELLO,
+        answer: Answer::Each(WITH_BOTH),
     },
     Negotiated {
         conf: CONF,
@@ -509,110 +540,203 @@ const UNMET: [Negotiated; 7] = [
     },
 ];
 
-fn is_negotiated(alloc: Global, row: &Negotiated) -> bool {
-    let Ok(conf) = read_conf(alloc, row.conf) else {
-        return false;
-    };
-    let Some(_) = conf.sign() else {
-        return false;
-    };
-    let Some(request) = message_of(alloc, row.request) else {
-        return false;
-    };
-    let Some(response) = response_of(alloc, &request, row.response) else {
-        return false;
-    };
+// Whether each of what is asked for, signed in order, comes to the text.
+fn is_each_signed(
+    alloc: Global,
+    context: &Context<'_, '_>,
+    specs: &[SignSpec],
+    written: &[u8],
+) -> bool
+    requires valid { All IsValidSpec specs.now }
+    requires whole { HasWholeMessage (context_of context.now) }
+{
+    match sign_each(alloc, context, specs) {
+        Ok(text) => text.bytes() == written,
+        Err(_) => false,
+    }
+}
+
+// The same of the wishes of the request.
+fn are_wishes_signed(
+    alloc: Global,
+    conf: &Conf,
+    request: &MessageView<'_>,
+    context: &Context<'_, '_>,
+    written: &[u8],
+) -> bool
+    requires table { IsSome (meaning conf.now).sign }
+    requires whole { HasWholeMessage (context_of context.now) }
+{
+    match wanted(alloc, request, conf, MOMENT) {
+        Ok(specs) => is_each_signed(alloc, context, specs.as_slice(), written),
+        Err(_) => false,
+    }
+}
+
+fn is_done(outcome: &Outcome, written: &[u8]) -> bool {
+    match outcome {
+        Outcome::Done(output) => output.bytes() == written,
+        _ => false,
+    }
+}
+
+// The same of the command `sign`.
+fn is_wished_outcome(
+    alloc: Global,
+    conf: &Conf,
+    request: &MessageView<'_>,
+    context: &Context<'_, '_>,
+    written: &[u8],
+) -> bool
+    requires table { IsSome (meaning conf.now).sign }
+    requires whole { HasWholeMessage (context_of context.now) }
+{
+    match wished_outcome(alloc, conf, MOMENT, request, context) {
+        Ok(outcome) => is_done(&outcome, written),
+        Err(_) => false,
+    }
+}
+
+fn is_second_refused(alloc: Global, context: &Context<'_, '_>, specs: &[SignSpec]) -> bool
+    requires valid { All IsValidSpec specs.now }
+    requires whole { HasWholeMessage (context_of context.now) }
+{
+    match sign_each(alloc, context, specs) {
+        Ok(_) => false,
+        Err(fault) => fault == EachFault::Sign(1, SignFault::LabelThere),
+    }
+}
+
+// Whether after what is asked for a second signature of its label isn't made.
+fn is_signed_before(alloc: Global, conf: &Conf, context: &Context<'_, '_>, first: SignSpec) -> bool
+    requires table { IsSome (meaning conf.now).sign }
+    requires valid { IsValidSpec first }
+    requires whole { HasWholeMessage (context_of context.now) }
+{
+    match asked_of(alloc, conf, false, true) {
+        Some(second) => is_second_refused(alloc, context, &[first, second]),
+        None => false,
+    }
+}
+
+fn is_label_signed_once(alloc: Global, conf: &Conf, context: &Context<'_, '_>) -> bool
+    requires table { IsSome (meaning conf.now).sign }
+    requires whole { HasWholeMessage (context_of context.now) }
+{
+    match asked_of(alloc, conf, false, false) {
+        Some(first) => is_signed_before(alloc, conf, context, first),
+        None => false,
+    }
+}
+
+// Whether each wish is signed over the message before it, nothing is added where nothing is to be
+// signed, and no label is signed twice.
+fn are_signed(
+    alloc: Global,
+    conf: &Conf,
+    request: &MessageView<'_>,
+    context: &Context<'_, '_>,
+    written: &[u8],
+) -> bool
+    requires table { IsSome (meaning conf.now).sign }
+    requires whole { HasWholeMessage (context_of context.now) }
+{
+    are_wishes_signed(alloc, conf, request, context, written)
+        && is_wished_outcome(alloc, conf, request, context, written)
+        && is_each_signed(alloc, context, &[], context.message.bytes())
+        && is_label_signed_once(alloc, conf, context)
+}
+
+fn is_signed_for(
+    alloc: Global,
+    conf: &Conf,
+    request: &MessageView<'_>,
+    answer: &MessageView<'_>,
+    row: &Negotiated,
+) -> bool
+    requires table { IsSome (meaning conf.now).sign }
+    requires whole { IsMessage (is_head_request (message_in request.now).head.start)
+        (message_in answer.now) }
+{
     let context = Context {
-        message: &response,
-        related: Some(&request),
+        message: answer,
+        related: Some(request),
         scheme: conf.scheme(),
         types: conf.types(),
     };
-    let answered = negotiate(alloc, &context, &conf, MOMENT);
-    is_answer(alloc, &answered, row.answer)
+    match row.answer {
+        Answer::Each(written) => are_signed(alloc, conf, request, &context, written),
+        _ => is_answered(alloc, conf, &context, &row.answer),
+    }
+}
+
+fn is_response_signed(
+    alloc: Global,
+    conf: &Conf,
+    request: &MessageView<'_>,
+    row: &Negotiated,
+) -> bool
+    requires { IsSome (meaning conf.now).sign }
+{
+    match response(alloc, request, row.response) {
+        Some(given) => is_signed_for(alloc, conf, request, &given.view, row),
+        None => false,
+    }
+}
+
+fn is_negotiated(alloc: Global, conf: &Conf, row: &Negotiated) -> bool
+    requires { IsSome (meaning conf.now).sign }
+{
+    match message(alloc, row.request) {
+        Some(given) => is_response_signed(alloc, conf, &given.view, row),
+        None => false,
+    }
+}
+
+// A row, of any of the tables.
+#[derive(Clone, Copy)]
+enum Judged<'a> {
+    Asked(&'a Asked),
+    Signed(&'a Signed),
+    Wished(&'a Wished),
+    Negotiated(&'a Negotiated),
+}
+
+// Whether the row holds by the configuration.
+fn is_so_by(alloc: Global, conf: &Conf, row: &Judged<'_>) -> bool
+    requires { IsSome (meaning conf.now).sign }
+{
+    match row {
+        Judged::Asked(row) => is_asked(alloc, conf, row),
+        Judged::Signed(row) => is_signed(alloc, conf, row),
+        Judged::Wished(row) => is_wished(alloc, conf, row),
+        Judged::Negotiated(row) => is_negotiated(alloc, conf, row),
+    }
+}
+
+fn is_so(alloc: Global, conf: &[u8], row: &Judged<'_>) -> bool {
+    match signing_conf(alloc, conf) {
+        Some(given) => is_so_by(alloc, &given.conf, row),
+        None => false,
+    }
 }
 
 #[test]
 fn responses_are_signed_as_their_requests_ask(rt: HostRuntime) {
     for (index, row) in NEGOTIATED.iter().enumerate() {
-        assert!(rt; is_negotiated(rt.alloc(), row), "at {index}");
+        assert!(rt;
+            is_so(rt.alloc(), row.conf, &Judged::Negotiated(row)),
+            "at {index}"
+        );
     }
 }
 
 #[test]
 fn the_first_cause_against_a_response_is_answered(rt: HostRuntime) {
     for (index, row) in UNMET.iter().enumerate() {
-        assert!(rt; is_negotiated(rt.alloc(), row), "at {index}");
+        assert!(rt;
+            is_so(rt.alloc(), row.conf, &Judged::Negotiated(row)),
+            "at {index}"
+        );
     }
-}
-
-// Whether the wishes of the request come to the text: each signed in order, and by the command
-// `sign`.
-fn are_signed(alloc: Global, conf: &Conf, context: &Context<'_, '_>, written: &[u8]) -> bool
-    requires table { IsSome (meaning conf.now).sign }
-    requires whole { HasWholeMessage (context_of context.now) }
-{
-    let Some(request) = context.related else {
-        return false;
-    };
-    let Ok(specs) = wanted(alloc, request, conf, MOMENT) else {
-        return false;
-    };
-    let Ok(text) = sign_each(alloc, context, specs.as_slice()) else {
-        return false;
-    };
-    match wished_outcome(alloc, conf, MOMENT, request, context) {
-        Ok(Outcome::Done(output)) => text.bytes() == written && output.bytes() == written,
-        _ => false,
-    }
-}
-
-// Whether nothing is added where nothing is to be signed, and a second signature of a label isn't
-// made.
-fn is_label_signed_once(alloc: Global, conf: &Conf, context: &Context<'_, '_>) -> bool
-    requires whole { HasWholeMessage (context_of context.now) }
-{
-    let Some(first) = asked_of(alloc, conf, false, false) else {
-        return false;
-    };
-    let Some(second) = asked_of(alloc, conf, false, true) else {
-        return false;
-    };
-    let Ok(text) = sign_each(alloc, context, &[]) else {
-        return false;
-    };
-    if text.bytes() != context.message.bytes() {
-        return false;
-    }
-    match sign_each(alloc, context, &[first, second]) {
-        Ok(_) => false,
-        Err(fault) => fault == EachFault::Sign(1, SignFault::LabelThere),
-    }
-}
-
-fn is_each_signed(alloc: Global, text: &[u8]) -> bool {
-    let Ok(conf) = read_conf(alloc, CONF_OF_DIGEST) else {
-        return false;
-    };
-    let Some(_) = conf.sign() else {
-        return false;
-    };
-    let Some(request) = message_of(alloc, BOTH) else {
-        return false;
-    };
-    let Some(response) = response_of(alloc, &request, text) else {
-        return false;
-    };
-    let context = Context {
-        message: &response,
-        related: Some(&request),
-        scheme: conf.scheme(),
-        types: conf.types(),
-    };
-    are_signed(alloc, &conf, &context, WITH_BOTH) && is_label_signed_once(alloc, &conf, &context)
-}
-
-#[test]
-fn each_wish_is_signed_over_the_message_before_it(rt: HostRuntime) {
-    assert!(rt; is_each_signed(rt.alloc(), HELLO));
 }

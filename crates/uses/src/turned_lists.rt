@@ -1,11 +1,13 @@
 // Tests of lists of fields.
 
-use crate::components::message_of;
+ghost use Rattle.std.specs.Prelude.{◌≤◌, length};
+ghost use Rattle.chunks.specs.declared.limits.TheConstants.{MAX_CONTENT_BYTES};
+
+use crate::given::message;
 use component_ids::{Scheme, Types};
 use component_values::Context;
 use field_lists::{FromFault, ToFault, from_message, to_message};
-use list_texts::{FieldsFault, print_fields, read_fields};
-use msg_body::MessageView;
+use list_texts::{FieldList, FieldsFault, print_fields, read_fields};
 use std::alloc::Global;
 
 // A request with a query that is empty, and a field.
@@ -18,7 +20,6 @@ const ORDERED: &[u8] = b"hms-fields 1\nfield 7 3\n:methodGET\nfield 7 5\n:scheme
 
 const MESSAGE: &[u8] = b"GET /p? HTTP/1.1\r\nhost: h\r\ndate: x\r\n\r\n";
 
-#[derive(Clone, Copy)]
 struct Row {
     text: &'static [u8],
     fault: Option<FieldsFault>,
@@ -123,13 +124,17 @@ const ROWS: [Row; 24] = [
     },
 ];
 
+fn is_printed(alloc: Global, list: &FieldList, text: &[u8]) -> bool {
+    match print_fields(alloc, list) {
+        Ok(printed) => printed.bytes() == text,
+        Err(_) => false,
+    }
+}
+
 // A list that is read is printed as it was.
 fn is_read(alloc: Global, row: &Row) -> bool {
     match read_fields(alloc, row.text) {
-        Ok(list) => match print_fields(alloc, &list) {
-            Ok(text) => row.fault.is_none() && text.bytes() == row.text,
-            Err(_) => false,
-        },
+        Ok(list) => row.fault.is_none() && is_printed(alloc, &list, row.text),
         Err(fault) => row.fault == Some(fault),
     }
 }
@@ -141,7 +146,6 @@ fn lists_are_read_and_printed(rt: HostRuntime) {
     }
 }
 
-#[derive(Clone, Copy)]
 struct Turned {
     text: &'static [u8],
     // The message, or why there is none.
@@ -248,13 +252,19 @@ const TURNED: [Turned; 20] = [
     },
 ];
 
-fn is_turned(alloc: Global, row: &Turned) -> bool {
-    let Ok(list) = read_fields(alloc, row.text) else {
-        return false;
-    };
-    match to_message(alloc, &list, Scheme::Https) {
+fn is_message_of(alloc: Global, list: &FieldList, row: &Turned) -> bool
+    requires { length list.now.content ≤ MAX_CONTENT_BYTES }
+{
+    match to_message(alloc, list, Scheme::Https) {
         Ok(text) => row.message == Ok(text.bytes()),
         Err(fault) => row.message == Err(fault),
+    }
+}
+
+fn is_turned(alloc: Global, row: &Turned) -> bool {
+    match read_fields(alloc, row.text) {
+        Ok(list) => is_message_of(alloc, &list, row),
+        Err(_) => false,
     }
 }
 
@@ -265,7 +275,6 @@ fn lists_are_turned_into_messages(rt: HostRuntime) {
     }
 }
 
-#[derive(Clone, Copy)]
 struct Back {
     message: &'static [u8],
     // The list's text, or why there is none.
@@ -309,24 +318,30 @@ const BACK: [Back; 7] = [
     },
 ];
 
-fn is_list_of(alloc: Global, message: &MessageView<'_>, row: &Back) -> bool {
-    let Ok(types) = Types::standard(alloc) else {
-        return false;
-    };
-    let context = Context::of_message(message, Scheme::Https, &types);
-    match from_message(alloc, &context) {
-        Ok(list) => match print_fields(alloc, &list) {
-            Ok(text) => row.list == Ok(text.bytes()),
+fn is_list_of(alloc: Global, context: &Context<'_, '_>, row: &Back) -> bool {
+    match from_message(alloc, context) {
+        Ok(list) => match row.list {
+            Ok(text) => is_printed(alloc, &list, text),
             Err(_) => false,
         },
         Err(fault) => row.list == Err(fault),
     }
 }
 
-fn is_turned_back(alloc: Global, row: &Back) -> bool {
-    match message_of(alloc, row.message) {
-        Some(message) => is_list_of(alloc, &message, row),
+fn is_turned_back_by(alloc: Global, types: &Types, row: &Back) -> bool {
+    match message(alloc, row.message) {
+        Some(given) => {
+            let context = Context::of_message(&given.view, Scheme::Https, types);
+            is_list_of(alloc, &context, row)
+        }
         None => false,
+    }
+}
+
+fn is_turned_back(alloc: Global, row: &Back) -> bool {
+    match Types::standard(alloc) {
+        Ok(types) => is_turned_back_by(alloc, &types, row),
+        Err(_) => false,
     }
 }
 

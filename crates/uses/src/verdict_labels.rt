@@ -2,11 +2,12 @@
 
 ghost use Rattle.std.specs.Prelude.{◌≡◌, ◌<◌};
 
+use crate::given::{conf_of, message};
 use component_values::Context;
-use conf::{Conf, read_conf};
-use msg_body::{Expect, MessageRead, MessageView, read_message};
+use conf::Conf;
+use msg_body::MessageView;
 use nonces::{NonceBook, Steps};
-use signatures::{LabelRead, Rule, labels_of, read_label};
+use signatures::{Rule, labels_of, read_label};
 use std::alloc::Global;
 use std::marker::Brand;
 use std::sync::ledger::{Blank, Ledger};
@@ -60,7 +61,6 @@ const CONF: &[u8] = b"[keys]\n\
 
 // A book of one entry, which holds this nonce until the signature's moment, and the rule that fails
 // at that moment or a second later.
-#[derive(Clone, Copy)]
 struct Row {
     conf: &'static [u8],
     message: &'static [u8],
@@ -135,13 +135,11 @@ const ROWS: [Row; 9] = [
     },
 ];
 
-fn view_of(alloc: Global, bytes: &[u8]) -> Option<MessageView<'_>> {
-    if bytes.len() > 1_000 {
-        return None;
-    }
-    match read_message(alloc, bytes, Expect::Request, false) {
-        Ok(MessageRead::Whole(view, _)) => Some(view),
-        _ => None,
+// Whether the verdict has this rule, or is that the label is right.
+fn has_rule(verdict: &Verdict, rule: Option<Rule>) -> bool {
+    match verdict {
+        Verdict::Ok { keyid: _ } => rule.is_none(),
+        Verdict::Rule { number, place: _ } => rule == Some(*number),
     }
 }
 
@@ -164,8 +162,7 @@ fn is_verdict<L: Ledger>(
         Some(book),
         steps,
     ) {
-        Ok(Verdict::Ok { keyid: _ }) => rule.is_none(),
-        Ok(Verdict::Rule { number, place: _ }) => rule == Some(number),
+        Ok(found) => has_rule(&found, rule),
         Err(_) => false,
     }
 }
@@ -189,12 +186,16 @@ fn is_judged<L: Ledger>(
     is_verdict(alloc, conf, view, &book, row.rule, steps)
 }
 
+fn is_judged_by<L: Ledger>(alloc: Global, conf: &Conf, row: &Row, steps: &mut Steps<L>) -> bool {
+    match message(alloc, row.message) {
+        Some(given) => is_judged(alloc, conf, &given.view, row, steps),
+        None => false,
+    }
+}
+
 fn holds<L: Ledger>(alloc: Global, row: &Row, steps: &mut Steps<L>) -> bool {
-    let Ok(conf) = read_conf(alloc, row.conf) else {
-        return false;
-    };
-    match view_of(alloc, row.message) {
-        Some(view) => is_judged(alloc, &conf, &view, row, steps),
+    match conf_of(alloc, row.conf) {
+        Some(given) => is_judged_by(alloc, &given.conf, row, steps),
         None => false,
     }
 }
@@ -230,14 +231,14 @@ fn has_label(alloc: Global, view: &MessageView<'_>) -> bool {
 // Whether the signature has three components and a tag of 32 bytes.
 fn has_signature(alloc: Global, view: &MessageView<'_>) -> bool {
     match read_label(alloc, view, b"s") {
-        Ok(LabelRead { params, tag }) => params.ids.len() == 3 && tag.bytes().len() == 32,
+        Ok(read) => read.params.ids.len() == 3 && read.tag.bytes().len() == 32,
         Err(_) => false,
     }
 }
 
 fn is_standard(alloc: Global) -> bool {
-    match view_of(alloc, STANDARD) {
-        Some(view) => has_label(alloc, &view) && has_signature(alloc, &view),
+    match message(alloc, STANDARD) {
+        Some(given) => has_label(alloc, &given.view) && has_signature(alloc, &given.view),
         None => false,
     }
 }
