@@ -10,7 +10,7 @@ use Rattle.component_ids.specs.Causes.{IsIdFault}
 use Rattle.component_ids.specs.Identifiers.{id_text}
 use Rattle.component_values.specs.Context.{MessageContext}
 use Rattle.component_values.specs.Values.{HaveValues, IsFirstLack}
-use Rattle.sig_base.specs.SignatureBase.{signature_base}
+use Rattle.signatures.specs.SignatureBase.{signature_base}
 use Rattle.commands.specs.Covered.{ReadsParams}
 use Rattle.commands.specs.Layers.{ReadsThen}
 use Rattle.refusals.specs.declared.refusal.Refusal.TheVariants.{Command}

@@ -16,7 +16,7 @@ use component_ids::{ComponentId, SigParams, print_id};
 use component_values::{Context, ValueFault, prepare};
 use intake::Stop;
 use refusals::{CommandRefusal, Refusal};
-use sig_base::base_bytes;
+use signatures::base_bytes;
 use std::alloc::Global;
 
 /// What stops a run over components that aren't prepared.

@@ -27,7 +27,7 @@ use Rattle.msg_head.specs.declared.error.Side.{Side}
 use Rattle.msg_head.specs.declared.error.Side.TheVariants.{Header, Trailer}
 use Rattle.msg_head.specs.Heads.{head_text}
 use Rattle.msg_head.specs.Trailers.{IsTrailer, trailer_text}
-use Rattle.chunks.specs.Chunks.{Chunks, chunks_text}
+use Rattle.framing.specs.Chunks.{Chunks, chunks_text}
 use Rattle.framing.specs.declared.kind.Framing.{Framing}
 use Rattle.framing.specs.declared.kind.Framing.TheVariants as framing
 use Rattle.framing.specs.Framings.{is_request, content_length_of}

@@ -6,11 +6,11 @@ use Rattle.sfv_text.specs.declared.value.BareItem.{BareItem}
 use Rattle.msg_head.specs.Lines.{FieldLine}
 use Rattle.msg_head.specs.Starts.{StartLine, request, status}
 use Rattle.component_ids.specs.declared.scheme.Scheme.{Scheme}
-use Rattle.targets.specs.Targets.{TargetParts, SpellsTarget, path_of, query_of}
-use Rattle.targets.specs.Authorities.{IsAuthorityValue}
-use Rattle.targets.proofs.Decided.{target_is_decided, authority_is_decided}
-use Rattle.targets.proofs.TargetParts.{one_target}
-use Rattle.targets.proofs.AuthorityParts.{one_authority_value}
+use Rattle.derived_values.specs.Targets.{TargetParts, SpellsTarget, path_of, query_of}
+use Rattle.derived_values.specs.Authorities.{IsAuthorityValue}
+use Rattle.derived_values.proofs.Decided.{target_is_decided, authority_is_decided}
+use Rattle.derived_values.proofs.TargetParts.{one_target}
+use Rattle.derived_values.proofs.AuthorityParts.{one_authority_value}
 use Rattle.derived_values.specs.declared.derived.DerivedName.{DerivedName}
 use Rattle.derived_values.specs.declared.derived.DerivedName.TheVariants.{Method, RequestTarget, Status, OfTarget}
 use Rattle.derived_values.specs.declared.derived.TargetName.{TargetName}

@@ -18,11 +18,11 @@ use Rattle.msg_head.specs.Lines.{FieldLine}
 use Rattle.msg_head.specs.Starts.{StartLine, request, status, IsStartLine}
 use Rattle.component_ids.specs.declared.scheme.Scheme.{Scheme}
 use Rattle.component_ids.specs.declared.scheme.Scheme.TheVariants.{Http, Https}
-use Rattle.targets.specs.Targets.{TargetParts, has_path, path_of, query_of, query_text}
-use Rattle.targets.specs.Query.{matches}
-use Rattle.targets.specs.Laws.{AreVisible}
-use Rattle.targets.proofs.Visible.{has_visible_parts, has_visible_value}
-use Rattle.targets.proofs.ValueLaws.{matches_printable}
+use Rattle.derived_values.specs.Targets.{TargetParts, has_path, path_of, query_of, query_text}
+use Rattle.derived_values.specs.Query.{matches}
+use Rattle.derived_values.specs.TargetLaws.{AreVisible}
+use Rattle.derived_values.proofs.Visible.{has_visible_parts, has_visible_value}
+use Rattle.derived_values.proofs.ValueLaws.{matches_printable}
 use Rattle.derived_values.specs.declared.derived.DerivedName.{DerivedName}
 use Rattle.derived_values.specs.declared.derived.DerivedName.TheVariants.{Method, RequestTarget, Status, OfTarget}
 use Rattle.derived_values.specs.declared.derived.TargetName.{TargetName}

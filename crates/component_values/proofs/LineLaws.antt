@@ -15,7 +15,7 @@ use Rattle.component_ids.specs.Table.{is_field_name, has_param}
 use Rattle.component_ids.specs.declared.id.ComponentId.{ComponentId}
 use Rattle.component_ids.specs.declared.scheme.Scheme.{Scheme}
 use Rattle.component_ids.specs.declared.types.FieldKind.{FieldKind}
-use Rattle.targets.specs.Targets.{TargetParts, path_of}
+use Rattle.derived_values.specs.Targets.{TargetParts, path_of}
 use Rattle.derived_values.specs.Derived.{derived_of, RequestParts, DerivedRow, FormedRow, RequestRow, StartRow, TargetAuthorityRow, TargetRow, TargetUriRow, AuthorityRow, named_authority, scheme_of, sole_value}
 use Rattle.derived_values.specs.declared.derived.DerivedName.{DerivedName}
 use Rattle.derived_values.specs.declared.derived.DerivedName.TheVariants.{Method, RequestTarget, Status, OfTarget}

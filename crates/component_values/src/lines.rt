@@ -7,7 +7,7 @@ ghost use Rattle.msg_head.specs.Values.{value, line_values, joined_value};
 ghost use Rattle.component_values.specs.Values.{byte_sequences};
 
 use crate::byte_sequence::feed_byte_sequence;
-use field_values::joined_pieces;
+use msg_body::joined_pieces;
 use msg_head::{LineView, NamedFieldLines};
 use sfv_text::Absorb;
 

@@ -9,11 +9,10 @@ use crate::context::Context;
 use crate::context_field::{ContextField, FieldRef};
 use crate::strict::{copied_text, dict_answer, member_in, strict_answer};
 use component_ids::{ComponentId, FieldKind};
-use derived_values::{Lack, NoValue};
+use derived_values::{Lack, NoValue, QueryParams};
 use msg_head::NamedFieldLines;
 use sfv_text::{Dict, Memory, Sequence, Text};
 use std::alloc::Global;
-use targets::QueryParams;
 
 /// What a field comes to.
 #[derive(Drop)]

@@ -12,7 +12,7 @@ ghost use Rattle.derived_values.specs.declared.lack.NoValue.TheVariants.{Memory 
 
 use component_ids::FieldKind;
 use derived_values::{Lack, NoValue};
-use field_values::joined_value;
+use msg_body::joined_value;
 use msg_head::NamedFieldLines;
 use sfv_read::{SfError, read_dict, read_item, read_list};
 use sfv_text::{Dict, Item, Memory, Text, print_dict, print_item, print_list, print_member};

@@ -20,10 +20,10 @@ use Rattle.component_ids.proofs.Judged as list_answers
 use Rattle.toml.specs.Data.{Data, Members, no_members, string, table, as_bool, as_str, get_member}
 use Rattle.toml.specs.Parse.{parse_document}
 use Rattle.settings.specs.declared.limits.TheConstants.{DEFAULT_MAX_AGE, DEFAULT_SKEW}
-use Rattle.conf_keys.specs.declared.table.TableName.TheVariants as place
-use Rattle.conf_keys.specs.declared.table.ValueRule.TheVariants as rule
-use Rattle.conf_keys.specs.declared.table.Version.{Version}
-use Rattle.conf_keys.specs.declared.table.Version.TheVariants.{One, Two}
+use Rattle.conf_values.specs.declared.table.TableName.TheVariants as place
+use Rattle.conf_values.specs.declared.table.ValueRule.TheVariants as rule
+use Rattle.conf_values.specs.declared.table.Version.{Version}
+use Rattle.conf_values.specs.declared.table.Version.TheVariants.{One, Two}
 use Rattle.settings.specs.Covered.{IsCoveredList, params_of}
 use Rattle.conf.specs.Rows.{fails, is_ill_typed, is_out_of_range}
 use Rattle.conf.specs.Table.{HoldsOfValue, Row, rows, places, place_path, entries_of, has_place, has_unknown, is_missing, members_at, members_in, tables_at, version_in}

@@ -8,7 +8,7 @@ use Rattle.conf.specs.declared.fault.ConfFault.{ConfFault}
 use Rattle.conf.specs.declared.fault.ConfFault.TheVariants.{Memory, NotToml, UnknownKey, WrongType, OutOfRange, BadKeyText, BadComponents, BadScript, Missing}
 use Rattle.settings.specs.declared.gateway_conf.GatewayConf.{GatewayConf}
 use Rattle.settings.specs.declared.sign_conf.SignConf.{SignConf}
-use Rattle.conf_keys.specs.declared.table.ValueRule.TheVariants as rule
+use Rattle.conf_values.specs.declared.table.ValueRule.TheVariants as rule
 use Rattle.conf.specs.Sections.{HasGateway, HasSign}
 use Rattle.settings.specs.Configuration.{Configuration}
 use Rattle.conf.specs.Meaning.{Configures, HasKey, IsConfiguration, IsDocument}

@@ -9,8 +9,8 @@ use Rattle.toml.specs.Data.{Data, Members, string, integer, table, as_str, get_m
 use Rattle.settings.specs.declared.gateway_conf.GatewayConf.{GatewayConf}
 use Rattle.settings.specs.declared.policy.Policy.{Policy}
 use Rattle.settings.specs.declared.sign_conf.SignConf.{SignConf}
-use Rattle.conf_keys.specs.declared.table.TableName.TheVariants.{Sign}
-use Rattle.conf_keys.specs.declared.table.ValueRule.TheVariants as rule
+use Rattle.conf_values.specs.declared.table.TableName.TheVariants.{Sign}
+use Rattle.conf_values.specs.declared.table.ValueRule.TheVariants as rule
 use Rattle.settings.specs.Keys.{KeyMap}
 use Rattle.conf.specs.Sections.{ArePolicies, HasSign, IsSignConf, kept_nonces, seconds_of}
 use Rattle.settings.specs.Configuration.{Configuration}

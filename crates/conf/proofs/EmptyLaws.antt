@@ -10,7 +10,7 @@ use Rattle.conf.specs.Rows.{is_ill_typed, is_out_of_range}
 use Rattle.conf.specs.Table.{Row, rows, places, place_path, has_unknown, is_missing}
 use Rattle.settings.specs.Configuration.{Configuration}
 use Rattle.settings.specs.Standard.{standard_configuration, standard_policy}
-use Rattle.conf_keys.specs.declared.table.Version.TheVariants.{One}
+use Rattle.conf_values.specs.declared.table.Version.TheVariants.{One}
 use Rattle.conf.specs.Sections.{IsPolicy}
 use Rattle.conf.specs.Meaning.{Configures, IsConfiguration, IsDocument}
 use Rattle.conf.specs.Paths.{HoldsOfNone}

@@ -14,8 +14,8 @@ use Rattle.rewrite_script.specs.declared.rewrite.Rewrite.{Rewrite}
 use Rattle.toml.specs.Data.{Data, Items, Members, string, array, table, as_array, as_str, get_member}
 use Rattle.conf.specs.declared.fault.ConfFault.{ConfFault}
 use Rattle.conf.specs.declared.fault.ConfFault.TheVariants as fault
-use Rattle.conf_keys.specs.declared.table.TableName.TheVariants.{Gateway}
-use Rattle.conf_keys.specs.declared.table.ValueRule.TheVariants as rule
+use Rattle.conf_values.specs.declared.table.TableName.TheVariants.{Gateway}
+use Rattle.conf_values.specs.declared.table.ValueRule.TheVariants as rule
 use Rattle.conf.specs.Rows.{fails}
 use Rattle.conf.specs.Table.{has_place}
 use Rattle.conf_values.specs.Parts.{values_of}

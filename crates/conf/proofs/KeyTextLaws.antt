@@ -11,7 +11,7 @@ use Rattle.std.proofs.lemmas.Bool.{cases_Bool, false≢true}
 use Rattle.toml.specs.Data.{Data, Members, no_members, member, string, table, as_str, get_member}
 use Rattle.conf.specs.declared.fault.ConfFault.{ConfFault}
 use Rattle.conf.specs.declared.fault.ConfFault.TheVariants as fault
-use Rattle.conf_keys.specs.declared.table.ValueRule.TheVariants as rule
+use Rattle.conf_values.specs.declared.table.ValueRule.TheVariants as rule
 use Rattle.settings.specs.Keys.{KeyMap}
 use Rattle.conf.specs.Meaning.{AreKeys, HasKey}
 use Rattle.conf.specs.Refusals.{IsBadKeyText, HasBadKeyText}

@@ -7,7 +7,7 @@ use Rattle.component_ids.specs.declared.params.SigParams.{SigParams}
 use Rattle.component_ids.specs.SignatureParams.{list_of}
 use Rattle.component_ids.proofs.FaultLaws.{one_value}
 use Rattle.toml.specs.Data.{Data, string}
-use Rattle.conf_keys.specs.declared.table.ValueRule.TheVariants as rule
+use Rattle.conf_values.specs.declared.table.ValueRule.TheVariants as rule
 use Rattle.settings.specs.Covered.{IsCoveredList, params_of}
 use Rattle.conf.specs.Rows.{fails}
 use Rattle.conf_values.specs.Values.{has_type}

@@ -5,9 +5,9 @@ use Rattle.std.specs.List.{AllZip}
 use Rattle.std.proofs.lemmas.Cmp.{nat_list_cmp_total}
 use Rattle.component_ids.specs.Types.{KindMap}
 use Rattle.toml.specs.Data.{Data, Members, string, table, get_member}
-use Rattle.conf_keys.specs.declared.table.TableName.TheVariants as place
-use Rattle.conf_keys.specs.declared.table.Version.{Version}
-use Rattle.conf_keys.specs.declared.table.Version.TheVariants.{One, Two}
+use Rattle.conf_values.specs.declared.table.TableName.TheVariants as place
+use Rattle.conf_values.specs.declared.table.Version.{Version}
+use Rattle.conf_values.specs.declared.table.Version.TheVariants.{One, Two}
 use Rattle.conf.specs.Table.{members_at, members_in, version_in}
 use Rattle.conf_values.specs.Values.{IsKeyText}
 use Rattle.settings.specs.declared.gateway_conf.GatewayConf.{GatewayConf}

@@ -15,11 +15,11 @@ use Rattle.settings.specs.declared.limits.TheConstants.{DAY_WINDOW, DEFAULT_MAX_
 use Rattle.settings.specs.declared.policy.Policy.{Policy}
 use Rattle.settings.specs.ValidPolicies.{AreValidPolicies, SelectDistinct}
 use Rattle.settings.specs.ValidSections.{IsValidPolicy}
-use Rattle.conf_keys.specs.declared.table.TableName.TheVariants as place
-use Rattle.conf_keys.specs.declared.table.ValueRule.{ValueRule}
-use Rattle.conf_keys.specs.declared.table.ValueRule.TheVariants as rule
-use Rattle.conf_keys.specs.declared.table.Version.{Version}
-use Rattle.conf_keys.specs.declared.table.Version.TheVariants.{One, Two}
+use Rattle.conf_values.specs.declared.table.TableName.TheVariants as place
+use Rattle.conf_values.specs.declared.table.ValueRule.{ValueRule}
+use Rattle.conf_values.specs.declared.table.ValueRule.TheVariants as rule
+use Rattle.conf_values.specs.declared.table.Version.{Version}
+use Rattle.conf_values.specs.declared.table.Version.TheVariants.{One, Two}
 use Rattle.conf_values.specs.Parts.{members_in, tables_in, values_of}
 use Rattle.conf_values.specs.Values.{has_type, have_distinct_tags, is_allowed, is_same_tag, is_within, number_or, tag_in, window}
 use Rattle.conf.specs.Rows.{fails}

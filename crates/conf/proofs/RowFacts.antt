@@ -6,10 +6,10 @@ use Rattle.std.specs.Str.{bytes_eq}
 use Rattle.std.proofs.lemmas.Bool.{cases_Bool, false≢true}
 use Rattle.toml.specs.Data.{Data, Members, get_member}
 use Rattle.nonces.specs.declared.limits.TheConstants.{MAX_WINDOW}
-use Rattle.conf_keys.specs.declared.table.TableName.{TableName}
-use Rattle.conf_keys.specs.declared.table.TableName.TheVariants.{Gateway, Policies, Policy, Sign}
-use Rattle.conf_keys.specs.declared.table.ValueRule.{ValueRule}
-use Rattle.conf_keys.specs.declared.table.ValueRule.TheVariants as rule
+use Rattle.conf_values.specs.declared.table.TableName.{TableName}
+use Rattle.conf_values.specs.declared.table.TableName.TheVariants.{Gateway, Policies, Policy, Sign}
+use Rattle.conf_values.specs.declared.table.ValueRule.{ValueRule}
+use Rattle.conf_values.specs.declared.table.ValueRule.TheVariants as rule
 use Rattle.conf_values.specs.Values.{has_type, is_allowed, window}
 use Rattle.conf.specs.Rows.{clashes, fails, is_ill_typed, is_out_of_range}
 use Rattle.conf.specs.Table.{HoldsOfValue, Row, rows, at_gateway, at_policies, at_policy, at_sign, at_top, row_value, has_place, is_missing, members_at, tables_at}

@@ -4,10 +4,10 @@ use Rattle.std.specs.Prelude.{option_and_then, is_some}
 use Rattle.std.specs.List.{AllByRecursion, AllZip, Any}
 use Rattle.std.proofs.lemmas.Bool.{false≢true}
 use Rattle.toml.specs.Data.{Data, Members, no_members, string, table, as_str, get_member}
-use Rattle.conf_keys.specs.declared.table.TableName.TheVariants as place
-use Rattle.conf_keys.specs.declared.table.ValueRule.TheVariants as rule
-use Rattle.conf_keys.specs.declared.table.Version.{Version}
-use Rattle.conf_keys.specs.declared.table.Version.TheVariants.{One, Two}
+use Rattle.conf_values.specs.declared.table.TableName.TheVariants as place
+use Rattle.conf_values.specs.declared.table.ValueRule.TheVariants as rule
+use Rattle.conf_values.specs.declared.table.Version.{Version}
+use Rattle.conf_values.specs.declared.table.Version.TheVariants.{One, Two}
 use Rattle.conf_values.specs.Parts.{tables_in}
 use Rattle.conf_values.specs.Values.{has_type}
 use Rattle.conf.specs.Rows.{fails}

@@ -17,7 +17,7 @@ use Rattle.toml.specs.declared.value.Value.{Value}
 use Rattle.toml.proofs.Views.{items_view-drop}
 use Rattle.conf.specs.declared.fault.ConfFault.{ConfFault}
 use Rattle.conf.specs.declared.fault.ConfFault.TheVariants as fault
-use Rattle.conf_keys.specs.declared.table.ValueRule.TheVariants as rule
+use Rattle.conf_values.specs.declared.table.ValueRule.TheVariants as rule
 use Rattle.conf.specs.Rows.{fails}
 use Rattle.conf.specs.Sections.{AreSteps}
 use Rattle.conf.specs.Refusals.{HasBadStep}

@@ -9,9 +9,9 @@ use Rattle.toml.specs.Data.{Data, Items, Members, item, no_members, array, table
 use Rattle.toml.specs.View.{items_view, table_view, view}
 use Rattle.toml.specs.declared.value.Value.{Value}
 use Rattle.toml.proofs.Views.{items_view-drop}
-use Rattle.conf_keys.specs.declared.table.ValueRule.TheVariants as rule
-use Rattle.conf_keys.specs.declared.table.Version.{Version}
-use Rattle.conf_keys.specs.declared.table.Version.TheVariants.{Two}
+use Rattle.conf_values.specs.declared.table.ValueRule.TheVariants as rule
+use Rattle.conf_values.specs.declared.table.Version.{Version}
+use Rattle.conf_values.specs.declared.table.Version.TheVariants.{Two}
 use Rattle.conf_values.specs.Parts.{members_in, tables_in, tables_of}
 use Rattle.conf_values.specs.Values.{has_type}
 use Rattle.conf_values.specs.Views.{table_members}

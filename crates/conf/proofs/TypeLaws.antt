@@ -9,7 +9,7 @@ use Rattle.toml.specs.Data.{Data, Members, string, table, as_str, get_member}
 use Rattle.component_ids.specs.Table.{is_field_name}
 use Rattle.component_ids.specs.Types.{KindMap, kind_in, standard_types}
 use Rattle.component_ids.specs.declared.types.FieldKind.{FieldKind}
-use Rattle.conf_keys.specs.declared.table.ValueRule.TheVariants as rule
+use Rattle.conf_values.specs.declared.table.ValueRule.TheVariants as rule
 use Rattle.settings.specs.Words.{kind_of_word}
 use Rattle.conf.specs.Meaning.{AreTypes, configured_kind}
 use Rattle.conf.specs.Rows.{fails}

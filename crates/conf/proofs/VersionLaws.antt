@@ -5,10 +5,10 @@ use Rattle.std.specs.List.{AllByRecursion, AllZip, Any, list_all, list_any}
 use Rattle.std.proofs.lemmas.Bool.{cases_Bool, false≢true}
 use Rattle.toml.specs.Data.{Data, Members, get_member}
 use Rattle.settings.specs.declared.policy.Policy.{Policy}
-use Rattle.conf_keys.specs.declared.table.TableName.TheVariants.{Policies, Top}
-use Rattle.conf_keys.specs.declared.table.TableName.TheVariants as place
-use Rattle.conf_keys.specs.declared.table.Version.{Version}
-use Rattle.conf_keys.specs.declared.table.Version.TheVariants.{One, Two}
+use Rattle.conf_values.specs.declared.table.TableName.TheVariants.{Policies, Top}
+use Rattle.conf_values.specs.declared.table.TableName.TheVariants as place
+use Rattle.conf_values.specs.declared.table.Version.{Version}
+use Rattle.conf_values.specs.declared.table.Version.TheVariants.{One, Two}
 use Rattle.conf_values.specs.Parts.{entries_of, members_in, tables_in}
 use Rattle.conf.specs.Paths.{HoldsOfNone}
 use Rattle.conf.specs.Sections.{ArePolicies, IsPolicy, policy_tables}

@@ -9,8 +9,8 @@ use Rattle.component_ids.specs.declared.id.ComponentId.{ComponentId}
 use Rattle.toml.specs.Data.{Data, Members, string, array, table, get_member}
 use Rattle.conf.specs.declared.fault.ConfFault.{ConfFault}
 use Rattle.conf.specs.declared.fault.ConfFault.TheVariants.{Memory, NotToml, UnknownKey, WrongType, OutOfRange, BadKeyText, BadComponents, BadScript, Missing}
-use Rattle.conf_keys.specs.declared.table.ValueRule.{ValueRule}
-use Rattle.conf_keys.specs.declared.table.ValueRule.TheVariants.{Keys, Components, Steps}
+use Rattle.conf_values.specs.declared.table.ValueRule.{ValueRule}
+use Rattle.conf_values.specs.declared.table.ValueRule.TheVariants.{Keys, Components, Steps}
 use Rattle.conf.specs.Table.{Row, rows, places, place_path, row_value, HoldsOfValue, has_unknown, is_missing}
 use Rattle.settings.specs.Covered.{IsCoveredList}
 use Rattle.conf_values.specs.Parts.{values_of}

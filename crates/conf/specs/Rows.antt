@@ -4,9 +4,9 @@ use Rattle.std.specs.List.{list_any}
 use Rattle.toml.specs.Data.{Data, Members}
 use Rattle.nonces.specs.declared.limits.TheConstants.{MAX_WINDOW}
 use Rattle.settings.specs.declared.limits.TheConstants.{DAY_WINDOW}
-use Rattle.conf_keys.specs.declared.table.TableName.TheVariants.{Policies, Policy}
-use Rattle.conf_keys.specs.declared.table.ValueRule.{ValueRule}
-use Rattle.conf_keys.specs.declared.table.ValueRule.TheVariants.{MaxAge, LongMaxAge}
+use Rattle.conf_values.specs.declared.table.TableName.TheVariants.{Policies, Policy}
+use Rattle.conf_values.specs.declared.table.ValueRule.{ValueRule}
+use Rattle.conf_values.specs.declared.table.ValueRule.TheVariants.{MaxAge, LongMaxAge}
 use Rattle.conf_values.specs.Values.{has_type, is_allowed, window}
 use Rattle.conf.specs.Table.{Row, is_true_of_value, members_at, tables_at}
 

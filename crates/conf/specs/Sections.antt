@@ -8,9 +8,9 @@ use Rattle.settings.specs.declared.limits.TheConstants.{DEFAULT_MAX_AGE, DEFAULT
 use Rattle.settings.specs.Covered.{IsCoveredList}
 use Rattle.settings.specs.Words.{digest_use_of_word, expires_of_word, nonce_use_of_word, sign_digest_of_word}
 use Rattle.rewrite_script.specs.declared.rewrite.Rewrite.{Rewrite}
-use Rattle.conf_keys.specs.declared.table.TableName.TheVariants as place
-use Rattle.conf_keys.specs.declared.table.Version.{Version}
-use Rattle.conf_keys.specs.declared.table.Version.TheVariants.{One, Two}
+use Rattle.conf_values.specs.declared.table.TableName.TheVariants as place
+use Rattle.conf_values.specs.declared.table.Version.{Version}
+use Rattle.conf_values.specs.declared.table.Version.TheVariants.{One, Two}
 use Rattle.conf.specs.Table.{members_at, tables_in}
 use Rattle.conf_values.specs.Parts.{values_of}
 use Rattle.conf_values.specs.Values.{IsStepText, number_or, tag_in}

@@ -3,13 +3,13 @@
 use Rattle.std.specs.Prelude.{ℕ, pos, Bool, true, false, ◌&&◌, ◌==◌, not, Option, Some, None, is_some, is_none, option_and_then, List, [], ◌∷◌, codes, if◌then◌else◌}
 use Rattle.std.specs.List.{Any, list_any}
 use Rattle.toml.specs.Data.{Data, Members, no_members, integer, as_table, get_member}
-use Rattle.conf_keys.specs.declared.table.TableName.{TableName}
-use Rattle.conf_keys.specs.declared.table.TableName.TheVariants.{Top, Gateway, Policies, Policy, Sign}
-use Rattle.conf_keys.specs.declared.table.Version.{Version}
-use Rattle.conf_keys.specs.declared.table.Version.TheVariants.{One, Two}
-pub use Rattle.conf_keys.specs.Table.{Row, is_place_in, is_same_place, is_table_key, place_path}
-pub use Rattle.conf_keys.specs.Table.{at_gateway, at_policies, at_policy, at_sign, at_top}
-unfoldable pub use Rattle.conf_keys.specs.Table.{places, rows}
+use Rattle.conf_values.specs.declared.table.TableName.{TableName}
+use Rattle.conf_values.specs.declared.table.TableName.TheVariants.{Top, Gateway, Policies, Policy, Sign}
+use Rattle.conf_values.specs.declared.table.Version.{Version}
+use Rattle.conf_values.specs.declared.table.Version.TheVariants.{One, Two}
+pub use Rattle.conf_values.specs.Table.{Row, is_place_in, is_same_place, is_table_key, place_path}
+pub use Rattle.conf_values.specs.Table.{at_gateway, at_policies, at_policy, at_sign, at_top}
+unfoldable pub use Rattle.conf_values.specs.Table.{places, rows}
 pub use Rattle.conf_values.specs.Parts.{entries_of, members_in, tables_in, tables_of, values_of}
 
 -- ---- a document at its keys

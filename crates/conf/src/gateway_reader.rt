@@ -3,7 +3,7 @@
 ghost use Rattle.std.specs.Prelude.{◌≡◌, false, IfErr, IfOk, MatchOption, OnOk};
 ghost use Rattle.toml.specs.Data.{as_str};
 ghost use Rattle.toml.specs.View.{array_view, table_view, view};
-ghost use Rattle.conf_keys.specs.declared.table.TableName.TheVariants.{Gateway};
+ghost use Rattle.conf_values.specs.declared.table.TableName.TheVariants.{Gateway};
 ghost use Rattle.conf.specs.Table.{has_place};
 ghost use Rattle.conf.specs.tools.Judged.{IsCauseNumbered};
 ghost use Rattle.conf.specs.tools.Views.{AreTables};
@@ -11,7 +11,7 @@ ghost use Rattle.conf.specs.tools.GatewayReads.{AddsLine, AreReadSteps, AreSteps
 
 use crate::fault::ConfFault;
 use crate::members::FixedTables;
-use conf_keys::TableName;
+use conf_values::TableName;
 use rewrite_script::{Script, read_step};
 use settings::GatewayConf;
 use sfv_text::{Memory, Text};

@@ -4,18 +4,20 @@ ghost use Rattle.std.specs.Prelude.{◌≡◌, IfErr, IsTrue, OnOk, map, option_
 ghost use Rattle.std.specs.List.{list_any};
 ghost use Rattle.toml.specs.Data.{get_member};
 ghost use Rattle.toml.specs.View.{array_view, table_view, view};
-ghost use Rattle.conf_keys.specs.declared.table.TableName.TheVariants.{Policies};
+ghost use Rattle.conf_values.specs.declared.table.TableName.TheVariants.{Policies};
 ghost use Rattle.conf.specs.Paths.{HoldsOfNone};
 ghost use Rattle.conf.specs.Table.{has_unknown, has_unknown_key, is_missing, is_true_of_value, places, rows, tables_at, tables_of, version_in};
 ghost use Rattle.conf.specs.Rows.{clashes, fails, is_ill_typed, is_out_of_range};
 ghost use Rattle.conf.specs.tools.Judged.{fault_of, first_path, first_place, is_refused, passes_test, row_fault_number, IsJudged, IsFirstIn, IsCauseNumbered};
-ghost use Rattle.conf_keys.specs.Table.{row_of};
+ghost use Rattle.conf_values.specs.Table.{row_of};
 ghost use Rattle.conf.specs.tools.Views.{AreTables};
 
 use crate::fault::ConfFault;
 use crate::members::FixedTables;
-use conf_keys::{Row, TableName, ValueRule, Version, is_table_key, places, rows};
-use conf_values::{has_long_window, has_type, has_window_over, is_allowed, member_of};
+use conf_values::{
+    Row, TableName, ValueRule, Version, has_long_window, has_type, has_window_over, is_allowed,
+    is_table_key, member_of, places, rows,
+};
 use settings::DAY_WINDOW;
 use sfv_text::Text;
 use std::alloc::Global;

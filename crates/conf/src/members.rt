@@ -7,8 +7,7 @@ ghost use Rattle.conf.specs.Table.{has_place, members_at, version_in, version_of
 ghost use Rattle.conf.specs.tools.Views.{AreTables};
 ghost use Rattle.conf_values.specs.Views.{table_members};
 
-use conf_keys::{TableName, Version};
-use conf_values::{array_in, member, member_of, table_in};
+use conf_values::{TableName, Version, array_in, member, member_of, table_in};
 use toml::value::Array;
 use toml::{Table, Value};
 

@@ -3,7 +3,7 @@
 ghost use Rattle.std.specs.Prelude.{IfOk, MatchOption, codes};
 ghost use Rattle.toml.specs.Data.{get_member};
 ghost use Rattle.toml.specs.View.{table_view};
-ghost use Rattle.conf_keys.specs.declared.table.TableName.TheVariants.{Sign};
+ghost use Rattle.conf_values.specs.declared.table.TableName.TheVariants.{Sign};
 ghost use Rattle.conf.specs.Table.{members_at};
 ghost use Rattle.conf.specs.Sections.{AreComponents, IsSignConf, LacksName};
 ghost use Rattle.conf.specs.tools.Views.{AreTables};
@@ -11,7 +11,7 @@ ghost use Rattle.conf.specs.tools.Views.{AreTables};
 use crate::members::FixedTables;
 use crate::values::{digest_in, has_alg, read_tag, seconds_in};
 use component_ids::Ids;
-use conf_keys::TableName;
+use conf_values::TableName;
 use settings::SignConf;
 use sfv_text::{Memory, Text};
 use std::alloc::Global;

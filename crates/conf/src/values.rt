@@ -3,7 +3,7 @@
 ghost use Rattle.std.specs.Prelude.{◌≡◌, false, codes, option_and_then, unwrap_or, IfOk};
 ghost use Rattle.toml.specs.Data.{as_bool, get_member};
 ghost use Rattle.toml.specs.View.{table_view};
-ghost use Rattle.conf_keys.specs.declared.table.TableName.TheVariants.{Sign};
+ghost use Rattle.conf_values.specs.declared.table.TableName.TheVariants.{Sign};
 ghost use Rattle.conf.specs.Table.{members_at};
 ghost use Rattle.conf.specs.Meaning.{configured_scheme};
 ghost use Rattle.conf.specs.Sections.{digest_of, digest_use_of, is_required, nonce_use_of, seconds_of};
@@ -13,8 +13,7 @@ ghost use Rattle.conf_values.specs.Views.{table_members};
 
 use crate::members::FixedTables;
 use component_ids::Scheme;
-use conf_keys::TableName;
-use conf_values::{text_in, text_of};
+use conf_values::{TableName, text_in, text_of};
 use settings::{DigestUse, NonceUse, SignDigest, expires_of_word, scheme_of_word};
 use sfv_text::{Memory, Text};
 use std::alloc::Global;

@@ -3,7 +3,7 @@ use Rattle.std.proofs.Common.{◌≡◌, ◌&&◌, ℕ, suc, Bool, List, [], ◌
 use Rattle.toml.specs.Data.{Members}
 use Rattle.toml.specs.View.{items_view, view}
 use Rattle.toml.specs.declared.value.Value.{Value}
-use Rattle.conf_keys.specs.declared.table.ValueRule.TheVariants.{Policies}
+use Rattle.conf_values.specs.declared.table.ValueRule.TheVariants.{Policies}
 use Rattle.conf_values.specs.Parts.{members_in, tables_of, values_of}
 use Rattle.conf_values.specs.Values.{have_distinct_tags, is_array_allowed, is_policy_count}
 

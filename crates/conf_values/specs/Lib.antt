@@ -1,3 +1,4 @@
+pub mod Table
 pub mod Parts
 pub mod Values
 pub mod Views

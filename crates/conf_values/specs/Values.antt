@@ -13,8 +13,8 @@ use Rattle.rewrite_script.specs.Lines.{IsNoLine, SpellsLine}
 use Rattle.rewrite_script.specs.declared.limits.TheConstants.{MAX_SCRIPT_LINES}
 use Rattle.rewrite_script.specs.declared.rewrite.Rewrite.{Rewrite}
 use Rattle.settings.specs.declared.limits.TheConstants.{MAX_EXPIRES_AFTER, DAY_WINDOW, MAX_AGE, MAX_POLICIES, MAX_SKEW, DEFAULT_MAX_AGE, DEFAULT_SKEW}
-use Rattle.conf_keys.specs.declared.table.ValueRule.{ValueRule}
-use Rattle.conf_keys.specs.declared.table.ValueRule.TheVariants.{Version, Scheme, Keys, Types, Table, Label, Keyid, Seconds, Flag, Tag, Digest, MaxAge, LongMaxAge, Skew, Nonces, Expires, NonceUse, DigestUse, Steps, Policies}
+use Rattle.conf_values.specs.declared.table.ValueRule.{ValueRule}
+use Rattle.conf_values.specs.declared.table.ValueRule.TheVariants.{Version, Scheme, Keys, Types, Table, Label, Keyid, Seconds, Flag, Tag, Digest, MaxAge, LongMaxAge, Skew, Nonces, Expires, NonceUse, DigestUse, Steps, Policies}
 use Rattle.settings.specs.Keys.{IsHmacKey, is_keyid}
 use Rattle.settings.specs.Words.{digest_use_of_word, expires_of_word, kind_of_word, nonce_use_of_word, scheme_of_word, sign_digest_of_word}
 use Rattle.conf_values.specs.Parts.{entries_of, members_in, tables_of, values_of}

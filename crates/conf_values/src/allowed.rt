@@ -8,8 +8,8 @@ ghost use Rattle.conf_values.specs.Values.{is_allowed, is_array_allowed, is_inte
 
 use crate::entries::{EntryTest, are_entries};
 use crate::lookups::{member, table_in};
+use crate::table::ValueRule;
 use crate::tags::have_distinct_tags;
-use conf_keys::ValueRule;
 use rewrite_script::MAX_SCRIPT_LINES;
 use settings::{
     DAY_WINDOW, DigestUse, MAX_AGE, MAX_ENTRIES, MAX_EXPIRES_AFTER, MAX_POLICIES, MAX_SKEW,

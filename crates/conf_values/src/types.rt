@@ -5,7 +5,7 @@ ghost use Rattle.toml.specs.View.{array_view, view};
 ghost use Rattle.conf_values.specs.Values.{are_strings, are_tables, are_texts, has_type, is_table_array, is_text_array};
 
 use crate::entries::{EntryTest, are_entries};
-use conf_keys::ValueRule;
+use crate::table::ValueRule;
 use toml::Value;
 use toml::value::Array;
 

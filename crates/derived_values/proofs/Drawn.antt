@@ -4,9 +4,9 @@ use Rattle.std.specs.Str.{str_to_ascii_lowercase}
 use Rattle.std.specs.List.{list_all}
 use Rattle.std.proofs.lemmas.Bool.{false≢true}
 use Rattle.byte_grammar.specs.Classes.{is_visible}
-use Rattle.targets.specs.Authorities.{AuthorityParts, IsAuthorityFor, authority_text}
-use Rattle.targets.proofs.Schemes.{scheme_in_any_case}
-use Rattle.targets.proofs.Visible.{has_visible_text}
+use Rattle.derived_values.specs.Authorities.{AuthorityParts, IsAuthorityFor, authority_text}
+use Rattle.derived_values.proofs.Schemes.{scheme_in_any_case}
+use Rattle.derived_values.proofs.Visible.{has_visible_text}
 use Rattle.derived_values.specs.declared.lack.Lack.TheVariants.{Underivable}
 use Rattle.derived_values.specs.Derived.{AuthorityRow}
 

@@ -4,8 +4,8 @@ use Rattle.std.specs.Prelude.{ok_or}
 use Rattle.std.specs.Result.{result_map_both}
 use Rattle.sfv_text.specs.declared.pair.Pair.{Pair}
 use Rattle.sfv_text.specs.declared.value.BareItem.{BareItem}
-use Rattle.targets.specs.Targets.{TargetParts, has_path, path_of, query_of, query_text}
-use Rattle.targets.proofs.TargetParts.{one_target}
+use Rattle.derived_values.specs.Targets.{TargetParts, has_path, path_of, query_of, query_text}
+use Rattle.derived_values.proofs.TargetParts.{one_target}
 use Rattle.derived_values.specs.Derived.{FormedRow, RequestParts, RequestRow, TargetRow, TargetUriRow, uri_text}
 use Rattle.derived_values.specs.Laws.{DependsOnParts, HasSameAsked, HaveSameParts}
 use Rattle.derived_values.specs.declared.derived.DerivedName.{DerivedName}

@@ -12,9 +12,9 @@ use Rattle.msg_head.specs.Starts.{StartLine, request, status}
 use Rattle.msg_head.specs.Values.{values}
 use Rattle.component_ids.specs.declared.scheme.Scheme.{Scheme}
 use Rattle.component_ids.specs.declared.scheme.Scheme.TheVariants.{Http, Https}
-use Rattle.targets.specs.Targets.{TargetParts, SpellsTarget, path_of, query_of, query_text}
-use Rattle.targets.specs.Authorities.{IsAuthorityValue}
-use Rattle.targets.specs.Query.{matches}
+use Rattle.derived_values.specs.Targets.{TargetParts, SpellsTarget, path_of, query_of, query_text}
+use Rattle.derived_values.specs.Authorities.{IsAuthorityValue}
+use Rattle.derived_values.specs.Query.{matches}
 use Rattle.derived_values.specs.declared.derived.DerivedName.{DerivedName}
 use Rattle.derived_values.specs.declared.derived.DerivedName.TheVariants.{Method, RequestTarget, Status, OfTarget}
 use Rattle.derived_values.specs.declared.derived.TargetName.{TargetName}

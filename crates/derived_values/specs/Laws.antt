@@ -2,7 +2,7 @@
 use Rattle.std.specs.Prelude.{◌≡◌, ◌↔◌, ⊤, ℕ, List, Result}
 use Rattle.sfv_text.specs.declared.pair.Pair.{Pair}
 use Rattle.sfv_text.specs.declared.value.BareItem.{BareItem}
-use Rattle.targets.specs.Targets.{TargetParts, SpellsTarget, path_of, query_of}
+use Rattle.derived_values.specs.Targets.{TargetParts, SpellsTarget, path_of, query_of}
 use Rattle.derived_values.specs.Derived.{RequestParts, RequestRow, TargetAuthorityRow, scheme_of, param_value}
 use Rattle.derived_values.specs.declared.derived.DerivedName.{DerivedName}
 use Rattle.derived_values.specs.declared.derived.DerivedName.TheVariants.{Method, RequestTarget, Status, OfTarget}

@@ -1,3 +1,10 @@
+pub mod UriBytes
+pub mod Marks
+pub mod Targets
+pub mod Authorities
+pub mod Query
+pub mod Views
+pub mod TargetLaws
 pub mod Words
 pub mod Answers
 pub mod Derived

@@ -1,2 +1,4 @@
+pub mod Parts
+pub mod Params
 pub mod Requests
 pub mod Values

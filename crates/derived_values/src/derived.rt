@@ -5,24 +5,24 @@ ghost use Rattle.std.specs.Str.{str_to_ascii_lowercase};
 ghost use Rattle.msg_head.specs.declared.error.Side.{Side};
 ghost use Rattle.msg_body.specs.Views.{message_of, lines_on};
 ghost use Rattle.msg_head.specs.Values.{value, values};
-ghost use Rattle.targets.specs.Targets.{path_of, query_of};
-ghost use Rattle.targets.specs.Views.{parts_of};
+ghost use Rattle.derived_values.specs.Targets.{path_of, query_of};
+ghost use Rattle.derived_values.specs.Views.{parts_of};
 ghost use Rattle.derived_values.specs.Derived.{derived_of, target_name_of, scheme_text, scheme_of, sole_value, AuthorityRow, TargetAuthorityRow, TargetUriRow, TargetRow, FormedRow, RequestRow, DerivedRow, path_value, query_value, param_value, param_name, response_value};
 ghost use Rattle.derived_values.specs.Answers.{AnswersRow};
 ghost use Rattle.derived_values.specs.tools.Requests.{request_parts};
 ghost use Rattle.derived_values.specs.tools.Values.{GivesAuthority, GivesParts, AnswersParts};
 
+use crate::authority::{Authority, authority_of};
 use crate::lack::{Lack, NoValue};
+use crate::query::ParamFound;
+use crate::query_params::{QueryParams, query_param_in};
+use crate::target::{Target, cut_target, path_of, query_of};
 use crate::value::{Derived, Parts, TargetUri};
 use component_ids::{ComponentId, Scheme};
 use msg_body::MessageView;
 use msg_head::{LineView, Side, Start};
 use sfv_text::{Params, Text};
 use std::alloc::Global;
-use targets::{
-    Authority, ParamFound, QueryParams, Target, authority_of, cut_target, path_of, query_of,
-    query_param_in,
-};
 
 /// A component that is drawn from the parts of a request's target.
 #[derive(Clone, Copy, PartialEq, Eq)]

@@ -4,10 +4,11 @@ ghost use Rattle.std.specs.Prelude.{◌≡◌, ◌++◌, ◌∷◌, ℕ, List, I
 ghost use Rattle.std.specs.Str.{byte};
 ghost use Rattle.derived_values.specs.tools.Values.{target_uri_text};
 
+use crate::authority::Authority;
+use crate::feed::{feed_lowered, feed_marked};
 use sfv_text::{Absorb, FedText, Memory, Text};
 use std::alloc::Global;
 use std::marker::Model;
-use targets::{Authority, feed_lowered, feed_marked};
 
 /// The parts of a target URI (RFC 9421 section 2.2.2).
 #[derive(Clone, Copy)]

@@ -7,10 +7,10 @@ use Rattle.std.proofs.lemmas.Bool.{and_parts, false≢true}
 use Rattle.std.proofs.lemmas.List.{append-nil}
 use Rattle.msg_body.specs.Bodies.{content_in, trailers_in}
 use Rattle.msg_body.specs.Messages.{Message}
-use Rattle.chunks.specs.Chunks.{content_of}
-use Rattle.chunks.specs.Sizes.{chunk_of}
-use Rattle.targets.specs.Authorities.{IsAuthorityValue}
-use Rattle.targets.specs.Targets.{is_absolute_path}
+use Rattle.framing.specs.Chunks.{content_of}
+use Rattle.framing.specs.Sizes.{chunk_of}
+use Rattle.derived_values.specs.Authorities.{IsAuthorityValue}
+use Rattle.derived_values.specs.Targets.{is_absolute_path}
 use Rattle.component_ids.specs.Types.{KindMap}
 use Rattle.component_ids.specs.declared.scheme.Scheme.{Scheme}
 use Rattle.derived_values.specs.Derived.{AuthorityRow, scheme_text, sole_value}

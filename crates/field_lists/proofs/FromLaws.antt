@@ -7,10 +7,10 @@ use Rattle.byte_grammar.proofs.AnswerLaws.{IsMemoryDecided, NamesFault, memory_i
 use Rattle.byte_grammar.proofs.CauseLaws.{first_is_one}
 use Rattle.msg_head.specs.Starts as start
 use Rattle.msg_head.specs.Starts.{RequestLine, StartLine}
-use Rattle.targets.specs.Authorities.{IsAuthorityValue}
-use Rattle.targets.specs.Targets.{TargetParts, SpellsTarget, has_path, path_of, query_text}
-use Rattle.targets.proofs.Decided.{target_is_decided, authority_is_decided}
-use Rattle.targets.proofs.TargetParts.{one_target}
+use Rattle.derived_values.specs.Authorities.{IsAuthorityValue}
+use Rattle.derived_values.specs.Targets.{TargetParts, SpellsTarget, has_path, path_of, query_text}
+use Rattle.derived_values.proofs.Decided.{target_is_decided, authority_is_decided}
+use Rattle.derived_values.proofs.TargetParts.{one_target}
 use Rattle.derived_values.specs.declared.lack.Lack.{Lack}
 use Rattle.derived_values.specs.declared.lack.Lack.TheVariants.{Underivable}
 use Rattle.derived_values.specs.Derived.{AuthorityRow, TargetAuthorityRow, named_authority, scheme_of}

@@ -9,8 +9,8 @@ use Rattle.msg_head.specs.Lines.{FieldLine}
 use Rattle.msg_head.specs.Starts as start
 use Rattle.msg_head.specs.Starts.{RequestLine, StatusLine, StartLine}
 use Rattle.msg_body.specs.Views.{lines_on, message_content}
-use Rattle.targets.specs.Authorities.{AuthorityParts, IsAuthority, IsAuthorityFor, IsAuthorityValue, authority_text}
-use Rattle.targets.specs.Targets.{TargetParts, SpellsTarget, has_path, path_of, query_text}
+use Rattle.derived_values.specs.Authorities.{AuthorityParts, IsAuthority, IsAuthorityFor, IsAuthorityValue, authority_text}
+use Rattle.derived_values.specs.Targets.{TargetParts, SpellsTarget, has_path, path_of, query_text}
 use Rattle.derived_values.specs.declared.lack.Lack.{Lack}
 use Rattle.derived_values.specs.declared.lack.Lack.TheVariants.{Underivable}
 use Rattle.derived_values.specs.Derived.{AuthorityRow, named_authority, scheme_of}

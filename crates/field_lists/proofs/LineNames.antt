@@ -14,8 +14,8 @@ use Rattle.byte_grammar.specs.Classes.{is_field_name, is_line_byte, is_name_byte
 use Rattle.msg_head.specs.Lines.{FieldLine}
 use Rattle.msg_head.specs.Names.{has_name}
 use Rattle.msg_head.specs.Values.{is_there, value, values}
-use Rattle.field_values.specs.SameFields.{HasSameValues}
-use Rattle.field_values.proofs.ValueLaws.{forgets_spacing_at_ends}
+use Rattle.msg_body.specs.SameFields.{HasSameValues}
+use Rattle.msg_body.proofs.ValueLaws.{forgets_spacing_at_ends}
 use Rattle.list_texts.specs.declared.list.Field.{Field}
 use Rattle.field_lists.specs.Controls.{Control, RequestControl, request, response, field_of, AreOfRequest, ArePseudo}
 use Rattle.field_lists.specs.ListValues.{raw_line}

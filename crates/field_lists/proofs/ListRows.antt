@@ -20,12 +20,12 @@ use Rattle.msg_head.specs.Names.{has_name}
 use Rattle.msg_head.specs.Values.{is_there, value, values}
 use Rattle.msg_body.specs.Messages.{Message}
 use Rattle.msg_body.specs.Views.{lines_on}
-use Rattle.field_values.specs.SameFields.{HasSameValues}
-use Rattle.field_values.proofs.ValueLaws.{is_value_of_itself}
-use Rattle.targets.specs.declared.target.Form.TheVariants.{Absolute}
-use Rattle.targets.specs.UriBytes.{is_path_byte}
-use Rattle.targets.specs.Targets.{TargetParts, SpellsTarget, has_path, is_path, path_of, query_of, is_absolute_path}
-use Rattle.targets.proofs.TargetParts.{one_target}
+use Rattle.msg_body.specs.SameFields.{HasSameValues}
+use Rattle.msg_body.proofs.ValueLaws.{is_value_of_itself}
+use Rattle.derived_values.specs.declared.target.Form.TheVariants.{Absolute}
+use Rattle.derived_values.specs.UriBytes.{is_path_byte}
+use Rattle.derived_values.specs.Targets.{TargetParts, SpellsTarget, has_path, is_path, path_of, query_of, is_absolute_path}
+use Rattle.derived_values.proofs.TargetParts.{one_target}
 use Rattle.component_ids.specs.Table.{is_field_name}
 use Rattle.component_ids.specs.Types.{kind_in}
 use Rattle.component_ids.specs.declared.id.ComponentId.{ComponentId}

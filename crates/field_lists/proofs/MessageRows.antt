@@ -13,7 +13,7 @@ use Rattle.msg_head.specs.Values.{is_there}
 use Rattle.msg_body.specs.Bodies.{trailers_in}
 use Rattle.msg_body.specs.Messages.{Message}
 use Rattle.msg_body.specs.Views.{lines_on}
-use Rattle.field_values.specs.SameFields.{HasSameValues}
+use Rattle.msg_body.specs.SameFields.{HasSameValues}
 use Rattle.component_ids.specs.Table.{is_field_name}
 use Rattle.component_ids.specs.Types.{KindMap, kind_in}
 use Rattle.component_ids.specs.declared.id.ComponentId.{ComponentId}

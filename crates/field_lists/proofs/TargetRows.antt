@@ -16,10 +16,10 @@ use Rattle.sfv_text.specs.declared.value.BareItem.{BareItem}
 use Rattle.msg_head.specs.Values.{is_there, value, values}
 use Rattle.msg_head.proofs.MoreLines.{value_after_space}
 use Rattle.component_ids.specs.declared.scheme.Scheme.{Scheme}
-use Rattle.targets.specs.declared.target.Form.TheVariants.{Origin, Absolute}
-use Rattle.targets.specs.UriBytes.{is_path_byte, is_query_byte}
-use Rattle.targets.specs.Targets.{TargetParts, IsOriginForm, SpellsTarget, is_scheme, path_of, query_of, query_text}
-use Rattle.targets.proofs.TargetParts.{one_target}
+use Rattle.derived_values.specs.declared.target.Form.TheVariants.{Origin, Absolute}
+use Rattle.derived_values.specs.UriBytes.{is_path_byte, is_query_byte}
+use Rattle.derived_values.specs.Targets.{TargetParts, IsOriginForm, SpellsTarget, is_scheme, path_of, query_of, query_text}
+use Rattle.derived_values.proofs.TargetParts.{one_target}
 use Rattle.derived_values.specs.Derived.{AuthorityRow, FormedRow, RequestParts, RequestRow, TargetAuthorityRow, TargetRow, TargetUriRow, named_authority, param_value, scheme_of, scheme_text, sole_value, uri_text}
 use Rattle.derived_values.specs.declared.derived.DerivedName.{DerivedName}
 use Rattle.derived_values.specs.declared.derived.DerivedName.TheVariants.{Method, RequestTarget, Status, OfTarget}

@@ -21,10 +21,10 @@ use Rattle.msg_head.specs.RawValues.{IsRaw}
 use Rattle.msg_head.specs.Starts.{IsStartLine, is_target}
 use Rattle.msg_head.specs.Trailers.{IsTrailer, trailer_text}
 use Rattle.msg_head.specs.Values.{is_there, value, values}
-use Rattle.chunks.specs.declared.limits.TheConstants.{MAX_CONTENT_BYTES}
-use Rattle.chunks.specs.Chunks.{AreChunks, Chunks, IsChunk, IsChunkLine, chunks_text, content_of}
-use Rattle.chunks.specs.Sizes.{chunk_of}
-use Rattle.chunks.proofs.SizeLines.{line_of_size}
+use Rattle.framing.specs.declared.chunk_limits.TheConstants.{MAX_CONTENT_BYTES}
+use Rattle.framing.specs.Chunks.{AreChunks, Chunks, IsChunk, IsChunkLine, chunks_text, content_of}
+use Rattle.framing.specs.Sizes.{chunk_of}
+use Rattle.framing.proofs.SizeLines.{line_of_size}
 use Rattle.framing.specs.declared.kind.Framing.{Framing}
 use Rattle.framing.specs.declared.kind.Framing.TheVariants as framing
 use Rattle.framing.specs.Framings.{IsFramable, are_accepted_codings, are_accepted_lengths, content_length_of, first_length, framing_by, framing_of, version_of}

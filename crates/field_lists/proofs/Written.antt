@@ -6,8 +6,8 @@ use Rattle.std.proofs.lemmas.Bool.{eq-eqb}
 use Rattle.std.proofs.lemmas.Grind.{flat_map-append}
 use Rattle.std.proofs.lemmas.List.{append-nil, take_all}
 use Rattle.std.proofs.lemmas.List.Sums.{sum_by-cons}
-use Rattle.chunks.specs.Chunks.{Chunks, chunks_text}
-use Rattle.chunks.specs.Sizes.{add_up_to, chunk_of, sized_chunks}
+use Rattle.framing.specs.Chunks.{Chunks, chunks_text}
+use Rattle.framing.specs.Sizes.{add_up_to, chunk_of, sized_chunks}
 use Rattle.msg_head.specs.Heads.{head_text}
 use Rattle.msg_head.specs.Lines.{line_of, line_text}
 use Rattle.msg_head.specs.Starts.{start_text}

@@ -7,7 +7,7 @@ use Rattle.byte_grammar.specs.Classes.{is_token, is_visible, is_one_of}
 use Rattle.byte_grammar.specs.Language.{starts_in}
 use Rattle.framing.specs.Framings.{is_code_without_content}
 use Rattle.msg_head.specs.Starts.{is_code}
-use Rattle.targets.specs.Targets.{is_scheme}
+use Rattle.derived_values.specs.Targets.{is_scheme}
 use Rattle.list_texts.specs.declared.list.Field.{Field}
 use Rattle.list_texts.specs.declared.list.FieldList.{FieldList}
 

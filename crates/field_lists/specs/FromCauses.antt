@@ -2,7 +2,7 @@
 use Rattle.std.specs.Prelude.{◌≡◌, ℕ, [], Err, IsFalse}
 use Rattle.byte_grammar.specs.Causes.{IsFirst}
 use Rattle.msg_head.specs.Starts.{RequestLine, request}
-use Rattle.targets.specs.Targets.{TargetParts, SpellsTarget, has_path}
+use Rattle.derived_values.specs.Targets.{TargetParts, SpellsTarget, has_path}
 use Rattle.derived_values.specs.declared.derived.DerivedName.TheVariants.{OfTarget}
 use Rattle.derived_values.specs.declared.derived.TargetName.TheVariants as name
 use Rattle.derived_values.specs.declared.lack.Lack.{Lack}

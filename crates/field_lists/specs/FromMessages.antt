@@ -8,7 +8,7 @@ use Rattle.msg_head.specs.Starts as start
 use Rattle.msg_head.specs.Values.{value}
 use Rattle.msg_body.specs.Messages.{Message}
 use Rattle.msg_body.specs.Views.{lines_on, message_content}
-use Rattle.targets.specs.Targets.{TargetParts, SpellsTarget, path_of, query_text}
+use Rattle.derived_values.specs.Targets.{TargetParts, SpellsTarget, path_of, query_text}
 use Rattle.derived_values.specs.Derived.{RequestParts, TargetAuthorityRow, named_authority, scheme_of}
 use Rattle.component_values.specs.Context.{MessageContext}
 use Rattle.list_texts.specs.declared.list.Field.{Field}

@@ -1,6 +1,6 @@
 -- Laws of turning lists of fields into messages, and back.
 use Rattle.std.specs.Prelude.{◌≡◌, ◌≢◌, ◌⊎◌, ◌↔◌, ⊤, ℕ, ◌≤◌, false, IsFalse, List, ◌++◌, length, map, codes, Result, None}
-use Rattle.chunks.specs.declared.limits.TheConstants.{MAX_CONTENT_BYTES}
+use Rattle.framing.specs.declared.chunk_limits.TheConstants.{MAX_CONTENT_BYTES}
 use Rattle.component_ids.specs.Table.{has_param}
 use Rattle.component_ids.specs.Types.{KindMap}
 use Rattle.component_ids.specs.declared.id.ComponentId.{ComponentId}
@@ -15,7 +15,7 @@ use Rattle.field_lists.specs.declared.from_fault.FromFault.{FromFault}
 use Rattle.list_texts.specs.declared.list.Field.{Field}
 use Rattle.list_texts.specs.declared.list.FieldList.{FieldList}
 use Rattle.field_lists.specs.declared.to_fault.ToFault.{ToFault}
-use Rattle.targets.specs.Authorities.{IsAuthorityValue}
+use Rattle.derived_values.specs.Authorities.{IsAuthorityValue}
 use Rattle.field_lists.specs.Controls.{Control, request, response, field_of}
 use Rattle.field_lists.specs.ListValues.{ListComesTo}
 use Rattle.field_lists.specs.ToCauses.{IsToFault, TurnsInto, is_refused_name}

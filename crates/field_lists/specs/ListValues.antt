@@ -8,8 +8,8 @@ use Rattle.sfv_text.specs.declared.value.BareItem.{BareItem}
 use Rattle.msg_head.specs.declared.error.Side.{Side}
 use Rattle.msg_head.specs.declared.error.Side.TheVariants.{Header, Trailer}
 use Rattle.msg_head.specs.Lines.{FieldLine}
-use Rattle.targets.specs.declared.target.Form.TheVariants.{Absolute}
-use Rattle.targets.specs.Targets.{TargetParts, query_text}
+use Rattle.derived_values.specs.declared.target.Form.TheVariants.{Absolute}
+use Rattle.derived_values.specs.Targets.{TargetParts, query_text}
 use Rattle.component_ids.specs.Table.{is_field_name}
 use Rattle.component_ids.specs.Types.{KindMap}
 use Rattle.component_ids.specs.declared.id.ComponentId.{ComponentId}

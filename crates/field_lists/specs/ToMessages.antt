@@ -6,8 +6,8 @@ use Rattle.msg_head.specs.Starts as start
 use Rattle.msg_head.specs.Starts.{StartLine}
 use Rattle.msg_head.specs.Lines.{FieldLine, line_of}
 use Rattle.msg_head.specs.Heads.{Head}
-use Rattle.chunks.specs.Chunks.{Chunks}
-use Rattle.chunks.specs.Sizes.{chunk_of}
+use Rattle.framing.specs.Chunks.{Chunks}
+use Rattle.framing.specs.Sizes.{chunk_of}
 use Rattle.framing.specs.Framings.{framing_of}
 use Rattle.msg_body.specs.Bodies.{Body, plain, chunked}
 use Rattle.msg_body.specs.Messages.{Message}

@@ -10,8 +10,8 @@ ghost use Rattle.field_lists.specs.tools.Sizes.{LeavesRoom, own_size};
 ghost use Rattle.field_lists.specs.tools.Views.{control_of, request_of};
 ghost use Rattle.byte_grammar.specs.Classes.{is_token};
 ghost use Rattle.msg_head.specs.Starts.{is_code};
-ghost use Rattle.targets.specs.Targets.{is_scheme};
-ghost use Rattle.targets.specs.UriBytes.{is_scheme_byte};
+ghost use Rattle.derived_values.specs.Targets.{is_scheme};
+ghost use Rattle.derived_values.specs.UriBytes.{is_scheme_byte};
 
 use crate::classes::allows_all;
 use crate::named::split_named;

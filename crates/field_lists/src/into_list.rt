@@ -7,9 +7,9 @@ ghost use Rattle.msg_head.specs.Values.{value, values};
 ghost use Rattle.msg_head.specs.Views.{field_line_of};
 ghost use Rattle.msg_head.specs.declared.error.Side.{Side};
 ghost use Rattle.msg_body.specs.Views.{message_of, message_content, lines_on};
-ghost use Rattle.targets.specs.Authorities.{IsAuthorityValue};
-ghost use Rattle.targets.specs.Targets.{query_text};
-ghost use Rattle.targets.specs.Views.{parts_of};
+ghost use Rattle.derived_values.specs.Authorities.{IsAuthorityValue};
+ghost use Rattle.derived_values.specs.Targets.{query_text};
+ghost use Rattle.derived_values.specs.Views.{parts_of};
 ghost use Rattle.derived_values.specs.Derived.{named_authority, scheme_of, sole_value};
 ghost use Rattle.component_values.specs.Context.{context_of};
 ghost use Rattle.list_texts.specs.declared.list.FieldList.{FieldList};
@@ -23,12 +23,11 @@ use crate::parts::is_refused_name;
 use crate::values::{lowered, value_of_line};
 use byte_grammar::{Memory, Sequence, Text};
 use component_values::Context;
-use derived_values::scheme_text;
+use derived_values::{Target, authority_of, cut_target, path_of, scheme_text};
 use list_texts::{Field, FieldList};
 use msg_body::MessageView;
 use msg_head::{LineView, Side, Start};
 use std::alloc::Global;
-use targets::{Target, authority_of, cut_target, path_of};
 
 /// What the pseudo-header fields of a request say (RFC 9113 section 8.3.1).
 #[derive(Drop)]

@@ -3,8 +3,8 @@
 ghost use Rattle.std.specs.Prelude.{◌≡◌, ◌≢◌, ◌≤◌, ◌++◌, IfOk, MatchResult, OnOk, length, map, true};
 ghost use Rattle.std.specs.List.{flat_map};
 ghost use Rattle.byte_grammar.specs.Causes.{AnswersWhere};
-ghost use Rattle.chunks.specs.declared.limits.TheConstants.{MAX_CONTENT_BYTES};
-ghost use Rattle.chunks.specs.Chunks.{chunks_text};
+ghost use Rattle.framing.specs.declared.chunk_limits.TheConstants.{MAX_CONTENT_BYTES};
+ghost use Rattle.framing.specs.Chunks.{chunks_text};
 ghost use Rattle.msg_head.specs.Heads.{head_text};
 ghost use Rattle.msg_head.specs.Lines.{line_of, line_text};
 ghost use Rattle.msg_head.specs.Starts.{start_text};
@@ -21,8 +21,8 @@ use crate::control::{Control, RequestControl};
 use crate::parts::Parts;
 use crate::to_fault::ToFault;
 use byte_grammar::{Memory, Sequence, Text, append_words};
-use chunks::append_chunks;
 use component_ids::Scheme;
+use framing::append_chunks;
 use list_texts::{Field, FieldList};
 use std::alloc::Global;
 

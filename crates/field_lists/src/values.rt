@@ -5,7 +5,7 @@ ghost use Rattle.std.specs.Str.{str_to_ascii_lowercase};
 ghost use Rattle.msg_head.specs.Values.{value};
 
 use byte_grammar::{Memory, Text};
-use field_values::line_pieces;
+use msg_body::line_pieces;
 use msg_head::LineView;
 use std::alloc::Global;
 

@@ -1,3 +1,10 @@
+pub mod Chunks
+pub mod Sizes
+pub mod ChunkCauses
+pub mod ChunkWords
+pub mod Views
+pub mod Outcome
+pub mod ChunkLaws
 pub mod Framings
 pub mod Causes
 pub mod Words

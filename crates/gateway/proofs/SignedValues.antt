@@ -31,7 +31,7 @@ use Rattle.component_values.proofs.RowLaws.{has_one_value, lacks_no_value}
 use Rattle.content_digest.specs.Digests.{digest_dict, digest_name}
 use Rattle.content_digest.specs.declared.algorithm.Algorithm.{Algorithm}
 use Rattle.hmac_sha256.specs.Hmac.{hmac}
-use Rattle.sig_base.specs.SignatureBase.{signature_base}
+use Rattle.signatures.specs.SignatureBase.{signature_base}
 use Rattle.settings.specs.Configuration.{Configuration}
 use Rattle.nonces.specs.Books.{Book}
 use Rattle.signatures.specs.Signatures.{HasSignature, input_name, signature_name}

@@ -14,8 +14,8 @@ use Rattle.component_ids.specs.declared.params.SigParams.{SigParams}
 use Rattle.component_values.specs.Context.{MessageContext, context_with}
 use Rattle.component_values.specs.Laws.{HasMessages, IsSpelled}
 use Rattle.component_values.specs.Values.{HaveValues}
-use Rattle.sig_base.specs.SignatureBase.{signature_base}
-use Rattle.sig_base.proofs.Readings.{one_reading}
+use Rattle.signatures.specs.SignatureBase.{signature_base}
+use Rattle.signatures.proofs.Readings.{one_reading}
 use Rattle.signatures.specs.Signatures.{HasSignature}
 use Rattle.signatures.proofs.Reading.{has_one_signature}
 use Rattle.settings.specs.Configuration.{Configuration}

@@ -13,7 +13,7 @@ use Rattle.msg_head.specs.Values.{is_there}
 use Rattle.rewrite_script.specs.declared.rewrite.LineRewrite.{LineRewrite}
 use Rattle.rewrite_script.specs.declared.rewrite.LineRewrite.TheVariants.{Pad, Fold, Unfold, Join, Split, Move, Case, Add, Remove}
 use Rattle.line_rewrites.specs.RawValues.{IsFolded, IsPadded, IsUnfolded}
-use Rattle.field_values.specs.SameFields.{name_of}
+use Rattle.msg_body.specs.SameFields.{name_of}
 use Rattle.line_rewrites.specs.LineLists.{ChangesRaw, IsAdded, IsJoined, IsMoved, IsRemoved, IsRenamed, IsSplit, Replaces, line_of}
 use Rattle.line_rewrites.specs.tools.Computed.{added, are_joinable, changed, cut_at_comma, folded, joined_at, joined_line, line_becomes, lines_between, moved_at, moved_backward, moved_forward, padded, removed, replaced_at, split_at, split_parts, unfolded, with_line, with_name, with_raw}
 use Rattle.line_rewrites.proofs.Cores.{comma_gives, comma_is, fold_gives, fold_is, pad_gives, pad_is, unfold_gives, unfold_is}

@@ -11,7 +11,7 @@ use Rattle.byte_grammar.specs.Classes.{is_blank}
 use Rattle.byte_grammar.specs.Language.{starts_in}
 use Rattle.byte_grammar.proofs.ListLaws.{all_reverse}
 use Rattle.msg_head.specs.Values.{has_bytes}
-use Rattle.field_values.specs.Spacing.{ends_in, is_solid, is_spacing}
+use Rattle.msg_body.specs.Spacing.{ends_in, is_solid, is_spacing}
 use Rattle.line_rewrites.specs.RawValues.{HasCore, IsBeforeLoneSpace, IsFolded, IsPadded, IsUnfolded}
 use Rattle.line_rewrites.specs.tools.Computed.{core_of, comma_at, cut_at_comma, folded, folded_at, is_comma, is_crlf_before, is_space_before_solid, padded, unfolded, without_first_spacing, without_last_spacing}
 use Rattle.line_rewrites.proofs.Runs.{IsSoundRaw, State, inside, half, ended, not_inside, runs, runs_joined, runs_none}

@@ -6,9 +6,9 @@ use Rattle.std.proofs.lemmas.List.{append-nil}
 use Rattle.msg_head.specs.Lines.{FieldLine}
 use Rattle.msg_head.specs.Names.{has_name}
 use Rattle.msg_head.specs.Values.{has_bytes, is_there, value}
-use Rattle.field_values.specs.SameFields.{HasSameField, HasSameValues, name_of}
-use Rattle.field_values.proofs.LineLists.{keeps_other_names_around, forgets_order_of_names, takes_line_for_two}
-use Rattle.field_values.proofs.ValueLaws.{forgets_spacing_at_ends, is_value_of_parts, is_value_of_itself, is_value_of_joined}
+use Rattle.msg_body.specs.SameFields.{HasSameField, HasSameValues, name_of}
+use Rattle.msg_body.proofs.LineLists.{keeps_other_names_around, forgets_order_of_names, takes_line_for_two}
+use Rattle.msg_body.proofs.ValueLaws.{forgets_spacing_at_ends, is_value_of_parts, is_value_of_itself, is_value_of_joined}
 use Rattle.line_rewrites.specs.LineLists.{line_of, IsJoined, IsSplit, IsAdded, IsRemoved, Passes, IsMoved, PassesOtherNames}
 use Rattle.line_rewrites.specs.RawValues.{IsBeforeLoneSpace}
 use Rattle.line_rewrites.proofs.ListParts.{holds_at, parts_at, parts_around}

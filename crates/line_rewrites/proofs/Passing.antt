@@ -4,7 +4,7 @@ use Rattle.std.specs.List.{slice_get}
 use Rattle.std.proofs.lemmas.Bool.{false≢true}
 use Rattle.msg_head.specs.Lines.{FieldLine}
 use Rattle.msg_head.specs.Values.{is_there}
-use Rattle.field_values.specs.SameFields.{name_of}
+use Rattle.msg_body.specs.SameFields.{name_of}
 use Rattle.line_rewrites.specs.LineLists.{PassesOtherNames}
 use Rattle.line_rewrites.specs.tools.Computed.{lines_between, moved_backward, moved_forward}
 use Rattle.line_rewrites.proofs.Parts.{IsMove, move_told, moves_backward, moves_forward}

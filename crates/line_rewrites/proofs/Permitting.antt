@@ -12,8 +12,8 @@ use Rattle.msg_head.specs.Values.{has_bytes, is_there, value}
 use Rattle.msg_body.specs.Views.{lines_on}
 use Rattle.component_ids.specs.Table.{is_listed}
 use Rattle.component_ids.specs.declared.params.SigParams.{SigParams}
-use Rattle.field_values.specs.SameFields.{name_of}
-use Rattle.field_values.specs.Spacing.{ends_in, is_solid}
+use Rattle.msg_body.specs.SameFields.{name_of}
+use Rattle.msg_body.specs.Spacing.{ends_in, is_solid}
 use Rattle.rewrite_script.specs.declared.rewrite.LineRewrite.TheVariants.{Pad, Fold, Unfold, Join, Split, Move, Case, Add, Remove}
 use Rattle.line_rewrites.specs.Covered.{covers_field, covers_lines}
 use Rattle.line_rewrites.specs.Decisions.{PermitsLinesOrNot}

@@ -8,10 +8,10 @@ use Rattle.byte_grammar.specs.Classes.{is_blank}
 use Rattle.byte_grammar.specs.Language.{starts_in}
 use Rattle.msg_head.specs.Lines.{FieldLine}
 use Rattle.msg_head.specs.Values.{is_end, value}
-use Rattle.field_values.specs.Spacing.{is_solid, is_spacing}
-use Rattle.field_values.specs.SameFields.{HasSameValues, name_of}
-use Rattle.field_values.proofs.LineLists.{takes_line_for_other}
-use Rattle.field_values.proofs.ValueLaws.{forgets_spacing_at_ends, takes_fold_for_space}
+use Rattle.msg_body.specs.Spacing.{is_solid, is_spacing}
+use Rattle.msg_body.specs.SameFields.{HasSameValues, name_of}
+use Rattle.msg_body.proofs.LineLists.{takes_line_for_other}
+use Rattle.msg_body.proofs.ValueLaws.{forgets_spacing_at_ends, takes_fold_for_space}
 use Rattle.line_rewrites.specs.LineLists.{Replaces, ChangesRaw, IsRenamed}
 use Rattle.line_rewrites.specs.RawValues.{IsPadded, IsFolded, IsUnfolded, IsLoneSpace}
 use Rattle.line_rewrites.proofs.ListParts.{parts_around}

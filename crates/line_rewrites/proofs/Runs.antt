@@ -8,7 +8,7 @@ use Rattle.std.proofs.lemmas.List.{reverse-append, reverse-reverse}
 use Rattle.byte_grammar.specs.Classes.{is_blank, is_line_byte}
 use Rattle.byte_grammar.specs.Language.{starts_in}
 use Rattle.msg_head.specs.RawValues.{IsRaw, is_continuation, continuation_text}
-use Rattle.field_values.specs.Spacing.{ends_in, is_spacing}
+use Rattle.msg_body.specs.Spacing.{ends_in, is_spacing}
 use Rattle.line_rewrites.specs.tools.Computed.{is_crlf_before}
 
 -- ---- the states of a reader

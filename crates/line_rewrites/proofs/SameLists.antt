@@ -3,7 +3,7 @@ use Rattle.std.proofs.Common.{◌≡◌, ℕ, List, codes, refl, sym, ◌∙◌,
 use Rattle.std.specs.List.{join_by}
 use Rattle.msg_head.specs.Lines.{FieldLine}
 use Rattle.msg_head.specs.Values.{combined_value, is_there, values}
-use Rattle.field_values.specs.SameFields.{HasSameField, HasSameValues}
+use Rattle.msg_body.specs.SameFields.{HasSameField, HasSameValues}
 
 pub same_values_of : (lines others xs ys : List FieldLine) (name : List ℕ) → lines ≡ xs → others ≡ ys → HasSameValues xs ys name → HasSameValues lines others name
 same_values_of lines others xs ys name lines_are others_are same = record {

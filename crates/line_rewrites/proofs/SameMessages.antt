@@ -15,7 +15,7 @@ use Rattle.component_ids.specs.declared.id.ComponentId.{ComponentId}
 use Rattle.component_ids.specs.declared.params.SigParams.{SigParams}
 use Rattle.component_values.specs.Context.{MessageContext}
 use Rattle.signatures.specs.Signatures.{input_name, signature_name}
-use Rattle.field_values.specs.SameFields.{HasSameField, HasSameValues, name_of}
+use Rattle.msg_body.specs.SameFields.{HasSameField, HasSameValues, name_of}
 use Rattle.component_values.specs.Context.{answers_head}
 use Rattle.line_rewrites.specs.Covered.{covers_field, covers_lines, is_field_on}
 use Rattle.line_rewrites.specs.Permitted.{MayChangeNumber, MayChangeValue, counted_names, kept_names}

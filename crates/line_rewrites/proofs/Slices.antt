@@ -9,7 +9,7 @@ use Rattle.msg_head.specs.Names.{has_name}
 use Rattle.msg_head.specs.Values.{is_there}
 use Rattle.msg_head.specs.declared.error.Side.{Side}
 use Rattle.msg_head.specs.declared.error.Side.TheVariants.{Header, Trailer}
-use Rattle.chunks.specs.Chunks.{chunks_text}
+use Rattle.framing.specs.Chunks.{chunks_text}
 use Rattle.msg_head.specs.Heads.{head_text}
 use Rattle.msg_head.specs.Starts.{start_text}
 use Rattle.msg_head.specs.Trailers.{trailer_text}

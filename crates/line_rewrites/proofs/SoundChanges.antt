@@ -12,9 +12,9 @@ use Rattle.msg_head.specs.Values.{has_bytes, value}
 use Rattle.rewrite_script.specs.Lines.{are_blanks, is_number, is_line_writable}
 use Rattle.rewrite_script.specs.declared.rewrite.LineRewrite.{LineRewrite}
 use Rattle.rewrite_script.specs.declared.rewrite.LineRewrite.TheVariants.{Pad, Fold, Unfold, Join, Split, Move, Case, Add, Remove}
-use Rattle.field_values.specs.Spacing.{ends_in, is_spacing}
+use Rattle.msg_body.specs.Spacing.{ends_in, is_spacing}
 use Rattle.line_rewrites.specs.RawValues.{IsFolded}
-use Rattle.field_values.specs.SameFields.{name_of}
+use Rattle.msg_body.specs.SameFields.{name_of}
 use Rattle.line_rewrites.specs.LineLists.{line_of}
 use Rattle.line_rewrites.specs.tools.Computed.{are_joinable, changed, core_of, cut_at_comma, folded, folded_at, is_crlf_before, joined_at, joined_line, line_becomes, lines_between, moved_at, moved_backward, moved_forward, padded, replaced_at, split_at, split_parts, unfolded, with_line, with_name, with_raw}
 use Rattle.line_rewrites.proofs.Cores.{comma_is, core_is, fold_is, taken_at, unfold_is}

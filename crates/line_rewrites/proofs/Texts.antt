@@ -11,8 +11,8 @@ use Rattle.msg_head.specs.Heads.{Head, head_text}
 use Rattle.msg_head.specs.Lines.{FieldLine}
 use Rattle.msg_head.specs.Starts.{IsStartLine, start_text}
 use Rattle.msg_head.specs.Trailers.{trailer_text}
-use Rattle.chunks.specs.Chunks.{AreChunks, Chunk, Chunks, chunk_text, chunks_text, content_of, data_of}
-use Rattle.chunks.proofs.ChunkLaws.{one_chunks}
+use Rattle.framing.specs.Chunks.{AreChunks, Chunk, Chunks, chunk_text, chunks_text, content_of, data_of}
+use Rattle.framing.proofs.ChunkLaws.{one_chunks}
 use Rattle.framing.specs.declared.kind.Framing.{Framing}
 use Rattle.framing.specs.declared.kind.Framing.TheVariants.{None as NoContent, Length, Chunked, ToEnd}
 use Rattle.framing.specs.Framings.{content_length_of, framing_of}

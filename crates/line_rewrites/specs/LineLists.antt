@@ -6,7 +6,7 @@ use Rattle.std.specs.Str.{byte, str_to_ascii_lowercase}
 use Rattle.msg_head.specs.Lines.{FieldLine}
 pub use Rattle.msg_head.specs.Lines.{line_of}
 use Rattle.msg_head.specs.Values.{value, is_there}
-use Rattle.field_values.specs.SameFields.{name_of}
+use Rattle.msg_body.specs.SameFields.{name_of}
 
 -- ---- one line
 

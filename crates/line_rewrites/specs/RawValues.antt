@@ -6,7 +6,7 @@ use Rattle.std.specs.Str.{byte}
 use Rattle.byte_grammar.specs.Classes.{is_blank}
 use Rattle.byte_grammar.specs.Language.{starts_in}
 use Rattle.msg_head.specs.Values.{has_bytes}
-use Rattle.field_values.specs.Spacing.{ends_in, is_solid, is_spacing}
+use Rattle.msg_body.specs.Spacing.{ends_in, is_solid, is_spacing}
 
 -- ---- rewritings
 

@@ -5,7 +5,7 @@ use Rattle.msg_head.specs.declared.error.Side.TheVariants.{Header}
 use Rattle.msg_body.specs.Messages.{Message}
 use Rattle.msg_body.specs.Views.{lines_on, message_content}
 use Rattle.component_ids.specs.declared.params.SigParams.{SigParams}
-use Rattle.field_values.specs.SameFields.{HasSameField, HasSameValues}
+use Rattle.msg_body.specs.SameFields.{HasSameField, HasSameValues}
 use Rattle.signatures.specs.Signatures.{input_name, signature_name}
 use Rattle.line_rewrites.specs.Covered.{covers_field, covers_lines}
 

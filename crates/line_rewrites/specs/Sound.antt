@@ -4,7 +4,7 @@ use Rattle.std.specs.List.{All}
 use Rattle.msg_head.specs.declared.limits.TheConstants.{MAX_HEAD_BYTES}
 use Rattle.msg_head.specs.Lines.{IsLine}
 use Rattle.msg_head.specs.Starts.{StartLine, IsStartLine, start_text}
-use Rattle.chunks.specs.Chunks.{AreChunks}
+use Rattle.framing.specs.Chunks.{AreChunks}
 use Rattle.framing.specs.Framings.{framing_of}
 use Rattle.msg_body.specs.Bodies.{Body, plain, chunked}
 use Rattle.msg_body.specs.Messages.{Message}

@@ -4,7 +4,7 @@ ghost use Rattle.std.specs.Prelude.{◌≡◌};
 ghost use Rattle.component_values.specs.Alike.{is_own_field};
 ghost use Rattle.msg_head.specs.Views.{field_line_of};
 ghost use Rattle.line_rewrites.specs.Covered.{is_on, is_field_on, is_wrapped_on, covers_field, covers_lines};
-ghost use Rattle.field_values.specs.SameFields.{name_of};
+ghost use Rattle.msg_body.specs.SameFields.{name_of};
 
 use component_ids::{ComponentId, SigParams, has_param, is_field_name};
 use msg_head::{LineView, Side};

@@ -10,7 +10,7 @@ ghost use Rattle.line_rewrites.specs.tools.Computed.{raw_text, new_line_of, join
 
 use crate::raw::{RawParts, folded, padded, unfolded, whole};
 use crate::sides::is_same_name;
-use field_values::line_pieces;
+use msg_body::line_pieces;
 use msg_head::LineView;
 use rewrite_script::LineRewrite;
 use sfv_text::{Memory, Text};

@@ -7,7 +7,7 @@ ghost use Rattle.component_ids.specs.Table.{is_listed};
 ghost use Rattle.msg_body.specs.Views.{message_of, lines_on};
 ghost use Rattle.msg_head.specs.Values.{has_bytes, value};
 ghost use Rattle.msg_head.specs.Views.{field_line_of};
-ghost use Rattle.field_values.specs.SameFields.{name_of};
+ghost use Rattle.msg_body.specs.SameFields.{name_of};
 ghost use Rattle.line_rewrites.specs.Conditions.{IsLineCondition, IsMetBy};
 ghost use Rattle.line_rewrites.specs.LineLists.{PassesOtherNames};
 ghost use Rattle.line_rewrites.specs.tools.Permitted.{OfLineOn};
@@ -18,8 +18,7 @@ use crate::covered::{covers_field, covers_lines};
 use crate::raw::{is_before_lone_space, is_lone_space};
 use crate::sides::{is_between, line_at};
 use component_ids::SigParams;
-use field_values::line_pieces;
-use msg_body::MessageView;
+use msg_body::{MessageView, line_pieces};
 use msg_head::{LineView, Side};
 use rewrite_script::LineRewrite;
 

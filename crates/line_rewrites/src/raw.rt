@@ -2,7 +2,7 @@
 
 ghost use Rattle.std.specs.Prelude.{◌≡◌, ◌↔◌, reverse, not, IsTrue, option_map};
 ghost use Rattle.byte_grammar.specs.Language.{starts_in};
-ghost use Rattle.field_values.specs.Spacing.{is_spacing, is_solid, ends_in};
+ghost use Rattle.msg_body.specs.Spacing.{is_spacing, is_solid, ends_in};
 ghost use Rattle.line_rewrites.specs.RawValues.{IsLoneSpace, IsBeforeLoneSpace, without_first_spacing, without_last_spacing};
 ghost use Rattle.line_rewrites.specs.tools.Computed.{core_of, is_crlf_before, raw_text, padded, folded, unfolded, cut_at_comma, is_space_before_solid};
 

@@ -6,7 +6,7 @@ use Rattle.std.proofs.lemmas.List.Elements.{All-nil, All-cons, All-head, All-tai
 use Rattle.std.specs.List.{All, flat_map}
 use Rattle.byte_grammar.specs.Language.{Each}
 use Rattle.byte_grammar.specs.tools.Languages.{Optional}
-use Rattle.chunks.specs.declared.limits.TheConstants.{MAX_CONTENT_BYTES}
+use Rattle.framing.specs.declared.chunk_limits.TheConstants.{MAX_CONTENT_BYTES}
 use Rattle.list_texts.specs.declared.limits.TheConstants.{MAX_FIELD_BYTES}
 use Rattle.list_texts.specs.declared.list.Field.{Field}
 use Rattle.list_texts.specs.Causes.{IsLongField, IsLongContent, IsLongAfterFields, IsLongAfterContent}

@@ -14,7 +14,7 @@ use Rattle.byte_grammar.proofs.CountedLaws.{meets_counted}
 use Rattle.byte_grammar.proofs.Laws.{Meets, any_next, bind_ok}
 use Rattle.byte_grammar.proofs.LiteralLaws.{meets_literal}
 use Rattle.byte_grammar.proofs.TurnLaws.{starts_length}
-use Rattle.chunks.specs.declared.limits.TheConstants.{MAX_CONTENT_BYTES}
+use Rattle.framing.specs.declared.chunk_limits.TheConstants.{MAX_CONTENT_BYTES}
 use Rattle.list_texts.specs.declared.limits.TheConstants.{MAX_FIELD_BYTES}
 use Rattle.list_texts.specs.declared.list.Field.{Field}
 use Rattle.list_texts.specs.declared.list.FieldList.{FieldList}

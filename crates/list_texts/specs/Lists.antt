@@ -5,7 +5,7 @@ use Rattle.std.specs.Prelude.{◌≡◌, ℕ, ◌≤◌, List, ◌++◌, length,
 use Rattle.std.specs.Fmt.{decimal}
 use Rattle.std.specs.List.{All, flat_map}
 use Rattle.byte_grammar.specs.Numbers.{IsNumber, number_line}
-use Rattle.chunks.specs.declared.limits.TheConstants.{MAX_CONTENT_BYTES}
+use Rattle.framing.specs.declared.chunk_limits.TheConstants.{MAX_CONTENT_BYTES}
 use Rattle.list_texts.specs.declared.limits.TheConstants.{MAX_FIELD_BYTES}
 use Rattle.list_texts.specs.declared.list.Field.{Field}
 use Rattle.list_texts.specs.declared.list.FieldList.{FieldList}

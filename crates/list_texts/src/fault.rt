@@ -12,7 +12,7 @@ pub enum FieldsFault {
     /// end where only more bytes are missing. Limits are left aside.
     Syntax(u64),
     /// The line at this offset says that a name or a value has more than `MAX_FIELD_BYTES` bytes,
-    /// or the content more than `chunks::MAX_CONTENT_BYTES`.
+    /// or the content more than `framing::MAX_CONTENT_BYTES`.
     TooLong(u64),
 }
 

@@ -17,7 +17,7 @@ use byte_grammar::{
     Byte, Left, Memory, Sequence, Text, read_bytes, read_counted, read_literal, read_number,
     starts_with,
 };
-use chunks::MAX_CONTENT_BYTES;
+use framing::MAX_CONTENT_BYTES;
 use std::alloc::Global;
 
 // The line that names the format.

@@ -8,10 +8,10 @@ use Rattle.msg_head.specs.Causes.{IsHeadError}
 use Rattle.msg_head.specs.Trailers.{SpellsTrailer, IsTrailerUnfinished, trailer_text}
 use Rattle.msg_head.specs.TrailerCauses.{IsTrailerError}
 use Rattle.msg_head.proofs.EachAnswers.{each_has_a_head_answer, each_has_a_trailer_answer}
-use Rattle.chunks.specs.declared.limits.TheConstants.{MAX_CONTENT_BYTES}
-use Rattle.chunks.specs.Chunks.{Chunks, SpellsChunks, chunks_text}
-use Rattle.chunks.specs.Causes.{IsChunksError, AreChunksUnfinished}
-use Rattle.chunks.proofs.Answered.{each_has_an_answer}
+use Rattle.framing.specs.declared.chunk_limits.TheConstants.{MAX_CONTENT_BYTES}
+use Rattle.framing.specs.Chunks.{Chunks, SpellsChunks, chunks_text}
+use Rattle.framing.specs.ChunkCauses.{IsChunksError, AreChunksUnfinished}
+use Rattle.framing.proofs.Answered.{each_has_an_answer}
 use Rattle.framing.specs.declared.kind.Framing.{Framing}
 use Rattle.framing.specs.declared.kind.Framing.TheVariants.{None, Length, Chunked, ToEnd}
 use Rattle.framing.specs.Framings.{framing_of, content_length_of}

@@ -1,3 +1,8 @@
+pub mod FoundLines
+mod LineCounts
+mod ValueWalk
+pub mod ValueLaws
+pub mod LineLists
 mod Decided
 mod Joins
 mod Lower

@@ -10,9 +10,9 @@ use Rattle.msg_head.proofs.Outcomes.{no_fault_at_head_law, no_answer_yet_law}
 use Rattle.msg_head.proofs.TrailerCuts.{one_trailer_law}
 use Rattle.msg_head.proofs.TrailerFaults.{one_trailer_fault}
 use Rattle.msg_head.proofs.TrailerAnswers.{no_fault_at_trailer_law, no_trailer_answer_yet_law}
-use Rattle.chunks.specs.Chunks.{SpellsChunks}
-use Rattle.chunks.specs.Causes.{IsChunksError, AreChunksUnfinished}
-use Rattle.chunks.proofs.ChunkLaws.{one_chunks, one_fault as one_chunks_fault, no_fault_at_chunks, no_answer_yet as no_chunks_answer_yet}
+use Rattle.framing.specs.Chunks.{SpellsChunks}
+use Rattle.framing.specs.ChunkCauses.{IsChunksError, AreChunksUnfinished}
+use Rattle.framing.proofs.ChunkLaws.{one_chunks, one_fault as one_chunks_fault, no_fault_at_chunks, no_answer_yet as no_chunks_answer_yet}
 use Rattle.msg_body.specs.tools.Decided.{IsDecided}
 
 pub head_decided : (bytes : List ℕ) → IsDecided (λ head n. SpellsHead head n bytes) (IsHeadError bytes) (IsUnfinished bytes)

@@ -4,9 +4,9 @@ use Rattle.std.proofs.lemmas.List.{length-take-le}
 use Rattle.msg_head.specs.Lines.{FieldLine}
 use Rattle.msg_head.specs.Trailers.{SpellsTrailer, IsTrailerUnfinished, trailer_text}
 use Rattle.msg_head.specs.TrailerCauses.{IsTrailerError}
-use Rattle.chunks.specs.declared.limits.TheConstants.{MAX_CONTENT_BYTES}
-use Rattle.chunks.specs.Chunks.{Chunks, SpellsChunks, chunks_text}
-use Rattle.chunks.specs.Causes.{IsChunksError, AreChunksUnfinished}
+use Rattle.framing.specs.declared.chunk_limits.TheConstants.{MAX_CONTENT_BYTES}
+use Rattle.framing.specs.Chunks.{Chunks, SpellsChunks, chunks_text}
+use Rattle.framing.specs.ChunkCauses.{IsChunksError, AreChunksUnfinished}
 use Rattle.framing.specs.declared.kind.Framing.{Framing}
 use Rattle.framing.specs.declared.kind.Framing.TheVariants.{None, Length, Chunked, ToEnd}
 use Rattle.msg_body.specs.declared.error.MessageError.{MessageError}

@@ -16,7 +16,7 @@ use Rattle.msg_head.specs.TrailerOutcome.{IsTrailerUnlessMemory}
 use Rattle.msg_head.specs.TrailerViews.{TrailerParts, trailer_lines_of}
 use Rattle.msg_head.specs.Trailers.{IsTrailer, SpellsTrailer, trailer_text}
 use Rattle.msg_head.specs.Views.{View, head_of}
-use Rattle.chunks.specs.Chunks.{Chunks, chunks_text}
+use Rattle.framing.specs.Chunks.{Chunks, chunks_text}
 use Rattle.framing.specs.Framings.{content_length_of}
 use Rattle.framing.specs.declared.kind.Framing.{Framing}
 use Rattle.framing.specs.declared.kind.Framing.TheVariants.{None, Length, Chunked, ToEnd}

@@ -11,11 +11,11 @@ use Rattle.msg_head.specs.Views.{View, IsViewOf, head_of}
 use Rattle.msg_head.specs.Trailers.{trailer_text, after_chunks}
 use Rattle.msg_head.specs.TrailerCauses.{IsTrailerError, HasTrailerNakedEnd}
 use Rattle.msg_head.specs.TrailerViews.{TrailerParts, IsTrailerViewOf, trailer_lines_of}
-use Rattle.chunks.specs.declared.error.ChunkError.{ChunkError}
-use Rattle.chunks.specs.declared.error.ChunkError.TheVariants as chunk
-use Rattle.chunks.specs.Chunks.{chunks_text}
-use Rattle.chunks.specs.Causes.{IsChunksError}
-use Rattle.chunks.specs.Views.{ChunksParts, IsChunksViewOf, chunks_of}
+use Rattle.framing.specs.declared.chunk_error.ChunkError.{ChunkError}
+use Rattle.framing.specs.declared.chunk_error.ChunkError.TheVariants as chunk
+use Rattle.framing.specs.Chunks.{chunks_text}
+use Rattle.framing.specs.ChunkCauses.{IsChunksError}
+use Rattle.framing.specs.Views.{ChunksParts, IsChunksViewOf, chunks_of}
 use Rattle.framing.specs.declared.error.FramingError.{FramingError}
 use Rattle.framing.specs.declared.kind.Framing.{Framing}
 use Rattle.framing.specs.declared.kind.Framing.TheVariants.{Chunked}

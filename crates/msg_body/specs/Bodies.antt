@@ -2,7 +2,7 @@
 use Rattle.std.specs.Prelude.{◌≡◌, ⊤, ℕ, List, [], ◌++◌, length}
 use Rattle.msg_head.specs.Lines.{FieldLine}
 use Rattle.msg_head.specs.Trailers.{IsTrailer, trailer_text}
-use Rattle.chunks.specs.Chunks.{Chunks, AreChunks, chunks_text, content_of}
+use Rattle.framing.specs.Chunks.{Chunks, AreChunks, chunks_text, content_of}
 use Rattle.framing.specs.declared.kind.Framing.{Framing}
 use Rattle.framing.specs.declared.kind.Framing.TheVariants.{None, Length, Chunked, ToEnd}
 

@@ -7,10 +7,10 @@ use Rattle.msg_head.specs.Heads.{Head, SpellsHead, IsUnfinished}
 use Rattle.msg_head.specs.Causes.{IsHeadError}
 use Rattle.msg_head.specs.Trailers.{IsTrailerUnfinished}
 use Rattle.msg_head.specs.TrailerCauses.{IsTrailerError}
-use Rattle.chunks.specs.declared.limits.TheConstants.{MAX_CONTENT_BYTES}
-use Rattle.chunks.specs.declared.error.ChunkError.{ChunkError}
-use Rattle.chunks.specs.Chunks.{Chunks, SpellsChunks}
-use Rattle.chunks.specs.Causes.{IsChunksError, AreChunksUnfinished}
+use Rattle.framing.specs.declared.chunk_limits.TheConstants.{MAX_CONTENT_BYTES}
+use Rattle.framing.specs.declared.chunk_error.ChunkError.{ChunkError}
+use Rattle.framing.specs.Chunks.{Chunks, SpellsChunks}
+use Rattle.framing.specs.ChunkCauses.{IsChunksError, AreChunksUnfinished}
 use Rattle.framing.specs.declared.error.FramingError.{FramingError}
 use Rattle.framing.specs.declared.kind.Framing.{Framing}
 use Rattle.framing.specs.declared.kind.Framing.TheVariants.{None, Length, Chunked, ToEnd}

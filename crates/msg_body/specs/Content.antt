@@ -1,6 +1,6 @@
 -- The view of a body in its parts, and what an iterator over the pieces of content has left.
 use Rattle.std.specs.Prelude.{ℕ, List, [], length, Some, None}
-use Rattle.chunks.specs.Chunks.{data_of}
+use Rattle.framing.specs.Chunks.{data_of}
 use Rattle.msg_body.specs.declared.body.BodyView.{BodyView}
 use Rattle.msg_body.specs.declared.body.BodyView.TheVariants as body
 use Rattle.msg_body.specs.declared.content.ContentPieces.{ContentPieces}

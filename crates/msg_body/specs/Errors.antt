@@ -2,8 +2,8 @@
 use Rattle.std.specs.Prelude.{ℕ, ◌+◌}
 use Rattle.msg_head.specs.declared.error.HeadError.{HeadError}
 use Rattle.msg_head.specs.declared.error.HeadError.TheVariants as head
-use Rattle.chunks.specs.declared.error.ChunkError.{ChunkError}
-use Rattle.chunks.specs.declared.error.ChunkError.TheVariants as chunk
+use Rattle.framing.specs.declared.chunk_error.ChunkError.{ChunkError}
+use Rattle.framing.specs.declared.chunk_error.ChunkError.TheVariants as chunk
 use Rattle.framing.specs.declared.error.FramingError.{FramingError}
 use Rattle.framing.specs.declared.error.FramingError.TheVariants as framing
 use Rattle.msg_body.specs.declared.error.MessageError.{MessageError}

@@ -1,3 +1,9 @@
+pub mod Spacing
+pub mod SameFields
+pub mod FieldValues
+pub mod LeftInFields
+pub mod FieldLaws
+pub use Rattle.msg_head.specs.Values
 pub mod Bodies
 pub mod Messages
 pub mod Views

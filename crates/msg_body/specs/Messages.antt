@@ -2,7 +2,7 @@
 use Rattle.std.specs.Prelude.{◌≡◌, ℕ, ◌≤◌, Bool, true, not, List, ◌++◌, length, take}
 use Rattle.msg_head.specs.Starts.{StartLine}
 use Rattle.msg_head.specs.Heads.{Head, IsHead, head_text}
-use Rattle.chunks.specs.declared.limits.TheConstants.{MAX_CONTENT_BYTES}
+use Rattle.framing.specs.declared.chunk_limits.TheConstants.{MAX_CONTENT_BYTES}
 use Rattle.framing.specs.declared.kind.Framing.{Framing}
 use Rattle.framing.specs.declared.kind.Framing.TheVariants.{ToEnd}
 use Rattle.framing.specs.Framings.{IsFramable, is_request, framing_of, content_length_of}

@@ -7,8 +7,8 @@ use Rattle.msg_head.specs.Lines.{FieldLine}
 use Rattle.msg_head.specs.Starts.{start_text}
 use Rattle.msg_head.specs.Views.{View, IsViewOf, head_of}
 use Rattle.msg_head.specs.TrailerViews.{TrailerParts, TrailerFills, trailer_lines_of}
-use Rattle.chunks.specs.Chunks.{chunks_text}
-use Rattle.chunks.specs.Views.{ChunksParts, ChunksFill, chunks_of}
+use Rattle.framing.specs.Chunks.{chunks_text}
+use Rattle.framing.specs.Views.{ChunksParts, ChunksFill, chunks_of}
 use Rattle.framing.specs.declared.kind.Framing.{Framing}
 use Rattle.msg_body.specs.declared.expect.Expect.{Expect}
 use Rattle.msg_body.specs.Bodies.{Body, plain, chunked, content_in, trailers_in}

@@ -3,8 +3,8 @@ use Rattle.std.specs.Prelude.{ℕ, List, ◌++◌, codes}
 use Rattle.std.specs.Fmt.{decimal}
 use Rattle.msg_head.specs.declared.error.HeadError.TheVariants as head
 use Rattle.msg_head.specs.Words.{head_error_text}
-use Rattle.chunks.specs.declared.error.ChunkError.TheVariants as chunk
-use Rattle.chunks.specs.Words.{chunk_error_text}
+use Rattle.framing.specs.declared.chunk_error.ChunkError.TheVariants as chunk
+use Rattle.framing.specs.ChunkWords.{chunk_error_text}
 use Rattle.framing.specs.declared.error.FramingError.TheVariants as framing
 use Rattle.framing.specs.Words.{framing_error_text}
 use Rattle.msg_body.specs.declared.error.MessageError.{MessageError}

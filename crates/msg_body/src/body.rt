@@ -5,8 +5,7 @@ ghost use Rattle.msg_body.specs.declared.limits.TheConstants.{MAX_MESSAGE_BYTES}
 ghost use Rattle.msg_body.specs.tools.Judged.{ExplainsChunked, ExplainsBody};
 
 use crate::error::MessageError;
-use chunks::{ChunksRead, ChunksView, MAX_CONTENT_BYTES, read_chunks};
-use framing::{Framed, Framing};
+use framing::{ChunksRead, ChunksView, Framed, Framing, MAX_CONTENT_BYTES, read_chunks};
 use msg_head::{TrailerRead, TrailerView, read_trailer};
 use std::alloc::Global;
 

@@ -1,7 +1,7 @@
 //! The content of a message, in pieces.
 
 use crate::body::BodyView;
-use chunks::ChunkPieces;
+use framing::ChunkPieces;
 
 /// The pieces of a message's content that are left (RFC 9112 section 7.1).
 #[derive(Drop)]

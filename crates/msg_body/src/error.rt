@@ -1,7 +1,6 @@
 //! Why a message isn't read.
 
-use chunks::ChunkError;
-use framing::FramingError;
+use framing::{ChunkError, FramingError};
 use msg_head::{HeadError, Side};
 use std::error::Error;
 use std::fmt;

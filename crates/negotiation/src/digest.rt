@@ -7,8 +7,7 @@ ghost use Rattle.negotiation.specs.tools.Judged.{ExplainsDigests};
 
 use crate::fault::NegotiateFault;
 use content_digest::{Algorithm, DigestFault, check_digest};
-use field_values::joined_value;
-use msg_body::MessageView;
+use msg_body::{MessageView, joined_value};
 use msg_head::Side;
 use sfv_text::Memory;
 use signatures::{DictField, read_field};

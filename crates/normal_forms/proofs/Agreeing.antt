@@ -17,7 +17,7 @@ use Rattle.msg_head.specs.Values.{is_there, joined_value, values}
 use Rattle.msg_head.proofs.OneHeads.{one_head_of_text_law}
 use Rattle.msg_body.specs.Messages.{Message}
 use Rattle.msg_body.specs.Views.{lines_on}
-use Rattle.field_values.specs.SameFields.{HasSameField}
+use Rattle.msg_body.specs.SameFields.{HasSameField}
 use Rattle.component_ids.specs.Table.{has_param}
 use Rattle.component_ids.specs.declared.id.ComponentId.{ComponentId}
 use Rattle.component_values.specs.Alike.{is_own_field}

@@ -16,14 +16,14 @@ use Rattle.msg_head.specs.Names.{has_name}
 use Rattle.msg_head.specs.Starts.{StartLine}
 use Rattle.msg_head.specs.declared.error.Side.{Side}
 use Rattle.msg_head.specs.declared.error.Side.TheVariants.{Header, Trailer}
-use Rattle.chunks.specs.Chunks.{Chunks}
+use Rattle.framing.specs.Chunks.{Chunks}
 use Rattle.framing.specs.declared.kind.Framing.{Framing}
 use Rattle.framing.specs.declared.kind.Framing.TheVariants as framing
 use Rattle.framing.specs.Framings.{content_length_of, framing_by, framing_of, has_codings, has_lengths}
 use Rattle.msg_body.specs.Bodies.{Body, plain, chunked, IsBodyOf, content_in, trailers_in}
 use Rattle.msg_body.specs.Messages.{Message, IsMessage}
 use Rattle.msg_body.specs.Views.{lines_on}
-use Rattle.field_values.specs.SameFields.{HasSameField, HasSameValues}
+use Rattle.msg_body.specs.SameFields.{HasSameField, HasSameValues}
 use Rattle.component_ids.specs.Table.{has_param, is_listed}
 use Rattle.component_ids.specs.declared.id.ComponentId.{ComponentId}
 use Rattle.component_ids.specs.declared.params.SigParams.{SigParams}

@@ -14,9 +14,9 @@ use Rattle.msg_head.specs.Lines.{FieldLine}
 use Rattle.msg_head.specs.Names.{has_name}
 use Rattle.msg_head.specs.Values.{is_there, value, values}
 use Rattle.msg_head.specs.declared.error.Side.{Side}
-use Rattle.field_values.specs.SameFields.{HasSameField, HasSameValues, name_of}
-use Rattle.field_values.specs.Spacing.{ends_in}
-use Rattle.field_values.proofs.ValueLaws.{has_no_blank_at_ends}
+use Rattle.msg_body.specs.SameFields.{HasSameField, HasSameValues, name_of}
+use Rattle.msg_body.specs.Spacing.{ends_in}
+use Rattle.msg_body.proofs.ValueLaws.{has_no_blank_at_ends}
 use Rattle.component_ids.specs.declared.params.SigParams.{SigParams}
 use Rattle.line_rewrites.specs.Permitted.{MayChangeNumber}
 use Rattle.normal_forms.specs.NormalLines.{AreNormalLines, IsClean, IsJoined, IsKept, is_kept}

@@ -9,11 +9,11 @@ use Rattle.std.proofs.lemmas.Slice.Eq.{bytes_eq-Decides}
 use Rattle.msg_head.specs.Lines.{FieldLine}
 use Rattle.msg_head.specs.Starts.{StartLine, request, status}
 use Rattle.msg_head.specs.Values.{combined_value, is_there, values}
-use Rattle.chunks.specs.Chunks.{Chunk, Chunks, content_of}
+use Rattle.framing.specs.Chunks.{Chunk, Chunks, content_of}
 use Rattle.msg_body.specs.Bodies.{Body, plain, chunked}
 use Rattle.msg_body.specs.Messages.{Message}
 use Rattle.msg_body.specs.Views.{lines_on, message_content}
-use Rattle.field_values.specs.SameFields.{HasSameField, HasSameValues}
+use Rattle.msg_body.specs.SameFields.{HasSameField, HasSameValues}
 use Rattle.component_ids.specs.declared.id.ComponentId.{ComponentId}
 use Rattle.component_values.specs.Alike.{AreSameIn, is_own_field}
 use Rattle.component_values.specs.Forms.{Form, form_of}

@@ -16,7 +16,7 @@ use Rattle.framing.specs.Framings.{content_length_of}
 use Rattle.msg_body.specs.Bodies.{Body, IsBodyOf, chunked, plain, trailers_in}
 use Rattle.msg_body.specs.Messages.{IsMessage, Message}
 use Rattle.msg_body.specs.Views.{lines_on}
-use Rattle.field_values.specs.SameFields.{name_of}
+use Rattle.msg_body.specs.SameFields.{name_of}
 use Rattle.component_ids.specs.declared.params.SigParams.{SigParams}
 use Rattle.component_values.specs.Context.{answers_head}
 use Rattle.rewrite_script.specs.Lines.{is_number}

@@ -5,7 +5,7 @@ use Rattle.std.proofs.lemmas.List.{append-nil}
 use Rattle.msg_head.specs.declared.error.Side.{Side}
 use Rattle.msg_head.specs.Lines.{FieldLine, IsLine}
 use Rattle.msg_head.specs.Values.{value}
-use Rattle.field_values.specs.SameFields.{name_of}
+use Rattle.msg_body.specs.SameFields.{name_of}
 use Rattle.component_ids.specs.declared.params.SigParams.{SigParams}
 use Rattle.rewrite_script.specs.declared.rewrite.LineRewrite.{LineRewrite}
 use Rattle.line_rewrites.specs.LineLists.{ChangesRaw, IsJoined, IsRemoved, IsRenamed, Replaces}

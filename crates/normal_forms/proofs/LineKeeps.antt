@@ -19,9 +19,9 @@ use Rattle.msg_head.specs.declared.error.Side.{Side}
 use Rattle.msg_head.specs.Lines.{FieldLine, IsLine, line_of, line_text}
 use Rattle.msg_head.specs.Names.{has_name}
 use Rattle.msg_head.specs.Values.{value}
-use Rattle.field_values.specs.SameFields.{HasSameField, HasSameValues, name_of}
-use Rattle.field_values.proofs.LineLists.{keeps_other_names_around, takes_line_for_other, takes_line_for_two}
-use Rattle.field_values.proofs.ValueLaws.{is_value_of_joined}
+use Rattle.msg_body.specs.SameFields.{HasSameField, HasSameValues, name_of}
+use Rattle.msg_body.proofs.LineLists.{keeps_other_names_around, takes_line_for_other, takes_line_for_two}
+use Rattle.msg_body.proofs.ValueLaws.{is_value_of_joined}
 use Rattle.component_ids.specs.Table.{has_param, is_listed}
 use Rattle.component_ids.specs.declared.id.ComponentId.{ComponentId}
 use Rattle.component_ids.specs.declared.params.SigParams.{SigParams}

@@ -12,8 +12,8 @@ use Rattle.byte_grammar.specs.Language.{starts_in}
 use Rattle.byte_grammar.proofs.ListLaws.{all_filter, all_flat, all_implied, all_joined, all_parts, all_reverse, all_separated, all_split}
 use Rattle.msg_head.specs.RawValues.{IsRaw, continuation_text, is_continuation}
 use Rattle.msg_head.specs.Values.{has_bytes, is_end, texts_of, value, without_blanks, without_first_blanks}
-use Rattle.field_values.specs.Spacing.{ends_in, is_spacing}
-use Rattle.field_values.proofs.ValueLaws.{forgets_spacing_at_ends, has_no_blank_at_ends, is_value_of_itself, is_value_of_joined, takes_fold_for_space}
+use Rattle.msg_body.specs.Spacing.{ends_in, is_spacing}
+use Rattle.msg_body.proofs.ValueLaws.{forgets_spacing_at_ends, has_no_blank_at_ends, is_value_of_itself, is_value_of_joined, takes_fold_for_space}
 use Rattle.line_rewrites.specs.RawValues.{HasCore, IsUnfolded}
 
 -- ---- bytes

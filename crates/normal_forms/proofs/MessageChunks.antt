@@ -10,11 +10,11 @@ use Rattle.std.proofs.lemmas.List.Sums.{sum_by-cons}
 use Rattle.msg_head.specs.Heads.{Head, head_text}
 use Rattle.msg_head.specs.Lines.{FieldLine}
 use Rattle.msg_head.specs.Trailers.{IsTrailer, trailer_text}
-use Rattle.chunks.specs.declared.limits.TheConstants.{MAX_SIZE_DIGITS, MAX_EXTENSION_BYTES, MAX_CONTENT_BYTES}
-use Rattle.chunks.specs.Chunks.{AreChunks, Chunks, IsChunk, IsChunkLine, chunk_text, chunks_text, content_of}
-use Rattle.chunks.specs.Sizes.{IsInChunks, add_up_to, chunk_of}
-use Rattle.chunks.proofs.SizeLaws.{in_chunks_where_sized}
-use Rattle.chunks.proofs.SizeLines.{line_of_size}
+use Rattle.framing.specs.declared.chunk_limits.TheConstants.{MAX_SIZE_DIGITS, MAX_EXTENSION_BYTES, MAX_CONTENT_BYTES}
+use Rattle.framing.specs.Chunks.{AreChunks, Chunks, IsChunk, IsChunkLine, chunk_text, chunks_text, content_of}
+use Rattle.framing.specs.Sizes.{IsInChunks, add_up_to, chunk_of}
+use Rattle.framing.proofs.SizeLaws.{in_chunks_where_sized}
+use Rattle.framing.proofs.SizeLines.{line_of_size}
 use Rattle.framing.specs.declared.kind.Framing.{Framing}
 use Rattle.framing.specs.declared.kind.Framing.TheVariants.{None, Length, Chunked, ToEnd}
 use Rattle.framing.specs.Framings.{content_length_of}

@@ -8,14 +8,14 @@ use Rattle.msg_head.specs.Heads.{Head, IsHead, head_text}
 use Rattle.msg_head.specs.Lines.{FieldLine, IsLine}
 use Rattle.msg_head.specs.Starts.{start_text}
 use Rattle.msg_head.specs.Trailers.{IsTrailer, trailer_text}
-use Rattle.chunks.specs.Chunks.{Chunks, chunks_text}
+use Rattle.framing.specs.Chunks.{Chunks, chunks_text}
 use Rattle.framing.specs.declared.kind.Framing.{Framing}
 use Rattle.framing.specs.declared.kind.Framing.TheVariants.{None, Length, Chunked, ToEnd}
 use Rattle.framing.specs.Framings.{IsFramable, are_accepted_codings, are_accepted_lengths, content_length_of, first_length, framing_by, framing_of, version_of}
 use Rattle.msg_body.specs.Bodies.{Body, IsBodyOf, body_text, chunked, content_in, plain, trailers_in}
 use Rattle.msg_body.specs.Messages.{IsMessage, Message}
 use Rattle.msg_body.specs.Views.{lines_on}
-use Rattle.field_values.specs.SameFields.{HasSameValues}
+use Rattle.msg_body.specs.SameFields.{HasSameValues}
 use Rattle.line_rewrites.specs.Sides.{lines_text}
 use Rattle.line_rewrites.specs.Steps.{with_lines_on, with_trailers}
 

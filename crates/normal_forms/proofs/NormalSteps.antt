@@ -14,8 +14,8 @@ use Rattle.msg_head.specs.Lines.{FieldLine, IsLine}
 use Rattle.msg_head.specs.Names.{has_name}
 use Rattle.msg_head.specs.RawValues.{IsRaw}
 use Rattle.msg_head.specs.Values.{has_bytes, is_end, is_there, value}
-use Rattle.field_values.specs.SameFields.{name_of}
-use Rattle.field_values.specs.Spacing.{ends_in, is_spacing}
+use Rattle.msg_body.specs.SameFields.{name_of}
+use Rattle.msg_body.specs.Spacing.{ends_in, is_spacing}
 use Rattle.component_ids.specs.Table.{is_listed}
 use Rattle.component_ids.specs.declared.params.SigParams.{SigParams}
 use Rattle.rewrite_script.specs.declared.rewrite.LineRewrite.{LineRewrite}

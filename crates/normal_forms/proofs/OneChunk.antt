@@ -5,11 +5,11 @@ use Rattle.std.proofs.lemmas.Bool.{eqb-true, eq-eqb, false≢true}
 use Rattle.std.proofs.lemmas.Fmt.{hex_one_digit}
 use Rattle.std.proofs.lemmas.List.{append_cancel_left, append_cancel_right, append-nil, take_all}
 use Rattle.std.proofs.lemmas.List.Elements.{All-cons, All-nil}
-use Rattle.chunks.specs.Chunks.{AreChunks, Chunks, IsChunk, IsChunkLine, chunks_text, content_of}
-use Rattle.chunks.specs.Sizes.{chunk_of}
-use Rattle.chunks.specs.declared.limits.TheConstants.{MAX_CONTENT_BYTES}
-use Rattle.chunks.proofs.ChunkLaws.{one_chunks}
-use Rattle.chunks.proofs.SizeLines.{line_of_size}
+use Rattle.framing.specs.Chunks.{AreChunks, Chunks, IsChunk, IsChunkLine, chunks_text, content_of}
+use Rattle.framing.specs.Sizes.{chunk_of}
+use Rattle.framing.specs.declared.chunk_limits.TheConstants.{MAX_CONTENT_BYTES}
+use Rattle.framing.proofs.ChunkLaws.{one_chunks}
+use Rattle.framing.proofs.SizeLines.{line_of_size}
 use Rattle.framing.specs.declared.kind.Framing.{Framing}
 use Rattle.framing.specs.declared.kind.Framing.TheVariants as framing
 use Rattle.msg_body.specs.Bodies.{Body, IsBodyOf, chunked, content_in, plain}

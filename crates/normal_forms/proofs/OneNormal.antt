@@ -17,8 +17,8 @@ use Rattle.msg_head.specs.declared.error.Side.TheVariants.{Header, Trailer}
 use Rattle.msg_head.specs.Lines.{FieldLine}
 use Rattle.msg_head.specs.Names.{has_name}
 use Rattle.msg_head.specs.Values.{has_bytes, is_end, is_there, texts_of, value, without_blanks, without_first_blanks}
-use Rattle.field_values.specs.SameFields.{name_of}
-use Rattle.field_values.specs.Spacing.{ends_in, is_spacing}
+use Rattle.msg_body.specs.SameFields.{name_of}
+use Rattle.msg_body.specs.Spacing.{ends_in, is_spacing}
 use Rattle.msg_body.specs.Messages.{Message}
 use Rattle.msg_body.specs.Views.{lines_on}
 use Rattle.component_ids.specs.declared.params.SigParams.{SigParams}

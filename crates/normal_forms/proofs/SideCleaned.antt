@@ -11,8 +11,8 @@ use Rattle.std.proofs.Math.ListN.{drop_of_length-le}
 use Rattle.byte_grammar.specs.Classes.{is_blank, is_line_byte}
 use Rattle.byte_grammar.specs.Language.{starts_in}
 use Rattle.byte_grammar.proofs.ListLaws.{all_reverse}
-use Rattle.field_values.specs.Spacing.{ends_in, is_spacing}
-use Rattle.field_values.proofs.ValueLaws.{has_no_blank_at_ends}
+use Rattle.msg_body.specs.Spacing.{ends_in, is_spacing}
+use Rattle.msg_body.proofs.ValueLaws.{has_no_blank_at_ends}
 use Rattle.msg_head.specs.declared.error.Side.{Side}
 use Rattle.msg_head.specs.declared.line.LineView.{LineView}
 use Rattle.msg_head.specs.Lines.{FieldLine, IsLine}

@@ -9,8 +9,8 @@ use Rattle.std.proofs.lemmas.List.Quantifiers.{position-Some}
 use Rattle.byte_grammar.specs.Classes.{is_blank, is_line_byte}
 use Rattle.byte_grammar.specs.Language.{starts_in}
 use Rattle.byte_grammar.proofs.ListLaws.{all_joined, all_parts, all_reverse}
-use Rattle.field_values.specs.Spacing.{ends_in, is_spacing}
-use Rattle.field_values.proofs.ValueLaws.{takes_fold_for_space}
+use Rattle.msg_body.specs.Spacing.{ends_in, is_spacing}
+use Rattle.msg_body.proofs.ValueLaws.{takes_fold_for_space}
 use Rattle.line_rewrites.specs.RawValues.{without_first_spacing, without_last_spacing}
 use Rattle.msg_head.specs.RawValues.{IsRaw, is_continuation, continuation_text}
 use Rattle.msg_head.specs.Lines.{FieldLine}

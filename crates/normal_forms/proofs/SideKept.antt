@@ -8,7 +8,7 @@ use Rattle.std.proofs.lemmas.List.Elements.{All-append, All-cons, All-nil, All-s
 use Rattle.std.proofs.lemmas.Option.{slice_get_within}
 use Rattle.component_ids.specs.Table.{is_listed}
 use Rattle.component_ids.specs.declared.params.SigParams.{SigParams}
-use Rattle.field_values.specs.SameFields.{name_of}
+use Rattle.msg_body.specs.SameFields.{name_of}
 use Rattle.line_rewrites.specs.Covered.{covers_field}
 use Rattle.line_rewrites.specs.Permitted.{MayChangeValue, kept_names}
 use Rattle.msg_head.specs.declared.error.Side.{Side}

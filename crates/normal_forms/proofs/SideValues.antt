@@ -10,8 +10,8 @@ use Rattle.std.proofs.lemmas.Slice.Eq.{bytes_eq-Decides}
 use Rattle.std.proofs.lemmas.Str.Ascii.{lowercase-lowercase}
 use Rattle.byte_grammar.specs.Classes.{is_blank, is_line_byte}
 use Rattle.byte_grammar.specs.Language.{starts_in}
-use Rattle.field_values.specs.Spacing.{ends_in}
-use Rattle.field_values.proofs.ValueLaws.{forgets_spacing_at_ends, is_value_of_itself, is_value_of_joined}
+use Rattle.msg_body.specs.Spacing.{ends_in}
+use Rattle.msg_body.proofs.ValueLaws.{forgets_spacing_at_ends, is_value_of_itself, is_value_of_joined}
 use Rattle.msg_head.specs.Lines.{FieldLine}
 use Rattle.msg_head.specs.Values.{has_bytes, value}
 use Rattle.msg_head.proofs.MoreLines.{value_after_space}

@@ -5,7 +5,7 @@ use Rattle.msg_head.specs.declared.error.Side.{Side}
 use Rattle.msg_body.specs.Messages.{Message}
 use Rattle.msg_body.specs.Views.{lines_on, message_content}
 use Rattle.msg_head.specs.Values.{values}
-use Rattle.field_values.specs.SameFields.{HasSameField}
+use Rattle.msg_body.specs.SameFields.{HasSameField}
 use Rattle.component_ids.specs.declared.id.ComponentId.{ComponentId}
 use Rattle.component_values.specs.Alike.{AreSameIn, is_own_field}
 use Rattle.component_values.specs.Forms.{form_of}

@@ -6,7 +6,7 @@ use Rattle.std.specs.List.{All, FoldsTo, flat_map, list_any}
 use Rattle.msg_head.specs.declared.error.Side.{Side}
 use Rattle.msg_head.specs.Lines.{FieldLine}
 use Rattle.msg_head.specs.Values.{has_bytes, is_end, is_there, value}
-use Rattle.field_values.specs.SameFields.{name_of}
+use Rattle.msg_body.specs.SameFields.{name_of}
 use Rattle.component_ids.specs.declared.params.SigParams.{SigParams}
 use Rattle.rewrite_script.specs.declared.rewrite.LineRewrite.{LineRewrite}
 use Rattle.rewrite_script.specs.declared.rewrite.LineRewrite.TheVariants.{Case, Join, Pad, Remove, Unfold}

@@ -6,7 +6,7 @@ use Rattle.std.specs.List.{All}
 use Rattle.msg_head.specs.declared.error.Side.{Side}
 use Rattle.msg_head.specs.Lines.{FieldLine}
 use Rattle.msg_head.specs.Values.{is_there, value}
-use Rattle.field_values.specs.SameFields.{name_of}
+use Rattle.msg_body.specs.SameFields.{name_of}
 use Rattle.component_ids.specs.Table.{is_listed}
 use Rattle.component_ids.specs.declared.params.SigParams.{SigParams}
 use Rattle.line_rewrites.specs.Covered.{covers_field}

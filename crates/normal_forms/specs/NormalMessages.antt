@@ -2,8 +2,8 @@
 use Rattle.std.specs.Prelude.{◌≡◌, ⊤, ℕ, List, [], ◌∷◌, length, filter}
 use Rattle.msg_head.specs.declared.error.Side.{Side}
 use Rattle.msg_head.specs.Names.{has_name}
-use Rattle.chunks.specs.Chunks.{Chunks, content_of}
-use Rattle.chunks.specs.Sizes.{sized_chunks}
+use Rattle.framing.specs.Chunks.{Chunks, content_of}
+use Rattle.framing.specs.Sizes.{sized_chunks}
 use Rattle.msg_body.specs.Bodies.{Body, plain, chunked}
 use Rattle.msg_body.specs.Messages.{Message}
 use Rattle.msg_body.specs.Views.{lines_on}

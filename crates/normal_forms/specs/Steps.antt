@@ -4,7 +4,7 @@ use Rattle.std.specs.Prelude.{◌≡◌, ◌⊎◌, ℕ, Bool, IsTrue, List, [],
 use Rattle.std.specs.List.{list_all}
 use Rattle.msg_head.specs.declared.error.Side.TheVariants.{Header, Trailer}
 use Rattle.msg_head.specs.Lines.{FieldLine}
-use Rattle.chunks.specs.Chunks.{content_of}
+use Rattle.framing.specs.Chunks.{content_of}
 use Rattle.msg_body.specs.Bodies.{Body, plain, chunked}
 use Rattle.msg_body.specs.Messages.{Message}
 use Rattle.msg_body.specs.Views.{lines_on, message_content}

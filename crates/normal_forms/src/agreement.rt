@@ -3,7 +3,7 @@
 ghost use Rattle.std.specs.Prelude.{◌≡◌, ◌↔◌, IsTrue, MatchOption};
 ghost use Rattle.std.specs.List.{All};
 ghost use Rattle.component_values.specs.Values.{side_of};
-ghost use Rattle.field_values.specs.SameFields.{HasSameField};
+ghost use Rattle.msg_body.specs.SameFields.{HasSameField};
 ghost use Rattle.msg_body.specs.Views.{lines_on, message_of};
 ghost use Rattle.msg_head.specs.Heads.{IsHead};
 ghost use Rattle.msg_head.specs.Values.{line_values, values};
@@ -15,9 +15,8 @@ use crate::basis::{Basis, FixedName};
 use crate::normal::start_line;
 use crate::pieces::{TextPieces, are_same_text};
 use component_ids::{ComponentId, has_param};
-use field_values::{joined_pieces, line_pieces};
 use line_rewrites::is_own_field;
-use msg_body::MessageView;
+use msg_body::{MessageView, joined_pieces, line_pieces};
 use msg_head::{NamedFieldLines, Side};
 
 /// Whether both have the same values, line by line.

@@ -2,8 +2,8 @@
 
 ghost use Rattle.std.specs.Prelude.{◌≡◌, ◌≢◌, ◌↔◌, ◌++◌, ℕ, List, IfOk, MatchOption, OnOk, IsTrue, codes, false};
 ghost use Rattle.std.specs.Fmt.{digits};
-ghost use Rattle.chunks.specs.Chunks.{chunk_text};
-ghost use Rattle.chunks.specs.Sizes.{chunk_of};
+ghost use Rattle.framing.specs.Chunks.{chunk_text};
+ghost use Rattle.framing.specs.Sizes.{chunk_of};
 ghost use Rattle.component_values.specs.Context.{HasWholeMessage, context_of};
 ghost use Rattle.msg_body.specs.Views.{body_before, message_content, message_of};
 ghost use Rattle.normal_forms.specs.NormalMessages.{HasNormalChunks, whole_size};

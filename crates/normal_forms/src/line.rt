@@ -33,7 +33,7 @@ impl<'m> Model for NormalLine<'m> {
 
 impl<'m> NormalLine<'m> {
     ghost use Rattle.std.specs.Prelude.{◌≡◌, ◌++◌, IfOk, OnOk, codes};
-    ghost use Rattle.field_values.specs.SameFields.{name_of};
+    ghost use Rattle.msg_body.specs.SameFields.{name_of};
     ghost use Rattle.msg_head.specs.Lines.{line_text};
     ghost use Rattle.msg_head.specs.Names.{has_name};
     ghost use Rattle.msg_head.specs.Values.{has_bytes};

@@ -3,8 +3,7 @@
 ghost use Rattle.std.specs.Prelude.{◌≡◌, ◌↔◌, [], IsTrue};
 ghost use Rattle.normal_forms.specs.tools.Pieces.{text_left};
 
-use field_values::Combined;
-use msg_body::ContentPieces;
+use msg_body::{Combined, ContentPieces};
 use msg_head::Pieces;
 
 /// The pieces of a text that are left: of a line's value, of the value of a field, of content.

@@ -2,7 +2,7 @@
 
 ghost use Rattle.std.specs.Prelude.{◌≡◌, ◌++◌, List, IfOk, map};
 ghost use Rattle.std.specs.List.{All};
-ghost use Rattle.field_values.specs.SameFields.{name_of};
+ghost use Rattle.msg_body.specs.SameFields.{name_of};
 ghost use Rattle.msg_body.specs.Views.{lines_on, message_of};
 ghost use Rattle.msg_head.specs.Lines.{IsLine};
 ghost use Rattle.msg_head.specs.Views.{field_line_of};

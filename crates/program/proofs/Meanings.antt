@@ -16,9 +16,9 @@ use Rattle.component_values.specs.Context.{MessageContext, context_with}
 use Rattle.component_values.specs.Laws.{HasMessages, IsSpelled}
 use Rattle.component_values.specs.Values.{HaveValues}
 use Rattle.component_values.proofs.FirstLacks.{have_length}
-use Rattle.sig_base.specs.Laws.{HaveBase}
-use Rattle.sig_base.specs.SignatureBase.{signature_base}
-use Rattle.sig_base.proofs.Readings.{one_reading}
+use Rattle.signatures.specs.BaseLaws.{HaveBase}
+use Rattle.signatures.specs.SignatureBase.{signature_base}
+use Rattle.signatures.proofs.Readings.{one_reading}
 use Rattle.conf.specs.Configuration.{Configuration}
 use Rattle.verdicts.specs.Contexts.{context_for}
 use Rattle.verdicts.specs.Verdicts.{Accepts, IsVerdict, is_accepted}

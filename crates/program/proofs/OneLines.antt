@@ -32,7 +32,7 @@ use Rattle.component_ids.proofs.AnswerLaws.{in_range_of_list}
 use Rattle.component_ids.proofs.PrintLaws.{id_is_printable}
 use Rattle.component_values.specs.Context.{MessageContext, context_with}
 use Rattle.component_values.specs.Values.{HaveValues}
-use Rattle.sig_base.specs.SignatureBase.{signature_base}
+use Rattle.signatures.specs.SignatureBase.{signature_base}
 use Rattle.msg_body.specs.Messages.{Message, message_text}
 use Rattle.msg_body.specs.WholeTexts.{any_message, one_request, reading_for}
 use Rattle.msg_body.specs.declared.whole.Reading.{Reading}

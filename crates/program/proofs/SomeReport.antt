@@ -11,7 +11,7 @@ use Rattle.component_ids.specs.declared.id.ComponentId.{ComponentId}
 use Rattle.component_ids.specs.declared.params.SigParams.{SigParams}
 use Rattle.component_values.specs.Context.{MessageContext, answers_head, context_with}
 use Rattle.conf.specs.Configuration.{Configuration}
-use Rattle.sig_base.specs.SignatureBase.{signature_base}
+use Rattle.signatures.specs.SignatureBase.{signature_base}
 use Rattle.verdicts.specs.declared.outcome.Verdict.{Verdict}
 use Rattle.recording.specs.Items.{PlacedItem}
 use Rattle.hop_audit.specs.Lines.{finds_fault}

@@ -15,8 +15,8 @@ use Rattle.component_ids.specs.declared.params.SigParams.{SigParams}
 use Rattle.component_values.specs.Context.{MessageContext, answers_head}
 use Rattle.component_values.specs.Laws.{HasMessages}
 use Rattle.component_values.specs.Values.{HaveValues}
-use Rattle.sig_base.specs.Laws.{HaveBase}
-use Rattle.sig_base.specs.SignatureBase.{signature_base}
+use Rattle.signatures.specs.BaseLaws.{HaveBase}
+use Rattle.signatures.specs.SignatureBase.{signature_base}
 use Rattle.conf.specs.Configuration.{Configuration}
 use Rattle.content_digest.specs.declared.algorithm.Algorithm.{Algorithm}
 use Rattle.signatures.specs.Signatures.{HasDict, HasSignature}

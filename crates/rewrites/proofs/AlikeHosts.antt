@@ -11,11 +11,11 @@ use Rattle.msg_head.specs.Starts.{RequestLine, StartLine, request, status}
 use Rattle.msg_head.specs.Values.{value, values}
 use Rattle.msg_head.specs.declared.error.Side.{Side}
 use Rattle.msg_head.specs.declared.error.Side.TheVariants.{Header, Trailer}
-use Rattle.field_values.specs.SameFields.{HasSameField, HasSameValues, name_of}
+use Rattle.msg_body.specs.SameFields.{HasSameField, HasSameValues, name_of}
 use Rattle.framing.specs.Framings.{is_request}
 use Rattle.msg_body.specs.Messages.{Message}
 use Rattle.msg_body.specs.Views.{lines_on}
-use Rattle.targets.specs.Targets.{TargetParts, SpellsTarget}
+use Rattle.derived_values.specs.Targets.{TargetParts, SpellsTarget}
 use Rattle.component_ids.specs.Table.{has_param, is_field_name}
 use Rattle.component_ids.specs.declared.id.ComponentId.{ComponentId}
 use Rattle.component_ids.specs.declared.params.SigParams.{SigParams}

@@ -38,7 +38,7 @@ use Rattle.msg_head.specs.declared.error.Side.TheVariants.{Header, Trailer}
 use Rattle.msg_head.proofs.LineBytes.{line_byte_of}
 use Rattle.msg_head.proofs.MoreLines.{combined_more, there_same, value_after_space, values_same}
 use Rattle.msg_head.proofs.NameCounts.{positive}
-use Rattle.field_values.specs.SameFields.{HasSameValues}
+use Rattle.msg_body.specs.SameFields.{HasSameValues}
 use Rattle.msg_body.specs.Messages.{Message}
 use Rattle.msg_body.specs.Views.{lines_on}
 use Rattle.component_ids.specs.Identifiers.{is_identifier, item_of}

@@ -27,7 +27,7 @@ use Rattle.msg_head.specs.declared.error.Side.TheVariants.{Header, Trailer}
 use Rattle.msg_head.proofs.LineBytes.{line_byte_of}
 use Rattle.msg_head.proofs.MoreLines.{value_after_space}
 use Rattle.msg_head.proofs.NameCounts.{positive}
-use Rattle.field_values.specs.SameFields.{HasSameValues}
+use Rattle.msg_body.specs.SameFields.{HasSameValues}
 use Rattle.framing.specs.Framings.{is_request}
 use Rattle.msg_body.specs.Bodies.{Body, chunked, content_in, plain, trailers_in}
 use Rattle.msg_body.specs.Messages.{Message}

@@ -17,14 +17,14 @@ use Rattle.msg_head.specs.declared.error.Side.TheVariants.{Header, Trailer}
 use Rattle.framing.specs.Framings.{is_request}
 use Rattle.msg_body.specs.Messages.{Message}
 use Rattle.msg_body.specs.Views.{lines_on}
-use Rattle.targets.specs.Authorities.{IsAuthorityValue}
-use Rattle.targets.specs.Query.{matches}
-use Rattle.targets.specs.Targets.{IsAbsoluteForm, IsOriginForm, IsQuery, has_path, is_absolute_path, is_path, is_scheme, TargetParts, SpellsTarget, path_of, query_of, query_text}
-use Rattle.targets.specs.UriBytes.{is_query_byte}
-use Rattle.targets.specs.declared.target.Form.TheVariants.{Origin as OriginForm, Absolute as AbsoluteForm}
-use Rattle.targets.proofs.AuthorityParts.{one_authority_value}
-use Rattle.targets.proofs.AuthorityValues.{has_itself_for_value, is_authority_in_target}
-use Rattle.targets.proofs.TargetParts.{one_target}
+use Rattle.derived_values.specs.Authorities.{IsAuthorityValue}
+use Rattle.derived_values.specs.Query.{matches}
+use Rattle.derived_values.specs.Targets.{IsAbsoluteForm, IsOriginForm, IsQuery, has_path, is_absolute_path, is_path, is_scheme, TargetParts, SpellsTarget, path_of, query_of, query_text}
+use Rattle.derived_values.specs.UriBytes.{is_query_byte}
+use Rattle.derived_values.specs.declared.target.Form.TheVariants.{Origin as OriginForm, Absolute as AbsoluteForm}
+use Rattle.derived_values.proofs.AuthorityParts.{one_authority_value}
+use Rattle.derived_values.proofs.AuthorityValues.{has_itself_for_value, is_authority_in_target}
+use Rattle.derived_values.proofs.TargetParts.{one_target}
 use Rattle.component_ids.specs.Table.{has_param, is_field_name, is_listed}
 use Rattle.component_ids.specs.declared.id.ComponentId.{ComponentId}
 use Rattle.component_ids.specs.declared.params.SigParams.{SigParams}

@@ -12,7 +12,7 @@ use Rattle.sfv_text.specs.declared.pair.Pair.{Pair}
 use Rattle.sfv_text.specs.declared.value.BareItem.{BareItem}
 use Rattle.msg_head.specs.Lines.{FieldLine}
 use Rattle.msg_head.specs.declared.error.Side.TheVariants.{Header}
-use Rattle.field_values.specs.SameFields.{HasSameField, HasSameValues}
+use Rattle.msg_body.specs.SameFields.{HasSameField, HasSameValues}
 use Rattle.component_ids.specs.Table.{has_param, is_field_name, is_listed}
 use Rattle.component_ids.specs.declared.id.ComponentId.{ComponentId}
 use Rattle.component_ids.specs.declared.params.SigParams.{SigParams}

@@ -9,7 +9,7 @@ use Rattle.component_ids.specs.declared.params.SigParams.{SigParams}
 use Rattle.component_values.specs.Alike.{ComesToSame}
 use Rattle.component_values.specs.Context.{MessageContext, answers_head, context_with}
 use Rattle.component_values.specs.Values.{HaveValues as HaveComponentValues}
-use Rattle.sig_base.specs.SignatureBase.{signature_base}
+use Rattle.signatures.specs.SignatureBase.{signature_base}
 use Rattle.settings.specs.Configuration.{Configuration}
 use Rattle.nonces.specs.Books.{Book}
 use Rattle.signatures.specs.Signatures.{HasSignature}

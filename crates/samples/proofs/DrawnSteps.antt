@@ -12,11 +12,11 @@ use Rattle.byte_grammar.specs.Classes.{is_blank}
 use Rattle.byte_grammar.proofs.ListLaws.{all_joined}
 use Rattle.msg_head.specs.Lines.{FieldLine}
 use Rattle.msg_head.specs.declared.error.Side.TheVariants.{Header}
-use Rattle.chunks.specs.Chunks.{AreChunks, Chunk, Chunks, IsChunk, chunk_text, chunks_text, content_of, data_of}
+use Rattle.framing.specs.Chunks.{AreChunks, Chunk, Chunks, IsChunk, chunk_text, chunks_text, content_of, data_of}
 use Rattle.msg_body.specs.Bodies.{chunked}
 use Rattle.msg_body.specs.Messages.{Message}
-use Rattle.field_values.specs.SameFields.{HasSameValues}
-use Rattle.field_values.proofs.LineLists.{takes_line_for_other}
+use Rattle.msg_body.specs.SameFields.{HasSameValues}
+use Rattle.msg_body.proofs.LineLists.{takes_line_for_other}
 use Rattle.component_ids.specs.declared.params.SigParams.{SigParams}
 use Rattle.rewrite_script.specs.declared.rewrite.LineRewrite.TheVariants.{Pad, Move}
 use Rattle.rewrite_script.specs.declared.rewrite.Rewrite.{Rewrite}
@@ -24,12 +24,12 @@ use Rattle.rewrite_script.specs.declared.rewrite.Rewrite.TheVariants.{Lines, Who
 use Rattle.rewrite_script.specs.declared.rewrite.WholeRewrite.TheVariants.{Rechunk}
 use Rattle.line_rewrites.specs.LineLists.{ChangesRaw, IsMoved, Replaces}
 use Rattle.line_rewrites.specs.RawValues.{IsPadded}
-use Rattle.chunks.specs.Sizes.{IsInChunks, are_some, sized_chunks as chunks_in}
+use Rattle.framing.specs.Sizes.{IsInChunks, are_some, sized_chunks as chunks_in}
 use Rattle.rewrites.specs.Permitted.{Permits}
 use Rattle.rewrites.specs.Steps.{Step, Steps}
-use Rattle.chunks.specs.tools.Written.{adds_up as add_up_to}
-use Rattle.chunks.proofs.SizedChunks.{in_chunks_content, in_chunks_sound}
-use Rattle.chunks.proofs.SizeLaws.{in_chunks_of as in_chunks}
+use Rattle.framing.specs.tools.Written.{adds_up as add_up_to}
+use Rattle.framing.proofs.SizedChunks.{in_chunks_content, in_chunks_sound}
+use Rattle.framing.proofs.SizeLaws.{in_chunks_of as in_chunks}
 use Rattle.samples.specs.Chains.{sample_context}
 use Rattle.samples.specs.Draws.{draw}
 use Rattle.samples.specs.Scripts.{hop_steps, sizes_of}

@@ -17,7 +17,7 @@ use Rattle.msg_body.specs.Views.{message_content}
 use Rattle.msg_body.proofs.OneMessages.{one_message_law}
 use Rattle.component_values.specs.Values.{HaveValues}
 use Rattle.content_digest.specs.Digests.{DigestHolds}
-use Rattle.sig_base.specs.SignatureBase.{signature_base}
+use Rattle.signatures.specs.SignatureBase.{signature_base}
 use Rattle.hmac_sha256.specs.Hmac.{hmac}
 use Rattle.signatures.specs.Signatures.{AreLabels, HasSignature}
 use Rattle.signing.specs.Signed.{IsSignedMessage, IsVerifiable}

@@ -15,9 +15,9 @@ use Rattle.sfv_text.specs.Range.{is_byte, is_string_byte}
 use Rattle.sfv_text.specs.Strict.{bytes_text}
 use Rattle.msg_head.proofs.LineBytes.{line_byte_of}
 use Rattle.msg_body.specs.Messages.{Message}
-use Rattle.field_values.specs.Spacing.{ends_in, is_spacing}
+use Rattle.msg_body.specs.Spacing.{ends_in, is_spacing}
 use Rattle.component_ids.specs.SignatureParams.{sig_params_text}
-use Rattle.sig_base.specs.SignatureBase.{signature_base}
+use Rattle.signatures.specs.SignatureBase.{signature_base}
 use Rattle.hmac_sha256.specs.Hmac.{hmac}
 use Rattle.signing.specs.Signed.{IsSignedMessage}
 use Rattle.signing.specs.Written.{line_of, signed_message}

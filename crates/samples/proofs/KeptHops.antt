@@ -9,7 +9,7 @@ use Rattle.sfv_read.specs.Reads.{ReadsDict}
 use Rattle.msg_head.specs.declared.error.Side.TheVariants.{Header}
 use Rattle.msg_body.specs.Messages.{Message}
 use Rattle.msg_body.specs.Views.{lines_on}
-use Rattle.field_values.specs.SameFields.{HasSameField, HasSameValues}
+use Rattle.msg_body.specs.SameFields.{HasSameField, HasSameValues}
 use Rattle.component_ids.specs.declared.params.SigParams.{SigParams}
 use Rattle.component_ids.specs.declared.id.ComponentId.{ComponentId}
 use Rattle.component_values.specs.Values.{HaveValues}

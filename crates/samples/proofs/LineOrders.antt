@@ -4,8 +4,8 @@ use Rattle.std.proofs.lemmas.Bool.{cases_lt}
 use Rattle.std.proofs.lemmas.List.{length-append, length-take-le, take-append-drop}
 use Rattle.msg_head.specs.Lines.{FieldLine}
 use Rattle.msg_head.specs.Values.{is_there}
-use Rattle.field_values.specs.SameFields.{HasSameValues, name_of}
-use Rattle.field_values.proofs.LineLists.{forgets_order_of_names}
+use Rattle.msg_body.specs.SameFields.{HasSameValues, name_of}
+use Rattle.msg_body.proofs.LineLists.{forgets_order_of_names}
 use Rattle.line_rewrites.specs.LineLists.{IsMoved, PassesOtherNames}
 use Rattle.samples.proofs.NameCounts.{HasEachOnce, none_passed, none_passing}
 use Rattle.samples.proofs.ShortLines.{AreShortLines, short_joined, short_parts}

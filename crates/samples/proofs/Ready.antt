@@ -7,14 +7,14 @@ use Rattle.msg_head.specs.Lines.{FieldLine, IsLine}
 use Rattle.msg_head.specs.Starts.{IsStartLine, start_text}
 use Rattle.msg_head.specs.Trailers.{IsTrailer}
 use Rattle.msg_head.specs.declared.error.Side.TheVariants.{Header}
-use Rattle.chunks.specs.Chunks.{AreChunks, Chunks, chunks_text, content_of}
-use Rattle.chunks.specs.declared.limits.TheConstants.{MAX_CONTENT_BYTES}
+use Rattle.framing.specs.Chunks.{AreChunks, Chunks, chunks_text, content_of}
+use Rattle.framing.specs.declared.chunk_limits.TheConstants.{MAX_CONTENT_BYTES}
 use Rattle.framing.specs.Framings.{IsFramable, are_accepted_codings, are_accepted_lengths, content_length_of, framing_by, framing_of, version_of}
 use Rattle.framing.specs.declared.kind.Framing.{Framing}
 use Rattle.framing.specs.declared.kind.Framing.TheVariants.{Chunked}
 use Rattle.msg_body.specs.Bodies.{Body, IsBodyOf, body_text, chunked, content_in}
 use Rattle.msg_body.specs.Messages.{IsMessage, Message}
-use Rattle.field_values.specs.SameFields.{HasSameValues}
+use Rattle.msg_body.specs.SameFields.{HasSameValues}
 use Rattle.line_rewrites.specs.Steps.{ChangesLines, with_lines_on}
 use Rattle.signing.proofs.Inserting.{head_length}
 use Rattle.samples.specs.Chains.{sample_context}

@@ -11,8 +11,8 @@ use Rattle.byte_grammar.proofs.ListLaws.{all_implied, all_joined}
 use Rattle.msg_head.specs.Lines.{FieldLine, IsLine, line_text}
 use Rattle.msg_head.specs.Values.{is_end, value}
 use Rattle.msg_head.proofs.LineBytes.{line_byte_of}
-use Rattle.field_values.specs.Spacing.{ends_in, is_spacing}
-use Rattle.field_values.proofs.ValueLaws.{forgets_spacing_at_ends}
+use Rattle.msg_body.specs.Spacing.{ends_in, is_spacing}
+use Rattle.msg_body.proofs.ValueLaws.{forgets_spacing_at_ends}
 use Rattle.line_rewrites.specs.LineLists.{ChangesRaw}
 use Rattle.line_rewrites.specs.RawValues.{HasCore, IsPadded}
 use Rattle.samples.proofs.Signable.{one_line}

@@ -32,9 +32,9 @@ use Rattle.msg_head.proofs.LineBytes.{line_byte_of}
 use Rattle.msg_head.proofs.MoreLines.{value_after_space}
 use Rattle.msg_body.specs.Bodies.{body_text}
 use Rattle.msg_body.specs.Messages.{Message, message_text}
-use Rattle.targets.specs.Authorities.{IsAuthority}
-use Rattle.targets.specs.Targets.{SpellsTarget, TargetParts}
-use Rattle.targets.specs.declared.target.Form.TheVariants.{Origin}
+use Rattle.derived_values.specs.Authorities.{IsAuthority}
+use Rattle.derived_values.specs.Targets.{SpellsTarget, TargetParts}
+use Rattle.derived_values.specs.declared.target.Form.TheVariants.{Origin}
 use Rattle.component_ids.specs.SignatureParams.{sig_params_text}
 use Rattle.component_ids.specs.Types.{KindMap}
 use Rattle.component_ids.specs.declared.scheme.Scheme.TheVariants.{Https}

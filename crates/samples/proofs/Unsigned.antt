@@ -7,7 +7,7 @@ use Rattle.std.proofs.lemmas.List.FromFn.{length-map-range_with_len}
 use Rattle.msg_head.specs.Lines.{FieldLine, IsLine}
 use Rattle.msg_head.specs.Starts.{request}
 use Rattle.msg_head.specs.Heads.{Head, IsHead}
-use Rattle.chunks.specs.Chunks.{Chunk, Chunks, AreChunks, IsChunk, IsChunkLine}
+use Rattle.framing.specs.Chunks.{Chunk, Chunks, AreChunks, IsChunk, IsChunkLine}
 use Rattle.framing.specs.Framings.{IsFramable}
 use Rattle.framing.specs.declared.kind.Framing.TheVariants.{Chunked}
 use Rattle.msg_body.specs.Bodies.{chunked}

@@ -1,3 +1,5 @@
+mod Lines
+pub mod Readings
 pub mod Numbers
 pub mod InRange
 pub mod Reading

@@ -6,7 +6,7 @@ use Rattle.sfv_read.specs.Reads.{ReadsDict}
 use Rattle.msg_head.specs.declared.error.Side.TheVariants.{Header}
 use Rattle.msg_body.specs.Messages.{Message}
 use Rattle.msg_body.specs.Views.{lines_on}
-use Rattle.field_values.specs.SameFields.{HasSameField}
+use Rattle.msg_body.specs.SameFields.{HasSameField}
 use Rattle.component_ids.specs.declared.fault.IdFault.{IdFault}
 use Rattle.component_ids.specs.declared.fault.IdFault.TheVariants.{TooMany, BadComponent, Repeated, BadParameter}
 use Rattle.component_ids.specs.declared.params.SigParams.{SigParams}

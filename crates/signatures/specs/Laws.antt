@@ -3,7 +3,7 @@ use Rattle.std.specs.Prelude.{◌≡◌, ◌↔◌, ◌⊎◌, ◌≤◌, ℕ, I
 use Rattle.msg_head.specs.declared.error.Side.TheVariants.{Header}
 use Rattle.msg_body.specs.Messages.{Message}
 use Rattle.msg_body.specs.Views.{lines_on}
-use Rattle.field_values.specs.SameFields.{HasSameField}
+use Rattle.msg_body.specs.SameFields.{HasSameField}
 use Rattle.component_ids.specs.SignatureParams.{are_sig_params_in_range}
 use Rattle.component_ids.specs.declared.params.SigParams.{SigParams}
 use Rattle.signatures.specs.declared.place.Place.{Place}

@@ -1,3 +1,5 @@
+pub mod SignatureBase
+pub mod BaseLaws
 pub mod Algorithms
 pub mod Signatures
 pub mod Fields

@@ -1,3 +1,4 @@
+pub mod Feed
 pub mod Answered
 pub mod Held
 pub mod Kept

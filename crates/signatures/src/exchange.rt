@@ -58,7 +58,7 @@ impl<'a, 'm> Exchange<'a, 'm> {
     ghost use Rattle.component_values.specs.Faults.{HasIndexBelow};
     ghost use Rattle.component_values.specs.Values.{ComesTo, HaveValues, IsFirstLack};
     ghost use Rattle.settings.specs.ConfMeaning.{meaning};
-    ghost use Rattle.sig_base.specs.SignatureBase.{signature_base};
+    ghost use Rattle.signatures.specs.SignatureBase.{signature_base};
     ghost use Rattle.signatures.specs.Rules.{IsLabelUnread};
     ghost use Rattle.signatures.specs.Signatures.{AreLabels, HasSignature};
     ghost use Rattle.signatures.specs.declared.label.LabelFault.{LabelFault};

@@ -4,8 +4,7 @@ ghost use Rattle.std.specs.Prelude.{◌≡◌, IfOk};
 ghost use Rattle.msg_body.specs.Views.{message_of};
 ghost use Rattle.signatures.specs.Fields.{IsFieldOf};
 
-use field_values::joined_value;
-use msg_body::MessageView;
+use msg_body::{MessageView, joined_value};
 use msg_head::Side;
 use sfv_read::{SfError, read_dict};
 use sfv_text::{Dict, Memory};

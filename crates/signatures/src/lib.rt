@@ -1,6 +1,7 @@
-//! Exchanges, a message with the request that it answers, and the signatures of the message by
-//! their labels (RFC 9421 sections 1.1, 4.1 and 4.2): what is read of a label, or the first of
-//! rules 1 to 12 that fails, each part read once. The numbers and the words of all rules.
+//! Exchanges, a message with the request that it answers; the signatures of the message by their
+//! labels (RFC 9421 sections 1.1, 4.1 and 4.2): what is read of a label, or the first of rules 1 to
+//! 12 that fails, each part read once; and the signature base, the text that a signature signs
+//! (section 2.5). The numbers and the words of all rules.
 //!
 //! ```text
 //! let context = context_for(conf, &message, request.as_ref());
@@ -14,10 +15,16 @@
 //! // Of a request with the signature of RFC 9421 appendix B.2.5 under the label `s`, alone:
 //! labels_of(alloc, view)?                                      // `s`
 //! let LabelRead { params, tag } = read_label(alloc, view, b"s")?; // three components, 32 bytes
+//! let prepared = prepare(alloc, &context, &params)?;
+//! feed_base(&prepared, &mut hasher);                           // the base, without memory
+//! let text = base_bytes(alloc, &prepared)?;                    // the same text, owned
 //! ```
 #![tactic(auto)]
 
 mod algorithm;
+mod base;
+mod base_laws;
+mod buffer;
 mod context;
 mod digest;
 mod exchange;
@@ -34,6 +41,8 @@ mod rule;
 mod values;
 
 pub use algorithm::{SUPPORTED_ALGORITHM, is_refused_algorithm};
+pub use base::{base_bytes, feed_base};
+pub use base_laws::a_base_has_one_reading;
 pub use context::context_for;
 pub use exchange::Exchange;
 pub use field::{DictField, read_field};

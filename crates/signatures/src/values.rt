@@ -8,14 +8,14 @@ ghost use Rattle.derived_values.specs.declared.lack.Lack.{Lack};
 ghost use Rattle.component_values.specs.Faults.{HasIndexBelow};
 ghost use Rattle.component_values.specs.Readings.{AreReadOf};
 ghost use Rattle.component_values.specs.Values.{ComesTo, HaveValues, IsFirstLack};
-ghost use Rattle.sig_base.specs.SignatureBase.{signature_base};
+ghost use Rattle.signatures.specs.SignatureBase.{signature_base};
 ghost use Rattle.signatures.specs.tools.Held.{held_context};
 
+use crate::base::feed_base;
 use crate::held::HeldContext;
 use component_ids::{ComponentId, SigParams};
 use component_values::{NoValue, Readings, ValueFault, component_text, prepare_in};
 use sfv_text::{Absorb, Text};
-use sig_base::feed_base;
 use std::alloc::Global;
 
 /// Feeds the signature base of the components that the signature parameters cover.

@@ -16,7 +16,7 @@ use Rattle.component_values.specs.declared.fault.ValueFault.{ValueFault}
 use Rattle.component_values.specs.declared.fault.ValueFault.TheVariants as value
 use Rattle.derived_values.specs.declared.lack.Lack.{Lack}
 use Rattle.hmac_sha256.specs.Hmac.{hmac}
-use Rattle.sig_base.specs.SignatureBase.{signature_base}
+use Rattle.signatures.specs.SignatureBase.{signature_base}
 use Rattle.signing.specs.Written.{context_with_digest, digest_lines, signature_lines, signed_message}
 use Rattle.signing.specs.declared.lines.AddedLines.{AddedLines}
 use Rattle.signing.specs.declared.parts.Parts.{Parts}

@@ -11,7 +11,7 @@ use Rattle.component_ids.specs.declared.id.ComponentId.{ComponentId}
 use Rattle.component_ids.specs.declared.params.SigParams.{SigParams}
 use Rattle.component_values.proofs.FirstLacks.{have_one_list}
 use Rattle.hmac_sha256.specs.Hmac.{hmac}
-use Rattle.sig_base.specs.SignatureBase.{signature_base}
+use Rattle.signatures.specs.SignatureBase.{signature_base}
 use Rattle.settings.specs.Configuration.{Configuration}
 use Rattle.settings.specs.Covered.{params_of}
 use Rattle.settings.specs.declared.sign_conf.SignConf.{SignConf}

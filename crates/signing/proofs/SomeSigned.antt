@@ -26,7 +26,7 @@ use Rattle.component_ids.specs.declared.params.SigParams.{SigParams}
 use Rattle.component_values.specs.Context.{MessageContext, answers_head}
 use Rattle.component_values.proofs.FirstLacks.{have_or_lack, none_lacks}
 use Rattle.hmac_sha256.specs.Hmac.{hmac}
-use Rattle.sig_base.specs.SignatureBase.{signature_base}
+use Rattle.signatures.specs.SignatureBase.{signature_base}
 use Rattle.settings.specs.Configuration.{Configuration}
 use Rattle.nonces.specs.declared.limits.TheConstants.{MAX_MOMENT}
 use Rattle.settings.specs.Covered.{params_of}

@@ -20,7 +20,7 @@ use Rattle.msg_head.specs.Names.{has_name}
 use Rattle.msg_head.specs.Values.{is_there, values}
 use Rattle.msg_head.proofs.MoreLines.{there_same, values_same}
 use Rattle.msg_body.specs.Messages.{IsMessage, Message, Spells}
-use Rattle.field_values.specs.SameFields.{HasSameField, HasSameValues}
+use Rattle.msg_body.specs.SameFields.{HasSameField, HasSameValues}
 use Rattle.component_ids.specs.Identifiers.{is_identifier, item_of}
 use Rattle.component_ids.specs.Table.{has_param, has_value_type, goes_with, have_clash, is_field_name, is_listed, is_name}
 use Rattle.component_ids.specs.Types.{kind_in}
@@ -36,7 +36,7 @@ use Rattle.component_values.proofs.LineLaws.{depends_on_its_lines}
 use Rattle.msg_body.specs.Views.{lines_on}
 use Rattle.content_digest.specs.declared.algorithm.Algorithm.{Algorithm}
 use Rattle.hmac_sha256.specs.Hmac.{hmac}
-use Rattle.sig_base.specs.SignatureBase.{signature_base}
+use Rattle.signatures.specs.SignatureBase.{signature_base}
 use Rattle.signatures.specs.Signatures.{AreLabels, HasSignature, input_name, signature_name}
 use Rattle.signing.specs.SignCauses.{HasLabel, IsFirstSelfCover, any_tag, covers_itself, covers_signatures, is_label_or_none, passed_limit}
 use Rattle.signing.specs.Signed.{IsVerifiable, SpellsSigned}

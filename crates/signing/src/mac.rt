@@ -2,13 +2,13 @@
 
 ghost use Rattle.std.specs.Prelude.{◌≡◌};
 ghost use Rattle.hmac_sha256.specs.Hmac.{hmac};
-ghost use Rattle.sig_base.specs.SignatureBase.{signature_base};
+ghost use Rattle.signatures.specs.SignatureBase.{signature_base};
 ghost use Rattle.signing.specs.tools.Judged.{lack_fault_of};
 
 use crate::fault::SignFault;
 use component_values::{Prepared, ValueFault};
 use hmac_sha256::HmacKey;
-use sig_base::feed_base;
+use signatures::feed_base;
 
 /// How many bytes a tag has (RFC 9421 section 3.3.3).
 pub const TAG_BYTES: usize = 32;

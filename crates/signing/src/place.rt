@@ -5,9 +5,8 @@ ghost use Rattle.msg_body.specs.Views.{message_of};
 ghost use Rattle.signing.specs.SignCauses.{HasLabel};
 ghost use Rattle.signing.specs.tools.Fields.{IsPlaceIn};
 
-use field_values::joined_value;
 use memchr::memmem;
-use msg_body::MessageView;
+use msg_body::{MessageView, joined_value};
 use msg_head::Side;
 use sfv_text::Memory;
 use signatures::{DictField, read_field};

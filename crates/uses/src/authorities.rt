@@ -1,7 +1,7 @@
 // Tests of targets.
 
+use derived_values::{ParamFound, query_param};
 use std::alloc::Global;
-use targets::{ParamFound, query_param};
 
 // What a query has under a name.
 #[derive(Clone, Copy)]

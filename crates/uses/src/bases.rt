@@ -8,7 +8,7 @@ use crate::given::message;
 use component_ids::{Scheme, SigParams, Types};
 use component_values::{Context, Prepared, prepare};
 use msg_body::MessageView;
-use sig_base::{base_bytes, feed_base};
+use signatures::{base_bytes, feed_base};
 use std::alloc::Global;
 
 // The signature parameters and the signature base of RFC 9421 section 2.4.

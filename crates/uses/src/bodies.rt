@@ -1,8 +1,7 @@
 // Tests of msg_body, chunks and framing.
 
 use crate::heads::are_pieces;
-use chunks::{ChunksRead, ChunksView, read_chunks};
-use framing::{Framing, read_framing};
+use framing::{ChunksRead, ChunksView, Framing, read_chunks, read_framing};
 use msg_body::{Expect, MAX_MESSAGE_BYTES, MessageError, MessageRead, MessageView, read_message};
 use msg_head::{HeadRead, HeadView, Side, read_head};
 use std::alloc::Global;

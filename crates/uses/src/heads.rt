@@ -3,9 +3,8 @@
 ghost use Rattle.std.specs.Iterator.{IsFinite};
 
 use crate::given::message;
-use field_values::{combined_pieces, count_lines, joined_value, line_pieces};
 use line_index::{LineIndex, LineSpan};
-use msg_body::MessageView;
+use msg_body::{MessageView, combined_pieces, count_lines, joined_value, line_pieces};
 use msg_head::{
     HeadRead, HeadView, LineView, NamedFieldLines, Side, Start, TrailerRead, TrailerView,
     read_head, read_trailer,

@@ -18,7 +18,7 @@ use Rattle.component_values.specs.Values.{Lacks, HaveValues, IsFirstLack}
 use Rattle.component_values.specs.declared.fault.ValueFault.{ValueFault}
 use Rattle.component_values.specs.declared.fault.ValueFault.TheVariants as value
 use Rattle.component_values.proofs.FirstLacks.{have_or_lack, have_one_list, first_lack_is_one, none_lacks}
-use Rattle.sig_base.specs.SignatureBase.{signature_base}
+use Rattle.signatures.specs.SignatureBase.{signature_base}
 use Rattle.hmac_sha256.specs.Hmac.{hmac}
 use Rattle.settings.specs.ValidSections.{IsValidPolicy}
 use Rattle.settings.specs.declared.policy.Policy.{Policy}

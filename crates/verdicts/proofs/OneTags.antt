@@ -15,8 +15,8 @@ use Rattle.component_values.specs.Values.{HaveValues}
 use Rattle.component_values.proofs.CleanLaws.{has_clean_values}
 use Rattle.component_values.proofs.FirstLacks.{have_length}
 use Rattle.hmac_sha256.specs.Hmac.{hmac}
-use Rattle.sig_base.specs.Laws.{HaveBase, is_one_line}
-use Rattle.sig_base.proofs.Readings.{one_reading}
+use Rattle.signatures.specs.BaseLaws.{HaveBase, is_one_line}
+use Rattle.signatures.proofs.Readings.{one_reading}
 use Rattle.signatures.specs.Signatures.{HasSignature}
 use Rattle.signatures.proofs.InRange.{is_signature_in_range}
 use Rattle.verdicts.specs.Laws.{Agree, HaveOneTag, IsTagOfTwo, OneTagAgrees, OneTagAgreesWhereAlone, base_of}

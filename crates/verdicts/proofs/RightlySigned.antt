@@ -8,7 +8,7 @@ use Rattle.component_values.proofs.FirstLacks.{have_one_list, none_lacks}
 use Rattle.derived_values.specs.declared.lack.Lack.{Lack}
 use Rattle.derived_values.specs.declared.lack.Lack.TheVariants as lack
 use Rattle.hmac_sha256.specs.Hmac.{hmac}
-use Rattle.sig_base.specs.SignatureBase.{signature_base}
+use Rattle.signatures.specs.SignatureBase.{signature_base}
 use Rattle.signatures.specs.declared.place.Place.{Place}
 use Rattle.signatures.specs.declared.place.Place.TheVariants.{Identifier}
 use Rattle.signatures.specs.declared.rule.Rule.{Rule}

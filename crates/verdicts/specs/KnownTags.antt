@@ -5,7 +5,7 @@ use Rattle.component_values.specs.Context.{MessageContext}
 use Rattle.component_values.specs.Values.{HaveValues}
 use Rattle.hmac_sha256.specs.Hmac.{hmac}
 use Rattle.settings.specs.Configuration.{Configuration}
-use Rattle.sig_base.specs.SignatureBase.{signature_base}
+use Rattle.signatures.specs.SignatureBase.{signature_base}
 use Rattle.signatures.specs.Signatures.{HasSignature}
 use Rattle.verdicts.specs.Parameters.{keyid_of}
 use Rattle.verdicts.specs.Rules.{key_in}

@@ -10,7 +10,7 @@ use Rattle.component_values.specs.Alike.{ComesToSame}
 use Rattle.component_values.specs.Context.{context_with}
 use Rattle.component_values.specs.Laws.{HasMessages}
 use Rattle.component_values.specs.Values.{HaveValues}
-use Rattle.sig_base.specs.SignatureBase.{signature_base}
+use Rattle.signatures.specs.SignatureBase.{signature_base}
 use Rattle.hmac_sha256.specs.Hmac.{hmac}
 use Rattle.settings.specs.Configuration.{Configuration}
 use Rattle.settings.specs.declared.policy.Policy.{Policy}

@@ -3,7 +3,7 @@
 ghost use Rattle.std.specs.Prelude.{◌≡◌, ◌<◌, ◌↔◌, ◌++◌, ℕ, List, IsTrue, length};
 ghost use Rattle.component_ids.specs.SignatureParams.{are_sig_params_in_range};
 ghost use Rattle.component_ids.specs.declared.params.SigParams.{SigParams};
-ghost use Rattle.sig_base.specs.SignatureBase.{signature_base};
+ghost use Rattle.signatures.specs.SignatureBase.{signature_base};
 ghost use Rattle.hmac_sha256.specs.Hmac.{hmac, key_block};
 ghost use Rattle.hmac_sha256.specs.State.{HasAbsorbed};
 ghost use Rattle.component_values.specs.Faults.{HasIndexBelow};
@@ -15,8 +15,7 @@ use crate::known_tag::SignedLabel;
 use component_ids::ComponentId;
 use component_values::{Lack, Prepared, ValueFault};
 use hmac_sha256::{Hmac, HmacKey, same_tag};
-use sig_base::feed_base;
-use signatures::{Exchange, LabelFault, LabelRead, Place, Rule};
+use signatures::{Exchange, LabelFault, LabelRead, Place, Rule, feed_base};
 use std::alloc::Global;
 
 /// The rule of a component that lacks a value so.

@@ -13,8 +13,8 @@ use Rattle.byte_grammar.specs.Classes.{is_digit, is_line_byte}
 use Rattle.msg_head.specs.Lines.{FieldLine, IsLine}
 use Rattle.msg_head.specs.RawValues.{IsRaw}
 use Rattle.msg_head.proofs.LineBytes.{line_byte_of}
-use Rattle.chunks.specs.Chunks.{Chunks, content_of}
-use Rattle.chunks.specs.declared.limits.TheConstants.{MAX_CONTENT_BYTES}
+use Rattle.framing.specs.Chunks.{Chunks, content_of}
+use Rattle.framing.specs.declared.chunk_limits.TheConstants.{MAX_CONTENT_BYTES}
 use Rattle.framing.specs.declared.kind.Framing.{Framing}
 use Rattle.framing.specs.declared.kind.Framing.TheVariants.{None, Length, Chunked, ToEnd}
 use Rattle.msg_body.specs.Bodies.{Body, plain, chunked, content_in}
@@ -25,12 +25,12 @@ use Rattle.rewrite_script.specs.declared.rewrite.WholeRewrite.TheVariants.{Rechu
 use Rattle.line_rewrites.specs.Sound.{IsSoundBody, IsSoundMessage}
 use Rattle.line_rewrites.proofs.Texts.{sound_where_read}
 use Rattle.whole_rewrites.specs.Content.{IsChunked, IsDechunked, IsRechunked, IsSentAs, coding_line, framed, length_line}
-use Rattle.chunks.specs.Sizes.{IsInChunks, add_up_to, are_some, sized_chunks}
+use Rattle.framing.specs.Sizes.{IsInChunks, add_up_to, are_some, sized_chunks}
 use Rattle.whole_rewrites.specs.Laws.{IsOfMessages}
 use Rattle.whole_rewrites.specs.Lines.{IsLineFor}
 use Rattle.whole_rewrites.specs.tools.Kinds.{DependsOn, IsExactKind, KeepsContent, MakesOne, MakesOrNot, MakesSoundOrNot}
-use Rattle.chunks.proofs.SizeLaws.{chunks_are, in_chunks, sizes_fit}
-use Rattle.chunks.proofs.SizedChunks.{in_chunks_content, in_chunks_some, in_chunks_sound}
+use Rattle.framing.proofs.SizeLaws.{chunks_are, in_chunks, sizes_fit}
+use Rattle.framing.proofs.SizedChunks.{in_chunks_content, in_chunks_some, in_chunks_sound}
 use Rattle.whole_rewrites.proofs.ContentLists.{line_for_or_not, one_line_for}
 
 -- ---- bodies

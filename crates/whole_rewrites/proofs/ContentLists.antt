@@ -7,7 +7,7 @@ use Rattle.std.proofs.Math.Seq.{take-append_seam, drop-append_seam}
 use Rattle.msg_head.specs.Lines.{FieldLine}
 use Rattle.msg_head.specs.Names.{has_name}
 use Rattle.msg_head.specs.Values.{is_there}
-use Rattle.field_values.specs.SameFields.{name_of}
+use Rattle.msg_body.specs.SameFields.{name_of}
 use Rattle.whole_rewrites.specs.Lines.{IsLineFor}
 use Rattle.whole_rewrites.specs.tools.HeadLines.{IsOnly}
 

@@ -4,7 +4,7 @@ use Rattle.std.proofs.lemmas.Bool.{and_parts, and_from, false≢true}
 use Rattle.msg_head.specs.Heads.{head_text}
 use Rattle.msg_head.specs.Trailers.{trailer_text}
 use Rattle.msg_head.specs.declared.error.Side.TheVariants.{Header}
-use Rattle.chunks.specs.Chunks.{Chunks, chunks_text, content_of}
+use Rattle.framing.specs.Chunks.{Chunks, chunks_text, content_of}
 use Rattle.framing.specs.declared.kind.Framing.{Framing}
 use Rattle.framing.specs.declared.kind.Framing.TheVariants.{Length, Chunked}
 use Rattle.framing.specs.Framings.{content_length_of}
@@ -16,9 +16,9 @@ use Rattle.rewrite_script.specs.declared.rewrite.WholeRewrite.TheVariants.{Rechu
 use Rattle.line_rewrites.specs.Sides.{body_after, has_trailers, lines_text, side_parts}
 use Rattle.whole_rewrites.specs.Content.{IsChunked, IsDechunked, IsRechunked, coding_line, framed, length_line}
 use Rattle.whole_rewrites.specs.tools.HeadLines.{HasNoOnly, IsOnly, head_in, head_with, with_line_at}
-use Rattle.chunks.specs.Sizes.{add_up_to, are_some, sized_chunks}
+use Rattle.framing.specs.Sizes.{add_up_to, are_some, sized_chunks}
 use Rattle.whole_rewrites.specs.tools.Judged.{IsOffered}
-use Rattle.chunks.proofs.SizeLaws.{in_chunks, sizes_fit}
+use Rattle.framing.proofs.SizeLaws.{in_chunks, sizes_fit}
 use Rattle.whole_rewrites.proofs.ContentLists.{line_for}
 use Rattle.whole_rewrites.proofs.ContentKinds.{chunked_is_sound, chunked_some, dechunked_is_sound, rechunked_is_sound, rechunked_some}
 

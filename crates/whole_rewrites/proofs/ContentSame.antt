@@ -8,12 +8,12 @@ use Rattle.msg_head.specs.Lines.{FieldLine}
 use Rattle.msg_head.specs.Names.{has_name}
 use Rattle.msg_head.specs.declared.error.Side.{Side}
 use Rattle.msg_head.specs.declared.error.Side.TheVariants.{Header, Trailer}
-use Rattle.chunks.specs.Chunks.{content_of}
+use Rattle.framing.specs.Chunks.{content_of}
 use Rattle.msg_body.specs.Bodies.{Body, plain, chunked, trailers_in}
 use Rattle.msg_body.specs.Messages.{Message}
 use Rattle.msg_body.specs.Views.{lines_on, message_content}
-use Rattle.field_values.specs.SameFields.{HasSameField, HasSameValues}
-use Rattle.field_values.proofs.LineLists.{keeps_other_names_around}
+use Rattle.msg_body.specs.SameFields.{HasSameField, HasSameValues}
+use Rattle.msg_body.proofs.LineLists.{keeps_other_names_around}
 use Rattle.component_ids.specs.Table.{has_param}
 use Rattle.component_ids.specs.declared.id.ComponentId.{ComponentId}
 use Rattle.component_ids.specs.declared.params.SigParams.{SigParams}

@@ -6,7 +6,7 @@ use Rattle.std.proofs.lemmas.Slice.Eq.{bytes_eq-Decides}
 use Rattle.msg_head.specs.Lines.{FieldLine}
 use Rattle.msg_head.specs.Names.{has_name}
 use Rattle.msg_head.specs.Values.{is_there}
-use Rattle.field_values.specs.SameFields.{name_of}
+use Rattle.msg_body.specs.SameFields.{name_of}
 
 -- ---- names
 

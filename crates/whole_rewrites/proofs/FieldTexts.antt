@@ -19,7 +19,7 @@ use Rattle.derived_values.specs.declared.lack.Lack.{Lack}
 use Rattle.component_values.specs.Context.{MessageContext, answers_head}
 use Rattle.component_values.specs.Values.{KindRow}
 use Rattle.component_values.proofs.RowLaws.{kind_one}
-use Rattle.field_values.specs.SameFields.{name_of}
+use Rattle.msg_body.specs.SameFields.{name_of}
 use Rattle.rewrite_script.specs.Lines.{is_whole_writable}
 use Rattle.rewrite_script.specs.declared.rewrite.WholeRewrite.TheVariants.{AddLabel, Host, Resf}
 use Rattle.line_rewrites.specs.declared.fault.ApplyFault.TheVariants.{NotApplicable}

@@ -6,8 +6,8 @@ use Rattle.std.proofs.lemmas.Slice.Eq.{bytes_eq-Decides}
 use Rattle.msg_head.specs.Lines.{FieldLine}
 use Rattle.msg_head.specs.Names.{has_name}
 use Rattle.msg_head.specs.Values.{is_there, value, values}
-use Rattle.field_values.specs.SameFields.{HasSameValues, name_of}
-use Rattle.field_values.proofs.LineLists.{keeps_other_names_around}
+use Rattle.msg_body.specs.SameFields.{HasSameValues, name_of}
+use Rattle.msg_body.proofs.LineLists.{keeps_other_names_around}
 use Rattle.line_rewrites.specs.LineLists.{line_of}
 use Rattle.whole_rewrites.specs.Lines.{IsInOneLine, IsLineFor, IsOtherHost}
 

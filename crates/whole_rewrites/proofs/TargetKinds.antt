@@ -11,10 +11,10 @@ use Rattle.byte_grammar.proofs.ListLaws.{all_implied, all_joined, all_parts}
 use Rattle.msg_head.specs.Starts.{RequestLine, StartLine, is_target, request, status}
 use Rattle.msg_body.specs.Messages.{Message}
 use Rattle.msg_body.specs.Views.{lines_on}
-use Rattle.targets.specs.declared.target.Form.{Form}
-use Rattle.targets.specs.declared.target.Form.TheVariants.{Origin as OriginForm, Absolute as AbsoluteForm, Authority as AuthorityForm, Asterisk as AsteriskForm}
-use Rattle.targets.specs.Targets.{SpellsTarget, TargetParts, has_path, is_absolute_path, is_scheme, query_text}
-use Rattle.targets.proofs.Visible.{has_visible_parts, has_visible_value}
+use Rattle.derived_values.specs.declared.target.Form.{Form}
+use Rattle.derived_values.specs.declared.target.Form.TheVariants.{Origin as OriginForm, Absolute as AbsoluteForm, Authority as AuthorityForm, Asterisk as AsteriskForm}
+use Rattle.derived_values.specs.Targets.{SpellsTarget, TargetParts, has_path, is_absolute_path, is_scheme, query_text}
+use Rattle.derived_values.proofs.Visible.{has_visible_parts, has_visible_value}
 use Rattle.component_ids.specs.declared.scheme.Scheme.{Scheme}
 use Rattle.component_ids.specs.declared.scheme.Scheme.TheVariants.{Http, Https}
 use Rattle.derived_values.specs.Derived.{AuthorityRow, RequestParts, StartRow, named_authority, scheme_of, scheme_text}

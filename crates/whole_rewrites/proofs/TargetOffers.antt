@@ -3,7 +3,7 @@ use Rattle.std.proofs.Common.{◌≡◌, ℕ, true, Option, Some, None, Result, 
 use Rattle.std.proofs.lemmas.Bool.{cases_Bool}
 use Rattle.msg_head.specs.Starts.{RequestLine, is_target, request, request_text}
 use Rattle.msg_body.specs.Messages.{IsMessage, Spells}
-use Rattle.targets.specs.Targets.{SpellsTarget, TargetParts, has_path, query_of, query_text}
+use Rattle.derived_values.specs.Targets.{SpellsTarget, TargetParts, has_path, query_of, query_text}
 use Rattle.std.specs.Prelude.{codes}
 use Rattle.sfv_text.specs.declared.pair.Pair.{Pair}
 use Rattle.sfv_text.specs.declared.value.BareItem.{BareItem}

@@ -1,11 +1,11 @@
 -- Whether two texts are authorities of one value: by their hosts in lower case and the ports that are kept.
 use Rattle.std.proofs.Common.{◌≡◌, ◌↔◌, inl, inr, ℕ, List, ◌++◌, refl, sym, subst, ◌∙◌}
 use Rattle.std.specs.Str.{str_to_ascii_lowercase}
-use Rattle.targets.specs.Authorities.{AuthorityParts, IsAuthority, IsAuthorityFor, IsAuthorityValue, authority_text, port_text}
-use Rattle.targets.proofs.AuthorityParts.{one_authority, one_authority_value}
-use Rattle.targets.proofs.AuthorityValues.{has_parts_in_value}
-use Rattle.targets.proofs.Decided.{authority_is_decided}
-use Rattle.targets.proofs.Schemes.{scheme_in_any_case}
+use Rattle.derived_values.specs.Authorities.{AuthorityParts, IsAuthority, IsAuthorityFor, IsAuthorityValue, authority_text, port_text}
+use Rattle.derived_values.proofs.AuthorityParts.{one_authority, one_authority_value}
+use Rattle.derived_values.proofs.AuthorityValues.{has_parts_in_value}
+use Rattle.derived_values.proofs.Decided.{authority_is_decided}
+use Rattle.derived_values.proofs.Schemes.{scheme_in_any_case}
 use Rattle.whole_rewrites.specs.Targets.{AreOneAuthority}
 use Rattle.whole_rewrites.specs.tools.Requests.{HaveOneValue}
 use Rattle.whole_rewrites.proofs.TargetPermitTests.{HoldsOrNot, texts_or_not}

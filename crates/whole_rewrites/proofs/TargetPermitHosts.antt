@@ -11,8 +11,8 @@ use Rattle.msg_head.specs.Starts.{RequestLine}
 use Rattle.msg_head.specs.Values.{has_bytes, is_end, value, values, without_blanks}
 use Rattle.msg_body.specs.Messages.{Message}
 use Rattle.msg_body.specs.Views.{lines_on}
-use Rattle.targets.specs.Targets.{TargetParts}
-use Rattle.targets.proofs.Visible.{has_visible_text}
+use Rattle.derived_values.specs.Targets.{TargetParts}
+use Rattle.derived_values.proofs.Visible.{has_visible_text}
 use Rattle.derived_values.specs.Derived.{scheme_text}
 use Rattle.component_values.specs.Context.{MessageContext}
 use Rattle.whole_rewrites.specs.Permitted.{HasOneHost, IsSameHost, NamesHost}

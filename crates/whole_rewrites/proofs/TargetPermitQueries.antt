@@ -6,8 +6,8 @@ use Rattle.std.proofs.lemmas.List.Elements.{All-nil, All-cons, All-head, All-tai
 use Rattle.msg_body.specs.Messages.{Message}
 use Rattle.component_ids.specs.declared.id.ComponentId.{ComponentId}
 use Rattle.component_ids.specs.declared.params.SigParams.{SigParams}
-use Rattle.targets.specs.Query.{matches}
-use Rattle.targets.specs.Targets.{TargetParts, query_of}
+use Rattle.derived_values.specs.Query.{matches}
+use Rattle.derived_values.specs.Targets.{TargetParts, query_of}
 use Rattle.derived_values.specs.Derived.{param_name}
 use Rattle.whole_rewrites.specs.Conditions.{KeepsParamIn, query_param_names}
 use Rattle.whole_rewrites.specs.Covered.{covers_one_of, is_own_of}

@@ -2,9 +2,9 @@
 use Rattle.std.proofs.Common.{◌≡◌, ◌⊎◌, ◌↔◌, ℕ, Some, List, [], Ok, refl, sym, ap, subst, ◌∙◌, inl, inr, codes}
 use Rattle.msg_head.specs.Starts.{RequestLine, StartLine, request, status}
 use Rattle.msg_body.specs.Messages.{Message}
-use Rattle.targets.specs.Targets.{TargetParts}
-use Rattle.targets.proofs.StartTargets.{is_one_request, is_request_or_not}
-use Rattle.targets.proofs.TargetParts.{one_target}
+use Rattle.derived_values.specs.Targets.{TargetParts}
+use Rattle.derived_values.proofs.StartTargets.{is_one_request, is_request_or_not}
+use Rattle.derived_values.proofs.TargetParts.{one_target}
 use Rattle.derived_values.specs.Derived.{DerivedRow}
 use Rattle.derived_values.specs.declared.derived.DerivedName.TheVariants.{OfTarget as FromTarget}
 use Rattle.derived_values.specs.declared.derived.TargetName.TheVariants.{Scheme}

@@ -11,8 +11,8 @@ use Rattle.msg_head.specs.Starts.{IsRequestLine, IsStartLine, RequestLine, Start
 use Rattle.msg_body.specs.Bodies.{body_text}
 use Rattle.msg_body.specs.Messages.{IsMessage, Message, message_text}
 use Rattle.msg_body.specs.Views.{message_content}
-use Rattle.targets.specs.Targets.{SpellsTarget, TargetParts}
-use Rattle.targets.proofs.StartTargets.{is_one_request, is_request_or_not}
+use Rattle.derived_values.specs.Targets.{SpellsTarget, TargetParts}
+use Rattle.derived_values.proofs.StartTargets.{is_one_request, is_request_or_not}
 use Rattle.component_values.specs.Context.{MessageContext, answers_head}
 use Rattle.line_rewrites.specs.Sound.{Fits, IsSoundMessage}
 use Rattle.line_rewrites.specs.Steps.{with_head}

@@ -8,7 +8,7 @@ use Rattle.msg_head.specs.Starts.{RequestLine}
 use Rattle.framing.specs.Framings.{is_request}
 use Rattle.msg_body.specs.Messages.{IsMessage, Message, message_text}
 use Rattle.msg_body.specs.Views.{message_content}
-use Rattle.targets.specs.Targets.{TargetParts}
+use Rattle.derived_values.specs.Targets.{TargetParts}
 use Rattle.component_values.specs.Context.{MessageContext, answers_head}
 use Rattle.rewrite_script.specs.Lines.{is_whole_writable}
 use Rattle.rewrite_script.specs.declared.rewrite.WholeRewrite.{WholeRewrite}

@@ -4,8 +4,8 @@ use Rattle.std.specs.Prelude.{◌≡◌, ℕ, Bool, List, [], length, codes}
 use Rattle.std.specs.Fmt.{decimal}
 use Rattle.msg_head.specs.Heads.{Head}
 use Rattle.msg_head.specs.Lines.{FieldLine}
-use Rattle.chunks.specs.Chunks.{Chunks, content_of}
-use Rattle.chunks.specs.Sizes.{IsInChunks}
+use Rattle.framing.specs.Chunks.{Chunks, content_of}
+use Rattle.framing.specs.Sizes.{IsInChunks}
 use Rattle.framing.specs.declared.kind.Framing.TheVariants.{Length}
 use Rattle.framing.specs.Framings.{framing_of}
 use Rattle.msg_body.specs.Bodies.{Body, plain, chunked}

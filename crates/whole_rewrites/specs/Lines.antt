@@ -5,7 +5,7 @@ use Rattle.msg_head.specs.Lines.{FieldLine}
 pub use Rattle.msg_head.specs.Lines.{member_line}
 use Rattle.msg_head.specs.Names.{has_name}
 use Rattle.msg_head.specs.Values.{combined_value, is_there}
-use Rattle.field_values.specs.SameFields.{name_of}
+use Rattle.msg_body.specs.SameFields.{name_of}
 use Rattle.component_ids.specs.declared.types.FieldKind.{FieldKind}
 use Rattle.component_values.specs.Values.{KindRow}
 use Rattle.line_rewrites.specs.LineLists.{line_of}

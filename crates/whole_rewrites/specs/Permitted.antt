@@ -10,8 +10,8 @@ use Rattle.msg_head.specs.declared.error.Side.TheVariants.{Header}
 use Rattle.msg_head.specs.Values.{value, values}
 use Rattle.msg_body.specs.Messages.{Message}
 use Rattle.msg_body.specs.Views.{lines_on}
-use Rattle.targets.specs.Targets.{TargetParts, query_of}
-use Rattle.targets.specs.Query.{matches}
+use Rattle.derived_values.specs.Targets.{TargetParts, query_of}
+use Rattle.derived_values.specs.Query.{matches}
 use Rattle.component_ids.specs.Table.{is_listed}
 use Rattle.component_ids.specs.declared.id.ComponentId.{ComponentId}
 use Rattle.component_ids.specs.declared.params.SigParams.{SigParams}

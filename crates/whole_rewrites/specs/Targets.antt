@@ -3,9 +3,9 @@
 use Rattle.std.specs.Prelude.{◌≡◌, ℕ, IsTrue, Option, Some, unwrap_or, List, [], ◌++◌, drop, codes}
 use Rattle.msg_head.specs.Starts.{RequestLine, request}
 use Rattle.msg_body.specs.Messages.{Message}
-use Rattle.targets.specs.declared.target.Form.TheVariants.{Origin as OriginForm, Absolute as AbsoluteForm}
-use Rattle.targets.specs.Targets.{IsRequestOf, TargetParts, has_path, path_of, query_text}
-use Rattle.targets.specs.Authorities.{IsAuthorityValue}
+use Rattle.derived_values.specs.declared.target.Form.TheVariants.{Origin as OriginForm, Absolute as AbsoluteForm}
+use Rattle.derived_values.specs.Targets.{IsRequestOf, TargetParts, has_path, path_of, query_text}
+use Rattle.derived_values.specs.Authorities.{IsAuthorityValue}
 use Rattle.component_ids.specs.declared.id.ComponentId.{ComponentId}
 use Rattle.derived_values.specs.Derived.{scheme_text}
 use Rattle.component_values.specs.Context.{MessageContext, answers_head}

@@ -7,8 +7,8 @@ use crate::covered::covers_unread;
 use crate::permit_field::{is_framing_uncovered, is_host_uncovered, rests_on};
 use crate::permit_target::{is_query_kept, is_query_uncovered, is_target_uncovered};
 use component_ids::SigParams;
+use derived_values::ComparedQueries;
 use msg_head::Side;
-use targets::ComparedQueries;
 
 /// What a rewriting of the whole message asks of a signature that is to stay, where all is judged
 /// that rests on no signature.

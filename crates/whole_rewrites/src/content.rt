@@ -3,8 +3,8 @@
 
 ghost use Rattle.std.specs.Prelude.{◌≡◌, ◌+◌, ◌^◌, ◌<◌, ◌≤◌, ◌++◌, IfSome, MatchOption, OnOk, IsTrue, IsFalse, length, drop};
 ghost use Rattle.std.specs.List.{list_all};
-ghost use Rattle.chunks.specs.Chunks.{chunks_text};
-ghost use Rattle.chunks.specs.Sizes.{add_up_to, sized_chunks};
+ghost use Rattle.framing.specs.Chunks.{chunks_text};
+ghost use Rattle.framing.specs.Sizes.{add_up_to, sized_chunks};
 ghost use Rattle.component_values.specs.Context.{HasWholeMessage, context_of};
 ghost use Rattle.line_rewrites.specs.LineLists.{line_of};
 ghost use Rattle.line_rewrites.specs.Sides.{side_parts};
@@ -17,9 +17,8 @@ ghost use Rattle.whole_rewrites.specs.Content.{length_line};
 ghost use Rattle.whole_rewrites.specs.tools.HeadLines.{HasNoOnly, IsNextNamed, IsOnly, head_in, head_with};
 ghost use Rattle.whole_rewrites.specs.tools.Judged.{Offers};
 
-use chunks::{append_chunks, are_chunk_sizes};
 use component_values::Context;
-use framing::Framing;
+use framing::{Framing, append_chunks, are_chunk_sizes};
 use line_rewrites::{ApplyFault, SideLines, append_text_line};
 use msg_body::MessageView;
 use msg_head::Side;

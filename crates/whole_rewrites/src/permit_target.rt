@@ -9,8 +9,8 @@ ghost use Rattle.component_values.specs.Context.{context_of};
 ghost use Rattle.msg_body.specs.Views.{message_of};
 ghost use Rattle.msg_head.specs.Starts.{RequestLine};
 ghost use Rattle.rewrite_script.specs.declared.rewrite.WholeRewrite.TheVariants.{Host, Origin};
-ghost use Rattle.targets.specs.Targets.{TargetParts};
-ghost use Rattle.targets.specs.Views.{authority_parts, parts_of};
+ghost use Rattle.derived_values.specs.Targets.{TargetParts};
+ghost use Rattle.derived_values.specs.Views.{authority_parts, parts_of};
 ghost use Rattle.whole_rewrites.specs.Conditions.{IsMetBy, KeepsParamIn, query_param_names};
 ghost use Rattle.whole_rewrites.specs.Covered.{covers_one_of};
 ghost use Rattle.whole_rewrites.specs.Permitted.{HasOneHost, IsSameHost, MayChangeQuery, MayChangeTarget, NamesHost, PermitsWhole, whole_query_names};
@@ -22,12 +22,13 @@ use crate::covered::{covers_one_of, is_own_of};
 use crate::target::target_line_of;
 use component_ids::{ComponentId, SigParams};
 use component_values::Context;
-use derived_values::{param_name, scheme_text};
+use derived_values::{
+    Authority, ComparedQueries, Target, authority_of, param_name, query_of, scheme_text,
+};
 use msg_body::MessageView;
 use msg_head::{LineView, Side};
 use sfv_text::{Memory, Text};
 use std::alloc::Global;
-use targets::{Authority, ComparedQueries, Target, authority_of, query_of};
 
 // ---- requests
 

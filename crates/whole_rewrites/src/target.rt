@@ -8,21 +8,22 @@ ghost use Rattle.msg_head.specs.Starts.{RequestLine, request, request_text};
 ghost use Rattle.msg_head.specs.declared.limits.TheConstants.{MAX_HEAD_BYTES};
 ghost use Rattle.rewrite_script.specs.Lines.{is_query};
 ghost use Rattle.rewrite_script.specs.declared.rewrite.WholeRewrite.TheVariants.{Absolute, Origin, Query};
-ghost use Rattle.targets.specs.Targets.{SpellsTarget, TargetParts, query_text};
-ghost use Rattle.targets.specs.Views.{parts_of, request_line_of};
+ghost use Rattle.derived_values.specs.Targets.{SpellsTarget, TargetParts, query_text};
+ghost use Rattle.derived_values.specs.Views.{parts_of, request_line_of};
 ghost use Rattle.whole_rewrites.specs.Targets.{HasTarget, HasOtherQuery, IsOriginOf};
 ghost use Rattle.whole_rewrites.specs.tools.Judged.{Offers};
 ghost use Rattle.whole_rewrites.specs.tools.Retargeted.{NamesAuthority, Retargets, new_target_text};
 
 use component_ids::ComponentId;
 use component_values::Context;
-use derived_values::{NoValue, derived_value, scheme_text};
+use derived_values::{
+    Form, NoValue, Target, TargetLine, derived_value, path_of, query_of, scheme_text, target_line,
+};
 use line_rewrites::ApplyFault;
 use msg_body::MessageView;
 use msg_head::MAX_HEAD_BYTES;
 use sfv_text::{Memory, Params, Text};
 use std::alloc::Global;
-use targets::{Form, Target, TargetLine, path_of, query_of, target_line};
 
 /// The line of the request; None of a response, and where the target is in no form.
 pub(crate) fn target_line_of<'m>(message: &MessageView<'m>) -> Option<TargetLine<'m>>

@@ -7,7 +7,7 @@ use Rattle.rewrite_script.specs.declared.rewrite.Rewrite.{Rewrite}
 use Rattle.settings.specs.declared.gateway_conf.GatewayConf.{GatewayConf}
 use Rattle.conf.specs.declared.fault.ConfFault.{ConfFault}
 use Rattle.conf.specs.declared.fault.ConfFault.TheVariants as fault
-use Rattle.conf_keys.specs.declared.table.TableName.TheVariants.{Gateway}
+use Rattle.conf_values.specs.declared.table.TableName.TheVariants.{Gateway}
 use Rattle.conf.specs.Table.{has_place, members_at}
 use Rattle.conf_values.specs.Parts.{values_of}
 use Rattle.conf_values.specs.Values.{IsBadStep, IsStepText, are_texts}

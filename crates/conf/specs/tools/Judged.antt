@@ -8,10 +8,10 @@ use Rattle.conf.specs.declared.fault.ConfFault.TheVariants as fault
 use Rattle.conf.specs.declared.judge.RowFault.{RowFault}
 use Rattle.conf.specs.declared.judge.ValueTest.{ValueTest}
 use Rattle.conf.specs.declared.judge.ValueTest.TheVariants.{HasType, IsAllowed}
-use Rattle.conf_keys.specs.declared.table.ValueRule.{ValueRule}
+use Rattle.conf_values.specs.declared.table.ValueRule.{ValueRule}
 use Rattle.conf_values.specs.Values.{has_type, is_allowed}
 use Rattle.conf.specs.declared.judge.RowFault.TheVariants.{WrongType, OutOfRange, Missing}
-use Rattle.conf_keys.specs.declared.table.TableName.{TableName}
+use Rattle.conf_values.specs.declared.table.TableName.{TableName}
 use Rattle.conf.specs.Table.{Row, rows, places, place_path, has_unknown, is_missing}
 use Rattle.conf.specs.Paths.{HoldsOfNone}
 use Rattle.conf.specs.Rows.{is_ill_typed, is_out_of_range}

@@ -3,10 +3,10 @@ use Rattle.std.specs.Prelude.{◌≡◌, Option, Some, List, [], ◌∷◌, code
 use Rattle.std.specs.List.{AllZip}
 use Rattle.toml.specs.Data.{Data, Members, get_member}
 use Rattle.component_ids.specs.declared.id.ComponentId.{ComponentId}
-use Rattle.conf_keys.specs.declared.table.TableName.TheVariants.{Policy as PolicyTable}
-use Rattle.conf_keys.specs.declared.table.ValueRule.TheVariants as rule
-use Rattle.conf_keys.specs.declared.table.Version.{Version}
-use Rattle.conf_keys.specs.declared.table.Version.TheVariants.{One, Two}
+use Rattle.conf_values.specs.declared.table.TableName.TheVariants.{Policy as PolicyTable}
+use Rattle.conf_values.specs.declared.table.ValueRule.TheVariants as rule
+use Rattle.conf_values.specs.declared.table.Version.{Version}
+use Rattle.conf_values.specs.declared.table.Version.TheVariants.{One, Two}
 use Rattle.conf.specs.Table.{members_at, version_in}
 use Rattle.conf_values.specs.Values.{number_or}
 use Rattle.conf.specs.Sections.{asked_tag, digest_use_of, is_required, nonce_use_of, policy_tables, selected_tag}

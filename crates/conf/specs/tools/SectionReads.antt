@@ -3,9 +3,9 @@ use Rattle.std.specs.Prelude.{◌≡◌, ℕ, Option, Some, IsTrue, List, [], co
 use Rattle.std.specs.List.{AllByRecursion, Any}
 use Rattle.toml.specs.Data.{Data, Members, string, get_member}
 use Rattle.component_ids.specs.declared.id.ComponentId.{ComponentId}
-use Rattle.conf_keys.specs.declared.table.TableName.{TableName}
-use Rattle.conf_keys.specs.declared.table.TableName.TheVariants.{Policies, Policy, Sign}
-use Rattle.conf_keys.specs.declared.table.ValueRule.TheVariants as rule
+use Rattle.conf_values.specs.declared.table.TableName.{TableName}
+use Rattle.conf_values.specs.declared.table.TableName.TheVariants.{Policies, Policy, Sign}
+use Rattle.conf_values.specs.declared.table.ValueRule.TheVariants as rule
 use Rattle.conf.specs.Table.{HoldsOfValue, rows, row_value, members_at, tables_at, version_in, is_missing}
 use Rattle.settings.specs.ReadList.{IsReadList}
 use Rattle.conf.specs.Sections.{ArePolicies, HasGateway, HasSign}

@@ -4,7 +4,7 @@ use Rattle.toml.specs.Data.{as_array, get_member}
 use Rattle.toml.specs.View.{array_view, table_view}
 use Rattle.conf_values.specs.Views.{table_members}
 use Rattle.conf.specs.declared.members.FixedTables.{FixedTables}
-use Rattle.conf_keys.specs.declared.table.TableName.TheVariants.{Gateway, Policy, Sign}
+use Rattle.conf_values.specs.declared.table.TableName.TheVariants.{Gateway, Policy, Sign}
 use Rattle.conf.specs.Table.{has_place, members_at, version_in}
 
 -- the tables are those of the document

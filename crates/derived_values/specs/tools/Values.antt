@@ -1,10 +1,10 @@
 -- The text of a value, by its parts. No public clause cites this module but the view of a value.
 use Rattle.std.specs.Prelude.{⊤, ℕ, List, ◌∷◌, ◌++◌, codes, Result, Ok, Err, option_map}
 use Rattle.std.specs.Str.{byte, str_to_ascii_lowercase}
-use Rattle.targets.specs.declared.authority.Authority.{Authority}
-use Rattle.targets.specs.Authorities.{authority_text}
-use Rattle.targets.specs.Targets.{query_text}
-use Rattle.targets.specs.Views.{authority_parts}
+use Rattle.derived_values.specs.declared.authority.Authority.{Authority}
+use Rattle.derived_values.specs.Authorities.{authority_text}
+use Rattle.derived_values.specs.Targets.{query_text}
+use Rattle.derived_values.specs.Views.{authority_parts}
 use Rattle.derived_values.specs.declared.lack.Lack.{Lack}
 use Rattle.derived_values.specs.declared.lack.NoValue.{NoValue}
 use Rattle.derived_values.specs.declared.lack.NoValue.TheVariants.{Memory, Lacks}

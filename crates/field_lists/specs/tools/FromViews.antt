@@ -1,7 +1,7 @@
 -- What a message gives for its list, part by part. No public clause cites this module.
 use Rattle.std.specs.Prelude.{◌≡◌, ◌≢◌, ⊤, ℕ, IsTrue, is_err, Option, Some, None, List, Result, Ok, Err}
-use Rattle.targets.specs.Authorities.{IsAuthorityValue}
-use Rattle.targets.specs.Targets.{TargetParts, SpellsTarget, has_path}
+use Rattle.derived_values.specs.Authorities.{IsAuthorityValue}
+use Rattle.derived_values.specs.Targets.{TargetParts, SpellsTarget, has_path}
 use Rattle.derived_values.specs.declared.lack.Lack.{Lack}
 use Rattle.derived_values.specs.Derived.{AuthorityRow, TargetAuthorityRow}
 use Rattle.component_values.specs.Context.{MessageContext}

@@ -12,9 +12,9 @@ use Rattle.rewrite_script.specs.declared.rewrite.LineRewrite.{LineRewrite}
 use Rattle.rewrite_script.specs.declared.rewrite.LineRewrite.TheVariants.{Pad, Fold, Unfold, Join, Split, Move, Case, Add, Remove}
 use Rattle.line_rewrites.specs.declared.raw.RawParts.{RawParts}
 use Rattle.line_rewrites.specs.declared.line.NewLine.{NewLine}
-use Rattle.field_values.specs.SameFields.{name_of}
+use Rattle.msg_body.specs.SameFields.{name_of}
 use Rattle.line_rewrites.specs.LineLists.{line_of}
-use Rattle.field_values.specs.Spacing.{is_solid}
+use Rattle.msg_body.specs.Spacing.{is_solid}
 pub use Rattle.line_rewrites.specs.RawValues.{without_first_spacing, without_last_spacing}
 use Rattle.line_rewrites.specs.Sides.{SideParts, text_with, side_parts, has_side}
 

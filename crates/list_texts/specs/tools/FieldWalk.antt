@@ -6,7 +6,7 @@ use Rattle.byte_grammar.specs.Language.{starts_in}
 use Rattle.byte_grammar.specs.Walk.{Reader, ◌>>=◌}
 use Rattle.byte_grammar.specs.tools.CountedWalk.{is_end, literal_read, number_read, bytes_read, counted_read}
 use Rattle.byte_grammar.specs.tools.Walks.{optional_read, turns_read}
-use Rattle.chunks.specs.declared.limits.TheConstants.{MAX_CONTENT_BYTES}
+use Rattle.framing.specs.declared.chunk_limits.TheConstants.{MAX_CONTENT_BYTES}
 use Rattle.list_texts.specs.declared.limits.TheConstants.{MAX_FIELD_BYTES}
 use Rattle.list_texts.specs.declared.list.Field.{Field}
 use Rattle.list_texts.specs.declared.list.FieldList.{FieldList}

@@ -3,9 +3,9 @@ use Rattle.std.specs.Prelude.{◌≡◌, ◌≢◌, ⊤, ℕ, ◌+◌, ◌<◌, 
 use Rattle.msg_head.specs.declared.error.HeadError.{HeadError}
 use Rattle.msg_head.specs.declared.error.HeadError.TheVariants as head
 use Rattle.msg_head.specs.Views.{View}
-use Rattle.chunks.specs.declared.limits.TheConstants.{MAX_CONTENT_BYTES}
-use Rattle.chunks.specs.declared.error.ChunkError.{ChunkError}
-use Rattle.chunks.specs.declared.error.ChunkError.TheVariants as chunk
+use Rattle.framing.specs.declared.chunk_limits.TheConstants.{MAX_CONTENT_BYTES}
+use Rattle.framing.specs.declared.chunk_error.ChunkError.{ChunkError}
+use Rattle.framing.specs.declared.chunk_error.ChunkError.TheVariants as chunk
 use Rattle.framing.specs.declared.kind.Framing.{Framing}
 use Rattle.framing.specs.declared.kind.Framing.TheVariants.{Chunked, ToEnd}
 use Rattle.msg_body.specs.declared.expect.Expect.{Expect}

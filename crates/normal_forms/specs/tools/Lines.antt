@@ -7,8 +7,8 @@ use Rattle.byte_grammar.specs.Language.{starts_in}
 use Rattle.msg_head.specs.declared.error.Side.{Side}
 use Rattle.msg_head.specs.Lines.{FieldLine}
 use Rattle.msg_head.specs.Values.{value}
-use Rattle.field_values.specs.SameFields.{name_of}
-use Rattle.field_values.specs.Spacing.{ends_in, is_spacing}
+use Rattle.msg_body.specs.SameFields.{name_of}
+use Rattle.msg_body.specs.Spacing.{ends_in, is_spacing}
 use Rattle.rewrite_script.specs.declared.rewrite.LineRewrite.{LineRewrite}
 use Rattle.rewrite_script.specs.declared.rewrite.LineRewrite.TheVariants.{Case, Pad}
 use Rattle.normal_forms.specs.LineSteps.{IsLowered, IsTrimmed, IsUnfoldedFirst}

@@ -1,7 +1,7 @@
 -- What an iterator over the pieces of a text has left. No public clause cites this module.
 use Rattle.std.specs.Prelude.{ℕ, List}
 use Rattle.msg_head.specs.LeftInLines.{value_left, pieces_bound}
-use Rattle.field_values.specs.LeftInFields.{combined_left, combined_bound}
+use Rattle.msg_body.specs.LeftInFields.{combined_left, combined_bound}
 use Rattle.msg_body.specs.Content.{content_left, content_bound}
 use Rattle.normal_forms.specs.declared.pieces.TextPieces.{TextPieces}
 use Rattle.normal_forms.specs.declared.pieces.TextPieces.TheVariants.{Line, Field, Content}

@@ -8,8 +8,8 @@ use Rattle.byte_grammar.specs.Language.{starts_in}
 use Rattle.msg_head.specs.declared.error.Side.{Side}
 use Rattle.msg_head.specs.Lines.{FieldLine}
 use Rattle.msg_head.specs.Values.{has_bytes, is_there, value}
-use Rattle.field_values.specs.SameFields.{name_of}
-use Rattle.field_values.specs.Spacing.{ends_in, is_spacing}
+use Rattle.msg_body.specs.SameFields.{name_of}
+use Rattle.msg_body.specs.Spacing.{ends_in, is_spacing}
 use Rattle.component_ids.specs.declared.params.SigParams.{SigParams}
 use Rattle.rewrite_script.specs.declared.rewrite.LineRewrite.{LineRewrite}
 use Rattle.rewrite_script.specs.declared.rewrite.Rewrite.{Rewrite}

@@ -1,8 +1,8 @@
 -- What is found of a request. No public clause cites this module.
 use Rattle.std.specs.Prelude.{◌≡◌, ℕ, Option, Some, option_map, unwrap_or, List, []}
 use Rattle.std.specs.Str.{str_to_ascii_lowercase}
-use Rattle.targets.specs.Authorities.{AuthorityParts}
-use Rattle.targets.specs.Targets.{TargetParts, query_of}
+use Rattle.derived_values.specs.Authorities.{AuthorityParts}
+use Rattle.derived_values.specs.Targets.{TargetParts, query_of}
 use Rattle.derived_values.specs.Derived.{scheme_text}
 use Rattle.component_values.specs.Context.{MessageContext}
 use Rattle.msg_body.specs.Messages.{Message}

@@ -3,7 +3,7 @@ use Rattle.derived_values.specs.declared.lack.Lack.TheVariants.{Absent}
 use Rattle.msg_head.specs.Names.{has_name}
 use Rattle.msg_body.specs.Views.{message_of, lines_on}
 use Rattle.component_ids.specs.Types.{kind_in}
-use Rattle.field_values.proofs.FoundLines.{none_there, some_there}
+use Rattle.msg_body.proofs.FoundLines.{none_there, some_there}
 use Rattle.component_values.specs.Forms.{Form}
 use Rattle.component_values.specs.Values.{FormRow, LineRow, side_of}
 use Rattle.component_values.specs.tools.Rows.{PlansRow}

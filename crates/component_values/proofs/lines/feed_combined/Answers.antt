@@ -1,5 +1,5 @@
 use Rattle.std.proofs.Common.{ℕ, List, ◌++◌, sym, ap, subst, ◌∙◌, append_assoc}
-use Rattle.field_values.specs.LeftInFields.{combined_left}
+use Rattle.msg_body.specs.LeftInFields.{combined_left}
 use Rattle.component_values.proofs.lines.feed_combined.Goals as goal
 
 pub loop-piece-preserved : goal.loop-piece-preserved

@@ -1,5 +1,5 @@
 use Rattle.std.proofs.Common.{◌≡◌, ℕ, List, ◌++◌}
-use Rattle.field_values.specs.LeftInFields.{combined_left}
+use Rattle.msg_body.specs.LeftInFields.{combined_left}
 use Rattle.msg_head.specs.Values.{joined_value}
 use Rattle.component_values.proofs.lines.feed_combined.Given as goal
 

@@ -1,5 +1,5 @@
 use Rattle.std.proofs.Common.{ℕ, List, ◌++◌, sym, ap, ◌∙◌, append_assoc}
-use Rattle.field_values.specs.LeftInFields.{combined_left}
+use Rattle.msg_body.specs.LeftInFields.{combined_left}
 use Rattle.component_values.proofs.Below.{ascii_more}
 use Rattle.component_values.proofs.lines.is_ascii.Goals as goal
 

@@ -1,7 +1,7 @@
 use Rattle.std.proofs.Common.{◌≡◌, List, ℕ, ◌++◌, true}
 use Rattle.std.specs.Char.{is_ascii}
 use Rattle.std.specs.List.{list_all}
-use Rattle.field_values.specs.LeftInFields.{combined_left}
+use Rattle.msg_body.specs.LeftInFields.{combined_left}
 use Rattle.msg_head.specs.Values.{joined_value}
 use Rattle.component_values.proofs.lines.is_ascii.Given as goal
 

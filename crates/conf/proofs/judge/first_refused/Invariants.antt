@@ -1,7 +1,7 @@
 use Rattle.std.proofs.Common.{◌≡◌, drop, map}
 use Rattle.toml.specs.View.{table_view}
 use Rattle.conf.specs.tools.Judged.{first_path, is_refused}
-use Rattle.conf_keys.specs.Table.{row_of}
+use Rattle.conf_values.specs.Table.{row_of}
 use Rattle.conf.proofs.judge.first_refused.Given as goal
 
 abbrev pub invariant-loop-row : goal.invariant-loop-row

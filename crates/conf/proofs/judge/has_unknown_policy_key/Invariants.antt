@@ -1,7 +1,7 @@
 use Rattle.std.proofs.Common.{◌≡◌, drop}
 use Rattle.std.specs.List.{list_any}
 use Rattle.toml.specs.View.{items_view}
-use Rattle.conf_keys.specs.declared.table.TableName.TheVariants.{Policies}
+use Rattle.conf_values.specs.declared.table.TableName.TheVariants.{Policies}
 use Rattle.conf.specs.Table.{has_unknown_key, tables_of}
 use Rattle.conf.proofs.judge.has_unknown_policy_key.Given as goal
 

@@ -2,7 +2,7 @@ use Rattle.std.proofs.Common.{codes, subst}
 use Rattle.std.proofs.lemmas.Result.{err_from_is_err_and}
 use Rattle.toml.specs.Data.{Members, get_member}
 use Rattle.toml.specs.View.{table_view}
-use Rattle.conf_keys.specs.declared.table.TableName.TheVariants.{Policy}
+use Rattle.conf_values.specs.declared.table.TableName.TheVariants.{Policy}
 use Rattle.conf_values.specs.Views.{table_members}
 use Rattle.conf.specs.Table.{members_at}
 use Rattle.conf.specs.tools.SectionReads.{IsGoodList}

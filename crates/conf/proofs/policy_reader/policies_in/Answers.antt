@@ -4,7 +4,7 @@ use Rattle.std.specs.List.{AllZip}
 use Rattle.toml.specs.Data.{Members}
 use Rattle.toml.specs.View.{items_view, view}
 use Rattle.toml.specs.declared.value.Value.{Value}
-use Rattle.conf_keys.specs.declared.table.Version.TheVariants.{Two}
+use Rattle.conf_values.specs.declared.table.Version.TheVariants.{Two}
 use Rattle.conf_values.specs.Parts.{tables_of}
 use Rattle.settings.specs.declared.policy.Policy.{Policy}
 use Rattle.conf.specs.tools.PolicyReads.{IsReadPolicy}

@@ -1,7 +1,7 @@
 use Rattle.std.proofs.Common.{take}
 use Rattle.std.specs.List.{AllZip}
 use Rattle.toml.specs.View.{items_view}
-use Rattle.conf_keys.specs.declared.table.Version.TheVariants.{Two}
+use Rattle.conf_values.specs.declared.table.Version.TheVariants.{Two}
 use Rattle.conf_values.specs.Parts.{tables_of}
 use Rattle.conf.specs.tools.PolicyReads.{IsReadPolicy}
 use Rattle.conf.proofs.policy_reader.policies_in.Given as goal

@@ -4,8 +4,8 @@ use Rattle.std.specs.List.{AllZip}
 use Rattle.std.proofs.lemmas.Result.{IfOk-weaker}
 use Rattle.toml.specs.Data.{Members, no_members, as_array, get_member}
 use Rattle.toml.specs.View.{table_view}
-use Rattle.conf_keys.specs.declared.table.Version.{Version}
-use Rattle.conf_keys.specs.declared.table.Version.TheVariants.{Two}
+use Rattle.conf_values.specs.declared.table.Version.{Version}
+use Rattle.conf_values.specs.declared.table.Version.TheVariants.{Two}
 use Rattle.conf.specs.Table.{version_in}
 use Rattle.conf.specs.tools.PolicyReads.{AreReadPolicies, IsReadPolicy}
 use Rattle.conf.proofs.RowFacts.{policies_typed}

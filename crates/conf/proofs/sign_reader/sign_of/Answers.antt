@@ -3,7 +3,7 @@ use Rattle.std.specs.Prelude.{option_and_then, codes}
 use Rattle.toml.specs.Data.{Data, string, integer, float, boolean, datetime, array, table, as_str, get_member}
 use Rattle.toml.specs.View.{table_view}
 use Rattle.conf.specs.Table.{members_at}
-use Rattle.conf_keys.specs.declared.table.TableName.TheVariants.{Sign}
+use Rattle.conf_values.specs.declared.table.TableName.TheVariants.{Sign}
 use Rattle.conf.proofs.sign_reader.sign_of.Goals as goal
 
 -- what is a string is the string

@@ -6,7 +6,7 @@ use Rattle.settings.specs.Words.{sign_digest_of_word}
 use Rattle.settings.specs.declared.sign_conf.SignDigest.TheVariants.{No}
 use Rattle.conf.specs.Sections.{digest_of}
 use Rattle.conf.specs.Table.{members_at}
-use Rattle.conf_keys.specs.declared.table.TableName.TheVariants.{Sign}
+use Rattle.conf_values.specs.declared.table.TableName.TheVariants.{Sign}
 use Rattle.conf.proofs.values.digest_in.Goals as goal
 
 -- what is no string asks for no digest

@@ -1,6 +1,6 @@
 use Rattle.std.proofs.Common.{◌≡◌, ℕ, true, false, Some, map, nat_le, refl, sym, ap, ◌∙◌}
 use Rattle.toml.specs.View.{array_view, view}
-use Rattle.conf_keys.specs.declared.table.ValueRule.{ValueRule}
+use Rattle.conf_values.specs.declared.table.ValueRule.{ValueRule}
 use Rattle.conf_values.specs.Parts.{members_in}
 use Rattle.conf_values.specs.Values.{have_distinct_tags, is_array_allowed}
 use Rattle.conf_values.proofs.ArrayLaws.{count_of, policies_allowed}

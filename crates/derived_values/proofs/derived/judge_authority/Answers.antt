@@ -1,4 +1,4 @@
-use Rattle.targets.specs.Views.{authority_parts}
+use Rattle.derived_values.specs.Views.{authority_parts}
 use Rattle.derived_values.proofs.Drawn.{authority_found}
 use Rattle.derived_values.proofs.derived.judge_authority.Goals as goal
 

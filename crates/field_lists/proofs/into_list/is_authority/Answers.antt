@@ -1,5 +1,5 @@
 use Rattle.std.proofs.Common.{sym, ◌∙◌}
-use Rattle.targets.specs.Views.{authority_parts}
+use Rattle.derived_values.specs.Views.{authority_parts}
 use Rattle.field_lists.proofs.FromParts.{authority_there}
 use Rattle.field_lists.proofs.into_list.is_authority.Goals as goal
 

@@ -1,7 +1,7 @@
 use Rattle.std.proofs.Common.{ℕ, List, refl, subst}
 use Rattle.std.proofs.lemmas.Bool.{false≢true}
-use Rattle.targets.specs.Authorities.{IsAuthorityValue}
-use Rattle.targets.specs.Views.{parts_of}
+use Rattle.derived_values.specs.Authorities.{IsAuthorityValue}
+use Rattle.derived_values.specs.Views.{parts_of}
 use Rattle.derived_values.specs.Derived.{named_authority}
 use Rattle.component_values.specs.Context.{context_of}
 use Rattle.field_lists.specs.FromMessages.{request_parts}

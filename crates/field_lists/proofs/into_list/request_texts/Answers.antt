@@ -1,6 +1,6 @@
 use Rattle.std.proofs.Common.{sym, ◌∙◌}
 use Rattle.msg_head.specs.Starts.{RequestLine}
-use Rattle.targets.specs.Views.{parts_of}
+use Rattle.derived_values.specs.Views.{parts_of}
 use Rattle.component_values.specs.Context.{context_of}
 use Rattle.field_lists.specs.Controls.{RequestControl}
 use Rattle.field_lists.proofs.FromParts.{request_handed, request_is}

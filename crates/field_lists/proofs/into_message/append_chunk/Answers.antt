@@ -1,5 +1,5 @@
 use Rattle.std.proofs.Common.{◌≡◌, ℕ, true, List, length, subst, sym}
-use Rattle.chunks.specs.Sizes.{add_up_to}
+use Rattle.framing.specs.Sizes.{add_up_to}
 use Rattle.field_lists.proofs.Written.{adds_up, chunk_written, on_ok}
 use Rattle.field_lists.proofs.into_message.append_chunk.Goals as goal
 

@@ -1,6 +1,6 @@
 use Rattle.std.proofs.Common.{◌≡◌, ◌++◌, ◌&&◌, ◌∙◌, sym, ap, true}
 use Rattle.std.proofs.lemmas.List.{take-append-drop}
-use Rattle.field_values.specs.Spacing.{ends_in, is_solid}
+use Rattle.msg_body.specs.Spacing.{ends_in, is_solid}
 use Rattle.line_rewrites.specs.tools.Computed.{is_space_before_solid}
 use Rattle.line_rewrites.proofs.Cores.{lone_after}
 use Rattle.line_rewrites.proofs.raw.is_before_lone_space.Goals as goal

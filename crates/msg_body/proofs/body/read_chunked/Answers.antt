@@ -1,5 +1,5 @@
 use Rattle.std.proofs.Common.{refl, inr}
-use Rattle.chunks.specs.Views.{chunks_of}
+use Rattle.framing.specs.Views.{chunks_of}
 use Rattle.msg_body.proofs.Readings.{chunk_offset, chunk_fault, trailer_offset, trailer_fault, chunked_whole}
 use Rattle.msg_body.proofs.body.read_chunked.Goals as goal
 

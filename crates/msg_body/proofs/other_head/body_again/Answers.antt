@@ -1,7 +1,7 @@
 use Rattle.std.proofs.Common.{Ok, List, length, sym, ap, ◌∙◌, arith}
 use Rattle.msg_head.specs.Lines.{FieldLine}
 use Rattle.msg_head.specs.TrailerViews.{trailer_lines_of}
-use Rattle.chunks.specs.Views.{ChunksParts, chunks_of}
+use Rattle.framing.specs.Views.{ChunksParts, chunks_of}
 use Rattle.msg_body.specs.Bodies.{chunked}
 use Rattle.msg_body.specs.Content.{body_parts}
 use Rattle.msg_body.specs.Views.{body_of}

@@ -1,4 +1,4 @@
-use Rattle.field_values.specs.SameFields.{name_of}
+use Rattle.msg_body.specs.SameFields.{name_of}
 use Rattle.msg_head.specs.Views.{field_line_of}
 use Rattle.normal_forms.proofs.SideKept.{kept_is}
 use Rattle.normal_forms.proofs.side.is_kept.Goals as goal

@@ -4,7 +4,7 @@ use Rattle.sfv_read.specs.Reads.{ReadsDict}
 use Rattle.msg_head.specs.declared.error.Side.TheVariants.{Header}
 use Rattle.msg_body.specs.Views.{message_of, lines_on}
 use Rattle.msg_head.specs.Values.{is_there, joined_value, combined_value}
-use Rattle.field_values.proofs.FoundLines.{none_there, some_there}
+use Rattle.msg_body.proofs.FoundLines.{none_there, some_there}
 use Rattle.signatures.proofs.Reading.{unread_field}
 use Rattle.signatures.proofs.field.read_field.Goals as goal
 

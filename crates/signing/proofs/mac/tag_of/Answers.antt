@@ -1,5 +1,5 @@
 use Rattle.hmac_sha256.specs.Hmac.{key_block}
-use Rattle.sig_base.specs.SignatureBase.{signature_base}
+use Rattle.signatures.specs.SignatureBase.{signature_base}
 use Rattle.signing.proofs.mac.tag_of.Goals as goal
 
 pub returns : goal.returns

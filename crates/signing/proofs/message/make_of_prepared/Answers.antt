@@ -1,7 +1,7 @@
 use Rattle.std.proofs.Common.{sym, ap, ◌∙◌}
 use Rattle.component_ids.specs.declared.params.SigParams.{SigParams}
 use Rattle.hmac_sha256.specs.Hmac.{hmac}
-use Rattle.sig_base.specs.SignatureBase.{signature_base}
+use Rattle.signatures.specs.SignatureBase.{signature_base}
 use Rattle.signing.specs.Written.{digest_lines, signature_lines}
 use Rattle.signing.proofs.Making.{text_is}
 use Rattle.signing.proofs.Made.{too_long, fits, made, tag_bytes}

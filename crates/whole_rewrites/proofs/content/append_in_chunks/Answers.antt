@@ -1,6 +1,6 @@
 use Rattle.std.proofs.Common.{◌≡◌, ◌++◌, List, ℕ, OnOk, length, subst, ◌∙◌, ap}
-use Rattle.chunks.specs.Chunks.{chunks_text}
-use Rattle.chunks.specs.Sizes.{add_up_to, sized_chunks}
+use Rattle.framing.specs.Chunks.{chunks_text}
+use Rattle.framing.specs.Sizes.{add_up_to, sized_chunks}
 use Rattle.msg_body.specs.Views.{message_content, message_of}
 use Rattle.whole_rewrites.proofs.content.append_in_chunks.Goals as goal
 

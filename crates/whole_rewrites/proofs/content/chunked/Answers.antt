@@ -1,10 +1,10 @@
 use Rattle.std.proofs.Common.{◌++◌, ◌≡◌, ap, ◌∙◌, codes, rules}
-use Rattle.chunks.specs.Chunks.{chunks_text}
+use Rattle.framing.specs.Chunks.{chunks_text}
 use Rattle.component_values.specs.Context.{context_of}
 use Rattle.framing.specs.declared.kind.Framing.TheVariants.{Length}
 use Rattle.msg_body.specs.Views.{message_content}
 use Rattle.whole_rewrites.specs.Content.{coding_line}
-use Rattle.chunks.specs.Sizes.{sized_chunks}
+use Rattle.framing.specs.Sizes.{sized_chunks}
 use Rattle.whole_rewrites.specs.tools.HeadLines.{head_with}
 use Rattle.whole_rewrites.proofs.ContentMade.{chunk_no_line, chunk_offered, chunk_unfit, same_sizes}
 use Rattle.whole_rewrites.proofs.content.chunked.Goals as goal

@@ -1,9 +1,9 @@
 use Rattle.std.proofs.Common.{◌++◌, ap, ◌∙◌}
-use Rattle.chunks.specs.Chunks.{chunks_text}
+use Rattle.framing.specs.Chunks.{chunks_text}
 use Rattle.component_values.specs.Context.{context_of}
 use Rattle.msg_body.specs.Views.{message_content}
 use Rattle.line_rewrites.specs.Sides.{lines_text}
-use Rattle.chunks.specs.Sizes.{sized_chunks}
+use Rattle.framing.specs.Sizes.{sized_chunks}
 use Rattle.whole_rewrites.specs.tools.HeadLines.{head_in}
 use Rattle.whole_rewrites.proofs.ContentMade.{rechunk_offered, rechunk_unfit, same_sizes}
 use Rattle.whole_rewrites.proofs.content.rechunked.Goals as goal

@@ -1,5 +1,5 @@
 use Rattle.std.proofs.Common.{◌≡◌, true, sym, ap, ◌∙◌}
-use Rattle.field_values.proofs.FoundLines.{none_there, some_there}
+use Rattle.msg_body.proofs.FoundLines.{none_there, some_there}
 use Rattle.msg_body.specs.Views.{message_of, lines_on}
 use Rattle.msg_head.specs.Values.{is_there, joined_value}
 use Rattle.msg_head.specs.declared.error.Side.TheVariants.{Header}

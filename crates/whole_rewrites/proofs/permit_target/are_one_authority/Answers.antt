@@ -1,6 +1,6 @@
 use Rattle.std.proofs.Common.{IsTrue}
 use Rattle.std.specs.Str.{str_to_ascii_lowercase}
-use Rattle.targets.specs.Views.{authority_parts}
+use Rattle.derived_values.specs.Views.{authority_parts}
 use Rattle.whole_rewrites.specs.Targets.{AreOneAuthority}
 use Rattle.whole_rewrites.specs.tools.Requests.{HaveOneValue}
 use Rattle.whole_rewrites.proofs.TargetPermitAuthority.{by_parts}

@@ -3,7 +3,7 @@ use Rattle.std.specs.List.{list_all}
 use Rattle.byte_grammar.specs.Classes.{is_visible}
 use Rattle.msg_head.specs.Values.{value}
 use Rattle.component_values.specs.Context.{context_of}
-use Rattle.targets.specs.Views.{parts_of}
+use Rattle.derived_values.specs.Views.{parts_of}
 use Rattle.whole_rewrites.specs.Permitted.{IsSameHost}
 use Rattle.whole_rewrites.specs.Targets.{AreOneAuthority}
 use Rattle.whole_rewrites.specs.tools.Requests.{scheme_in}

@@ -1,6 +1,6 @@
 use Rattle.std.proofs.Common.{IsTrue, ap, option_map, Bor, ℕ, List}
 use Rattle.component_values.specs.Context.{context_of}
-use Rattle.targets.specs.Views.{parts_of}
+use Rattle.derived_values.specs.Views.{parts_of}
 use Rattle.whole_rewrites.specs.Permitted.{NamesHost}
 use Rattle.whole_rewrites.specs.Targets.{OfTarget}
 use Rattle.whole_rewrites.specs.tools.Requests.{NamesOwn}

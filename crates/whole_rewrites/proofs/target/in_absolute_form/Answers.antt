@@ -1,7 +1,7 @@
 use Rattle.std.proofs.Common.{◌++◌}
 use Rattle.std.specs.Prelude.{codes}
 use Rattle.component_values.specs.Context.{context_of}
-use Rattle.targets.specs.Views.{parts_of, request_line_of}
+use Rattle.derived_values.specs.Views.{parts_of, request_line_of}
 use Rattle.whole_rewrites.proofs.TargetOffers.{absolute_offers}
 use Rattle.whole_rewrites.proofs.target.in_absolute_form.Goals as goal
 

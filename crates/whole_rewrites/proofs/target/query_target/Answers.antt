@@ -1,5 +1,5 @@
 use Rattle.whole_rewrites.proofs.TargetOffers.{front_before}
-use Rattle.targets.specs.Views.{parts_of}
+use Rattle.derived_values.specs.Views.{parts_of}
 use Rattle.whole_rewrites.proofs.target.query_target.Goals as goal
 
 pub before_query-requires : goal.before_query-requires

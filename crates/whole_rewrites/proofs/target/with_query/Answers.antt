@@ -1,5 +1,5 @@
 use Rattle.component_values.specs.Context.{context_of}
-use Rattle.targets.specs.Views.{parts_of, request_line_of}
+use Rattle.derived_values.specs.Views.{parts_of, request_line_of}
 use Rattle.whole_rewrites.specs.Targets.{HasOtherQuery}
 use Rattle.whole_rewrites.specs.tools.Retargeted.{new_target_text}
 use Rattle.whole_rewrites.proofs.Targeted.{changes_none}

@@ -1,5 +1,5 @@
 use Rattle.std.proofs.Common.{ℕ, List, subst}
-use Rattle.targets.specs.Views.{parts_of}
+use Rattle.derived_values.specs.Views.{parts_of}
 use Rattle.derived_values.specs.Derived.{AuthorityRow, named_authority}
 use Rattle.derived_values.specs.tools.Requests.{request_parts}
 use Rattle.derived_values.specs.tools.Values.{GivesAuthority}

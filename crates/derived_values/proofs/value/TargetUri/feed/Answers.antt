@@ -1,9 +1,9 @@
 use Rattle.std.proofs.Common.{◌≡◌, ℕ, List, ◌++◌, append_assoc, codes, subst}
 use Rattle.std.specs.Prelude.{option_map}
 use Rattle.std.specs.Str.{str_to_ascii_lowercase}
-use Rattle.targets.specs.Authorities.{authority_text}
-use Rattle.targets.specs.Targets.{query_text}
-use Rattle.targets.specs.Views.{authority_parts}
+use Rattle.derived_values.specs.Authorities.{authority_text}
+use Rattle.derived_values.specs.Targets.{query_text}
+use Rattle.derived_values.specs.Views.{authority_parts}
 use Rattle.derived_values.proofs.value.TargetUri.feed.Goals as goal
 
 regroup : (a b c d e f : List ℕ) → ((((a ++ b) ++ c) ++ d) ++ e) ++ f ≡ a ++ (b ++ (c ++ (d ++ (e ++ f))))

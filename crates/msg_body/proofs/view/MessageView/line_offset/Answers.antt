@@ -7,8 +7,8 @@ use Rattle.msg_head.specs.Heads.{head_text}
 use Rattle.msg_head.specs.Lines.{FieldLine, line_text}
 use Rattle.msg_head.specs.Trailers.{trailer_text}
 use Rattle.msg_head.specs.TrailerViews.{TrailerParts, trailer_lines_of}
-use Rattle.chunks.specs.Chunks.{chunks_text}
-use Rattle.chunks.specs.Views.{ChunksParts, chunks_of}
+use Rattle.framing.specs.Chunks.{chunks_text}
+use Rattle.framing.specs.Views.{ChunksParts, chunks_of}
 use Rattle.msg_body.specs.Content.{body_parts}
 use Rattle.msg_body.specs.Messages.{message_text}
 use Rattle.msg_body.specs.Views.{MessageParts, plain_parts, chunked_parts, message_of, lines_on, lines_start}

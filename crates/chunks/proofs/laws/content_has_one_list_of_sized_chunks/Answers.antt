@@ -1,5 +1,0 @@
-use Rattle.chunks.proofs.SizeLaws.{in_chunks_where_sized}
-use Rattle.chunks.proofs.laws.content_has_one_list_of_sized_chunks.Goals as goal
-
-pub returns : goal.returns
-returns c = in_chunks_where_sized

@@ -1,5 +1,0 @@
-use Rattle.chunks.proofs.SizeLines.{line_of_size}
-use Rattle.chunks.proofs.laws.sizes_have_a_line.Goals as goal
-
-pub returns : goal.returns
-returns c = line_of_size

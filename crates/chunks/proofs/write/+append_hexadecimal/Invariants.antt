@@ -1,4 +1,0 @@
-use Rattle.chunks.proofs.write.+append_hexadecimal.Given as goal
-
-abbrev pub decreases-append_hexadecimal : goal.decreases-append_hexadecimal
-decreases-append_hexadecimal l = l.number

@@ -1,5 +1,0 @@
-pub mod ChunkWalk
-pub mod Turns
-pub mod Judged
-pub mod Read
-pub mod Written

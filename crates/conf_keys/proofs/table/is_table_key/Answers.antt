@@ -1,6 +1,0 @@
-use Rattle.conf_keys.specs.Table.{rows}
-use Rattle.conf_keys.proofs.table.is_table_key.Goals as goal
-
-pub returns : goal.returns
-unfolding rows
-returns c = c.is_among.ensures

@@ -1,7 +1,0 @@
-use Rattle.std.proofs.Common.{refl}
-use Rattle.conf_keys.specs.Table.{rows}
-use Rattle.conf_keys.proofs.table.rows.Goals as goal
-
-pub returns : goal.returns
-unfolding rows
-returns c = refl

@@ -1,5 +1,0 @@
-pub mod FoundLines
-mod LineCounts
-mod ValueWalk
-pub mod ValueLaws
-pub mod LineLists

@@ -1,6 +1,0 @@
-use Rattle.std.proofs.Common.{◌≡◌, ◌++◌}
-use Rattle.field_values.specs.LeftInFields.{combined_left}
-use Rattle.field_values.proofs.value.put_together.Given as goal
-
-abbrev pub invariant-loop-piece : goal.invariant-loop-piece
-invariant-loop-piece l = l.text ++ combined_left l.piece-iterator ≡ (l.fn.first ++ l.fn.second) ++ combined_left l.fn.others

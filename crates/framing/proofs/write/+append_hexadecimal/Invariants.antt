@@ -1,0 +1,4 @@
+use Rattle.framing.proofs.write.+append_hexadecimal.Given as goal
+
+abbrev pub decreases-append_hexadecimal : goal.decreases-append_hexadecimal
+decreases-append_hexadecimal l = l.number

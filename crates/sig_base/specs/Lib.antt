@@ -1,3 +1,0 @@
-pub mod SignatureBase
-pub mod tools
-pub mod Laws

@@ -1,9 +1,0 @@
-//! Laws of signature bases. The function does nothing; its contract is the law.
-
-ghost use Rattle.sig_base.specs.Laws.{HasOneReading};
-
-/// A signature base whose values have no LF is equal to another exactly where their signature
-/// parameters and their values are: a base tells what was signed (RFC 9421 section 7.5.5).
-pub fn a_base_has_one_reading()
-    ensures { HasOneReading }
-{}

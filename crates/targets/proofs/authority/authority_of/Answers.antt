@@ -1,6 +1,0 @@
-use Rattle.targets.proofs.Given.{given_none}
-use Rattle.targets.proofs.AuthorityParts.{no_port}
-use Rattle.targets.proofs.authority.authority_of.Goals as goal
-
-pub returns-in_err-port-clause-none : goal.returns-in_err-port-clause-none
-returns-in_err-port-clause-none c = given_none c.from_residual-in_err-port.result (no_port _ _ _ c.in_ok-host.ensures.some c.in_err-port.ensures.none)

@@ -1,5 +1,0 @@
-use Rattle.targets.proofs.StartTargets.{is_one_request, is_request_or_not}
-use Rattle.targets.proofs.laws.a_start_line_is_of_one_target.Goals as goal
-
-pub returns : goal.returns
-returns c = record { one = is_one_request; decided = is_request_or_not }

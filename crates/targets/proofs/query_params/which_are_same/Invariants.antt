@@ -1,5 +1,0 @@
-use Rattle.targets.specs.tools.Params.{AreToldSoFar}
-use Rattle.targets.proofs.query_params.which_are_same.Given as goal
-
-abbrev pub invariant-loop-place : goal.invariant-loop-place
-invariant-loop-place l = AreToldSoFar l.are_same l.params l.others l.initial.place-iterator.rest.now l.place-iterator.rest.now

@@ -1,6 +1,0 @@
-use Rattle.targets.proofs.Given.{none_more}
-use Rattle.targets.proofs.TargetParts.{no_other}
-use Rattle.targets.proofs.target.cut_other.Goals as goal
-
-pub returns-clause-none : goal.returns-clause-none
-returns-clause-none c = none_more c.cut_asterisk.result (no_other c.args.target.now c.in_default.ensures.none c.in_default-cut_absolute.ensures.none) c.cut_asterisk.ensures.none
