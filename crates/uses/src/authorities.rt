@@ -1,4 +1,4 @@
-// Tests of targets.
+// Tests of targets in derived_values.
 
 use derived_values::{ParamFound, query_param};
 use std::alloc::Global;

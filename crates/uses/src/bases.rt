@@ -1,4 +1,4 @@
-// Tests of component_values and sig_base.
+// Tests of component_values and of signature bases.
 
 ghost use Rattle.std.specs.Prelude.{IsTrue};
 ghost use Rattle.component_ids.specs.SignatureParams.{are_sig_params_in_range};

@@ -224,7 +224,7 @@ fn is_held(alloc: Global, row: &Held) -> bool {
     }
 }
 
-// The example of chunks.
+// The example of chunks in framing.
 #[test]
 fn chunks_hold_content(rt: HostRuntime) {
     for row in &HELD {

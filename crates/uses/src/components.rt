@@ -136,7 +136,7 @@ fn are_values(alloc: Global) -> bool {
     }
 }
 
-// The examples of derived_values and of field_values.
+// The examples of derived_values and of values of fields in msg_body.
 #[test]
 fn a_request_has_an_authority_and_no_status(rt: HostRuntime) {
     assert!(rt; are_values(rt.alloc()));

@@ -1,4 +1,4 @@
-// Tests of line_index, msg_head and field_values.
+// Tests of line_index, msg_head and values of fields.
 
 ghost use Rattle.std.specs.Iterator.{IsFinite};
 
@@ -142,7 +142,7 @@ fn is_combined(alloc: Global, view: &MessageView<'_>) -> bool {
         && is_value(alloc, view.lines_named(Side::Header, b"x"), b"a b, c")
 }
 
-// The example of field_values.
+// The example of values of fields in msg_body.
 fn are_combined(alloc: Global) -> bool {
     match message(alloc, b"GET / HTTP/1.1\r\nX: a\r\n  b \r\nx: c\r\n\r\n") {
         Some(given) => is_combined(alloc, &given.view),
