@@ -11,7 +11,7 @@ use Rattle.sfv_text.specs.declared.pair.Pair.{Pair}
 use Rattle.command_line.specs.Command.{IsCommand}
 use Rattle.command_line.specs.Faults.{BeginsCommand, AreParted, HasOption, IsReason, IsStart, IsWordsFault, Need}
 use Rattle.command_options.specs.Names.{command_word, first_command}
-use Rattle.command_options.specs.Options.{is_taken_by, may_have, option_of, row_of, takes, words_of, AreOptions}
+use Rattle.command_options.specs.Options.{is_taken_by, option_of, row_of, takes, words_of, AreOptions}
 use Rattle.command_line.specs.declared.fault.NextWords.{NextWords}
 use Rattle.command_line.specs.declared.fault.WordsReason.{WordsReason}
 use Rattle.command_line.specs.declared.fault.WordsReason.TheVariants.{NoWords, NoCommand, LeftOver, NotTaken, Twice, Excluded, NoWord, BadWord, Missing, NoParams, NoSeed, BadSeed, NoCount, BadCount}

@@ -7,7 +7,7 @@ ghost use Rattle.command_options.specs.Names.{command_of, command_word};
 ghost use Rattle.command_line.specs.tools.Wrong.{asks_help};
 ghost use Rattle.command_line.specs.tools.After.{IsAfter, NoneAfter};
 
-use command_options::{CommandName, count_of, moment_of, read_options, seed_of};
+use command_options::{CommandName, OptionWords, count_of, moment_of, read_options, seed_of};
 
 /// The words of `base`. They are borrowed.
 #[derive(Clone, Copy)]
@@ -169,8 +169,10 @@ pub fn first_of(words: &[String]) -> Option<(&str, &[String])>
         ≡ parts.0.now ∷ map string_bytes parts.1.now) }
     ensures none { IfNone result (map string_bytes words.now ≡ []) }
 {
-    let (first, others) = words.split_first()?;
-    Some((first.as_str(), others))
+    match words {
+        [] => None,
+        [first, others @ ..] => Some((first.as_str(), others)),
+    }
 }
 
 /// Whether the words are `--help` alone.
@@ -192,7 +194,9 @@ fn read_help_word<'a>(words: &'a [String]) -> Option<Command<'a>>
     let Some((name, others)) = first_of(words) else {
         return Some(Command::Help);
     };
-    let command = CommandName::of_word(name)?;
+    let Some(command) = CommandName::of_word(name) else {
+        return None;
+    };
     match first_of(others) {
         None => Some(Command::HelpOf(command)),
         Some(_) => None,
@@ -236,11 +240,13 @@ fn read_base<'a>(words: &'a [String]) -> Option<Command<'a>>
     let Some((params, others)) = first_of(words) else {
         return None;
     };
-    let found = read_options(CommandName::Base, others)?;
+    let Some(OptionWords { conf, request, .. }) = read_options(CommandName::Base, others) else {
+        return None;
+    };
     Some(Command::Base(BaseWords {
         params,
-        conf: found.conf,
-        request: found.request,
+        conf,
+        request,
     }))
 }
 
@@ -251,14 +257,23 @@ fn read_verify<'a>(words: &'a [String]) -> Option<Command<'a>>
     ensures none { IfNone result ((verify : VerifyLine)
         → ¬ SpellsVerify (codes "verify" ∷ map string_bytes words.now) verify) }
 {
-    let found = read_options(CommandName::Verify, words)?;
-    let conf = found.conf?;
-    let now = found.now?;
+    let Some(
+        OptionWords {
+            conf: Some(conf),
+            now: Some(now),
+            label,
+            request,
+            ..
+        },
+    ) = read_options(CommandName::Verify, words)
+    else {
+        return None;
+    };
     Some(Command::Verify(VerifyWords {
         conf,
         now: moment_of(now),
-        label: found.label,
-        request: found.request,
+        label,
+        request,
     }))
 }
 
@@ -269,18 +284,28 @@ fn read_sign<'a>(words: &'a [String]) -> Option<Command<'a>>
     ensures none { IfNone result ((sign : SignLine)
         → ¬ SpellsSign (codes "sign" ∷ map string_bytes words.now) sign) }
 {
-    let found = read_options(CommandName::Sign, words)?;
-    let conf = found.conf?;
-    let now = found.now?;
-    if found.nonce.is_some() && found.wanted.is_some() {
+    let Some(
+        OptionWords {
+            conf: Some(conf),
+            now: Some(now),
+            request,
+            nonce,
+            wanted,
+            ..
+        },
+    ) = read_options(CommandName::Sign, words)
+    else {
+        return None;
+    };
+    if nonce.is_some() && wanted.is_some() {
         return None;
     }
     Some(Command::Sign(SignWords {
         conf,
         now: moment_of(now),
-        request: found.request,
-        nonce: found.nonce,
-        wanted: found.wanted,
+        request,
+        nonce,
+        wanted,
     }))
 }
 
@@ -291,13 +316,23 @@ fn read_rewrite<'a>(words: &'a [String]) -> Option<Command<'a>>
     ensures none { IfNone result ((rewrite : RewriteLine)
         → ¬ SpellsRewrite (codes "rewrite" ∷ map string_bytes words.now) rewrite) }
 {
-    let found = read_options(CommandName::Rewrite, words)?;
-    let script = found.script?;
+    let Some(
+        OptionWords {
+            script: Some(script),
+            conf,
+            label,
+            request,
+            ..
+        },
+    ) = read_options(CommandName::Rewrite, words)
+    else {
+        return None;
+    };
     Some(Command::Rewrite(RewriteWords {
         script,
-        conf: found.conf,
-        label: found.label,
-        request: found.request,
+        conf,
+        label,
+        request,
     }))
 }
 
@@ -308,14 +343,23 @@ fn read_explain<'a>(words: &'a [String]) -> Option<Command<'a>>
     ensures none { IfNone result ((explain : ExplainLine)
         → ¬ SpellsExplain (codes "explain" ∷ map string_bytes words.now) explain) }
 {
-    let found = read_options(CommandName::Explain, words)?;
-    let label = found.label?;
-    let other = found.other?;
+    let Some(
+        OptionWords {
+            label: Some(label),
+            other: Some(other),
+            conf,
+            request,
+            ..
+        },
+    ) = read_options(CommandName::Explain, words)
+    else {
+        return None;
+    };
     Some(Command::Explain(ExplainWords {
         label,
         other,
-        conf: found.conf,
-        request: found.request,
+        conf,
+        request,
     }))
 }
 
@@ -326,8 +370,15 @@ fn read_audit<'a>(words: &'a [String]) -> Option<Command<'a>>
     ensures none { IfNone result ((audit : AuditLine)
         → ¬ SpellsAudit (codes "audit" ∷ map string_bytes words.now) audit) }
 {
-    let found = read_options(CommandName::Audit, words)?;
-    let conf = found.conf?;
+    let Some(
+        OptionWords {
+            conf: Some(conf),
+            ..
+        },
+    ) = read_options(CommandName::Audit, words)
+    else {
+        return None;
+    };
     Some(Command::Audit(AuditWords { conf }))
 }
 
@@ -338,8 +389,15 @@ fn read_gateway<'a>(words: &'a [String]) -> Option<Command<'a>>
     ensures none { IfNone result ((gateway : GatewayLine)
         → ¬ SpellsGateway (codes "gateway" ∷ map string_bytes words.now) gateway) }
 {
-    let found = read_options(CommandName::Gateway, words)?;
-    let conf = found.conf?;
+    let Some(
+        OptionWords {
+            conf: Some(conf),
+            ..
+        },
+    ) = read_options(CommandName::Gateway, words)
+    else {
+        return None;
+    };
     Some(Command::Gateway(GatewayWords { conf }))
 }
 
@@ -350,11 +408,19 @@ fn read_lists<'a>(words: &'a [String]) -> Option<Command<'a>>
     ensures none { IfNone result ((lists : ListsLine)
         → ¬ SpellsLists (codes "lists" ∷ map string_bytes words.now) lists) }
 {
-    let found = read_options(CommandName::Lists, words)?;
-    let into = found.into?;
+    let Some(
+        OptionWords {
+            into: Some(into),
+            conf,
+            ..
+        },
+    ) = read_options(CommandName::Lists, words)
+    else {
+        return None;
+    };
     Some(Command::Lists(ListsWords {
         into_message: into == "message",
-        conf: found.conf,
+        conf,
     }))
 }
 
@@ -365,10 +431,17 @@ fn read_negotiate<'a>(words: &'a [String]) -> Option<Command<'a>>
     ensures none { IfNone result ((negotiate : NegotiateLine)
         → ¬ SpellsNegotiate (codes "negotiate" ∷ map string_bytes words.now) negotiate) }
 {
-    let found = read_options(CommandName::Negotiate, words)?;
-    let conf = found.conf?;
-    let now = found.now?;
-    let request = found.request?;
+    let Some(
+        OptionWords {
+            conf: Some(conf),
+            now: Some(now),
+            request: Some(request),
+            ..
+        },
+    ) = read_options(CommandName::Negotiate, words)
+    else {
+        return None;
+    };
     Some(Command::Negotiate(NegotiateWords {
         conf,
         now: moment_of(now),
@@ -386,9 +459,10 @@ fn read_sample<'a>(words: &'a [String]) -> Option<Command<'a>>
     let [seed, count] = words else {
         return None;
     };
-    let seed = seed_of(seed.as_str())?;
-    let count = count_of(count.as_str())?;
-    Some(Command::Sample(SampleWords { seed, count }))
+    match (seed_of(seed.as_str()), count_of(count.as_str())) {
+        (Some(seed), Some(count)) => Some(Command::Sample(SampleWords { seed, count })),
+        _ => None,
+    }
 }
 
 /// The words after the name of a command.
@@ -453,6 +527,8 @@ pub fn read_words(words: &[String]) -> Option<Command<'_>>
     ensures timely { IfSome result (λ command. IsTimely (line_of command)) }
     ensures nonce { IfSome result (λ command. HasRightNonce (line_of command)) }
 {
-    let (name, others) = words.split_first()?;
-    read_named(name.as_str(), others)
+    match words {
+        [] => None,
+        [name, others @ ..] => read_named(name.as_str(), others),
+    }
 }

@@ -150,11 +150,13 @@ fn options_or_fault<'a>(
         → AreFound command found.entry all (map string_bytes words.now)
         → BeginsNoHelp command all → HasFault (start ++ all) fault) }
 {
-    let first = next_words(command, found, words)?;
-    let Some(next) = first else {
-        return Ok(found);
-    };
-    options_or_fault(command, found.with(next.option, next.word), next.after)
+    match next_words(command, found, words) {
+        Err(fault) => Err(fault),
+        Ok(None) => Ok(found),
+        Ok(Some(next)) => {
+            options_or_fault(command, found.with(next.option, next.word), next.after)
+        }
+    }
 }
 
 /// The options that the command needs.
@@ -201,11 +203,12 @@ fn command_fault<'a>(command: CommandName, words: &'a [String]) -> Option<WordsF
         Ok(found) => found,
         Err(fault) => return Some(fault),
     };
-    let option = lacking(command, found)?;
-    let reason = WordsReason::Missing(command, option);
+    let Some(option) = lacking(command, found) else {
+        return None;
+    };
     Some(WordsFault {
         command: Some(command),
-        reason,
+        reason: WordsReason::Missing(command, option),
         from: &[],
     })
 }
@@ -248,7 +251,9 @@ fn count_fault(words: &[String]) -> Option<WordsFault<'_>>
             from: words,
         });
     };
-    let _ = first_of(after)?;
+    let Some(_) = first_of(after) else {
+        return None;
+    };
     Some(WordsFault {
         command,
         reason: WordsReason::LeftOver,
@@ -305,7 +310,9 @@ fn help_fault<'a>(command: CommandName, words: &'a [String]) -> Option<WordsFaul
     ensures some { IfSome result
         (HasFault (command_word command ∷ codes "--help" ∷ map string_bytes words.now)) }
 {
-    let _ = first_of(words)?;
+    let Some(_) = first_of(words) else {
+        return None;
+    };
     Some(WordsFault {
         command: Some(command),
         reason: WordsReason::LeftOver,
@@ -372,7 +379,9 @@ fn topic_fault(words: &[String]) -> Option<WordsFault<'_>>
             from: words,
         });
     };
-    let _ = first_of(others)?;
+    let Some(_) = first_of(others) else {
+        return None;
+    };
     Some(WordsFault {
         command: None,
         reason: WordsReason::LeftOver,
@@ -410,7 +419,9 @@ fn other_fault(words: &[String]) -> Option<WordsFault<'_>>
             from: words,
         });
     }
-    let _ = first_of(others)?;
+    let Some(_) = first_of(others) else {
+        return None;
+    };
     Some(WordsFault {
         command: None,
         reason: WordsReason::LeftOver,

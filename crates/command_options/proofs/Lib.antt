@@ -1,2 +1,3 @@
+pub mod FirstFound
 pub mod Moments
 pub mod OptionLists

@@ -6,24 +6,31 @@ ghost use Rattle.command_options.specs.Names.{command_of, command_word};
 use crate::options::CommandName;
 use std::fmt;
 
+/// All commands.
+const COMMANDS: &[CommandName] = &[
+    CommandName::Base,
+    CommandName::Verify,
+    CommandName::Sign,
+    CommandName::Rewrite,
+    CommandName::Explain,
+    CommandName::Audit,
+    CommandName::Gateway,
+    CommandName::Lists,
+    CommandName::Negotiate,
+    CommandName::Sample,
+];
+
 impl CommandName {
     /// The command of that name.
     pub fn of_word(word: &str) -> Option<CommandName>
         ensures { result ≡ command_of word.now }
     {
-        match word {
-            "base" => Some(CommandName::Base),
-            "verify" => Some(CommandName::Verify),
-            "sign" => Some(CommandName::Sign),
-            "rewrite" => Some(CommandName::Rewrite),
-            "explain" => Some(CommandName::Explain),
-            "audit" => Some(CommandName::Audit),
-            "gateway" => Some(CommandName::Gateway),
-            "lists" => Some(CommandName::Lists),
-            "negotiate" => Some(CommandName::Negotiate),
-            "sample" => Some(CommandName::Sample),
-            _ => None,
+        for command in COMMANDS {
+            if word == command.word() {
+                return Some(*command);
+            }
         }
+        None
     }
 
     /// Its name.

@@ -128,23 +128,30 @@ pub fn moment_of(word: &str) -> u64
     moment
 }
 
+/// All options.
+const OPTIONS: &[CommandOption] = &[
+    CommandOption::Conf,
+    CommandOption::Now,
+    CommandOption::Label,
+    CommandOption::Request,
+    CommandOption::Nonce,
+    CommandOption::Wanted,
+    CommandOption::Script,
+    CommandOption::Other,
+    CommandOption::Into,
+];
+
 impl CommandOption {
     /// The option of that name.
     pub fn of_word(word: &str) -> Option<CommandOption>
         ensures { result ≡ option_of word.now }
     {
-        match word {
-            "--conf" => Some(CommandOption::Conf),
-            "--now" => Some(CommandOption::Now),
-            "--label" => Some(CommandOption::Label),
-            "--request" => Some(CommandOption::Request),
-            "--nonce" => Some(CommandOption::Nonce),
-            "--wanted" => Some(CommandOption::Wanted),
-            "--script" => Some(CommandOption::Script),
-            "--other" => Some(CommandOption::Other),
-            "--into" => Some(CommandOption::Into),
-            _ => None,
+        for option in OPTIONS {
+            if word == option.word() {
+                return Some(*option);
+            }
         }
+        None
     }
 
     /// Whether the command takes the option.
@@ -178,15 +185,15 @@ impl CommandOption {
         ensures { result ≡ (row_of self).may_have word.now }
     {
         match self {
-            CommandOption::Conf => !word.is_empty(),
             CommandOption::Now => is_moment(word.as_bytes()),
             CommandOption::Label => is_key(word.as_bytes()),
-            CommandOption::Request => !word.is_empty(),
             CommandOption::Nonce => is_nonce(word.as_bytes()),
-            CommandOption::Wanted => !word.is_empty(),
-            CommandOption::Script => !word.is_empty(),
-            CommandOption::Other => !word.is_empty(),
             CommandOption::Into => word == "message" || word == "fields",
+            CommandOption::Conf
+            | CommandOption::Request
+            | CommandOption::Wanted
+            | CommandOption::Script
+            | CommandOption::Other => !word.is_empty(),
         }
     }
 }
@@ -213,17 +220,18 @@ impl<'a> OptionWords<'a> {
     pub fn has(self, option: CommandOption) -> bool
         ensures { result ≡ is_some (word_in self.entry option) }
     {
-        match option {
-            CommandOption::Conf => self.conf.is_some(),
-            CommandOption::Now => self.now.is_some(),
-            CommandOption::Label => self.label.is_some(),
-            CommandOption::Request => self.request.is_some(),
-            CommandOption::Nonce => self.nonce.is_some(),
-            CommandOption::Wanted => self.wanted.is_some(),
-            CommandOption::Script => self.script.is_some(),
-            CommandOption::Other => self.other.is_some(),
-            CommandOption::Into => self.into.is_some(),
-        }
+        let word = match option {
+            CommandOption::Conf => self.conf,
+            CommandOption::Now => self.now,
+            CommandOption::Label => self.label,
+            CommandOption::Request => self.request,
+            CommandOption::Nonce => self.nonce,
+            CommandOption::Wanted => self.wanted,
+            CommandOption::Script => self.script,
+            CommandOption::Other => self.other,
+            CommandOption::Into => self.into,
+        };
+        word.is_some()
     }
 
     /// The option with a word beside which this one can't come: a nonce, and a message that asks
@@ -244,44 +252,19 @@ impl<'a> OptionWords<'a> {
             (if bytes_eq (row_of option).word (row_of other).word then Some word.now
             else word_in self.entry other) }
     {
+        let mut found = self;
         match option {
-            CommandOption::Conf => OptionWords {
-                conf: Some(word),
-                ..self
-            },
-            CommandOption::Now => OptionWords {
-                now: Some(word),
-                ..self
-            },
-            CommandOption::Label => OptionWords {
-                label: Some(word),
-                ..self
-            },
-            CommandOption::Request => OptionWords {
-                request: Some(word),
-                ..self
-            },
-            CommandOption::Nonce => OptionWords {
-                nonce: Some(word),
-                ..self
-            },
-            CommandOption::Wanted => OptionWords {
-                wanted: Some(word),
-                ..self
-            },
-            CommandOption::Script => OptionWords {
-                script: Some(word),
-                ..self
-            },
-            CommandOption::Other => OptionWords {
-                other: Some(word),
-                ..self
-            },
-            CommandOption::Into => OptionWords {
-                into: Some(word),
-                ..self
-            },
+            CommandOption::Conf => found.conf = Some(word),
+            CommandOption::Now => found.now = Some(word),
+            CommandOption::Label => found.label = Some(word),
+            CommandOption::Request => found.request = Some(word),
+            CommandOption::Nonce => found.nonce = Some(word),
+            CommandOption::Wanted => found.wanted = Some(word),
+            CommandOption::Script => found.script = Some(word),
+            CommandOption::Other => found.other = Some(word),
+            CommandOption::Into => found.into = Some(word),
         }
+        found
     }
 }
 
@@ -297,7 +280,9 @@ fn next_option(
     ensures none { IfNone result ((option : CommandOption)
         → ¬ IsNextOption command found.entry name.now word.now option) }
 {
-    let option = CommandOption::of_word(name)?;
+    let Some(option) = CommandOption::of_word(name) else {
+        return None;
+    };
     if found.has(option) || !option.is_taken_by(command) || !option.may_have(word) {
         return None;
     }
@@ -315,8 +300,10 @@ fn add_option<'a>(
     ensures none { IfNone result ((option : CommandOption)
         → ¬ IsNextOption command found.entry name.now word.now option) }
 {
-    let option = next_option(command, found, name, word)?;
-    Some(found.with(option, word))
+    match next_option(command, found, name, word) {
+        Some(option) => Some(found.with(option, word)),
+        None => None,
+    }
 }
 
 /// An option, its word, and the words after them.
@@ -325,9 +312,10 @@ fn next_pair(words: &[String]) -> Option<(&str, &str, &[String])>
         ≡ pair.0.now ∷ pair.1.now ∷ map string_bytes pair.2.now) }
     ensures none { IfNone result (length words.now < 2) }
 {
-    let (option, others) = words.split_first()?;
-    let (word, after) = others.split_first()?;
-    Some((option.as_str(), word.as_str(), after))
+    match words {
+        [option, word, after @ ..] => Some((option.as_str(), word.as_str(), after)),
+        _ => None,
+    }
 }
 
 /// Reads the words after options that were found.
@@ -346,7 +334,10 @@ fn read_more<'a>(
     let Some((name, word, after)) = next_pair(words) else {
         return if words.is_empty() { Some(found) } else { None };
     };
-    read_more(command, add_option(command, found, name, word)?, after)
+    match add_option(command, found, name, word) {
+        Some(more) => read_more(command, more, after),
+        None => None,
+    }
 }
 
 /// The words of the options, where the words are options of the command, each given at most once.

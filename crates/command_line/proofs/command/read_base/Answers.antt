@@ -5,7 +5,7 @@ use Rattle.command_line.proofs.command.read_base.Goals as goal
 
 pub returns-clause-some : goal.returns-clause-some
 returns-clause-some c =
-    let has = c.in_ok-found.ensures.some in
+    let has = c.in-Some-read_options.ensures.some in
     record {
       words = map string_bytes c.in-Some.others.now;
       options = has.options;

@@ -15,19 +15,19 @@ returns-else-is_empty-clause-none n c =
     λ all options so_far. none_left_over c.args.command c.args.found all (map string_bytes c.args.words.now) so_far few
     (some_left string_bytes c.args.words.now (sym c.if-is_empty.ensures)) options
 
-pub returns-in_err-add_option-clause-none : goal.returns-in_err-add_option-clause-none
-returns-in_err-add_option-clause-none n c =
-    rw c.from_residual.ensures (λ all options so_far. none_next c.args.command c.args.found all (map string_bytes c.in-Some.after.now) c.in-Some.name.now c.in-Some.word.now
-    (subst (λ (left : List (List ℕ)). AreFoundBefore c.args.command c.args.found all left) c.in-Some.ensures.some so_far) c.in_err-add_option.ensures.none options)
+pub returns-in-None-clause-none : goal.returns-in-None-clause-none
+returns-in-None-clause-none n c =
+    λ all options so_far. none_next c.args.command c.args.found all (map string_bytes c.in-Some.after.now) c.in-Some.name.now c.in-Some.word.now
+    (subst (λ (left : List (List ℕ)). AreFoundBefore c.args.command c.args.found all left) c.in-Some.ensures.some so_far) c.in-None.ensures.none options
 
-pub returns-clause-some : goal.returns-clause-some
-returns-clause-some n c =
-    if_some c.read_more.result (λ more has all so_far. has all (one_more_found c.args.command c.args.found c.in_ok-add_option.field-0 all (map string_bytes c.in-Some.after.now)
-    c.in-Some.name.now c.in-Some.word.now (subst (λ (left : List (List ℕ)). AreFoundBefore c.args.command c.args.found all left) c.in-Some.ensures.some so_far) c.in_ok-add_option.ensures.some))
+pub returns-in-Some-add_option-clause-some : goal.returns-in-Some-add_option-clause-some
+returns-in-Some-add_option-clause-some n c =
+    if_some c.read_more.result (λ more has all so_far. has all (one_more_found c.args.command c.args.found c.in-Some-add_option.more all (map string_bytes c.in-Some.after.now)
+    c.in-Some.name.now c.in-Some.word.now (subst (λ (left : List (List ℕ)). AreFoundBefore c.args.command c.args.found all left) c.in-Some.ensures.some so_far) c.in-Some-add_option.ensures.some))
     c.read_more.ensures.some
 
-pub returns-clause-none : goal.returns-clause-none
-returns-clause-none n c =
-    if_none c.read_more.result (λ none all options so_far. none all options (one_more_found c.args.command c.args.found c.in_ok-add_option.field-0 all (map string_bytes c.in-Some.after.now)
-    c.in-Some.name.now c.in-Some.word.now (subst (λ (left : List (List ℕ)). AreFoundBefore c.args.command c.args.found all left) c.in-Some.ensures.some so_far) c.in_ok-add_option.ensures.some))
+pub returns-in-Some-add_option-clause-none : goal.returns-in-Some-add_option-clause-none
+returns-in-Some-add_option-clause-none n c =
+    if_none c.read_more.result (λ none all options so_far. none all options (one_more_found c.args.command c.args.found c.in-Some-add_option.more all (map string_bytes c.in-Some.after.now)
+    c.in-Some.name.now c.in-Some.word.now (subst (λ (left : List (List ℕ)). AreFoundBefore c.args.command c.args.found all left) c.in-Some.ensures.some so_far) c.in-Some-add_option.ensures.some))
     c.read_more.ensures.none
