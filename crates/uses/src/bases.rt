@@ -3,13 +3,32 @@
 ghost use Rattle.std.specs.Prelude.{IsTrue};
 ghost use Rattle.component_ids.specs.SignatureParams.{are_sig_params_in_range};
 
-use crate::components::{Fed, REQUEST, RESPONSE, params_of};
-use crate::given::message;
+use crate::components::params_of;
+use crate::given::{is_text, message};
 use component_ids::{Scheme, SigParams, Types};
 use component_values::{Context, Prepared, prepare};
 use msg_body::MessageView;
+use sfv_text::FedText;
 use signatures::{base_bytes, feed_base};
 use std::alloc::Global;
+
+// The request and the response of RFC 9421 section 2.4.
+const REQUEST: &[u8] = b"POST /foo?param=Value&Pet=dog HTTP/1.1\r\n\
+Host: example.com\r\n\
+Date: Tue, 20 Apr 2021 02:07:55 GMT\r\n\
+Content-Digest: sha-512=:WZDPaVn/7XgHaAy8pmojAkGWoRx2UFChF41A2svX+TaPm+AbwAgBWnrIiYllu7BNNyealdVLvR\
+wEmTHWXvJwew==:\r\n\
+Content-Type: application/json\r\n\
+Content-Length: 18\r\n\r\n\
+{\"hello\": \"world\"}";
+
+const RESPONSE: &[u8] = b"HTTP/1.1 503 Service Unavailable\r\n\
+Date: Tue, 20 Apr 2021 02:07:56 GMT\r\n\
+Content-Type: application/json\r\n\
+Content-Length: 62\r\n\
+Content-Digest: sha-512=:0Y6iCBzGg5rZtoXS95Ijz03mslf6KAMCloESHObfwnHJDbkkWWQz6PhhU9kxsTbARtY2PTBOzq\
+24uJFpHsMuAg==:\r\n\r\n\
+{\"busy\": true, \"message\": \"Your call is very important to us\"}";
 
 // The signature parameters and the signature base of RFC 9421 section 2.4.
 const PARAMS: &[u8] = b"(\"@status\" \"content-digest\" \"content-type\" \"@authority\";req \
@@ -29,54 +48,30 @@ NNyealdVLvRwEmTHWXvJwew==:\n\
 \"@method\";req \"@path\";req \"content-digest\";req);\
 created=1618884479;keyid=\"test-key-ecc-p256\"";
 
-// Whether the base is this one, made as a text and fed.
-fn is_base(alloc: Global, prepared: &Prepared<'_, '_>, base: &[u8]) -> bool {
-    let mut fed = Fed::new(alloc);
+// Whether the base is that of the RFC, made as a text and fed.
+fn is_base(alloc: Global, prepared: &Prepared<'_, '_>) -> bool {
+    let mut fed = FedText::new(alloc);
     feed_base(prepared, &mut fed);
-    match base_bytes(alloc, prepared) {
-        Ok(text) => text.bytes() == base && fed.is(base),
-        Err(_) => false,
-    }
+    is_text(fed.into_text(), BASE) && is_text(base_bytes(alloc, prepared), BASE)
 }
 
-// A request, the response to it, signature parameters, and the base over them.
-struct Exchange {
-    request: &'static [u8],
-    response: &'static [u8],
-    params: &'static [u8],
-    base: &'static [u8],
-}
-
-const EXCHANGE: Exchange = Exchange {
-    request: REQUEST,
-    response: RESPONSE,
-    params: PARAMS,
-    base: BASE,
-};
-
-// Whether the context has the base over the signature parameters.
-fn is_base_over(alloc: Global, context: &Context<'_, '_>, params: &SigParams, base: &[u8]) -> bool
+fn is_base_over(alloc: Global, context: &Context<'_, '_>, params: &SigParams) -> bool
     requires { IsTrue (are_sig_params_in_range params.now) }
 {
     match prepare(alloc, context, params) {
-        Ok(prepared) => is_base(alloc, &prepared, base),
+        Ok(prepared) => is_base(alloc, &prepared),
         Err(_) => false,
     }
 }
 
-fn has_base(alloc: Global, context: &Context<'_, '_>, exchange: &Exchange) -> bool {
-    match params_of(alloc, exchange.params) {
-        Some(params) => is_base_over(alloc, context, &params, exchange.base),
+fn has_base(alloc: Global, context: &Context<'_, '_>) -> bool {
+    match params_of(alloc, PARAMS) {
+        Some(params) => is_base_over(alloc, context, &params),
         None => false,
     }
 }
 
-fn has_base_of(
-    alloc: Global,
-    request: &MessageView<'_>,
-    response: &MessageView<'_>,
-    exchange: &Exchange,
-) -> bool {
+fn has_base_of(alloc: Global, request: &MessageView<'_>, response: &MessageView<'_>) -> bool {
     match Types::standard(alloc) {
         Ok(types) => {
             let context = Context {
@@ -85,27 +80,27 @@ fn has_base_of(
                 scheme: Scheme::Https,
                 types: &types,
             };
-            has_base(alloc, &context, exchange)
+            has_base(alloc, &context)
         }
         Err(_) => false,
     }
 }
 
-fn is_answered(alloc: Global, request: &MessageView<'_>, exchange: &Exchange) -> bool {
-    match message(alloc, exchange.response) {
-        Some(response) => has_base_of(alloc, request, &response.view, exchange),
+fn is_answered(alloc: Global, request: &MessageView<'_>) -> bool {
+    match message(alloc, RESPONSE) {
+        Some(response) => has_base_of(alloc, request, &response.view),
         None => false,
     }
 }
 
-fn holds(alloc: Global, exchange: &Exchange) -> bool {
-    match message(alloc, exchange.request) {
-        Some(request) => is_answered(alloc, &request.view, exchange),
+fn is_exchange(alloc: Global) -> bool {
+    match message(alloc, REQUEST) {
+        Some(request) => is_answered(alloc, &request.view),
         None => false,
     }
 }
 
 #[test]
 fn the_base_of_a_response_is_that_of_the_rfc(rt: HostRuntime) {
-    assert!(rt; holds(rt.alloc(), &EXCHANGE));
+    assert!(rt; is_exchange(rt.alloc()));
 }

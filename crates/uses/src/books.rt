@@ -354,106 +354,134 @@ const OVER_HOURS: [Arrival<'static>; 12] = [
     },
 ];
 
-// A new book, and what comes of the signatures that arrive.
+// A new book, and what comes of the signatures that arrive; and of as many that are drawn, beside a
+// plain list of the moments until which each of 32 nonces is seen.
 struct Course<'a> {
     capacity: usize,
     window: u64,
     moment: u64,
     arrivals: &'a [Arrival<'a>],
+    drawn: u32,
+    // How many times as many seconds pass as are drawn.
+    pace: u64,
 }
 
-const COURSES: [Course<'static>; 5] = [
+// Of those that are drawn, in the first four all nonces share a bucket, and in the second all entries
+// die in the same second.
+const COURSES: [Course<'static>; 14] = [
     Course {
         capacity: 1,
         window: 300,
         moment: 1_000,
         arrivals: &AT_ONE,
+        drawn: 0,
+        pace: 1,
     },
     Course {
         capacity: 2,
         window: 300,
         moment: 1_000,
         arrivals: &AT_TWO,
+        drawn: 0,
+        pace: 1,
     },
     Course {
         capacity: 1,
         window: 10,
         moment: 0,
         arrivals: &FROM_ZERO,
+        drawn: 0,
+        pace: 1,
     },
     Course {
         capacity: 2,
         window: 10,
         moment: 0,
         arrivals: &FAR,
+        drawn: 0,
+        pace: 1,
     },
     Course {
         capacity: 4,
         window: 604_800,
         moment: 3_599,
         arrivals: &OVER_HOURS,
+        drawn: 0,
+        pace: 1,
     },
-];
-
-// A book beside a plain list of the moments until which each of 32 nonces is seen.
-struct Walk {
-    capacity: usize,
-    window: u64,
-    // How many times as many seconds pass as are drawn.
-    pace: u64,
-}
-
-// In the first four all nonces share a bucket, in the second all entries die in the same second.
-const WALKS: [Walk; 9] = [
-    Walk {
+    Course {
         capacity: 1,
         window: 3,
+        moment: 1,
+        arrivals: &[],
+        drawn: 200,
         pace: 1,
     },
-    Walk {
+    Course {
         capacity: 5,
         window: 0,
+        moment: 1,
+        arrivals: &[],
+        drawn: 200,
         pace: 1,
     },
-    Walk {
+    Course {
         capacity: 16,
         window: 40,
+        moment: 1,
+        arrivals: &[],
+        drawn: 200,
         pace: 1,
     },
-    Walk {
+    Course {
         capacity: 3,
         window: 7,
+        moment: 1,
+        arrivals: &[],
+        drawn: 200,
         pace: 1,
     },
-    Walk {
+    Course {
         capacity: 65_536,
         window: 86_400,
+        moment: 1,
+        arrivals: &[],
+        drawn: 200,
         pace: 1,
     },
-    Walk {
+    Course {
         capacity: 16,
         window: 604_800,
+        moment: 1,
+        arrivals: &[],
+        drawn: 200,
         pace: 3_599,
     },
-    Walk {
+    Course {
         capacity: 5,
         window: 604_800,
+        moment: 1,
+        arrivals: &[],
+        drawn: 200,
         pace: 3_600,
     },
-    Walk {
+    Course {
         capacity: 32,
         window: 604_799,
+        moment: 1,
+        arrivals: &[],
+        drawn: 200,
         pace: 30_241,
     },
-    Walk {
+    Course {
         capacity: 16,
         window: 7_200,
+        moment: 1,
+        arrivals: &[],
+        drawn: 200,
         pace: 601,
     },
 ];
-
-// So many signatures arrive in a walk.
-const ARRIVALS: u32 = 200;
 
 // Nonces of two bytes: with the keyid `k` the first four bytes of each one's SHA-256 are a multiple
 // of 16.
@@ -487,17 +515,6 @@ fn answer_of<L: Ledger>(
     }
 }
 
-// A new book, where the limits allow it.
-fn opened(alloc: Global, capacity: usize, window: u64, moment: u64) -> Option<NonceBook> {
-    if capacity < 1 || capacity > MAX_ENTRIES {
-        return None;
-    }
-    if window > MAX_WINDOW || moment > MAX_MOMENT {
-        return None;
-    }
-    NonceBook::open(alloc, capacity, window, moment).ok()
-}
-
 // Whether the book answers each arrival as it has to be.
 fn are_answered<L: Ledger>(
     book: &mut NonceBook,
@@ -512,17 +529,15 @@ fn are_answered<L: Ledger>(
     true
 }
 
-// The same of a new book.
-fn is_answered<L: Ledger>(alloc: Global, course: &Course<'_>, steps: &mut Steps<L>) -> bool {
-    match opened(alloc, course.capacity, course.window, course.moment) {
-        Some(mut book) => are_answered(&mut book, course.arrivals, steps),
-        None => false,
-    }
-}
-
 // How many entries of the list live.
 fn live_count(untils: &[u64; 32], now: u64) -> usize {
-    untils.iter().filter(|until| **until >= now).count()
+    let mut count = 0_usize;
+    for until in untils {
+        if *until >= now {
+            count = count.saturating_add(1);
+        }
+    }
+    count
 }
 
 // Whether the book answers an arrival as the list does, and holds as many entries.
@@ -562,27 +577,32 @@ fn agrees<L: Ledger>(
     book.len() == live_count(untils, now)
 }
 
-// Whether the book answers each arrival of a walk as the list does.
-fn is_walked_by<L: Ledger>(book: &mut NonceBook, pace: u64, steps: &mut Steps<L>) -> bool {
+// Whether the book answers each arrival that is drawn as the list does.
+fn is_walked<L: Ledger>(book: &mut NonceBook, course: &Course<'_>, steps: &mut Steps<L>) -> bool {
     let mut untils = [0u64; 32];
     let mut draw = 7u64;
-    for _arrival in 0..ARRIVALS {
+    for _arrival in 0..course.drawn {
         draw = draw.wrapping_mul(6_364_136_223_846_793_005).wrapping_add(1);
-        if !agrees(book, &mut untils, pace, draw >> 33, steps) {
+        if !agrees(book, &mut untils, course.pace, draw >> 33, steps) {
             return false;
         }
     }
     true
 }
 
-fn is_walked<L: Ledger>(alloc: Global, walk: &Walk, steps: &mut Steps<L>) -> bool {
-    match opened(alloc, walk.capacity, walk.window, 1) {
-        Some(mut book) => is_walked_by(&mut book, walk.pace, steps),
-        None => false,
+// Whether a new book is as it has to be, where the limits allow it.
+fn is_right<L: Ledger>(alloc: Global, course: &Course<'_>, steps: &mut Steps<L>) -> bool {
+    let capacity = course.capacity.max(1).min(MAX_ENTRIES);
+    let window = course.window.min(MAX_WINDOW);
+    match NonceBook::open(alloc, capacity, window, course.moment.min(MAX_MOMENT)) {
+        Ok(mut book) => {
+            are_answered(&mut book, course.arrivals, steps) && is_walked(&mut book, course, steps)
+        }
+        Err(_) => false,
     }
 }
 
-// Whether all courses and walks are as they have to be.
+// Whether all are.
 fn are_all<L: Ledger>(alloc: Global, blank: Blank) -> bool
     requires name { blank.name ≡ L.name }
     requires parts { blank.parts ≡ L.parts }
@@ -590,12 +610,7 @@ fn are_all<L: Ledger>(alloc: Global, blank: Blank) -> bool
 {
     let mut steps: Steps<L> = Steps::new(blank);
     for course in &COURSES {
-        if !is_answered(alloc, course, &mut steps) {
-            return false;
-        }
-    }
-    for walk in &WALKS {
-        if !is_walked(alloc, walk, &mut steps) {
+        if !is_right(alloc, course, &mut steps) {
             return false;
         }
     }

@@ -85,14 +85,10 @@ fn nonces_are_counted_and_the_policy_of_the_tag_is_chosen(rt: HostRuntime) {
 
 // Whether a key that is added to a configuration without keys is the one key in it.
 fn takes_key(conf: &mut Conf) -> bool {
-    match conf.key(b"a") {
-        Some(_) => false,
-        None => {
-            conf.add_key(b"a", b"1").is_ok()
-                && conf.key(b"a") == Some(b"1".as_slice())
-                && conf.key(b"b").is_none()
-        }
-    }
+    conf.key(b"a").is_none()
+        && conf.add_key(b"a", b"1").is_ok()
+        && conf.key(b"a") == Some(b"1".as_slice())
+        && conf.key(b"b").is_none()
 }
 
 fn is_added(alloc: Global) -> bool {

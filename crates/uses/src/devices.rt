@@ -5,10 +5,8 @@ use hms_io::{
     DirShelf, Failed, FileError, FillError, MAX_LIMIT, MemShelf, MemSink, MemSource, Shelf, Sink,
     Source, StdSink, StdSource, fill, put_all, take_file,
 };
-use sfv_text::Memory;
 use std::alloc::Global;
 use std::io::{ErrorKind, Read, Write};
-use std::rt::Files;
 use std::{fs, io};
 
 const TEXT: &[u8] = b"GET /a HTTP/1.1";
@@ -54,13 +52,23 @@ const FILLINGS: [Filling<'static>; 6] = [
     },
 ];
 
+// Whether the source gives the text, or why it doesn't.
+fn fills<S: Source>(
+    alloc: Global,
+    source: &mut S,
+    limit: usize,
+    wanted: Result<&[u8], FillError>,
+) -> bool {
+    match fill(alloc, source, limit.min(MAX_LIMIT)) {
+        Ok(text) => wanted == Ok(text.bytes()),
+        Err(error) => wanted == Err(error),
+    }
+}
+
 fn is_filled(alloc: Global, row: &Filling<'_>) -> bool {
-    let Ok(mut source) = MemSource::new(alloc, TEXT, 1, row.fails) else {
-        return false;
-    };
-    match fill(alloc, &mut source, row.limit.min(MAX_LIMIT)) {
-        Ok(text) => row.wanted == Ok(text.bytes()),
-        Err(error) => row.wanted == Err(error),
+    match MemSource::new(alloc, TEXT, 1, row.fails) {
+        Ok(mut source) => fills(alloc, &mut source, row.limit, row.wanted),
+        Err(_) => false,
     }
 }
 
@@ -108,21 +116,16 @@ fn is_put(alloc: Global, row: &Putting<'_>) -> bool {
 }
 
 #[test]
-fn a_text_is_read_from_memory_or_the_read_fails(rt: HostRuntime) {
+fn a_text_is_read_from_memory_and_written_to_it_or_a_call_fails(rt: HostRuntime) {
     for row in &FILLINGS {
         assert!(rt; is_filled(rt.alloc(), row));
     }
-}
-
-#[test]
-fn a_text_is_written_to_memory_or_the_write_fails(rt: HostRuntime) {
     for row in &PUTTINGS {
         assert!(rt; is_put(rt.alloc(), row));
     }
 }
 
 // A file that is asked for, whole.
-#[derive(Clone, Copy)]
 struct Taking<'a> {
     name: &'a str,
     limit: usize,
@@ -170,16 +173,6 @@ fn is_taken<F: Shelf>(alloc: Global, shelf: &mut F, row: &Taking<'_>) -> bool {
     }
 }
 
-fn put_files(shelf: &mut MemShelf) -> Result<(), Memory> {
-    shelf.put("a", b"an earlier file of that name")?;
-    shelf.put("empty", b"")?;
-    shelf.put("a", TEXT)
-}
-
-fn are_files_right(alloc: Global, shelf: &mut MemShelf) -> bool {
-    put_files(shelf).is_ok() && are_taken(alloc, shelf, &TAKINGS)
-}
-
 fn are_taken<F: Shelf>(alloc: Global, shelf: &mut F, rows: &[Taking<'_>]) -> bool {
     for row in rows {
         if !is_taken(alloc, shelf, row) {
@@ -191,14 +184,47 @@ fn are_taken<F: Shelf>(alloc: Global, shelf: &mut F, rows: &[Taking<'_>]) -> boo
 
 fn is_shelf_right(alloc: Global) -> bool {
     match MemShelf::new(alloc, &[0, 5]) {
-        Ok(mut shelf) => are_files_right(alloc, &mut shelf),
+        Ok(mut shelf) => {
+            shelf.put("a", b"an earlier file of that name").is_ok()
+                && shelf.put("empty", b"").is_ok()
+                && shelf.put("a", TEXT).is_ok()
+                && are_taken(alloc, &mut shelf, &TAKINGS)
+        }
         Err(_) => false,
     }
 }
 
+// A file of the folder. What other names give is a case of cases/.
+const FILES: [Taking<'static>; 4] = [
+    Taking {
+        name: "taken",
+        limit: 15,
+        wanted: Ok(TEXT),
+    },
+    Taking {
+        name: "taken",
+        limit: 14,
+        wanted: Err(FileError::TooLong),
+    },
+    Taking {
+        name: "taken ",
+        limit: 15,
+        wanted: Err(FileError::Missing),
+    },
+    // No file has such a name.
+    Taking {
+        name: "taken\0",
+        limit: 15,
+        wanted: Err(FileError::Failed),
+    },
+];
+
 #[test]
-fn a_file_in_memory_is_taken_whole_or_not_at_all(rt: HostRuntime) {
+fn a_file_is_taken_whole_or_not_at_all(rt: HostRuntime) {
+    let _ = fs::write(&rt, "taken", TEXT);
     assert!(rt; is_shelf_right(rt.alloc()));
+    assert!(rt; are_taken(rt.alloc(), &mut DirShelf::new(&rt), &FILES));
+    let _ = fs::remove_file(&rt, "taken");
 }
 
 // What a call of a reader or a writer does: it gives or takes at most so many bytes, or fails.
@@ -263,18 +289,11 @@ const READINGS: [Reading<'static>; 4] = [
     },
 ];
 
-fn is_read(alloc: Global, row: &Reading<'_>) -> bool {
-    let mut source = StdSource::new(TurnReader { turns: row.turns });
-    match fill(alloc, &mut source, 15) {
-        Ok(text) => row.wanted == Ok(text.bytes()),
-        Err(error) => row.wanted == Err(error),
-    }
-}
-
 #[test]
 fn a_source_over_a_reader_gives_its_bytes_and_its_faults(rt: HostRuntime) {
     for row in &READINGS {
-        assert!(rt; is_read(rt.alloc(), row));
+        let mut source = StdSource::new(TurnReader { turns: row.turns });
+        assert!(rt; fills(rt.alloc(), &mut source, 15, row.wanted));
     }
 }
 
@@ -359,98 +378,4 @@ fn a_sink_over_a_writer_flushes_each_write_and_fails_where_it_does(rt: HostRunti
         assert!(rt; is_written(row));
     }
     assert!(rt; is_slice_filled());
-}
-
-// The files of a folder: a name with a space at its end, too.
-const FILES: [Taking<'static>; 8] = [
-    Taking {
-        name: "shelf/a",
-        limit: 15,
-        wanted: Ok(TEXT),
-    },
-    Taking {
-        name: "shelf/a",
-        limit: 14,
-        wanted: Err(FileError::TooLong),
-    },
-    Taking {
-        name: "shelf/b ",
-        limit: 15,
-        wanted: Ok(b"b"),
-    },
-    Taking {
-        name: "shelf/b",
-        limit: 15,
-        wanted: Err(FileError::Missing),
-    },
-    Taking {
-        name: " shelf/a",
-        limit: 15,
-        wanted: Err(FileError::Missing),
-    },
-    // A folder is there and is no file, and so is a path through a file.
-    Taking {
-        name: "shelf",
-        limit: 15,
-        wanted: Err(FileError::Failed),
-    },
-    Taking {
-        name: "shelf/a/b",
-        limit: 15,
-        wanted: Err(FileError::Failed),
-    },
-    // No file has such a name.
-    Taking {
-        name: "shelf/\0",
-        limit: 15,
-        wanted: Err(FileError::Failed),
-    },
-];
-
-fn fill_folder<R: Files>(rt: &R) {
-    let _ = fs::create_dir(rt, "shelf");
-    let _ = fs::write(rt, "shelf/a", TEXT);
-    let _ = fs::write(rt, "shelf/b ", b"b");
-}
-
-fn empty_folder<R: Files>(rt: &R) {
-    let _ = fs::remove_file(rt, "shelf/a");
-    let _ = fs::remove_file(rt, "shelf/b ");
-    let _ = fs::remove_dir(rt, "shelf");
-}
-
-#[test]
-fn a_file_of_a_folder_is_taken_whole_or_not_at_all(rt: HostRuntime) {
-    fill_folder(&rt);
-    assert!(rt; are_taken(rt.alloc(), &mut DirShelf::new(&rt), &FILES));
-    empty_folder(&rt);
-}
-
-// A file that many reads give is taken whole where the limit is its length, and is too long for one
-// that is less.
-fn is_long_file_taken<R: Files>(alloc: Global, rt: &R) -> bool {
-    let Ok(long) = vec![in alloc; b'x'; 65_537] else {
-        return false;
-    };
-    let _ = fs::write(rt, "long", long.as_slice());
-    let rows = [
-        Taking {
-            name: "long",
-            limit: 65_537,
-            wanted: Ok(long.as_slice()),
-        },
-        Taking {
-            name: "long",
-            limit: 65_536,
-            wanted: Err(FileError::TooLong),
-        },
-    ];
-    let is_taken = are_taken(alloc, &mut DirShelf::new(rt), &rows);
-    let _ = fs::remove_file(rt, "long");
-    is_taken
-}
-
-#[test]
-fn a_file_of_many_reads_is_taken_whole_or_not_at_all(rt: HostRuntime) {
-    assert!(rt; is_long_file_taken(rt.alloc(), &rt));
 }

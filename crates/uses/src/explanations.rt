@@ -6,13 +6,12 @@ ghost use Rattle.msg_body.specs.Views.{message_of};
 ghost use Rattle.component_values.specs.Context.{HasWholeMessage, context_of};
 ghost use Rattle.signatures.specs.Signatures.{HasSignature};
 
-use crate::given::message;
-use crate::scripts::is_printed;
+use crate::given::{is_text, message};
 use component_ids::{Scheme, SigParams, Types};
 use component_values::Context;
 use msg_body::MessageView;
-use msg_head::Side;
-use normal_forms::{Basis, ExplainFault, Explained, FixedName, explain, normal_form};
+use normal_forms::{Explained, explain, normal_form};
+use rewrite_script::print_script;
 use signatures::read_label;
 use std::alloc::Global;
 
@@ -90,7 +89,8 @@ signature:s=:AA==:\r\n\r\n\
 8\r\nabcdefgh\r\n0\r\n\
 b:1, 2\r\n\r\n";
 
-// A record, the steps that make it normal for the label `s`, and the normal message.
+// A record, the steps that make it normal for the label `s`, and the normal message, which takes
+// none.
 struct Form {
     message: &'static [u8],
     steps: &'static [u8],
@@ -130,7 +130,7 @@ fn is_normal(
     match normal_form(alloc, context, label, params) {
         Ok(normal) => {
             normal.message.bytes() == row.normal
-                && is_printed(alloc, normal.steps.as_slice(), row.steps)
+                && is_text(print_script(alloc, normal.steps.as_slice()), row.steps)
         }
         Err(_) => false,
     }
@@ -146,133 +146,82 @@ fn has_form(alloc: Global, context: &Context<'_, '_>, row: &Form) -> bool
     }
 }
 
-fn is_form_by(alloc: Global, types: &Types, row: &Form) -> bool {
-    match message(alloc, row.message) {
-        Some(given) => {
-            let context = Context::of_message(&given.view, Scheme::Http, types);
-            has_form(alloc, &context, row)
+fn are_steps(alloc: Global, explained: &Explained, row: &Form) -> bool {
+    match explained {
+        Explained::Same { first, second } => {
+            is_text(print_script(alloc, first.as_slice()), row.steps) && second.is_empty()
         }
+        Explained::Differs { .. } => false,
+    }
+}
+
+// Whether the record and the normal message are the same for the label, after the row's steps.
+fn are_explained(
+    alloc: Global,
+    record: &MessageView<'_>,
+    normal: &MessageView<'_>,
+    types: &Types,
+    row: &Form,
+) -> bool
+    requires record { IsMessage false (message_of record.now) }
+    requires normal { IsMessage false (message_of normal.now) }
+{
+    let first = Context::of_message(record, Scheme::Http, types);
+    let second = Context::of_message(normal, Scheme::Http, types);
+    match explain(alloc, &first, &second, b"s") {
+        Ok(explained) => are_steps(alloc, &explained, row),
+        Err(_) => false,
+    }
+}
+
+fn is_form_by(
+    alloc: Global,
+    record: &MessageView<'_>,
+    normal: &MessageView<'_>,
+    types: &Types,
+    row: &Form,
+) -> bool
+    requires record { IsMessage false (message_of record.now) }
+    requires normal { IsMessage false (message_of normal.now) }
+{
+    let context = Context::of_message(record, Scheme::Http, types);
+    has_form(alloc, &context, row) && are_explained(alloc, record, normal, types, row)
+}
+
+fn is_form_beside(
+    alloc: Global,
+    record: &MessageView<'_>,
+    normal: &MessageView<'_>,
+    row: &Form,
+) -> bool
+    requires record { IsMessage false (message_of record.now) }
+    requires normal { IsMessage false (message_of normal.now) }
+{
+    match Types::standard(alloc) {
+        Ok(types) => is_form_by(alloc, record, normal, &types, row),
+        Err(_) => false,
+    }
+}
+
+fn is_form_of(alloc: Global, record: &MessageView<'_>, row: &Form) -> bool
+    requires { IsMessage false (message_of record.now) }
+{
+    match message(alloc, row.normal) {
+        Some(given) => is_form_beside(alloc, record, &given.view, row),
         None => false,
     }
 }
 
 fn is_form(alloc: Global, row: &Form) -> bool {
-    match Types::standard(alloc) {
-        Ok(types) => is_form_by(alloc, &types, row),
-        Err(_) => false,
+    match message(alloc, row.message) {
+        Some(given) => is_form_of(alloc, &given.view, row),
+        None => false,
     }
 }
 
 #[test]
-fn messages_have_normal_forms(rt: HostRuntime) {
+fn messages_have_normal_forms_and_are_explained_by_them(rt: HostRuntime) {
     for (index, row) in FORMS.iter().enumerate() {
         assert!(rt; is_form(rt.alloc(), row), "row {index}");
-    }
-}
-
-const RECEIVED: &[u8] = b"GET / HTTP/1.1\r\n\
-a:x\r\n\
-host:h\r\n\
-signature:s=:AA==:\r\n\
-signature-input:s=(\"a\")\r\n\r\n";
-
-// What is said of two records: the steps of each, the index of a component, or a fault.
-enum Said {
-    Same(&'static [u8], &'static [u8]),
-    Differs(usize),
-    Fault(ExplainFault),
-}
-
-// A record of what was sent, and what is said of it beside the one of what was received.
-struct Record {
-    message: &'static [u8],
-    said: Said,
-}
-
-const RECORDS: [Record; 3] = [
-    Record {
-        message: SENT,
-        said: Said::Same(STEPS, b""),
-    },
-    Record {
-        message: b"GET / HTTP/1.1\r\n\
-Host: h\r\n\
-A:  y\r\n\
-Signature-Input: s=(\"a\")\r\n\
-Signature: s=:AA==:\r\n\r\n",
-        said: Said::Differs(0),
-    },
-    Record {
-        message: b"GET / HTTP/1.1\r\n\
-Host: i\r\n\
-A:  x\r\n\
-Signature-Input: s=(\"a\")\r\n\
-Signature: s=:AA==:\r\n\r\n",
-        said: Said::Fault(ExplainFault::OtherBasis(Basis::Field {
-            side: Side::Header,
-            name: FixedName::Host,
-        })),
-    },
-];
-
-fn is_as_said(alloc: Global, explained: &Explained, said: &Said) -> bool {
-    match (explained, said) {
-        (Explained::Same { first, second }, Said::Same(steps, others)) => {
-            is_printed(alloc, first.as_slice(), *steps)
-                && is_printed(alloc, second.as_slice(), *others)
-        }
-        (Explained::Differs { index }, Said::Differs(wanted)) => index == wanted,
-        _ => false,
-    }
-}
-
-fn are_explained(
-    alloc: Global,
-    message: &MessageView<'_>,
-    other: &MessageView<'_>,
-    types: &Types,
-    said: &Said,
-) -> bool
-    requires first { IsMessage false (message_of message.now) }
-    requires second { IsMessage false (message_of other.now) }
-{
-    let first = Context::of_message(message, Scheme::Http, types);
-    let second = Context::of_message(other, Scheme::Http, types);
-    match explain(alloc, &first, &second, b"s") {
-        Ok(explained) => is_as_said(alloc, &explained, said),
-        Err(fault) => match said {
-            Said::Fault(wanted) => fault == *wanted,
-            _ => false,
-        },
-    }
-}
-
-fn is_explained_beside(alloc: Global, other: &MessageView<'_>, types: &Types, row: &Record) -> bool
-    requires { IsMessage false (message_of other.now) }
-{
-    match message(alloc, row.message) {
-        Some(given) => are_explained(alloc, &given.view, other, types, &row.said),
-        None => false,
-    }
-}
-
-fn is_explained_by(alloc: Global, types: &Types, row: &Record) -> bool {
-    match message(alloc, RECEIVED) {
-        Some(other) => is_explained_beside(alloc, &other.view, types, row),
-        None => false,
-    }
-}
-
-fn is_explained(alloc: Global, row: &Record) -> bool {
-    match Types::standard(alloc) {
-        Ok(types) => is_explained_by(alloc, &types, row),
-        Err(_) => false,
-    }
-}
-
-#[test]
-fn two_records_are_explained_or_not(rt: HostRuntime) {
-    for (index, row) in RECORDS.iter().enumerate() {
-        assert!(rt; is_explained(rt.alloc(), row), "row {index}");
     }
 }

@@ -1,5 +1,5 @@
 // What tests are given: a configuration and messages, each dropped by one call, so that what owns
-// it is proved sooner.
+// it is proved sooner; and whether a text that is answered is as it has to be.
 
 ghost use Rattle.std.specs.Prelude.{IfSome, false};
 ghost use Rattle.framing.specs.Framings.{is_head_request};
@@ -10,6 +10,7 @@ use conf::{Conf, read_conf};
 use intake::{Reading, message_of_role};
 use msg_body::{MessageView, whole_message};
 use refusals::Role;
+use sfv_text::{Memory, Text};
 use std::alloc::Global;
 
 // A configuration that is given.
@@ -73,25 +74,10 @@ pub(crate) fn response<'m>(
     }
 }
 
-fn is_message(alloc: Global, text: &[u8]) -> bool {
-    message(alloc, text).is_some()
-}
-
-// Whether the text is a response to this request.
-fn is_response(alloc: Global, request: &[u8], text: &[u8]) -> bool {
-    match message(alloc, request) {
-        Some(given) => response(alloc, &given.view, text).is_some(),
-        None => false,
+// Whether the answer is this text.
+pub(crate) fn is_text(answer: Result<Text, Memory>, bytes: &[u8]) -> bool {
+    match answer {
+        Ok(text) => text.bytes() == bytes,
+        Err(_) => false,
     }
-}
-
-// A response to HEAD has no content, whatever its length says.
-#[test]
-fn texts_are_messages_or_none(rt: HostRuntime) {
-    let alloc = rt.alloc();
-    let answer = b"HTTP/1.1 200 OK\r\nContent-Length: 3\r\n\r\n".as_slice();
-    assert!(rt; is_message(alloc, b"GET / HTTP/1.1\r\n\r\n"));
-    assert!(rt; !is_message(alloc, answer));
-    assert!(rt; is_response(alloc, b"HEAD / HTTP/1.1\r\n\r\n", answer));
-    assert!(rt; !is_response(alloc, b"GET / HTTP/1.1\r\n\r\n", answer));
 }

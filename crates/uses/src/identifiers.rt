@@ -5,26 +5,17 @@ ghost use Rattle.component_ids.specs.Identifiers.{is_id_in_range};
 ghost use Rattle.component_ids.specs.SignatureParams.{are_sig_params_in_range};
 
 use crate::components::params_of;
+use crate::given::is_text;
 use component_ids::{ComponentId, FieldKind, ParamsText, SigParams, Types, print_id, print_params};
 use sfv_text::{Params, Text};
 use std::alloc::Global;
 
-// Whether the signature parameters are printed as the text.
-fn is_text_of(alloc: Global, params: &SigParams, text: &[u8]) -> bool
-    requires { IsTrue (are_sig_params_in_range params.now) }
-{
-    match print_params(alloc, params) {
-        Ok(printed) => printed.bytes() == text,
-        Err(_) => false,
-    }
-}
-
-// Whether they are copied and printed as the text.
+// Whether the signature parameters are copied and printed as the text.
 fn are_printed(alloc: Global, params: &SigParams, text: &[u8]) -> bool
     requires { IsTrue (are_sig_params_in_range params.now) }
 {
     match params.copy(alloc) {
-        Ok(copy) => is_text_of(alloc, &copy, text),
+        Ok(copy) => is_text(print_params(alloc, &copy), text),
         Err(_) => false,
     }
 }
@@ -51,22 +42,12 @@ fn are_as_written(alloc: Global, text: &[u8], second: &[u8]) -> bool {
     }
 }
 
-// Whether an identifier is printed as the text.
+// Whether an identifier is copied and printed as the text.
 fn is_printed(alloc: Global, id: &ComponentId, text: &[u8]) -> bool
     requires { IsTrue (is_id_in_range id.now) }
 {
-    match print_id(alloc, id) {
-        Ok(printed) => printed.bytes() == text,
-        Err(_) => false,
-    }
-}
-
-// Whether it is copied and printed.
-fn is_copied(alloc: Global, id: &ComponentId, text: &[u8]) -> bool
-    requires { IsTrue (is_id_in_range id.now) }
-{
     match id.copy(alloc) {
-        Ok(copy) => is_printed(alloc, &copy, text),
+        Ok(copy) => is_text(print_id(alloc, &copy), text),
         Err(_) => false,
     }
 }
@@ -78,7 +59,7 @@ fn is_identifier(alloc: Global) -> bool {
                 name,
                 params: Params::new(alloc),
             };
-            is_copied(alloc, &id, br#""a""#)
+            is_printed(alloc, &id, br#""a""#)
         }
         Err(_) => false,
     }
@@ -131,15 +112,22 @@ const KINDS: [Kind; 7] = [
     },
 ];
 
-fn are_kinds(types: &mut Types) -> bool {
-    types.add(b"age", FieldKind::Item).is_ok()
-        && types.add(b"signature", FieldKind::List).is_ok()
-        && KINDS.iter().all(|row| types.kind_of(row.name) == row.kind)
+fn are_kinds(types: &Types) -> bool {
+    for row in &KINDS {
+        if types.kind_of(row.name) != row.kind {
+            return false;
+        }
+    }
+    true
 }
 
 fn are_added(alloc: Global) -> bool {
     match Types::standard(alloc) {
-        Ok(mut types) => are_kinds(&mut types),
+        Ok(mut types) => {
+            types.add(b"age", FieldKind::Item).is_ok()
+                && types.add(b"signature", FieldKind::List).is_ok()
+                && are_kinds(&types)
+        }
         Err(_) => false,
     }
 }

@@ -35,7 +35,6 @@ fn bytes_of_a_class_are_read(rt: HostRuntime) {
     assert!(rt; are_bytes_read() && are_bytes_refused());
 }
 
-#[derive(Clone, Copy)]
 enum Kind {
     Item,
     Inner,
@@ -44,7 +43,7 @@ enum Kind {
 }
 
 // The strict text of what is read.
-fn strict_text(kind: Kind, alloc: Global, text: &[u8]) -> Result<Text, SfError> {
+fn strict_text(kind: &Kind, alloc: Global, text: &[u8]) -> Result<Text, SfError> {
     let printed = match kind {
         Kind::Item => print_item(alloc, &read_item(alloc, text)?),
         Kind::Inner => print_inner(alloc, &read_inner(alloc, text)?),
@@ -57,212 +56,210 @@ fn strict_text(kind: Kind, alloc: Global, text: &[u8]) -> Result<Text, SfError> 
     }
 }
 
-// A text, and the strict text of its value.
+// Texts, and the strict text of their value, or why they aren't read.
 struct Reads {
     kind: Kind,
-    text: &'static [u8],
-    strict: &'static [u8],
+    texts: &'static [&'static [u8]],
+    read: Result<&'static [u8], SfError>,
 }
 
-// Texts with blanks at their ends, which a field's value never has, and a repeated key. With the
-// faults of `(a b` and `%"%ff"` below, the example of sfv_read.
+// Texts with blanks at their ends, which a field's value never has, a repeated key, and faults (RFC
+// 9651 section 3). No line of the program has an offset in a List or a Dictionary. With the faults
+// of `(a b` and `%"%ff"`, the example of sfv_read.
 const READS: [Reads; 9] = [
     Reads {
         kind: Kind::Item,
-        text: b" 1 ",
-        strict: b"1",
+        texts: &[b" 1 "],
+        read: Ok(b"1"),
     },
     Reads {
         kind: Kind::Item,
-        text: b" @-0 ",
-        strict: b"@0",
+        texts: &[b" @-0 "],
+        read: Ok(b"@0"),
     },
     Reads {
         kind: Kind::List,
-        text: br#"%"a%21f%c3%bc",(@1)"#,
-        strict: br#"%"a!f%c3%bc", (@1)"#,
+        texts: &[br#"%"a%21f%c3%bc",(@1)"#],
+        read: Ok(br#"%"a!f%c3%bc", (@1)"#),
     },
     Reads {
         kind: Kind::Inner,
-        text: b" (  ) ",
-        strict: b"()",
+        texts: &[b" (  ) "],
+        read: Ok(b"()"),
     },
     Reads {
         kind: Kind::List,
-        text: b"  ",
-        strict: b"",
+        texts: &[b"  "],
+        read: Ok(b""),
     },
     Reads {
         kind: Kind::List,
-        text: b" a ,\t b\t ",
-        strict: b"a, b",
+        texts: &[b" a ,\t b\t "],
+        read: Ok(b"a, b"),
     },
     Reads {
         kind: Kind::Dict,
-        text: b" ",
-        strict: b"",
+        texts: &[b" "],
+        read: Ok(b""),
     },
     Reads {
         kind: Kind::Dict,
-        text: b"a=1, b, a=2",
-        strict: b"a=2, b",
+        texts: &[b"a=1, b, a=2"],
+        read: Ok(b"a=2, b"),
     },
     Reads {
         kind: Kind::Dict,
-        text: b"a=?1;x,b;x=1\t",
-        strict: b"a;x, b;x=1",
+        texts: &[b"a=?1;x,b;x=1\t"],
+        read: Ok(b"a;x, b;x=1"),
     },
 ];
 
-fn is_read(alloc: Global, row: &Reads) -> bool {
-    match strict_text(row.kind, alloc, row.text) {
-        Ok(text) => text.bytes() == row.strict,
-        Err(_) => false,
+const REFUSES: [Reads; 17] = [
+    Reads {
+        kind: Kind::Item,
+        texts: &[b"", b"\t1"],
+        read: Err(Syntax(0)),
+    },
+    Reads {
+        kind: Kind::Item,
+        texts: &[b"1\t", b"1,2", b"a\x80"],
+        read: Err(Syntax(1)),
+    },
+    Reads {
+        kind: Kind::Item,
+        texts: &[b"  ", b"1 \t", b"1 2", b"@1.5", b" @", b"%\"\x80\""],
+        read: Err(Syntax(2)),
+    },
+    Reads {
+        kind: Kind::Item,
+        texts: &[b":AB:", br#"%"%80""#],
+        read: Err(Syntax(3)),
+    },
+    Reads {
+        kind: Kind::Item,
+        texts: &[br#"%"%ff""#, br#"%"%cA""#],
+        read: Err(Syntax(4)),
+    },
+    Reads {
+        kind: Kind::Item,
+        texts: &[b"1.2345"],
+        read: Err(Syntax(5)),
+    },
+    Reads {
+        kind: Kind::Item,
+        texts: &[b"abcdefgh @1", b"abcdefgh %"],
+        read: Err(Syntax(9)),
+    },
+    Reads {
+        kind: Kind::Inner,
+        texts: &[b"(a b"],
+        read: Err(Syntax(4)),
+    },
+    Reads {
+        kind: Kind::List,
+        texts: &[b"\ta", b",a"],
+        read: Err(Syntax(0)),
+    },
+    Reads {
+        kind: Kind::List,
+        texts: &[b" \t"],
+        read: Err(Syntax(1)),
+    },
+    Reads {
+        kind: Kind::List,
+        texts: &[b"a,", b"a,,b", b"a b", b"a ;b", b"a @"],
+        read: Err(Syntax(2)),
+    },
+    Reads {
+        kind: Kind::List,
+        texts: &[b"a, %", b"a,\t@"],
+        read: Err(Syntax(4)),
+    },
+    Reads {
+        kind: Kind::Dict,
+        texts: &[b"A=1", br#""a"=1"#, b"@a"],
+        read: Err(Syntax(0)),
+    },
+    Reads {
+        kind: Kind::Dict,
+        texts: &[b"a=", b"a =1", b"a= 1"],
+        read: Err(Syntax(2)),
+    },
+    Reads {
+        kind: Kind::Dict,
+        texts: &[b"a=1,", b"a=1,,b", b"a=1 b=2", b"a=1;A", b"a=(@"],
+        read: Err(Syntax(4)),
+    },
+    Reads {
+        kind: Kind::Dict,
+        texts: &[b"a;b=%"],
+        read: Err(Syntax(5)),
+    },
+    Reads {
+        kind: Kind::Dict,
+        texts: &[b"a=1, b=@"],
+        read: Err(Syntax(8)),
+    },
+];
+
+fn is_read(alloc: Global, text: &[u8], row: &Reads) -> bool {
+    match strict_text(&row.kind, alloc, text) {
+        Ok(strict) => row.read == Ok(strict.bytes()),
+        Err(fault) => row.read == Err(fault),
     }
 }
 
 #[test]
 fn texts_read_as_their_values(rt: HostRuntime) {
     for row in &READS {
-        assert!(rt; is_read(rt.alloc(), row));
+        for text in row.texts {
+            assert!(rt; is_read(rt.alloc(), *text, row));
+        }
     }
-}
-
-// Texts that aren't read, and why.
-struct Refuses {
-    kind: Kind,
-    fault: SfError,
-    texts: &'static [&'static [u8]],
-}
-
-// RFC 9651 section 3. No line of the program has an offset in a List or a Dictionary.
-const REFUSES: [Refuses; 17] = [
-    Refuses {
-        kind: Kind::Item,
-        fault: Syntax(0),
-        texts: &[b"", b"\t1"],
-    },
-    Refuses {
-        kind: Kind::Item,
-        fault: Syntax(1),
-        texts: &[b"1\t", b"1,2", b"a\x80"],
-    },
-    Refuses {
-        kind: Kind::Item,
-        fault: Syntax(2),
-        texts: &[b"  ", b"1 \t", b"1 2", b"@1.5", b" @", b"%\"\x80\""],
-    },
-    Refuses {
-        kind: Kind::Item,
-        fault: Syntax(3),
-        texts: &[b":AB:", br#"%"%80""#],
-    },
-    Refuses {
-        kind: Kind::Item,
-        fault: Syntax(4),
-        texts: &[br#"%"%ff""#, br#"%"%cA""#],
-    },
-    Refuses {
-        kind: Kind::Item,
-        fault: Syntax(5),
-        texts: &[b"1.2345"],
-    },
-    Refuses {
-        kind: Kind::Item,
-        fault: Syntax(9),
-        texts: &[b"abcdefgh @1", b"abcdefgh %"],
-    },
-    Refuses {
-        kind: Kind::Inner,
-        fault: Syntax(4),
-        texts: &[b"(a b"],
-    },
-    Refuses {
-        kind: Kind::List,
-        fault: Syntax(0),
-        texts: &[b"\ta", b",a"],
-    },
-    Refuses {
-        kind: Kind::List,
-        fault: Syntax(1),
-        texts: &[b" \t"],
-    },
-    Refuses {
-        kind: Kind::List,
-        fault: Syntax(2),
-        texts: &[b"a,", b"a,,b", b"a b", b"a ;b", b"a @"],
-    },
-    Refuses {
-        kind: Kind::List,
-        fault: Syntax(4),
-        texts: &[b"a, %", b"a,\t@"],
-    },
-    Refuses {
-        kind: Kind::Dict,
-        fault: Syntax(0),
-        texts: &[b"A=1", br#""a"=1"#, b"@a"],
-    },
-    Refuses {
-        kind: Kind::Dict,
-        fault: Syntax(2),
-        texts: &[b"a=", b"a =1", b"a= 1"],
-    },
-    Refuses {
-        kind: Kind::Dict,
-        fault: Syntax(4),
-        texts: &[b"a=1,", b"a=1,,b", b"a=1 b=2", b"a=1;A", b"a=(@"],
-    },
-    Refuses {
-        kind: Kind::Dict,
-        fault: Syntax(5),
-        texts: &[b"a;b=%"],
-    },
-    Refuses {
-        kind: Kind::Dict,
-        fault: Syntax(8),
-        texts: &[b"a=1, b=@"],
-    },
-];
-
-fn is_refused(kind: Kind, alloc: Global, text: &[u8], fault: SfError) -> bool {
-    match strict_text(kind, alloc, text) {
-        Ok(_) => false,
-        Err(found) => found == fault,
-    }
-}
-
-fn are_refused(alloc: Global, row: &Refuses) -> bool {
-    row.texts
-        .iter()
-        .all(|text| is_refused(row.kind, alloc, *text, row.fault))
 }
 
 #[test]
 fn texts_are_refused_at_the_exact_offset(rt: HostRuntime) {
     for row in &REFUSES {
-        assert!(rt; are_refused(rt.alloc(), row));
+        for text in row.texts {
+            assert!(rt; is_read(rt.alloc(), *text, row));
+        }
     }
 }
 
-// Of a Dictionary with a repeated key, and of a text that is none.
-fn is_answered(alloc: Global, key: &[u8], has: bool) -> bool {
-    match has_key(alloc, b" a=1, b, a=2", key) {
-        Ok(found) => found == has,
-        Err(_) => false,
-    }
+// A text, a key, and whether the Dictionary has it, or the fault of a text that is none.
+struct Asked {
+    text: &'static [u8],
+    key: &'static [u8],
+    found: Result<bool, SfError>,
 }
 
-fn is_unanswered(alloc: Global, text: &[u8], fault: SfError) -> bool {
-    match has_key(alloc, text, b"a") {
-        Ok(_) => false,
-        Err(found) => found == fault,
-    }
-}
+const ASKED: [Asked; 4] = [
+    Asked {
+        text: b" a=1, b, a=2",
+        key: b"a",
+        found: Ok(true),
+    },
+    Asked {
+        text: b" a=1, b, a=2",
+        key: b"b",
+        found: Ok(true),
+    },
+    Asked {
+        text: b" a=1, b, a=2",
+        key: b"c",
+        found: Ok(false),
+    },
+    Asked {
+        text: b"a=1,",
+        key: b"a",
+        found: Err(Syntax(4)),
+    },
+];
 
 #[test]
 fn a_dictionary_is_asked_for_one_key(rt: HostRuntime) {
-    assert!(rt; is_answered(rt.alloc(), b"a", true));
-    assert!(rt; is_answered(rt.alloc(), b"b", true));
-    assert!(rt; is_answered(rt.alloc(), b"c", false));
-    assert!(rt; is_unanswered(rt.alloc(), b"a=1,", Syntax(4)));
+    for row in &ASKED {
+        assert!(rt; has_key(rt.alloc(), row.text, row.key) == row.found);
+    }
 }

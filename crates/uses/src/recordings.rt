@@ -1,7 +1,9 @@
 // Tests of recordings.
 
 use hms_io::MemSource;
-use recording::{ItemBody, ItemFault, ItemReader, RecordingFault, Role, read_recording};
+use recording::{
+    Item, ItemBody, ItemFault, ItemReader, Recording, RecordingFault, Role, read_recording,
+};
 use std::alloc::Global;
 
 struct Row {
@@ -168,34 +170,6 @@ fn is_read(alloc: Global, row: &Row) -> bool {
     }
 }
 
-// The items and their places.
-const PARTS: &[u8] = b"hms-recording 1\nat 5\nrelated 2\nab\nresponse 3\ncde\nscript 1\nf\nend\n";
-
-fn has_parts(alloc: Global) -> bool {
-    let Ok(recording) = read_recording(alloc, PARTS) else {
-        return false;
-    };
-    let mut items = recording.items();
-    let parts = [items.next(), items.next(), items.next(), items.next()];
-    let [Some(first), Some(second), Some(third), Some(fourth)] = parts else {
-        return false;
-    };
-    items.next().is_none()
-        && first.offset == 16
-        && matches!(first.body, ItemBody::At(5))
-        && second.offset == 21
-        && matches!(second.body, ItemBody::Message(Role::Related, b"ab"))
-        && third.offset == 34
-        && matches!(third.body, ItemBody::Message(Role::Response, b"cde"))
-        && fourth.offset == 49
-        && matches!(fourth.body, ItemBody::Script(b"f"))
-}
-
-#[test]
-fn items_have_their_places(rt: HostRuntime) {
-    assert!(rt; has_parts(rt.alloc()));
-}
-
 // How many items come, of ten at most, or why no further one.
 fn count_items(alloc: Global, source: &mut MemSource) -> Result<usize, ItemFault> {
     let mut reader = ItemReader::new(alloc);
@@ -218,18 +192,52 @@ fn is_read_in_pieces(alloc: Global, row: &Row, piece: usize) -> bool {
     }
 }
 
-fn is_read_in_any_pieces(alloc: Global, row: &Row) -> bool {
-    for piece in 1..45 {
-        if !is_read_in_pieces(alloc, row, piece) {
-            return false;
-        }
-    }
-    true
-}
-
 #[test]
 fn recordings_are_read_whole_and_in_any_pieces(rt: HostRuntime) {
     for row in &ROWS {
-        assert!(rt; is_read(rt.alloc(), row) && is_read_in_any_pieces(rt.alloc(), row));
+        assert!(rt; is_read(rt.alloc(), row));
+        for piece in 1..45 {
+            assert!(rt; is_read_in_pieces(rt.alloc(), row, piece));
+        }
     }
+}
+
+// Whether the item is the one at the index in PARTS, and at its place.
+fn is_part(index: usize, item: &Item<'_>) -> bool {
+    match (index, item.body) {
+        (0, ItemBody::At(moment)) => item.offset == 16 && moment == 5,
+        (1, ItemBody::Message(Role::Related, bytes)) => {
+            item.offset == 21 && bytes == b"ab".as_slice()
+        }
+        (2, ItemBody::Message(Role::Response, bytes)) => {
+            item.offset == 34 && bytes == b"cde".as_slice()
+        }
+        (3, ItemBody::Script(bytes)) => item.offset == 49 && bytes == b"f".as_slice(),
+        _ => false,
+    }
+}
+
+fn are_parts(recording: &Recording<'_>) -> bool {
+    let mut count = 0_usize;
+    for item in recording.items() {
+        if !is_part(count, &item) {
+            return false;
+        }
+        count = count.saturating_add(1);
+    }
+    count == 4
+}
+
+const PARTS: &[u8] = b"hms-recording 1\nat 5\nrelated 2\nab\nresponse 3\ncde\nscript 1\nf\nend\n";
+
+fn has_parts(alloc: Global) -> bool {
+    match read_recording(alloc, PARTS) {
+        Ok(recording) => are_parts(&recording),
+        Err(_) => false,
+    }
+}
+
+#[test]
+fn items_have_their_places(rt: HostRuntime) {
+    assert!(rt; has_parts(rt.alloc()));
 }

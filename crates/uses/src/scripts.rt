@@ -1,8 +1,7 @@
 // Tests of scripts.
 
-use msg_head::Side;
-use rewrite_script::{LineRewrite, Rewrite, ScriptFault, print_script, read_script};
-use sfv_text::Text;
+use crate::given::is_text;
+use rewrite_script::{ScriptFault, print_script, read_script};
 use std::alloc::Global;
 
 struct Row {
@@ -117,84 +116,22 @@ const ROWS: [Row; 7] = [
     },
 ];
 
-pub(crate) fn is_printed(alloc: Global, script: &[Rewrite], text: &[u8]) -> bool {
-    match print_script(alloc, script) {
-        Ok(printed) => printed.bytes() == text,
-        Err(_) => false,
-    }
-}
-
 // Whether the text is read so, and is printed as it was.
-fn is_read(alloc: Global, text: &[u8], read: Result<usize, usize>) -> bool {
+fn is_read(alloc: Global, text: &[u8], row: &Row) -> bool {
     match read_script(alloc, text) {
-        Ok(script) => read == Ok(script.len()) && is_printed(alloc, script.as_slice(), text),
-        Err(ScriptFault::BadLine(index)) => read == Err(index),
+        Ok(script) => {
+            row.read == Ok(script.len()) && is_text(print_script(alloc, script.as_slice()), text)
+        }
+        Err(ScriptFault::BadLine(index)) => row.read == Err(index),
         Err(_) => false,
     }
-}
-
-fn are_read(alloc: Global, row: &Row) -> bool {
-    row.texts.iter().all(|text| is_read(alloc, *text, row.read))
 }
 
 #[test]
 fn lines_are_those_of_rewritings(rt: HostRuntime) {
     for row in &ROWS {
-        assert!(rt; are_read(rt.alloc(), row));
-    }
-}
-
-// So many lines, and a last one without LF where it is asked for.
-fn lines(alloc: Global, count: usize, last: &[u8]) -> Result<Text, ScriptFault> {
-    let mut text = Text::new(alloc);
-    for _ in 0..count {
-        text.append(b"remove h 0\n")?;
-    }
-    text.append(last)?;
-    Ok(text)
-}
-
-fn answer(alloc: Global, count: usize, last: &[u8]) -> Result<usize, ScriptFault> {
-    let text = lines(alloc, count, last)?;
-    Ok(read_script(alloc, text.bytes())?.len())
-}
-
-#[test]
-fn at_most_256_lines_are_read(rt: HostRuntime) {
-    let alloc = rt.alloc();
-    assert!(rt; answer(alloc, 256, b"") == Ok(256));
-    assert!(rt; answer(alloc, 257, b"") == Err(ScriptFault::TooMany));
-    assert!(rt; answer(alloc, 256, b"x") == Err(ScriptFault::TooMany));
-    assert!(rt; answer(alloc, 255, b"x") == Err(ScriptFault::BadLine(255)));
-}
-
-fn is_pad(rewrite: &Rewrite) -> bool {
-    match rewrite {
-        Rewrite::Lines(
-            LineRewrite::Pad {
-                side,
-                index,
-                before,
-                after,
-            },
-        ) => {
-            *side == Side::Trailer
-                && *index == 12
-                && before.bytes() == b" \t".as_slice()
-                && after.bytes().is_empty()
+        for text in row.texts {
+            assert!(rt; is_read(rt.alloc(), *text, row));
         }
-        _ => false,
     }
-}
-
-fn is_one_pad(alloc: Global) -> bool {
-    match read_script(alloc, b"pad t 12 st -\n") {
-        Ok(script) => script.len() == 1 && script.iter().all(is_pad),
-        Err(_) => false,
-    }
-}
-
-#[test]
-fn fields_are_those_of_the_line(rt: HostRuntime) {
-    assert!(rt; is_one_pad(rt.alloc()));
 }

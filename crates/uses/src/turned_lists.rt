@@ -1,9 +1,9 @@
 // Tests of lists of fields.
 
 ghost use Rattle.std.specs.Prelude.{◌≤◌, length};
-ghost use Rattle.framing.specs.declared.chunk_limits.TheConstants.{MAX_CONTENT_BYTES};
+ghost use Rattle.framing.specs.declared.limits.TheConstants.{MAX_CONTENT_BYTES};
 
-use crate::given::message;
+use crate::given::{is_text, message};
 use component_ids::{Scheme, Types};
 use component_values::Context;
 use field_lists::{FromFault, ToFault, from_message, to_message};
@@ -20,258 +20,234 @@ const ORDERED: &[u8] = b"hms-fields 1\nfield 7 3\n:methodGET\nfield 7 5\n:scheme
 
 const MESSAGE: &[u8] = b"GET /p? HTTP/1.1\r\nhost: h\r\ndate: x\r\n\r\n";
 
+// The text of a list, and the message that it stands for, or why there is none; or why it isn't
+// one.
 struct Row {
     text: &'static [u8],
-    fault: Option<FieldsFault>,
+    read: Result<Result<&'static [u8], ToFault>, FieldsFault>,
 }
 
-const ROWS: [Row; 24] = [
+const LISTS: [Row; 21] = [
     Row {
         text: LIST,
-        fault: None,
+        read: Ok(Ok(MESSAGE)),
+    },
+    Row {
+        text: b"hms-fields 1\nfield 7 3\n:status200\ncontent 0\n\nend\n",
+        read: Ok(Ok(b"HTTP/1.1 200 \r\ntransfer-encoding: chunked\r\n\r\n0\r\n\r\n")),
+    },
+    Row {
+        text: b"hms-fields 1\nfield 7 3\n:status304\nfield 14 2\ncontent-length18\n\
+            content 0\n\nend\n",
+        read: Ok(Ok(b"HTTP/1.1 304 \r\ncontent-length: 18\r\n\r\n")),
+    },
+    Row {
+        text: b"hms-fields 1\nfield 7 3\n:status200\nfield 14 3\ncontent-length 02\n\
+            content 2\nab\nend\n",
+        read: Ok(Ok(b"HTTP/1.1 200 \r\ncontent-length:  02\r\n\r\nab")),
+    },
+    Row {
+        text: b"hms-fields 1\nfield 7 3\n:status200\ncontent 17\n0123456789abcdefg\n\
+            trailer 1 1\nxy\nend\n",
+        read: Ok(Ok(
+            b"HTTP/1.1 200 \r\ntransfer-encoding: chunked\r\n\r\n\
+            11\r\n0123456789abcdefg\r\n0\r\nx: y\r\n\r\n",
+        )),
     },
     Row {
         text: b"hms-fields 1\ncontent 0\n\nend\n",
-        fault: None,
+        read: Ok(Err(ToFault::Pseudo)),
+    },
+    Row {
+        text: b"hms-fields 1\nfield 7 3\n:methodGET\nfield 7 5\n:schemehttps\n\
+            field 5 1\n:path/\nfield 5 1\n:path/\ncontent 0\n\nend\n",
+        read: Ok(Err(ToFault::Pseudo)),
+    },
+    Row {
+        text: b"hms-fields 1\nfield 7 7\n:methodCONNECT\nfield 7 5\n:schemehttps\n\
+            field 5 1\n:path/\nfield 10 1\n:authorityh\ncontent 0\n\nend\n",
+        read: Ok(Err(ToFault::Pseudo)),
+    },
+    Row {
+        text: b"hms-fields 1\nfield 7 3\n:methodGET\nfield 7 5\n:schemeHttps\n\
+            field 5 1\n:path/\nfield 10 1\n:authorityh\ncontent 0\n\nend\n",
+        read: Ok(Err(ToFault::Pseudo)),
+    },
+    Row {
+        text: b"hms-fields 1\nfield 7 3\n:methodGET\nfield 7 5\n:schemehttps\n\
+            field 5 2\n:path/#\nfield 10 1\n:authorityh\ncontent 0\n\nend\n",
+        read: Ok(Err(ToFault::Pseudo)),
+    },
+    Row {
+        text: b"hms-fields 1\nfield 7 2\n:status20\ncontent 0\n\nend\n",
+        read: Ok(Err(ToFault::Pseudo)),
+    },
+    Row {
+        text: b"hms-fields 1\nfield 7 3\n:methodGET\nfield 7 4\n:schemehttp\n\
+            field 5 1\n:path/\nfield 10 1\n:authorityh\ncontent 0\n\nend\n",
+        read: Ok(Err(ToFault::SchemeOther)),
+    },
+    Row {
+        text: b"hms-fields 1\nfield 7 3\n:methodGET\nfield 7 5\n:schemehttps\n\
+            field 5 1\n:path/\nfield 10 1\n:authorityh\nfield 4 1\ndatex\nfield 4 1\nhosth\n\
+            content 0\n\nend\n",
+        read: Ok(Err(ToFault::BadField(5))),
+    },
+    Row {
+        text: b"hms-fields 1\nfield 7 3\n:status200\nfield 7 3\n:status200\ncontent 0\n\nend\n",
+        read: Ok(Err(ToFault::BadField(1))),
+    },
+    Row {
+        text: b"hms-fields 1\nfield 7 3\n:status200\nfield 1 1\na\n\ncontent 0\n\nend\n",
+        read: Ok(Err(ToFault::BadField(1))),
+    },
+    Row {
+        text: b"hms-fields 1\nfield 7 3\n:status200\nfield 1 1\nax\ncontent 0\n\n\
+            trailer 1 1\nax\ntrailer 1 1\nAx\nend\n",
+        read: Ok(Err(ToFault::BadField(3))),
+    },
+    Row {
+        text: b"hms-fields 1\nfield 7 3\n:status200\nfield 14 1\ncontent-length1\n\
+            content 0\n\nend\n",
+        read: Ok(Err(ToFault::BadLength)),
+    },
+    Row {
+        text: b"hms-fields 1\nfield 7 3\n:status200\nfield 14 1\ncontent-length0\n\
+            field 14 1\ncontent-length0\ncontent 0\n\nend\n",
+        read: Ok(Err(ToFault::BadLength)),
+    },
+    Row {
+        text: b"hms-fields 1\nfield 7 3\n:status204\ncontent 1\nx\nend\n",
+        read: Ok(Err(ToFault::BodyRefused)),
+    },
+    Row {
+        text: b"hms-fields 1\nfield 7 3\n:status200\nfield 14 1\ncontent-length0\n\
+            content 0\n\ntrailer 1 1\nax\nend\n",
+        read: Ok(Err(ToFault::BodyRefused)),
     },
     Row {
         text: b"hms-fields 1\ncontent 2\n\n\n\ntrailer 0 0\n\nend\n",
-        fault: None,
-    },
-    Row {
-        text: b"",
-        fault: Some(FieldsFault::Syntax(0)),
-    },
-    Row {
-        text: b"hms-fields 2\n",
-        fault: Some(FieldsFault::Syntax(11)),
-    },
-    Row {
-        text: b"hms-fields 1\n",
-        fault: Some(FieldsFault::Syntax(13)),
-    },
-    Row {
-        text: b"hms-fields 1\nend\n",
-        fault: Some(FieldsFault::Syntax(13)),
-    },
-    Row {
-        text: b"hms-fields 1\nfi",
-        fault: Some(FieldsFault::Syntax(15)),
-    },
-    Row {
-        text: b"hms-fields 1\ntrailer 0 0\n\n",
-        fault: Some(FieldsFault::Syntax(13)),
-    },
-    Row {
-        text: b"hms-fields 1\nfield 01 0\n",
-        fault: Some(FieldsFault::Syntax(20)),
-    },
-    Row {
-        text: b"hms-fields 1\nfield 1\n",
-        fault: Some(FieldsFault::Syntax(20)),
-    },
-    Row {
-        text: b"hms-fields 1\nfield 1 2\nabcd",
-        fault: Some(FieldsFault::Syntax(26)),
-    },
-    Row {
-        text: b"hms-fields 1\nfield 65537 0\n",
-        fault: Some(FieldsFault::TooLong(13)),
-    },
-    Row {
-        text: b"hms-fields 1\nfield 0 65537\nend",
-        fault: Some(FieldsFault::TooLong(13)),
-    },
-    Row {
-        text: b"hms-fields 1\nfield 65537 x",
-        fault: Some(FieldsFault::Syntax(25)),
-    },
-    Row {
-        text: b"hms-fields 1\nfield 65537 0",
-        fault: Some(FieldsFault::Syntax(26)),
-    },
-    Row {
-        text: b"hms-fields 1\nfield 65536 0\n",
-        fault: Some(FieldsFault::Syntax(27)),
-    },
-    Row {
-        text: b"hms-fields 1\ncontent 8388609\n",
-        fault: Some(FieldsFault::TooLong(13)),
-    },
-    Row {
-        text: b"hms-fields 1\ncontent 8388608\n",
-        fault: Some(FieldsFault::Syntax(29)),
-    },
-    Row {
-        text: b"hms-fields 1\ncontent 0\n\nfield 0 0\n\n",
-        fault: Some(FieldsFault::Syntax(24)),
-    },
-    Row {
-        text: b"hms-fields 1\ncontent 0\n\ntrailer 0 65537\n",
-        fault: Some(FieldsFault::TooLong(24)),
-    },
-    Row {
-        text: b"hms-fields 1\ncontent 0\n\nend",
-        fault: Some(FieldsFault::Syntax(27)),
-    },
-    Row {
-        text: b"hms-fields 1\ncontent 0\n\nend\nx",
-        fault: Some(FieldsFault::Syntax(28)),
-    },
-    Row {
-        text: b"hms-fields 1\nfield 1000000000000000 0\n",
-        fault: Some(FieldsFault::Syntax(34)),
+        read: Ok(Err(ToFault::Pseudo)),
     },
 ];
 
-fn is_printed(alloc: Global, list: &FieldList, text: &[u8]) -> bool {
-    match print_fields(alloc, list) {
-        Ok(printed) => printed.bytes() == text,
-        Err(_) => false,
+const REFUSED: [Row; 21] = [
+    Row {
+        text: b"",
+        read: Err(FieldsFault::Syntax(0)),
+    },
+    Row {
+        text: b"hms-fields 2\n",
+        read: Err(FieldsFault::Syntax(11)),
+    },
+    Row {
+        text: b"hms-fields 1\n",
+        read: Err(FieldsFault::Syntax(13)),
+    },
+    Row {
+        text: b"hms-fields 1\nend\n",
+        read: Err(FieldsFault::Syntax(13)),
+    },
+    Row {
+        text: b"hms-fields 1\nfi",
+        read: Err(FieldsFault::Syntax(15)),
+    },
+    Row {
+        text: b"hms-fields 1\ntrailer 0 0\n\n",
+        read: Err(FieldsFault::Syntax(13)),
+    },
+    Row {
+        text: b"hms-fields 1\nfield 01 0\n",
+        read: Err(FieldsFault::Syntax(20)),
+    },
+    Row {
+        text: b"hms-fields 1\nfield 1\n",
+        read: Err(FieldsFault::Syntax(20)),
+    },
+    Row {
+        text: b"hms-fields 1\nfield 1 2\nabcd",
+        read: Err(FieldsFault::Syntax(26)),
+    },
+    Row {
+        text: b"hms-fields 1\nfield 65537 0\n",
+        read: Err(FieldsFault::TooLong(13)),
+    },
+    Row {
+        text: b"hms-fields 1\nfield 0 65537\nend",
+        read: Err(FieldsFault::TooLong(13)),
+    },
+    Row {
+        text: b"hms-fields 1\nfield 65537 x",
+        read: Err(FieldsFault::Syntax(25)),
+    },
+    Row {
+        text: b"hms-fields 1\nfield 65537 0",
+        read: Err(FieldsFault::Syntax(26)),
+    },
+    Row {
+        text: b"hms-fields 1\nfield 65536 0\n",
+        read: Err(FieldsFault::Syntax(27)),
+    },
+    Row {
+        text: b"hms-fields 1\ncontent 8388609\n",
+        read: Err(FieldsFault::TooLong(13)),
+    },
+    Row {
+        text: b"hms-fields 1\ncontent 8388608\n",
+        read: Err(FieldsFault::Syntax(29)),
+    },
+    Row {
+        text: b"hms-fields 1\ncontent 0\n\nfield 0 0\n\n",
+        read: Err(FieldsFault::Syntax(24)),
+    },
+    Row {
+        text: b"hms-fields 1\ncontent 0\n\ntrailer 0 65537\n",
+        read: Err(FieldsFault::TooLong(24)),
+    },
+    Row {
+        text: b"hms-fields 1\ncontent 0\n\nend",
+        read: Err(FieldsFault::Syntax(27)),
+    },
+    Row {
+        text: b"hms-fields 1\ncontent 0\n\nend\nx",
+        read: Err(FieldsFault::Syntax(28)),
+    },
+    Row {
+        text: b"hms-fields 1\nfield 1000000000000000 0\n",
+        read: Err(FieldsFault::Syntax(34)),
+    },
+];
+
+fn is_message_of(alloc: Global, list: &FieldList, row: &Row) -> bool
+    requires { length list.now.content ≤ MAX_CONTENT_BYTES }
+{
+    match to_message(alloc, list, Scheme::Https) {
+        Ok(text) => row.read == Ok(Ok(text.bytes())),
+        Err(fault) => row.read == Ok(Err(fault)),
     }
 }
 
 // A list that is read is printed as it was.
 fn is_read(alloc: Global, row: &Row) -> bool {
     match read_fields(alloc, row.text) {
-        Ok(list) => row.fault.is_none() && is_printed(alloc, &list, row.text),
-        Err(fault) => row.fault == Some(fault),
+        Ok(list) => {
+            is_text(print_fields(alloc, &list), row.text) && is_message_of(alloc, &list, row)
+        }
+        Err(fault) => row.read == Err(fault),
     }
 }
 
 #[test]
-fn lists_are_read_and_printed(rt: HostRuntime) {
-    for row in &ROWS {
+fn lists_are_read_and_printed_and_turned_into_messages(rt: HostRuntime) {
+    for row in &LISTS {
         assert!(rt; is_read(rt.alloc(), row));
     }
 }
 
-struct Turned {
-    text: &'static [u8],
-    // The message, or why there is none.
-    message: Result<&'static [u8], ToFault>,
-}
-
-const TURNED: [Turned; 20] = [
-    Turned {
-        text: LIST,
-        message: Ok(MESSAGE),
-    },
-    Turned {
-        text: b"hms-fields 1\nfield 7 3\n:status200\ncontent 0\n\nend\n",
-        message: Ok(b"HTTP/1.1 200 \r\ntransfer-encoding: chunked\r\n\r\n0\r\n\r\n"),
-    },
-    Turned {
-        text: b"hms-fields 1\nfield 7 3\n:status304\nfield 14 2\ncontent-length18\n\
-            content 0\n\nend\n",
-        message: Ok(b"HTTP/1.1 304 \r\ncontent-length: 18\r\n\r\n"),
-    },
-    Turned {
-        text: b"hms-fields 1\nfield 7 3\n:status200\nfield 14 3\ncontent-length 02\n\
-            content 2\nab\nend\n",
-        message: Ok(b"HTTP/1.1 200 \r\ncontent-length:  02\r\n\r\nab"),
-    },
-    Turned {
-        text: b"hms-fields 1\nfield 7 3\n:status200\ncontent 17\n0123456789abcdefg\n\
-            trailer 1 1\nxy\nend\n",
-        message: Ok(
-            b"HTTP/1.1 200 \r\ntransfer-encoding: chunked\r\n\r\n\
-            11\r\n0123456789abcdefg\r\n0\r\nx: y\r\n\r\n",
-        ),
-    },
-    Turned {
-        text: b"hms-fields 1\ncontent 0\n\nend\n",
-        message: Err(ToFault::Pseudo),
-    },
-    Turned {
-        text: b"hms-fields 1\nfield 7 3\n:methodGET\nfield 7 5\n:schemehttps\n\
-            field 5 1\n:path/\nfield 5 1\n:path/\ncontent 0\n\nend\n",
-        message: Err(ToFault::Pseudo),
-    },
-    Turned {
-        text: b"hms-fields 1\nfield 7 7\n:methodCONNECT\nfield 7 5\n:schemehttps\n\
-            field 5 1\n:path/\nfield 10 1\n:authorityh\ncontent 0\n\nend\n",
-        message: Err(ToFault::Pseudo),
-    },
-    Turned {
-        text: b"hms-fields 1\nfield 7 3\n:methodGET\nfield 7 5\n:schemeHttps\n\
-            field 5 1\n:path/\nfield 10 1\n:authorityh\ncontent 0\n\nend\n",
-        message: Err(ToFault::Pseudo),
-    },
-    Turned {
-        text: b"hms-fields 1\nfield 7 3\n:methodGET\nfield 7 5\n:schemehttps\n\
-            field 5 2\n:path/#\nfield 10 1\n:authorityh\ncontent 0\n\nend\n",
-        message: Err(ToFault::Pseudo),
-    },
-    Turned {
-        text: b"hms-fields 1\nfield 7 2\n:status20\ncontent 0\n\nend\n",
-        message: Err(ToFault::Pseudo),
-    },
-    Turned {
-        text: b"hms-fields 1\nfield 7 3\n:methodGET\nfield 7 4\n:schemehttp\n\
-            field 5 1\n:path/\nfield 10 1\n:authorityh\ncontent 0\n\nend\n",
-        message: Err(ToFault::SchemeOther),
-    },
-    Turned {
-        text: b"hms-fields 1\nfield 7 3\n:methodGET\nfield 7 5\n:schemehttps\n\
-            field 5 1\n:path/\nfield 10 1\n:authorityh\nfield 4 1\ndatex\nfield 4 1\nhosth\n\
-            content 0\n\nend\n",
-        message: Err(ToFault::BadField(5)),
-    },
-    Turned {
-        text: b"hms-fields 1\nfield 7 3\n:status200\nfield 7 3\n:status200\ncontent 0\n\nend\n",
-        message: Err(ToFault::BadField(1)),
-    },
-    Turned {
-        text: b"hms-fields 1\nfield 7 3\n:status200\nfield 1 1\na\n\ncontent 0\n\nend\n",
-        message: Err(ToFault::BadField(1)),
-    },
-    Turned {
-        text: b"hms-fields 1\nfield 7 3\n:status200\nfield 1 1\nax\ncontent 0\n\n\
-            trailer 1 1\nax\ntrailer 1 1\nAx\nend\n",
-        message: Err(ToFault::BadField(3)),
-    },
-    Turned {
-        text: b"hms-fields 1\nfield 7 3\n:status200\nfield 14 1\ncontent-length1\n\
-            content 0\n\nend\n",
-        message: Err(ToFault::BadLength),
-    },
-    Turned {
-        text: b"hms-fields 1\nfield 7 3\n:status200\nfield 14 1\ncontent-length0\n\
-            field 14 1\ncontent-length0\ncontent 0\n\nend\n",
-        message: Err(ToFault::BadLength),
-    },
-    Turned {
-        text: b"hms-fields 1\nfield 7 3\n:status204\ncontent 1\nx\nend\n",
-        message: Err(ToFault::BodyRefused),
-    },
-    Turned {
-        text: b"hms-fields 1\nfield 7 3\n:status200\nfield 14 1\ncontent-length0\n\
-            content 0\n\ntrailer 1 1\nax\nend\n",
-        message: Err(ToFault::BodyRefused),
-    },
-];
-
-fn is_message_of(alloc: Global, list: &FieldList, row: &Turned) -> bool
-    requires { length list.now.content ≤ MAX_CONTENT_BYTES }
-{
-    match to_message(alloc, list, Scheme::Https) {
-        Ok(text) => row.message == Ok(text.bytes()),
-        Err(fault) => row.message == Err(fault),
-    }
-}
-
-fn is_turned(alloc: Global, row: &Turned) -> bool {
-    match read_fields(alloc, row.text) {
-        Ok(list) => is_message_of(alloc, &list, row),
-        Err(_) => false,
-    }
-}
-
 #[test]
-fn lists_are_turned_into_messages(rt: HostRuntime) {
-    for row in &TURNED {
-        assert!(rt; is_turned(rt.alloc(), row));
+fn texts_that_are_no_lists_are_refused(rt: HostRuntime) {
+    for row in &REFUSED {
+        assert!(rt; is_read(rt.alloc(), row));
     }
 }
 
@@ -321,7 +297,7 @@ const BACK: [Back; 7] = [
 fn is_list_of(alloc: Global, context: &Context<'_, '_>, row: &Back) -> bool {
     match from_message(alloc, context) {
         Ok(list) => match row.list {
-            Ok(text) => is_printed(alloc, &list, text),
+            Ok(text) => is_text(print_fields(alloc, &list), text),
             Err(_) => false,
         },
         Err(fault) => row.list == Err(fault),

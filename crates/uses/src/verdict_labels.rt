@@ -221,9 +221,10 @@ fn a_nonce_is_refused_while_it_lives(rt: HostRuntime) {
 
 fn has_label(alloc: Global, view: &MessageView<'_>) -> bool {
     match labels_of(alloc, view) {
-        Ok(labels) => {
-            labels.len() == 1 && labels.iter().all(|label| label.bytes() == b"s".as_slice())
-        }
+        Ok(labels) => match labels.as_slice() {
+            [label] => label.bytes() == b"s".as_slice(),
+            _ => false,
+        },
         Err(_) => false,
     }
 }
