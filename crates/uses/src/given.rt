@@ -81,3 +81,26 @@ pub(crate) fn is_text(answer: Result<Text, Memory>, bytes: &[u8]) -> bool {
         Err(_) => false,
     }
 }
+
+fn is_message(alloc: Global, text: &[u8]) -> bool {
+    message(alloc, text).is_some()
+}
+
+// Whether the text is a response to this request.
+fn is_response(alloc: Global, request: &[u8], text: &[u8]) -> bool {
+    match message(alloc, request) {
+        Some(given) => response(alloc, &given.view, text).is_some(),
+        None => false,
+    }
+}
+
+// A response to HEAD has no content, whatever its length says.
+#[test]
+fn texts_are_messages_or_none(rt: HostRuntime) {
+    let alloc = rt.alloc();
+    let answer = b"HTTP/1.1 200 OK\r\nContent-Length: 3\r\n\r\n".as_slice();
+    assert!(rt; is_message(alloc, b"GET / HTTP/1.1\r\n\r\n"));
+    assert!(rt; !is_message(alloc, answer));
+    assert!(rt; is_response(alloc, b"HEAD / HTTP/1.1\r\n\r\n", answer));
+    assert!(rt; !is_response(alloc, b"GET / HTTP/1.1\r\n\r\n", answer));
+}

@@ -16,10 +16,6 @@ mod components;
 #[cfg(test)]
 mod configurations;
 #[cfg(test)]
-mod counted_files;
-#[cfg(test)]
-mod device_runs;
-#[cfg(test)]
 mod devices;
 #[cfg(test)]
 mod digests;
@@ -39,8 +35,6 @@ mod outcomes;
 mod readers;
 #[cfg(test)]
 mod recordings;
-#[cfg(test)]
-mod rewrite_runs;
 #[cfg(test)]
 mod runs;
 #[cfg(test)]

@@ -3,23 +3,25 @@
 ghost use Rattle.std.specs.Prelude.{IsTrue};
 ghost use Rattle.verdicts.specs.Verdicts.{is_verdict_in_range};
 
-use crate::given::{GivenConf, message};
-use commands::{Outcome, base_outcome, context_for, verify_outcome};
+use crate::given::{GivenConf, is_text, message};
+use commands::{base_outcome, context_for, verify_outcome};
 use component_values::Context;
 use conf::Conf;
 use hms_io::{MemShelf, Status};
 use intake::read_configuration;
 use msg_body::MessageView;
 use refusals::{FileRefusal, Refusal, Role};
-use sfv_text::{Memory, Text};
+use sfv_text::Text;
 use std::alloc::Global;
 use verdicts::{Place, Rule, Verdict, append_verdict_line};
 
 // Whether the verdict's line is added, and with the one before it is the text.
-fn is_added(alloc: Global, verdict: &Verdict, lines: &mut Text, text: &[u8]) -> bool
+fn is_added(alloc: Global, verdict: &Verdict, lines: &mut Text) -> bool
     requires { IsTrue (is_verdict_in_range verdict.now) }
 {
-    append_verdict_line(alloc, b"sig1", verdict, lines).is_ok() && lines.bytes() == text
+    lines.append(b"a ok\n").is_ok()
+        && append_verdict_line(alloc, b"sig1", verdict, lines).is_ok()
+        && lines.bytes() == b"a ok\nsig1 rule 11 component-repeated 1\n".as_slice()
 }
 
 fn is_verdict_line(alloc: Global) -> bool {
@@ -27,26 +29,13 @@ fn is_verdict_line(alloc: Global) -> bool {
         number: Rule::ComponentRepeated,
         place: Place::Index(1),
     };
-    match Text::from_bytes(alloc, b"a ok\n") {
-        Ok(mut lines) => {
-            let text = b"a ok\nsig1 rule 11 component-repeated 1\n";
-            is_added(alloc, &verdict, &mut lines, text)
-        }
-        Err(_) => false,
-    }
-}
-
-fn has_line(alloc: Global, refusal: &Refusal, line: &[u8], status: Status) -> bool {
-    match refusal.line(alloc) {
-        Ok(text) => text.bytes() == line && refusal.status() == status,
-        Err(_) => false,
-    }
+    is_added(alloc, &verdict, &mut Text::new(alloc))
 }
 
 fn is_item_line(alloc: Global) -> bool {
     let refusal = Refusal::Of(Role::Item(12), FileRefusal::TooLong(1_048_576));
-    let line = b"refused item 12 bytes 1048576\n";
-    has_line(alloc, &refusal, line, Status::LimitPassed)
+    is_text(refusal.line(alloc), b"refused item 12 bytes 1048576\n")
+        && refusal.status() == Status::LimitPassed
 }
 
 #[test]
@@ -54,28 +43,9 @@ fn lines_of_a_verdict_and_of_a_refusal(rt: HostRuntime) {
     assert!(rt; is_verdict_line(rt.alloc()) && is_item_line(rt.alloc()));
 }
 
-// A configuration, an input, PARAMS, and what the two commands write.
-struct Run {
-    conf: &'static [u8],
-    input: &'static [u8],
-    params: &'static [u8],
-    base: &'static [u8],
-    lines: &'static [u8],
-}
+const INPUT: &[u8] = b"GET / HTTP/1.1\r\nHost: example.com:80\r\n\r\n";
 
-const RUN: Run = Run {
-    conf: b"scheme = \"http\"",
-    input: b"GET / HTTP/1.1\r\nHost: example.com:80\r\n\r\n",
-    params: br#"("@authority")"#,
-    base: b"\"@authority\": example.com\n\"@signature-params\": (\"@authority\")",
-    lines: b"- rule 1 input-absent\n",
-};
-
-fn shelf_of(alloc: Global, text: &[u8]) -> Result<MemShelf, Memory> {
-    let mut shelf = MemShelf::new(alloc, &[])?;
-    shelf.put("hms.toml", text)?;
-    Ok(shelf)
-}
+const BASE: &[u8] = b"\"@authority\": example.com\n\"@signature-params\": (\"@authority\")";
 
 fn configured(alloc: Global, shelf: &mut MemShelf) -> Option<GivenConf> {
     match read_configuration(alloc, Some("hms.toml"), shelf) {
@@ -84,56 +54,54 @@ fn configured(alloc: Global, shelf: &mut MemShelf) -> Option<GivenConf> {
     }
 }
 
-// Whether the outcome has the status and the output.
-fn is_outcome(alloc: Global, outcome: Outcome, status: Status, output: &[u8]) -> bool {
-    let is_status = outcome.status() == status;
-    match outcome.into_output(alloc) {
-        Ok(text) => is_status && text.bytes() == output,
+fn has_base(alloc: Global, context: &Context<'_, '_>) -> bool {
+    match base_outcome(alloc, br#"("@authority")"#, context) {
+        Ok(outcome) => {
+            outcome.status() == Status::Done && is_text(outcome.into_output(alloc), BASE)
+        }
         Err(_) => false,
     }
 }
 
-fn has_base(alloc: Global, context: &Context<'_, '_>, run: &Run) -> bool {
-    match base_outcome(alloc, run.params, context) {
-        Ok(outcome) => is_outcome(alloc, outcome, Status::Done, run.base),
-        Err(_) => false,
-    }
-}
-
-fn has_verdicts(alloc: Global, conf: &Conf, context: &Context<'_, '_>, run: &Run) -> bool {
+fn has_verdicts(alloc: Global, conf: &Conf, context: &Context<'_, '_>) -> bool {
     match verify_outcome(alloc, conf, 0, None, context) {
-        Ok(outcome) => is_outcome(alloc, outcome, Status::NotOk, run.lines),
+        Ok(outcome) => {
+            outcome.status() == Status::NotOk
+                && is_text(outcome.into_output(alloc), b"- rule 1 input-absent\n")
+        }
         Err(_) => false,
     }
 }
 
-fn has_both<'x>(alloc: Global, conf: &'x Conf, view: &'x MessageView<'_>, run: &Run) -> bool {
+fn has_both<'x>(alloc: Global, conf: &'x Conf, view: &'x MessageView<'_>) -> bool {
     let context = context_for(conf, view, None);
-    has_base(alloc, &context, run) && has_verdicts(alloc, conf, &context, run)
+    has_base(alloc, &context) && has_verdicts(alloc, conf, &context)
 }
 
-fn is_run_by(alloc: Global, conf: &Conf, run: &Run) -> bool {
-    match message(alloc, run.input) {
-        Some(input) => has_both(alloc, conf, &input.view, run),
+fn is_run_by(alloc: Global, conf: &Conf) -> bool {
+    match message(alloc, INPUT) {
+        Some(input) => has_both(alloc, conf, &input.view),
         None => false,
     }
 }
 
-fn is_run(alloc: Global, shelf: &mut MemShelf, run: &Run) -> bool {
+fn is_run(alloc: Global, shelf: &mut MemShelf) -> bool {
     match configured(alloc, shelf) {
-        Some(given) => is_run_by(alloc, &given.conf, run),
+        Some(given) => is_run_by(alloc, &given.conf),
         None => false,
     }
 }
 
-fn holds(alloc: Global, run: &Run) -> bool {
-    match shelf_of(alloc, run.conf) {
-        Ok(mut shelf) => is_run(alloc, &mut shelf, run),
+fn is_shelf_run(alloc: Global) -> bool {
+    match MemShelf::new(alloc, &[]) {
+        Ok(mut shelf) => {
+            shelf.put("hms.toml", b"scheme = \"http\"").is_ok() && is_run(alloc, &mut shelf)
+        }
         Err(_) => false,
     }
 }
 
 #[test]
 fn base_and_verdicts_by_a_configuration(rt: HostRuntime) {
-    assert!(rt; holds(rt.alloc(), &RUN));
+    assert!(rt; is_shelf_run(rt.alloc()));
 }
