@@ -65,8 +65,7 @@ fn arguments_of(alloc: Global, words: &[&str]) -> Result<Vec<String>, AllocError
     Ok(all)
 }
 
-// Whether the run comes to the row's status and output.
-fn ends_so(alloc: Global, arguments: &[String], devices: &mut Devices, row: &Run) -> bool {
+fn status_of(alloc: Global, arguments: &[String], devices: &mut Devices) -> Status {
     let ended = run(
         alloc,
         arguments,
@@ -74,19 +73,29 @@ fn ends_so(alloc: Global, arguments: &[String], devices: &mut Devices, row: &Run
         &mut devices.source,
         &mut devices.sink,
     );
-    ended.status == row.status && devices.sink.taken() == row.taken
+    ended.status
 }
 
-fn runs_over(alloc: Global, devices: &mut Devices, row: &Run) -> bool {
-    match arguments_of(alloc, row.words) {
-        Ok(arguments) => ends_so(alloc, arguments.as_slice(), devices, row),
-        Err(_) => false,
+// The status that the words come to; None without memory for them.
+fn ends(alloc: Global, words: &[&str], devices: &mut Devices) -> Option<Status> {
+    match arguments_of(alloc, words) {
+        Ok(arguments) => Some(status_of(alloc, arguments.as_slice(), devices)),
+        Err(_) => None,
     }
+}
+
+fn has_taken(sink: &MemSink, bytes: &[u8]) -> bool {
+    sink.taken() == bytes
+}
+
+// Whether the run comes to the row's status and output.
+fn ends_so(alloc: Global, devices: &mut Devices, row: &Run) -> bool {
+    ends(alloc, row.words, devices) == Some(row.status) && has_taken(&devices.sink, row.taken)
 }
 
 fn is_run(alloc: Global, setting: &Setting, row: &Run) -> bool {
     match devices_of(alloc, setting, row) {
-        Ok(mut devices) => runs_over(alloc, &mut devices, row),
+        Ok(mut devices) => ends_so(alloc, &mut devices, row),
         Err(_) => false,
     }
 }
