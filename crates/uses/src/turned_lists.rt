@@ -1,7 +1,7 @@
 // Tests of lists of fields.
 
 ghost use Rattle.std.specs.Prelude.{◌≤◌, length};
-ghost use Rattle.framing.specs.declared.limits.TheConstants.{MAX_CONTENT_BYTES};
+ghost use Rattle.framing.specs.declared.chunk_limits.TheConstants.{MAX_CONTENT_BYTES};
 
 use crate::given::{is_text, message};
 use component_ids::{Scheme, Types};
