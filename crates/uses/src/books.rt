@@ -366,8 +366,8 @@ struct Course<'a> {
     pace: u64,
 }
 
-// Of those that are drawn, in the first four all nonces share a bucket, and in the second all entries
-// die in the same second.
+// Of those that are drawn, in the first four all nonces share a bucket, and in the second all
+// entries die in the same second.
 const COURSES: [Course<'static>; 14] = [
     Course {
         capacity: 1,
