@@ -77,16 +77,6 @@ options_or_none command words = elim (pairs_or_none words) [
   | inr none ↦ inr (λ options are. none options are.joined)
 ]
 
--- what comes after the name of a command is right, or the arguments aren't that command
-named_or_none : {V : Type 0} (Spells : List (List ℕ) → V → Type 0) (name : List ℕ)
-    → ((arguments : List (List ℕ)) (v : V) → Spells arguments v → (words : List (List ℕ)) × (arguments ≡ name ∷ words))
-    → ((words : List (List ℕ)) → SomeOrNone (Spells (name ∷ words))) → (arguments : List (List ℕ)) → SomeOrNone (Spells arguments)
-named_or_none Spells name named after [] = inr (λ v is. let e : [] ≡ name ∷ (named [] v is).0 = (named [] v is).1 in absurd cc)
-named_or_none Spells name named after (first ∷ words) = elim (cases_Bool (bytes_eq first name)) [
-  | inl same ↦ subst (λ (w : List ℕ). SomeOrNone (Spells (w ∷ words))) (sym ((bytes_eq-Decides first name).0 same)) (after words)
-  | inr other ↦ inr (λ v is. let is_named = named (first ∷ words) v is in not_named first name words is_named.0 other is_named.1)
-]
-
 -- what the words after a name are options of
 are_of : (command : CommandName) (named : List ℕ) (words others : List (List ℕ)) (options : List (Pair (List ℕ)))
     → named ∷ words ≡ named ∷ others → AreOptions command others options → AreOptions command words options

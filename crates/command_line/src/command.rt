@@ -194,9 +194,7 @@ fn read_help_word<'a>(words: &'a [String]) -> Option<Command<'a>>
     let Some((name, others)) = first_of(words) else {
         return Some(Command::Help);
     };
-    let Some(command) = CommandName::of_word(name) else {
-        return None;
-    };
+    let command = CommandName::of_word(name)?;
     match first_of(others) {
         None => Some(Command::HelpOf(command)),
         Some(_) => None,

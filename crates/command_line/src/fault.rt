@@ -203,9 +203,7 @@ fn command_fault<'a>(command: CommandName, words: &'a [String]) -> Option<WordsF
         Ok(found) => found,
         Err(fault) => return Some(fault),
     };
-    let Some(option) = lacking(command, found) else {
-        return None;
-    };
+    let option = lacking(command, found)?;
     Some(WordsFault {
         command: Some(command),
         reason: WordsReason::Missing(command, option),
@@ -251,9 +249,7 @@ fn count_fault(words: &[String]) -> Option<WordsFault<'_>>
             from: words,
         });
     };
-    let Some(_) = first_of(after) else {
-        return None;
-    };
+    first_of(after)?;
     Some(WordsFault {
         command,
         reason: WordsReason::LeftOver,
@@ -310,9 +306,7 @@ fn help_fault<'a>(command: CommandName, words: &'a [String]) -> Option<WordsFaul
     ensures some { IfSome result
         (HasFault (command_word command ∷ codes "--help" ∷ map string_bytes words.now)) }
 {
-    let Some(_) = first_of(words) else {
-        return None;
-    };
+    first_of(words)?;
     Some(WordsFault {
         command: Some(command),
         reason: WordsReason::LeftOver,
@@ -379,9 +373,7 @@ fn topic_fault(words: &[String]) -> Option<WordsFault<'_>>
             from: words,
         });
     };
-    let Some(_) = first_of(others) else {
-        return None;
-    };
+    first_of(others)?;
     Some(WordsFault {
         command: None,
         reason: WordsReason::LeftOver,
@@ -419,9 +411,7 @@ fn other_fault(words: &[String]) -> Option<WordsFault<'_>>
             from: words,
         });
     }
-    let Some(_) = first_of(others) else {
-        return None;
-    };
+    first_of(others)?;
     Some(WordsFault {
         command: None,
         reason: WordsReason::LeftOver,

@@ -65,15 +65,6 @@ module _ (word : List ℕ) (is : is_moment word ≡ true) (index : ℕ) (lt : in
 
 -- ---- numbers of other lengths
 
--- a number of so many digits is one of at most more digits
-pub is_longer : (most more : ℕ) (word : List ℕ) → most ≤ more → is_number most word ≡ true → is_number more word ≡ true
-is_longer most more word le is =
-    let parts = and_parts (nat_lt 0 (length word)) (nat_le (length word) most && list_all is_digit word) is in
-    let rest = and_parts (nat_le (length word) most) (list_all is_digit word) parts.1 in
-    let short : length word ≤ most = grind (arith, nat_tests) in
-    let shorter : nat_le (length word) more ≡ true = grind (arith, nat_tests) in
-    rw (parts.0, shorter, rest.1) refl
-
 pub below_digits : (most : ℕ) (word : List ℕ) → is_number most word ≡ true → digits_value 10 word < 10 ^ most
 below_digits most word is =
     let parts = and_parts (nat_lt 0 (length word)) (nat_le (length word) most && list_all is_digit word) is in

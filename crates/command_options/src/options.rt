@@ -280,9 +280,7 @@ fn next_option(
     ensures none { IfNone result ((option : CommandOption)
         → ¬ IsNextOption command found.entry name.now word.now option) }
 {
-    let Some(option) = CommandOption::of_word(name) else {
-        return None;
-    };
+    let option = CommandOption::of_word(name)?;
     if found.has(option) || !option.is_taken_by(command) || !option.may_have(word) {
         return None;
     }

@@ -183,10 +183,6 @@ module _ (conf : Configuration) (moment : ℕ) (context : MessageContext) where
       of_fault (want.AlgUnknown i) known = absurd (none (want.AlgUnknown i) ((known (want.AlgUnknown i) (λ e. absurd (cc e))).only refl))
       of_fault (want.KeyUnknown i) known = absurd (none (want.KeyUnknown i) ((known (want.KeyUnknown i) (λ e. absurd (cc e))).only refl))
 
-  -- the request is known
-  pub unrequested : (index : ℕ) (f : SignFault) → IsNegotiateFault conf moment context (nego.Sign index f) → context.related ≡ None → ⊥
-  unrequested index f is none = let known = request_of index f is in cc (none, known.1)
-
   module _ (index : ℕ) (f : SignFault) (request : Message) (specs : List SignSpec) (is : IsNegotiateFault conf moment context (nego.Sign index f)) (related : context.related ≡ Some request)
       (wished : AreWished conf moment request specs) where
     -- the wish is there

@@ -36,9 +36,10 @@ use Rattle.commands.specs.Layers.{IsUnrefused}
 use Rattle.commands.specs.Sign.{IsSignRefused, ReportsEach, ReportsSigning}
 use Rattle.commands.specs.SignedMessages.{IsKeptWhereSigned, IsMessageWhereSigned, IsRightWhereSigned}
 use Rattle.verdicts.specs.Verification.{verification_for}
+use Rattle.negotiation.proofs.SignedKeys.{wish_names_key}
 use Rattle.commands.specs.declared.outcome.Outcome.TheVariants.{Done}
 use Rattle.commands.proofs.OneSigning.{refusal_of}
-use Rattle.commands.proofs.SignedKeys.{asked_names_key, wish_names_key}
+use Rattle.commands.proofs.SignedKeys.{asked_names_key}
 
 -- ---- one signature after the other
 

@@ -1,6 +1,6 @@
 -- The steps that texts say.
-use Rattle.std.proofs.Common.{◌≡◌, ◌⊎◌, ◌≤◌, ◌<◌, ◌+◌, ℕ, zero, suc, true, List, [], ◌∷◌, ◌++◌, length, get_or, drop, Option, Some, None, IsTrue, refl, sym, ap, subst, ◌∙◌, append_assoc, append-nil, inl, inr, arith}
-use Rattle.std.specs.Prelude.{IsSomeAnd, option_and_then, is_some}
+use Rattle.std.proofs.Common.{◌≡◌, ◌⊎◌, ◌≤◌, ◌<◌, ℕ, zero, suc, true, List, [], ◌∷◌, ◌++◌, length, get_or, drop, Option, Some, None, IsTrue, refl, sym, subst, ◌∙◌, append-nil, inl, inr, arith}
+use Rattle.std.specs.Prelude.{option_and_then, is_some}
 use Rattle.std.specs.List.{AllZip, Any, list_all}
 use Rattle.std.proofs.lemmas.Bool.{and_parts, cases_Bool, false≢true}
 use Rattle.std.proofs.lemmas.List.{drop_all}
@@ -11,10 +11,9 @@ use Rattle.rewrite_script.specs.tools.LineWalk.{line_read}
 use Rattle.rewrite_script.proofs.KindLaws.{has_one_rewriting}
 use Rattle.rewrite_script.proofs.StepLaws.{step_is, step_isnt}
 use Rattle.rewrite_script.proofs.ValueLaws.{none_where, not_valued, values_decided}
-use Rattle.toml.specs.Data.{Data, Items, item, string, array, as_array, as_str}
+use Rattle.toml.specs.Data.{Data, Items, string, array, as_array, as_str}
 use Rattle.toml.specs.View.{items_view, view}
 use Rattle.toml.specs.declared.value.Value.{Value}
-use Rattle.toml.proofs.Views.{items_view-drop}
 use Rattle.conf.specs.declared.fault.ConfFault.{ConfFault}
 use Rattle.conf.specs.declared.fault.ConfFault.TheVariants as fault
 use Rattle.conf_values.specs.declared.table.ValueRule.TheVariants as rule
@@ -24,7 +23,7 @@ use Rattle.conf.specs.Refusals.{HasBadStep}
 use Rattle.conf_values.specs.Parts.{values_of}
 use Rattle.conf_values.specs.Values.{IsBadStep, IsStepText, are_texts, has_type}
 use Rattle.conf.proofs.Among.{any_first, any_later}
-use Rattle.conf.specs.tools.GatewayReads.{AddsLine, AreStepsIn, AreStepsOf, IsStepFault, IsStepsFault}
+use Rattle.conf.specs.tools.GatewayReads.{AreStepsIn, AreStepsOf, IsStepFault, IsStepsFault}
 
 -- ---- one text
 
@@ -126,41 +125,10 @@ read_are (Some (array items)) steps typed read = elim (cases_Bool (are_texts ite
 ]
 read_are (Some value) steps typed read = absurd (typed refl)
 
--- with the value before them, the steps that come are one more, or the values aren't all texts
-pub one_more : (value : Data) (items : Items) (old new more : List Rewrite) → AddsLine (as_str value) old new → AreStepsOf items more
-    → (next : List Rewrite) × AreStepsOf (item value items) next × (old ++ next ≡ new ++ more)
-one_more value items old new more adds are = by (as_str value) refl adds
-  where
-    first : are_texts (item value items) ≡ true → is_some (as_str value) ≡ true
-    first texts = (and_parts (is_some (as_str value)) (are_texts items) texts).0
-
-    others : are_texts (item value items) ≡ true → AllZip IsStepText (values_of items) more
-    others texts = are (and_parts (is_some (as_str value)) (are_texts items) texts).1
-
-    by : (line : Option (List ℕ)) → as_str value ≡ line → AddsLine line old new → (next : List Rewrite) × AreStepsOf (item value items) next × (old ++ next ≡ new ++ more)
-    by None e same = (
-      more,
-      λ texts. absurd (false≢true (ap (λ (o : Option (List ℕ)). is_some o) (sym e) ∙ first texts)),
-      ap (λ (steps : List Rewrite). steps ++ more) (sym same),
-    )
-    by (Some line) e added = (
-      added.0 ∷ more,
-      λ texts. (subst (λ (o : Option (List ℕ)). IsSomeAnd o (λ line. SpellsLine line added.0)) (sym e) added.1, others texts),
-      sym (append_assoc old (added.0 ∷ []) more) ∙ ap (λ (steps : List Rewrite). steps ++ more) (sym added.2),
-    )
-
 -- what the steps so far are of all values, with those of the values that are left
 abbrev pub AreStepsSoFar : List Value → ℕ → Items → List Rewrite → Type 0
 AreStepsSoFar values i all steps =
     (more : List Rewrite) → AreStepsOf (items_view (drop i values)) more → AreStepsOf all (steps ++ more)
-
-pub so_far_more : (values : List Value) (i : ℕ) (value : Value) (all : Items) (old new : List Rewrite) → i < length values → get_or values i value ≡ value
-    → AddsLine (as_str (view value)) old new → AreStepsSoFar values i all old → AreStepsSoFar values (i + 1) all new
-so_far_more values i value all old new lt at adds so_far more are =
-    let rest = items_view (drop (i + 1) values) in
-    let left : items_view (drop i values) ≡ item (view value) rest = items_view-drop values i value lt ∙ ap (λ (v : Value). item (view v) rest) at in
-    let next = one_more (view value) rest old new more adds are in
-    subst (λ (steps : List Rewrite). AreStepsOf all steps) next.2 (so_far next.0 (subst (λ (items : Items). AreStepsOf items next.0) (sym left) next.1))
 
 pub so_far_all : (values : List Value) (i : ℕ) (all : Items) (steps : List Rewrite) → length values ≤ i → AreStepsSoFar values i all steps → AreStepsOf all steps
 so_far_all values i all steps le so_far =

@@ -43,10 +43,6 @@ tables_found (Some (array own)) items is =
     ap (λ (given : Items). tables_of given) same
 tables_found (Some value) items is = absurd (cc is)
 
-pub policies_found : (value : Option Data) (items : Items) → Some items ≡ option_and_then as_array value → policy_tables value ≡ tables_of items
-policies_found None items is = absurd (cc is)
-policies_found (Some value) items is = tables_found (Some value) items is
-
 -- without one there is no value, where values have their types
 pub no_policies : (value : Option Data) → (IsTrue (fails (has_type rule.Policies) value) → ⊥) → None ≡ option_and_then as_array value → policy_tables value ≡ no_members ∷ []
 no_policies None typed is = refl

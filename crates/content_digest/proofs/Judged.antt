@@ -6,28 +6,19 @@ use Rattle.std.specs.List.{list_all, list_any}
 use Rattle.byte_grammar.specs.Causes.{AnswersWhere}
 use Rattle.sfv_text.specs.declared.pair.Pair.{Pair}
 use Rattle.sfv_text.specs.declared.value.Member.{Member}
-use Rattle.sfv_read.specs.Fault.{IsRead}
 use Rattle.sfv_text.specs.Range.{is_dict_in_range}
 use Rattle.sfv_text.specs.Strict.{dict_text}
 use Rattle.sfv_read.specs.Reads.{ReadsDict}
 use Rattle.sfv_read.proofs.StrictReads.{dict_text_reads}
-use Rattle.sfv_read.specs.declared.error.SfError.{SfError}
-use Rattle.sfv_read.specs.declared.error.SfError.TheVariants as sf
 use Rattle.content_digest.specs.declared.algorithm.Algorithm.{Algorithm}
 use Rattle.content_digest.specs.declared.algorithm.Algorithm.TheVariants.{Sha256, Sha512}
 use Rattle.content_digest.specs.Algorithms.{digest_by}
 use Rattle.content_digest.specs.declared.fault.DigestFault.{DigestFault}
 use Rattle.content_digest.specs.declared.fault.DigestFault.TheVariants.{Memory, Malformed, NoneKnown, Mismatch}
 use Rattle.content_digest.specs.Digests.{DigestHolds, is_known, is_sound, agrees, digest_dict}
-use Rattle.content_digest.specs.Faults.{IsDigestFault, fault_of}
+use Rattle.content_digest.specs.Faults.{IsDigestFault}
 use Rattle.content_digest.specs.tools.Judged.{FailsByMembers, ExplainsDigest}
-use Rattle.content_digest.proofs.DigestLaws.{one_digest_fault, no_fault_where_holds, is_malformed, is_mismatch}
-
--- the text isn't read
-pub unread : (text content : List ℕ) (error : SfError) → ((dict : List (Pair Member)) → ReadsDict text dict → IsRead {V = List (Pair Member)} (Err error) dict)
-    → ExplainsDigest text content (Err (fault_of error))
-unread text content sf.Memory none = tt
-unread text content (sf.Syntax offset) none = is_malformed text content (inl (λ dict reads. none dict reads))
+use Rattle.content_digest.proofs.DigestLaws.{one_digest_fault, no_fault_where_holds, is_mismatch}
 
 -- the members are judged
 pub members_explain : (text content : List ℕ) (dict : List (Pair Member)) (result : Result ⊤ DigestFault) → ReadsDict text dict → list_all is_sound dict ≡ true
@@ -66,6 +57,11 @@ answers_where text content (Err found) is fault other = record {
     | inr some ↦ inl (ap Err (one_digest_fault text content found fault (fault_explained text content found some is) first))
   ];
 }
+
+pub holds_where_ok : (content : List ℕ) (Reads : List ℕ → Type 0) (result : Result ⊤ DigestFault) → ((text : List ℕ) → Reads text → ExplainsDigest text content result)
+    → IfOk result (λ _. (text : List ℕ) → Reads text → DigestHolds text content)
+holds_where_ok content Reads (Ok x) is = is
+holds_where_ok content Reads (Err fault) is = tt
 
 pub memory_where_holds : (text content : List ℕ) (result : Result ⊤ DigestFault) → ExplainsDigest text content result → DigestHolds text content
     → IfErr result (λ fault. fault ≡ Memory)

@@ -5,6 +5,7 @@ ghost use Rattle.std.specs.List.{list_all};
 ghost use Rattle.byte_grammar.specs.Causes.{AnswersWhere};
 ghost use Rattle.sfv_text.specs.declared.value.Member.{Member};
 ghost use Rattle.sfv_text.specs.declared.pair.Pair.{Pair};
+ghost use Rattle.sfv_read.specs.Reads.{ReadsDict};
 ghost use Rattle.msg_body.specs.Views.{message_of, message_content};
 ghost use Rattle.content_digest.specs.Digests.{DigestHolds, agrees, is_sound};
 ghost use Rattle.content_digest.specs.Faults.{IsDigestFault};
@@ -14,7 +15,7 @@ use crate::fault::DigestFault;
 use crate::member::{are_sound, check_member, has_known};
 use msg_body::MessageView;
 use sfv_read::read_dict;
-use sfv_text::{Member, Pair};
+use sfv_text::{Dict, Member, Pair};
 use std::alloc::Global;
 
 // Judges the digests of the members in order.
@@ -35,12 +36,15 @@ fn check_members(
     Ok(())
 }
 
-// The answer to digests, by its cause.
-fn judge(alloc: Global, text: &[u8], view: &MessageView<'_>) -> Result<(), DigestFault>
-    ensures { ExplainsDigest text.now (message_content (message_of view.now)) result }
+// The answer to the digests of a Dictionary, by its cause.
+fn judge_members(
+    alloc: Global,
+    members: &[Pair<Member>],
+    view: &MessageView<'_>,
+) -> Result<(), DigestFault>
+    ensures { (text : List ℕ) → ReadsDict text members.now
+        → ExplainsDigest text (message_content (message_of view.now)) result }
 {
-    let dict = read_dict(alloc, text)?;
-    let members = dict.as_slice();
     if !are_sound(members) {
         return Err(DigestFault::Malformed);
     }
@@ -48,6 +52,31 @@ fn judge(alloc: Global, text: &[u8], view: &MessageView<'_>) -> Result<(), Diges
         return Err(DigestFault::NoneKnown);
     }
     check_members(alloc, members, view)
+}
+
+// The answer to the digests of a text, by its cause.
+fn judge(alloc: Global, text: &[u8], view: &MessageView<'_>) -> Result<(), DigestFault>
+    ensures { ExplainsDigest text.now (message_content (message_of view.now)) result }
+{
+    let dict = read_dict(alloc, text)?;
+    judge_members(alloc, dict.as_slice(), view)
+}
+
+/// Compares the digests of a `Content-Digest` field that was read with the content, as
+/// [`check_digest`] does those of its text.
+pub fn check_dict(alloc: Global, dict: &Dict, view: &MessageView<'_>) -> Result<(), DigestFault>
+    ensures ok { IfOk result (λ _. (text : List ℕ) → ReadsDict text dict.now
+        → DigestHolds text (message_content (message_of view.now))) }
+    ensures there { (text : List ℕ) → ReadsDict text dict.now
+        → DigestHolds text (message_content (message_of view.now))
+        → IfErr result (λ fault. fault ≡ DigestFault.Memory) }
+
+    // The first fault whose cause holds is answered, and no other.
+    ensures fault { (text : List ℕ) (fault : DigestFault) → ReadsDict text dict.now
+        → fault ≢ DigestFault.Memory → AnswersWhere DigestFault.Memory result fault
+        (IsDigestFault text (message_content (message_of view.now)) fault) }
+{
+    judge_members(alloc, dict.as_slice(), view)
 }
 
 /// Compares the digests of a `Content-Digest` field with the content (RFC 9530 section 2). The

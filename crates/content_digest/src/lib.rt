@@ -23,7 +23,7 @@ mod make;
 mod member;
 
 pub use algorithm::Algorithm;
-pub use check::check_digest;
+pub use check::{check_dict, check_digest};
 pub use fault::DigestFault;
 pub use laws::{digests_depend_on_their_dictionary, digests_hold_or_have_one_fault};
 pub use make::make_digest;

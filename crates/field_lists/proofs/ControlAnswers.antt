@@ -1,5 +1,5 @@
 -- What is answered of the control data with which fields begin.
-use Rattle.std.proofs.Common.{◌≡◌, ◌≢◌, ◌==◌, ℕ, ◌<◌, Bool, true, not, ◌&&◌, ◌||◌, Option, Some, None, List, [], ◌∷◌, length, take, drop, refl, sym, ap, subst, ◌∙◌, inl, inr, arith, codes}
+use Rattle.std.proofs.Common.{◌≡◌, ◌==◌, ℕ, Bool, true, not, ◌&&◌, ◌||◌, Option, Some, None, List, [], ◌∷◌, take, refl, sym, ap, subst, ◌∙◌, inl, inr, codes}
 use Rattle.std.specs.Prelude.{◌↔◌, IfNone}
 use Rattle.std.specs.List.{list_all, list_any}
 use Rattle.std.specs.Str.{byte, bytes_eq}
@@ -8,42 +8,19 @@ use Rattle.std.proofs.lemmas.Slice.Eq.{bytes_eq-Decides}
 use Rattle.byte_grammar.specs.Classes.{is_one_of, is_token, is_visible}
 use Rattle.byte_grammar.specs.Language.{starts_in}
 use Rattle.list_texts.specs.declared.list.Field.{Field}
-use Rattle.field_lists.specs.Controls.{Control, RequestControl, request, response, field_of, is_lower_scheme, is_path_text, is_text, AreOfRequest, HasPseudo, IsAllowed, IsAllowedRequest}
+use Rattle.field_lists.specs.Controls.{Control, RequestControl, request, response, is_lower_scheme, is_path_text, is_text, AreOfRequest, HasPseudo, IsAllowed, IsAllowedRequest}
 use Rattle.field_lists.specs.tools.Allowed.{has_no_fragment, is_allowed, is_allowed_request, is_method}
-use Rattle.field_lists.proofs.ControlOrNone.{enough_fields, status_first, with_four, with_status}
+use Rattle.field_lists.proofs.ControlOrNone.{enough_fields}
 use Rattle.field_lists.proofs.LineNames.{or_none, other_text}
 
 pub if_none : {T P Q : Type 0} (result : Option T) → (P → Q) → IfNone result P → IfNone result Q
 if_none (Some x) f p = tt
 if_none None f p = f p
 
--- ---- a response
-
-pub empty_begins : (fields : List Field) → length fields ≡ 0 → (code : List ℕ) (others : List Field) → ¬ HasPseudo fields (response code) others
-empty_begins fields none code others has = absurd (omega (arith, none, ap (λ (fs : List Field). length fs) (status_first fields code others has)))
-
-pub other_first : (fields : List Field) (first : Field) (rest : List Field) → fields ≡ first ∷ rest → first.name ≢ codes ":status" → (code : List ℕ) (others : List Field) → ¬ HasPseudo fields (response code) others
-other_first fields first rest cut apart code others has =
-    let e : first ∷ rest ≡ field_of (codes ":status") code ∷ others = sym cut ∙ status_first fields code others has in
-    let same : first ≡ field_of (codes ":status") code = cc in
-    apart (ap (λ (f : Field). f.name) same)
-
-pub status_begins : (fields : List Field) (first : Field) (others : List Field) (value : List ℕ) → fields ≡ first ∷ others → first.name ≡ codes ":status" → value ≡ first.value → HasPseudo fields (response value) others
-status_begins fields first others value cut is value_is =
-    subst (λ (fs : List Field). HasPseudo fs (response value) others) (sym cut)
-    (subst (λ (v : List ℕ). HasPseudo (first ∷ others) (response v) others) (sym value_is) (with_status first others is))
-
 -- ---- a request
-
-pub few_begin : (fields : List Field) → length fields < 4 → (control : RequestControl) (others : List Field) → ¬ HasPseudo fields (request control) others
-few_begin fields few control others has = absurd (omega (arith, few, (enough_fields fields control others has).0))
 
 pub no_four : (fields pseudo : List Field) → pseudo ≡ take 4 fields → ((control : RequestControl) → ¬ AreOfRequest pseudo control) → (control : RequestControl) (others : List Field) → ¬ HasPseudo fields (request control) others
 no_four fields pseudo cut none control others has = none control (subst (λ (fs : List Field). AreOfRequest fs control) (sym cut) (enough_fields fields control others has).1)
-
-pub four_begin : (fields pseudo others : List Field) (control : RequestControl) → pseudo ≡ take 4 fields → others ≡ drop 4 fields → AreOfRequest pseudo control → HasPseudo fields (request control) others
-four_begin fields pseudo others control front rest are =
-    subst (λ (fs : List Field). HasPseudo fields (request control) fs) (sym rest) (with_four fields control (subst (λ (fs : List Field). AreOfRequest fs control) front are))
 
 -- ---- values
 

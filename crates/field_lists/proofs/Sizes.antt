@@ -1,8 +1,8 @@
 -- How many bytes a head and a trailer section have, and the limits that they pass.
-use Rattle.std.proofs.Common.{◌≡◌, ℕ, ◌+◌, ◌-◌, ◌<◌, ◌≤◌, Bool, cond, true, false, Option, Some, None, List, [], ◌∷◌, ◌++◌, length, map, refl, sym, ap, subst, ◌∙◌, inl, inr, arith, codes}
+use Rattle.std.proofs.Common.{◌≡◌, ℕ, ◌+◌, ◌<◌, ◌≤◌, Bool, true, false, Option, Some, None, List, [], ◌∷◌, ◌++◌, length, map, refl, sym, ap, subst, ◌∙◌, arith, codes}
 use Rattle.std.specs.Prelude.{is_some, nat_le, nat_lt}
 use Rattle.std.specs.List.{flat_map}
-use Rattle.std.proofs.lemmas.Bool.{cases_lt, false≢true, le-leb, le-ltb, leb-false, leb-true, lt-leb, lt-ltb, ltb-false, ltb-true}
+use Rattle.std.proofs.lemmas.Bool.{false≢true, le-leb, leb-false, leb-true, lt-leb, ltb-false, ltb-true}
 use Rattle.std.proofs.lemmas.Grind.{flat_map-append}
 use Rattle.std.proofs.lemmas.List.{length-append, length-map}
 use Rattle.byte_grammar.specs.Causes.{IsFirst}
@@ -16,7 +16,7 @@ use Rattle.list_texts.specs.declared.list.Field.{Field}
 use Rattle.list_texts.specs.declared.list.FieldList.{FieldList}
 use Rattle.field_lists.specs.declared.to_fault.MessageLimit.{MessageLimit}
 use Rattle.field_lists.specs.declared.to_fault.MessageLimit.TheVariants.{HeadBytes, TrailerBytes, HeadLines, TrailerLines}
-use Rattle.field_lists.specs.Controls.{Control, request, response, is_request}
+use Rattle.field_lists.specs.Controls.{Control, request, response}
 use Rattle.field_lists.specs.ToCauses.{Passes, is_body_refused, limit_order}
 use Rattle.field_lists.specs.ToMessages.{body_with, coding_lines, head_lines, head_with, host_lines, is_in_chunks, line_of_field, message_with, start_of}
 use Rattle.field_lists.specs.tools.Sizes.{LeavesRoom, coding_size, fixed_size, line_size, lines_size, own_size}
@@ -120,35 +120,6 @@ room_if_plain true is = absurd (false≢true (sym is))
 pub room_fixed : (control : Control) (in_chunks : Bool) (left : Option ℕ) (room : ℕ) → room + (coding_size in_chunks + 2) ≡ MAX_HEAD_BYTES → LeavesRoom left (own_size control) room → LeavesRoom left (fixed_size control in_chunks) MAX_HEAD_BYTES
 room_fixed control in_chunks (Some n) room sum leaves = omega (arith, sum, leaves)
 room_fixed control in_chunks None room sum leaves = omega (arith, sum, leaves)
-
--- ---- how many lines
-
-pub line_count_is : (control : Control) (others : List Field) (in_chunks : Bool) → length (head_lines control others in_chunks) ≡ length (host_lines control) + (length others + length (coding_lines in_chunks))
-line_count_is control others in_chunks =
-    omega (arith, length-append (host_lines control) (map line_of_field others ++ coding_lines in_chunks), length-append (map line_of_field others) (coding_lines in_chunks), length-map others line_of_field)
-
-same_test : (a b c d : ℕ) → (a < b → c < d) → (c < d → a < b) → nat_lt a b ≡ nat_lt c d
-same_test a b c d there back = elim (cases_lt a b) [
-  | inl less ↦ lt-ltb a b less ∙ sym (lt-ltb c d (there less))
-  | inr most ↦ elim (cases_lt c d) [
-    | inl less ↦ absurd (not_more b a most (back less))
-    | inr least ↦ le-ltb a b most ∙ sym (le-ltb c d least)
-  ]
-]
-
-pub host_count : (control : Control) → length (host_lines control) ≡ cond (is_request control) 1 0
-host_count (request c) = refl
-host_count (response code) = refl
-
-pub coding_count : (in_chunks : Bool) → length (coding_lines in_chunks) ≡ cond in_chunks 1 0
-coding_count true = refl
-coding_count false = refl
-
-pub many_where : (control : Control) (others : List Field) (in_chunks : Bool) (host coding : ℕ) → host ≡ length (host_lines control) → coding ≡ length (coding_lines in_chunks) → host + coding ≤ MAX_HEAD_LINES
-    → nat_lt (MAX_HEAD_LINES - host - coding) (length others) ≡ nat_lt MAX_HEAD_LINES (length (head_lines control others in_chunks))
-many_where control others in_chunks host coding host_is coding_is few =
-    let count = line_count_is control others in_chunks in
-    same_test (MAX_HEAD_LINES - host - coding) (length others) MAX_HEAD_LINES (length (head_lines control others in_chunks)) (λ less. omega (arith, count, host_is, coding_is, less)) (λ less. omega (arith, count, host_is, coding_is, less))
 
 -- ---- the limit that is passed
 

@@ -26,9 +26,6 @@ on_ok (Err e) f is = tt
 
 -- ---- the head
 
-pub line_written : (old name value : List ℕ) → (old ++ (name ++ codes ": ")) ++ (value ++ codes "\r\n") ≡ old ++ line_text (line_of name value)
-line_written old name value = simp append_assoc
-
 pub request_written : (old : List ℕ) (c : RequestControl) → ((old ++ (c.method ++ codes " ")) ++ (c.path ++ codes " HTTP/1.1\r\n")) ++ line_text (line_of (codes "host") c.authority)
     ≡ old ++ (start_text (start_of (request c)) ++ flat_map line_text (host_lines (request c)))
 request_written old c = simp (append_assoc, append-nil)

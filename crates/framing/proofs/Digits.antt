@@ -4,7 +4,7 @@ use Rattle.std.specs.Prelude.{nat_lt, nat_le}
 use Rattle.std.specs.Char.{digit_value}
 use Rattle.std.specs.List.{list_all}
 use Rattle.std.specs.Str.Parse.{AllDigits, digits_value, digits_value_after}
-use Rattle.std.proofs.lemmas.Bool.{and_parts, false≢true, lt-ltb}
+use Rattle.std.proofs.lemmas.Bool.{and_parts, false≢true}
 use Rattle.std.proofs.lemmas.Bool.Decides.{nat_tests}
 use Rattle.std.proofs.lemmas.Str.{digit_value_digit}
 use Rattle.std.proofs.lemmas.Str.Parse.{IsNumeralModel, digits_value_short}
@@ -33,16 +33,6 @@ length_parts text is =
     let parts = and_parts (nat_lt 0 (length text)) (nat_le (length text) 15 && list_all is_digit text) is in
     let rest = and_parts (nat_le (length text) 15) (list_all is_digit text) parts.1 in
     record { some = grind (arith, nat_tests); few = grind (arith, nat_tests); all = rest.1 }
-
-pub is_length_where : (text : List ℕ) (digits : Digits) → AreDigitsOf text digits → ¬ (digits.count ≡ 0) → is_length text ≡ true
-is_length_where text digits are some =
-    let more : nat_lt 0 (length text) ≡ true = lt-ltb 0 (length text) (omega (arith, are.count, some)) in
-    let few : nat_le (length text) 15 ≡ true = grind (arith, nat_tests, are.few) in
-    rw (more, few) are.all
-
-pub no_length_where : (text : List ℕ) (digits : Digits) → AreDigitsOf text digits → digits.count ≡ 0 → is_length text ≡ false
-no_length_where text digits are none =
-    is_not (is_length text) (λ is. absurd (omega (arith, are.count, none, (length_parts text is).some)))
 
 -- ---- digits and one more
 
@@ -80,20 +70,6 @@ one_more text digits c n are fewer is value = record {
   count = omega (arith, are.count, length-append text (c ∷ []));
   number = ap (λ m. m * 10 + n) are.number ∙ (ap (λ m. digits_value 10 text * 10 + m) (value ∙ sym (digit_is c is).0) ∙ sym (value_append 0 text (c ∷ [])));
 }
-
-pub none_more : (text : List ℕ) (digits : Digits) (c : ℕ) → AreDigitsOf text digits → digits.count ≡ 15 → BeginsNoLength (text ++ c ∷ [])
-none_more text digits c are full more =
-    is_not (is_length ((text ++ c ∷ []) ++ more))
-    (λ is. absurd (omega (arith, (length_parts ((text ++ c ∷ []) ++ more) is).few, are.count, full, length-append (text ++ c ∷ []) more, length-append text (c ∷ []))))
-
-pub no_digit : (text : List ℕ) (c : ℕ) → is_digit c ≡ false → BeginsNoLength (text ++ c ∷ [])
-no_digit text c other more =
-    is_not (is_length ((text ++ c ∷ []) ++ more))
-    (λ is. let whole = (length_parts ((text ++ c ∷ []) ++ more) is).all in
-    let front = and_parts (list_all is_digit (text ++ c ∷ [])) (list_all is_digit more) (sym (list_all-append is_digit (text ++ c ∷ []) more) ∙ whole) in
-    let last = and_parts (list_all is_digit text) (list_all is_digit (c ∷ [])) (sym (list_all-append is_digit text (c ∷ [])) ∙ front.0) in
-    let one = and_parts (is_digit c) true last.1 in
-    false≢true (sym other ∙ one.0))
 
 -- ---- pieces
 

@@ -79,9 +79,6 @@ no_start (c ∷ r) after = at_cr begins_extension false refl c after
 ends_run : (r : List ℕ) → Next (λ c. c == byte "\r") r → Next (λ c. not (is_line_byte c)) r
 ends_run r after = next_more (λ c. c == byte "\r") (λ c. not (is_line_byte c)) (at_cr (λ c. not (is_line_byte c)) true refl) r after
 
-run_at : Bool → List ℕ → Type 0
-run_at b v = IsRun is_line_byte 0 (cond b MAX_EXTENSION_BYTES 0) v v
-
 pub meets_extension : Meets IsExtensionText (λ _ c. c == byte "\r") extension_read
 unfolding extension_read
 meets_extension = record { ok = ok; err = err; only = only; far = far }

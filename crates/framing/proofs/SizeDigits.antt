@@ -2,7 +2,6 @@
 use Rattle.std.proofs.Common.{◌≡◌, ℕ, zero, suc, ◌/◌, ◌%◌, ◌^◌, ◌≤◌, ◌<◌, Bool, false, cond, List, [], ◌∷◌, ◌++◌, refl, sym, ap, ◌∙◌, inl, inr, arith, append_assoc}
 use Rattle.std.specs.Fmt.{digit_glyph, digits, digits_onto}
 use Rattle.std.proofs.lemmas.Bool.{cases_lt, eq-eqb, ne_eqb}
-use Rattle.std.proofs.lemmas.Fmt.{hex_one_digit}
 
 abbrev spell : ℕ → ℕ → List ℕ → List ℕ
 spell k n acc = digits_onto k 16 false n acc
@@ -44,6 +43,3 @@ unfolding digits
 hex_step n large small =
     spell_next 63 n [] large
     ∙ (spelt_enough 62 63 (n / 16) (last_glyph n ∷ []) (omega (arith, small)) (omega (arith, small)) ∙ spelt_before 64 (n / 16) (last_glyph n ∷ []))
-
-pub hex_digit : (n : ℕ) → n < 16 → digits 16 false n ≡ digit_glyph false (n % 16) ∷ []
-hex_digit n small = let same : n ≡ n % 16 = omega (arith, small) in hex_one_digit false n small ∙ ap (λ m. digit_glyph false m ∷ []) same

@@ -1,5 +1,5 @@
 -- Content in parts of known sizes, and the chunks that they are written in.
-use Rattle.std.proofs.Common.{◌≡◌, ◌↔◌, ℕ, ◌+◌, ◌-◌, ◌≤◌, true, nat_le, List, [], ◌∷◌, ◌++◌, length, take, drop, refl, sym, ap, subst, ◌∙◌, arith, append_assoc, length-append, codes}
+use Rattle.std.proofs.Common.{◌≡◌, ◌↔◌, ℕ, ◌+◌, ◌-◌, ◌≤◌, true, nat_le, List, [], ◌∷◌, ◌++◌, length, take, drop, refl, sym, ap, subst, ◌∙◌, arith, length-append, codes}
 use Rattle.std.specs.Cmp.{both_ways}
 use Rattle.std.specs.Prelude.{map}
 use Rattle.std.specs.List.{flat_map, sum}
@@ -7,7 +7,7 @@ use Rattle.std.proofs.lemmas.Bool.{and_parts, and_from, eq-eqb, eqb-true, le-leb
 use Rattle.std.proofs.lemmas.List.{length-take, length-drop, take-append-drop}
 use Rattle.std.proofs.lemmas.List.Sums.{sum_by-cons}
 use Rattle.std.proofs.Math.Seq.{take-append_seam, drop-append_seam}
-use Rattle.framing.specs.Chunks.{Chunks, chunk_text, chunks_text}
+use Rattle.framing.specs.Chunks.{Chunks}
 use Rattle.framing.specs.ChunkLaws.{IsInChunksWhereSized}
 use Rattle.framing.specs.Sizes.{IsInChunks, add_up_to, chunk_of, sized_chunks, sized_parts}
 use Rattle.framing.specs.tools.Written.{adds_up}
@@ -105,14 +105,3 @@ in_chunks_where_sized sizes content chunks = (
   λ is. (sizes_fit sizes content chunks is, chunks_are sizes content chunks is),
   λ fits. subst (λ (c : Chunks). IsInChunks sizes content c) (sym fits.1) (in_chunks sizes content fits.0),
 )
-
--- ---- content that is written
-
--- a chunk is added, and the others come after it
-pub next_chunk : (text made content : List ℕ) (size : ℕ) (sizes : List ℕ) → made ≡ text ++ chunk_text (chunk_of (take size content))
-    → made ++ chunks_text (sized_chunks sizes (drop size content)) ≡ text ++ chunks_text (sized_chunks (size ∷ sizes) content)
-next_chunk text made content size sizes made_is =
-    let rest = sized_chunks sizes (drop size content) in
-    ap (λ t. t ++ chunks_text rest) made_is
-    ∙ (append_assoc text (chunk_text (chunk_of (take size content))) (chunks_text rest)
-    ∙ ap (λ t. text ++ t) (sym (append_assoc (chunk_text (chunk_of (take size content))) (flat_map chunk_text rest.chunks) (rest.last ++ codes "\r\n"))))

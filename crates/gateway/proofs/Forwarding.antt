@@ -9,7 +9,7 @@ use Rattle.std.proofs.lemmas.List.Elements.{All-head, All-tail}
 use Rattle.msg_body.specs.Messages.{Message}
 use Rattle.msg_body.specs.Views.{message_content}
 use Rattle.msg_body.proofs.OneMessages.{one_message_law}
-use Rattle.component_values.specs.Context.{HasWholeMessage, MessageContext, answers_head, context_with}
+use Rattle.component_values.specs.Context.{MessageContext, answers_head, context_with}
 use Rattle.line_rewrites.specs.Sized.{SpellsSized}
 use Rattle.rewrite_script.specs.Lines.{HasValues, is_writable}
 use Rattle.rewrite_script.specs.Scripts.{HaveValues}
@@ -68,11 +68,6 @@ module _ (accepted : AcceptedLabel) (context : MessageContext) where
   pub as_long : (given : Option (List ℕ)) (message : Message) → SpellsGiven context given message → length (message_content message) ≡ length (message_content context.message)
   as_long None message is = ap (λ (m : Message). length (message_content m)) is
   as_long (Some text) message is = is.sized
-
-  -- it is a whole one
-  pub whole : (given : Option (List ℕ)) (message : Message) → HasWholeMessage context → SpellsGiven context given message → HasWholeMessage (context_with context message)
-  whole None message is given = subst (λ (m : Message). HasWholeMessage (context_with context m)) (sym given) is
-  whole (Some text) message is given = given.spells.is
 
   -- one message is given
   pub one_given : (given : Option (List ℕ)) (message other : Message) → SpellsGiven context given message → SpellsGiven context given other → message ≡ other
@@ -149,18 +144,6 @@ goes_again forwarding context steps message made given (Ok own) none given_is sa
 goes_again forwarding context steps message made given (Err fault) none given_is says = tt
 
 module _ (forwarding : Forwarding) (context : MessageContext) (steps : List Rewrite) where
-  pub begun : IsTrue (list_all is_writable steps) → HaveValues steps → HasSignatureOf forwarding.accepted.now context.message → (own : Met) → SaysMet forwarding context steps own
-      → IsOnTheWay forwarding context steps None steps own
-  begun writable values signed own says = record {
-    message = context.message;
-    given_is = refl;
-    signature = signed;
-    writable = writable;
-    values = values;
-    leads = λ after leads. leads;
-    says = says;
-  }
-
   pub done : (given : Option (List ℕ)) (left : List Rewrite) (outcome : Forwarded) → IsOnTheWay forwarding context steps given left (met.Done outcome)
       → SaysAfterSteps forwarding context steps outcome
   done given left outcome way = (way.message, way.leads way.message (stays forwarding.accepted.now context way.message left way.says.0), way.says.1)

@@ -3,7 +3,7 @@ use Rattle.std.proofs.Common.{◌≡◌, ℕ, ◌+◌, ◌-◌, ◌≤◌, ◌==
 use Rattle.std.proofs.lemmas.Bool.{ne_eqb}
 use Rattle.std.proofs.lemmas.List.{take-append-drop, take_rest, length-take-le, drop-drop, length-drop}
 use Rattle.std.proofs.lemmas.Map.Text.{is_eq-slice_cmp}
-use Rattle.std.proofs.Math.Seq.{take-add, take-append-add, take-take, drop-append_seam, take-append_seam}
+use Rattle.std.proofs.Math.Seq.{take-add, drop-append_seam, take-append_seam}
 use Rattle.std.proofs.KnownBytes.{Appends-trans, Consumes-trans}
 use Rattle.std.specs.Io.KnownBytes.{Appends, Consumes, Keeps}
 use Rattle.std.specs.Cmp.Lexicographic.{slice_cmp}
@@ -19,15 +19,6 @@ pub appends_more : (a b c : Option (List ℕ)) (text : List ℕ) (i n : ℕ) →
 appends_more a b c text i n p q =
     let rest = subst (λ l. Appends b c (take n l)) (take_rest text i) q in
     subst (Appends a c) (sym (take-add i n text)) (Appends-trans a b c _ _ p rest)
-
--- two reads filled the prefix of a piece as one
-pub consumes_in_place : (a b c : Option (List ℕ)) (xs ys zs : List ℕ) (at n : ℕ) → at ≤ length xs → n ≤ length ys
-    → take (at + length ys) zs ≡ take at xs ++ ys → Consumes a b (take at xs) → Consumes b c (take n ys) → Consumes a c (take (at + n) zs)
-consumes_in_place a b c xs ys zs at n within short is p q =
-    let long = ap (λ k. take (k + n) (take at xs ++ ys)) (sym (length-take-le at xs within)) in
-    let prefix : take (at + n) zs ≡ take at xs ++ take n ys =
-    sym (take-take (at + n) (at + length ys) zs (omega arith)) ∙ ap (take (at + n)) is ∙ long ∙ take-append-add (take at xs) ys n in
-    subst (Consumes a c) (sym prefix) (Consumes-trans a b c _ _ p q)
 
 -- what was consumed is the prefix that is gone
 pub loses_prefix : (a b : Option (List ℕ)) (text : List ℕ) → Consumes a b text → LosesPrefix a b (length text)

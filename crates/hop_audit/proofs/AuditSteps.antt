@@ -1,12 +1,11 @@
 -- The report on a chain, hop by hop: the lines so far, and what comes of them with those of the other hops.
 use Rattle.std.proofs.Common.{◌≡◌, ◌⊎◌, ◌+◌, ◌<◌, ◌≤◌, ℕ, List, [], ◌∷◌, ◌++◌, length, map, get_or, drop, Option, Some, None, Ok, Err, refl, sym, ap, subst, ◌∙◌, append_assoc, inl, inr, arith}
-use Rattle.std.specs.Prelude.{IsTrue, IfSome, unwrap_or, slice_get}
+use Rattle.std.specs.Prelude.{IsTrue, unwrap_or, slice_get}
 use Rattle.std.specs.List.{AllZip, flat_map}
 use Rattle.std.proofs.lemmas.List.{drop_more, drop_all, append-nil, length-map}
 use Rattle.std.proofs.lemmas.Option.{get_or_from_slice_get, slice_get-get_or, slice_get-map, slice_get_within}
 use Rattle.msg_body.specs.WholeTexts.{IsMessageFault, IsWhole}
 use Rattle.msg_body.specs.declared.whole.Reading.{Reading}
-use Rattle.nonces.specs.declared.limits.TheConstants.{MAX_MOMENT}
 use Rattle.recording.specs.Items.{PlacedItem}
 use Rattle.component_values.specs.Context.{MessageContext}
 use Rattle.rewrite_script.specs.declared.rewrite.Rewrite.{Rewrite}
@@ -58,11 +57,6 @@ no_hop = record { moment = None; item = 0; script = record { ref_ptr = (0, 0); n
 -- the hop at an index
 pub hop_at : (hops own : List HeldHop) (count : ℕ) (none : HeldHop) → own ≡ hops → count < length own → slice_get hops count ≡ Some (get_or own count none)
 hop_at hops own count none same lt = ap (λ (hs : List HeldHop). slice_get hs count) (sym same) ∙ slice_get-get_or own count none lt
-
--- the moment of the message after a hop
-pub moment_short : (o : Option ℕ) (moment : ℕ) → moment ≤ MAX_MOMENT → IfSome o (λ seconds. seconds ≤ MAX_MOMENT) → unwrap_or o moment ≤ MAX_MOMENT
-moment_short None moment short is = short
-moment_short (Some seconds) moment short is = is
 
 first_place : {items : List PlacedItem} {chain : HeldChain} → IsHeldChain items chain → chain.item ≡ 1 + length (related_items (subject_meant chain.subject))
 first_place held = let e = held.first_is in omega (arith, e)

@@ -36,10 +36,6 @@ use Rattle.hop_audit.specs.tools.Written.{AddsHopLines, AddsMessageLines}
 -- ---- one label more
 
 module _ (conf : Configuration) (context : MessageContext) where
-  -- nothing is known
-  pub none_known : KnowTags conf context []
-  none_known label = tt
-
   pub known_more : (known : List (Pair Bool)) (label : List ℕ) (is_right : Bool) → KnowTags conf context known → HasKnownTag conf context label is_right
       → KnowTags conf context (put known label is_right)
   known_more known label is_right knows has name = elim (cases_Bool (bytes_eq label name)) [

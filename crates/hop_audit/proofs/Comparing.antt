@@ -1,9 +1,9 @@
 -- What becomes of components, one after another.
-use Rattle.std.proofs.Common.{◌≡◌, ◌≢◌, ◌<◌, ◌≤◌, ◌+◌, ℕ, Bool, true, false, Option, Some, None, List, inl, inr, length, get_or, take, Result, Ok, Err, refl, sym, subst, ap, ◌∙◌}
-use Rattle.std.specs.Prelude.{◌↔◌, IfOk, IsTrue, is_err, slice_get}
+use Rattle.std.proofs.Common.{◌≡◌, ◌≢◌, ◌<◌, ◌≤◌, ◌+◌, ℕ, Bool, true, Option, Some, None, List, inl, inr, length, get_or, take, Result, Ok, Err, refl, sym, subst, ap, ◌∙◌}
+use Rattle.std.specs.Prelude.{◌↔◌, IfOk, IsTrue, slice_get}
 use Rattle.std.specs.Str.{bytes_eq}
 use Rattle.std.specs.List.{All}
-use Rattle.std.proofs.lemmas.Bool.{cases_Bool, false≢true}
+use Rattle.std.proofs.lemmas.Bool.{cases_Bool}
 use Rattle.std.proofs.lemmas.List.Elements.{All-more, All-weaker, All-same}
 use Rattle.std.proofs.lemmas.List.{take_all}
 use Rattle.std.proofs.lemmas.Option.{slice_get-get_or}
@@ -18,9 +18,7 @@ use Rattle.msg_body.specs.Messages.{Message}
 use Rattle.component_ids.specs.Identifiers.{id_of, id_text, is_id_in_range, item_of}
 use Rattle.component_ids.specs.declared.id.ComponentId.{ComponentId}
 use Rattle.component_ids.specs.declared.params.SigParams.{SigParams}
-use Rattle.derived_values.specs.declared.lack.Lack.{Lack}
-use Rattle.component_values.specs.Context.{MessageContext, context_with}
-use Rattle.component_values.specs.Values.{ComesTo}
+use Rattle.component_values.specs.Context.{MessageContext}
 use Rattle.component_values.proofs.RowLaws.{lacks_no_value}
 use Rattle.signatures.specs.Exchanges.{ExchangeState}
 use Rattle.signatures.specs.Signatures.{HasSignature}
@@ -30,30 +28,9 @@ use Rattle.hop_audit.specs.declared.comparison.ComponentFate.{ComponentFate}
 use Rattle.hop_audit.specs.declared.comparison.ComponentFate.TheVariants as component
 use Rattle.hop_audit.specs.declared.line.Fate.{Fate}
 use Rattle.hop_audit.specs.declared.line.Fate.TheVariants.{Dropped, Changed, Lacking, Kept}
-use Rattle.hop_audit.specs.Fates.{ComesToBoth, HasChanged, HasStayed, IsFate, LacksValue}
+use Rattle.hop_audit.specs.Fates.{HasChanged, HasStayed, IsFate, LacksValue}
 use Rattle.hop_audit.specs.tools.Compared.{AreCompared, AreComparedSoFar, IsComponentFate, LacksSoFar, SaysCompared, lacking_with}
 use Rattle.hop_audit.proofs.Fates.{all_kept, stays_unchanged}
-
-abbrev Answer : Type 0
-Answer = Result (List ℕ) Lack
-
--- ---- a component by itself
-
-module _ (context : MessageContext) (other : Message) (id : ComponentId) where
-  -- values that differ, or of which one is lacking
-  pub changed_between : (was now : Answer) → ComesToBoth context other id was now → ¬ (was ≡ now) → IsComponentFate context other id component.Changed
-  changed_between was now both apart = (was, now, both, apart)
-
-  same_in_both : (was now : Answer) → ComesToBoth context other id was now → was ≡ now → ComesToBoth context other id was was
-  same_in_both was now both same = record { before = both.before; after = subst (λ (a : Answer). ComesTo (context_with context other) id a) (sym same) both.after }
-
-  pub lacking_in_both : (was now : Answer) → ComesToBoth context other id was now → was ≡ now → is_err was ≡ true → IsComponentFate context other id component.Lacking
-  lacking_in_both (Ok value) now both same lacks = absurd (false≢true lacks)
-  lacking_in_both (Err lack) now both same lacks = ((Err lack, same_in_both (Err lack) now both same), (lack, both.before))
-
-  pub kept_in_both : (was now : Answer) → ComesToBoth context other id was now → was ≡ now → is_err was ≡ false → IsComponentFate context other id component.Kept
-  kept_in_both (Ok value) now both same has = (value, same_in_both (Ok value) now both same)
-  kept_in_both (Err lack) now both same has = absurd (false≢true (sym has))
 
 -- ---- by the texts of identifiers
 

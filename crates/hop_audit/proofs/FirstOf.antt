@@ -26,9 +26,6 @@ module _ {X : Type 0} (Fact : X → Type 0) where
     ]
   ]
 
-  pub none_first : (xs : List X) (x : X) → All (λ y. ¬ Fact y) xs → ¬ IsFirstOf Fact xs x
-  none_first xs x none first = all_at (λ z. ¬ Fact z) xs first.index x none first.there first.holds
-
   pub none_or_first : ((x : X) → Fact x ⊎ (¬ Fact x)) → (xs : List X) → All (λ y. ¬ Fact y) xs ⊎ ((x : X) × IsFirstOf Fact xs x)
   none_or_first decide [] = inl (All-nil (λ y. ¬ Fact y))
   none_or_first decide (x ∷ xs) = by_first (decide x) (none_or_first decide xs)

@@ -19,7 +19,7 @@ use Rattle.signatures.specs.Signatures.{AreLabels, HasSignature}
 use Rattle.signatures.specs.declared.label.LabelRead.{LabelRead}
 use Rattle.signatures.proofs.InRange.{is_signature_in_range}
 use Rattle.hop_audit.specs.declared.line.AuditLine.{AuditLine}
-use Rattle.hop_audit.specs.declared.line.AuditLine.TheVariants.{Hop as HopLine, Unread as UnreadLine, Label as LabelLine}
+use Rattle.hop_audit.specs.declared.line.AuditLine.TheVariants.{Hop as HopLine, Label as LabelLine}
 use Rattle.hop_audit.specs.declared.line.Fate.{Fate}
 use Rattle.hop_audit.specs.declared.walk.Mark.{Mark}
 use Rattle.hop_audit.specs.declared.walk.Walked.{Walked}
@@ -156,9 +156,6 @@ module _ (context : MessageContext) (hop : PlacedHop) (index : ℕ) (after : Mes
   IsReadSo read = MatchOption read
       ((params : SigParams) (tag : List ℕ) → ¬ HasSignature context.message mark.label.now params tag)
       (λ read. HasSignature context.message mark.label.now read.now.params read.now.tag × IsPermission mark.label.now context hop.script after (explained && mark.permitted))
-
-  pub unread_line : (named : List ℕ) → named ≡ mark.label.now → mark.read ≡ None → IsLabelLine context hop mark.label.now (UnreadLine index named)
-  unread_line named label_is read_is = (sym judged.index_is, label_is, subst IsReadSo read_is judged.read)
 
   pub judged_line : (named : List ℕ) (read : Bor LabelRead) (permitted : Bool) (fate : Fate) → named ≡ mark.label.now → mark.read ≡ Some read → permitted ≡ (explained && mark.permitted)
       → IsFate context after mark.label.now read.now.params read.now.tag fate → IsLabelLine context hop mark.label.now (LabelLine index named permitted fate)
@@ -298,10 +295,6 @@ hop_added context index script after labels explained stopped was first now labe
 -- what holds in a context and of another message holds in the same ones
 pub in_same : (Holds : MessageContext → Message → Type 0) (was now : MessageContext) (before after : Message) → Holds was before → was ≡ now → before ≡ after → Holds now after
 in_same Holds was now before after holds w b = subst (λ (m : MessageContext). Holds m after) w (subst (λ (o : Message). Holds was o) b holds)
-
-pub on_ok_too : {T E P : Type 0} (result : Result T E) → P → OnOk result P
-on_ok_too (Ok value) holds = holds
-on_ok_too (Err error) holds = tt
 
 pub on_ok : {T E P Q : Type 0} (result : Result T E) → (P → Q) → OnOk result P → OnOk result Q
 on_ok (Ok value) both is = both is

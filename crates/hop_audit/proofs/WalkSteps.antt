@@ -19,8 +19,7 @@ use Rattle.rewrite_script.specs.declared.rewrite.Rewrite.{Rewrite}
 use Rattle.rewrites.specs.Laws.{IsPermittedStep}
 use Rattle.rewrites.specs.Permitted.{Permits}
 use Rattle.rewrites.specs.Steps.{Step, Steps}
-use Rattle.rewrites.specs.Walks.{EndsAt, IsForbiddenStep, IsInapplicableStep, IsWatchedStep, ReportsWalk, Walks}
-use Rattle.rewrites.specs.declared.watcher.Judgement.TheVariants.{Forbidden, Permitted, Unjudged}
+use Rattle.rewrites.specs.Walks.{EndsAt, IsInapplicableStep, IsWatchedStep, ReportsWalk, Walks}
 use Rattle.rewrites.proofs.Kept.{keeps_where_permitted}
 use Rattle.rewrites.proofs.KeptSteps.{values_parts}
 use Rattle.hop_audit.specs.Hops.{IsPermitted}
@@ -235,11 +234,3 @@ module _ (context : MessageContext) (was : Marks) (holds : HoldSignatures contex
         same_still was.marks.items ends.watcher.marks.items now.marks.items all.same
             (marked_same (context_with context ends.message) ends.step ends.watcher.marks.items now.marks.items ends.judged.0),
       )
-
--- each step is judged
-pub never_unjudged : (context : MessageContext) (was now : Marks) (steps : List Rewrite) (index : ℕ) → ¬ EndsAt AreMarkedBy context was steps index now (λ _ _ judgement. judgement ≡ Unjudged)
-never_unjudged context was now steps index ends = let e : Permitted ≡ Unjudged = sym ends.judged.1 ∙ ends.why in cc
-
--- and none is forbidden
-pub never_forbidden : (context : MessageContext) (was now : Marks) (steps : List Rewrite) (index : ℕ) → ¬ EndsAt AreMarkedBy context was steps index now IsForbiddenStep
-never_forbidden context was now steps index ends = let e : Permitted ≡ Forbidden = sym ends.judged.1 ∙ ends.why.0 in cc

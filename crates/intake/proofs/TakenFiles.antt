@@ -1,6 +1,6 @@
 -- A message in a file: it is taken and read, and there is one, or one cause to refuse it.
-use Rattle.std.proofs.Common.{◌≡◌, ◌≤◌, ℕ, List, length, Option, Some, None, inl, inr, refl, sym, ap, ◌∙◌}
-use Rattle.hms_io.specs.Files.{FileMap, HasFile, HasLongerFile, HasNoFile}
+use Rattle.std.proofs.Common.{◌≡◌, ℕ, List, Option, Some, None, inl, inr, refl, sym, ap, ◌∙◌}
+use Rattle.hms_io.specs.Files.{FileMap, HasLongerFile, HasNoFile}
 use Rattle.hms_io.specs.declared.whole_file.FileError.{FileError}
 use Rattle.hms_io.specs.declared.whole_file.FileError.TheVariants as file
 use Rattle.msg_body.specs.Messages.{Message}
@@ -20,7 +20,7 @@ use Rattle.refusals.specs.declared.refusal.Refusal.TheVariants.{Of}
 use Rattle.intake.proofs.Answered.{has_message}
 use Rattle.intake.proofs.Decided.{input_decided}
 use Rattle.intake.proofs.DecidedConf.{found_value, found_cause, found_either}
-use Rattle.intake.proofs.FoundFiles.{file_stop, found_text}
+use Rattle.intake.proofs.FoundFiles.{file_stop}
 
 -- why the file isn't taken
 pub message_file_stop : (role : Role) (reading : Reading) (known : Option FileMap) (name : List ℕ) (error : FileError)
@@ -28,11 +28,6 @@ pub message_file_stop : (role : Role) (reading : Reading) (known : Option FileMa
     → IfStopped (stop_of_file role MAX_INPUT_BYTES error)
     (λ refusal. HasFound known (Some name) (λ found. IsRefusalFor (IsMessageFileRefused reading (Some name) found) (λ cause. Of role cause) refusal))
 message_file_stop role reading = file_stop role MAX_INPUT_BYTES (IsInputRefused reading) (λ text long. (refl, long))
-
--- a file that is taken
-pub taken_file : (known : Option FileMap) (name text : List ℕ) → HasFile known name text → length text ≤ MAX_INPUT_BYTES
-    → HasFound known (Some name) (λ found. IsTaken (Some name) found (Some text))
-taken_file known name text has short = record { found = Some text; known = found_text known name text has; holds = (refl, short) }
 
 pub none_taken : (known : Option FileMap) → HasFound known None (λ found. IsTaken None found None)
 none_taken known = record { found = None; known = tt; holds = refl }

@@ -77,9 +77,6 @@ pub record IsSplitAt (test : ℕ → Bool) (n : ℕ) (bytes : List ℕ) : Type 0
   pub each : list_all test (take n bytes) ≡ true
   pub ends : starts_in test (drop n bytes) ≡ false
 
-pub nothing_read : (test : ℕ → Bool) (bytes : List ℕ) → ReadUpTo test bytes bytes
-nothing_read test bytes = record { front = []; joined = refl; each = refl }
-
 -- more of them are read
 pub read_more : (test : ℕ → Bool) (bytes left more rest : List ℕ) → ReadUpTo test bytes left → left ≡ more ++ rest → list_all test more ≡ true → ReadUpTo test bytes rest
 read_more test bytes left more rest r e all = record {

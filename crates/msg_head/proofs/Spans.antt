@@ -183,12 +183,6 @@ all_walked bytes rest lines spans left few w end =
 lines_size : (bytes rest : List ℕ) (lines : List RawPieces) (spans : List LineSpan) (left : List ℕ) (w : Walked bytes rest lines spans left) → length lines ≡ length spans + length w.others
 lines_size bytes rest lines spans left w = omega (arith, ap (length {A = RawPieces}) w.lines_are, length-append w.done w.others, w.count)
 
-pub too_many : (bytes rest : List ℕ) (lines : List RawPieces) (spans : List LineSpan) (left : List ℕ) (w : Walked bytes rest lines spans left) → NextOf left w.others → length spans ≡ MAX_HEAD_LINES → MAX_HEAD_LINES < length lines
-too_many bytes rest lines spans left w next full =
-    let size = lines_size bytes rest lines spans left w in
-    let one = ap (length {A = RawPieces}) next.are in
-    omega (arith, size, one, full)
-
 next_at : (done : List RawPieces) (line : RawPieces) (others lines : List RawPieces) → lines ≡ done ++ line ∷ others → slice_get lines (length done) ≡ Some line
 next_at done line others lines e = ap (λ (x : List RawPieces). slice_get x (length done)) e ∙ there done
   where

@@ -23,10 +23,6 @@ version_visible version is = elim (version_is version is) [
   | inr e ↦ ap (list_all is_visible) e
 ]
 
--- a version has eight bytes
-pub length-version : (version : List ℕ) → is_version version ≡ true → length version ≡ 8
-length-version version is = elim (version_is version is) [ inl e ↦ ap (length {A = ℕ}) e | inr e ↦ ap (length {A = ℕ}) e ]
-
 pub opened_request : (line : RequestLine) (more : List ℕ) → request_text line ++ more ≡ line.method ++ 32 ∷ (line.target ++ 32 ∷ (line.version ++ 13 ∷ 10 ∷ more))
 opened_request line more =
     append_assoc line.method (32 ∷ (line.target ++ 32 ∷ (line.version ++ 13 ∷ 10 ∷ []))) more

@@ -10,7 +10,7 @@ use Rattle.byte_grammar.specs.Language.{starts_in}
 use Rattle.msg_head.specs.RawValues.{RawPieces, is_continuation, are_pieces, continuation_text, pieces_text}
 use Rattle.msg_head.specs.Values.{IsTrimmed, AreTrimmed, IsLineValue, is_end, without_first_blanks, without_blanks, has_bytes, texts_of, value}
 use Rattle.msg_head.specs.Laws.{RawHasOneValue}
-use Rattle.msg_head.proofs.TextLaws.{kept, after_line, Stops, line_then, texts_after, texts_end}
+use Rattle.msg_head.proofs.TextLaws.{kept, after_line, line_then, texts_after, texts_end}
 
 -- ---- blanks at the ends
 
@@ -102,10 +102,6 @@ clean (c ∷ text) is =
 -- the text before others, where it isn't empty
 abbrev added : List ℕ → List (List ℕ) → List (List ℕ)
 added text texts = if has_bytes text then text ∷ texts else texts
-
-folds_stop : (folds : List (List ℕ)) → Stops (flat_map continuation_text folds)
-folds_stop [] = inl refl
-folds_stop (fold ∷ folds) = inr refl
 
 texts_of_pieces : (first : List ℕ) (folds texts : _) → list_all is_line_byte first ≡ true → list_all is_continuation folds ≡ true
     → AreTrimmed (first ∷ folds) texts → texts_of (first ++ flat_map continuation_text folds) ≡ filter has_bytes texts

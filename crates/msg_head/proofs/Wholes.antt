@@ -1,7 +1,7 @@
 -- A whole head, joined from its parts.
 use Rattle.std.proofs.Common.{◌≡◌, ℕ, ◌-◌, ◌<◌, ◌≤◌, List, [], ◌∷◌, ◌++◌, length, map, take, drop, refl, sym, subst, ap, ◌∙◌, arith, length-append, length-take, append_assoc}
 use Rattle.std.specs.List.{flat_map}
-use Rattle.std.proofs.Math.Seq.{take-append_seam, drop-append_seam}
+use Rattle.std.proofs.Math.Seq.{take-append_seam}
 use Rattle.std.proofs.lemmas.List.{append-nil, take_all, take-append-drop, length-map}
 use Rattle.msg_head.specs.declared.limits.TheConstants.{MAX_HEAD_BYTES}
 use Rattle.line_index.specs.declared.span.LineSpan.{LineSpan}
@@ -12,20 +12,8 @@ use Rattle.msg_head.specs.Heads.{Head, IsHeadText, SpellsHead, IsUnfinished, hea
 use Rattle.msg_head.specs.Views.{View, line_at, head_of, FollowEachOther, IsViewOf}
 use Rattle.msg_head.specs.Causes.{IsTooLong}
 use Rattle.msg_head.specs.tools.Prefixes.{BeginsWithStart}
-use Rattle.msg_head.specs.tools.Sections.{IsRestOf, AreSpansOf}
+use Rattle.msg_head.specs.tools.Sections.{AreSpansOf}
 use Rattle.msg_head.specs.tools.Judged.{IsSectionView}
-
--- what comes after the start line is a rest of the bytes
-pub rest_of_start : (bytes rest : List ℕ) (start : StartLine) → BeginsWithStart start rest bytes → IsRestOf bytes rest
-rest_of_start bytes rest start b =
-    let size = ap (length {A = ℕ}) b.joined ∙ length-append (start_text start) rest in
-    record {
-      within = omega (arith, size);
-      is =
-          sym (drop-append_seam (start_text start) rest)
-          ∙ ap (λ (x : List ℕ). drop (length (start_text start)) x) (sym b.joined)
-          ∙ ap (λ k. drop k bytes) (omega (arith, size));
-    }
 
 pub section_view : (section rest : List ℕ) (start : StartLine) (spans : List LineSpan) → length section ≤ MAX_HEAD_BYTES → BeginsWithStart start rest section → AreSpansOf section spans rest → IsSectionView (record { bytes = section; start = start; spans = spans }) section
 section_view section rest start spans short b s =

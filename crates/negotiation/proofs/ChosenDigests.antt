@@ -43,7 +43,7 @@ use Rattle.negotiation.specs.Laws.{HasDigestWhereChosen}
 use Rattle.negotiation.specs.NegotiateCauses.{HasDigestBy, HasOtherDigests, HasRightDigests}
 use Rattle.negotiation.specs.Negotiated.{AreNegotiated, with_digest_by}
 use Rattle.negotiation.specs.Preferences.{IsChosen}
-use Rattle.negotiation.proofs.DigestBytes.{digests_are_bytes}
+use Rattle.signing.proofs.DigestBytes.{digests_are_bytes}
 use Rattle.negotiation.proofs.Digesting.{digests_decided}
 use Rattle.negotiation.proofs.Negotiating.{digest_met, wishes_met}
 use Rattle.negotiation.proofs.WishedSignatures.{HasDigest, asked_digest}

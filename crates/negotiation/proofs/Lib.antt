@@ -4,7 +4,6 @@ mod Digesting
 pub mod Chains
 mod Signing
 pub mod Negotiating
-mod SignedKeys
+pub mod SignedKeys
 pub mod WishedSignatures
-mod DigestBytes
 pub mod ChosenDigests

@@ -7,9 +7,9 @@ use Rattle.std.proofs.lemmas.Option.{slice_get-get_or}
 use Rattle.byte_grammar.specs.Causes.{AnswersWhere}
 use Rattle.byte_grammar.proofs.AnswerLaws.{IsMemoryDecided, NamesFault, answers_where}
 use Rattle.byte_grammar.proofs.Indices.{some_and}
-use Rattle.msg_body.specs.Messages.{Message, Spells, message_text, with_head}
+use Rattle.msg_body.specs.Messages.{Message, Spells, with_head}
 use Rattle.msg_body.proofs.OneMessages.{one_message_law}
-use Rattle.component_values.specs.Context.{HasWholeMessage, MessageContext, answers_head, context_with}
+use Rattle.component_values.specs.Context.{MessageContext, answers_head, context_with}
 use Rattle.signatures.specs.Signatures.{HasSignature}
 use Rattle.signing.specs.SignCauses.{IsSignCause, IsSignFault}
 use Rattle.signing.specs.Signed.{HasSomeSignature, IsVerifiable, SpellsSigned}
@@ -72,9 +72,6 @@ head_of_signed message spec tag written is = subst (λ (w : Message). w ≡ with
 -- ---- more than one
 
 module _ (context : MessageContext) (specs : List SignSpec) where
-  pub no_signature : HasWholeMessage context → specs ≡ [] → (text : List ℕ) → text ≡ message_text context.message → SpellsEach context specs text
-  no_signature whole none text is = (context.message, subst (λ (ss : List SignSpec). IsSignedEach context ss context.message) (sym none) refl, record { is = whole; text = is })
-
   fault_of_first : (first : SignSpec) (others : List SignSpec) → specs ≡ first ∷ others → (f : SignFault) → IsSignFault context first f → IsEachFault context specs (Sign 0 f)
   fault_of_first first others are f is =
       subst (λ (ss : List SignSpec). IsEachFault context ss (Sign 0 f)) (sym are) (record { before = context.message; signed = refl; there = is })

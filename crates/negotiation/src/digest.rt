@@ -2,24 +2,24 @@
 
 ghost use Rattle.std.specs.Prelude.{◌↔◌, IsTrue, IfOk};
 ghost use Rattle.msg_body.specs.Views.{message_of};
+ghost use Rattle.content_digest.specs.Digests.{digest_name};
+ghost use Rattle.signatures.specs.Signatures.{HasDict};
 ghost use Rattle.negotiation.specs.NegotiateCauses.{HasRightDigests};
 ghost use Rattle.negotiation.specs.tools.Judged.{ExplainsDigests};
 
 use crate::fault::NegotiateFault;
-use content_digest::{Algorithm, DigestFault, check_digest};
-use msg_body::{MessageView, joined_value};
-use msg_head::Side;
-use sfv_text::Memory;
+use content_digest::{Algorithm, DigestFault, check_dict};
+use msg_body::MessageView;
+use sfv_text::{Dict, Memory};
 use signatures::{DictField, read_field};
 use std::alloc::Global;
 
-/// Whether the digests of the response's field are those of its content.
-fn has_right_digests(alloc: Global, response: &MessageView<'_>) -> Result<bool, Memory>
+/// Whether the digests that the response's field has are those of its content.
+fn are_right(alloc: Global, digests: &Dict, response: &MessageView<'_>) -> Result<bool, Memory>
+    requires { HasDict (message_of response.now) digest_name digests.now }
     ensures { IfOk result (λ right. IsTrue right ↔ HasRightDigests (message_of response.now)) }
 {
-    let lines = response.lines_named(Side::Header, b"content-digest");
-    let value = joined_value(alloc, lines)?;
-    match check_digest(alloc, value.bytes(), response) {
+    match check_dict(alloc, digests, response) {
         Ok(()) => Ok(true),
         Err(DigestFault::Memory) => Err(Memory),
         Err(_) => Ok(false),
@@ -38,15 +38,15 @@ pub(crate) fn judge_digests(
     let Some(algorithm) = wished else {
         return Ok(());
     };
-    let dict = match read_field(alloc, response, b"content-digest")? {
+    let digests = match read_field(alloc, response, b"content-digest")? {
         DictField::Absent => return Ok(()),
         DictField::Malformed => return Err(NegotiateFault::DigestUnmet),
-        DictField::Dict(dict) => dict,
+        DictField::Dict(digests) => digests,
     };
-    if dict.find(algorithm.key()).is_none() {
+    if digests.find(algorithm.key()).is_none() {
         return Err(NegotiateFault::DigestUnmet);
     }
-    if has_right_digests(alloc, response)? {
+    if are_right(alloc, &digests, response)? {
         Ok(())
     } else {
         Err(NegotiateFault::DigestUnmet)

@@ -6,7 +6,7 @@ use Rattle.std.specs.Str.{bytes_eq}
 use Rattle.std.proofs.lemmas.Bool.{le-leb, leb-true, eqb-false, false≢true, or_parts}
 use Rattle.std.proofs.lemmas.List.Elements.{All-filter, filter_passes, All-head, All-push, All-tail, All-weaker}
 use Rattle.std.proofs.lemmas.List.Filters.{sum_by-filter_both}
-use Rattle.std.proofs.lemmas.List.Sorted.{Contains-permutation, IsPermutation-append_comm, IsPermutation-refl, IsPermutation-sym, length_permutation}
+use Rattle.std.proofs.lemmas.List.Sorted.{Contains-permutation, IsPermutation-refl, IsPermutation-sym, length_permutation}
 use Rattle.std.proofs.lemmas.List.Sums.{count_by-le-length, length-filter, sum_by-append, sum_by-cons}
 use Rattle.std.proofs.lemmas.Slice.Eq.{bytes_eq-Decides}
 use Rattle.nonces.specs.Books.{Book, Entry, HasDistinctNonces, HaveSameEntries, IsBook, IsHeldAt, book_of, is_full, is_live, is_of, is_seen, live_entries}
@@ -23,11 +23,6 @@ same_permuted xs ys moved = record {
 
 pub same_equal : (xs ys : List Entry) → xs ≡ ys → HaveSameEntries xs ys
 same_equal xs ys equal = subst (HaveSameEntries xs) equal (same_permuted xs xs (IsPermutation-refl xs))
-
-pub same_pushed : (xs ys : List Entry) (e : Entry) → ys ≡ xs ++ e ∷ [] → HaveSameEntries ys (e ∷ xs)
-same_pushed xs ys e equal =
-    subst (λ zs. HaveSameEntries zs (e ∷ xs)) (sym equal)
-    (same_permuted (xs ++ e ∷ []) (e ∷ xs) (IsPermutation-append_comm xs (e ∷ [])))
 
 -- ---- those that live
 

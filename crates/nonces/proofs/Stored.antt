@@ -1,6 +1,6 @@
 -- Nodes in chains and in the free list: what holds goes on to hold where an entry is added or is
 -- let go of.
-use Rattle.std.proofs.Common.{◌≡◌, ◌<◌, ◌≤◌, ℕ, zero, suc, ◌+◌, ◌-◌, Bool, true, false, cond, nat_eq, nat_lt, ◌⊎◌, inl, inr, ◌↔◌, Option, Some, None, IfSome, List, [], ◌∷◌, ◌++◌, length, map, set, get_or, replicate, refl, sym, ◌∙◌, ap, subst, arith, add-one}
+use Rattle.std.proofs.Common.{◌≡◌, ◌<◌, ◌≤◌, ℕ, zero, suc, ◌+◌, ◌-◌, Bool, true, false, cond, nat_eq, nat_lt, ◌⊎◌, inl, inr, ◌↔◌, Option, Some, None, IfSome, List, [], ◌∷◌, ◌++◌, length, map, set, get_or, replicate, refl, sym, ◌∙◌, ap, subst, arith}
 use Rattle.std.specs.List.{count_by}
 use Rattle.std.proofs.lemmas.Bool.{cases_Bool, eq-eqb, eqb-true, eqb-false, false≢true, ltb-false, ltb-true, ne_eqb}
 use Rattle.std.proofs.lemmas.Grind.{get_or-set_at}
@@ -757,15 +757,3 @@ walk_cost nodes heads free len held view store bucket keyid nonce is steps from 
     subst (λ k. steps ≤ from + count_by (is_in_bucket (length heads) k) (entries_in (map entry_in nodes)) + 1) is bound
     )
     )
-
--- ---- free nodes are made
-
-pub free_more : (nodes : List Node) (after : Option ℕ) (i : ℕ) → nodes ≡ free_nodes i → after ≡ last_of i
-    → nodes ++ record { entry = None; bucket = 0; next = None; previous = None; after = after } ∷ [] ≡ free_nodes (i + 1)
-free_more nodes after i is last =
-    ap (λ l. l ++ record no_node { after = after } ∷ []) is
-    ∙ ap (λ a. free_nodes i ++ record no_node { after = a } ∷ []) last
-    ∙ ap free_nodes (sym (add-one i))
-
-pub last_more : (i : ℕ) → Some i ≡ last_of (i + 1)
-last_more i = ap last_of (sym (add-one i))

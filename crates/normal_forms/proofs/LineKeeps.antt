@@ -57,9 +57,6 @@ values_turned lines others name same = record { there = sym same.there; same = s
 pub values_then : (lines others last : List FieldLine) (name : List ℕ) → HasSameValues lines others name → HasSameValues others last name → HasSameValues lines last name
 values_then lines others last name one two = record { there = two.there ∙ one.there; same = two.same ∙ one.same }
 
-pub field_turned : (lines others : List FieldLine) (name : List ℕ) → HasSameField lines others name → HasSameField others lines name
-field_turned lines others name same = record { there = sym same.there; combined = sym same.combined }
-
 pub field_then : (lines others last : List FieldLine) (name : List ℕ) → HasSameField lines others name → HasSameField others last name → HasSameField lines last name
 field_then lines others last name one two = record { there = two.there ∙ one.there; combined = two.combined ∙ one.combined }
 

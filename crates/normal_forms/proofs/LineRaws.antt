@@ -18,12 +18,6 @@ use Rattle.line_rewrites.specs.RawValues.{HasCore, IsUnfolded}
 
 -- ---- bytes
 
-blank_line : (c : ℕ) → is_blank c ≡ true → is_line_byte c ≡ true
-blank_line c is = elim (cases_Bool (c == 32)) [
-  | inl e ↦ ap is_line_byte (eqb-true c 32 e)
-  | inr n ↦ ap is_line_byte (eqb-true c 9 (rw n at is))
-]
-
 line_no_end : (c : ℕ) → is_line_byte c ≡ true → is_end c ≡ false
 line_no_end c line = elim (cases_Bool (c == 13)) [
   | inl cr ↦ absurd (false≢true (sym (ap is_line_byte (eqb-true c 13 cr)) ∙ line))

@@ -12,7 +12,7 @@ use Rattle.framing.specs.Chunks.{Chunks, chunks_text}
 use Rattle.framing.specs.declared.kind.Framing.{Framing}
 use Rattle.framing.specs.declared.kind.Framing.TheVariants.{None, Length, Chunked, ToEnd}
 use Rattle.framing.specs.Framings.{IsFramable, are_accepted_codings, are_accepted_lengths, content_length_of, first_length, framing_by, framing_of, version_of}
-use Rattle.msg_body.specs.Bodies.{Body, IsBodyOf, body_text, chunked, content_in, plain, trailers_in}
+use Rattle.msg_body.specs.Bodies.{Body, IsBodyOf, body_text, chunked, plain, trailers_in}
 use Rattle.msg_body.specs.Messages.{IsMessage, Message}
 use Rattle.msg_body.specs.Views.{lines_on}
 use Rattle.msg_body.specs.SameFields.{HasSameValues}
@@ -164,10 +164,6 @@ own_trailers (chunked chunks trailers) = refl
 pub own_lines : (to_head : Bool) (side : Side) (message : Message) → message.framing ≡ framing_of to_head message.head → with_lines_on to_head side message (lines_on side message) ≡ message
 own_lines to_head Header message framing = λ i. record { head = message.head; framing = sym framing i; body = message.body }
 own_lines to_head Trailer message framing = ap (with_body message) (own_trailers message.body)
-
-trailers_content : (body : Body) (lines : List FieldLine) → content_in (with_trailers lines body) ≡ content_in body
-trailers_content (plain content) lines = refl
-trailers_content (chunked chunks trailers) lines = refl
 
 body_lines : (framing : Framing) (count : ℕ) (body : Body) → IsBodyOf framing count body → All IsLine (trailers_in body)
 body_lines framing count (plain content) of = λ k d lt. absurd (omega (arith, lt))

@@ -76,11 +76,6 @@ are_of framing.Length count chunks trailers is = absurd is
 are_of framing.ToEnd count chunks trailers is = absurd is
 are_of framing.Chunked count chunks trailers is = is.0
 
--- content that isn't in chunks
-pub plain_normal : (body : Body) → has_trailers body ≡ false → (true ≡ true) ↔ HasNormalChunks body
-plain_normal (plain content) none = (λ _. tt, λ _. refl)
-plain_normal (chunked chunks trailers) none = absurd (false≢true (sym none))
-
 module _ (kind : Framing) (count : ℕ) where
   -- no content
   pub empty_normal : (body : Body) → IsBodyOf kind count body → has_trailers body ≡ true → length (content_in body) ≡ 0 → (body_before body ≡ codes "0\r\n") ↔ HasNormalChunks body
@@ -107,15 +102,6 @@ module _ (kind : Framing) (count : ℕ) where
             let whole = sym joined ∙ normal_text chunks more normal in
             ap (length {A = ℕ}) (append_cancel_right text content one_end (append_cancel_left (line_of_count (length content)) (text ++ one_end) (content ++ one_end) whole)),
       )
-
-  -- no such data
-  pub none_normal : (body : Body) → IsBodyOf kind count body → has_trailers body ≡ true → 0 < length (content_in body)
-      → ((text : List ℕ) → body_before body ≡ line_of_count (length (content_in body)) ++ (text ++ one_end) → ⊥) → (false ≡ true) ↔ HasNormalChunks body
-  none_normal (plain content) is some more none = absurd (false≢true some)
-  none_normal (chunked chunks trailers) is some more none = (
-    λ no. absurd (false≢true no),
-    λ normal. absurd (none (content_of chunks) (normal_text chunks more normal)),
-  )
 
 -- a test of two numbers
 pub tested : (a b : ℕ) (Holds : Type 0) → (a ≡ b) ↔ Holds → ((a == b) ≡ true) ↔ Holds

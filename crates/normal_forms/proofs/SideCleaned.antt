@@ -1,13 +1,12 @@
 -- Lines that are made clean, one after the other.
-use Rattle.std.proofs.Common.{◌≡◌, ℕ, ◌+◌, ◌<◌, ◌≤◌, Bool, true, false, ◌||◌, List, [], ◌∷◌, ◌++◌, length, take, drop, get_or, refl, sym, subst, ap, ◌∙◌, inl, inr, append_assoc, append-nil, arith}
+use Rattle.std.proofs.Common.{◌≡◌, ℕ, ◌+◌, ◌<◌, Bool, true, false, ◌||◌, List, [], ◌∷◌, ◌++◌, length, take, drop, get_or, refl, sym, subst, ap, ◌∙◌, inl, inr, append_assoc, arith}
 use Rattle.std.specs.Prelude.{Some, map, option_map, reverse, slice_get}
 use Rattle.std.specs.List.{All, list_all}
 use Rattle.std.specs.Str.{str_to_ascii_lowercase}
 use Rattle.std.proofs.lemmas.Bool.{and_parts, cases_Bool, false≢true}
-use Rattle.std.proofs.lemmas.List.{length-map, length-take-le, map-append, take_all}
+use Rattle.std.proofs.lemmas.List.{length-map, length-take-le, map-append}
 use Rattle.std.proofs.lemmas.List.Elements.{All-get_or}
 use Rattle.std.proofs.lemmas.Option.{get_or_from_slice_get, slice_get-get_or, slice_get-map, slice_get_within}
-use Rattle.std.proofs.Math.ListN.{drop_of_length-le}
 use Rattle.byte_grammar.specs.Classes.{is_blank, is_line_byte}
 use Rattle.byte_grammar.specs.Language.{starts_in}
 use Rattle.byte_grammar.proofs.ListLaws.{all_reverse}
@@ -28,7 +27,7 @@ use Rattle.normal_forms.specs.NormalLines.{IsClean}
 use Rattle.normal_forms.specs.tools.Lines.{CleansLine, case_steps, clean_line, has_outer_spacing, is_lowered, trim_steps}
 use Rattle.normal_forms.specs.tools.Sides.{CleansLines, Leads, UnfoldsAll}
 use Rattle.normal_forms.proofs.SideFolds.{no_end, no_end_byte}
-use Rattle.normal_forms.proofs.SideSteps.{drop_next, leads_joined, leads_none, leads_within, take_next}
+use Rattle.normal_forms.proofs.SideSteps.{drop_next, leads_joined, leads_within, take_next}
 use Rattle.normal_forms.proofs.SideValues.{all_clean, is_low_name, low_name, lowered_twice, own_value}
 
 -- ---- names
@@ -142,17 +141,6 @@ clean_next side lines index line before now after is first next =
     leads_within (CleansLine side (length done)) (Cleans side) (λ (l : FieldLine). done ++ l ∷ rest) (clean_here side done rest (all_clean (take index lines))) line (clean_line line) now after one in
     leads_joined (Cleans side) lines (cleaned index lines) (cleaned (index + 1) lines) before now after first
     (subst (λ (ls : List FieldLine). Leads (Cleans side) ls (cleaned (index + 1) lines) now after) (sym here) (subst (λ (ls : List FieldLine). Leads (Cleans side) (done ++ line ∷ rest) ls now after) (sym there) more))
-
-pub clean_start : (side : Side) (lines : List FieldLine) (steps : List Rewrite) → Leads (Cleans side) lines (cleaned 0 lines) steps steps
-clean_start side lines steps = leads_none (Cleans side) lines steps
-
-pub clean_end : (side : Side) (lines clean : List FieldLine) (before now : List Rewrite) (count : ℕ) → length lines ≤ count → Leads (Cleans side) lines (cleaned count lines) before now → clean ≡ map clean_line (take count lines)
-    → CleansLines side lines clean before now
-clean_end side lines clean before now count all leads is =
-    let whole : take count lines ≡ lines = take_all count lines all in
-    let none : drop count lines ≡ [] = drop_of_length-le lines all in
-    let done : cleaned count lines ≡ clean = (λ i. map clean_line (take count lines) ++ none i) ∙ (append-nil (map clean_line (take count lines)) ∙ sym is) in
-    (subst (λ (ls : List FieldLine). Leads (Cleans side) lines ls before now) done leads, is ∙ ap (map clean_line) whole)
 
 -- ---- borrowed lines
 

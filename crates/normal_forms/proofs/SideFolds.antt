@@ -1,5 +1,5 @@
 -- Folds of raw values, taken away from the first to the last.
-use Rattle.std.proofs.Common.{◌≡◌, ◌⊎◌, ℕ, ◌+◌, ◌<◌, ◌≤◌, Bool, true, false, ◌==◌, ◌||◌, Option, Some, None, List, [], ◌∷◌, ◌++◌, length, take, drop, refl, sym, subst, ap, ◌∙◌, inl, inr, append_assoc, append-nil, length-append, arith}
+use Rattle.std.proofs.Common.{◌≡◌, ◌⊎◌, ℕ, ◌+◌, ◌<◌, Bool, true, false, ◌==◌, ◌||◌, Option, Some, None, List, [], ◌∷◌, ◌++◌, length, take, drop, refl, sym, subst, ap, ◌∙◌, inl, inr, append_assoc, append-nil, length-append, arith}
 use Rattle.std.specs.Prelude.{if◌then◌else◌, codes, position, reverse}
 use Rattle.std.specs.List.{flat_map, list_all, list_any}
 use Rattle.std.specs.Str.{byte, str_to_ascii_lowercase}
@@ -431,16 +431,6 @@ pub unfolds_end : (side : Side) (index : ℕ) (raw : List ℕ) (done : ℕ) (res
     → UnfoldsAll side index raw before now
 unfolds_end side index raw done rest before now none u =
     (u.0.prefix ++ rest, u.0.unfolds, all_joined is_line_byte u.0.prefix rest u.0.whole (plain_line rest inside (position_none is_return rest none) u.1))
-
--- the bytes of the fold and of what is before it are in the raw value
-pub fold_within : (side : Side) (index : ℕ) (raw : List ℕ) (done fold : ℕ) (rest : List ℕ) (before now : List Rewrite) → position is_return rest ≡ Some fold → UnfoldsUpTo side index raw done rest before now
-    → (done + fold < length raw) × (done + (length (without_last_spacing (take fold rest)) + 1) ≤ length raw)
-fold_within side index raw done fold rest before now is u =
-    let cut = fold_at rest fold is in
-    let left = last_cut (take fold rest) in
-    let size = ap (λ t. length t) left.joined ∙ length-append (without_last_spacing (take fold rest)) left.last in
-    let whole = ap (λ t. length t) cut.2 ∙ length-append (take fold rest) (13 ∷ cut.0) in
-    (omega (arith, u.within, whole, cut.3), omega (arith, u.within, whole, cut.3, size))
 
 -- less is left after a fold
 pub fold_shortens : (rest others : List ℕ) (fold : ℕ) → position is_return rest ≡ Some fold → others ≡ without_first_spacing (drop fold rest) → length others < length rest

@@ -198,12 +198,6 @@ line_is lines before x others index line are there is =
     let parts = parts_at lines before x others index are there in
     ((first_is x line others (drop (index + 1) lines) (sym parts.1 ∙ drop_next lines index line is)).0, sym parts.2)
 
--- what the code compares is the line's name in lower case
-pub alone_by_number : (side : Side) (params : SigParams) (lines : List FieldLine) (index : ℕ) (line : FieldLine) → slice_get lines index ≡ Some line → ¬ MayChangeNumber side (name_of line) params
-    → IsAloneAt side params lines index
-alone_by_number side params lines index line is fails before x others lines_are there between next after others_are may same none =
-    absurd (fails (subst (λ (l : FieldLine). MayChangeNumber side (name_of l) params) (line_is lines before x others index line lines_are there is).0 may))
-
 pub alone_by_name : (side : Side) (params : SigParams) (lines : List FieldLine) (index : ℕ) (line : FieldLine) → slice_get lines index ≡ Some line → is_there (drop (index + 1) lines) (name_of line) ≡ false
     → IsAloneAt side params lines index
 alone_by_name side params lines index line is none before x others lines_are there between next after others_are may same fails =

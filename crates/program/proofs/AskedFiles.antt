@@ -14,8 +14,7 @@ use Rattle.commands.specs.declared.outcome.Outcome.TheVariants.{Done, NotOk, Ref
 use Rattle.intake.specs.declared.stop.Stop.{Stop}
 use Rattle.intake.specs.declared.stop.Stop.TheVariants.{Memory, ReadFault, Refused as IsRefused}
 use Rattle.refusals.specs.declared.file.FileRefusal.{FileRefusal}
-use Rattle.refusals.specs.declared.refusal.TheConstants.{MAX_CONF_BYTES, MAX_INPUT_BYTES}
-use Rattle.rewrite_script.specs.declared.limits.TheConstants.{MAX_SCRIPT_BYTES}
+use Rattle.refusals.specs.declared.refusal.TheConstants.{MAX_CONF_BYTES}
 use Rattle.refusals.specs.declared.refusal.Refusal.{Refusal}
 use Rattle.refusals.specs.declared.refusal.Refusal.TheVariants.{Arguments, Of, Command}
 use Rattle.refusals.specs.declared.role.Role.{Role}
@@ -25,71 +24,7 @@ use Rattle.program.specs.Ends.{AsksFor, AsksForNamed}
 use Rattle.program.specs.Intake.{named_count, read_order, roles_until}
 use Rattle.intake.specs.declared.taken.FileWords.{FileWords}
 use Rattle.program.specs.tools.Parts.{Asks, AsksOf, AsksOne, AsksUntil, IsAfterInput, conf_names, IsWritten, IsWrittenStop, refusal_of, roles_read}
-use Rattle.program.proofs.Reports.{IfRefusedFor, count_step, of_command, one_counted, weighed}
-
--- ---- how many of the first files have a name
-
-count_conf : (names : FileNames) → named_count names (Conf ∷ []) ≡ weighed 1 (names Conf)
-count_conf names = let conf = count_step names Conf [] in omega (arith, conf)
-
-count_request : (names : FileNames) → named_count names (Conf ∷ Request ∷ []) ≡ weighed 1 (names Conf) + weighed 1 (names Request)
-count_request names =
-    let request = count_step names Request [] in
-    let conf = count_step names Conf (Request ∷ []) in
-    omega (arith, conf, request)
-
-count_wanted : (names : FileNames) → named_count names (Conf ∷ Request ∷ Wanted ∷ []) ≡ weighed 1 (names Conf) + (weighed 1 (names Request) + weighed 1 (names Wanted))
-count_wanted names =
-    let wanted = count_step names Wanted [] in
-    let request = count_step names Request (Wanted ∷ []) in
-    let conf = count_step names Conf (Request ∷ Wanted ∷ []) in
-    omega (arith, conf, request, wanted)
-
-count_script : (names : FileNames)
-    → named_count names (Conf ∷ Request ∷ Wanted ∷ Script ∷ []) ≡ weighed 1 (names Conf) + (weighed 1 (names Request) + (weighed 1 (names Wanted) + weighed 1 (names Script)))
-count_script names =
-    let script = count_step names Script [] in
-    let wanted = count_step names Wanted (Script ∷ []) in
-    let request = count_step names Request (Wanted ∷ Script ∷ []) in
-    let conf = count_step names Conf (Request ∷ Wanted ∷ Script ∷ []) in
-    omega (arith, conf, request, wanted, script)
-
--- ---- the files of words, in order
-
-two_summed : (total u v a b c : ℕ) → total ≡ u + v → b ≤ a + u → c ≤ b + v → c ≤ a + total
-two_summed total u v a b c is one two = omega (arith, is, one, two)
-
-three_summed : (total u v w a b c d : ℕ) → total ≡ u + (v + w) → b ≤ a + u → c ≤ b + v → d ≤ c + w → d ≤ a + total
-three_summed total u v w a b c d is one two three = omega (arith, is, one, two, three)
-
-four_summed : (total u v w x a b c d e : ℕ) → total ≡ u + (v + (w + x)) → b ≤ a + u → c ≤ b + v → d ≤ c + w → e ≤ d + x → e ≤ a + total
-four_summed total u v w x a b c d e is one two three four = omega (arith, is, one, two, three, four)
-
-module _ {X S : Type 0} (files : S → Option FileMap) (asked reached : S → ℕ) (f : X → List ℕ) (conf request wanted script other : Option X) (a b c d e : S)
-    (one : AsksOne files asked reached (MAX_CONF_BYTES + 1) conf a b) where
-  abbrev all_names : FileNames
-  all_names = file_names (option_map f conf) (option_map f request) (option_map f wanted) (option_map f script) (option_map f other)
-
-  pub asked_conf : asked b ≤ asked a + named_count all_names (Conf ∷ [])
-  asked_conf = subst (λ (n : ℕ). asked b ≤ asked a + n) (sym (count_conf all_names)) (one_counted asked f 1 conf a b one.unasked one.asks)
-
-  pub asked_request : AsksOne files asked reached (MAX_INPUT_BYTES + 1) request b c → asked c ≤ asked a + named_count all_names (Conf ∷ Request ∷ [])
-  asked_request two =
-      two_summed (named_count all_names (Conf ∷ Request ∷ [])) (weighed 1 (all_names Conf)) (weighed 1 (all_names Request)) (asked a) (asked b) (asked c) (count_request all_names)
-      (one_counted asked f 1 conf a b one.unasked one.asks) (one_counted asked f 1 request b c two.unasked two.asks)
-
-  pub asked_wanted : AsksOne files asked reached (MAX_INPUT_BYTES + 1) request b c → AsksOne files asked reached (MAX_INPUT_BYTES + 1) wanted c d
-      → asked d ≤ asked a + named_count all_names (Conf ∷ Request ∷ Wanted ∷ [])
-  asked_wanted two three =
-      three_summed (named_count all_names (Conf ∷ Request ∷ Wanted ∷ [])) (weighed 1 (all_names Conf)) (weighed 1 (all_names Request)) (weighed 1 (all_names Wanted)) (asked a) (asked b) (asked c) (asked d)
-      (count_wanted all_names) (one_counted asked f 1 conf a b one.unasked one.asks) (one_counted asked f 1 request b c two.unasked two.asks) (one_counted asked f 1 wanted c d three.unasked three.asks)
-
-  pub asked_script : AsksOne files asked reached (MAX_INPUT_BYTES + 1) request b c → AsksOne files asked reached (MAX_INPUT_BYTES + 1) wanted c d
-      → AsksOne files asked reached (MAX_SCRIPT_BYTES + 1) script d e → asked e ≤ asked a + named_count all_names (Conf ∷ Request ∷ Wanted ∷ Script ∷ [])
-  asked_script two three four =
-      four_summed (named_count all_names (Conf ∷ Request ∷ Wanted ∷ Script ∷ [])) (weighed 1 (all_names Conf)) (weighed 1 (all_names Request)) (weighed 1 (all_names Wanted)) (weighed 1 (all_names Script))
-      (asked a) (asked b) (asked c) (asked d) (asked e) (count_script all_names) (one_counted asked f 1 conf a b one.unasked one.asks) (one_counted asked f 1 request b c two.unasked two.asks)
-      (one_counted asked f 1 wanted c d three.unasked three.asks) (one_counted asked f 1 script d e four.unasked four.asks)
+use Rattle.program.proofs.Reports.{IfRefusedFor, of_command, one_counted, weighed}
 
 -- ---- until an outcome
 

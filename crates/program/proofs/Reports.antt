@@ -1,6 +1,6 @@
 -- The outcome of arguments, files and an input.
 use Rattle.std.proofs.Common.{◌≡◌, ◌+◌, ◌≤◌, inl, inr, ℕ, suc, Bool, true, false, List, [], ◌∷◌, Option, Some, None, Result, Err, refl, sym, ap, subst, ◌∙◌, arith}
-use Rattle.std.specs.Prelude.{IfSome, IfNone, IsTrue, is_some, option_map, length}
+use Rattle.std.specs.Prelude.{IfSome, IfNone, IsTrue, is_some, option_map}
 use Rattle.std.specs.List.{filter, list_all}
 use Rattle.std.proofs.lemmas.Bool.{false≢true}
 use Rattle.std.proofs.lemmas.List.Sums.{sum_by-cons}
@@ -15,7 +15,7 @@ use Rattle.conf.specs.Configuration.{Configuration}
 use Rattle.msg_body.specs.Messages.{Message}
 use Rattle.msg_body.specs.Views.{MessageParts, message_of}
 use Rattle.msg_body.specs.WholeTexts.{one_request, reading_for}
-use Rattle.intake.specs.Files.{FileNames, FileRole, Conf, Request, Wanted, Script, Other, Found, IsFound, AreFound, HasFound, file_names, file_bytes, file_count, file_limit}
+use Rattle.intake.specs.Files.{FileNames, FileRole, Conf, Request, Wanted, Script, Other, Found, IsFound, AreFound, HasFound, file_names, file_limit}
 use Rattle.intake.specs.Layers.{ReadsFound, IsFileRefused}
 use Rattle.intake.specs.Messages.{IsInputMessage, IsInputRefused}
 use Rattle.intake.specs.MessageFiles.{IsMessageFile, IsMessageFileRefused, IsTaken, IsMessageIn, IsTextRefused, IsRequested, IsRequestRefused, IsWanted, IsWantedRefused}
@@ -32,15 +32,14 @@ use Rattle.refusals.specs.Refusal.{refusal_status}
 use Rattle.refusals.proofs.Statuses.{status_of_refusal}
 use Rattle.commands.specs.Outcome.{status_of, output_of, IfOutcome}
 use Rattle.program.specs.Commands.{InputUse, Unread, Whole, input_use, name_of, AreFoundFor}
-use Rattle.program.specs.Ends.{HasInput, HasOutcome, Leaves, HasReport, Ends, CountsFaults}
+use Rattle.program.specs.Ends.{HasInput, HasOutcome, Leaves, HasReport, Ends}
 use Rattle.program.specs.Intake.{IsConfLacking, IsConfRead, IsIntakeRefused, IsReadToScript, named_count, names_of}
 use Rattle.program.specs.Report.{Answers, ReportsFiles, ReportsCommand}
 use Rattle.intake.specs.declared.taken.FileWords.{FileWords}
-use Rattle.program.specs.tools.Parts.{Asks, AsksOne, FileValues, HasOther, HasRequested, ReportsMessage, ReportsRecord, named_bytes, taken_with}
+use Rattle.program.specs.tools.Parts.{FileValues, HasOther, HasRequested, ReportsMessage, ReportsRecord, named_bytes, taken_with}
 use Rattle.refusals.specs.declared.refusal.Refusal.{Refusal}
 use Rattle.refusals.specs.declared.file.FileRefusal.{FileRefusal}
-use Rattle.refusals.specs.declared.refusal.TheConstants.{MAX_CONF_BYTES, MAX_INPUT_BYTES}
-use Rattle.rewrite_script.specs.declared.limits.TheConstants.{MAX_SCRIPT_BYTES}
+use Rattle.refusals.specs.declared.refusal.TheConstants.{MAX_INPUT_BYTES}
 use Rattle.refusals.specs.declared.role.Role.{Role}
 use Rattle.refusals.specs.declared.role.Role.TheVariants.{Conf as OfConf, Request as OfRequest, Wanted as OfWanted, Script as OfScript, Other as OfOther, Input}
 use Rattle.refusals.specs.declared.refusal.Refusal.TheVariants.{Arguments, Of}
@@ -187,16 +186,6 @@ module _ (r : Reading) where
   file_had shelf name text reading borrowed message one same has is =
       let own = subst (λ (o : Reading). IsMessageIn o text message) one (subst (λ (t : Option (List ℕ)). IsMessageIn reading t message) same is) in
       record { found = has.found; known = has.known; holds = file_read name has.found text message has.holds own }
-
-taken_within : (name found text : Option (List ℕ)) → IsTaken name found text → IfSome text (λ t. length t ≤ MAX_INPUT_BYTES)
-taken_within None found text taken = subst (λ (t : Option (List ℕ)). IfSome t (λ u. length u ≤ MAX_INPUT_BYTES)) (sym taken) tt
-taken_within (Some name) found None taken = tt
-taken_within (Some name) found (Some text) taken = taken.1
-
--- a text that is taken is within the limit
-pub short_text : (shelf : Option FileMap) (name text : Option (List ℕ)) → HasFound shelf name (λ found. IsTaken name found text)
-    → IfSome text (λ t. length t ≤ MAX_INPUT_BYTES)
-short_text shelf name text has = taken_within name has.found text has.holds
 
 -- a message that is borrowed
 pub same_related : {X : Type 0} (f : X → MessageParts) (view : Option X) (parts : Option MessageParts) → option_map f view ≡ parts
@@ -507,45 +496,6 @@ bytes_step names role roles = by_name (names role) refl where
   by_name None is = rw is (nothing_more (named_bytes names roles))
   by_name (Some x) is = rw is (sum_by-cons (λ one. file_limit one + 1) role (filter (λ one. is_some (names one)) roles))
 
--- how many, and how many bytes, of all roles
-pub files_counted : (names : FileNames)
-    → file_count names ≡ weighed 1 (names Conf) + (weighed 1 (names Request) + (weighed 1 (names Wanted) + (weighed 1 (names Script) + weighed 1 (names Other))))
-files_counted names =
-    let other = count_step names Other [] in
-    let script = count_step names Script (Other ∷ []) in
-    let wanted = count_step names Wanted (Script ∷ Other ∷ []) in
-    let request = count_step names Request (Wanted ∷ Script ∷ Other ∷ []) in
-    let conf = count_step names Conf (Request ∷ Wanted ∷ Script ∷ Other ∷ []) in
-    omega (arith, conf, request, wanted, script, other)
-
-pub files_measured : (names : FileNames)
-    → file_bytes names ≡ weighed (MAX_CONF_BYTES + 1) (names Conf) + (weighed (MAX_INPUT_BYTES + 1) (names Request) + (weighed (MAX_INPUT_BYTES + 1) (names Wanted)
-    + (weighed (MAX_SCRIPT_BYTES + 1) (names Script) + weighed (MAX_INPUT_BYTES + 1) (names Other))))
-files_measured names =
-    let other = bytes_step names Other [] in
-    let script = bytes_step names Script (Other ∷ []) in
-    let wanted = bytes_step names Wanted (Script ∷ Other ∷ []) in
-    let request = bytes_step names Request (Wanted ∷ Script ∷ Other ∷ []) in
-    let conf = bytes_step names Conf (Request ∷ Wanted ∷ Script ∷ Other ∷ []) in
-    omega (arith, conf, request, wanted, script, other)
-
--- of none
-keeps_same : (shelf : Option FileMap) → KeepsFiles shelf shelf
-keeps_same None = tt
-keeps_same (Some files) = refl
-
-or_named : {X : Type 0} (name : Option X) (P : Type 0) → P → IfNone name P
-or_named None P p = p
-or_named (Some x) P p = tt
-
-pub asks_none : {X S : Type 0} (files : S → Option FileMap) (asked reached : S → ℕ) (weight : ℕ) (name : Option X) (shelf : S) → AsksOne files asked reached weight name shelf shelf
-asks_none files asked reached weight name shelf = record {
-  keeps = keeps_same (files shelf);
-  asks = omega arith;
-  reaches = omega arith;
-  unasked = or_named name (shelf ≡ shelf) refl;
-}
-
 pub one_counted : {X S : Type 0} (asked : S → ℕ) (f : X → List ℕ) (weight : ℕ) (name : Option X) (before now : S) → IfNone name (now ≡ before) → asked now ≤ asked before + weight
     → asked now ≤ asked before + weighed weight (option_map f name)
 one_counted asked f weight None before now same one = omega (arith, ap asked same)
@@ -554,34 +504,6 @@ one_counted asked f weight (Some x) before now same one = one
 pub not_named : {X S : Type 0} (f : X → List ℕ) (name : Option X) (before now : S) → option_map f name ≡ None → IfNone name (now ≡ before) → now ≡ before
 not_named f None before now none same = same
 not_named f (Some x) before now none same = absurd (cc none)
-
-summed : (total u v w x y a b c d e f : ℕ) → total ≡ u + (v + (w + (x + y))) → b ≤ a + u → c ≤ b + v → d ≤ c + w → e ≤ d + x → f ≤ e + y → f ≤ a + total
-summed total u v w x y a b c d e f is one two three four five = omega (arith, is, one, two, three, four, five)
-
--- of all five, in order
-module _ {X S : Type 0} (files : S → Option FileMap) (asked reached : S → ℕ) (f : X → List ℕ) (conf request wanted script other : Option X) (a b c d e h : S) where
-  pub asks_all : AsksOne files asked reached (MAX_CONF_BYTES + 1) conf a b → AsksOne files asked reached (MAX_INPUT_BYTES + 1) request b c → AsksOne files asked reached (MAX_INPUT_BYTES + 1) wanted c d
-      → AsksOne files asked reached (MAX_SCRIPT_BYTES + 1) script d e → AsksOne files asked reached (MAX_INPUT_BYTES + 1) other e h
-      → Asks (file_names (option_map f conf) (option_map f request) (option_map f wanted) (option_map f script) (option_map f other)) (files a) (files h) (asked a) (asked h) (reached a) (reached h) (h ≡ a)
-  asks_all one two three four five =
-      let names = file_names (option_map f conf) (option_map f request) (option_map f wanted) (option_map f script) (option_map f other) in
-      record {
-        files = keeps_both (files a) (files b) (files h) one.keeps (keeps_both (files b) (files c) (files h) two.keeps
-            (keeps_both (files c) (files d) (files h) three.keeps (keeps_both (files d) (files e) (files h) four.keeps five.keeps)));
-        asks = summed (file_count names) (weighed 1 (names Conf)) (weighed 1 (names Request)) (weighed 1 (names Wanted)) (weighed 1 (names Script)) (weighed 1 (names Other))
-            (asked a) (asked b) (asked c) (asked d) (asked e) (asked h) (files_counted names)
-            (one_counted asked f 1 conf a b one.unasked one.asks) (one_counted asked f 1 request b c two.unasked two.asks) (one_counted asked f 1 wanted c d three.unasked three.asks)
-            (one_counted asked f 1 script d e four.unasked four.asks) (one_counted asked f 1 other e h five.unasked five.asks);
-        reaches = summed (file_bytes names) (weighed (MAX_CONF_BYTES + 1) (names Conf)) (weighed (MAX_INPUT_BYTES + 1) (names Request)) (weighed (MAX_INPUT_BYTES + 1) (names Wanted))
-            (weighed (MAX_SCRIPT_BYTES + 1) (names Script)) (weighed (MAX_INPUT_BYTES + 1) (names Other))
-            (reached a) (reached b) (reached c) (reached d) (reached e) (reached h) (files_measured names)
-            (one_counted reached f (MAX_CONF_BYTES + 1) conf a b one.unasked one.reaches) (one_counted reached f (MAX_INPUT_BYTES + 1) request b c two.unasked two.reaches)
-            (one_counted reached f (MAX_INPUT_BYTES + 1) wanted c d three.unasked three.reaches) (one_counted reached f (MAX_SCRIPT_BYTES + 1) script d e four.unasked four.reaches)
-            (one_counted reached f (MAX_INPUT_BYTES + 1) other e h five.unasked five.reaches);
-        unasked = λ none.
-            not_named f other e h (none Other) five.unasked ∙ (not_named f script d e (none Script) four.unasked
-            ∙ (not_named f wanted c d (none Wanted) three.unasked ∙ (not_named f request b c (none Request) two.unasked ∙ not_named f conf a b (none Conf) one.unasked)));
-      }
 
 pub never : {X : Type 0} {P : Type 0} (x : X) → Some x ≡ None → P
 never x e = absurd cc
@@ -645,14 +567,3 @@ written_outcome arguments shelf Same before left taken now outcome status has is
 pub not_read_fault : (outcome : Outcome) → status_of outcome ≡ ReadFault → ⊥
 unfolding is_whole
 not_read_fault outcome same = false≢true (sym (ap is_whole same) ∙ whole_status outcome)
-
-not_write_fault : (outcome : Outcome) → status_of outcome ≡ WriteFault → ⊥
-unfolding is_whole
-not_write_fault outcome same = false≢true (sym (ap is_whole same) ∙ whole_status outcome)
-
-pub counts_no_write : (outcome : Outcome) (status : Status) (before now : ℕ) → status ≡ status_of outcome → now ≡ before → CountsFaults WriteFault status before now
-counts_no_write outcome status before now is same = record {
-  later = omega (arith, same);
-  rose = λ fault. absurd (not_write_fault outcome (sym is ∙ fault));
-  kept = inr same;
-}

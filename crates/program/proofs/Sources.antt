@@ -1,9 +1,8 @@
 -- The input that a source gives.
-use Rattle.std.proofs.Common.{◌≡◌, ◌+◌, ◌<◌, ◌≤◌, inl, inr, ℕ, Bool, true, false, List, [], ◌∷◌, length, replicate, Option, Some, None, Result, Ok, Err, refl, sym, ap, ◌∙◌, subst, arith}
+use Rattle.std.proofs.Common.{◌≡◌, ◌+◌, ◌<◌, ◌≤◌, inl, inr, ℕ, Bool, true, false, List, [], ◌∷◌, length, replicate, Option, Some, None, Result, Err, refl, sym, ap, ◌∙◌, subst, arith}
 use Rattle.std.specs.Prelude.{IfSome}
 use Rattle.std.specs.List.{list_all, slice_get}
 use Rattle.std.proofs.lemmas.List.{drop_all, length-replicate}
-use Rattle.hms_io.specs.Cause.{HasFillCause}
 use Rattle.hms_io.specs.Reading.{LosesPrefix, GivesAll}
 use Rattle.hms_io.specs.declared.read_write.FillError.{FillError}
 use Rattle.hms_io.specs.declared.read_write.FillError.TheVariants.{Memory as NoFillMemory, Failed, TooLong as Longer}
@@ -41,8 +40,8 @@ use Rattle.commands.specs.declared.outcome.Outcome.{Outcome}
 use Rattle.commands.specs.declared.outcome.Outcome.TheVariants.{Done, NotOk, Refused}
 use Rattle.intake.specs.declared.stop.Stop.{Stop}
 use Rattle.intake.specs.declared.stop.Stop.TheVariants.{Memory, ReadFault, Refused as IsRefused}
-use Rattle.intake.specs.Stops.{IfRefused, IsRefusalFor, CountsStop, stop_of_fill}
-use Rattle.commands.specs.Outcome.{IfOutcome, ReadsNothing}
+use Rattle.intake.specs.Stops.{IfRefused, IsRefusalFor, stop_of_fill}
+use Rattle.commands.specs.Outcome.{IfOutcome}
 use Rattle.program.proofs.Layers.{both, went_on}
 
 -- some input, the known bytes where they are known, that is longer than n
@@ -64,11 +63,6 @@ fill_stop Then files other Same before now Failed lost = tt
 fill_stop Then files other Same before now Longer lost =
     let input = longer MAX_INPUT_BYTES before now (lost refl) in
     record { input = input.0; known = input.1; reports = inr (TooLong MAX_INPUT_BYTES, (refl, input.2), refl); leaves = lost refl }
-
-pub fill_counts : (T : Type 0) (limit before now : ℕ) (error : FillError) → HasFillCause before now error → CountsStop {T = T} before now (Err (stop_of_fill limit error))
-fill_counts T limit before now NoFillMemory cause = cause
-fill_counts T limit before now Failed cause = cause
-fill_counts T limit before now Longer cause = cause
 
 -- ---- an input that was read whole
 
@@ -213,9 +207,3 @@ own_of_explanation label also context outcome (inr cause) = subst IsOwn (sym cau
 pub spelled_input : (related : Option Message) (input : List ℕ) (message : Message) → IsInputMessage (reading_for related) input message → Spells (answers_head related) message input
 spelled_input None input message is = is.whole.spells
 spelled_input (Some request) input message is = is.whole.spells
-
-pub reads_nothing_counts : (before now : ℕ) (result : Result Outcome Stop) → ReadsNothing result → now ≡ before → CountsStop before now result
-reads_nothing_counts before now (Ok outcome) none same = same
-reads_nothing_counts before now (Err Memory) none same = same
-reads_nothing_counts before now (Err ReadFault) none same = absurd none
-reads_nothing_counts before now (Err (IsRefused refusal)) none same = same

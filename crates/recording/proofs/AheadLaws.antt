@@ -1,5 +1,5 @@
 -- The next item of a recording, and those after it.
-use Rattle.std.proofs.Common.{◌≡◌, ◌<◌, ◌≤◌, ◌+◌, ◌-◌, ◌^◌, ℕ, zero, suc, Option, Some, None, option_map, List, [], ◌∷◌, length, drop, refl, sym, ap, ◌∙◌, arith}
+use Rattle.std.proofs.Common.{◌≡◌, ◌≤◌, ◌+◌, ◌-◌, ℕ, zero, suc, Option, Some, None, option_map, List, [], ◌∷◌, length, drop, refl, sym, ap, ◌∙◌, arith}
 use Rattle.std.specs.Prelude.{MatchOption, slice_get}
 use Rattle.std.proofs.lemmas.Option.{slice_get_within}
 use Rattle.recording.specs.declared.item.Item.{Item}
@@ -44,11 +44,6 @@ ahead_at items n (Some x) was now e g =
   where
     one_more : (n : ℕ) → n + 1 ≡ suc n
     one_more n = omega arith
-
-pub none_taken : (items later : List PlacedItem) (found : Option Item) → length items < 2 ^ 63 → Goes items found later → AreAhead (record { items = items; taken = 0 }) (option_map placed found) later 0
-none_taken items later found few g =
-    let own = ahead_at items 0 found items later refl g in
-    record { few = few; within = omega arith; next_is = own.0; later_are = own.1; last_is = λ some. absurd (omega arith) }
 
 pub one_taken : (held : HeldItems) (next : Option PlacedItem) (was now : List PlacedItem) (last : ℕ) (item : PlacedItem) (found : Option Item) → AreAhead held next was last
     → slice_get held.items held.taken ≡ Some item → Goes was found now → AreAhead (record { items = held.items; taken = held.taken + 1 }) (option_map placed found) now item.offset

@@ -21,7 +21,7 @@ use Rattle.recording.specs.declared.chain.Subject.{Subject as HeldSubject}
 use Rattle.recording.specs.declared.chain.RecordedChain.{RecordedChain as HeldChain}
 use Rattle.recording.specs.Chains.{Subject, RecordedHop, RecordedChain, role_of, moment_items, related_items, message_item, hop_items, chain_items}
 use Rattle.recording.specs.RecordedChains.{chain_meant, hop_meant, script_index, subject_meant}
-use Rattle.recording.specs.tools.Ordered.{AreAfterMoment, AreAhead, AreChain, AreHops, AreHopsOf, HasKind, HeldItems, IsAfter, IsMoment, IsNextHop, LacksNext, SaysHops, SaysOrder, Stops, StopsAt, Takes, TakesFirst, TakesNone, bodies_left}
+use Rattle.recording.specs.tools.Ordered.{AreAfterMoment, AreChain, AreHops, AreHopsOf, HasKind, HeldItems, IsAfter, IsMoment, IsNextHop, LacksNext, SaysHops, SaysOrder, Stops, StopsAt, Takes, TakesFirst, TakesNone, bodies_left}
 use Rattle.recording.proofs.AheadLaws.{past_of}
 use Rattle.recording.proofs.OneChain.{drop_some, slice_get_at, slice_get-append_left, hop_items-length, hops_items-append}
 use Rattle.recording.proofs.Stopping.{chain_down, chain_up, head_same, message_script, moment_stored, same_message_role, some_list_none, stored_kind, stored_moment, first_down, first_missing, first_up, head_items, hops_down, hops_up, message_missing, nil_cons, script_missing, some_none, stops_after}
@@ -107,32 +107,6 @@ role_apart own role ne is set = same_false the_type own role (not_true (sameb th
 
 pub role_same : (own role : Role) (ne : Bool) → ne ≡ not (sameb the_type own role) → ne ≡ false → own ≡ role
 role_same own role ne is unset = same_true the_type (search rules) own role (not_false (sameb the_type own role) (sym is ∙ unset))
-
--- ---- the fault after what was taken
-
--- the fault at the next item, or at the last one
-pub fault_next : (left : HeldItems) (item : PlacedItem) → slice_get left.items left.taken ≡ Some item → IsAfter left (Order item.offset)
-fault_next left item there = record {
-  index = left.taken;
-  item = item;
-  there = there;
-  fault_is = refl;
-  next = λ within. refl;
-  last = λ past. absurd (omega (arith, slice_get_within left.items left.taken item there));
-}
-
-pub fault_last : (left : HeldItems) (last : ℕ) (later : List PlacedItem) → AreAhead left None later last → 0 < length left.items → IsAfter left (Order last)
-fault_last left last later a some =
-    let past = past_of left.items left.taken a.next_is in
-    let own = a.last_is (omega arith) in
-    record {
-      index = left.taken - 1;
-      item = own.0;
-      there = own.1;
-      fault_is = ap Order own.2;
-      next = λ within. absurd (omega arith);
-      last = λ _. omega (arith, a.within);
-    }
 
 -- ---- the first message
 

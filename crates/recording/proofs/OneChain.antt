@@ -172,14 +172,6 @@ message_there chain k hop there =
     ∙ ap (λ (n : ℕ). slice_get (before ++ (item ∷ more)) n) (sym size)
     ∙ slice_get_at before item more
 
--- the first message comes after the moment and the related request
-pub first_there : (chain : RecordedChain) → slice_get (chain_items chain) (length (related_items chain.subject) + 1) ≡ Some (message_item chain.subject chain.first)
-first_there chain =
-    let before = moment chain.moment ∷ related_items chain.subject in
-    let size : length before ≡ length (related_items chain.subject) + 1 = omega arith in
-    ap (λ (n : ℕ). slice_get (chain_items chain) n) (sym size)
-    ∙ slice_get_at before (message_item chain.subject chain.first) (flat_map (hop_items chain.subject) chain.hops)
-
 -- from hop to hop
 pub items_up_to-more : (chain : RecordedChain) (k : ℕ) (hop : RecordedHop) → slice_get chain.hops k ≡ Some hop
     → length (items_up_to chain (k + 1)) ≡ script_index chain k hop + 2

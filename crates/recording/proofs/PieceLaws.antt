@@ -1,6 +1,6 @@
 -- What a reader of a recording says after pieces of the source.
-use Rattle.std.proofs.Common.{◌≡◌, ◌≢◌, inl, inr, ℕ, ◌+◌, ◌-◌, ◌*◌, ◌^◌, ◌<◌, ◌≤◌, Bool, true, false, List, [], ◌∷◌, ◌++◌, length, Option, None, Result, Ok, Err, refl, sym, ap, subst, ◌∙◌, append_assoc, arith}
-use Rattle.std.proofs.KnownBytes.{Consumes-nil, Consumes-trans}
+use Rattle.std.proofs.Common.{◌≡◌, ◌≢◌, inl, inr, ℕ, ◌+◌, ◌-◌, ◌*◌, ◌^◌, ◌≤◌, Bool, true, false, List, [], ◌∷◌, ◌++◌, length, Option, None, Result, Ok, Err, refl, sym, ap, subst, ◌∙◌, append_assoc, arith}
+use Rattle.std.proofs.KnownBytes.{Consumes-trans}
 use Rattle.std.proofs.lemmas.Bool.{cases_Bool, eqb-true}
 use Rattle.std.proofs.lemmas.List.{append-nil, length-append}
 use Rattle.std.specs.Io.KnownBytes.{Consumes}
@@ -16,8 +16,8 @@ use Rattle.recording.specs.declared.reader.ReaderStage.TheVariants.{Begin, Items
 use Rattle.recording.specs.declared.reader.TheConstants.{MAX_PIECE_BYTES}
 use Rattle.recording.specs.Items.{PlacedItem}
 use Rattle.recording.specs.Recordings.{SpellsRecording, bodies, items_text, moments}
-use Rattle.recording.specs.Readers.{ReaderState, BeginsWithItems, IsLastMoment, HasRead, IsReadTo, IsOpen, IsFaultSoFar, ReadsNeeded, AnswersNext, CountsFault, idle_reads}
-use Rattle.recording.specs.tools.ReaderSteps.{IsGoing, IsHeldAt, IsReading, IsWaiting, IsFew, IsAnEnd, GoesOn, GoesOver, ReadsHeld, AnswersHeld, AnswersEnd, TakesPiece, CountsRead, answered, refused}
+use Rattle.recording.specs.Readers.{ReaderState, BeginsWithItems, IsLastMoment, HasRead, IsReadTo, IsOpen, IsFaultSoFar, ReadsNeeded, AnswersNext, idle_reads}
+use Rattle.recording.specs.tools.ReaderSteps.{IsGoing, IsHeldAt, IsReading, IsWaiting, IsAnEnd, ReadsHeld, AnswersEnd, TakesPiece, answered, refused}
 use Rattle.recording.specs.tools.RecordingWalk.{first_step, recording_step}
 use Rattle.recording.proofs.HeldLaws.{refused_has, begun_at}
 use Rattle.recording.proofs.ReaderLaws.{stops_held, none_stopped, none_spelled, stops_first, none_first}
@@ -108,31 +108,6 @@ changes_left (Refused fault) = 0
 abbrev pub room_left : ReaderState → ℕ
 room_left state = changes_left state.stage * 2 ^ 25 + (2 ^ 25 - length state.held)
 
-grown : ReaderState → List ℕ → ReaderState
-grown state piece = record state { given = state.given + length piece; held = state.held ++ piece }
-
-pub less_room : (old mid new : ReaderState) (piece : List ℕ) → GoesOn old mid → 0 < length piece → new ≡ record mid { given = mid.given + length piece; held = mid.held ++ piece } → IsFew new
-    → room_left new < room_left old
-less_room old mid new piece goes some e few = of goes
-  where
-    stage : new.stage ≡ mid.stage
-    stage = ap (λ (s : ReaderState). s.stage) e
-
-    size : length new.held ≡ length mid.held + length piece
-    size = ap (λ (s : ReaderState). length s.held) e ∙ length-append mid.held piece
-
-    short : length new.held ≤ MAX_ITEM_BYTES + 32 + MAX_PIECE_BYTES
-    short = omega (arith, few.held)
-
-    of : GoesOn old mid → room_left new < room_left old
-    of (inl same) =
-        let rank : changes_left new.stage ≡ changes_left old.stage = ap changes_left stage ∙ ap (λ (s : ReaderState). changes_left s.stage) same in
-        omega (arith, rank, size, some, short, ap (λ (s : ReaderState). length s.held) same)
-    of (inr passed) =
-        let rank : changes_left new.stage ≡ 0 = ap changes_left (stage ∙ passed.1) in
-        let before : changes_left old.stage ≡ 1 = ap changes_left passed.0 in
-        omega (arith, rank, before, size, some, short)
-
 -- ---- while nothing is found
 
 -- what was read of the source, and what the reader says of it
@@ -144,24 +119,7 @@ abbrev pub ReadsOn : ReaderState → ReaderState → Option (List ℕ) → Optio
 ReadsOn first new before now result = (items : List PlacedItem) (text : List ℕ) → IsReading first items text
     → (more : List ℕ) × ReadsNeeded before now items text more × AnswersNext items text more now (answered new result) result
 
--- nothing was read yet
-pub none_read : (first : ReaderState) (before : Option (List ℕ)) → HasReadOn first first before before
-none_read first before = λ items text r. ([], record { taken = Consumes-nil before; needed = inl refl }, subst (λ (y : List ℕ). IsReading first items y) (sym (append-nil text)) r)
-
 module _ (first state mid : ReaderState) (before now : Option (List ℕ)) (so_far : HasReadOn first state before now) where
-  -- the bytes that were held were gone over, and there is an answer
-  pub held_reads : (result : Result Bool ItemFault) → result ≢ Ok false → ReadsHeld state mid result → GoesOver state mid result → ReadsOn first mid before now result
-  held_reads result some reads over = λ items text r. let s = so_far items text r in (s.0, s.1, of result items text s.0 some over (reads items (text ++ s.0) s.2))
-    where
-      of : (result : Result Bool ItemFault) (items : List PlacedItem) (text more : List ℕ) → result ≢ Ok false → GoesOver state mid result → AnswersHeld items (text ++ more) mid result
-          → AnswersNext items text more now (answered mid result) result
-      of (Ok true) items text more some over a = a
-      of (Ok false) items text more some over a = absurd (some refl)
-      of (Err Memory) items text more some over a = absurd over
-      of (Err Failed) items text more some over a = absurd over
-      of (Err (Recording fault)) items text more some over a = (a.0, inl a.1, a.2)
-      of (Err TooManyItems) items text more some over a = a
-
   module _ (reads : ReadsHeld state mid (Ok false)) (waits : IsWaiting mid.stage mid.moment mid.held) (later : Option (List ℕ)) (piece : List ℕ) (took : Consumes now later piece) (few : length piece ≤ MAX_PIECE_BYTES) where
     reading : (items : List PlacedItem) (text : List ℕ) (r : IsReading first items text) → IsReading mid items (text ++ (so_far items text r).0)
     reading items text r = let s = so_far items text r in reads items (text ++ s.0) s.2
@@ -237,23 +195,6 @@ pub dropped_reading : (old new : ReaderState) (items : List PlacedItem) (text : 
     → IsReading new items text
 dropped_reading old new items text e h end refused =
     subst (λ (s : ReaderState). IsReading s items text) (sym e) (record { given = h.given; count = h.count; moment = h.moment; held = reading_at old.stage items text old.held end refused h.read })
-
--- only a read that failed raises the count of faults
-pub counts_fault : (stage : ReaderStage) (before now : ℕ) (fault : ItemFault) → IsGoing stage → CountsRead before now (Err fault) → CountsFault before now stage fault
-counts_fault Begin before now Memory going c = c
-counts_fault Begin before now Failed going c = c
-counts_fault Begin before now (Recording fault) going c = c
-counts_fault Begin before now TooManyItems going c = c
-counts_fault Items before now Memory going c = c
-counts_fault Items before now Failed going c = c
-counts_fault Items before now (Recording fault) going c = c
-counts_fault Items before now TooManyItems going c = c
-counts_fault LastLine before now Memory going c = c
-counts_fault LastLine before now Failed going c = c
-counts_fault LastLine before now (Recording fault) going c = c
-counts_fault LastLine before now TooManyItems going c = c
-counts_fault End before now fault going c = absurd going
-counts_fault (Refused earlier) before now fault going c = absurd going
 
 -- ---- reads that give no byte
 

@@ -113,10 +113,6 @@ module _ (text : List ℕ) (items : List PlacedItem) (held : List ℕ) (last : �
       let moved : IsLastMoment (moments (own ++ next.body ∷ [])) (moment_after last next.body) = subst (λ (n : ℕ). IsLastMoment (moments (own ++ next.body ∷ [])) n) value (is_last (own ++ next.body ∷ [])) in
       subst (λ (y : List Body). IsLastMoment (moments y) (moment_after last next.body)) (sym (bodies_snoc items next)) moved
 
-  -- with the last line the text so far is a recording of the items
-  pub spells_so_far : (rest : List ℕ) → item_step last held ≡ Ok (None, rest) → held ≡ codes "end\n" ++ rest → SpellsRecording (items_text (bodies items) ++ codes "end\n") items
-  spells_so_far rest e is = record { form = record { are = b.are; joined = refl }; allowed = b.allowed; placed = b.placed }
-
 -- a recording has no further item
 pub none_spelled : (text : List ℕ) (items : List PlacedItem) (front held : List ℕ) → SpellsRecording front items → text ≡ front ++ held → (next : PlacedItem) (rest : List ℕ) → ¬ BeginsWithItems text (items ++ next ∷ []) rest
 none_spelled text items front held s e =

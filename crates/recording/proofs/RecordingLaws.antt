@@ -133,9 +133,6 @@ fault_answered text (Syntax offset) f = is_syntax text offset f.holds (λ o l. f
 
 -- ---- the fault that is answered is the first
 
-the_err : {T : Type 0} → RecordingFault → Result T RecordingFault
-the_err fault = Err fault
-
 not_both : (items : List Body) (fault : RecordingFault) → ◌≡◌ {A = Result (List Body) RecordingFault} (Ok items) (Err fault) → ⊥
 not_both items fault e = absurd (cc e)
 

@@ -21,9 +21,6 @@ use Rattle.rewrite_script.proofs.Exactness.{IsExact, choice, itself_exact, line_
 
 -- ---- sides
 
-abbrev any_side : Side → Bool
-any_side _ = true
-
 side_sound : (word : List ℕ) (side : Side) → side_read word ≡ Some side → word ≡ side_word side
 side_sound word side e = elim (choice (bytes_eq word (codes "h")) (Some Header) (cond (bytes_eq word (codes "t")) (Some Trailer) None) side e) [
   | inl header ↦ (bytes_eq-Decides word (codes "h")).0 header.0 ∙ ap side_word (some_is Header side header.1)

@@ -11,7 +11,7 @@ use Rattle.rewrite_script.specs.Lines.{HasValues, is_writable}
 use Rattle.rewrite_script.specs.declared.rewrite.Rewrite.{Rewrite}
 use Rattle.line_rewrites.specs.declared.fault.ApplyFault.{ApplyFault}
 use Rattle.line_rewrites.specs.declared.fault.ApplyFault.TheVariants.{Memory, NotApplicable}
-use Rattle.line_rewrites.specs.Sized.{HasNoSized, SpellsSized}
+use Rattle.line_rewrites.specs.Sized.{SpellsSized}
 use Rattle.rewrites.specs.Laws.{KeepsSignature, KeepsWherePermitted}
 use Rattle.rewrites.specs.Permitted.{Permits}
 use Rattle.rewrites.specs.Steps.{IsNotApplicable, Rewrites, SpellsStep, Step}
@@ -23,13 +23,6 @@ use Rattle.rewrites.proofs.StepKinds.{gives_kind}
 module _ (context : MessageContext) (step : Rewrite) (text : List ℕ) (spells : SpellsStep context step text) where
   pub read_explained : (message : Message) → SpellsSized (answers_head context.related) text (length (message_content context.message)) message → Rewrites context step text
   read_explained message spelled = (message, (spells message).1 spelled, spelled.spells.text)
-
-  pub unread_explained : HasNoSized (answers_head context.related) text (length (message_content context.message)) → IsNotApplicable context step
-  unread_explained none = λ after gives. none after ((spells after).0 gives)
-
-pub fault_explained : (context : MessageContext) (step : Rewrite) (fault : ApplyFault) → (fault ≡ NotApplicable → IsNotApplicable context step) → ExplainsStep context step (Err fault)
-fault_explained context step NotApplicable none = none refl
-fault_explained context step Memory none = tt
 
 -- ---- what is answered
 

@@ -1,7 +1,6 @@
 -- A walk step by step: where it is, and why it ends.
 use Rattle.std.proofs.Common.{◌≡◌, ◌≢◌, ◌<◌, ◌≤◌, ◌+◌, ℕ, suc, List, [], ◌∷◌, ◌++◌, length, get_or, take, Some, Result, Ok, Err, refl, sym, ap, subst, ◌∙◌, inl, inr, arith}
 use Rattle.std.specs.Prelude.{slice_get}
-use Rattle.std.specs.List.{FoldsTo}
 use Rattle.std.proofs.lemmas.Fn.{FoldsTo-push}
 use Rattle.std.proofs.lemmas.List.{take_more, take_all}
 use Rattle.std.proofs.lemmas.Option.{get_or_from_slice_get, slice_get_read, slice_get_within}
@@ -9,9 +8,9 @@ use Rattle.msg_body.specs.Messages.{Message}
 use Rattle.component_values.specs.Context.{MessageContext, answers_head, context_with}
 use Rattle.rewrite_script.specs.declared.rewrite.Rewrite.{Rewrite}
 use Rattle.line_rewrites.specs.Sized.{SpellsSized}
-use Rattle.rewrites.specs.Steps.{IsNotApplicable, Step, Steps}
+use Rattle.rewrites.specs.Steps.{IsNotApplicable, Step}
 use Rattle.rewrites.specs.Walks.{EndsAt, IsWatchedStep, ReportsWalk, Walks}
-use Rattle.rewrites.specs.tools.Walked.{IsMade, IsMadeAt, SaysGiven, SaysMet, SaysNext, count_in}
+use Rattle.rewrites.specs.tools.Walked.{IsMadeAt, SaysGiven, SaysMet, SaysNext, count_in}
 use Rattle.rewrites.specs.declared.watcher.Judgement.{Judgement}
 use Rattle.rewrites.specs.declared.watcher.Judgement.TheVariants.{Permitted, Forbidden, Unjudged}
 use Rattle.rewrites.specs.declared.fault.WalkFault.{WalkFault}
@@ -39,32 +38,7 @@ permitted Permitted judged allowed = refl
 permitted Forbidden judged allowed = absurd (allowed refl)
 permitted Unjudged judged allowed = absurd (judged refl)
 
--- what leads there, whoever watches
-pub steps_lead : {W : Type 0} (Judges : MessageContext → Rewrite → W → W → Judgement → Type 0) (context : MessageContext) (was : W) (steps : List Rewrite) (after : Message) (now : W)
-    → Walks Judges context was steps after now → Steps Step context steps after
-steps_lead {W} Judges context was steps after now walks = from context.message was steps walks
-  where
-    from : (message : Message) (watcher : W) (left : List Rewrite)
-        → FoldsTo {P = Message × W} (λ at step next. IsWatchedStep Judges (context_with context at.0) at.1 step next.0 next.1) (message, watcher) left (after, now)
-        → FoldsTo (λ m step next. Step (context_with context m) step next) message left after
-    from message watcher [] same = ap (λ (at : Message × W). at.0) same
-    from message watcher (step ∷ left) taken = (taken.0.0, taken.1.gives, from taken.0.0 taken.0.1 left taken.2)
-
 module _ {W : Type 0} (Judges : MessageContext → Rewrite → W → W → Judgement → Type 0) (context : MessageContext) (was : W) (steps : List Rewrite) where
-  pub none_walked : Walks Judges context was [] context.message was
-  none_walked = refl
-
-  pub begun : (first : Rewrite) (others : List Rewrite) (now : W) (made : Made) → steps ≡ first ∷ others → IsMade Judges context first was now made → IsMadeAt Judges context was steps 0 now made
-  begun first others now made parts is = record {
-    message = context.message;
-    watcher = was;
-    lead = subst (λ (ss : List Rewrite). Walks Judges context was (take 0 ss) context.message was) (sym parts) refl;
-    sized = refl;
-    step = first;
-    there = ap (λ (ss : List Rewrite). slice_get ss 0) parts;
-    made_is = is;
-  }
-
   -- a step that is met where others lead isn't made
   ends : (index : ℕ) (step : Rewrite) (now : W) (why : WalkFault) (message : Message) (watcher : W) → Walks Judges context was (take index steps) message watcher → slice_get steps index ≡ Some step
       → SaysMet Judges (context_with context message) index step watcher now (Err why) → ReportsWalk Judges context was steps now (Err why)
@@ -75,12 +49,6 @@ module _ {W : Type 0} (Judges : MessageContext → Rewrite → W → W → Judge
       rw says.0 (record { message = message; watcher = watcher; lead = lead; step = step; there = there; judgement = says.1.0; judged = says.1.1; why = says.1.2 })
   ends index step now (fault.NotPermitted at) message watcher lead there says = absurd says
   ends index step now fault.Memory message watcher lead there says = tt
-
-  -- the step at the first index isn't made
-  pub not_begun : (first : Rewrite) (others : List Rewrite) (now : W) (why : WalkFault) → steps ≡ first ∷ others → SaysMet Judges context 0 first was now (Err why)
-      → ReportsWalk Judges context was steps now (Err why)
-  not_begun first others now why parts says =
-      ends 0 first now why context.message was (subst (λ (ss : List Rewrite). Walks Judges context was (take 0 ss) context.message was) (sym parts) refl) (ap (λ (ss : List Rewrite). slice_get ss 0) parts) says
 
   module _ (index : ℕ) (now : W) (made : Made) (at : IsMadeAt Judges context was steps index now made) where
     -- the message that the text is of is what the step gives

@@ -1,5 +1,5 @@
 -- The message after the steps of a sample.
-use Rattle.std.proofs.Common.{◌≡◌, ◌≤◌, ℕ, false, None, List, [], ◌∷◌, length, Result, Ok, Err, refl, sym, ap, subst, ◌∙◌}
+use Rattle.std.proofs.Common.{◌≡◌, ◌≤◌, ℕ, false, None, List, ◌∷◌, length, Result, Ok, Err, refl, sym, ap, subst, ◌∙◌}
 use Rattle.std.specs.Prelude.{IfOk, IsTrue}
 use Rattle.std.specs.List.{list_all}
 use Rattle.std.proofs.lemmas.Bool.{and_parts}
@@ -71,9 +71,6 @@ later_writable steps step later parts all =
     (and_parts (is_writable step) (list_all is_writable later) (subst (λ (list : List Rewrite). IsTrue (list_all is_writable list)) parts all)).1
 
 -- ---- the steps
-
-pub none_lead : (message : Message) (steps : List Rewrite) (text : List ℕ) → steps ≡ [] → Spells false message text → LeadsTo message steps text
-none_lead message steps text none spells = rw none (record { after = message; lead = refl; spells = spells })
 
 -- a step, and then the others
 pub step_before : {E : Type 0} (message next : Message) (steps : List Rewrite) (step : Rewrite) (later : List Rewrite) (result : Result (List ℕ) E) → steps ≡ step ∷ later

@@ -57,9 +57,6 @@ decoded_bytes (a ∷ b ∷ c ∷ d ∷ rest) all =
 pub unpadded : (bytes : List ℕ) → encode_of standard_no_pad bytes ≡ encode_symbols alphabet bytes
 unpadded bytes = append-nil (encode_symbols alphabet bytes)
 
-pub padded : (bytes : List ℕ) → encode_of standard bytes ≡ encode_symbols alphabet bytes ++ replicate (padding_len (length bytes)) 61
-padded bytes = refl
-
 -- what decodes is whole letters, and they spell those bytes
 pub decodes : (letters bytes : List ℕ) → letters ≡ encode_of standard_no_pad bytes → IsBytes bytes → (are_whole letters ≡ true) × (bytes ≡ bytes_of letters)
 decodes letters bytes e h =
@@ -83,9 +80,6 @@ not_whole letters d all strict e = go (are_whole letters) refl
         absurd (ok_err (decode_of standard_no_pad letters) (bytes_of letters) d ((strict (bytes_of letters) bytes).1 (sym (unpadded (bytes_of letters) ∙ spelled_again letters all is))) e)
 
 -- ---- how many `=` fill the last group
-
-fours : (n : ℕ) → n % 4 ≡ 0 → pads n ≡ 0
-fours n e = omega arith
 
 pads_more : (n : ℕ) → pads (suc (suc (suc (suc n)))) ≡ pads n
 pads_more n = omega arith

@@ -31,9 +31,6 @@ record IsPart (text v : List ℕ) : Type 0 where
 pub run_same : (P : ℕ → Bool) (lo hi : ℕ) (x v : List ℕ) → IsRun P lo hi x v → IsRun P lo hi v v
 run_same P lo hi x v h = record { same = refl; passes = h.passes; least = h.least; most = h.most }
 
-run_of : (P : ℕ → Bool) (lo hi : ℕ) (x v : List ℕ) → x ≡ v → IsRun P lo hi v v → IsRun P lo hi x v
-run_of P lo hi x v e h = record { same = e; passes = h.passes; least = h.least; most = h.most }
-
 pub digit_next : (k : ℕ) → is_digit k ≡ false → (lo hi : ℕ) (x v r : List ℕ) → IsRun is_digit (suc lo) hi x v → Next (λ c. not (eqb c k)) (x ++ r)
 digit_next k out lo hi x v r h = starts_next is_digit (λ c. not (eqb c k)) (apart is_digit k out) x r (run_starts is_digit lo hi x v h)
 

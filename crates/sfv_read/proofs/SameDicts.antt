@@ -58,10 +58,6 @@ begin_apart P Q never (c ∷ x) r (d ∷ y) s h k e =
     let same : c ≡ d = cc in
     never d (subst (λ (n : ℕ). P n ≡ true) same h) k
 
-starts_where : (P Q : ℕ → Bool) → ((c : ℕ) → P c ≡ true → Q c ≡ true) → (x : List ℕ) → Starts P x → Starts Q x
-starts_where P Q sub [] h = absurd h
-starts_where P Q sub (c ∷ x) h = sub c h
-
 word_same : (first others : ℕ → Bool) (text word : List ℕ) → IsWord first others text word → text ≡ word
 word_same first others text [] h = absurd h
 word_same first others text (c ∷ word) h = h.0

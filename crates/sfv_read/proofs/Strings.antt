@@ -63,9 +63,6 @@ joined_text x y s t h k = (cc (h.0, k.0, flat_map-append character_text s t), al
 abbrev EscapedRun : List ℕ → List ℕ → Type 0
 EscapedRun x run = Then (IsByte is_backslash) (λ _. IsWord is_escapable is_unescaped) x run
 
-escaped_alone : EscapedRun (92 ∷ 34 ∷ []) (34 ∷ [])
-escaped_alone = record { first = 92 ∷ []; second = 34 ∷ []; value = 92; joined = refl; spells = record { same = refl; passes = refl }; more = (refl, refl, refl) }
-
 meets_escaped : Meets EscapedRun (λ _ c. not (is_unescaped c)) escaped_run_read
 unfolding escaped_run_read
 meets_escaped =

@@ -1,6 +1,5 @@
 -- The laws of texts, from a reading of whole texts.
-use Rattle.std.proofs.Common.{◌≡◌, ◌↔◌, ◌⊎◌, ℕ, ◌+◌, ◌-◌, Bool, true, List, ◌++◌, length, take, Result, Ok, Err, inl, inr, refl, sym, ap, subst}
-use Rattle.byte_grammar.specs.Language.{Begins}
+use Rattle.std.proofs.Common.{◌≡◌, ◌↔◌, ◌⊎◌, ℕ, ◌-◌, Bool, true, List, length, Result, Ok, Err, inl, inr, refl, sym, ap, subst}
 use Rattle.byte_grammar.specs.FaultOffset.{IsFaultOffset}
 use Rattle.byte_grammar.proofs.OffsetLaws.{one_offset}
 use Rattle.byte_grammar.proofs.Whole.{Judges, one_value}
@@ -54,23 +53,3 @@ module _ {V : Type 0} (L : List ℕ → V → Type 0) where
   -- a text has a value or one fault
   pub one_answer : HasOneAnswer L
   one_answer = record { one_fault = one_fault; no_fault = no_fault }
-
--- ---- two kinds with the same texts
-
-begins_too : {V W : Type 0} {L : List ℕ → V → Type 0} {M : List ℕ → W → Type 0} → ((text : List ℕ) (v : V) → L text v → (w : W) × M text w) → (prefix : List ℕ) → Begins L prefix → Begins M prefix
-begins_too to prefix b = let m = to (prefix ++ b.0) b.1 b.2 in (b.0, m.0, m.1)
-
-module _ {V W : Type 0} {L : List ℕ → V → Type 0} {M : List ℕ → W → Type 0}
-    (to : (text : List ℕ) (v : V) → L text v → (w : W) × M text w) (from : (text : List ℕ) (w : W) → M text w → (v : V) × L text v) where
-  same_offset : (text : List ℕ) (offset : ℕ) → IsFaultOffset L text offset → IsFaultOffset M text offset
-  same_offset text offset o = record {
-    none = λ w h. let l = from text w h in o.none l.0 l.1;
-    within = o.within;
-    begins = begins_too {L = L} {M = M} to (take offset text) o.begins;
-    last = λ lt b. o.last lt (begins_too {L = M} {M = L} from (take (offset + 1) text) b);
-  }
-
-  -- they have the same faults
-  pub same_fault : (text : List ℕ) (e : SfError) → IsSfError L text e → IsSfError M text e
-  same_fault text Memory h = h
-  same_fault text (Syntax offset) h = same_offset text offset h

@@ -84,10 +84,6 @@ find_none p (x ∷ xs) none =
 pub none_at : {X : Type 0} (p : X → Bool) (xs : List X) → position p xs ≡ None → find p xs ≡ None
 none_at p xs is = find_none p xs (none_found p xs is)
 
--- the places of no pairs
-pub no_places : (V : Type 0) → ArePlacesOf {V = V} map.empty []
-no_places V key = map.get-empty _ key
-
 -- the places with one more pair of a new key
 pub one_more_place : {V : Type 0} (places : Places) (ps : List (Pair V)) (q : Pair V) → ArePlacesOf places ps → list_any (has_key q.key) ps ≡ false
     → ArePlacesOf (map.insert places q.key (length ps)) (ps ++ q ∷ [])

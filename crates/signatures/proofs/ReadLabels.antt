@@ -49,9 +49,6 @@ signed_is_listed message labels label params tag (inl (dict, reads, are)) has =
     rw are (listed_key dict label _ member_is)
 
 module _ (message : Message) (labels : List (List ℕ)) where
-  pub no_labels_read : AreReadSoFar message [] labels labels
-  no_labels_read = record { read = λ label. tt; rest = λ label none. refl }
-
   -- one label more
   pub label_read : (signatures : List (Pair (Option LabelRead))) (label : List ℕ) (left : List (List ℕ)) (read : Option LabelRead) → AreReadSoFar message signatures labels (label ∷ left) → IsSignatureOf message label read
       → AreReadSoFar message (put signatures label read) labels left

@@ -42,9 +42,6 @@ any_mapped f keeps (p ∷ ps) key = rw (keeps p, any_mapped f keeps ps key) refl
 there_mapped : (f : Pair BareItem → Pair BareItem) → Keeps f → (ps : List (Pair BareItem)) (key : List ℕ) → has_param (map f ps) key ≡ has_param ps key
 there_mapped f keeps ps key = there_any (map f ps) key ∙ (any_mapped f keeps ps key ∙ sym (there_any ps key))
 
-keeps_created : (now : ℕ) → Keeps (created_filled now)
-keeps_created now p = elim (cases_Bool (bytes_eq p.key (codes "created"))) [ inl found ↦ rw found refl | inr none ↦ rw none refl ]
-
 keeps_expires : (now : ℕ) (after : Option ℕ) → Keeps (expires_filled now after)
 keeps_expires now after p = elim (cases_Bool (bytes_eq p.key (codes "expires"))) [ inl found ↦ rw found refl | inr none ↦ rw none refl ]
 
@@ -83,9 +80,6 @@ expires_unset now (p ∷ ps) = elim (cases_Bool (bytes_eq p.key (codes "expires"
   | inl found ↦ rw found (ap (λ (qs : List (Pair BareItem)). p ∷ qs) (expires_unset now ps))
   | inr none ↦ rw none (ap (λ (qs : List (Pair BareItem)). p ∷ qs) (expires_unset now ps))
 ]
-
-pub keyid_there : (ps : List (Pair BareItem)) (value : BareItem) → has_param ps (codes "keyid") ≡ true → ps ≡ ps ++ where_missing ps (codes "keyid") value
-keyid_there ps value there = rw there (sym (append-nil ps))
 
 pub keyid_put : (ps : List (Pair BareItem)) (value : BareItem) → has_param ps (codes "keyid") ≡ false → put ps (codes "keyid") value ≡ ps ++ where_missing ps (codes "keyid") value
 keyid_put ps value none = let lacks = sym (there_any ps (codes "keyid")) ∙ none in rw (none, lacks) refl

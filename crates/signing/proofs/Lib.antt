@@ -3,7 +3,7 @@ mod Causes
 mod Asking
 mod LineTexts
 pub mod Inserting
-mod DigestBytes
+pub mod DigestBytes
 mod AddedLines
 mod Lengthened
 pub mod Making

@@ -45,9 +45,6 @@ meet_more conf now [] (s ∷ ss) wish spec met one = absurd met
 meet_more conf now (w ∷ ws) [] wish spec met one = absurd met
 
 module _ (conf : Configuration) (sign : SignConf) (now : ℕ) (wishes : List (Pair Member)) where
-  pub met_none : AreMet conf sign now wishes 0 []
-  met_none = record { meet = tt; valid = All-nil IsValidSpec; none = λ i w lt there. absurd (omega (arith, lt)) }
-
   pub met_more : (n : ℕ) (wish : Pair Member) (specs : List SignSpec) (spec : SignSpec) → n < length wishes → wish ≡ get_or wishes n wish → AreMet conf sign now wishes n specs → MeetsWish conf now wish spec
       → IsValidSpec spec → HasNoCause conf sign wish → AreMet conf sign now wishes (n + 1) (specs ++ spec ∷ [])
   met_more n wish specs spec lt is met one valid none =
@@ -351,18 +348,6 @@ module _ (conf : Configuration) (now : ℕ) (message : Message) where
       let sign = some_sign conf.sign configured in
       answers_where want.Memory memory_or_not (IsWantFault conf message) result
       (λ f g. first_is_one want_order (IsWantCause conf message) (determined conf sign.0 message sign.1) f g) (named result x)
-
-  -- a first fault that is answered
-  pub want_answered : (fault : WantFault) → IsWantFault conf message fault → ExplainsWanted conf now message (Err fault)
-  want_answered want.Memory x = tt
-  want_answered want.Absent x = x
-  want_answered want.Malformed x = x
-  want_answered (want.NotInnerList i) x = x
-  want_answered (want.Ids i f) x = x
-  want_answered (want.Parameter i) x = x
-  want_answered (want.AlgRefused i) x = x
-  want_answered (want.AlgUnknown i) x = x
-  want_answered (want.KeyUnknown i) x = x
 
   first_of_all : (fault : WantFault) → want_order fault ≡ 2 → IsWantCause conf message fault → IsWantFault conf message fault
   first_of_all fault two holds = record { holds = holds; none_before = λ other lt h. earlier other (rw two at lt) h } where

@@ -158,15 +158,15 @@ fn are_steps(alloc: Global, explained: &Explained, row: &Form) -> bool {
 // Whether the record and the normal message are the same for the label, after the row's steps.
 fn are_explained(
     alloc: Global,
-    record: &MessageView<'_>,
+    recorded: &MessageView<'_>,
     normal: &MessageView<'_>,
     types: &Types,
     row: &Form,
 ) -> bool
-    requires record { IsMessage false (message_of record.now) }
+    requires recorded { IsMessage false (message_of recorded.now) }
     requires normal { IsMessage false (message_of normal.now) }
 {
-    let first = Context::of_message(record, Scheme::Http, types);
+    let first = Context::of_message(recorded, Scheme::Http, types);
     let second = Context::of_message(normal, Scheme::Http, types);
     match explain(alloc, &first, &second, b"s") {
         Ok(explained) => are_steps(alloc, &explained, row),
@@ -176,38 +176,38 @@ fn are_explained(
 
 fn is_form_by(
     alloc: Global,
-    record: &MessageView<'_>,
+    recorded: &MessageView<'_>,
     normal: &MessageView<'_>,
     types: &Types,
     row: &Form,
 ) -> bool
-    requires record { IsMessage false (message_of record.now) }
+    requires recorded { IsMessage false (message_of recorded.now) }
     requires normal { IsMessage false (message_of normal.now) }
 {
-    let context = Context::of_message(record, Scheme::Http, types);
-    has_form(alloc, &context, row) && are_explained(alloc, record, normal, types, row)
+    let context = Context::of_message(recorded, Scheme::Http, types);
+    has_form(alloc, &context, row) && are_explained(alloc, recorded, normal, types, row)
 }
 
 fn is_form_beside(
     alloc: Global,
-    record: &MessageView<'_>,
+    recorded: &MessageView<'_>,
     normal: &MessageView<'_>,
     row: &Form,
 ) -> bool
-    requires record { IsMessage false (message_of record.now) }
+    requires recorded { IsMessage false (message_of recorded.now) }
     requires normal { IsMessage false (message_of normal.now) }
 {
     match Types::standard(alloc) {
-        Ok(types) => is_form_by(alloc, record, normal, &types, row),
+        Ok(types) => is_form_by(alloc, recorded, normal, &types, row),
         Err(_) => false,
     }
 }
 
-fn is_form_of(alloc: Global, record: &MessageView<'_>, row: &Form) -> bool
-    requires { IsMessage false (message_of record.now) }
+fn is_form_of(alloc: Global, recorded: &MessageView<'_>, row: &Form) -> bool
+    requires { IsMessage false (message_of recorded.now) }
 {
     match message(alloc, row.normal) {
-        Some(given) => is_form_beside(alloc, record, &given.view, row),
+        Some(given) => is_form_beside(alloc, recorded, &given.view, row),
         None => false,
     }
 }

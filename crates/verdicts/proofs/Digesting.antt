@@ -8,13 +8,9 @@ use Rattle.content_digest.specs.Faults.{IsDigestFault}
 use Rattle.content_digest.specs.declared.fault.DigestFault.{DigestFault}
 use Rattle.content_digest.specs.declared.fault.DigestFault.TheVariants as fault
 use Rattle.content_digest.proofs.DigestLaws.{one_digest_fault, no_fault_where_holds, has_digest_answer}
-use Rattle.signatures.specs.declared.label.LabelFault.{LabelFault}
-use Rattle.signatures.specs.declared.label.LabelFault.TheVariants.{Memory, Rule as IsRule}
 use Rattle.signatures.specs.declared.place.DigestReason.{DigestReason}
 use Rattle.signatures.specs.declared.place.DigestReason.TheVariants.{Uncovered, Malformed, NoneKnown, Mismatch}
 use Rattle.verdicts.specs.ContentDigest.{covers_digest, digest_text, digest_reason, HasDigest, LacksDigest}
-use Rattle.signatures.specs.tools.Answered.{SaysRule}
-use Rattle.verdicts.specs.tools.Judged.{FailsByField, FailsByDigest}
 
 module _ (message : Message) (ids : List ComponentId) where
   pub has_not_both : HasDigest message ids → (reason : DigestReason) → ¬ LacksDigest message ids reason
@@ -44,8 +40,3 @@ module _ (message : Message) (ids : List ComponentId) where
       | inr fails ↦ inr (some_reason covered fails.0 fails.1)
     ]
   ]
-
-  -- a fault of the field's digests is a reason of the rule
-  pub field_says : covers_digest ids ≡ true → (answer : LabelFault) → SaysRule (FailsByField message) answer → SaysRule (FailsByDigest true message ids) answer
-  field_says covered Memory says = tt
-  field_says covered (IsRule rule place) says = (says.0, refl, says.1, says.2, inr (covered, says.3.0, says.3.1, says.3.2))

@@ -1,16 +1,13 @@
 -- What is known of a tag, by the key that is found for it and by the verdict on its label.
-use Rattle.std.proofs.Common.{◌≡◌, ℕ, Bool, true, false, Option, Some, None, List, refl, sym, ap, subst, ◌∙◌}
-use Rattle.std.proofs.lemmas.Bool.{false≢true}
+use Rattle.std.proofs.Common.{◌≡◌, ℕ, Bool, Option, Some, None, List, sym, ap, subst, ◌∙◌}
 use Rattle.component_ids.specs.declared.params.SigParams.{SigParams}
 use Rattle.component_values.specs.Context.{MessageContext}
 use Rattle.settings.specs.Configuration.{Configuration}
 use Rattle.signatures.specs.Signatures.{HasSignature}
 use Rattle.signatures.proofs.Reading.{has_one_signature}
-use Rattle.verdicts.specs.KnownTags.{HasKnownTag, IsKnownOf, IsRightOrNot, KnowsTag}
+use Rattle.verdicts.specs.KnownTags.{IsKnownOf, IsRightOrNot, KnowsTag}
 use Rattle.verdicts.specs.Parameters.{keyid_of}
-use Rattle.verdicts.specs.Rules.{IsNoMac, OfSignature, key_in}
-use Rattle.verdicts.specs.Verdicts.{Accepts}
-use Rattle.verdicts.specs.Verification.{Verification}
+use Rattle.verdicts.specs.Rules.{key_in}
 
 -- what is known of the label is known of the signature and the key that were found for it
 pub known_of : (conf : Configuration) (context : MessageContext) (label : List ℕ) (params : SigParams) (tag keyid key : List ℕ) → HasSignature context.message label params tag → keyid_of params ≡ Some keyid
@@ -24,29 +21,3 @@ known_of conf context label params tag keyid key has keyid_is key_is (Some is_ri
     let own : known.key ≡ key = cc in
     subst (λ (p : SigParams). IsRightOrNot context p tag key is_right) same.0
     (subst (λ (t : List ℕ). IsRightOrNot context known.params t key is_right) same.1 (subst (λ (k : List ℕ). IsRightOrNot context known.params known.tag k is_right) own known.is))
-
--- the tag of an accepted label is right
-pub known_where_accepted : (v : Verification) (keyid : List ℕ) → Accepts v keyid → HasKnownTag v.conf v.context v.label true
-known_where_accepted v keyid accepts = record {
-  params = accepts.params;
-  tag = accepts.tag;
-  signature = accepts.signature;
-  keyid = keyid;
-  keyid_is = accepts.keyid_is;
-  key = accepts.key;
-  key_is = accepts.key_is;
-  is = (accepts.values, accepts.have, (λ _. accepts.mac, λ _. refl));
-}
-
--- where the rule of tags fails, it isn't
-pub known_where_refused : (v : Verification) → OfSignature v (IsNoMac v) → HasKnownTag v.conf v.context v.label false
-known_where_refused v (params, tag, signature, none) = record {
-  params = params;
-  tag = tag;
-  signature = signature;
-  keyid = none.keyid;
-  keyid_is = none.keyid_is;
-  key = none.key;
-  key_is = none.key_is;
-  is = (none.values, none.have, (λ e. absurd (false≢true e), λ e. absurd (none.other e)));
-}

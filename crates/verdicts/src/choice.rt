@@ -1,8 +1,9 @@
 //! Which policy judges a signature, and how long nonces are remembered by the policies.
 
-ghost use Rattle.std.specs.Prelude.{◌≡◌, ◌≤◌, None, [], ◌∷◌, IfSome, option_copied};
+ghost use Rattle.std.specs.Prelude.{◌≡◌, ◌≤◌, None, [], ◌∷◌, IfNone, IfSome, option_copied};
 ghost use Rattle.settings.specs.ConfMeaning.{meaning};
 ghost use Rattle.settings.specs.ValidSections.{IsValidPolicy};
+ghost use Rattle.settings.specs.declared.policy.Policy.{Policy};
 ghost use Rattle.nonces.specs.declared.limits.TheConstants.{MAX_WINDOW};
 ghost use Rattle.verdicts.specs.Choice.{policy_of, window_of};
 
@@ -11,8 +12,10 @@ use settings::{Conf, Policy};
 
 /// The one policy of which there is no other, where it selects no tag.
 fn sole_default(policies: &[Policy]) -> Option<&Policy>
-    ensures { IfSome result
+    ensures some { IfSome result
         (λ policy. (policies.now ≡ policy.now ∷ []) × (policy.now.selects ≡ None)) }
+    ensures none { IfNone result
+        ((policy : Policy) → policies.now ≡ policy ∷ [] → ¬ (policy.selects ≡ None)) }
 {
     match policies {
         [policy] if policy.selects.is_none() => Some(policy),

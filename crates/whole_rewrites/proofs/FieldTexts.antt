@@ -178,13 +178,6 @@ module _ (context : MessageContext) (text : List ℕ) (parts : SideParts) (index
       (record { before = c.before; line = c.line; after = c.after; lines_are = c.lines_are; named = c.named; none_before = c.none_before }) in
       false≢true (sym c.none_after ∙ (ap (λ (ls : List FieldLine). is_there ls (codes "host")) (sym at.2) ∙ (further ∙ more)))
 
--- none
-pub no_host : (context : MessageContext) (text : List ℕ) → is_there (lines_on Header context.message) (codes "host") ≡ false → (other : Message) → Makes context (Host text) other → ⊥
-no_host context text none other makes =
-    let is = makes.1.change in
-    none_first (codes "host") (lines_on Header context.message) none
-    (record { before = is.before; line = is.line; after = is.after; lines_are = is.lines_are; named = is.named; none_before = is.none_before })
-
 -- ---- the walk to the first line
 
 pub next_named : (lines : List FieldLine) (index : ℕ) (line : FieldLine) (name : List ℕ) → slice_get lines index ≡ Some line → has_name name line ≡ false → is_there (take index lines) name ≡ false
@@ -216,11 +209,6 @@ further_line name lines index line all text new there so_far is =
     ∙ (append_assoc text (lines_text (without_name name (line ∷ []))) rest
     ∙ (ap (λ (t : List ℕ). text ++ t) (sym (one_more name line (drop (index + 1) lines)))
     ∙ (ap (λ (ls : List FieldLine). text ++ lines_text (without_name name ls)) (sym (left_at lines index line there)) ∙ so_far)))
-
-pub no_more_lines : (name : List ℕ) (lines : List FieldLine) (count : ℕ) (all text : List ℕ) → count ≡ length lines → text ++ lines_text (without_name name (drop count lines)) ≡ all → text ≡ all
-no_more_lines name lines count all text end so_far =
-    let none : drop count lines ≡ [] = drop_all count lines (omega (arith, end)) in
-    sym (append-nil text) ∙ (ap (λ (ls : List FieldLine). text ++ lines_text (without_name name ls)) (sym none) ∙ so_far)
 
 -- ---- strict texts
 

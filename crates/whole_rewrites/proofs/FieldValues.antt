@@ -1,6 +1,6 @@
 -- What a rewriting of the lines of one name keeps of every other name.
 use Rattle.std.proofs.Common.{◌≡◌, ◌≢◌, ℕ, Bool, false, not, ◌||◌, List, [], ◌∷◌, ◌++◌, codes, refl, sym, ◌∙◌, ap, inl, inr}
-use Rattle.std.specs.Prelude.{filter, IsFalse}
+use Rattle.std.specs.Prelude.{filter}
 use Rattle.std.proofs.lemmas.Bool.{cases_Bool}
 use Rattle.std.proofs.lemmas.Slice.Eq.{bytes_eq-Decides}
 use Rattle.msg_head.specs.Lines.{FieldLine}
@@ -9,7 +9,7 @@ use Rattle.msg_head.specs.Values.{is_there, value, values}
 use Rattle.msg_body.specs.SameFields.{HasSameValues, name_of}
 use Rattle.msg_body.proofs.LineLists.{keeps_other_names_around}
 use Rattle.line_rewrites.specs.LineLists.{line_of}
-use Rattle.whole_rewrites.specs.Lines.{IsInOneLine, IsLineFor, IsOtherHost}
+use Rattle.whole_rewrites.specs.Lines.{IsInOneLine, IsOtherHost}
 
 -- ---- lists that have the same of a name
 
@@ -60,12 +60,6 @@ swapped before after line new name none none_too =
     values_over (before ++ line ∷ after) (before ++ after) (before ++ new ∷ after) name
     (values_turned (before ++ after) (before ++ line ∷ after) name (keeps_other_names_around before after line name none))
     (keeps_other_names_around before after new name none_too)
-
-pub keeps_others_than : (name other : List ℕ) (new : FieldLine) (lines replaced : List FieldLine) → IsLineFor name new lines replaced → IsFalse (has_name other new) → other ≢ name
-    → HasSameValues lines replaced other
-keeps_others_than name other new lines replaced is none differ =
-    same_values_of lines replaced (is.before ++ is.line ∷ is.after) (is.before ++ is.other ∷ is.after) other is.lines_are is.replaced_are
-    (swapped is.before is.after is.line is.other other (has_no_other is.line name other is.named differ) (ap (λ (l : FieldLine). has_name other l) is.becomes ∙ none))
 
 pub keeps_others_than_host : (text other : List ℕ) (lines replaced : List FieldLine) → IsOtherHost text lines replaced → other ≢ codes "host" → HasSameValues lines replaced other
 keeps_others_than_host text other lines replaced is differ =

@@ -1,5 +1,5 @@
 -- What holds or not.
-use Rattle.std.proofs.Common.{◌≡◌, ◌⊎◌, ◌↔◌, ℕ, Bool, true, false, IsTrue, IsFalse, Option, Some, None, IfNone, Result, Ok, Err, IfOk, List, [], ◌∷◌, refl, sym, inl, inr}
+use Rattle.std.proofs.Common.{◌≡◌, ◌⊎◌, ◌↔◌, ℕ, Bool, true, false, IsTrue, IsFalse, Option, Some, None, IfNone, List, [], ◌∷◌, refl, sym, inl, inr}
 use Rattle.std.specs.List.{All}
 use Rattle.std.specs.Str.{bytes_eq}
 use Rattle.std.proofs.lemmas.Bool.{cases_Bool, false≢true}
@@ -44,11 +44,6 @@ all_or_not P each (x ∷ xs) = elim (each x) [
   ]
 ]
 
--- what is said of no value, in other words
-pub said_of_none : {A P Q : Type 0} (o : Option A) → (P → Q) → IfNone o P → IfNone o Q
-said_of_none None gives holds = gives holds
-said_of_none (Some a) gives holds = holds
-
 pub same_tests : (P Q R : Type 0) → P ↔ Q → Q ↔ R → P ↔ R
 same_tests P Q R a b = (λ p. b.0 (a.0 p), λ r. a.1 (b.1 r))
 
@@ -58,7 +53,3 @@ never_true P never = (λ e. absurd (false≢true e), λ p. absurd (never p))
 pub if_none : {A P : Type 0} (o : Option A) → P → IfNone o P
 if_none None holds = holds
 if_none (Some a) holds = tt
-
-pub if_ok : {A E : Type 0} (P Q : A → Type 0) (result : Result A E) → ((a : A) → P a → Q a) → IfOk result P → IfOk result Q
-if_ok P Q (Ok a) gives holds = gives a holds
-if_ok P Q (Err e) gives holds = tt

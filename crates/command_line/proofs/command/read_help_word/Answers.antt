@@ -5,13 +5,13 @@ use Rattle.command_line.proofs.command.read_help_word.Goals as goal
 pub returns-in_default-clause-some : goal.returns-in_default-clause-some
 returns-in_default-clause-some c = help_alone (map string_bytes c.args.words.now) c.in_default.ensures.none
 
-pub returns-in_default-of_word-clause-none : goal.returns-in_default-of_word-clause-none
-returns-in_default-of_word-clause-none c =
-    no_topic (map string_bytes c.args.words.now) c.in-Some.name.now (map string_bytes c.in-Some.others.now) c.in-Some.ensures.some (sym c.in_default-of_word.ensures)
+pub returns-in_err-command-clause-none : goal.returns-in_err-command-clause-none
+returns-in_err-command-clause-none c = rw c.from_residual.ensures
+    (no_topic (map string_bytes c.args.words.now) c.in-Some.name.now (map string_bytes c.in-Some.others.now) c.in-Some.ensures.some (sym c.in_err-command.ensures))
 
 pub returns-in-None-clause-some : goal.returns-in-None-clause-some
 returns-in-None-clause-some c =
-    help_of (map string_bytes c.args.words.now) c.in-Some.name.now (map string_bytes c.in-Some.others.now) c.in-Some-of_word.command c.in-Some.ensures.some c.in-None.ensures.none (sym c.in-Some-of_word.ensures)
+    help_of (map string_bytes c.args.words.now) c.in-Some.name.now (map string_bytes c.in-Some.others.now) c.in_ok-command.command c.in-Some.ensures.some c.in-None.ensures.none (sym c.in_ok-command.ensures)
 
 pub returns-in-Some-first_of-clause-none : goal.returns-in-Some-first_of-clause-none
 returns-in-Some-first_of-clause-none c =

@@ -15,16 +15,16 @@ returns-in_default-count_of-clause-some c seed n is =
     subst (λ (words : List (List ℕ)). IsWordsFault (codes "sample" ∷ seed ∷ words) (Some Sample) BadCount words) (sym c.in-Some.ensures.some)
     (bad_count seed c.in-Some.count.now n (map string_bytes c.in-Some.after.now) is c.in_default-count_of.ensures.none)
 
-pub returns-in_default-first_of-clause-none : goal.returns-in_default-first_of-clause-none
-returns-in_default-first_of-clause-none c seed n is =
-    let end = c.in_default-first_of.ensures.none in
+pub returns-in_err-first_of-clause-none : goal.returns-in_err-first_of-clause-none
+returns-in_err-first_of-clause-none c = rw c.from_residual.ensures (λ seed n is.
+    let end = c.in_err-first_of.ensures.none in
     subst (λ (words : List (List ℕ)). AreCommand (codes "sample" ∷ seed ∷ words)) (sym c.in-Some.ensures.some)
     (subst (λ (words : List (List ℕ)). AreCommand (codes "sample" ∷ seed ∷ c.in-Some.count.now ∷ words)) (sym end)
-    (sample_whole seed c.in-Some.count.now n _ is c.in-Some-count_of.ensures.some))
+    (sample_whole seed c.in-Some.count.now n _ is c.in-Some-count_of.ensures.some)))
 
 pub returns-clause-some : goal.returns-clause-some
 returns-clause-some c seed n is =
-    let rest = c.in-Some-first_of.ensures.some in
+    let rest = c.in_ok-first_of.ensures.some in
     subst (λ (words : List (List ℕ)). IsWordsFault (codes "sample" ∷ seed ∷ words) (Some Sample) LeftOver (map string_bytes c.in-Some.after.now)) (sym c.in-Some.ensures.some)
     (subst (λ (words : List (List ℕ)). IsWordsFault (codes "sample" ∷ seed ∷ c.in-Some.count.now ∷ words) (Some Sample) LeftOver words) (sym rest)
     (sample_left_over seed c.in-Some.count.now _ n _ _ is c.in-Some-count_of.ensures.some))

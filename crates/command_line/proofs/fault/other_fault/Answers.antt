@@ -16,15 +16,15 @@ returns-then-not-is_text_name-clause-some c =
     subst (λ (words : List (List ℕ)). IsWordsFault words None NoCommand words) (sym c.in-Some.ensures.some)
     (no_command c.in-Some.name.now (map string_bytes c.in-Some.others.now) (rw c.in-Some.ensures.some at c.requires) (sym c.if-eq.ensures) (sym c.if-not-is_text_name.ensures))
 
-pub returns-in_default-first_of-clause-none : goal.returns-in_default-first_of-clause-none
-returns-in_default-first_of-clause-none c =
-    let end = c.in_default-first_of.ensures.none in
-    subst (λ (words : List (List ℕ)). AreCommand words) (sym c.in-Some.ensures.some)
-    (subst (λ (words : List (List ℕ)). AreCommand (c.in-Some.name.now ∷ words)) (sym end) (text_command c.in-Some.name.now (sym c.if-not-is_text_name.ensures)))
+pub returns-in_err-first_of-clause-none : goal.returns-in_err-first_of-clause-none
+returns-in_err-first_of-clause-none c =
+    let end = c.in_err-first_of.ensures.none in
+    rw c.from_residual.ensures (subst (λ (words : List (List ℕ)). AreCommand words) (sym c.in-Some.ensures.some)
+    (subst (λ (words : List (List ℕ)). AreCommand (c.in-Some.name.now ∷ words)) (sym end) (text_command c.in-Some.name.now (sym c.if-not-is_text_name.ensures))))
 
 pub returns-clause-some : goal.returns-clause-some
 returns-clause-some c =
-    let rest = c.in-Some-first_of.ensures.some in
+    let rest = c.in_ok-first_of.ensures.some in
     subst (λ (words : List (List ℕ)). IsWordsFault words None LeftOver (map string_bytes c.in-Some.others.now)) (sym c.in-Some.ensures.some)
     (subst (λ (words : List (List ℕ)). IsWordsFault (c.in-Some.name.now ∷ words) None LeftOver words) (sym rest)
     (text_left_over c.in-Some.name.now _ _ (rw c.in-Some.ensures.some at c.requires) (sym c.if-eq.ensures) (sym c.if-not-is_text_name.ensures)))

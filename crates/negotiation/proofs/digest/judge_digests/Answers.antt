@@ -27,14 +27,14 @@ returns-in-Malformed c =
 pub returns-then-is_none : goal.returns-then-is_none
 returns-then-is_none c =
     let response = message_of c.args.response.now in
-    let none : value_of c.in-Dict.dict (key_of c.in-Some.algorithm) ≡ None = rw (← c.key.ensures) (sym c.find.ensures ∙ nothing c.find.result (c.is_none.ensures ∙ ap not c.if-is_none.true)) in
-    rw c.in-Some.is (none_by response c.in-Some.algorithm c.in-Dict.dict (subst (λ (f : DictField). IsFieldOf response digest_name f) c.in-Dict.is c.in_ok-read_field.ensures) none)
+    let none : value_of c.in-Dict.digests (key_of c.in-Some.algorithm) ≡ None = rw (← c.key.ensures) (sym c.find.ensures ∙ nothing c.find.result (c.is_none.ensures ∙ ap not c.if-is_none.true)) in
+    rw c.in-Some.is (none_by response c.in-Some.algorithm c.in-Dict.digests (subst (λ (f : DictField). IsFieldOf response digest_name f) c.in-Dict.is c.in_ok-read_field.ensures) none)
 
 pub returns-then-branch : goal.returns-then-branch
 returns-then-branch c =
     let response = message_of c.args.response.now in
     let found = something c.find.result (c.is_none.ensures ∙ ap not c.if-is_none.false) in
-    let there : value_of c.in-Dict.dict (key_of c.in-Some.algorithm) ≡ Some found.0 = rw (← c.key.ensures) (sym c.find.ensures ∙ found.1) in
+    let there : value_of c.in-Dict.digests (key_of c.in-Some.algorithm) ≡ Some found.0 = rw (← c.key.ensures) (sym c.find.ensures ∙ found.1) in
     rw c.in-Some.is
-    (right response c.in-Some.algorithm c.in-Dict.dict (subst (λ (f : DictField). IsFieldOf response digest_name f) c.in-Dict.is c.in_ok-read_field.ensures) found.0 there
-    (c.in_ok-has_right_digests.ensures.0 c.if-branch.true))
+    (right response c.in-Some.algorithm c.in-Dict.digests (subst (λ (f : DictField). IsFieldOf response digest_name f) c.in-Dict.is c.in_ok-read_field.ensures) found.0 there
+    (c.in_ok-are_right.ensures.0 c.if-branch.true))
