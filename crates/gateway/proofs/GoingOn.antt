@@ -17,10 +17,10 @@ use Rattle.recording.specs.declared.reader.ReaderStage.{ReaderStage}
 use Rattle.recording.specs.declared.reader.ReaderStage.TheVariants.{Items}
 use Rattle.gateway.specs.Records.{is_pass}
 use Rattle.gateway.specs.RecordTexts.{record_text, records_text}
-use Rattle.gateway.specs.Streams.{IsNeeded, LeadTo, MeetsBody, MeetsItem, RelatedRequest, StreamState, stream_begin}
+use Rattle.gateway.specs.Streams.{LeadTo, MeetsBody, MeetsItem, RelatedRequest, StreamState, stream_begin}
 use Rattle.gateway.specs.declared.gateway_record.GatewayRecord.{GatewayRecord}
 use Rattle.gateway.specs.tools.HeldStreams.{CanMeet, CanMeetBody, HeldStream, MeetsAndWrites, added, state_with}
-use Rattle.gateway.proofs.ServedSoFar.{AreRead, AreServed, MayRead, begins_read}
+use Rattle.gateway.proofs.ServedSoFar.{AreRead, AreServed, IsNeededLast, MayRead, begins_read}
 use Rattle.gateway.proofs.ItemsRead.{IsAllowed, last_allowed, last_is_below, last_more, later, open_more}
 
 -- ---- reading
@@ -29,8 +29,8 @@ items_go : (stage : ReaderStage) → stage ≡ Items → MayRead stage
 items_go stage is = record { no_end = λ e. absurd (cc (e, is)); no_fault = λ fault e. absurd (cc (e, is)) }
 
 -- no more than the next item needs was read
-needed_more : (before now : Option (List ℕ)) (items : List PlacedItem) (next : PlacedItem) (text more : List ℕ) → ReadsNeeded before now items text more → (text ≡ []) ⊎ IsNeeded items text
-    → (text ++ more ≡ []) ⊎ IsNeeded (items ++ next ∷ []) (text ++ more)
+needed_more : (before now : Option (List ℕ)) (items : List PlacedItem) (next : PlacedItem) (text more : List ℕ) → ReadsNeeded before now items text more → (text ≡ []) ⊎ IsNeededLast items text
+    → (text ++ more ≡ []) ⊎ IsNeededLast (items ++ next ∷ []) (text ++ more)
 needed_more before now items next text more reads old = elim reads.needed [
   | inl none ↦ elim old [
     | inl empty ↦ inl (cc (none, empty))
@@ -38,20 +38,26 @@ needed_more before now items next text more reads old = elim reads.needed [
       before = items;
       last = next;
       items_are = refl;
-      earlier = need.earlier;
-      piece = need.piece;
-      joined = ap (λ (l : List ℕ). text ++ l) none ∙ append-nil text ∙ need.joined;
-      not_yet = subst (λ (l : List PlacedItem). IsOpen l need.earlier) (sym need.items_are) (open_more need.before need.last need.earlier need.not_yet);
+      needed = record {
+        earlier = need.needed.earlier;
+        piece = need.needed.piece;
+        joined = ap (λ (l : List ℕ). text ++ l) none ∙ append-nil text ∙ need.needed.joined;
+        few = need.needed.few;
+        not_yet = subst (λ (l : List PlacedItem). IsOpen l need.needed.earlier) (sym need.items_are) (open_more need.before need.last need.needed.earlier need.needed.not_yet);
+      };
     })
   ]
   | inr last ↦ inr (record {
     before = items;
     last = next;
     items_are = refl;
-    earlier = text ++ last.0;
-    piece = last.1;
-    joined = ap (λ (l : List ℕ). text ++ l) last.2 ∙ sym (append_assoc text last.0 last.1);
-    not_yet = last.3;
+    needed = record {
+      earlier = text ++ last.0;
+      piece = last.1;
+      joined = ap (λ (l : List ℕ). text ++ l) last.2 ∙ sym (append_assoc text last.0 last.1);
+      few = last.4;
+      not_yet = last.3;
+    };
   })
 ]
 

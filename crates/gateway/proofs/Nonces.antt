@@ -19,10 +19,10 @@ use Rattle.verdicts.specs.Parameters.{nonce_of}
 use Rattle.verdicts.specs.Verdicts.{Accepts}
 use Rattle.gateway.specs.Accepted.{verification_seen}
 use Rattle.gateway.specs.Arrivals.{Arrival}
-use Rattle.gateway.specs.Laws.{AcceptsEntry, IsNoNonceTwice, LeadOn}
+use Rattle.gateway.specs.Laws.{AcceptsEntry, IsNoNonceTwice}
 use Rattle.gateway.specs.Records.{GatewayState, IsRecordOf}
 use Rattle.gateway.specs.Seen.{IsAdvanced}
-use Rattle.gateway.specs.Streams.{AddsRecord, MeetsBody, RelatedRequest, StreamState, stream_begin}
+use Rattle.gateway.specs.Streams.{AddsRecord, LeadOn, MeetsBody, RelatedRequest, StreamState, stream_begin}
 use Rattle.gateway.specs.declared.gateway_record.GatewayRecord.{GatewayRecord}
 use Rattle.gateway.specs.declared.gateway_record.GatewayRecord.TheVariants.{Pass, Stop, Held, Bad}
 use Rattle.gateway.proofs.Remembering.{new_nonce, remembered_stay}

@@ -1,5 +1,6 @@
 -- How a stream ends that was served so far.
 use Rattle.std.proofs.Common.{◌≡◌, ◌⊎◌, ◌<◌, inl, inr, ℕ, Bool, false, List, [], ◌∷◌, ◌++◌, length, Option, None, Ok, Err, refl, sym, ap, subst, arith, length-append}
+use Rattle.std.proofs.lemmas.List.{same_from_push}
 use Rattle.std.proofs.KnownBytes.{Appends-kept, Appends-nil, Consumes-nil, Consumes-trans}
 use Rattle.settings.specs.Configuration.{Configuration}
 use Rattle.settings.specs.declared.gateway_conf.GatewayConf.{GatewayConf}
@@ -15,7 +16,7 @@ use Rattle.gateway.specs.declared.fault.StreamFault.{StreamFault}
 use Rattle.gateway.specs.declared.fault.StreamFault.TheVariants as fault
 use Rattle.gateway.specs.declared.gateway_record.GatewayRecord.{GatewayRecord}
 use Rattle.gateway.specs.tools.HeldStreams.{HeldStream, MeetsAndWrites, SaysFinished, state_with}
-use Rattle.gateway.proofs.ServedSoFar.{AreRead, AreServed, Begins, begins_read}
+use Rattle.gateway.proofs.ServedSoFar.{AreRead, AreServed, Begins, IsNeededLast, begins_read}
 use Rattle.gateway.proofs.ItemsRead.{begins_more, begins_shorter, not_empty}
 use Rattle.gateway.proofs.GoingOn.{leads_more}
 
@@ -120,9 +121,9 @@ module _ (conf : Configuration) (settings : GatewayConf) (left left_now taken ta
   served_before : IsServedTo conf settings r.text items (state_with stream s.records)
   served_before = record { begins = begins_shorter r.text items next (begins_read reader (items ++ next ∷ []) r.text r.has_read); few = omega (arith, size); leads = s.leads }
 
-  needed_for : (r.text ≡ []) ⊎ IsNeeded (items ++ next ∷ []) r.text → IsNeeded (items ++ next ∷ []) r.text
+  needed_for : (r.text ≡ []) ⊎ IsNeededLast (items ++ next ∷ []) r.text → IsNeeded items r.text
   needed_for (inl empty) = absurd (not_empty r.text items next (begins_read reader (items ++ next ∷ []) r.text r.has_read) empty)
-  needed_for (inr needed) = needed
+  needed_for (inr own) = subst (λ (l : List PlacedItem). IsNeeded l r.text) (sym (same_from_push items own.before next own.last own.items_are).0) own.needed
 
   out_of_place : (own : ℕ) → own ≡ next.offset → ((records : List GatewayRecord) (after : StreamState) → MeetsItem stream.conf settings (state_with stream records) next after → ⊥) → Begins r.text (items ++ next ∷ [])
       → IsOutOfPlace conf settings r.text left_now items (state_with stream s.records) own
@@ -134,14 +135,25 @@ module _ (conf : Configuration) (settings : GatewayConf) (left left_now taken ta
       (s.records, record { items = items; state = state_with stream s.records; served = served_before; records_are = refl; why = tt }, Appends-kept taken taken_now taken_new (records_text s.records) s.written keeps)
   broken fault.NotRead ((is, none), keeps) = absurd (cc is)
   broken fault.NotWritten (answer, adds, part) =
-      let records = s.records ++ answer ∷ [] in (
+      let records = s.records ++ answer ∷ [] in
+      let meets = adds.2 s.records s.count in (
         records,
         record {
           items = items ++ next ∷ [];
           state = state_with new records;
-          served = record { begins = begins_read reader (items ++ next ∷ []) r.text r.has_read; few = omega (arith, r.few, r.has_read.count); leads = leads_more conf settings stream s.records items next (state_with new records) s.conf_is s.leads (adds.2 s.records s.count) };
+          served = record { begins = begins_read reader (items ++ next ∷ []) r.text r.has_read; few = omega (arith, r.few, r.has_read.count); leads = leads_more conf settings stream s.records items next (state_with new records) s.conf_is s.leads meets };
           records_are = refl;
-          why = needed_for r.needed;
+          why = record {
+            before = items;
+            last = next;
+            items_are = refl;
+            known = state_with stream s.records;
+            leads = s.leads;
+            meets = subst (λ (k : Configuration). MeetsItem k settings (state_with stream s.records) next (state_with new records)) s.conf_is meets;
+            record_ = answer;
+            records_are = refl;
+            needed = needed_for r.needed;
+          };
         },
         record { earlier = s.records; last = answer; records_are = refl; between = taken_now; whole = s.written; part = part },
       )

@@ -1,5 +1,5 @@
 -- How far a stream was read and served. The items that were read are those that were met, or one more.
-use Rattle.std.proofs.Common.{◌≡◌, ◌⊎◌, ◌≤◌, inl, inr, ℕ, Bool, true, List, [], length, Option, refl, sym, subst, arith}
+use Rattle.std.proofs.Common.{◌≡◌, ◌⊎◌, ◌≤◌, inl, inr, ℕ, Bool, true, List, [], ◌∷◌, ◌++◌, length, Option, refl, sym, subst, arith}
 use Rattle.std.proofs.KnownBytes.{Appends-nil, Consumes-nil}
 use Rattle.std.specs.Io.KnownBytes.{Appends, Consumes}
 use Rattle.std.specs.List.{list_all}
@@ -23,6 +23,13 @@ pub record MayRead (stage : ReaderStage) : Type 0 where
   pub no_end : stage ≡ End → ⊥
   pub no_fault : (fault : ItemFault) → stage ≡ Refused fault → ⊥
 
+-- no more was read than the last of the items needs
+pub record IsNeededLast (items : List PlacedItem) (text : List ℕ) : Type 0 where
+  pub before : List PlacedItem
+  pub last : PlacedItem
+  pub items_are : items ≡ before ++ last ∷ []
+  pub needed : IsNeeded before text
+
 -- the items were read of the source, and no more than the last of them needs
 pub record AreRead (left left_now : Option (List ℕ)) (reader : ReaderState) (items : List PlacedItem) : Type 0 where
   pub text : List ℕ
@@ -30,7 +37,7 @@ pub record AreRead (left left_now : Option (List ℕ)) (reader : ReaderState) (i
   pub going : MayRead reader.stage
   pub few : reader.count ≤ MAX_ITEMS
   pub consumed : Consumes left left_now text
-  pub needed : (text ≡ []) ⊎ IsNeeded items text
+  pub needed : (text ≡ []) ⊎ IsNeededLast items text
 
 -- the items lead to this stream, and their records were written
 pub record AreServed (conf : Configuration) (settings : GatewayConf) (taken taken_now : Option (List ℕ)) (stream : HeldStream) (all_pass : Bool) (items : List PlacedItem) : Type 0 where

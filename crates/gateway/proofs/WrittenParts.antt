@@ -15,7 +15,7 @@ use Rattle.gateway.specs.declared.fault.StreamFault.{StreamFault}
 use Rattle.gateway.specs.declared.fault.StreamFault.TheVariants as fault
 use Rattle.gateway.specs.declared.gateway_record.GatewayRecord.{GatewayRecord}
 use Rattle.gateway.specs.declared.gateway_record.GatewayRecord.TheVariants.{Pass}
-use Rattle.gateway.specs.tools.HeldStreams.{HeldStream, MeetsAndWrites, SaysMet, WritesText}
+use Rattle.gateway.specs.tools.HeldStreams.{HeldStream, MeetsAndWrites, SaysItemMet, WritesText}
 
 -- a part of the first of two
 pub part_first : (a b : Option (List ℕ)) (first second : List ℕ) → AppendsPart a b first → AppendsPart a b (first ++ second)
@@ -62,7 +62,7 @@ failed_once before now result is once = as_fault (λ (r : Result Bool StreamFaul
 
 -- the record of a message that is met was written
 pub met_written : (settings : GatewayConf) (old new : HeldStream) (item : PlacedItem) (answer : GatewayRecord) (before now : Option (List ℕ)) (result : Result Bool StreamFault)
-    → SaysMet settings old new item (Ok (Some answer)) → WritesText (record_text answer) before now result → IfOk result (λ passes. passes ≡ is_pass answer) → MeetsAndWrites settings old new item before now result
+    → SaysItemMet settings old new item (Ok (Some answer)) → WritesText (record_text answer) before now result → IfOk result (λ passes. passes ≡ is_pass answer) → MeetsAndWrites settings old new item before now result
 met_written settings old new item answer before now (Ok passes) met writes is = (Some answer, met, subst (Appends before now) (sym (append-nil (record_text answer))) writes, is ∙ sym (and-true (is_pass answer)))
 met_written settings old new item answer before now (Err fault.Memory) met writes is = (tt, writes.1)
 met_written settings old new item answer before now (Err fault.NotRead) met writes is = absurd (cc (writes.0))

@@ -1,6 +1,5 @@
 -- Laws of gateways.
 use Rattle.std.specs.Prelude.{◌≡◌, ◌<◌, ◌≤◌, ℕ, Some, List, ◌∷◌, ◌++◌, length}
-use Rattle.std.specs.List.{FoldsTo}
 use Rattle.std.specs.List.Sorted.{IsNonDecreasing}
 use Rattle.msg_body.specs.Messages.{Message, Spells}
 use Rattle.component_ids.specs.declared.params.SigParams.{SigParams}
@@ -22,7 +21,7 @@ use Rattle.gateway.specs.Accepted.{verification_seen}
 use Rattle.gateway.specs.Arrivals.{Arrival, IsRead, IsSized}
 use Rattle.gateway.specs.Records.{GatewayState, IsLetIn, IsRecordOf}
 use Rattle.gateway.specs.Seen.{HasBecome, IsEntryOf, Remembers}
-use Rattle.gateway.specs.Streams.{AddsRecord, IsServed, LeadTo, MeetsItem, StreamState}
+use Rattle.gateway.specs.Streams.{AddsRecord, IsServed, LeadOn, LeadTo, MeetsItem, StreamState}
 use Rattle.gateway.specs.declared.gateway_record.GatewayRecord.{GatewayRecord}
 use Rattle.gateway.specs.declared.gateway_record.GatewayRecord.TheVariants.{Pass}
 
@@ -113,12 +112,6 @@ IsOwnLabelRight =
     (context_with context passed) ready.sign.label) ready.sign.keyid
 
 -- ---- nonces
-
--- the items lead from one state to the other
-abbrev pub LeadOn : Configuration → GatewayConf → StreamState → List PlacedItem → StreamState
-    → Type 0
-LeadOn conf settings before items after =
-    FoldsTo (λ before item after. MeetsItem conf settings before item after) before items after
 
 -- At this item a message comes whose label is accepted, by what was seen before it, whether it
 -- passes or is held; and its nonce is remembered by this entry.

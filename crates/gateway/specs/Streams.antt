@@ -10,6 +10,7 @@ use Rattle.recording.specs.declared.item.Role.TheVariants.{Request, Response, Re
 use Rattle.recording.specs.declared.item_fault.ItemFault.{ItemFault}
 use Rattle.recording.specs.declared.item_fault.ItemFault.TheVariants as fault
 use Rattle.recording.specs.declared.limits.TheConstants.{MAX_ITEMS}
+use Rattle.recording.specs.declared.reader.TheConstants.{MAX_PIECE_BYTES}
 use Rattle.settings.specs.Configuration.{Configuration}
 use Rattle.settings.specs.declared.gateway_conf.GatewayConf.{GatewayConf}
 use Rattle.gateway.specs.Arrivals.{Arrival}
@@ -75,11 +76,15 @@ abbrev pub MeetsItem : Configuration → GatewayConf → StreamState → PlacedI
 MeetsItem conf settings before item after =
     MeetsBody conf settings before before.related item.offset item.body after
 
--- the items lead from the begin to this
+-- the items lead from one state to the other
+abbrev pub LeadOn : Configuration → GatewayConf → StreamState → List PlacedItem → StreamState
+    → Type 0
+LeadOn conf settings before items after =
+    FoldsTo (λ before item after. MeetsItem conf settings before item after) before items after
+
+-- the items lead from the beginning to this
 abbrev pub LeadTo : Configuration → GatewayConf → List PlacedItem → StreamState → Type 0
-LeadTo conf settings items after =
-    FoldsTo (λ before item after. MeetsItem conf settings before item after) (stream_begin conf)
-    items after
+LeadTo conf settings items after = LeadOn conf settings (stream_begin conf) items after
 
 -- ---- the whole stream
 
@@ -101,23 +106,35 @@ pub record IsServed (conf : Configuration) (settings : GatewayConf) (text : List
   pub related : state.related ≡ None
   pub records_are : state.records ≡ records
 
--- the stream begins with these items, or with none of it, and they lead to this
+-- there are no items yet, or the stream begins with them, and they lead to this
 pub record IsServedTo (conf : Configuration) (settings : GatewayConf) (text : List ℕ)
     (items : List PlacedItem) (state : StreamState) : Type 0 where
   pub begins : (items ≡ []) ⊎ ((rest : List ℕ) × BeginsWithItems text items rest)
   pub few : length items ≤ MAX_ITEMS
   pub leads : LeadTo conf settings items state
 
--- No more was read than the last of these items needs: before the last piece that was read there
--- was neither that item nor a fault.
+-- No more was read than the item after these needs: without its last piece, which is no longer than
+-- the pieces that are read, the text holds neither that item nor a fault.
 pub record IsNeeded (items : List PlacedItem) (text : List ℕ) : Type 0 where
-  pub before : List PlacedItem
-  pub last : PlacedItem
-  pub items_are : items ≡ before ++ last ∷ []
   pub earlier : List ℕ
   pub piece : List ℕ
   pub joined : text ≡ earlier ++ piece
-  pub not_yet : IsOpen before earlier
+  pub few : length piece ≤ MAX_PIECE_BYTES
+  pub not_yet : IsOpen items earlier
+
+-- The last of these items is a message, whose record is the last one: the state before it has all
+-- the records but that. No more was read than this item needs.
+pub record IsAtRecord (conf : Configuration) (settings : GatewayConf) (text : List ℕ)
+    (items : List PlacedItem) (state : StreamState) : Type 0 where
+  pub before : List PlacedItem
+  pub last : PlacedItem
+  pub items_are : items ≡ before ++ last ∷ []
+  pub known : StreamState
+  pub leads : LeadTo conf settings before known
+  pub meets : MeetsItem conf settings known last state
+  pub record_ : GatewayRecord
+  pub records_are : state.records ≡ known.records ++ record_ ∷ []
+  pub needed : IsNeeded before text
 
 -- The next item, which isn't one too many, isn't in its place, and its line is at this offset; or
 -- the stream ends after the related request whose line is there. This is left of the source.
@@ -132,14 +149,15 @@ IsOutOfPlace conf settings text left items state offset =
     × (state.related ≡ Some request) × (offset ≡ request.offset))
 
 -- Why the stream isn't served further than these items, where this text was read and this is left.
--- A read fails where there is no further item. A write fails at the record of the last item, when
--- no more was read than that needs. The text is no recording, whatever comes, or it ends there. An
+-- A read fails where there is no further item. A write fails at the record of the last item, and no
+-- more was read than that needs. The text is no recording, whatever comes, or it ends there. An
 -- item is out of its place, or one too many. Out of memory nothing is said.
 abbrev pub IsStreamFault : Configuration → GatewayConf → List ℕ → Option (List ℕ)
     → List PlacedItem → StreamState → StreamFault → Type 0
 IsStreamFault conf settings text left items state Memory = ⊤
 IsStreamFault conf settings text left items state NotRead = IsOpen items text
-IsStreamFault conf settings text left items state NotWritten = IsNeeded items text
+IsStreamFault conf settings text left items state NotWritten =
+    IsAtRecord conf settings text items state
 IsStreamFault conf settings text left items state (Recording fault) =
     IsFaultSoFar text items fault × (IsFaultFrom text fault ⊎ IsAtEnd left)
 IsStreamFault conf settings text left items state (OutOfPlace offset) =

@@ -49,7 +49,7 @@ impl<'c> Model for Gateway<'c> {
     ghost use Rattle.settings.specs.ConfMeaning.{meaning};
     ghost use Rattle.settings.specs.tools.KeyEntries.{keys_code};
     ghost use Rattle.gateway.specs.Records.{GatewayState};
-    ghost use Rattle.gateway.specs.tools.Held.{IsHeldFor};
+    ghost use Rattle.gateway.specs.tools.Held.{IsGatewayHeld};
 
     ghost Value = { GatewayState };
 
@@ -58,7 +58,7 @@ impl<'c> Model for Gateway<'c> {
     ghost view = { λ g. record { conf = meaning g.conf.now; seen = g.book; count = g.count } };
 
     // The configuration has both tables, and the book is as its policy says.
-    ghost invariant = { λ g. IsHeldFor (meaning g.conf.now) g.book };
+    ghost invariant = { λ g. IsGatewayHeld (meaning g.conf.now) g.book };
 }
 
 /// How the message is read.

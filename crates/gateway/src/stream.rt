@@ -7,7 +7,7 @@ ghost use Rattle.recording.specs.declared.limits.TheConstants.{MAX_ITEMS};
 ghost use Rattle.settings.specs.ConfMeaning.{meaning};
 ghost use Rattle.settings.specs.declared.gateway_conf.GatewayConf.{GatewayConf};
 ghost use Rattle.gateway.specs.Arrivals.{IsSized, arrival_of};
-ghost use Rattle.gateway.specs.tools.HeldStreams.{AnswersInRange, CanMeet, SaysAdded, SaysFinished, SaysFree, SaysMet, answered, answered_by, stream_held};
+ghost use Rattle.gateway.specs.tools.HeldStreams.{AnswersInRange, CanMeet, SaysAdded, SaysFinished, SaysFree, SaysItemMet, answered, answered_by, stream_held};
 
 use crate::arrival::Arrival;
 use crate::fault::StreamFault;
@@ -152,7 +152,7 @@ impl<'c> Stream<'c> {
     ) -> Result<Option<GatewayRecord>, StreamFault>
         requires { CanMeet self.old (placed item) }
         ensures met { (settings : GatewayConf) → self.old.conf.gateway ≡ Some settings
-            → SaysMet settings self.old self.new (placed item.entry) result }
+            → SaysItemMet settings self.old self.new (placed item.entry) result }
         ensures in_range { AnswersInRange result }
     {
         match item.body {

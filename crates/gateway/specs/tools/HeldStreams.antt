@@ -111,12 +111,12 @@ answered related text = record {
 }
 
 -- what comes of the item: it is met, or isn't in its place
-abbrev pub SaysMet : GatewayConf → HeldStream → HeldStream → PlacedItem
+abbrev pub SaysItemMet : GatewayConf → HeldStream → HeldStream → PlacedItem
     → Result (Option GatewayRecord) StreamFault → Type 0
-SaysMet settings old new item (Ok answer) = AddsTo
+SaysItemMet settings old new item (Ok answer) = AddsTo
     (λ before after. MeetsItem old.conf settings before item after) old new answer
-SaysMet settings old new item (Err Memory) = ⊤
-SaysMet settings old new item (Err fault) = (fault ≡ OutOfPlace item.offset)
+SaysItemMet settings old new item (Err Memory) = ⊤
+SaysItemMet settings old new item (Err fault) = (fault ≡ OutOfPlace item.offset)
     × ((records : List GatewayRecord) (after : StreamState)
     → ¬ MeetsItem old.conf settings (state_with old records) item after)
 
@@ -146,9 +146,9 @@ WritesText text before now (Err fault) = (fault ≡ Memory) × Keeps before now
 abbrev pub MeetsAndWrites : GatewayConf → HeldStream → HeldStream → PlacedItem
     → Option (List ℕ) → Option (List ℕ) → Result Bool StreamFault → Type 0
 MeetsAndWrites settings old new item taken now (Ok passes) = (answer : Option GatewayRecord)
-    × SaysMet settings old new item (Ok answer) × Appends taken now (records_text (added answer))
+    × SaysItemMet settings old new item (Ok answer) × Appends taken now (records_text (added answer))
     × (passes ≡ list_all is_pass (added answer))
 MeetsAndWrites settings old new item taken now (Err NotWritten) = (answer : GatewayRecord)
-    × SaysMet settings old new item (Ok (Some answer)) × AppendsPart taken now (record_text answer)
+    × SaysItemMet settings old new item (Ok (Some answer)) × AppendsPart taken now (record_text answer)
 MeetsAndWrites settings old new item taken now (Err fault) =
-    SaysMet settings old new item (Err fault) × Keeps taken now
+    SaysItemMet settings old new item (Err fault) × Keeps taken now
