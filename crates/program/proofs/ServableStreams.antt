@@ -1,7 +1,9 @@
 -- A stream of messages in their places isn't refused.
-use Rattle.std.proofs.Common.{◌≡◌, ◌≤◌, ◌+◌, ◌++◌, ◌∙◌, inl, inr, arith, ℕ, List, [], ◌∷◌, Bool, Option, Some, None, Result, Ok, Err, length, refl, sym, ap, subst}
+use Rattle.std.proofs.Common.{◌≡◌, ◌⊎◌, ◌≤◌, ◌+◌, ◌++◌, ◌∙◌, inl, inr, arith, ℕ, List, [], ◌∷◌, Bool, true, false, Option, Some, None, Result, Ok, Err, length, refl, sym, ap, subst}
 use Rattle.std.specs.Prelude.{IfSome}
-use Rattle.std.specs.List.{All, FoldsTo}
+use Rattle.std.specs.Io.KnownBytes.{Appends, Keeps}
+use Rattle.std.specs.List.{All, FoldsTo, list_all}
+use Rattle.std.proofs.KnownBytes.{Appends-kept, Appends-nil}
 use Rattle.std.proofs.lemmas.List.{append_assoc, append-nil, length-append}
 use Rattle.std.proofs.lemmas.List.Elements.{All-head, All-tail}
 use Rattle.hms_io.specs.declared.status.Status.{Status}
@@ -23,9 +25,10 @@ use Rattle.settings.specs.declared.gateway_conf.GatewayConf.{GatewayConf}
 use Rattle.settings.specs.declared.sign_conf.SignConf.{SignConf}
 use Rattle.gateway.specs.Arrivals.{Arrival, IsSized}
 use Rattle.gateway.specs.Laws.{IsReady}
-use Rattle.gateway.specs.Records.{GatewayState}
+use Rattle.gateway.specs.RecordTexts.{records_text}
+use Rattle.gateway.specs.Records.{GatewayState, is_pass}
 use Rattle.gateway.specs.Seen.{IsAdvanced}
-use Rattle.gateway.specs.Served.{Serves}
+use Rattle.gateway.specs.Served.{Serves, WritesRecords}
 use Rattle.gateway.specs.Streams.{AddsRecord, IsOutOfPlace, IsServed, IsServedUpTo, LeadTo, MeetsBody, MeetsItem, RelatedRequest, StreamState, stream_begin}
 use Rattle.gateway.specs.declared.fault.StreamFault.{StreamFault}
 use Rattle.gateway.specs.declared.fault.StreamFault.TheVariants as stream
@@ -34,14 +37,14 @@ use Rattle.refusals.specs.declared.refusal.Refusal.{Refusal}
 use Rattle.intake.specs.Files.{Found, Conf as ConfFile}
 use Rattle.intake.specs.declared.tables.Needs.TheVariants.{GatewayTables}
 use Rattle.command_line.specs.Command.{GatewayWords}
-use Rattle.program.specs.Laws.{IsServedInPlace}
+use Rattle.program.specs.Laws.{IsServedInPlace, WritesServed}
 use Rattle.refusals.specs.declared.file.FileRefusal.{FileRefusal}
 use Rattle.program.specs.Intake.{IsConfLacking}
 use Rattle.program.specs.StreamEnds.{EndsAfter, EndsBefore, refusal_in, stream_refusal, stream_status}
 use Rattle.program.proofs.CommandLaws.{conf_decided, valid_where_configured}
-use Rattle.program.proofs.GatewayLaws.{some_record}
+use Rattle.program.proofs.GatewayLaws.{one_list_of_records, served_in_one_way, some_record}
 use Rattle.program.proofs.IntakeLaws.{conf_not}
-use Rattle.program.proofs.StreamRecords.{first_of, items_early, some_sign}
+use Rattle.program.proofs.StreamRecords.{brings, first_of, items_early, some_sign}
 
 -- ---- the items of a part of a recording
 
@@ -81,6 +84,23 @@ module _ (conf : Configuration) (settings : GatewayConf) where
   met_first (item ∷ items) next more before after (between, meets, folds) =
       let later = met_first items next more between after folds in
       (later.0, (between, meets, later.1), later.2)
+
+  -- they are met up to one of them, and from there on
+  parted : (items more : List PlacedItem) (before after : StreamState) → Folds before (items ++ more) after → (middle : StreamState) × Folds before items middle × Folds middle more after
+  parted [] more before after folds = (before, refl, folds)
+  parted (item ∷ items) more before after (between, meets, folds) =
+      let later = parted items more between after folds in
+      (later.0, (between, meets, later.1), later.2)
+
+  -- records are added at the end
+  grown : (items : List PlacedItem) (before after : StreamState) → Folds before items after → (more : List GatewayRecord) × (after.records ≡ before.records ++ more)
+  grown [] before after same = ([], ap (λ (s : StreamState). s.records) (sym same) ∙ sym (append-nil before.records))
+  grown (item ∷ items) before after (next, meets, folds) =
+      let later = grown items next after folds in
+      elim (brings conf settings before next before.related item.offset item.body meets) [
+        | inl same ↦ (later.0, later.1 ∙ ap (λ (rs : List GatewayRecord). rs ++ later.0) same)
+        | inr brought ↦ (brought.1.record_ ∷ later.0, later.1 ∙ ap (λ (rs : List GatewayRecord). rs ++ later.0) brought.1.records ∙ append_assoc before.records (brought.1.record_ ∷ []) later.0)
+      ]
 
   -- ---- the request that is to be answered
 
@@ -207,6 +227,20 @@ module _ (conf : Configuration) (settings : GatewayConf) where
           let count = ap length first.1 ∙ length-append (items ++ next ∷ []) first.0 in
           omega (arith, count, length-append items (next ∷ []), many, served.few)
 
+      -- the records of its first items are the first of all
+      items_first : (items : List PlacedItem) → (items ≡ []) ⊎ ((rest : List ℕ) × BeginsWithItems text items rest) → (more : List PlacedItem) × (served.items ≡ items ++ more)
+      items_first items (inl none) = (served.items, ap (λ (is : List PlacedItem). is ++ served.items) (sym none))
+      items_first items (inr (rest, begins)) = first_items input text left items served.items rest joined begins served.spells
+
+      first_records : (fault : StreamFault) (others : List GatewayRecord) → IsServedUpTo conf settings text (Some left) others fault → (more : List GatewayRecord) × (records ≡ others ++ more)
+      first_records fault others up =
+          let more = items_first up.items up.served.begins in
+          let led : LeadTo conf settings (up.items ++ more.0) served.state = subst (λ (is : List PlacedItem). LeadTo conf settings is served.state) more.1 served.leads in
+          let parts = parted up.items more.0 (stream_begin conf) served.state led in
+          let same : parts.0.records ≡ up.state.records = one_list_of_records conf settings up.items parts.0 up.state parts.1 up.served.leads in
+          let rest = grown more.0 parts.0 served.state parts.2 in
+          (rest.0, sym served.records_are ∙ rest.1 ∙ ap (λ (rs : List GatewayRecord). rs ++ rest.0) (same ∙ up.records_are))
+
       unrefused : (fault : StreamFault) (others : List GatewayRecord) → IsServedUpTo conf settings text (Some left) others fault → stream_refusal fault ≡ None
       unrefused stream.Memory others up = refl
       unrefused stream.NotRead others up = refl
@@ -220,33 +254,63 @@ module _ (conf : Configuration) (settings : GatewayConf) where
 
 -- ---- a run
 
+all_written : (records : List GatewayRecord) (taken now : Option (List ℕ)) (all_pass : Bool) → Appends taken now (records_text records) → all_pass ≡ list_all is_pass records → WritesServed records taken now (stream_status (Ok all_pass))
+all_written records taken now true written is = (written, sym is)
+all_written records taken now false written is = (written, sym is)
+
+some_written : (records others more : List GatewayRecord) (taken now : Option (List ℕ)) (fault : StreamFault) → records ≡ others ++ more → stream_refusal fault ≡ None → WritesRecords others taken now fault
+    → WritesServed records taken now (stream_status (Err fault))
+some_written records others more taken now stream.Memory parts none written = record { first = others; rest = more; parts = parts; written = written }
+some_written records others more taken now stream.NotRead parts none written = record { first = others; rest = more; parts = parts; written = written }
+some_written records others more taken now stream.NotWritten parts none written = record { first = others; rest = more; parts = parts; written = written }
+some_written records others more taken now (stream.Recording f) parts none written = absurd (cc none)
+some_written records others more taken now (stream.OutOfPlace offset) parts none written = absurd (cc none)
+some_written records others more taken now stream.TooManyItems parts none written = absurd (cc none)
+
+-- nothing comes after the records
+ends_so : (records : List GatewayRecord) (own : Status) (taken between now : Option (List ℕ)) (status : Status) (told : Option Refusal) → WritesServed records taken between own → EndsAfter None own between now status told
+    → WritesServed records taken now status × (told ≡ None)
+ends_so records own taken between now status told written (keeps, is, none) =
+    (subst (λ (s : Status). WritesServed records taken now s) (sym is) (subst (λ (n : Option (List ℕ)). WritesServed records taken n own) (sym keeps) written), none)
+
 module _ (conf : Configuration) (settings : GatewayConf) (valid : IsValid conf) (sign : SignConf) (sign_is : conf.sign ≡ Some sign) (settings_are : conf.gateway ≡ Some settings) where
-  served_told : (input : List ℕ) (records : List GatewayRecord) → IsServed conf settings input records → (left_now taken between now : Option (List ℕ)) (status : Status) (told : Option Refusal) (served : Result Bool StreamFault)
-      → Serves conf settings (Some input) left_now taken between served → EndsAfter (refusal_in served) (stream_status served) between now status told → told ≡ None
-  served_told input records whole left_now taken between now status told (Ok all_pass) serves after = after.2
-  served_told input records whole None taken between now status told (Err fault) serves after = absurd serves.read
-  served_told input records whole (Some left) taken between now status told (Err fault) serves after =
-      let none = unrefused conf settings valid sign sign_is settings_are input serves.text left serves.read records whole fault serves.written.0 serves.written.1 in
+  served_ends : (input : List ℕ) (records : List GatewayRecord) → IsServed conf settings input records → (left_now taken between now : Option (List ℕ)) (status : Status) (told : Option Refusal) (served : Result Bool StreamFault)
+      → Serves conf settings (Some input) left_now taken between served → EndsAfter (refusal_in served) (stream_status served) between now status told → WritesServed records taken now status × (told ≡ None)
+  served_ends input records whole None taken between now status told served serves after = absurd serves.read
+  served_ends input records whole (Some left) taken between now status told (Ok all_pass) serves after =
+      let w = serves.written in
+      let all : input ≡ serves.text = serves.read ∙ ap (λ (l : List ℕ). serves.text ++ l) w.2 ∙ append-nil serves.text in
+      let same : w.0 ≡ records = served_in_one_way conf settings input w.0 records (subst (λ (t : List ℕ). IsServed conf settings t w.0) (sym all) w.1) whole in
+      let written = all_written w.0 taken between all_pass w.3 w.4 in
+      ends_so records (stream_status (Ok all_pass)) taken between now status told (subst (λ (rs : List GatewayRecord). WritesServed rs taken between (stream_status (Ok all_pass))) same written) after
+  served_ends input records whole (Some left) taken between now status told (Err fault) serves after =
+      let w = serves.written in
+      let none = unrefused conf settings valid sign sign_is settings_are input serves.text left serves.read records whole fault w.0 w.1 in
+      let first = first_records conf settings valid sign sign_is settings_are input serves.text left serves.read records whole fault w.0 w.1 in
       let ends : EndsAfter None (stream_status (Err fault)) between now status told = subst (λ (r : Option Refusal). EndsAfter r (stream_status (Err fault)) between now status told) none after in
-      ends.2
+      ends_so records (stream_status (Err fault)) taken between now status told (some_written records w.0 first.0 taken between fault first.1 none w.2) ends
+
+-- none of the records was written
+none_written : (taken now : Option (List ℕ)) → Keeps taken now → Appends taken now (records_text [])
+none_written taken now keeps = Appends-kept taken taken now [] (Appends-nil taken) keeps
 
 -- a configuration that has what is needed isn't refused
-before_told : (words : GatewayWords) (found : Found) (taken now : Option (List ℕ)) (status : Status) (told : Option Refusal) → ((cause : FileRefusal) → ¬ IsConfLacking GatewayTables (Some words.conf) (found ConfFile) cause)
-    → EndsBefore words found taken now status told → told ≡ None
-before_told words found taken now Done told not (cause, lacking, ends) = absurd (not cause lacking)
-before_told words found taken now NotOk told not (cause, lacking, ends) = absurd (not cause lacking)
-before_told words found taken now BadArguments told not (cause, lacking, ends) = absurd (not cause lacking)
-before_told words found taken now BadInput told not (cause, lacking, ends) = absurd (not cause lacking)
-before_told words found taken now ReadFault told not (keeps, none) = none
-before_told words found taken now WriteFault told not (cause, lacking, ends) = absurd (not cause lacking)
-before_told words found taken now OutOfMemory told not (keeps, none) = none
-before_told words found taken now BadConf told not (cause, lacking, ends) = absurd (not cause lacking)
-before_told words found taken now LimitPassed told not (cause, lacking, ends) = absurd (not cause lacking)
-before_told words found taken now FileMissing told not (cause, lacking, ends) = absurd (not cause lacking)
+before_ends : (records : List GatewayRecord) (words : GatewayWords) (found : Found) (taken now : Option (List ℕ)) (status : Status) (told : Option Refusal)
+    → ((cause : FileRefusal) → ¬ IsConfLacking GatewayTables (Some words.conf) (found ConfFile) cause) → EndsBefore words found taken now status told → WritesServed records taken now status × (told ≡ None)
+before_ends records words found taken now Done told not (cause, lacking, ends) = absurd (not cause lacking)
+before_ends records words found taken now NotOk told not (cause, lacking, ends) = absurd (not cause lacking)
+before_ends records words found taken now BadArguments told not (cause, lacking, ends) = absurd (not cause lacking)
+before_ends records words found taken now BadInput told not (cause, lacking, ends) = absurd (not cause lacking)
+before_ends records words found taken now ReadFault told not (keeps, none) = (record { first = []; rest = records; parts = refl; written = none_written taken now keeps }, none)
+before_ends records words found taken now WriteFault told not (cause, lacking, ends) = absurd (not cause lacking)
+before_ends records words found taken now OutOfMemory told not (keeps, none) = (record { first = []; rest = records; parts = refl; written = none_written taken now keeps }, none)
+before_ends records words found taken now BadConf told not (cause, lacking, ends) = absurd (not cause lacking)
+before_ends records words found taken now LimitPassed told not (cause, lacking, ends) = absurd (not cause lacking)
+before_ends records words found taken now FileMissing told not (cause, lacking, ends) = absurd (not cause lacking)
 
 pub served_in_place : IsServedInPlace
 served_in_place words found input left_now taken now status told servable (inl before) =
-    before_told words found taken now status told (λ cause lacking. conf_not GatewayTables (Some words.conf) (found ConfFile) cause (servable.conf, servable.read) lacking) before
+    before_ends servable.records words found taken now status told (λ cause lacking. conf_not GatewayTables (Some words.conf) (found ConfFile) cause (servable.conf, servable.read) lacking) before
 served_in_place words found input left_now taken now status told servable (inr ends) =
     let one : servable.conf ≡ ends.conf = (conf_decided (Some words.conf) (found ConfFile)).value servable.conf ends.conf servable.read.configured ends.read.configured in
     let both : Some servable.settings ≡ Some ends.settings = sym servable.settings_are ∙ ap (λ (c : Configuration). c.gateway) one ∙ ends.settings_are in
@@ -254,5 +318,5 @@ served_in_place words found input left_now taken now status told servable (inr e
     let whole : IsServed ends.conf ends.settings input servable.records =
     subst (λ (s : GatewayConf). IsServed ends.conf s input servable.records) same (subst (λ (c : Configuration). IsServed c servable.settings input servable.records) one servable.served) in
     let sign = some_sign ends.conf ends.read.tables.1 in
-    served_told ends.conf ends.settings (valid_where_configured (Some words.conf) (found ConfFile) ends.conf ends.read.configured) sign.0 sign.1 ends.settings_are input servable.records whole
+    served_ends ends.conf ends.settings (valid_where_configured (Some words.conf) (found ConfFile) ends.conf ends.read.configured) sign.0 sign.1 ends.settings_are input servable.records whole
     left_now taken ends.served.between now status told ends.served.served ends.served.serves ends.served.after

@@ -54,12 +54,12 @@ first_of P (item ∷ first) rest all =
 
 module _ (conf : Configuration) (settings : GatewayConf) where
   -- an item brings a message, whose record is added
-  abbrev Brings : StreamState → Option RelatedRequest → Body → StreamState → Type 0
+  abbrev pub Brings : StreamState → Option RelatedRequest → Body → StreamState → Type 0
   Brings before related body after =
       (arrival : Arrival) × AddsRecord conf settings before arrival after × (body ≡ stored (message arrival.role) arrival.text) × (arrival.related ≡ option_map (λ request. request.text) related)
 
   -- or it adds no record
-  brings : (before after : StreamState) (related : Option RelatedRequest) (offset : ℕ) (body : Body) → MeetsBody conf settings before related offset body after → (after.records ≡ before.records) ⊎ Brings before related body after
+  pub brings : (before after : StreamState) (related : Option RelatedRequest) (offset : ℕ) (body : Body) → MeetsBody conf settings before related offset body after → (after.records ≡ before.records) ⊎ Brings before related body after
   brings before after None offset (moment seconds) meets = inl (ap (λ (s : StreamState). s.records) meets)
   brings before after None offset (stored script text) meets = absurd meets
   brings before after None offset (stored (message Related) text) meets = inl (ap (λ (s : StreamState). s.records) meets)
@@ -170,7 +170,7 @@ numbers_of text items (inl none) = subst (λ (is : List PlacedItem). All (λ bod
 numbers_of text items (inr (rest, begins)) = begins.are.numbers
 
 passes_rightly : (conf : Configuration) (settings : GatewayConf) (items : List PlacedItem) (index : ℕ) (label text : List ℕ) (sign : SignConf) → IsValid conf → conf.sign ≡ Some sign → conf.gateway ≡ Some settings
-    → All (λ body. IsNumber (number_of body)) (bodies items) → Answered conf settings items (Pass index label text) → PassesRightly conf settings items label text
+    → All (λ body. IsNumber (number_of body)) (bodies items) → Answered conf settings items (Pass index label text) → PassesRightly conf settings items index label text
 passes_rightly conf settings items index label text sign valid sign_is settings_are numbers is =
     let ready : IsReady settings (judged_by is.comes) =
     record { valid = valid; sign = sign; sign_is = sign_is; settings_are = settings_are; early = comes_early conf settings items is.arrival is.comes numbers } in
@@ -179,6 +179,7 @@ passes_rightly conf settings items index label text sign valid sign_is settings_
     record {
       arrival = is.arrival;
       comes = is.comes;
+      index_is = is.is.0;
       kept = record { context = kept.0; read = kept.1; passed = kept.2; spells = kept.3; holds = kept.4 };
       sign = sign;
       sign_is = sign_is;

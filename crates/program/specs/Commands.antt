@@ -82,7 +82,8 @@ abbrev pub AreFoundFor : List (List ℕ) → Option FileMap → Found → Type 0
 AreFoundFor arguments shelf found =
     (command : CommandLine) → IsCommand arguments command → AreFound shelf (name_of command) found
 
--- at most one byte past the limit of each file that the command names is read
+-- of the files that the command names no more is read, together, than their limits and one byte
+-- for each
 abbrev pub ReachesNamed : List (List ℕ) → ℕ → ℕ → Type 0
 ReachesNamed arguments before now =
     (command : CommandLine) → IsCommand arguments command

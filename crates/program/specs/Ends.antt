@@ -1,5 +1,5 @@
 -- How a run ends: what it has written and what is left of its input, by its status.
-use Rattle.std.specs.Prelude.{◌≡◌, ◌⊎◌, ◌+◌, ◌<◌, ◌≤◌, ℕ, IsTrue, List, [], length, take, Option, Some, None, IfSome}
+use Rattle.std.specs.Prelude.{◌≡◌, ◌⊎◌, ◌+◌, ◌≤◌, ℕ, IsTrue, List, [], Option, Some, None, IfSome}
 use Rattle.std.specs.Io.KnownBytes.{Appends, Keeps}
 use Rattle.std.specs.List.{list_all}
 use Rattle.sfv_text.specs.Classes.{is_byte}
@@ -9,6 +9,7 @@ use Rattle.hms_io.specs.Reading.{LosesPrefix}
 use Rattle.hms_io.specs.declared.status.Status.{Status}
 use Rattle.hms_io.specs.declared.status.Status.TheVariants.{ReadFault, WriteFault, OutOfMemory}
 use Rattle.command_line.specs.Command.{CommandLine, IsCommand, NoCommand}
+use Rattle.gateway.specs.Served.{AppendsPart}
 use Rattle.intake.specs.Files.{FileNames, Found}
 use Rattle.commands.specs.Outcome.{status_of, output_of}
 use Rattle.commands.specs.declared.outcome.Outcome.{Outcome}
@@ -77,10 +78,6 @@ HasReport arguments shelf Same before now =
 
 -- ---- what was written
 
--- a prefix of the text, and not all of it, was added to the known bytes
-abbrev pub AppendsPrefix : Option (List ℕ) → Option (List ℕ) → List ℕ → Type 0
-AppendsPrefix before now text = (n : ℕ) × (n < length text) × Appends before now (take n text)
-
 -- What the sink took, by the status, where nothing is written before the outcome is known: nothing,
 -- where a read failed or no memory was found; a proper prefix of the output, where a write failed;
 -- and else all of the output. An output is of bytes.
@@ -90,7 +87,7 @@ Ends arguments shelf Same before left taken now ReadFault = Keeps taken now
 Ends arguments shelf Same before left taken now OutOfMemory = Keeps taken now
 Ends arguments shelf Same before left taken now WriteFault =
     (outcome : Outcome) × HasReport arguments shelf Same before left outcome
-    × AppendsPrefix taken now (output_of outcome) × IsTrue (list_all is_byte (output_of outcome))
+    × AppendsPart taken now (output_of outcome) × IsTrue (list_all is_byte (output_of outcome))
 Ends arguments shelf Same before left taken now status =
     (outcome : Outcome) × HasReport arguments shelf Same before left outcome
     × (status_of outcome ≡ status) × Appends taken now (output_of outcome)

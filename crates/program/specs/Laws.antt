@@ -1,8 +1,9 @@
 -- Laws of what the program answers.
-use Rattle.std.specs.Prelude.{◌≡◌, ◌≢◌, ◌⊎◌, ◌↔◌, ⊤, ℕ, Bool, false, true, IsTrue, IsFalse, IsSomeAnd, List, [], ◌∷◌, Option, Some, None, Result, codes}
+use Rattle.std.specs.Prelude.{◌≡◌, ◌≢◌, ◌⊎◌, ◌↔◌, ⊤, ℕ, Bool, false, true, IsTrue, IsFalse, IsSomeAnd, List, [], ◌∷◌, ◌++◌, Option, Some, None, Result, codes}
+use Rattle.std.specs.Io.KnownBytes.{Appends}
 use Rattle.std.specs.List.{list_all, list_any}
 use Rattle.hms_io.specs.declared.status.Status.{Status}
-use Rattle.hms_io.specs.declared.status.Status.TheVariants.{Done, NotOk}
+use Rattle.hms_io.specs.declared.status.Status.TheVariants.{Done, NotOk, ReadFault, WriteFault, OutOfMemory}
 use Rattle.sfv_text.specs.Classes.{is_byte}
 use Rattle.command_line.specs.Command.{CommandLine, Help, HelpOf, Version, Base, Verify, Sign, Rewrite, Explain, Audit, Gateway, Lists, Negotiate, Sample, SignWords, VerifyWords, RewriteWords, AuditWords, GatewayWords, ListsWords, NegotiateWords, IsCommand}
 use Rattle.component_ids.specs.declared.id.ComponentId.{ComponentId}
@@ -47,7 +48,12 @@ use Rattle.negotiation.specs.Negotiated.{IsNegotiated}
 use Rattle.rewrite_script.specs.declared.rewrite.Rewrite.{Rewrite as Rewriting}
 use Rattle.recording.specs.Items.{PlacedItem}
 use Rattle.settings.specs.declared.gateway_conf.GatewayConf.{GatewayConf}
+use Rattle.gateway.specs.RecordTexts.{records_text}
+use Rattle.gateway.specs.Records.{is_pass}
+use Rattle.gateway.specs.Served.{WritesRecords}
 use Rattle.gateway.specs.Streams.{IsServed as IsServedWhole}
+use Rattle.gateway.specs.declared.fault.StreamFault.{StreamFault}
+use Rattle.gateway.specs.declared.fault.StreamFault.TheVariants as stream
 use Rattle.gateway.specs.declared.gateway_record.GatewayRecord.{GatewayRecord}
 use Rattle.normal_forms.specs.Causes.{IsExplainFault}
 use Rattle.normal_forms.specs.declared.fault.ExplainFault.{ExplainFault}
@@ -420,13 +426,34 @@ pub record IsServable (words : GatewayWords) (found : Found) (input : List ℕ) 
   pub records : List GatewayRecord
   pub served : IsServedWhole conf settings input records
 
--- A run of `gateway` over it isn't refused: it is done, whether each message passes or not, a
--- device failed, or no memory was found.
+-- the first of the records were written when this fault came; where a write failed, the last of
+-- these in part
+pub record WritesFirst (records : List GatewayRecord) (taken now : Option (List ℕ))
+    (fault : StreamFault) : Type 0 where
+  pub first : List GatewayRecord
+  pub rest : List GatewayRecord
+  pub parts : records ≡ first ++ rest
+  pub written : WritesRecords first taken now fault
+
+-- What was written, by the status: each of the records, where each message passes or one doesn't;
+-- or the first of them, where a device failed or no memory was found. No other status comes.
+abbrev pub WritesServed : List GatewayRecord → Option (List ℕ) → Option (List ℕ) → Status
+    → Type 0
+WritesServed records taken now Done =
+    Appends taken now (records_text records) × IsTrue (list_all is_pass records)
+WritesServed records taken now NotOk =
+    Appends taken now (records_text records) × IsFalse (list_all is_pass records)
+WritesServed records taken now ReadFault = WritesFirst records taken now stream.NotRead
+WritesServed records taken now WriteFault = WritesFirst records taken now stream.NotWritten
+WritesServed records taken now OutOfMemory = WritesFirst records taken now stream.Memory
+WritesServed records taken now status = ⊥
+
+-- A run of `gateway` over it isn't refused: no refusal is told, and nothing but records is written.
 abbrev pub IsServedInPlace : Type 0
 IsServedInPlace =
     (words : GatewayWords) (found : Found) (input : List ℕ)
     (left_now taken now : Option (List ℕ)) (status : Status) (told : Option Refusal)
-    → IsServable words found input
+    (servable : IsServable words found input)
     → EndsBefore words found taken now status told
     ⊎ EndsServed words found (Some input) left_now taken now status told
-    → told ≡ None
+    → WritesServed servable.records taken now status × (told ≡ None)

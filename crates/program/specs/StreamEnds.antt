@@ -8,7 +8,7 @@ use Rattle.command_line.specs.Command.{Gateway, GatewayWords, IsCommand}
 use Rattle.conf.specs.Configuration.{Configuration}
 use Rattle.settings.specs.declared.gateway_conf.GatewayConf.{GatewayConf}
 use Rattle.recording.specs.declared.limits.TheConstants.{MAX_ITEMS}
-use Rattle.gateway.specs.Served.{Serves}
+use Rattle.gateway.specs.Served.{AppendsPart, Serves}
 use Rattle.gateway.specs.declared.fault.StreamFault.{StreamFault}
 use Rattle.gateway.specs.declared.fault.StreamFault.TheVariants as stream
 use Rattle.intake.specs.Files.{Found, AreFound, Conf as ConfFile}
@@ -20,7 +20,7 @@ use Rattle.refusals.specs.declared.refusal.Refusal.{Refusal}
 use Rattle.refusals.specs.declared.refusal.Refusal.TheVariants.{Of}
 use Rattle.refusals.specs.declared.role.Role.TheVariants.{Conf, Input}
 use Rattle.program.specs.Commands.{name_of}
-use Rattle.program.specs.Ends.{AppendsPrefix, HasReport, WritesRefusal}
+use Rattle.program.specs.Ends.{HasReport, WritesRefusal}
 use Rattle.program.specs.Intake.{IsConfLacking, IsConfRead}
 
 -- ---- a refusal
@@ -30,7 +30,7 @@ use Rattle.program.specs.Intake.{IsConfLacking, IsConfRead}
 abbrev pub EndsRefused : Refusal → Option (List ℕ) → Option (List ℕ) → Status → Option Refusal
     → Type 0
 EndsRefused refusal taken now WriteFault told =
-    AppendsPrefix taken now (refusal_line refusal) × (told ≡ None)
+    AppendsPart taken now (refusal_line refusal) × (told ≡ None)
 EndsRefused refusal taken now OutOfMemory told = Keeps taken now × (told ≡ None)
 EndsRefused refusal taken now status told = Appends taken now (refusal_line refusal)
     × (status ≡ refusal_status refusal) × (told ≡ Some refusal)

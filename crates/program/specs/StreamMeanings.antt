@@ -14,10 +14,10 @@ use Rattle.settings.specs.declared.sign_conf.SignConf.{SignConf}
 use Rattle.verdicts.specs.Laws.{IsRightlySigned}
 use Rattle.verdicts.specs.Verification.{verification_for}
 use Rattle.gateway.specs.Arrivals.{Arrival, IsRead}
-use Rattle.gateway.specs.Laws.{AcceptsEntry, KeepsAccepted, LeadOn}
+use Rattle.gateway.specs.Laws.{AcceptsEntry, KeepsAccepted}
 use Rattle.gateway.specs.Records.{GatewayState}
 use Rattle.gateway.specs.Seen.{IsAdvanced}
-use Rattle.gateway.specs.Streams.{IsServedTo, LeadTo, StreamState}
+use Rattle.gateway.specs.Streams.{IsServedTo, LeadOn, LeadTo, StreamState}
 use Rattle.gateway.specs.declared.gateway_record.GatewayRecord.{GatewayRecord}
 use Rattle.gateway.specs.declared.gateway_record.GatewayRecord.TheVariants.{Pass}
 use Rattle.refusals.specs.declared.refusal.Refusal.{Refusal}
@@ -59,12 +59,14 @@ pub record IsPassedFor (conf : Configuration) (arrival : Arrival) (text : List �
   pub spells : Spells (answers_head context.related) passed text
   pub holds : P context passed
 
--- In the message that passes the accepted label has the signature parameters, the tag and the base
--- that it had, and is accepted; and the gateway's own label is rightly signed.
+-- The message of this index, before which so many came and have their records, passes as this text:
+-- in it the accepted label has the signature parameters, the tag and the base that it had, and is
+-- accepted; and the gateway's own label is rightly signed.
 pub record PassesRightly (conf : Configuration) (settings : GatewayConf)
-    (items : List PlacedItem) (label text : List ℕ) : Type 0 where
+    (items : List PlacedItem) (index : ℕ) (label text : List ℕ) : Type 0 where
   pub arrival : Arrival
   pub comes : ComesWith conf settings items arrival
+  pub index_is : index ≡ length comes.known.records
   pub kept : IsPassedFor conf arrival text
       (λ context passed. KeepsAccepted settings (judged_by comes) context label passed)
   pub sign : SignConf
@@ -94,7 +96,7 @@ AcceptsOnce conf settings items =
 pub record TellsRecords (conf : Configuration) (settings : GatewayConf)
     (items : List PlacedItem) (records : List GatewayRecord) : Type 0 where
   pub passed : (index : ℕ) (label text : List ℕ) → Contains records (Pass index label text)
-      → PassesRightly conf settings items label text
+      → PassesRightly conf settings items index label text
   pub once : AcceptsOnce conf settings items
 
 -- the stream is served, and the records of its items tell this, however many of them were read

@@ -269,10 +269,10 @@ pub fn run<F: Shelf, S: Source, K: Sink>(
     ensures unasked { NamesNoFile (map string_bytes arguments.now) → shelf.new ≡ shelf.old }
     ensures files { KeepsFiles (F.files shelf.old) (F.files shelf.new) }
 
-    // At any status at most one byte past the limit is read, of the input, unless it is a stream,
-    // and of each file, the source isn't read after its end, each read and each write but one of
-    // each moves a byte, and at most so many files are asked for as the command names: after one
-    // that is refused no other.
+    // At any status at most one byte past the limit is read of the input, unless it is a stream,
+    // and of the files that the command names at most their limits together and one byte for each.
+    // The source isn't read after its end, each read and each write but one of each moves a byte,
+    // and at most so many files are asked for as are named: after one that is refused no other.
     ensures few { ReadsFew (map string_bytes arguments.now)
         (S.left source.old) (S.left source.new) }
     ensures given { GivesFew (map string_bytes arguments.now)

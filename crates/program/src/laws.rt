@@ -29,8 +29,8 @@ pub fn a_command_that_has_all_is_answered()
     ensures { IsComplete }
 {}
 
-/// A run of `gateway` over a recording of messages in their places isn't refused: it is served to
-/// its end, unless a device fails or no memory is found.
+/// A run of `gateway` over a recording of messages in their places isn't refused: each message has
+/// its record, or the first of them have, where a device fails or no memory is found.
 pub fn a_stream_in_its_place_is_served()
     ensures { IsServedInPlace }
 {}

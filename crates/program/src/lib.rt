@@ -27,12 +27,12 @@ pub use ended::Ended;
 pub use entry::run;
 pub use help::{
     AUDIT_TEXT, BASE_TEXT, COMMANDS, END_TEXT, EXPLAIN_TEXT, GATEWAY_TEXT, LISTS_TEXT,
-    REWRITE_TEXT, SAMPLE_TEXT, SIGN_TEXT, TITLE_TEXT, VERIFY_TEXT, VERSION_TEXT,
+    NEGOTIATE_TEXT, REWRITE_TEXT, SAMPLE_TEXT, SIGN_TEXT, TITLE_TEXT, VERIFY_TEXT, VERSION_TEXT,
 };
 pub use laws::{
     a_base_has_one_meaning, a_command_that_has_all_is_answered, a_refusal_is_one_line,
     a_stream_in_its_place_is_served, one_report, one_tag_has_one_meaning, the_intake_is_decided,
-    what_is_explained_agrees, what_is_kept_has_one_base, what_is_permitted_is_kept,
-    what_is_rewritten_keeps_its_verdict, what_is_signed_is_accepted,
+    what_is_explained_agrees, what_is_kept_has_one_base, what_is_negotiated_is_accepted,
+    what_is_permitted_is_kept, what_is_rewritten_keeps_its_verdict, what_is_signed_is_accepted,
     what_is_turned_has_the_same_values,
 };

@@ -15,6 +15,7 @@ use Rattle.conf.specs.Configuration.{Configuration}
 use Rattle.conf.specs.ConfMeaning.{meaning}
 use Rattle.verdicts.specs.Contexts.{context_for}
 use Rattle.rewrite_script.specs.declared.rewrite.Rewrite.{Rewrite}
+use Rattle.gateway.specs.Served.{AppendsPart}
 use Rattle.gateway.specs.declared.fault.StreamFault.{StreamFault}
 use Rattle.gateway.specs.declared.fault.StreamFault.TheVariants.{NotWritten}
 use Rattle.refusals.specs.declared.refusal.TheConstants.{MAX_INPUT_BYTES}
@@ -34,7 +35,7 @@ use Rattle.intake.specs.declared.stop.Stop.{Stop}
 use Rattle.intake.specs.declared.tables.Needs.{Needs}
 use Rattle.intake.specs.declared.stop.Stop.TheVariants.{ReadFault, Memory as NoMemory, Refused as StopRefused}
 use Rattle.program.specs.Commands.{LosesAtMost, Whole, name_of}
-use Rattle.program.specs.Ends.{AppendsPrefix, CountsFaults, HasOutcome, Leaves, OneRose}
+use Rattle.program.specs.Ends.{CountsFaults, HasOutcome, Leaves, OneRose}
 use Rattle.program.specs.Intake.{IsConfRead, TakenValues, named_count, read_order, roles_until}
 use Rattle.program.specs.Report.{Answers, ReportsFiles}
 use Rattle.intake.specs.declared.taken.FilesRead.{FilesRead}
@@ -235,7 +236,7 @@ IsWritten outcome taken now status refusal =
     ((status ≡ status_of outcome) × (refusal ≡ refusal_of outcome)
     × Appends taken now (output_of outcome) × IsTrue (list_all is_byte (output_of outcome)))
     ⊎ (((status ≡ WriteFault) × (refusal ≡ None)
-    × AppendsPrefix taken now (output_of outcome) × IsTrue (list_all is_byte (output_of outcome)))
+    × AppendsPart taken now (output_of outcome) × IsTrue (list_all is_byte (output_of outcome)))
     ⊎ ((status ≡ OutOfMemory) × (refusal ≡ None) × Keeps taken now))
 
 -- what was written where a run is stopped: the line of a refusal, or nothing
