@@ -38,8 +38,9 @@ pub use explain::explain_outcome;
 pub use laws::{
     auditing_has_one_outcome, each_layer_has_an_answer, each_layer_is_decided,
     explaining_has_one_outcome, negotiating_has_one_outcome, rewriting_has_one_outcome,
-    signing_has_one_outcome, turning_has_one_outcome, verdicts_have_one_outcome,
-    what_is_rewritten_keeps_its_verdict, what_is_signed_is_rightly_signed,
+    sampling_has_one_outcome, signing_has_one_outcome, turning_has_one_outcome,
+    verdicts_have_one_outcome, what_is_rewritten_keeps_its_verdict,
+    what_is_signed_is_rightly_signed,
 };
 pub use lists::{list_outcome, message_outcome};
 pub use negotiate::negotiate_outcome;
