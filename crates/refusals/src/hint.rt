@@ -8,6 +8,7 @@ ghost use Rattle.byte_grammar.specs.Classes.{is_line_byte};
 use crate::file::FileRefusal;
 use crate::hint_conf::conf_hint;
 use crate::hint_fields::{fields_hint, from_message_hint, to_message_hint};
+use crate::hint_wishes::wished_ids_hint;
 use crate::refusal::{CommandRefusal, DigestRefusal, Refusal, StepRefusal};
 use crate::role::Role;
 use component_ids::{BadReason, IdFault};
@@ -170,9 +171,9 @@ fn file_hint(role: Role, refusal: &FileRefusal) -> &'static str
         FileRefusal::Script(fault) => script_hint(*fault),
         FileRefusal::Recording(fault) => recording_hint(*fault),
         FileRefusal::Order(_) => {
-            "the items are in no order of a chain: first `at`, then a request, or responses \
-             after a `related`, and between two messages one `hop` with the script of what \
-             was done to the first"
+            "the item at that offset, or what comes after it, isn't in the order of a chain: `at`; \
+             for responses perhaps `related`; a `request` or `response`; then for each hop perhaps \
+             an `at`, a `script` of what was done there, and a message of the same kind"
         }
         FileRefusal::TooManyHops(_) => "there are more hops than that",
         FileRefusal::OutOfPlace(_) => {
@@ -243,7 +244,10 @@ fn lack_hint(lack: Lack) -> &'static str
              is of the request, which --request names"
         }
         Lack::Ambiguous => "the message has it more than once",
-        Lack::Underivable => "a message of this kind has no such component",
+        Lack::Underivable => {
+            "a message of this kind has no such component (@status and req are of a response, the \
+             other names with @ of a request), or its target or Host is of a form that gives none"
+        }
         Lack::Unreadable => {
             "the field isn't known as structured, by `types` of the configuration, or isn't \
              of that kind"
@@ -259,14 +263,16 @@ fn sign_hint(fault: SignFault) -> &'static str
     match fault {
         SignFault::Memory => "out of memory",
         SignFault::InputMalformed => {
-            "the message has a Signature-Input that is no Dictionary, so none can be added"
+            "the message has a Signature-Input that is no Dictionary, or an empty one, so no \
+             signature can be added"
         }
         SignFault::SignatureMalformed => {
-            "the message has a Signature that is no Dictionary, so none can be added"
+            "the message has a Signature that is no Dictionary, or an empty one, so no signature \
+             can be added"
         }
         SignFault::LabelThere => {
-            "the message has a signature of that label already: take it off, or choose \
-             another sign.label"
+            "Signature-Input or Signature of the message has that label already: take it off, or \
+             choose another, which is sign.label, or in Accept-Signature the name of the member"
         }
         SignFault::SelfCover(_) => {
             "the component of that index, counted from 0, is a field that the new signature \
@@ -285,13 +291,13 @@ fn want_hint(fault: &WantFault) -> &'static str
         WantFault::Memory => "out of memory",
         WantFault::Absent => {
             "the message after --wanted, or the request of negotiate, has no field \
-             Accept-Signature, as `Accept-Signature: sig1=(\"@method\");keyid=\"k\"`"
+             Accept-Signature, or an empty one: `Accept-Signature: sig1=(\"@method\");keyid=\"k\"`"
         }
         WantFault::Malformed => "Accept-Signature is no Dictionary (RFC 9421 section 5.1)",
         WantFault::NotInnerList(_) => {
             "the member of that index, counted from 0, is no list of components in parentheses"
         }
-        WantFault::Ids(_, fault) => ids_hint(fault),
+        WantFault::Ids(_, fault) => wished_ids_hint(fault),
         WantFault::Parameter(_) => {
             "in the member of that index, counted from 0, created and expires have no value, \
              nonce, alg, keyid and tag are texts in double quotes, and expires asks for \

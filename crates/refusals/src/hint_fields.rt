@@ -82,7 +82,8 @@ pub(crate) fn from_message_hint(fault: FromFault) -> &'static str
              CONNECT, and *, have no :path"
         }
         FromFault::NoAuthority => {
-            "the request has to say its authority, in one line Host or in its target"
+            "the request has to say its authority in its target, or in one line Host: a host and \
+             perhaps a port, `example.com:8080`, without a user"
         }
     }
 }

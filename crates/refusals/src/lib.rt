@@ -11,6 +11,7 @@ mod file;
 mod hint;
 mod hint_conf;
 mod hint_fields;
+mod hint_wishes;
 mod laws;
 mod limit_laws;
 mod refusal;
