@@ -163,17 +163,17 @@ module _ (conf : Configuration) (moment : ℕ) (context : MessageContext) where
 
   -- ---- a stop that says the fault
 
-  -- the wishes are read again without a fault
-  pub again_stopped : (index : ℕ) (f : SignFault) (request : Message) (w : WantFault) → context.related ≡ Some request → IsNegotiateFault conf moment context (nego.Sign index f) → WantsAnswered conf request (Err w)
-      → IfRefused (stop_of_want w) (IsRefusalFor (IsNegotiateRefused moment conf context) Command)
-  again_stopped index f request w related is answered = of_fault w answered
+  -- the wishes are read again without a fault but want of memory
+  pub again_memory : (index : ℕ) (f : SignFault) (request : Message) (w : WantFault) → context.related ≡ Some request → IsNegotiateFault conf moment context (nego.Sign index f) → WantsAnswered conf request (Err w)
+      → w ≡ want.Memory
+  again_memory index f request w related is answered = of_fault w answered
     where
       -- there is none that is judged before
       none : (g : WantFault) → ¬ IsWantFault conf request g
       none g wants = is.none_before (nego.Wanted g) (lit≤ tt) (rw related wants)
 
-      of_fault : (g : WantFault) → WantsAnswered conf request (Err g) → IfRefused (stop_of_want g) (IsRefusalFor (IsNegotiateRefused moment conf context) Command)
-      of_fault want.Memory known = tt
+      of_fault : (g : WantFault) → WantsAnswered conf request (Err g) → g ≡ want.Memory
+      of_fault want.Memory known = refl
       of_fault want.Absent known = absurd (none want.Absent ((known want.Absent (λ e. absurd (cc e))).only refl))
       of_fault want.Malformed known = absurd (none want.Malformed ((known want.Malformed (λ e. absurd (cc e))).only refl))
       of_fault (want.NotInnerList i) known = absurd (none (want.NotInnerList i) ((known (want.NotInnerList i) (λ e. absurd (cc e))).only refl))

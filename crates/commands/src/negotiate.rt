@@ -1,7 +1,7 @@
 //! The command `negotiate`: a response with the signatures and the digest that its request asks for
 //! (RFC 9421 section 5, RFC 9530 section 4).
 
-ghost use Rattle.std.specs.Prelude.{◌≢◌, ◌≤◌, IsSome};
+ghost use Rattle.std.specs.Prelude.{◌≡◌, ◌≢◌, ◌≤◌, IsSome};
 ghost use Rattle.component_values.specs.Context.{HasWholeMessage, context_of};
 ghost use Rattle.conf.specs.ConfMeaning.{meaning};
 ghost use Rattle.negotiation.specs.NegotiateCauses.{IsNegotiateFault};
@@ -20,8 +20,19 @@ use conf::Conf;
 use intake::Stop;
 use negotiation::{EachFault, NegotiateFault, negotiate};
 use refusals::DigestRefusal;
-use signing::{SignFault, wanted};
+use signing::{SignFault, WantFault, wanted};
 use std::alloc::Global;
+
+/// Want of memory, which is the one fault of wishes that were read without one.
+fn only_memory(fault: WantFault) -> Stop
+    requires { fault ≡ WantFault.Memory }
+    ensures { result ≡ Stop.Memory }
+{
+    match fault {
+        WantFault::Memory => Stop::Memory,
+        _ => unreachable!(),
+    }
+}
 
 /// What stops a run over a response, where the signature of the wish at the index isn't made. The
 /// wishes are read again: a component that lacks a value is said by its identifier.
@@ -45,7 +56,7 @@ fn stop_for_wish(
     };
     match wanted(alloc, request, conf, now) {
         Ok(specs) => { stop_for_each_fault(alloc, specs.as_slice(), EachFault::Sign(index, fault)) }
-        Err(fault) => Stop::from(fault),
+        Err(fault) => only_memory(fault),
     }
 }
 
