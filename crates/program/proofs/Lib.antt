@@ -16,6 +16,7 @@ mod Meanings
 mod NegotiatedInputs
 mod OneLines
 mod RestFiles
+mod ReturnedLists
 mod RewrittenInputs
 mod Sampled
 mod ServableStreams

@@ -8,6 +8,7 @@ use Rattle.sfv_text.specs.Classes.{is_byte}
 use Rattle.command_line.specs.Command.{CommandLine, Help, HelpOf, Version, Base, Verify, Sign, Rewrite, Explain, Audit, Gateway, Lists, Negotiate, Sample, SignWords, VerifyWords, RewriteWords, AuditWords, GatewayWords, ListsWords, NegotiateWords, IsCommand}
 use Rattle.component_ids.specs.declared.id.ComponentId.{ComponentId}
 use Rattle.component_ids.specs.declared.params.SigParams.{SigParams}
+use Rattle.component_ids.specs.declared.scheme.Scheme.{Scheme}
 use Rattle.component_values.specs.Context.{MessageContext, context_with}
 use Rattle.component_values.specs.Values.{ComesTo, HaveValues}
 use Rattle.derived_values.specs.declared.lack.Lack.{Lack}
@@ -38,9 +39,9 @@ use Rattle.framing.specs.Framings.{is_request}
 use Rattle.list_texts.specs.Lists.{list_text}
 use Rattle.list_texts.specs.declared.list.FieldList.{FieldList}
 use Rattle.field_lists.specs.FromCauses.{IsFromFault}
-use Rattle.field_lists.specs.Laws.{IsOwn, alone}
+use Rattle.field_lists.specs.Laws.{HasAuthority, IsOwn, alone, normal_list}
 use Rattle.field_lists.specs.ListValues.{ListComesTo}
-use Rattle.field_lists.specs.ToCauses.{IsToFault, is_refused_name}
+use Rattle.field_lists.specs.ToCauses.{IsToFault, TurnsInto, is_refused_name}
 use Rattle.field_lists.specs.declared.from_fault.FromFault.{FromFault}
 use Rattle.field_lists.specs.declared.to_fault.ToFault.{ToFault}
 use Rattle.negotiation.specs.NegotiateCauses.{IsNegotiateFault}
@@ -389,6 +390,39 @@ IsSameWhereTurned =
     → IsCommand arguments (Lists words) → Reports arguments found input (Written written)
     → (conf : Configuration) × IsConfigured words.conf (found ConfFile) conf
     × IsSameTurned words.into_message conf input written
+
+-- ---- what is turned, and back
+
+-- `lists --into message`, and then `lists --into fields`, by configurations of one scheme
+pub record TurnsAndReturns (turned returned : ListsWords) (found other : Found) : Type 0 where
+  pub into_message : turned.into_message ≡ true
+  pub into_fields : returned.into_message ≡ false
+  pub conf : Configuration
+  pub configured : IsConfigured turned.conf (found ConfFile) conf
+  pub next : Configuration
+  pub next_configured : IsConfigured returned.conf (other ConfFile) next
+  pub scheme : next.scheme ≡ conf.scheme
+
+-- The input is the text of a list that is turned into a message. Where its authority is one, or it
+-- is a response, the outcome is the text of that list, with its pseudo-header fields in one order
+-- and each other value as a message has it.
+pub record HasComeBack (scheme : Scheme) (input : List ℕ) (outcome : Outcome) : Type 0 where
+  pub list : FieldList
+  pub listed : IsListText input list
+  pub message : Message
+  pub turned : TurnsInto list scheme message
+  pub back : HasAuthority turned.control
+      → outcome ≡ Written (list_text (normal_list turned.control turned.others list))
+
+-- What `lists` writes as a message of a list, given to `lists`, comes back as the list.
+abbrev pub HasComeBackWhereTurned : Type 0
+HasComeBackWhereTurned =
+    (turning returning : List (List ℕ)) (turned returned : ListsWords) (found other : Found)
+    (input written : List ℕ) (outcome : Outcome) → IsCommand turning (Lists turned)
+    → IsCommand returning (Lists returned)
+    → (both : TurnsAndReturns turned returned found other)
+    → Reports turning found input (Written written) → Reports returning other written outcome
+    → HasComeBack both.conf.scheme input outcome
 
 -- ---- what is audited
 

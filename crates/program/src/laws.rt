@@ -1,6 +1,6 @@
 //! Laws of what the program answers. Each function does nothing; its contract is the law.
 
-ghost use Rattle.program.specs.Laws.{HasIntake, HasOneReport, HasSomeReport, IsComplete, IsServedInPlace, IsIntakeDecided, IsAcceptedWhereNegotiated, IsAcceptedWhereSigned, IsVerdictKept, IsKeptWherePermitted, IsLineWhereRefused, IsSameWhereTurned};
+ghost use Rattle.program.specs.Laws.{HasIntake, HasOneReport, HasSomeReport, IsComplete, IsServedInPlace, IsIntakeDecided, IsAcceptedWhereNegotiated, IsAcceptedWhereSigned, IsVerdictKept, IsKeptWherePermitted, IsLineWhereRefused, IsSameWhereTurned, HasComeBackWhereTurned};
 ghost use Rattle.program.specs.Meanings.{HasExplanation, HasNegotiated, HasOneBase, HasOneChain, HasSigned, HaveOneMeaning, RunsAgreeWhereOneTag};
 
 /// For given arguments, files and input there is one outcome, and so one status and one output. So
@@ -103,4 +103,10 @@ pub fn what_is_explained_agrees()
 /// lines that only one of them has.
 pub fn what_is_turned_has_the_same_values()
     ensures { IsSameWhereTurned }
+{}
+
+/// What `lists` writes as the message of a list comes back as that list from `lists`, in its normal
+/// form, where its authority is one or it is a response.
+pub fn what_is_turned_comes_back()
+    ensures { HasComeBackWhereTurned }
 {}

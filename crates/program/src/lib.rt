@@ -34,5 +34,5 @@ pub use laws::{
     a_stream_in_its_place_is_served, one_report, one_tag_has_one_meaning, the_intake_is_decided,
     what_is_explained_agrees, what_is_kept_has_one_base, what_is_negotiated_is_accepted,
     what_is_permitted_is_kept, what_is_rewritten_keeps_its_verdict, what_is_signed_is_accepted,
-    what_is_turned_has_the_same_values,
+    what_is_turned_comes_back, what_is_turned_has_the_same_values,
 };
