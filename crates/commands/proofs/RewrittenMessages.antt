@@ -15,7 +15,7 @@ use Rattle.rewrites.specs.Laws.{AgreeFor, DependsOnMessages, GivesKind, HasSameV
 use Rattle.rewrites.specs.Steps.{Step, Steps}
 use Rattle.verdicts.specs.Contexts.{context_for}
 use Rattle.commands.specs.Rewrite.{IsTaken, ReportsSteps}
-use Rattle.commands.specs.RewrittenMessages.{IsMessageWhereRewritten, HasVerdictWhereRewritten}
+use Rattle.commands.specs.RewrittenMessages.{IsMessageWhereRewritten, IsTextAfter, HasVerdictWhereRewritten}
 use Rattle.commands.specs.declared.outcome.Outcome.TheVariants.{Done}
 use Rattle.commands.proofs.LowerLaws.{one_text}
 
@@ -28,16 +28,9 @@ gives_of (Some label) context step after is = is.gives
 text_of_done : (text written : List ℕ) → Done written ≡ Done text → written ≡ text
 text_of_done text written same = cc
 
--- the message to which the steps lead
-record HasEnd (label : Option (List ℕ)) (context : MessageContext) (script : List Rewrite) (written : List ℕ) : Type 0 where
-  pub after : Message
-  pub steps : Steps (IsTaken label) context script after
-  pub spells : Spells (answers_head context.related) after written
-  pub kind : is_request after.head.start ≡ is_request context.message.head.start
-
 module _ (gives_kind : GivesKind) where
   end_is : (script : List Rewrite) (label : Option (List ℕ)) (index : ℕ) (context : MessageContext) (written : List ℕ) → IsMessage (answers_head context.related) context.message
-      → ReportsSteps label index context script (Done written) → HasEnd label context script written
+      → ReportsSteps label index context script (Done written) → IsTextAfter label context script written
   end_is [] label index context written message done = record {
     after = context.message;
     steps = refl;
@@ -56,9 +49,7 @@ module _ (gives_kind : GivesKind) where
       }
 
   pub message_where_rewritten : IsMessageWhereRewritten
-  message_where_rewritten label script context bytes written spells reports =
-      let end = end_is script label 0 context written spells.is reports in
-      (end.after, end.spells, end.kind)
+  message_where_rewritten label script context bytes written spells reports = end_is script label 0 context written spells.is reports
 
 -- ---- the same steps under another configuration
 

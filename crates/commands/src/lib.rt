@@ -15,7 +15,7 @@
 //! let context = context_for(&conf, &message, None);
 //! let outcome = base_outcome(alloc, b"(\"@authority\")", &context)?;
 //! outcome.status()             // Status::Done
-//! outcome.into_output(alloc)?  // the line of `@authority`, and that of the signature parameters
+//! outcome.into_parts(alloc)?.0 // the line of `@authority`, and that of the signature parameters
 //! ```
 #![tactic(auto)]
 

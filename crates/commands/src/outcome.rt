@@ -1,7 +1,7 @@
 //! What a run comes to, and what ends it before.
 
 ghost use Rattle.std.specs.Prelude.{◌≡◌, IfOk};
-ghost use Rattle.commands.specs.Outcome.{status_of, output_of};
+ghost use Rattle.commands.specs.Outcome.{output_of, refusal_of, status_of};
 
 use hms_io::Status;
 use refusals::Refusal;
@@ -31,14 +31,18 @@ impl Outcome {
         }
     }
 
-    /// The whole output.
-    pub fn into_output(self, alloc: Global) -> Result<Text, Memory>
-        ensures { IfOk result (λ text. text ≡ output_of self) }
+    /// The whole output, and the refusal whose line it is, if it is one.
+    pub fn into_parts(self, alloc: Global) -> Result<(Text, Option<Refusal>), Memory>
+        ensures output { IfOk result (λ parts. parts.0 ≡ output_of self) }
+        ensures refusal { IfOk result (λ parts. parts.1 ≡ refusal_of self) }
     {
         match self {
-            Outcome::Done(text) => Ok(text),
-            Outcome::NotOk(text) => Ok(text),
-            Outcome::Refused(refusal) => refusal.line(alloc),
+            Outcome::Done(text) => Ok((text, None)),
+            Outcome::NotOk(text) => Ok((text, None)),
+            Outcome::Refused(refusal) => {
+                let line = refusal.line(alloc)?;
+                Ok((line, Some(refusal)))
+            }
         }
     }
 }

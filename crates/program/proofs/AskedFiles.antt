@@ -23,7 +23,7 @@ use Rattle.program.specs.Commands.{name_of}
 use Rattle.program.specs.Ends.{AsksFor, AsksForNamed}
 use Rattle.program.specs.Intake.{named_count, read_order, roles_until}
 use Rattle.intake.specs.declared.taken.FileWords.{FileWords}
-use Rattle.program.specs.tools.Parts.{Asks, AsksOf, AsksOne, AsksUntil, IsAfterInput, conf_names, IsWritten, IsWrittenStop, refusal_of, roles_read}
+use Rattle.program.specs.tools.Parts.{Asks, AsksOf, AsksOne, AsksUntil, IsAfterInput, conf_names, IsWritten, IsWrittenStop, roles_read}
 use Rattle.program.proofs.Reports.{IfRefusedFor, of_command, one_counted, weighed}
 
 -- ---- until an outcome

@@ -1,4 +1,4 @@
--- What `base`, `verify`, `explain` and `audit` write tells what it was made of.
+-- What a command writes tells what it was made of.
 use Rattle.std.proofs.Common.{◌≡◌, ◌⊎◌, ◌∙◌, inl, inr, arith, ℕ, zero, suc, Bool, true, false, Option, Some, None, List, [], ◌∷◌, refl, sym, ap, subst}
 use Rattle.std.specs.Prelude.{IfSome, IsSomeAnd, IsTrue, ◌↔◌}
 use Rattle.std.specs.Io.KnownBytes.{Appends}
@@ -48,14 +48,17 @@ use Rattle.refusals.proofs.Statuses.{status_of_refusal}
 use Rattle.program.specs.Commands.{AreFoundFor, name_of}
 use Rattle.program.specs.Intake.{IsIntake, TakenValues}
 use Rattle.program.specs.Ends.{Ends, HasReport}
-use Rattle.program.specs.Meanings.{HasExplanation, HasOneBase, HasOneChain, HasOneMeaning, HasWritten, HaveOneMeaning, IsExplanation, RunsAgreeWhereOneTag, TellsExplanation, TellsOneBase, TellsOneChain, TellsVerdicts, WritesExplanation, WritesNegotiated, WritesOneBase, WritesOneChain, WritesSigned, WritesVerdicts}
+use Rattle.program.specs.Laws.{TellsTurned}
+use Rattle.program.specs.Meanings.{HasExplanation, HasOneBase, HasOneChain, HasOneMeaning, HasWritten, HaveOneMeaning, IsExplanation, RunsAgreeWhereOneTag, TellsExplanation, TellsNegotiated, TellsOneBase, TellsOneChain, TellsRewritten, TellsSigned, TellsVerdicts, WritesExplanation, WritesNegotiated, WritesOneBase, WritesOneChain, WritesRewritten, WritesSigned, WritesTurned, WritesVerdicts}
 use Rattle.program.specs.Report.{Reports, ReportsCommand}
 use Rattle.program.proofs.AuditLines.{report_lines_are}
 use Rattle.program.proofs.CommandLaws.{keeps_what_is_permitted, valid_where_configured}
 use Rattle.program.proofs.Explanations.{explained_is}
 use Rattle.program.proofs.NegotiatedInputs.{has_negotiated}
 use Rattle.program.proofs.OneLines.{params_in_range}
+use Rattle.program.proofs.RewrittenInputs.{has_rewritten}
 use Rattle.program.proofs.SignedInputs.{has_signed}
+use Rattle.program.proofs.TurnedTexts.{same_where_turned}
 use Rattle.program.proofs.VerdictLines.{verdict_lines_are, verifies_key}
 
 -- ---- a base
@@ -269,97 +272,59 @@ module _ (arguments : List (List ℕ)) (shelf : Option FileMap) (Same : Type 0) 
   not_ok_ends : Ends arguments shelf Same before left taken now status → status ≡ NotOk → Ends arguments shelf Same before left taken now NotOk
   not_ok_ends ends failed = subst (λ (s : Status). Ends arguments shelf Same before left taken now s) failed ends
 
-  pub writes_one_base : Ends arguments shelf Same before left taken now status → WritesOneBase arguments shelf before taken now status
-  writes_one_base ends words is done =
+  -- an outcome of which this holds was written
+  outcome_written : (Tells : Found → List ℕ → List ℕ → Type 0) (outcome : Outcome) → HasReport arguments shelf Same before left outcome → Appends taken now (output_of outcome)
+      → ((found : Found) (input : List ℕ) → Reports arguments found input outcome → Tells found input (output_of outcome)) → HasWritten Tells (AreFoundFor arguments shelf) before taken now
+  outcome_written Tells outcome report appended tells = record {
+    found = report.found;
+    files = report.files;
+    input = report.holds.input;
+    known = report.holds.known;
+    output = output_of outcome;
+    appended = appended;
+    tells = tells report.found report.holds.input report.holds.reports;
+  }
+
+  -- where the run is done, a text of which this holds was written
+  text_written : (Tells : Found → List ℕ → List ℕ → Type 0) → ((found : Found) (input output : List ℕ) → Reports arguments found input (Written output) → Tells found input output)
+      → Ends arguments shelf Same before left taken now status → status ≡ Done → HasWritten Tells (AreFoundFor arguments shelf) before taken now
+  text_written Tells tells ends done =
       let end = done_ends ends done in
-      let report = end.1 in
-      record {
-        found = report.found;
-        files = report.files;
-        input = report.holds.input;
-        known = report.holds.known;
-        output = output_of end.0;
-        appended = end.3;
-        tells = has_one_base arguments words report.found report.holds.input (output_of end.0) is
-            (subst (λ (o : Outcome). Reports arguments report.found report.holds.input o) (written_is end.0 end.2) report.holds.reports);
-      }
+      outcome_written Tells end.0 end.1 end.3
+      (λ found input reports. tells found input (output_of end.0) (subst (λ (o : Outcome). Reports arguments found input o) (written_is end.0 end.2) reports))
+
+  -- where it is done, and each answer is `ok` or not, an outcome of which this holds was written
+  answer_written : (Tells : Status → Found → List ℕ → List ℕ → Type 0)
+      → ((found : Found) (input : List ℕ) (outcome : Outcome) → Reports arguments found input outcome → (status_of outcome ≡ Done) ⊎ (status_of outcome ≡ NotOk)
+      → Tells (status_of outcome) found input (output_of outcome))
+      → Ends arguments shelf Same before left taken now status → (status ≡ Done) ⊎ (status ≡ NotOk) → HasWritten (Tells status) (AreFoundFor arguments shelf) before taken now
+  answer_written Tells tells ends (inl done) =
+      let end = done_ends ends done in
+      outcome_written (Tells status) end.0 end.1 end.3 (λ found input reports. subst (λ (s : Status). Tells s found input (output_of end.0)) (end.2 ∙ sym done) (tells found input end.0 reports (inl end.2)))
+  answer_written Tells tells ends (inr failed) =
+      let end = not_ok_ends ends failed in
+      outcome_written (Tells status) end.0 end.1 end.3 (λ found input reports. subst (λ (s : Status). Tells s found input (output_of end.0)) (end.2 ∙ sym failed) (tells found input end.0 reports (inr end.2)))
+
+  pub writes_one_base : Ends arguments shelf Same before left taken now status → WritesOneBase arguments shelf before taken now status
+  writes_one_base ends words is done = text_written (TellsOneBase words) (λ found input output. has_one_base arguments words found input output is) ends done
 
   pub writes_signed : Ends arguments shelf Same before left taken now status → WritesSigned arguments shelf before taken now status
-  writes_signed ends words is done =
-      let end = done_ends ends done in
-      let report = end.1 in
-      record {
-        found = report.found;
-        files = report.files;
-        input = report.holds.input;
-        known = report.holds.known;
-        output = output_of end.0;
-        appended = end.3;
-        tells = has_signed arguments words report.found report.holds.input (output_of end.0) is
-            (subst (λ (o : Outcome). Reports arguments report.found report.holds.input o) (written_is end.0 end.2) report.holds.reports);
-      }
+  writes_signed ends words is done = text_written (TellsSigned words) (λ found input output. has_signed arguments words found input output is) ends done
 
   pub writes_negotiated : Ends arguments shelf Same before left taken now status → WritesNegotiated arguments shelf before taken now status
-  writes_negotiated ends words is done =
-      let end = done_ends ends done in
-      let report = end.1 in
-      record {
-        found = report.found;
-        files = report.files;
-        input = report.holds.input;
-        known = report.holds.known;
-        output = output_of end.0;
-        appended = end.3;
-        tells = has_negotiated arguments words report.found report.holds.input (output_of end.0) is
-            (subst (λ (o : Outcome). Reports arguments report.found report.holds.input o) (written_is end.0 end.2) report.holds.reports);
-      }
+  writes_negotiated ends words is done = text_written (TellsNegotiated words) (λ found input output. has_negotiated arguments words found input output is) ends done
 
-  verdicts_written : (words : VerifyWords) → IsCommand arguments (Verify words) → (outcome : Outcome) → HasReport arguments shelf Same before left outcome
-      → (status_of outcome ≡ Done) ⊎ (status_of outcome ≡ NotOk) → Appends taken now (output_of outcome) → HasWritten (TellsVerdicts words) (AreFoundFor arguments shelf) before taken now
-  verdicts_written words is outcome report answered appended = record {
-    found = report.found;
-    files = report.files;
-    input = report.holds.input;
-    known = report.holds.known;
-    output = output_of outcome;
-    appended = appended;
-    tells = have_one_meaning arguments words report.found report.holds.input outcome is report.holds.reports answered;
-  }
+  pub writes_rewritten : Ends arguments shelf Same before left taken now status → WritesRewritten arguments shelf before taken now status
+  writes_rewritten ends words is done = text_written (TellsRewritten words) (λ found input output. has_rewritten arguments words found input output is) ends done
+
+  pub writes_turned : Ends arguments shelf Same before left taken now status → WritesTurned arguments shelf before taken now status
+  writes_turned ends words is done = text_written (TellsTurned words) (λ found input output. same_where_turned arguments words found input output is) ends done
 
   pub writes_verdicts : Ends arguments shelf Same before left taken now status → WritesVerdicts arguments shelf before taken now status
-  writes_verdicts ends words is (inl done) = let end = done_ends ends done in verdicts_written words is end.0 end.1 (inl end.2) end.3
-  writes_verdicts ends words is (inr failed) = let end = not_ok_ends ends failed in verdicts_written words is end.0 end.1 (inr end.2) end.3
-
-  explanation_written : (words : ExplainWords) → IsCommand arguments (Explain words) → (outcome : Outcome) → HasReport arguments shelf Same before left outcome
-      → (status_of outcome ≡ Done) ⊎ (status_of outcome ≡ NotOk) → status_of outcome ≡ status → Appends taken now (output_of outcome)
-      → HasWritten (TellsExplanation words status) (AreFoundFor arguments shelf) before taken now
-  explanation_written words is outcome report answered same appended = record {
-    found = report.found;
-    files = report.files;
-    input = report.holds.input;
-    known = report.holds.known;
-    output = output_of outcome;
-    appended = appended;
-    tells = subst (λ (s : Status). TellsExplanation words s report.found report.holds.input (output_of outcome)) same
-        (has_explanation arguments words report.found report.holds.input outcome is report.holds.reports answered);
-  }
+  writes_verdicts ends words is answered = answer_written (λ status. TellsVerdicts words) (λ found input outcome. have_one_meaning arguments words found input outcome is) ends answered
 
   pub writes_explanation : Ends arguments shelf Same before left taken now status → WritesExplanation arguments shelf before taken now status
-  writes_explanation ends words is (inl done) = let end = done_ends ends done in explanation_written words is end.0 end.1 (inl end.2) (end.2 ∙ sym done) end.3
-  writes_explanation ends words is (inr failed) = let end = not_ok_ends ends failed in explanation_written words is end.0 end.1 (inr end.2) (end.2 ∙ sym failed) end.3
-
-  chain_written : (words : AuditWords) → IsCommand arguments (Audit words) → (outcome : Outcome) → HasReport arguments shelf Same before left outcome
-      → (status_of outcome ≡ Done) ⊎ (status_of outcome ≡ NotOk) → Appends taken now (output_of outcome) → HasWritten (TellsOneChain words) (AreFoundFor arguments shelf) before taken now
-  chain_written words is outcome report answered appended = record {
-    found = report.found;
-    files = report.files;
-    input = report.holds.input;
-    known = report.holds.known;
-    output = output_of outcome;
-    appended = appended;
-    tells = has_one_chain arguments words report.found report.holds.input outcome is report.holds.reports answered;
-  }
+  writes_explanation ends words is answered = answer_written (λ status. TellsExplanation words status) (λ found input outcome. has_explanation arguments words found input outcome is) ends answered
 
   pub writes_one_chain : Ends arguments shelf Same before left taken now status → WritesOneChain arguments shelf before taken now status
-  writes_one_chain ends words is (inl done) = let end = done_ends ends done in chain_written words is end.0 end.1 (inl end.2) end.3
-  writes_one_chain ends words is (inr failed) = let end = not_ok_ends ends failed in chain_written words is end.0 end.1 (inr end.2) end.3
+  writes_one_chain ends words is answered = answer_written (λ status. TellsOneChain words) (λ found input outcome. has_one_chain arguments words found input outcome is) ends answered

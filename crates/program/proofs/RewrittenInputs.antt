@@ -11,6 +11,8 @@ use Rattle.conf.specs.Configuration.{Configuration}
 use Rattle.rewrite_script.specs.declared.rewrite.Rewrite.{Rewrite as Rewriting}
 use Rattle.whole_rewrites.specs.Laws.{IsReadAs}
 use Rattle.rewrites.specs.Laws.{rests_on_conf}
+use Rattle.rewrites.specs.Steps.{Steps}
+use Rattle.rewrites.proofs.Kept.{keeps_over_steps}
 use Rattle.verdicts.specs.Verdicts.{IsVerdict}
 use Rattle.verdicts.specs.declared.outcome.Verdict.{Verdict}
 use Rattle.intake.specs.Configured.{IsConfigured}
@@ -19,7 +21,7 @@ use Rattle.intake.specs.Files.{Found, Conf as ConfFile, Request as RequestFile, 
 use Rattle.intake.specs.Messages.{IsInputMessage}
 use Rattle.msg_body.specs.WholeTexts.{IsWhole, reading_for}
 use Rattle.intake.specs.MessageFiles.{IsRequested}
-use Rattle.commands.specs.Rewrite.{ReportsRewriting}
+use Rattle.commands.specs.Rewrite.{IsTaken, ReportsRewriting}
 use Rattle.intake.specs.Scripts.{IsScripted}
 use Rattle.commands.specs.Verify.{ReportsVerdicts}
 use Rattle.verdicts.specs.Verification.{verification_for}
@@ -33,6 +35,7 @@ use Rattle.refusals.specs.declared.role.Role.TheVariants.{Conf, Request, Wanted,
 use Rattle.program.specs.Commands.{name_of}
 use Rattle.program.specs.Intake.{IsIntake, IsIntakeRefused, TakenValues}
 use Rattle.program.specs.Laws.{IsVerdictKept}
+use Rattle.program.specs.Meanings.{HasRewritten}
 use Rattle.program.specs.Report.{Reports, ReportsCommand}
 use Rattle.program.proofs.Sources.{spelled_input}
 use Rattle.program.proofs.SignedInputs.{input_not_refused, label_verdict, short_of, taken_context, to_head_is}
@@ -151,15 +154,41 @@ verdict_kept rewriting verifying rewritten verified label found other input writ
     → IsReadAs context (context_for conf parts.message parts.related) =
     λ conf configured rests. alike (parts.script, parts.scripted, rests) parts.conf conf parts.configured configured in
     let kept = λ (conf : Configuration) (configured : IsConfigured (Some verified.conf) (other ConfFile) conf).
-    verdict_where_rewritten label parts.script context input written end.0 conf writable values (agree conf configured) spelled reports end.1 in
+    verdict_where_rewritten label parts.script context input written end.after conf writable values (agree conf configured) spelled reports end.spells in
     let requested : IsRequested verified.request (other RequestFile) parts.related =
     subst (λ (text : Option (List ℕ)). IsRequested verified.request text parts.related) (sym request)
     (subst (λ (name : Option (List ℕ)). IsRequested name (found RequestFile) parts.related) (sym same.request) parts.requested) in
-    let whole = whole_is parts.related input written parts.message end.0 parts.is end.1 end.2 in
-    let short = short_of (answers_head parts.related) end.0 written end.1 in (
-      reports_same verified label same.label_is other parts.related requested written input end.0 parts.message short whole parts.is
+    let whole = whole_is parts.related input written parts.message end.after parts.is end.spells end.kind in
+    let short = short_of (answers_head parts.related) end.after written end.spells in (
+      reports_same verified label same.label_is other parts.related requested written input end.after parts.message short whole parts.is
           (λ conf configured verdict. (kept conf configured conf verified.now None verdict).1) verifying outcome also,
       λ bytes.
-          reports_same verified label same.label_is other parts.related requested input written parts.message end.0 parts.is.within parts.is.whole (record { are_bytes = bytes; within = short; whole = whole })
+          reports_same verified label same.label_is other parts.related requested input written parts.message end.after parts.is.within parts.is.whole (record { are_bytes = bytes; within = short; whole = whole })
           (λ conf configured verdict. (kept conf configured conf verified.now None verdict).0) verifying outcome also,
     )
+
+-- the message after the steps, and what it keeps of the label's signature
+pub has_rewritten : HasRewritten
+has_rewritten arguments words found input written is wrote =
+    let parts = rewritten_parts arguments words found input written is wrote in
+    let context = context_for parts.conf parts.message parts.related in
+    let end = message_where_rewritten words.label parts.script context input written (spelled_input parts.related input parts.message parts.is) parts.reports in
+    let writable = writable_where_scripted (Some words.script) (found ScriptFile) parts.script parts.scripted in
+    let values = values_where_scripted (Some words.script) (found ScriptFile) parts.script parts.scripted in
+    record {
+      conf = parts.conf;
+      configured = parts.configured;
+      related = parts.related;
+      requested = parts.requested;
+      script = parts.script;
+      scripted = parts.scripted;
+      message = parts.message;
+      is = parts.is;
+      written = end.after;
+      spells = end.spells;
+      kind = end.kind;
+      steps = end.steps;
+      kept = λ label params tag asked has.
+          keeps_over_steps context parts.script label params tag end.after writable values has
+          (subst (λ (l : Option (List ℕ)). Steps (IsTaken l) context parts.script end.after) asked end.steps);
+    }

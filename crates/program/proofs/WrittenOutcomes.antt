@@ -6,13 +6,13 @@ use Rattle.hms_io.specs.declared.status.Status.{Status}
 use Rattle.hms_io.specs.declared.status.Status.TheVariants.{BadArguments, ReadFault, WriteFault, OutOfMemory}
 use Rattle.refusals.specs.declared.refusal.Refusal.{Refusal}
 use Rattle.refusals.specs.declared.refusal.Refusal.TheVariants.{Arguments}
-use Rattle.commands.specs.Outcome.{status_of, output_of, IfOutcome}
+use Rattle.commands.specs.Outcome.{status_of, output_of, refusal_of, IfOutcome}
 use Rattle.commands.specs.declared.outcome.Outcome.{Outcome}
 use Rattle.commands.specs.declared.outcome.Outcome.TheVariants.{Done, NotOk, Refused}
 use Rattle.intake.specs.declared.stop.Stop.{Stop}
 use Rattle.intake.specs.declared.stop.Stop.TheVariants.{Memory as NoMemory, ReadFault as ReadFailed, Refused as StopRefused}
 use Rattle.program.specs.Ends.{HasReport, Ends, TellsWhy, WritesRefusal, CountsReads}
-use Rattle.program.specs.tools.Parts.{CountsOne, IsWritten, IsWrittenStop, refusal_of}
+use Rattle.program.specs.tools.Parts.{CountsOne, IsWritten, IsWrittenStop}
 use Rattle.program.proofs.Reports.{not_read_fault, written_outcome}
 
 -- ---- what was written

@@ -383,13 +383,18 @@ abbrev pub IsSameTurned : Bool → Configuration → List ℕ → List ℕ → T
 IsSameTurned true = IsSameMessage
 IsSameTurned false = IsSameList
 
--- What `lists` writes has the values of its input, by the configuration in its file.
+-- By the configuration in the file of this name what is written has the values of the input.
+abbrev pub TellsTurned : ListsWords → Found → List ℕ → List ℕ → Type 0
+TellsTurned words found input written =
+    (conf : Configuration) × IsConfigured words.conf (found ConfFile) conf
+    × IsSameTurned words.into_message conf input written
+
+-- what `lists` writes is so
 abbrev pub IsSameWhereTurned : Type 0
 IsSameWhereTurned =
     (arguments : List (List ℕ)) (words : ListsWords) (found : Found) (input written : List ℕ)
     → IsCommand arguments (Lists words) → Reports arguments found input (Written written)
-    → (conf : Configuration) × IsConfigured words.conf (found ConfFile) conf
-    × IsSameTurned words.into_message conf input written
+    → TellsTurned words found input written
 
 -- ---- what is turned, and back
 

@@ -5,7 +5,8 @@ use Rattle.std.specs.List.{All, Contains, zip}
 use Rattle.hms_io.specs.Files.{FileMap}
 use Rattle.hms_io.specs.declared.status.Status.{Status}
 use Rattle.hms_io.specs.declared.status.Status.TheVariants.{Done, NotOk}
-use Rattle.command_line.specs.Command.{Base, Verify, Sign, Explain, Audit, Negotiate, BaseWords, VerifyWords, SignWords, ExplainWords, AuditWords, NegotiateWords, IsCommand}
+use Rattle.command_line.specs.Command.{Base, Verify, Sign, Rewrite, Explain, Audit, Lists, Negotiate, BaseWords, VerifyWords, SignWords, RewriteWords, ExplainWords, AuditWords, ListsWords, NegotiateWords, IsCommand}
+use Rattle.framing.specs.Framings.{is_request}
 use Rattle.msg_body.specs.Messages.{Message, Spells}
 use Rattle.msg_body.specs.WholeTexts.{reading_for}
 use Rattle.sfv_text.specs.declared.pair.Pair.{Pair}
@@ -31,7 +32,9 @@ use Rattle.verdicts.specs.Verdicts.{Accepts}
 use Rattle.verdicts.specs.Verification.{Verification, verification_for}
 use Rattle.verdicts.specs.declared.outcome.Verdict.{Verdict}
 use Rattle.verdicts.specs.declared.outcome.Verdict.TheVariants.{Ok as Accepted}
-use Rattle.rewrite_script.specs.declared.rewrite.Rewrite.{Rewrite}
+use Rattle.rewrite_script.specs.declared.rewrite.Rewrite.{Rewrite as Rewriting}
+use Rattle.rewrites.specs.Laws.{KeepsSignature}
+use Rattle.rewrites.specs.Steps.{Steps}
 use Rattle.normal_forms.specs.Agreement.{AgreeOn}
 use Rattle.normal_forms.specs.Explanations.{AreExplained, DifferFirstAt}
 use Rattle.recording.specs.Items.{PlacedItem}
@@ -47,15 +50,18 @@ use Rattle.commands.specs.Audit.{IsRecordingText}
 use Rattle.intake.specs.Configured.{IsConfigured}
 use Rattle.commands.specs.Covered.{ReadsParams}
 use Rattle.commands.specs.Explain.{differing_text, explained_text}
-use Rattle.intake.specs.Files.{Found, Conf as ConfFile, Request as RequestFile, Wanted as WantedFile, Other as OtherFile}
+use Rattle.intake.specs.Files.{Found, Conf as ConfFile, Request as RequestFile, Wanted as WantedFile, Script as ScriptFile, Other as OtherFile}
 use Rattle.intake.specs.MessageFiles.{IsMessageFile, IsRequested, IsWanted}
 use Rattle.intake.specs.Messages.{IsInputMessage}
+use Rattle.intake.specs.Scripts.{IsScripted}
 use Rattle.commands.specs.Outcome.{output_of, status_of}
+use Rattle.commands.specs.Rewrite.{IsTaken}
 use Rattle.commands.specs.SignedMessages.{SignsAs}
 use Rattle.commands.specs.Verify.{AreAsked, verdict_lines}
 use Rattle.commands.specs.declared.outcome.Outcome.{Outcome}
 use Rattle.commands.specs.declared.outcome.Outcome.TheVariants.{Done as Written}
 use Rattle.program.specs.Commands.{AreFoundFor}
+use Rattle.program.specs.Laws.{TellsTurned}
 use Rattle.program.specs.Report.{Reports}
 
 -- ---- `base`
@@ -209,14 +215,45 @@ HasNegotiated =
     (input output : List ℕ) → IsCommand arguments (Negotiate words)
     → Reports arguments found input (Written output) → TellsNegotiated words found input output
 
+-- ---- `rewrite`
+
+-- The output is the message to which the steps of the script lead, each taken on the message that
+-- the one before it gave. It is of the kind of the input, and where a label is given it has the
+-- label's signature, with the same parameters, tag and base, over the same values and the same
+-- content; so it has the same verdict.
+pub record TellsRewritten (words : RewriteWords) (found : Found) (input output : List ℕ)
+    : Type 0 where
+  pub conf : Configuration
+  pub configured : IsConfigured words.conf (found ConfFile) conf
+  pub related : Option Message
+  pub requested : IsRequested words.request (found RequestFile) related
+  pub script : List Rewriting
+  pub scripted : IsScripted (Some words.script) (found ScriptFile) script
+  pub message : Message
+  pub is : IsInputMessage (reading_for related) input message
+  pub written : Message
+  pub spells : Spells (answers_head related) written output
+  pub kind : is_request written.head.start ≡ is_request message.head.start
+  pub steps : Steps (IsTaken words.label) (context_for conf message related) script written
+  pub kept : (label : List ℕ) (params : SigParams) (tag : List ℕ) → words.label ≡ Some label
+      → HasSignature message label params tag
+      → KeepsSignature (context_for conf message related) label params tag written
+
+-- what `rewrite` writes is so
+abbrev pub HasRewritten : Type 0
+HasRewritten =
+    (arguments : List (List ℕ)) (words : RewriteWords) (found : Found) (input output : List ℕ)
+    → IsCommand arguments (Rewrite words) → Reports arguments found input (Written output)
+    → TellsRewritten words found input output
+
 -- ---- `explain`
 
 -- The output has two lists of steps, each of which the label's signature permits on the message
 -- that it meets. They lead the two messages to normal ones, which are alike.
 pub record TellsSteps (context other : MessageContext) (label : List ℕ) (params : SigParams)
     (output : List ℕ) : Type 0 where
-  pub steps : List Rewrite
-  pub others : List Rewrite
+  pub steps : List Rewriting
+  pub others : List Rewriting
   pub are : AreExplained context other label params steps others
   pub written : output ≡ explained_text steps others
 
@@ -341,6 +378,20 @@ abbrev pub WritesNegotiated : List (List ℕ) → Option FileMap → Option (Lis
 WritesNegotiated arguments shelf before taken now status =
     (words : NegotiateWords) → IsCommand arguments (Negotiate words) → status ≡ Done
     → HasWritten (TellsNegotiated words) (AreFoundFor arguments shelf) before taken now
+
+-- where `rewrite` is done, the message after the steps was written
+abbrev pub WritesRewritten : List (List ℕ) → Option FileMap → Option (List ℕ)
+    → Option (List ℕ) → Option (List ℕ) → Status → Type 0
+WritesRewritten arguments shelf before taken now status =
+    (words : RewriteWords) → IsCommand arguments (Rewrite words) → status ≡ Done
+    → HasWritten (TellsRewritten words) (AreFoundFor arguments shelf) before taken now
+
+-- where `lists` is done, a message or a list with the same values was written
+abbrev pub WritesTurned : List (List ℕ) → Option FileMap → Option (List ℕ) → Option (List ℕ)
+    → Option (List ℕ) → Status → Type 0
+WritesTurned arguments shelf before taken now status =
+    (words : ListsWords) → IsCommand arguments (Lists words) → status ≡ Done
+    → HasWritten (TellsTurned words) (AreFoundFor arguments shelf) before taken now
 
 -- where `explain` is done, whether the messages agree or not, an explanation was written
 abbrev pub WritesExplanation : List (List ℕ) → Option FileMap → Option (List ℕ)

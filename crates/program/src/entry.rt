@@ -9,11 +9,11 @@ ghost use Rattle.program.specs.Commands.{GivesFew, NamesNoFile, ReadsNoInput, Re
 ghost use Rattle.program.specs.Ends.{AsksForNamed, HasReport, Ends, TellsWhy, WritesRefusal, CountsFaults, CountsReads};
 ghost use Rattle.program.specs.StreamEnds.{IsRefusedFor, WritesStream};
 ghost use Rattle.program.specs.StreamMeanings.{WritesPassed};
-ghost use Rattle.program.specs.Meanings.{WritesExplanation, WritesNegotiated, WritesOneBase, WritesOneChain, WritesSigned, WritesVerdicts};
+ghost use Rattle.program.specs.Meanings.{WritesExplanation, WritesNegotiated, WritesOneBase, WritesOneChain, WritesRewritten, WritesSigned, WritesTurned, WritesVerdicts};
 ghost use Rattle.refusals.specs.declared.refusal.Refusal.TheVariants.{Arguments};
 ghost use Rattle.intake.specs.declared.stop.Stop.TheVariants.{Refused};
-ghost use Rattle.commands.specs.Outcome.{output_of, IfOutcome};
-ghost use Rattle.program.specs.tools.Parts.{AsksOf, CountsOne, IsWritten, IsWrittenStop, begin_stream, refusal_of};
+ghost use Rattle.commands.specs.Outcome.{IfOutcome};
+ghost use Rattle.program.specs.tools.Parts.{AsksOf, CountsOne, IsWritten, IsWrittenStop, begin_stream};
 
 use crate::ended::Ended;
 use crate::help::{help_outcome, version_outcome, write_help_of};
@@ -25,7 +25,6 @@ use commands::{Outcome, sample_outcome};
 use hms_io::{Failed, Shelf, Sink, Source, Status, put_all};
 use intake::Stop;
 use refusals::Refusal;
-use sfv_text::{Memory, Text};
 use std::alloc::Global;
 
 /// Does what the arguments ask for.
@@ -93,21 +92,6 @@ fn of_bytes(bytes: &[u8]) -> &[u8]
     bytes
 }
 
-/// The text that the outcome writes, and the refusal that it is, if it is one.
-fn output_and_refusal(alloc: Global, outcome: Outcome) -> Result<(Text, Option<Refusal>), Memory>
-    ensures output { IfOk result (λ made. made.0 ≡ output_of outcome) }
-    ensures refusal { IfOk result (λ made. made.1 ≡ refusal_of outcome) }
-{
-    match outcome {
-        Outcome::Done(output) => Ok((output, None)),
-        Outcome::NotOk(output) => Ok((output, None)),
-        Outcome::Refused(refusal) => {
-            let line = refusal.line(alloc)?;
-            Ok((line, Some(refusal)))
-        }
-    }
-}
-
 /// Writes the outcome.
 pub(crate) fn write_outcome<K: Sink>(alloc: Global, outcome: Outcome, out: &mut K) -> Ended
     ensures ends { IsWritten outcome (K.taken out.old) (K.taken out.new)
@@ -117,7 +101,7 @@ pub(crate) fn write_outcome<K: Sink>(alloc: Global, outcome: Outcome, out: &mut 
     ensures idle { K.idle out.new ≤ K.idle out.old + 1 }
 {
     let status = outcome.status();
-    let Ok((output, refusal)) = output_and_refusal(alloc, outcome) else {
+    let Ok((output, refusal)) = outcome.into_parts(alloc) else {
         return Ended::of_status(Status::OutOfMemory);
     };
     match put_all(out, of_bytes(output.bytes())) {
@@ -240,10 +224,11 @@ pub fn run<F: Shelf, S: Source, K: Sink>(
 
     // What these commands wrote tells what it was made of: equal bases have equal parameters and
     // values, labels that are accepted with one tag under one key agree, each label that was there
-    // or is signed is there, each wish of a request is met in its response, two records that are
-    // explained agree on all that is covered, what is kept at a hop has one base on both sides of
-    // it, and a message that passes keeps the accepted signature, beside that of the gateway; no
-    // nonce is accepted twice.
+    // or is signed is there, each wish of a request is met in its response, what is rewritten under
+    // a label keeps its signature and its base, two records that are explained agree on all that is
+    // covered, a message and its list have the same values, what is kept at a hop has one base on
+    // both sides of it, and a message that passes keeps the accepted signature, beside that of the
+    // gateway; no nonce is accepted twice.
     ensures base { WritesOneBase (map string_bytes arguments.now) (F.files shelf.old)
         (S.left source.old) (K.taken out.old) (K.taken out.new) result.status }
     ensures verify { WritesVerdicts (map string_bytes arguments.now) (F.files shelf.old)
@@ -252,7 +237,11 @@ pub fn run<F: Shelf, S: Source, K: Sink>(
         (S.left source.old) (K.taken out.old) (K.taken out.new) result.status }
     ensures negotiate { WritesNegotiated (map string_bytes arguments.now) (F.files shelf.old)
         (S.left source.old) (K.taken out.old) (K.taken out.new) result.status }
+    ensures rewrite { WritesRewritten (map string_bytes arguments.now) (F.files shelf.old)
+        (S.left source.old) (K.taken out.old) (K.taken out.new) result.status }
     ensures explain { WritesExplanation (map string_bytes arguments.now) (F.files shelf.old)
+        (S.left source.old) (K.taken out.old) (K.taken out.new) result.status }
+    ensures lists { WritesTurned (map string_bytes arguments.now) (F.files shelf.old)
         (S.left source.old) (K.taken out.old) (K.taken out.new) result.status }
     ensures audit { WritesOneChain (map string_bytes arguments.now) (F.files shelf.old)
         (S.left source.old) (K.taken out.old) (K.taken out.new) result.status }

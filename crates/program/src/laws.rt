@@ -1,7 +1,7 @@
 //! Laws of what the program answers. Each function does nothing; its contract is the law.
 
 ghost use Rattle.program.specs.Laws.{HasIntake, HasOneReport, HasSomeReport, IsComplete, IsServedInPlace, IsIntakeDecided, IsAcceptedWhereNegotiated, IsAcceptedWhereSigned, IsVerdictKept, IsKeptWherePermitted, IsLineWhereRefused, IsSameWhereTurned, HasComeBackWhereTurned};
-ghost use Rattle.program.specs.Meanings.{HasExplanation, HasNegotiated, HasOneBase, HasOneChain, HasSigned, HaveOneMeaning, RunsAgreeWhereOneTag};
+ghost use Rattle.program.specs.Meanings.{HasExplanation, HasNegotiated, HasOneBase, HasOneChain, HasRewritten, HasSigned, HaveOneMeaning, RunsAgreeWhereOneTag};
 
 /// For given arguments, files and input there is one outcome, and so one status and one output. So
 /// each row of the report is exact: its status and its output come there and nowhere else, out of
@@ -62,12 +62,13 @@ pub fn what_is_negotiated_is_accepted()
     ensures accepted { IsAcceptedWhereNegotiated }
 {}
 
-/// What `rewrite` writes under a label, given to `verify` with the same request, has the line of
-/// the label and the status that the message had that was read, at each moment and by each
-/// configuration; where a step rests on the configured scheme or kinds of fields, by each that has
-/// the same.
+/// What `rewrite` writes is the message after the steps; under a label it keeps the label's
+/// signature and its base. Given to `verify` with the same request, it has the line of the label
+/// and the status that the message had that was read, at each moment and by each configuration;
+/// where a step rests on the configured scheme or kinds of fields, by each that has the same.
 pub fn what_is_rewritten_keeps_its_verdict()
-    ensures { IsVerdictKept }
+    ensures rewritten { HasRewritten }
+    ensures verdict { IsVerdictKept }
 {}
 
 /// What `audit` writes is the report on the chain that its input records, and a sound one: a label

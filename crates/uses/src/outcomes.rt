@@ -54,11 +54,16 @@ fn configured(alloc: Global, shelf: &mut MemShelf) -> Option<GivenConf> {
     }
 }
 
+fn writes(alloc: Global, outcome: Outcome, bytes: &[u8]) -> bool {
+    match outcome.into_parts(alloc) {
+        Ok((text, refusal)) => text.bytes() == bytes && refusal.is_none(),
+        Err(_) => false,
+    }
+}
+
 fn has_base(alloc: Global, context: &Context<'_, '_>) -> bool {
     match base_outcome(alloc, br#"("@authority")"#, context) {
-        Ok(outcome) => {
-            outcome.status() == Status::Done && is_text(outcome.into_output(alloc), BASE)
-        }
+        Ok(outcome) => { outcome.status() == Status::Done && writes(alloc, outcome, BASE) }
         Err(_) => false,
     }
 }
@@ -66,8 +71,7 @@ fn has_base(alloc: Global, context: &Context<'_, '_>) -> bool {
 fn has_verdicts(alloc: Global, conf: &Conf, context: &Context<'_, '_>) -> bool {
     match verify_outcome(alloc, conf, 0, None, context) {
         Ok(outcome) => {
-            outcome.status() == Status::NotOk
-                && is_text(outcome.into_output(alloc), b"- rule 1 input-absent\n")
+            outcome.status() == Status::NotOk && writes(alloc, outcome, b"- rule 1 input-absent\n")
         }
         Err(_) => false,
     }

@@ -28,7 +28,7 @@ use Rattle.intake.specs.Files.{AreFound, FileNames, FileRole, Conf as ConfFile, 
 use Rattle.commands.specs.Layers.{ReadsThen}
 use Rattle.intake.specs.MessageFiles.{IsMessageFile, IsMessageFileRefused, IsRequested}
 use Rattle.intake.specs.Messages.{IsInputMessage, IsInputRefused}
-use Rattle.commands.specs.Outcome.{output_of, status_of, IfOutcome}
+use Rattle.commands.specs.Outcome.{output_of, refusal_of, status_of, IfOutcome}
 use Rattle.commands.specs.declared.outcome.Outcome.{Outcome}
 use Rattle.commands.specs.declared.outcome.Outcome.TheVariants.{Done, NotOk, Refused}
 use Rattle.intake.specs.declared.stop.Stop.{Stop}
@@ -222,11 +222,6 @@ abbrev pub conf_names : Option (List ℕ) → FileNames
 conf_names name = file_names name None None None None
 
 -- ---- how an outcome is written
-
--- the refusal that the outcome is, if it is one
-abbrev pub refusal_of : Outcome → Option Refusal
-refusal_of (Refused refusal) = Some refusal
-refusal_of outcome = None
 
 -- all of the output was written, and a refusal is told; a proper prefix of it was written; or no
 -- memory was found for it, and nothing was written

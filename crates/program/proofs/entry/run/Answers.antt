@@ -1,5 +1,5 @@
 use Rattle.std.proofs.Common.{◌≡◌, ◌⊎◌, ◌+◌, ◌≤◌, inl, map, string_bytes, ap}
-use Rattle.command_line.specs.Command.{CommandLine, Base, Verify, Sign, Explain, Audit, Gateway, Negotiate, GatewayWords, gateway_words}
+use Rattle.command_line.specs.Command.{CommandLine, Base, Verify, Sign, Rewrite, Explain, Audit, Gateway, Lists, Negotiate, GatewayWords, gateway_words}
 use Rattle.command_line.proofs.CommandLaws.{one_command}
 use Rattle.intake.specs.Files.{Found, AreFound, Conf, file_bytes}
 use Rattle.program.specs.Commands.{GivesAtMost, LosesFew, input_use, name_of}
@@ -7,7 +7,7 @@ use Rattle.program.specs.Ends.{AsksFor, HasReport, WritesRefusal}
 use Rattle.program.specs.StreamEnds.{EndsStream}
 use Rattle.program.specs.StreamMeanings.{TellsStream}
 use Rattle.program.proofs.AskedFiles.{conf_told}
-use Rattle.program.proofs.Meanings.{writes_explanation, writes_negotiated, writes_one_base, writes_one_chain, writes_signed, writes_verdicts}
+use Rattle.program.proofs.Meanings.{writes_explanation, writes_negotiated, writes_one_base, writes_one_chain, writes_rewritten, writes_signed, writes_turned, writes_verdicts}
 use Rattle.program.proofs.Reports.{never, of_command}
 use Rattle.program.proofs.StreamRecords.{told_rightly}
 use Rattle.program.proofs.StreamRuns.{for_gateway, stream_few, why_stream, why_whole_told}
@@ -46,6 +46,12 @@ returns-in-Some-clause-sign g c = λ words is done. absurd (cc (one_command (map
 
 pub returns-in-Some-clause-explain : goal.returns-in-Some-clause-explain
 returns-in-Some-clause-explain g c = λ words is done. absurd (cc (one_command (map string_bytes c.args.arguments.now) (Gateway (gateway_words c.in-Some.words)) (Explain words) c.in-Some.ensures.some is))
+
+pub returns-in-Some-clause-lists : goal.returns-in-Some-clause-lists
+returns-in-Some-clause-lists g c = λ words is done. absurd (cc (one_command (map string_bytes c.args.arguments.now) (Gateway (gateway_words c.in-Some.words)) (Lists words) c.in-Some.ensures.some is))
+
+pub returns-in-Some-clause-rewrite : goal.returns-in-Some-clause-rewrite
+returns-in-Some-clause-rewrite g c = λ words is done. absurd (cc (one_command (map string_bytes c.args.arguments.now) (Gateway (gateway_words c.in-Some.words)) (Rewrite words) c.in-Some.ensures.some is))
 
 pub returns-in-Some-clause-negotiate : goal.returns-in-Some-clause-negotiate
 returns-in-Some-clause-negotiate g c = λ words is done. absurd (cc (one_command (map string_bytes c.args.arguments.now) (Gateway (gateway_words c.in-Some.words)) (Negotiate words) c.in-Some.ensures.some is))
@@ -114,6 +120,16 @@ returns-in-None-clause-sign g c =
 pub returns-in-None-clause-explain : goal.returns-in-None-clause-explain
 returns-in-None-clause-explain g c =
     writes_explanation (map string_bytes c.args.arguments.now) (g.F.Shelf.files c.args.shelf.now) (c.run_whole.new.source ≡ c.args.source.now) (g.S.Source.left c.args.source.now) (g.S.Source.left c.run_whole.new.source)
+    (g.K.Sink.taken c.args.out.now) (g.K.Sink.taken c.run_whole.new.out) c.run_whole.result.status c.run_whole.ensures.ends
+
+pub returns-in-None-clause-lists : goal.returns-in-None-clause-lists
+returns-in-None-clause-lists g c =
+    writes_turned (map string_bytes c.args.arguments.now) (g.F.Shelf.files c.args.shelf.now) (c.run_whole.new.source ≡ c.args.source.now) (g.S.Source.left c.args.source.now) (g.S.Source.left c.run_whole.new.source)
+    (g.K.Sink.taken c.args.out.now) (g.K.Sink.taken c.run_whole.new.out) c.run_whole.result.status c.run_whole.ensures.ends
+
+pub returns-in-None-clause-rewrite : goal.returns-in-None-clause-rewrite
+returns-in-None-clause-rewrite g c =
+    writes_rewritten (map string_bytes c.args.arguments.now) (g.F.Shelf.files c.args.shelf.now) (c.run_whole.new.source ≡ c.args.source.now) (g.S.Source.left c.args.source.now) (g.S.Source.left c.run_whole.new.source)
     (g.K.Sink.taken c.args.out.now) (g.K.Sink.taken c.run_whole.new.out) c.run_whole.result.status c.run_whole.ensures.ends
 
 pub returns-in-None-clause-negotiate : goal.returns-in-None-clause-negotiate
