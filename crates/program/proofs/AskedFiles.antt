@@ -8,7 +8,7 @@ use Rattle.hms_io.specs.declared.status.Status.{Status}
 use Rattle.command_line.specs.Command.{CommandLine, IsCommand}
 use Rattle.intake.specs.Files.{FileNames, FileRole, Conf, Request, Wanted, Script, HasFound, file_count, file_names}
 use Rattle.intake.specs.Stops.{IfStopped, IsRefusalFor, stop_of_fill}
-use Rattle.commands.specs.Outcome.{IfOutcome}
+use Rattle.commands.specs.Outcome.{refusal_of, IfOutcome}
 use Rattle.commands.specs.declared.outcome.Outcome.{Outcome}
 use Rattle.commands.specs.declared.outcome.Outcome.TheVariants.{Done, NotOk, Refused}
 use Rattle.intake.specs.declared.stop.Stop.{Stop}
