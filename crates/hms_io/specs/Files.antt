@@ -4,6 +4,7 @@ use Rattle.std.specs.Ordering.{nat_cmp}
 use Rattle.std.specs.Cmp.Lexicographic.{slice_cmp}
 use Rattle.std.specs.FinMap as map
 use Rattle.hms_io.specs.Cause.{Rose}
+use Rattle.hms_io.specs.Reading.{RoseBy}
 use Rattle.hms_io.specs.declared.read_write.FillError.{FillError}
 use Rattle.hms_io.specs.declared.read_write.FillError.TheVariants as fill
 use Rattle.hms_io.specs.declared.whole_file.FileError.{FileError}
@@ -16,6 +17,10 @@ FileMap = map.FinMap (slice_cmp nat_cmp) (List ℕ)
 -- where the files are known, the answer is the named one, and None where none has the name
 abbrev pub GivesFile : Option FileMap → List ℕ → Option (List ℕ) → Type 0
 GivesFile known name found = IfSome known (λ files. map.get files name ≡ found)
+
+-- each byte of a file that is found was counted
+abbrev pub CountsFile : ℕ → ℕ → Option (List ℕ) → Type 0
+CountsFile before now found = IfSome found (λ file. RoseBy (length file) before now)
 
 -- known files stay
 abbrev pub KeepsFiles : Option FileMap → Option FileMap → Type 0

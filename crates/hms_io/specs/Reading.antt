@@ -16,6 +16,10 @@ abbrev pub given_after : {E : Type 0} → ℕ → Result ℕ E → ℕ
 given_after given (Ok count) = min (given + count) (2 ^ 64 - 1)
 given_after given (Err error) = given
 
+-- a count of bytes rose by so many at least, or is at its last value
+abbrev pub RoseBy : ℕ → ℕ → ℕ → Type 0
+RoseBy count before now = min (before + count) (2 ^ 64 - 1) ≤ now
+
 -- the answer for the piece reports the end: 0, where the piece isn't empty
 abbrev pub reports_end : {E : Type 0} → Result ℕ E → List ℕ → Bool
 reports_end (Ok count) piece = count == 0 && nat_lt 0 (length piece)

@@ -3,7 +3,7 @@
 ghost use Rattle.std.specs.Prelude.{◌≡◌, ◌≢◌, ◌+◌, ◌<◌, ◌≤◌, length, None, Some, Ok, Err, IfOk, IfErr, IfSome, OnOk, IsSome, IsErrOf, MatchResult};
 ghost use Rattle.std.specs.IoError.{error_kind};
 ghost use Rattle.hms_io.specs.Cause.{HasFillCause, one_more};
-ghost use Rattle.hms_io.specs.Files.{GivesFile, HasLongerFile, KeepsFiles};
+ghost use Rattle.hms_io.specs.Files.{CountsFile, GivesFile, HasLongerFile, KeepsFiles};
 
 use crate::faults::Faults;
 use crate::read_write::{FillError, MAX_LIMIT, fill};
@@ -72,6 +72,7 @@ impl<'a, R: Files> DirShelf<'a, R> {
             self.new.faults ≡ one_more self.old.faults }
         ensures asked { self.new.asked ≡ self.old.asked }
         ensures reached { self.new.reached ≤ self.old.reached + (limit + 1) }
+        ensures counts { IfOk result (CountsFile self.old.reached self.new.reached) }
     {
         let file = match opened {
             Ok(file) => file,
@@ -112,6 +113,7 @@ impl<'a, R: Files> Shelf for DirShelf<'a, R> {
             (HasFillCause self.old.faults self.new.faults) }
         ensures asked { self.new.asked ≡ one_more self.old.asked }
         ensures reached { self.new.reached ≤ self.old.reached + (limit + 1) }
+        ensures counts { IfOk result (CountsFile self.old.reached self.new.reached) }
         ensures counts_one { IsErrOf result FillError.Failed →
             self.new.faults ≡ one_more self.old.faults }
     {

@@ -4,7 +4,7 @@ ghost use Rattle.std.specs.Prelude.{◌≡◌, ◌+◌, ◌≤◌, length, None,
 ghost use Rattle.std.specs.FinMap as map;
 ghost use Rattle.hms_io.specs.Calls.{fails_next};
 ghost use Rattle.hms_io.specs.Cause.{HasFillCause, one_more};
-ghost use Rattle.hms_io.specs.Files.{GivesFile, HasLongerFile, KeepsFiles};
+ghost use Rattle.hms_io.specs.Files.{CountsFile, GivesFile, HasLongerFile, KeepsFiles};
 
 use crate::calls::Calls;
 use crate::read_write::{FillError, MAX_LIMIT};
@@ -108,6 +108,7 @@ impl Shelf for MemShelf {
             (HasFillCause self.old.calls.faults self.new.calls.faults) }
         ensures asked { self.new.calls.made ≡ one_more self.old.calls.made }
         ensures reached { self.new.reached ≤ self.old.reached + (limit + 1) }
+        ensures counts { IfOk result (CountsFile self.old.reached self.new.reached) }
 
         // It fails at the given calls alone.
         ensures fails { IsTrue (fails_next self.old.calls) → result ≡ Err FillError.Failed }

@@ -3,7 +3,7 @@
 ghost use Rattle.std.specs.Prelude.{◌≡◌, ◌+◌, ◌<◌, ◌≤◌, ℕ, length, take, IfOk, OnOk, OnErr, IfSome, IsErrOf, MatchResult};
 ghost use Rattle.std.specs.Io.KnownBytes.{Appends};
 ghost use Rattle.hms_io.specs.Cause.{HasCause, HasFillCause};
-ghost use Rattle.hms_io.specs.Reading.{GivesAll, LosesPrefix};
+ghost use Rattle.hms_io.specs.Reading.{GivesAll, LosesPrefix, RoseBy};
 
 use crate::faults::Failed;
 use crate::sink::Sink;
@@ -83,6 +83,10 @@ pub fn fill<S: Source>(alloc: Global, source: &mut S, limit: usize) -> Result<Te
     ensures prefix { OnErr result
         ((n : ℕ) × (n ≤ limit + 1) × LosesPrefix (S.left source.old) (S.left source.new) n) }
     ensures few { S.given source.new ≤ S.given source.old + (limit + 1) }
+
+    // The source counts each byte of the text.
+    ensures counts { IfOk result
+        (λ text. RoseBy (length text) (S.given source.old) (S.given source.new)) }
 
     // Each read gives a byte or ends it.
     ensures idle { S.idle source.new ≤ S.idle source.old + 1 }

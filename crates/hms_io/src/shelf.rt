@@ -2,7 +2,7 @@
 
 ghost use Rattle.std.specs.Prelude.{◌≡◌, ◌+◌, ◌≤◌, ℕ, Option, length, IfOk, IfSome, IsErrOf, MatchResult};
 ghost use Rattle.hms_io.specs.Cause.{HasFillCause, one_more};
-ghost use Rattle.hms_io.specs.Files.{FileMap, GivesFile, HasLongerFile, KeepsFiles};
+ghost use Rattle.hms_io.specs.Files.{CountsFile, FileMap, GivesFile, HasLongerFile, KeepsFiles};
 
 use crate::read_write::{FillError, MAX_LIMIT};
 use sfv_text::Text;
@@ -36,5 +36,6 @@ pub trait Shelf {
         ensures cause { MatchResult result (λ _. faults self.new ≡ faults self.old)
             (HasFillCause (faults self.old) (faults self.new)) }
         ensures asked { asked self.new ≡ one_more (asked self.old) }
-        ensures reached { reached self.new ≤ reached self.old + (limit + 1) };
+        ensures reached { reached self.new ≤ reached self.old + (limit + 1) }
+        ensures counts { IfOk result (CountsFile (reached self.old) (reached self.new)) };
 }
