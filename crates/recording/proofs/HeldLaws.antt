@@ -18,6 +18,7 @@ use Rattle.recording.specs.Items.{Body, moment, PlacedItem, body_text, number_of
 use Rattle.recording.specs.Recordings.{SpellsRecording, bodies, items_text, moments}
 use Rattle.recording.specs.Readers.{ReaderState, BeginsWithItems, IsLastMoment, HasRead, IsFaultFrom, IsFaultSoFar}
 use Rattle.recording.specs.tools.ReaderSteps.{IsFound, IsFirstFound, IsHeldAt, IsReading, FindsNothing, Reaches, ReadsHeld, AnswersHeld, fault_at, reached, refused}
+use Rattle.recording.specs.tools.KeptBytes.{KeptBytes}
 use Rattle.recording.specs.tools.ReaderViews.{IsBegun, IsItemHeld, item_at, item_of}
 use Rattle.recording.specs.tools.Running.{last_moment}
 use Rattle.recording.specs.tools.RecordingWalk.{item_step, first_step, recording_step}
@@ -176,25 +177,25 @@ first_reaches old new found result stage none f reaches = λ items text r.
 -- ---- the fields
 
 -- where there is no item, it has no byte
-no_size : (size offset before last count : ℕ) (stage : ReaderStage) (bytes : List ℕ) → IsItemHeld size offset before last count stage bytes → item_at size offset before bytes ≡ None → size ≡ 0
+no_size : (size offset before last count : ℕ) (stage : ReaderStage) (bytes : KeptBytes) → IsItemHeld size offset before last count stage bytes → item_at size offset before bytes.unused ≡ None → size ≡ 0
 no_size zero offset before last count stage bytes h none = refl
 no_size (suc n) offset before last count stage bytes h none =
     let w = h.item (omega arith) in
     let own : PlacedItem = record { offset = offset; body = w.0 } in
-    let here : item_at (suc n) offset before bytes ≡ Some own =
-    ap (λ (b : Bool). cond b None (item_of offset (item_step before bytes))) (eqb-suc-zero n) ∙ ap (item_of offset) w.1 in
+    let here : item_at (suc n) offset before bytes.unused ≡ Some own =
+    ap (λ (b : Bool). cond b None (item_of offset (item_step before bytes.unused))) (eqb-suc-zero n) ∙ ap (item_of offset) w.1 in
     absurd (none-some own (sym none ∙ here))
 
 module _ (r : Inside) (s : ReaderState) (h : IsItemHeld r.item_len r.offset r.before r.moment r.count r.stage r.bytes) where
   abbrev view : ReaderState
-  view = record { given = r.offset + length r.bytes; held = drop r.item_len r.bytes; item = item_at r.item_len r.offset r.before r.bytes; moment = r.moment; count = r.count; stage = r.stage }
+  view = record { given = r.offset + length r.bytes.unused; held = drop r.item_len r.bytes.unused; kept = length r.bytes.all; item = item_at r.item_len r.offset r.before r.bytes.unused; moment = r.moment; count = r.count; stage = r.stage }
 
   none_held : view ≡ s → s.item ≡ None → r.item_len ≡ 0
   none_held v none = no_size r.item_len r.offset r.before r.moment r.count r.stage r.bytes h (ap (λ (s : ReaderState). s.item) v ∙ none)
 
   -- all bytes are in no item
-  pub all_held : view ≡ s → s.item ≡ None → r.bytes ≡ s.held
-  all_held v none = sym (ap (λ (n : ℕ). drop n r.bytes) (none_held v none)) ∙ ap (λ (s : ReaderState). s.held) v
+  pub all_held : view ≡ s → s.item ≡ None → r.bytes.unused ≡ s.held
+  all_held v none = sym (ap (λ (n : ℕ). drop n r.bytes.unused) (none_held v none)) ∙ ap (λ (s : ReaderState). s.held) v
 
   pub begun_zero : view ≡ s → s.stage ≡ Begin → s.moment ≡ 0
   begun_zero v begin =
@@ -202,8 +203,8 @@ module _ (r : Inside) (s : ReaderState) (h : IsItemHeld r.item_len r.offset r.be
       sym (ap (λ (s : ReaderState). s.moment) v) ∙ b.1
 
   -- the bytes after the last line
-  pub after_line : (left : List ℕ) → view ≡ s → s.item ≡ None → 4 ≤ length r.bytes → left ≡ drop 4 r.bytes → (r.offset + 4 + length left ≡ s.given) × (drop r.item_len left ≡ drop 4 s.held)
+  pub after_line : (left : List ℕ) → view ≡ s → s.item ≡ None → 4 ≤ length r.bytes.unused → left ≡ drop 4 r.bytes.unused → (r.offset + 4 + length left ≡ s.given) × (drop r.item_len left ≡ drop 4 s.held)
   after_line left v none long e = (
-    omega (arith, ap (λ (y : List ℕ). length y) e, length-drop 4 r.bytes, long, ap (λ (s : ReaderState). s.given) v),
+    omega (arith, ap (λ (y : List ℕ). length y) e, length-drop 4 r.bytes.unused, long, ap (λ (s : ReaderState). s.given) v),
     ap (λ (n : ℕ). drop n left) (none_held v none) ∙ e ∙ ap (drop 4) (all_held v none),
   )

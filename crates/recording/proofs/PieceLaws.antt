@@ -1,11 +1,9 @@
 -- What a reader of a recording says after pieces of the source.
 use Rattle.std.proofs.Common.{◌≡◌, ◌≢◌, inl, inr, ℕ, ◌+◌, ◌-◌, ◌*◌, ◌^◌, ◌≤◌, Bool, true, false, List, [], ◌∷◌, ◌++◌, length, Option, None, Result, Ok, Err, refl, sym, ap, subst, ◌∙◌, append_assoc, arith}
 use Rattle.std.proofs.KnownBytes.{Consumes-trans}
-use Rattle.std.proofs.lemmas.Bool.{cases_Bool, eqb-true}
 use Rattle.std.proofs.lemmas.List.{append-nil, length-append}
 use Rattle.std.specs.Io.KnownBytes.{Consumes}
-use Rattle.std.specs.Prelude.{IsErrAnd, ◌==◌, if◌then◌else◌, nat_lt}
-use Rattle.hms_io.specs.Cause.{one_more}
+use Rattle.std.specs.Prelude.{IsErrAnd}
 use Rattle.recording.specs.declared.fault.RecordingFault.TheVariants.{Syntax}
 use Rattle.recording.specs.declared.item_fault.ItemFault.{ItemFault}
 use Rattle.recording.specs.declared.item_fault.ItemFault.TheVariants.{Memory, Failed, Recording, TooManyItems}
@@ -133,11 +131,11 @@ module _ (first state mid : ReaderState) (before now : Option (List ℕ)) (so_fa
         record { taken = Consumes-trans before now later s.0 piece s.1.taken took; needed = inr (s.0, piece, refl, is_open items text r, few) }
 
     -- a piece came
-    pub piece_reads : (new : ReaderState) → new ≡ record mid { given = mid.given + length piece; held = mid.held ++ piece } → HasReadOn first new before later
+    pub piece_reads : (new : ReaderState) → new ≡ record mid { given = mid.given + length piece; held = mid.held ++ piece; kept = length (mid.held ++ piece) } → HasReadOn first new before later
     piece_reads new e = λ items text r.
         let s = so_far items text r in
         let m = reading items text r in
-        let here : IsReading (record mid { given = mid.given + length piece; held = mid.held ++ piece }) items ((text ++ s.0) ++ piece) = record {
+        let here : IsReading (record mid { given = mid.given + length piece; held = mid.held ++ piece; kept = length (mid.held ++ piece) }) items ((text ++ s.0) ++ piece) = record {
           given = omega (arith, m.given, length-append (text ++ s.0) piece);
           count = m.count;
           moment = m.moment;
@@ -197,26 +195,6 @@ dropped_reading old new items text e h end refused =
     subst (λ (s : ReaderState). IsReading s items text) (sym e) (record { given = h.given; count = h.count; moment = h.moment; held = reading_at old.stage items text old.held end refused h.read })
 
 -- ---- reads that give no byte
-
-idle_few : (result : Result Bool ItemFault) → idle_reads result ≤ 1
-idle_few (Ok true) = omega arith
-idle_few (Ok false) = omega arith
-idle_few (Err fault) = omega arith
-
--- a read gives a byte, and a piece comes, or it is idle
-pub piece_idle : (before now n : ℕ) → now ≡ (if n == 0 then one_more before else before) → now ≤ before + idle_reads (Ok (nat_lt 0 n))
-piece_idle before now n is = elim (cases_Bool (n == 0)) [
-  | inl none ↦
-      let once : now ≤ before + 1 = grind (arith, rw none at is) in
-      subst (λ (k : ℕ). now ≤ before + idle_reads (Ok (nat_lt 0 k))) (sym (eqb-true n 0 none)) once
-  | inr some ↦
-      let same : now ≡ before = rw some at is in
-      omega (arith, same)
-]
-
--- so it is idle once at most
-pub once_idle : (before now n : ℕ) → now ≡ (if n == 0 then one_more before else before) → now ≤ before + 1
-once_idle before now n is = omega (arith, piece_idle before now n is, idle_few (Ok (nat_lt 0 n)))
 
 -- at an end the last read may have been idle
 pub end_idle : (before now : ℕ) (result : Result Bool ItemFault) → IsAnEnd result → now ≤ before + 1 → now ≤ before + idle_reads result

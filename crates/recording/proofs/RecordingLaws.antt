@@ -1,12 +1,12 @@
 -- Laws of recordings, and the answer to a text.
 use Rattle.std.proofs.Common.{◌≡◌, ◌≢◌, ◌⊎◌, inl, inr, ℕ, ◌+◌, ◌-◌, ◌≤◌, ◌<◌, List, [], ◌∷◌, ◌++◌, length, Result, Ok, Err, refl, sym, ap, subst, ◌∙◌, arith, codes}
-use Rattle.std.specs.Prelude.{MatchResult}
+use Rattle.std.specs.Prelude.{IfErr, MatchResult}
 use Rattle.std.proofs.lemmas.List.{append-nil, length-append}
 use Rattle.byte_grammar.specs.Causes.{AnswersWhere}
 use Rattle.byte_grammar.specs.FaultOffset.{IsFaultOffset}
 use Rattle.byte_grammar.specs.Walk.{◌>>=◌}
 use Rattle.byte_grammar.specs.tools.Walks.{value_at_end, whole_read}
-use Rattle.byte_grammar.proofs.AnswerLaws.{IsMemoryDecided, NamesFault, memory_if, answers_where}
+use Rattle.byte_grammar.proofs.AnswerLaws.{IsMemoryDecided, NamesFault, answers_where}
 use Rattle.byte_grammar.proofs.OffsetLaws.{one_offset}
 use Rattle.byte_grammar.proofs.Whole.{judges}
 use Rattle.recording.specs.declared.fault.RecordingFault.{RecordingFault}
@@ -239,11 +239,15 @@ memory_or_not (MomentFalls offset) = inr (λ e. cc)
 
 pub only_recording : (text : List ℕ) (result : Result (List PlacedItem) RecordingFault) → Explains text result → (items : List PlacedItem) → SpellsRecording text items → MatchResult result (λ given. given ≡ items) (λ fault. fault ≡ Memory)
 only_recording text (Ok given) is items s = one_recording text given items is s
-only_recording text (Err fault) is items s = memory_if Memory memory_or_not fault (λ own. no_fault_of_recording text items fault s (is own))
+only_recording text (Err fault) is items s = absurd (no_fault_of_recording text items fault s is)
+
+pub never_memory : (text : List ℕ) (result : Result (List PlacedItem) RecordingFault) → Explains text result → IfErr result (λ fault. fault ≢ Memory)
+never_memory text (Ok given) is = tt
+never_memory text (Err fault) is = λ own. subst (λ (f : RecordingFault). IsRecordingCause text f) own is.holds
 
 named : (text : List ℕ) (result : Result (List PlacedItem) RecordingFault) → Explains text result → NamesFault Memory (IsRecordingFault text) result
 named text (Ok given) is = λ fault. no_fault_of_recording text given fault is
-named text (Err fault) is = is
+named text (Err fault) is = λ own. is
 
 pub fault_is : (text : List ℕ) (result : Result (List PlacedItem) RecordingFault) → Explains text result → (fault : RecordingFault) → fault ≢ Memory → AnswersWhere Memory result fault (IsRecordingFault text fault)
 fault_is text result is = answers_where Memory memory_or_not (IsRecordingFault text) result (one_recording_fault text) (named text result is)

@@ -13,11 +13,13 @@ use Rattle.recording.specs.declared.reader.ReaderStage.{ReaderStage}
 use Rattle.recording.specs.declared.reader.ReaderStage.TheVariants.{Begin, Items, LastLine, End, Refused}
 use Rattle.recording.specs.declared.reader.TheConstants.{MAX_PIECE_BYTES}
 
--- How many bytes the source gave, those of them that are in no item that was read, the item that
--- was read last, the last moment, how many items were read, and how far the recording was read.
+-- How many bytes the source gave, those of them that are in no item that was read, how many bytes
+-- the reader keeps, the item that was read last, the last moment, how many items were read, and how
+-- far the recording was read.
 pub record ReaderState : Type 0 where
   pub given : ℕ
   pub held : List ℕ
+  pub kept : ℕ
   pub item : Option PlacedItem
   pub moment : ℕ
   pub count : ℕ
@@ -25,8 +27,15 @@ pub record ReaderState : Type 0 where
 
 -- nothing was read
 abbrev pub nothing_read : ReaderState
-nothing_read =
-    record { given = 0; held = []; item = None; moment = 0; count = 0; stage = Begin }
+nothing_read = record {
+  given = 0;
+  held = [];
+  kept = 0;
+  item = None;
+  moment = 0;
+  count = 0;
+  stage = Begin;
+}
 
 -- how many bytes the item has, its line among them
 abbrev pub item_size : Option PlacedItem → ℕ
@@ -81,8 +90,8 @@ pub record IsOpen (items : List PlacedItem) (text : List ℕ) : Type 0 where
       → ¬ BeginsWithItems text (items ++ next ∷ []) rest
   pub no_fault : (fault : RecordingFault) → ¬ IsFaultFrom text fault
 
--- These bytes were read after the text. Each of their pieces was needed: before the last one there
--- was neither a further item nor a fault.
+-- These bytes were read after the text. Without the last of them, which are as many as one piece
+-- may have at most, it held neither a further item nor a fault.
 pub record ReadsNeeded (before now : Option (List ℕ)) (items : List PlacedItem)
     (text more : List ℕ) : Type 0 where
   pub taken : Consumes before now more

@@ -1,7 +1,9 @@
--- The words that output has for what a recording is refused for.
+-- The words that output has for what a recording, or its order, is refused for.
 use Rattle.std.specs.Prelude.{ℕ, List, ◌++◌, codes}
 use Rattle.std.specs.Fmt.{decimal}
-use Rattle.recording.specs.declared.limits.TheConstants.{MAX_ITEM_BYTES, MAX_ITEMS}
+use Rattle.recording.specs.declared.limits.TheConstants.{MAX_HOPS, MAX_ITEM_BYTES, MAX_ITEMS}
+use Rattle.recording.specs.declared.chain.OrderFault.{OrderFault}
+use Rattle.recording.specs.declared.chain.OrderFault.TheVariants as order
 use Rattle.recording.specs.declared.fault.RecordingFault.{RecordingFault}
 use Rattle.recording.specs.declared.fault.RecordingFault.TheVariants.{Memory, Syntax, ItemTooLong, MomentFalls}
 use Rattle.recording.specs.declared.item_fault.ItemFault.{ItemFault}
@@ -20,3 +22,9 @@ item_fault_text item.Memory = codes "out of memory"
 item_fault_text item.Failed = codes "a read failed"
 item_fault_text (item.Recording fault) = recording_fault_text fault
 item_fault_text item.TooManyItems = codes "items " ++ decimal MAX_ITEMS
+
+-- the word of a fault of the order: where it is, or the limit that is passed
+abbrev pub order_fault_text : OrderFault → List ℕ
+order_fault_text order.Memory = codes "out of memory"
+order_fault_text (order.Order offset) = codes "chain " ++ decimal offset
+order_fault_text order.TooManyHops = codes "hops " ++ decimal MAX_HOPS

@@ -5,5 +5,6 @@ pub mod RecordingTexts
 pub mod NextItems
 pub mod Judged
 pub mod Ordered
+pub mod KeptBytes
 pub mod ReaderViews
 pub mod ReaderSteps

@@ -3,7 +3,10 @@
 ghost use Rattle.std.specs.Prelude.{◌≡◌};
 ghost use Rattle.recording.specs.declared.chain.OrderFault.TheVariants.{Memory as OutOfMemory};
 
+use crate::limits::MAX_HOPS;
 use sfv_text::{Memory, Sequence};
+use std::error::Error;
+use std::fmt;
 
 /// What the messages of a chain are.
 #[derive(Clone, Copy)]
@@ -44,7 +47,7 @@ pub struct RecordedChain<'r> {
 }
 
 /// Why items aren't a chain.
-#[derive(Clone, Copy, PartialEq, Eq)]
+#[derive(Clone, Copy, Debug, PartialEq, Eq)]
 pub enum OrderFault {
     /// Out of memory. It says nothing of the items.
     Memory,
@@ -54,6 +57,24 @@ pub enum OrderFault {
     /// The chain has more than `MAX_HOPS` hops.
     TooManyHops,
 }
+
+/// The word that output has for it, with the limit that is passed, or where it is.
+impl fmt::Display for OrderFault {
+    ghost use Rattle.std.specs.Prelude.{Some};
+    ghost use Rattle.recording.specs.Words.{order_fault_text};
+
+    ghost output = { λ fault. Some (order_fault_text fault) };
+
+    fn fmt<W: fmt::Write>(&self, f: &mut fmt::Formatter<W>) -> fmt::Result {
+        match self {
+            OrderFault::Memory => f.write_str("out of memory"),
+            OrderFault::Order(offset) => write!(f, "chain {offset}"),
+            OrderFault::TooManyHops => write!(f, "hops {MAX_HOPS}"),
+        }
+    }
+}
+
+impl Error for OrderFault {}
 
 impl From<Memory> for OrderFault {
     ghost from_gives = { λ _ fault. fault ≡ OutOfMemory };

@@ -18,7 +18,8 @@
 //! ```
 //!
 //! A recording is kept as its text alone. Its items are read from it one at a time, and borrow
-//! their bytes. `ItemReader` reads the same items from a source, and holds one at a time.
+//! their bytes. `ItemReader` reads the same items from a source, one at a time, and keeps the bytes
+//! of one item and of one piece of the source at most.
 #![tactic(auto)]
 
 mod chain;

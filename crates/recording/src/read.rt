@@ -1,6 +1,6 @@
 //! Reads recordings.
 
-ghost use Rattle.std.specs.Prelude.{◌≡◌, ◌≢◌, ◌≤◌, ℕ, Option, List, Ok, Err, length, option_map, IfOk, MatchResult};
+ghost use Rattle.std.specs.Prelude.{◌≡◌, ◌≢◌, ◌≤◌, ℕ, Option, List, Ok, Err, length, option_map, IfErr, IfOk, MatchResult};
 ghost use Rattle.byte_grammar.specs.Causes.{AnswersWhere};
 ghost use Rattle.recording.specs.Items.{Body, PlacedItem, body_of};
 ghost use Rattle.recording.specs.Recordings.{SpellsRecording};
@@ -179,6 +179,7 @@ pub fn read_recording<'r>(_alloc: Global, text: &'r [u8]) -> Result<Recording<'r
     ensures ok { IfOk result (λ given. SpellsRecording text.now given) }
     ensures only { (items : List PlacedItem) → SpellsRecording text.now items
         → MatchResult result (λ given. given ≡ items) (λ fault. fault ≡ RecordingFault.Memory) }
+    ensures no_memory { IfErr result (λ fault. fault ≢ RecordingFault.Memory) }
 
     // The first fault whose cause holds is answered, and no other.
     ensures fault { (fault : RecordingFault) → fault ≢ RecordingFault.Memory

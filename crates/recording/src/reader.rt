@@ -41,15 +41,17 @@ struct FoundItem {
     moment: u64,
 }
 
-/// Reads a recording from a source, item by item, however the source cuts it. It holds the bytes of
-/// one item and of one piece of the source, and goes over the line of an item alone, so its time is
-/// in proportion to what it reads, also where each piece is one byte.
+/// Reads a recording from a source, item by item, however the source cuts it. It keeps the bytes of
+/// one item and of one piece of the source at most, and goes over the line of an item alone, so its
+/// time is in proportion to what it reads, also where each piece is one byte.
 ///
 /// A contract sees how many bytes the source gave, those of them that are in no item that was read,
-/// the last item, the last moment, how many items there were, and how far it came.
+/// how many are kept, the last item, the last moment, how many items there were, and how far it
+/// came.
 #[derive(Drop)]
 pub struct ItemReader {
-    // The bytes of the item that was read last, and those after it.
+    // The bytes of the item that was read last, and those after it; what was used before them is
+    // kept until a piece is taken.
     bytes: HeldBytes,
     // How many of them the item has; none where there is no item.
     item_len: usize,
@@ -71,9 +73,10 @@ impl Model for ItemReader {
     ghost Value = { ReaderState };
 
     ghost view = { λ r. record {
-      given = r.offset + length r.bytes;
-      held = drop r.item_len r.bytes;
-      item = item_at r.item_len r.offset r.before r.bytes;
+      given = r.offset + length r.bytes.unused;
+      held = drop r.item_len r.bytes.unused;
+      kept = length r.bytes.all;
+      item = item_at r.item_len r.offset r.before r.bytes.unused;
       moment = r.moment;
       count = r.count;
       stage = r.stage;
@@ -169,8 +172,10 @@ impl ItemReader {
             × (self.new.stage ≡ ReaderStage.End) }
         ensures kept { IfErr result (λ fault. self.new.stage ≡ ReaderStage.Refused fault) }
 
-        // It holds the bytes of one item, with its line, and of one piece at most.
-        ensures holds { size_held self.new ≤ MAX_ITEM_BYTES + 32 + MAX_PIECE_BYTES }
+        // It keeps the bytes of one item, with its line, and of one piece at most, used or not;
+        // what it holds is among them.
+        ensures holds { self.new.kept ≤ MAX_ITEM_BYTES + 32 + MAX_PIECE_BYTES }
+        ensures among { size_held self.new ≤ self.new.kept }
         ensures count { IfOk result (λ found. IsTrue found → self.new.count ≡ self.old.count + 1) }
         ensures within { self.new.count ≤ MAX_ITEMS }
         ensures faults { MatchResult result (λ _. S.faults source.new ≡ S.faults source.old)
@@ -334,7 +339,6 @@ impl ItemReader {
     }
 
     /// Takes a piece of the source. It answers whether one came.
-    #[tactic(auto, using(crate::proofs::PieceLaws::piece_idle, crate::proofs::PieceLaws::once_idle))]
     fn take_piece<S: Source>(&mut self, source: &mut S) -> Result<bool, ItemFault>
         requires none { self.old.item ≡ None }
         requires short { length self.old.held ≤ MAX_ITEM_BYTES + 32 }
@@ -351,8 +355,11 @@ impl ItemReader {
     {
         let mut piece = [0u8; MAX_PIECE_BYTES];
         let count = source.read(&mut piece)?;
+        if count == 0 {
+            return Ok(false);
+        }
         self.bytes.append(&piece[..count])?;
-        Ok(count > 0)
+        Ok(true)
     }
 
     /// After the last line the source ends, and nowhere else.

@@ -1,8 +1,7 @@
 -- What the readers of a recording return. No public clause cites this module.
-use Rattle.std.specs.Prelude.{◌≡◌, ◌≢◌, ℕ, List, Result, Ok, Err}
+use Rattle.std.specs.Prelude.{◌≡◌, ℕ, List, Result, Ok, Err}
 use Rattle.recording.specs.declared.read.Stop.{Stop}
 use Rattle.recording.specs.declared.fault.RecordingFault.{RecordingFault}
-use Rattle.recording.specs.declared.fault.RecordingFault.TheVariants.{Memory}
 use Rattle.recording.specs.Items.{Body, PlacedItem}
 use Rattle.recording.specs.Recordings.{SpellsRecording}
 use Rattle.recording.specs.Causes.{IsRecordingFault}
@@ -18,7 +17,7 @@ pub record AreRead (text : List ℕ) (last : ℕ) (left : List ℕ) : Type 0 whe
   pub items : List Body
   pub so_far : with_items items (walk last left) ≡ recording_step text
 
--- the answer and the fact for which it is given; out of memory has none
+-- the answer and the fact for which it is given; out of memory has none, so it isn't given
 abbrev pub Explains : List ℕ → Result (List PlacedItem) RecordingFault → Type 0
 Explains text (Ok items) = SpellsRecording text items
-Explains text (Err fault) = fault ≢ Memory → IsRecordingFault text fault
+Explains text (Err fault) = IsRecordingFault text fault

@@ -78,6 +78,7 @@ abbrev pub reached : ReaderState → FoundItem → ReaderState
 reached old found = record {
   given = old.given;
   held = drop (found.skipped + found.len) old.held;
+  kept = old.kept;
   item = item_of (old.given - length old.held + found.skipped)
       (item_step old.moment (drop found.skipped old.held));
   moment = found.moment;
@@ -128,9 +129,11 @@ IsWaiting LastLine last held = held ≡ []
 IsWaiting End last held = ⊥
 IsWaiting (Refused fault) last held = ⊥
 
--- the bytes of one item and of one piece are held at most, and not too many items were read
+-- what is held is kept, the bytes of one item and of one piece are kept at most, and not too many
+-- items were read
 pub record IsFew (state : ReaderState) : Type 0 where
-  pub held : size_held state ≤ MAX_ITEM_BYTES + 32 + MAX_PIECE_BYTES
+  pub held : size_held state ≤ state.kept
+  pub kept : state.kept ≤ MAX_ITEM_BYTES + 32 + MAX_PIECE_BYTES
   pub count : state.count ≤ MAX_ITEMS
 
 -- nothing follows the last line, or its first byte is the fault
@@ -207,6 +210,7 @@ abbrev pub TakesPiece : ReaderState → ReaderState → List ℕ → Option (Lis
 TakesPiece old new piece now (Ok true) = (0 < length piece) × (new ≡ record old {
   given = old.given + length piece;
   held = old.held ++ piece;
+  kept = length (old.held ++ piece);
 })
 TakesPiece old new piece now (Ok false) = (piece ≡ []) × IsAtEnd now × (new ≡ old)
 TakesPiece old new piece now (Err Memory) = ⊤

@@ -6,6 +6,7 @@ use Rattle.recording.specs.declared.read.Stop.{Stop}
 use Rattle.recording.specs.declared.reader.ReaderStage.{ReaderStage}
 use Rattle.recording.specs.declared.reader.ReaderStage.TheVariants.{Begin, Items, LastLine, End, Refused}
 use Rattle.recording.specs.declared.reader.TheConstants.{MAX_PIECE_BYTES}
+use Rattle.recording.specs.tools.KeptBytes.{KeptBytes}
 use Rattle.recording.specs.tools.RecordingWalk.{item_step}
 
 -- the item with which the bytes at this offset begin, after this moment
@@ -35,13 +36,16 @@ IsBegun LastLine used moment = ⊤
 IsBegun End used moment = ⊤
 IsBegun (Refused fault) used moment = ⊤
 
--- The bytes begin with an item that has so many of them, or there is none. They are those of one
--- item and of one piece at most, and so many items have fewer bytes than come before their end.
+-- The bytes that aren't used begin with an item that has so many of them, or there is none. Those
+-- that are kept are the bytes of one item and of one piece at most. What comes before the end of so
+-- many items has at most so many bytes.
 pub record IsItemHeld (size offset before moment count : ℕ) (stage : ReaderStage)
-    (bytes : List ℕ) : Type 0 where
-  pub within : size ≤ length bytes
-  pub item : 0 < size → (body : Body) × (item_step before bytes ≡ Ok (Some body, drop size bytes))
-  pub room : length bytes ≤ MAX_ITEM_BYTES + 32 + MAX_PIECE_BYTES
+    (bytes : KeptBytes) : Type 0 where
+  pub within : size ≤ length bytes.unused
+  pub item : 0 < size
+      → (body : Body) × (item_step before bytes.unused ≡ Ok (Some body, drop size bytes.unused))
+  pub among : length bytes.unused ≤ length bytes.all
+  pub room : length bytes.all ≤ MAX_ITEM_BYTES + 32 + MAX_PIECE_BYTES
   pub few : count ≤ MAX_ITEMS
   pub soon : offset + size ≤ lines_size stage + count * 2 ^ 25
   pub begun : IsBegun stage (offset + size) moment

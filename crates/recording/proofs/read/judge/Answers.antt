@@ -18,13 +18,13 @@ pub overflow_sub-result-in-Err-MomentFalls : goal.overflow_sub-result-in-Err-Mom
 overflow_sub-result-in-Err-MomentFalls c = within_falls c.args.text.now c.in-Err-MomentFalls.left (rw c.in-Err-MomentFalls.field-0-is at c.in-Err-MomentFalls.ensures)
 
 pub returns-in-Ok : goal.returns-in-Ok
-returns-in-Ok c own = rest_left c.args.text.now c.in-Ok.ensures.0 c.in-Ok.rest.now c.in-Ok.ensures.1 c.in-Ok.len_at_least
+returns-in-Ok c = rest_left c.args.text.now c.in-Ok.ensures.0 c.in-Ok.rest.now c.in-Ok.ensures.1 c.in-Ok.len_at_least
 
 pub returns-in-Err-Left : goal.returns-in-Err-Left
-returns-in-Err-Left c own = left_at c.args.text.now c.in-Err-Left.left (rw c.in-Err-Left.field-0-is at c.in-Err-Left.ensures)
+returns-in-Err-Left c = left_at c.args.text.now c.in-Err-Left.left (rw c.in-Err-Left.field-0-is at c.in-Err-Left.ensures)
 
 pub returns-in-Err-TooLong : goal.returns-in-Err-TooLong
-returns-in-Err-TooLong c own = long_at c.args.text.now c.in-Err-TooLong.left (rw c.in-Err-TooLong.field-0-is at c.in-Err-TooLong.ensures)
+returns-in-Err-TooLong c = long_at c.args.text.now c.in-Err-TooLong.left (rw c.in-Err-TooLong.field-0-is at c.in-Err-TooLong.ensures)
 
 pub returns-in-Err-MomentFalls : goal.returns-in-Err-MomentFalls
-returns-in-Err-MomentFalls c own = falls_at c.args.text.now c.in-Err-MomentFalls.left (rw c.in-Err-MomentFalls.field-0-is at c.in-Err-MomentFalls.ensures)
+returns-in-Err-MomentFalls c = falls_at c.args.text.now c.in-Err-MomentFalls.left (rw c.in-Err-MomentFalls.field-0-is at c.in-Err-MomentFalls.ensures)

@@ -16,6 +16,7 @@ returns-in-Err g c = record {
   end = search rules;
   kept = search rules;
   holds = search rules;
+  among = search rules;
   count = search rules;
   within = search rules;
   faults = search rules;

@@ -2,6 +2,7 @@ use Rattle.std.proofs.Common.{◌≤◌, List, ℕ, length, drop, Option, None, 
 use Rattle.recording.specs.Items.{Body}
 use Rattle.recording.specs.Readers.{ReaderState}
 use Rattle.recording.specs.declared.read.Stop.{Stop}
+use Rattle.recording.specs.tools.KeptBytes.{KeptBytes}
 use Rattle.recording.specs.tools.ReaderSteps.{IsFound}
 use Rattle.recording.specs.tools.RecordingWalk.{item_step}
 use Rattle.recording.proofs.HeldLaws.{after_line, all_held, last_reads, next_reaches, next_stops}
@@ -28,7 +29,7 @@ returns-in-Ok-LastLine-clause-reads c =
     let same = ap (λ (s : ReaderState). s.moment) c.self.view_is in
     let f = (rw c.in-Ok-LastLine.field-0-is at c.in-Ok-LastLine.ensures) in
     let long = subst (λ (y : List ℕ). 4 ≤ length y) slice f.0 in
-    let after = after_line c.self.inside old c.self.invariant c.use_up.new.self c.self.view_is c.requires.none long c.use_up.ensures in
+    let after = after_line c.self.inside old c.self.invariant c.use_up.new.self.unused c.self.view_is c.requires.none long (ap (λ (b : KeptBytes). b.unused) c.use_up.ensures) in
     let here = ap (λ (m : ℕ). item_step m old.held) (sym same) ∙ ap (item_step c.self.inside.moment) (sym held) ∙ f.1 ∙ ap (λ (y : List ℕ). last_at y) held in
     last_reads old _ c.reach_nothing.result c.requires.items here after.0 after.1 same (ap (λ (s : ReaderState). s.count) c.self.view_is) refl c.reach_nothing.ensures
 
