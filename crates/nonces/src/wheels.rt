@@ -1,7 +1,8 @@
 //! The entries of a book by the last second at which they live, in two wheels. The fine wheel has
 //! the entries that die in one hour, each in the list of its second; the coarse wheel has all
-//! others, each in the list of its hour. What comes to another hour looks at few lists: those of
-//! the seconds that are left of its own hour, and those of the hours between.
+//! others, each in the list of its hour. `turn_to` a later hour looks at few lists: those of the
+//! seconds that are left of the hour before, those of the hours between, and that of the later
+//! hour.
 
 ghost use Rattle.std.specs.Prelude.{◌≡◌, ◌≤◌, ◌<◌, ◌+◌, ◌-◌, ◌*◌, ℕ, Bool, false, None, length, map, replicate, slice_index_or, slice_set, IfOk};
 ghost use Rattle.std.specs.List.{count_by};
