@@ -412,8 +412,10 @@ excluded_by Wanted given command found taken excluded =
 reason_of : (reason : WordsReason) (command : CommandName) (start : List (List ℕ)) (found : OptionWords) (done : List (Pair (List ℕ))) (name : List ℕ) (after : List (List ℕ))
     → IsStart command start → AreOptions command (words_of done) done → AreWordsOf found done → IsNameReason command found name reason
     → IsReason reason (start ++ words_of done) (name ∷ after)
-reason_of (NotTaken other) command start found done name after starts are are_found is =
-    (name, record { after = after; joined = refl }, subst (λ (c : CommandName). takes c name ≡ false) (sym is.0) is.1)
+reason_of (NotTaken other) command start found done name after starts are are_found is = (
+  start_command command start (words_of done) starts ∙ ap (λ (c : CommandName). Some c) (sym is.0),
+  (name, record { after = after; joined = refl }, subst (λ (c : CommandName). takes c name ≡ false) (sym is.0) is.1),
+)
 reason_of (Twice other option) command start found done name after starts are are_found is =
     let word = some_in (word_in found option) is.2 in (
       record { after = after; joined = ap (λ (w : List ℕ). w ∷ after) (name_is name option is.1) },

@@ -44,7 +44,7 @@ no_command word words none no_topic other = record {
         | inl text ↦ false≢true (sym other ∙ text_name word text.0)
         | inr help ↦ false≢true (sym no_topic ∙ (bytes_eq-Decides word (codes "help")).1 help.0)
       ]);
-  is = (word, record { after = words; joined = refl }, none);
+  is = (inl refl, (word, record { after = words; joined = refl }, none));
   command_is = sym none;
 }
 
@@ -241,7 +241,7 @@ bad_topic word others none = record {
   before = codes "help" ∷ [];
   separated = parted_at (codes "help" ∷ word ∷ others) (codes "help" ∷ []) word others refl topic_begins
       (λ begun. no_topic (word ∷ begun.0) word begun.0 refl none begun.1 begun.2);
-  is = (word, record { after = others; joined = refl }, none);
+  is = (inr refl, (word, record { after = others; joined = refl }, none));
   command_is = refl;
 }
 

@@ -1,6 +1,6 @@
 -- What is wrong with words that are no command: the first word with which they are no more the
 -- beginning of one, or what is missing at their end.
-use Rattle.std.specs.Prelude.{◌≡◌, ℕ, false, Option, Some, None, List, [], ◌∷◌, ◌++◌, codes, IsTrue}
+use Rattle.std.specs.Prelude.{◌≡◌, ◌⊎◌, ℕ, false, Option, Some, None, List, [], ◌∷◌, ◌++◌, codes, IsTrue}
 use Rattle.std.specs.List.{list_any}
 use Rattle.std.specs.Str.{bytes_eq}
 use Rattle.sfv_text.specs.Keys.{has_key}
@@ -70,11 +70,13 @@ LacksAfter start before from = (before ≡ start) × (from ≡ [])
 abbrev pub IsReason : WordsReason → List (List ℕ) → List (List ℕ) → Type 0
 IsReason NoWords before from = LacksAfter [] before from
 IsReason NoCommand before from =
-    (word : List ℕ) × IsFirstOf word from × (command_of word ≡ None)
+    ((before ≡ []) ⊎ (before ≡ codes "help" ∷ []))
+    × ((word : List ℕ) × IsFirstOf word from × (command_of word ≡ None))
 IsReason LeftOver before from =
     (word : List ℕ) × IsFirstOf word from × (command : CommandLine) × IsCommand before command
 IsReason (NotTaken command) before from =
-    (word : List ℕ) × IsFirstOf word from × (takes command word ≡ false)
+    (first_command before ≡ Some command)
+    × ((word : List ℕ) × IsFirstOf word from × (takes command word ≡ false))
 IsReason (Twice command option) before from =
     IsFirstOf (row_of option).word from × HasOption command before option
 IsReason (Excluded option given) before from =

@@ -7,7 +7,7 @@ ghost use Rattle.command_options.specs.Names.{command_of, command_word};
 ghost use Rattle.command_line.specs.tools.Wrong.{asks_help};
 ghost use Rattle.command_line.specs.tools.After.{IsAfter, NoneAfter};
 
-use command_options::{CommandName, OptionWords, count_of, moment_of, read_options, seed_of};
+use command_options::{CommandName, OptionWords, count_of, number_of, read_options, seed_of};
 
 /// The words of `base`. They are borrowed.
 #[derive(Clone, Copy)]
@@ -269,7 +269,7 @@ fn read_verify<'a>(words: &'a [String]) -> Option<Command<'a>>
     };
     Some(Command::Verify(VerifyWords {
         conf,
-        now: moment_of(now),
+        now: number_of(now),
         label,
         request,
     }))
@@ -300,7 +300,7 @@ fn read_sign<'a>(words: &'a [String]) -> Option<Command<'a>>
     }
     Some(Command::Sign(SignWords {
         conf,
-        now: moment_of(now),
+        now: number_of(now),
         request,
         nonce,
         wanted,
@@ -442,7 +442,7 @@ fn read_negotiate<'a>(words: &'a [String]) -> Option<Command<'a>>
     };
     Some(Command::Negotiate(NegotiateWords {
         conf,
-        now: moment_of(now),
+        now: number_of(now),
         request,
     }))
 }

@@ -26,6 +26,6 @@ pub use laws::{
 pub use limit_laws::limits_are_these;
 pub use nonces::MAX_NONCE_BYTES;
 pub use options::{
-    CommandName, CommandOption, MAX_MOMENT_DIGITS, OptionWords, moment_of, read_options,
+    CommandName, CommandOption, MAX_MOMENT_DIGITS, OptionWords, number_of, read_options,
 };
 pub use sample_words::{MAX_COUNT_DIGITS, MAX_SAMPLE_HOPS, MAX_SEED_DIGITS, count_of, seed_of};

@@ -114,18 +114,18 @@ fn is_nonce(word: &[u8]) -> bool
     !word.is_empty() && word.len() <= MAX_NONCE_BYTES && are_string_bytes(word)
 }
 
-/// The number that the digits of a moment write.
-pub fn moment_of(word: &str) -> u64
+/// The number that a word of 1 to 15 digits writes.
+pub fn number_of(word: &str) -> u64
     requires { IsTrue (is_moment word.now) }
     ensures value { result ≡ digits_value 10 word.now }
     ensures timely { result < 10 ^ MAX_MOMENT_DIGITS }
 {
     let bytes = word.as_bytes();
-    let mut moment = 0;
+    let mut number = 0;
     for byte in bytes {
-        moment = moment * 10 + u64::from(*byte - b'0');
+        number = number * 10 + u64::from(*byte - b'0');
     }
-    moment
+    number
 }
 
 /// All options.
@@ -152,6 +152,23 @@ impl CommandOption {
             }
         }
         None
+    }
+
+    /// Its name.
+    pub fn word(self) -> &'static str
+        ensures { result.now ≡ (row_of self).word }
+    {
+        match self {
+            CommandOption::Conf => "--conf",
+            CommandOption::Now => "--now",
+            CommandOption::Label => "--label",
+            CommandOption::Request => "--request",
+            CommandOption::Nonce => "--nonce",
+            CommandOption::Wanted => "--wanted",
+            CommandOption::Script => "--script",
+            CommandOption::Other => "--other",
+            CommandOption::Into => "--into",
+        }
     }
 
     /// Whether the command takes the option.

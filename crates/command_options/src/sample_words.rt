@@ -3,7 +3,7 @@
 ghost use Rattle.std.specs.Prelude.{ℕ, IfSome, IfNone};
 ghost use Rattle.command_options.specs.Numbers.{is_number, IsCount, IsSeed};
 
-use crate::options::{is_number, moment_of};
+use crate::options::{is_number, number_of};
 
 /// The most digits of a seed.
 pub const MAX_SEED_DIGITS: usize = 9;
@@ -22,7 +22,7 @@ pub fn seed_of(word: &str) -> Option<u64>
     if !is_number(MAX_SEED_DIGITS, word.as_bytes()) {
         return None;
     }
-    Some(moment_of(word))
+    Some(number_of(word))
 }
 
 /// The number of hops that the word writes: 1 or 2 digits, and at most 64.
@@ -33,7 +33,7 @@ pub fn count_of(word: &str) -> Option<usize>
     if !is_number(MAX_COUNT_DIGITS, word.as_bytes()) {
         return None;
     }
-    let count = moment_of(word) as usize;
+    let count = number_of(word) as usize;
     if count > MAX_SAMPLE_HOPS {
         return None;
     }

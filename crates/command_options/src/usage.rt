@@ -1,8 +1,4 @@
-//! The names of the options, and what comes after the name of a command or of an option. A person
-//! reads it, and no script.
-
-ghost use Rattle.std.specs.Prelude.{◌≡◌};
-ghost use Rattle.command_options.specs.Options.{row_of};
+//! What comes after the name of a command or of an option. A person reads it, and no script.
 
 use crate::options::{CommandName, CommandOption};
 
@@ -33,23 +29,6 @@ impl CommandName {
 }
 
 impl CommandOption {
-    /// Its name.
-    pub fn word(self) -> &'static str
-        ensures { result.now ≡ (row_of self).word }
-    {
-        match self {
-            CommandOption::Conf => "--conf",
-            CommandOption::Now => "--now",
-            CommandOption::Label => "--label",
-            CommandOption::Request => "--request",
-            CommandOption::Nonce => "--nonce",
-            CommandOption::Wanted => "--wanted",
-            CommandOption::Script => "--script",
-            CommandOption::Other => "--other",
-            CommandOption::Into => "--into",
-        }
-    }
-
     /// What its word is, said to whoever has to write it.
     pub fn word_after(self) -> &'static str {
         match self {

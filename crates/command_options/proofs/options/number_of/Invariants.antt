@@ -1,6 +1,6 @@
 use Rattle.std.proofs.Common.{◌≡◌, take}
 use Rattle.std.specs.Str.Parse.{digits_value}
-use Rattle.command_options.proofs.options.moment_of.Given as goal
+use Rattle.command_options.proofs.options.number_of.Given as goal
 
 abbrev pub invariant-loop-byte : goal.invariant-loop-byte
-invariant-loop-byte l = l.moment ≡ digits_value 10 (take l.byte-index l.bytes)
+invariant-loop-byte l = l.number ≡ digits_value 10 (take l.byte-index l.bytes)
