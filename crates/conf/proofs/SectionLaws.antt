@@ -15,7 +15,7 @@ use Rattle.conf.specs.Table.{HoldsOfValue, rows, has_place, is_missing, members_
 use Rattle.settings.specs.declared.gateway_conf.GatewayConf.{GatewayConf}
 use Rattle.settings.specs.declared.policy.Policy.{Policy}
 use Rattle.settings.specs.declared.sign_conf.SignConf.{SignConf}
-use Rattle.conf.specs.Sections.{ArePolicies, HasGateway, HasSign, IsPolicy, IsSignConf, LacksName, policy_tables}
+use Rattle.conf.specs.Sections.{ArePolicies, HasGateway, HasSign, IsPolicy, IsSignConf, policy_tables}
 use Rattle.conf.specs.declared.fault.ConfFault.{ConfFault}
 use Rattle.conf.specs.declared.fault.ConfFault.TheVariants as fault
 use Rattle.conf.specs.declared.lists.Lists.{Lists}
@@ -23,7 +23,7 @@ use Rattle.conf.specs.Paths.{HoldsOfNone}
 use Rattle.conf.specs.Refusals.{HasBadStep, IsBadList, IsLeastRow}
 use Rattle.conf.specs.tools.Judged.{IsCauseNumbered, IsJudged}
 use Rattle.conf.specs.tools.PolicyReads.{AreReadOf, AreReadPolicies, IsReadPolicy}
-use Rattle.conf.specs.tools.SectionReads.{AreGoodLists, AreLists, AreSections, HaveGoodLists, IsGoodList, IsListFault, IsListsFault, value_of}
+use Rattle.conf.specs.tools.SectionReads.{AreLists, AreSections, HaveGoodLists, IsListFault, IsListsFault, LacksName, value_of}
 use Rattle.conf.proofs.Among.{of_tables}
 use Rattle.conf.proofs.ListLaws.{told_are, told_not_bad}
 use Rattle.conf.proofs.PolicyLaws.{has_version}
@@ -53,76 +53,61 @@ lists_fault document name tables path f least h = absurd h
 
 -- ---- policies
 
--- the lists of a table are texts, and not bad
-record HasFineLists (pairs : Members) : Type 0 where
-  request_typed : IsTrue (fails (has_type rule.Components) (get_member (codes "require-request") pairs)) → ⊥
-  response_typed : IsTrue (fails (has_type rule.Components) (get_member (codes "require-response") pairs)) → ⊥
-  request_good : IsGoodList (get_member (codes "require-request") pairs)
-  response_good : IsGoodList (get_member (codes "require-response") pairs)
+-- the lists of a table are texts
+record HasTextLists (pairs : Members) : Type 0 where
+  request : IsTrue (fails (has_type rule.Components) (get_member (codes "require-request") pairs)) → ⊥
+  response : IsTrue (fails (has_type rule.Components) (get_member (codes "require-response") pairs)) → ⊥
 
-none_fine : HasFineLists no_members
-none_fine = record {
-  request_typed = λ fails. false≢true fails;
-  response_typed = λ fails. false≢true fails;
-  request_good = λ bad. bad;
-  response_good = λ bad. bad;
-}
+none_typed : HasTextLists no_members
+none_typed = record { request = λ fails. false≢true fails; response = λ fails. false≢true fails }
 
-policy_said : (version : Version) (pairs : Members) (policy : Policy) → HasFineLists pairs → IsReadPolicy version pairs policy → IsPolicy version pairs policy
-policy_said version pairs policy fine read = record {
+policy_said : (version : Version) (pairs : Members) (policy : Policy) → HasTextLists pairs → IsReadPolicy version pairs policy → IsPolicy version pairs policy
+policy_said version pairs policy typed read = record {
   selects = read.selects;
   max_age = read.max_age;
   skew = read.skew;
-  require_request = told_are (get_member (codes "require-request") pairs) policy.require_request fine.request_typed (read.require_request fine.request_good);
-  require_response = told_are (get_member (codes "require-response") pairs) policy.require_response fine.response_typed (read.require_response fine.response_good);
+  require_request = told_are (get_member (codes "require-request") pairs) policy.require_request typed.request read.require_request;
+  require_response = told_are (get_member (codes "require-response") pairs) policy.require_response typed.response read.require_response;
   expires = read.expires;
   nonce = read.nonce;
   tag = read.tag;
   digest = read.digest;
 }
 
-all_said : (version : Version) (tables : List Members) (policies : List Policy) → AllByRecursion HasFineLists tables → AllZip (IsReadPolicy version) tables policies
+all_said : (version : Version) (tables : List Members) (policies : List Policy) → AllByRecursion HasTextLists tables → AllZip (IsReadPolicy version) tables policies
     → AllZip (IsPolicy version) tables policies
-all_said version [] [] fine read = tt
-all_said version [] (policy ∷ policies) fine read = absurd read
-all_said version (pairs ∷ tables) [] fine read = absurd read
-all_said version (pairs ∷ tables) (policy ∷ policies) fine read = (policy_said version pairs policy fine.0 read.0, all_said version tables policies fine.1 read.1)
+all_said version [] [] typed read = tt
+all_said version [] (policy ∷ policies) typed read = absurd read
+all_said version (pairs ∷ tables) [] typed read = absurd read
+all_said version (pairs ∷ tables) (policy ∷ policies) typed read = (policy_said version pairs policy typed.0 read.0, all_said version tables policies typed.1 read.1)
 
-fine_one : (document : Members) → IsJudged document → HaveGoodLists document → HasFineLists (members_at document place.Policy)
-fine_one document judged good = record {
-  request_typed = require_request_typed document judged;
-  response_typed = require_response_typed document judged;
-  request_good = good.request;
-  response_good = good.response;
-}
+typed_one : (document : Members) → IsJudged document → HasTextLists (members_at document place.Policy)
+typed_one document judged = record { request = require_request_typed document judged; response = require_response_typed document judged }
 
-fine_tables : (tables : List Members) → AllByRecursion (λ pairs. IsTrue (fails (has_type rule.Components) (get_member (codes "require-request") pairs)) → ⊥) tables
+typed_tables : (tables : List Members) → AllByRecursion (λ pairs. IsTrue (fails (has_type rule.Components) (get_member (codes "require-request") pairs)) → ⊥) tables
     → AllByRecursion (λ pairs. IsTrue (fails (has_type rule.Components) (get_member (codes "require-response") pairs)) → ⊥) tables
-    → AreGoodLists (codes "require-request") tables → AreGoodLists (codes "require-response") tables → AllByRecursion HasFineLists tables
-fine_tables [] requests responses first second = tt
-fine_tables (pairs ∷ tables) requests responses first second =
-    let fine : HasFineLists pairs = record { request_typed = requests.0; response_typed = responses.0; request_good = first.0; response_good = second.0 } in
-    (fine, fine_tables tables requests.1 responses.1 first.1 second.1)
+    → AllByRecursion HasTextLists tables
+typed_tables [] requests responses = tt
+typed_tables (pairs ∷ tables) requests responses = (record { request = requests.0; response = responses.0 }, typed_tables tables requests.1 responses.1)
 
-fine_all : (document : Members) → IsJudged document → HaveGoodLists document → AllByRecursion HasFineLists (policy_tables (get_member (codes "policies") document))
-fine_all document judged good =
-    of_tables HasFineLists (get_member (codes "policies") document) none_fine
-    (fine_tables (tables_in (get_member (codes "policies") document)) (each_request_typed document judged) (each_response_typed document judged) good.tables.request good.tables.response)
+typed_all : (document : Members) → IsJudged document → AllByRecursion HasTextLists (policy_tables (get_member (codes "policies") document))
+typed_all document judged =
+    of_tables HasTextLists (get_member (codes "policies") document) none_typed
+    (typed_tables (tables_in (get_member (codes "policies") document)) (each_request_typed document judged) (each_response_typed document judged))
 
 policies_of : (document : Members) (version : Option Version) (policies : List Policy) (known : Version) → version ≡ Some known → IsJudged document
-    → HaveGoodLists document → AreReadOf version document policies → ArePolicies version document policies
-policies_of document None policies known is judged good read = absurd (cc is)
-policies_of document (Some One) policies known is judged good read =
-    all_said One (members_at document place.Policy ∷ []) policies (fine_one document judged good, tt) read
-policies_of document (Some Two) policies known is judged good read =
-    all_said Two (policy_tables (get_member (codes "policies") document)) policies (fine_all document judged good) read
+    → AreReadOf version document policies → ArePolicies version document policies
+policies_of document None policies known is judged read = absurd (cc is)
+policies_of document (Some One) policies known is judged read =
+    all_said One (members_at document place.Policy ∷ []) policies (typed_one document judged, tt) read
+policies_of document (Some Two) policies known is judged read =
+    all_said Two (policy_tables (get_member (codes "policies") document)) policies (typed_all document judged) read
 
 -- what is read of policies is what the document says, once it is judged
-pub policies_said : (document : Members) (policies : List Policy) → IsJudged document → HaveGoodLists document → AreReadPolicies document policies
-    → ArePolicies (version_in document) document policies
-policies_said document policies judged good read =
+pub policies_said : (document : Members) (policies : List Policy) → IsJudged document → AreReadPolicies document policies → ArePolicies (version_in document) document policies
+policies_said document policies judged read =
     let version = has_version document judged in
-    policies_of document (version_in document) policies version.0 version.1 judged good read
+    policies_of document (version_in document) policies version.0 version.1 judged read
 
 -- no list is bad, where they were read
 pub read_fine : (document : Members) (lists : Lists) → AreLists document lists → HaveGoodLists document → HoldsOfNone (λ row. HoldsOfValue (IsBadList row.rule) document row) rows
@@ -181,7 +166,7 @@ tables_say document lists policies sign gateway judged complete are good steps r
   lists = read_fine document lists are good;
   steps = steps;
   complete = complete;
-  policies = policies_said document policies judged good read;
+  policies = policies_said document policies judged read;
   sign = sign_said document sign judged complete says;
   gateway = has;
 }

@@ -71,6 +71,13 @@ good_more name values i lt value at good all so_far more =
     items_view-drop values i value lt ∙ ap (λ (v : Value). item (view v) (items_view (drop (i + 1) values))) at in
     so_far (subst (λ (items : Items). AreGoodLists name (tables_of items)) (sym left) (good, more))
 
+-- the list of each of the tables is good
+pub good_at : (name : List ℕ) (values : List Value) (i : ℕ) (value : Value) → i < length values → get_or values i value ≡ value → AreGoodLists name (tables_of (items_view values))
+    → IsGoodList (get_member name (members_in (Some (view value))))
+good_at name [] i value lt at good = absurd (omega (arith, lt))
+good_at name (first ∷ values) zero value lt at good = subst (λ (v : Value). IsGoodList (get_member name (members_in (Some (view v))))) at good.0
+good_at name (first ∷ values) (suc i) value lt at good = good_at name values i value (omega (arith, lt)) at good.1
+
 pub good_all : (name : List ℕ) (values : List Value) (i : ℕ) → length values ≤ i → (all : List Members)
     → (AreGoodLists name (tables_of (items_view (drop i values))) → AreGoodLists name all) → AreGoodLists name all
 good_all name values i le all so_far = so_far (subst (λ (left : List Value). AreGoodLists name (tables_of (items_view left))) (sym (drop_all i values le)) tt)

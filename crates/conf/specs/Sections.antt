@@ -1,5 +1,5 @@
 -- What the tables of a configuration say.
-use Rattle.std.specs.Prelude.{◌≡◌, ◌⊎◌, ℕ, pos, Bool, false, Option, Some, None, IsSomeAnd, option_and_then, unwrap_or, List, [], ◌∷◌, codes}
+use Rattle.std.specs.Prelude.{◌≡◌, ℕ, pos, Bool, false, Option, Some, None, IsSomeAnd, option_and_then, unwrap_or, List, [], ◌∷◌, codes}
 use Rattle.std.specs.List.{AllZip}
 use Rattle.toml.specs.Data.{Data, Members, no_members, string, integer, array, table, as_str, as_bool, get_member}
 use Rattle.component_ids.specs.declared.id.ComponentId.{ComponentId}
@@ -137,9 +137,3 @@ abbrev pub HasGateway : Option Data → Option GatewayConf → Type 0
 HasGateway None gateway = gateway ≡ None
 HasGateway (Some (table pairs)) gateway = IsSomeAnd gateway (IsGatewayConf pairs)
 HasGateway (Some value) gateway = ⊥
-
--- the table `sign` has no text for its label, or none for its keyid
-abbrev pub LacksName : Members → Type 0
-LacksName pairs =
-    (option_and_then as_str (get_member (codes "label") pairs) ≡ None)
-    ⊎ (option_and_then as_str (get_member (codes "keyid") pairs) ≡ None)

@@ -5,7 +5,6 @@ ghost use Rattle.toml.specs.Data.{get_member};
 ghost use Rattle.toml.specs.View.{array_view, table_view};
 ghost use Rattle.conf_values.specs.Parts.{tables_of};
 ghost use Rattle.conf.specs.tools.Judged.{IsCauseNumbered};
-ghost use Rattle.conf.specs.tools.PolicyReads.{IsToldIn};
 ghost use Rattle.conf.specs.tools.SectionReads.{AreGoodLists, AreLists, HaveGoodLists, HaveGoodTables, IsGoodList, IsListFault, IsListsFault, IsToldList};
 ghost use Rattle.conf.specs.tools.Views.{AreTables};
 ghost use Rattle.conf_values.specs.Views.{table_members};
@@ -27,21 +26,23 @@ pub(crate) struct Lists {
     pub(crate) components_response: Ids,
 }
 
-/// The components that the table tells under the name; none where it tells none.
+/// The components that the table lists under the name, none where it has no list there. The list
+/// was judged.
 pub(crate) fn components_in(alloc: Global, table: Option<&Table>, name: &str) -> Result<Ids, Memory>
-    ensures { IfOk result (IsToldIn (get_member name.now (table_members table.entry))) }
+    requires { IsGoodList (get_member name.now (table_members table)) }
+    ensures { IfOk result (IsToldList (get_member name.now (table_members table.entry))) }
 {
     let Some(text) = text_of(table, name) else {
         return Ok(Ids::new(alloc));
     };
     match read_covered(alloc, text.as_bytes())? {
-        None => Ok(Ids::new(alloc)),
+        None => unreachable!(),
         Some(ids) => Ok(ids),
     }
 }
 
-/// The components that the table tells under the name, where it tells no other text; none where it
-/// tells none.
+/// The components that the table lists under the name, none where it has no text there; or the
+/// fault of a text that is no such list.
 fn read_components(
     alloc: Global,
     table: Option<&Table>,

@@ -9,7 +9,8 @@ ghost use Rattle.conf_values.specs.declared.table.Version.TheVariants.{Two};
 ghost use Rattle.conf.specs.Table.{tables_of, version_in};
 ghost use Rattle.conf.specs.Sections.{asked_tag, kept_nonces, selected_tag};
 ghost use Rattle.conf.specs.tools.Judged.{IsJudged};
-ghost use Rattle.conf.specs.tools.PolicyReads.{AreReadPolicies, IsReadPolicy};
+ghost use Rattle.conf.specs.tools.PolicyReads.{AreReadPolicies, HasGoodLists, IsReadPolicy};
+ghost use Rattle.conf.specs.tools.SectionReads.{AreGoodLists, HaveGoodLists};
 ghost use Rattle.conf.specs.tools.Views.{AreTables};
 ghost use Rattle.conf_values.specs.Values.{number_or};
 ghost use Rattle.conf_values.specs.Views.{table_members};
@@ -44,6 +45,7 @@ fn tags_of(
 
 /// What the table says; without one, what holds where nothing is said.
 fn policy_of(alloc: Global, version: Version, table: Option<&Table>) -> Result<Policy, Memory>
+    requires { HasGoodLists (table_members table) }
     ensures { IfOk result (IsReadPolicy version (table_members table.entry)) }
 {
     let (selects, tag) = tags_of(alloc, version, table)?;
@@ -62,6 +64,7 @@ fn policy_of(alloc: Global, version: Version, table: Option<&Table>) -> Result<P
 
 /// What the table alone says.
 fn one_policy(alloc: Global, version: Version, table: Option<&Table>) -> Result<Policies, Memory>
+    requires { HasGoodLists (table_members table) }
     ensures { IfOk result (AllZip (IsReadPolicy version) (table_members table.entry ∷ [])) }
 {
     let mut policies = Policies::new(alloc);
@@ -71,6 +74,8 @@ fn one_policy(alloc: Global, version: Version, table: Option<&Table>) -> Result<
 
 /// What the tables say, in order.
 fn policies_in(alloc: Global, array: &Array) -> Result<Policies, Memory>
+    requires request { AreGoodLists (codes "require-request") (tables_of (array_view array.now)) }
+    requires response { AreGoodLists (codes "require-response") (tables_of (array_view array.now)) }
     ensures { IfOk result (AllZip (IsReadPolicy Two)
         (tables_of (array_view array.now))) }
 {
@@ -85,6 +90,7 @@ fn policies_in(alloc: Global, array: &Array) -> Result<Policies, Memory>
 pub(crate) fn policies_of(alloc: Global, tables: FixedTables) -> Result<Policies, Memory>
     requires tables { AreTables tables }
     requires judged { IsJudged (table_view tables.document.now) }
+    requires good { HaveGoodLists (table_view tables.document.now) }
     ensures { IfOk result (AreReadPolicies (table_view tables.entry.document.now)) }
 {
     match tables.version {

@@ -5,7 +5,8 @@ ghost use Rattle.toml.specs.Data.{get_member};
 ghost use Rattle.toml.specs.View.{table_view};
 ghost use Rattle.conf_values.specs.declared.table.TableName.TheVariants.{Sign};
 ghost use Rattle.conf.specs.Table.{members_at};
-ghost use Rattle.conf.specs.Sections.{AreComponents, IsSignConf, LacksName};
+ghost use Rattle.conf.specs.Sections.{AreComponents, IsSignConf};
+ghost use Rattle.conf.specs.tools.SectionReads.{LacksName};
 ghost use Rattle.conf.specs.tools.Views.{AreTables};
 
 use crate::members::FixedTables;

@@ -29,7 +29,7 @@ pub(crate) fn scheme_in(document: &Table) -> Scheme
     }
 }
 
-/// The tag that the table tells.
+/// The tag of the table, if it has one.
 pub(crate) fn read_tag(alloc: Global, table: Option<&Table>) -> Result<Option<Text>, Memory>
     ensures { IfOk result (λ tag. tag ≡ tag_in (table_members table.entry)) }
 {

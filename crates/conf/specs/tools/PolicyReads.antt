@@ -1,33 +1,31 @@
 -- What the parts of the reader of policies answer. No public clause cites this module.
 use Rattle.std.specs.Prelude.{◌≡◌, Option, Some, List, [], ◌∷◌, codes}
 use Rattle.std.specs.List.{AllZip}
-use Rattle.toml.specs.Data.{Data, Members, get_member}
-use Rattle.component_ids.specs.declared.id.ComponentId.{ComponentId}
+use Rattle.toml.specs.Data.{Members, get_member}
 use Rattle.conf_values.specs.declared.table.TableName.TheVariants.{Policy as PolicyTable}
-use Rattle.conf_values.specs.declared.table.ValueRule.TheVariants as rule
 use Rattle.conf_values.specs.declared.table.Version.{Version}
 use Rattle.conf_values.specs.declared.table.Version.TheVariants.{One, Two}
 use Rattle.conf.specs.Table.{members_at, version_in}
 use Rattle.conf_values.specs.Values.{number_or}
 use Rattle.conf.specs.Sections.{asked_tag, digest_use_of, is_required, nonce_use_of, policy_tables, selected_tag}
-use Rattle.conf.specs.Refusals.{IsBadList}
-use Rattle.conf.specs.tools.SectionReads.{IsToldList}
+use Rattle.conf.specs.tools.SectionReads.{IsGoodList, IsToldList}
 use Rattle.settings.specs.declared.limits.TheConstants.{DEFAULT_MAX_AGE, DEFAULT_SKEW}
 use Rattle.settings.specs.declared.policy.Policy.{Policy}
 
--- the components that a value tells, where it isn't a text that tells none
-abbrev pub IsToldIn : Option Data → List ComponentId → Type 0
-IsToldIn value ids = ¬ IsBadList rule.Components value → IsToldList value ids
+-- no list of a table of policies is bad
+pub record HasGoodLists (pairs : Members) : Type 0 where
+  pub request : IsGoodList (get_member (codes "require-request") pairs)
+  pub response : IsGoodList (get_member (codes "require-response") pairs)
 
--- what is read of a table, whose lists may be bad
+-- what is read of a table, whose lists aren't bad
 pub record IsReadPolicy (version : Version) (pairs : Members) (policy : Policy) : Type 0 where
   pub selects : policy.selects ≡ selected_tag version pairs
   pub max_age : policy.max_age ≡ number_or DEFAULT_MAX_AGE (get_member (codes "max-age") pairs)
   pub skew : policy.skew ≡ number_or DEFAULT_SKEW (get_member (codes "skew") pairs)
   pub require_request :
-      IsToldIn (get_member (codes "require-request") pairs) policy.require_request
+      IsToldList (get_member (codes "require-request") pairs) policy.require_request
   pub require_response :
-      IsToldIn (get_member (codes "require-response") pairs) policy.require_response
+      IsToldList (get_member (codes "require-response") pairs) policy.require_response
   pub expires : policy.expires ≡ is_required (get_member (codes "expires") pairs)
   pub nonce : policy.nonce ≡ nonce_use_of (get_member (codes "nonce") pairs)
   pub tag : policy.tag ≡ asked_tag version pairs

@@ -1,7 +1,7 @@
 -- What the parts of the reader of tables answer. No public clause cites this module.
-use Rattle.std.specs.Prelude.{◌≡◌, ℕ, Option, Some, IsTrue, List, [], codes, ⊤}
+use Rattle.std.specs.Prelude.{◌≡◌, ◌⊎◌, ℕ, Option, Some, None, option_and_then, IsTrue, List, [], codes, ⊤}
 use Rattle.std.specs.List.{AllByRecursion, Any}
-use Rattle.toml.specs.Data.{Data, Members, string, get_member}
+use Rattle.toml.specs.Data.{Data, Members, string, as_str, get_member}
 use Rattle.component_ids.specs.declared.id.ComponentId.{ComponentId}
 use Rattle.conf_values.specs.declared.table.TableName.{TableName}
 use Rattle.conf_values.specs.declared.table.TableName.TheVariants.{Policies, Policy, Sign}
@@ -65,6 +65,12 @@ pub record AreLists (document : Members) (lists : Lists) : Type 0 where
       IsToldList (value_of document Sign (codes "components-request")) lists.components_request
   pub components_response :
       IsToldList (value_of document Sign (codes "components-response")) lists.components_response
+
+-- the table `sign` has no text for its label, or none for its keyid
+abbrev pub LacksName : Members → Type 0
+LacksName pairs =
+    (option_and_then as_str (get_member (codes "label") pairs) ≡ None)
+    ⊎ (option_and_then as_str (get_member (codes "keyid") pairs) ≡ None)
 
 -- what the tables of the document say, where none of their lists and steps is bad and no key is
 -- missing
