@@ -57,7 +57,7 @@ impl Conf {
         }
     }
 
-    /// The same configuration by which messages are signed so, in place of what it says of that.
+    /// The same configuration with this way to sign, in place of the one that it has.
     pub fn with_sign(self, sign: SignConf) -> Conf
         requires { IsValidSign (meaning self).keys sign }
         ensures { meaning result ≡ record (meaning self) { sign = Some sign } }

@@ -7,7 +7,7 @@ use std::error::Error;
 use std::fmt;
 
 /// A rule that a label is judged by, named for how it fails. Of several that fail the one of the
-/// least number is told.
+/// least number is reported.
 #[derive(Clone, Copy, Debug, PartialEq, Eq)]
 pub enum Rule {
     /// 1: no header line is named `Signature-Input` (RFC 9421 section 4.1).
@@ -54,7 +54,8 @@ pub enum Rule {
     ExpiresAbsent,
     /// 22: it expired before now.
     Expired,
-    /// 23: `tag` isn't the one that is configured (RFC 9421 section 2.3).
+    /// 23: `tag` isn't the one that the policy asks for, or no policy is for this `tag`, or for none
+    /// (RFC 9421 section 2.3).
     TagWrong,
     /// 24: `nonce` is required and isn't there (RFC 9421 section 2.3).
     NonceAbsent,

@@ -10,8 +10,8 @@ ghost use Rattle.verdicts.specs.Verification.{Verification};
 use crate::outcome::Verdict;
 use signatures::{LabelRead, Rule};
 
-/// A label with its signature, and whether its tag is right, where that is known: then no signature
-/// base is made for it.
+/// A label with its signature, and whether its tag is right, where that is known. The code then
+/// makes no signature base for it; no clause says this.
 #[derive(Clone, Copy)]
 pub struct SignedLabel<'r> {
     pub label: &'r [u8],

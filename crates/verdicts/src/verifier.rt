@@ -51,8 +51,8 @@ impl<'v> Verifier<'v> {
         verdict_of(judge(alloc, exchange, self, label, steps))
     }
 
-    /// The verdict on a label whose signature was read. Where it is known of its tag, no signature
-    /// base is made for it.
+    /// The verdict on a label whose signature was read. Where it is known whether its tag is right,
+    /// the code makes no signature base for it; no clause says this.
     pub fn verdict_on<L: Ledger>(
         &self,
         alloc: Global,
