@@ -36,6 +36,8 @@ mod readers;
 #[cfg(test)]
 mod recordings;
 #[cfg(test)]
+mod rewritings;
+#[cfg(test)]
 mod runs;
 #[cfg(test)]
 mod scripts;

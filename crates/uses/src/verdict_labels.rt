@@ -1,17 +1,18 @@
 // Tests of signatures and verdicts.
 
-ghost use Rattle.std.specs.Prelude.{◌≡◌, ◌<◌};
+ghost use Rattle.std.specs.Prelude.{◌≡◌, ◌<◌, IsTrue};
+ghost use Rattle.component_ids.specs.SignatureParams.{are_sig_params_in_range};
 
 use crate::given::{conf_of, message};
-use component_values::Context;
+use component_values::{Context, Prepared, prepare};
 use conf::Conf;
 use msg_body::MessageView;
 use nonces::{NonceBook, Steps};
-use signatures::{Rule, labels_of, read_label};
+use signatures::{LabelRead, Rule, labels_of, read_label};
 use std::alloc::Global;
 use std::marker::Brand;
 use std::sync::ledger::{Blank, Ledger};
-use verdicts::{Verdict, verdict};
+use verdicts::{Verdict, tag_matches, verdict};
 
 // The signature of RFC 9421 appendix B.2.5.
 const STANDARD: &[u8] = b"GET /foo HTTP/1.1\r\n\
@@ -247,4 +248,43 @@ fn is_standard(alloc: Global) -> bool {
 #[test]
 fn labels_and_signatures_are_read(rt: HostRuntime) {
     assert!(&rt; is_standard(rt.alloc()));
+}
+
+// Whether the tag is right under this key, and isn't under another one, and other bytes aren't.
+fn is_right_tag(prepared: &Prepared<'_, '_>, key: &[u8], tag: &[u8]) -> bool {
+    tag_matches(prepared, key, tag)
+        && !tag_matches(prepared, b"k", tag)
+        && !tag_matches(prepared, key, &[0; 32])
+}
+
+fn is_signed_by(alloc: Global, conf: &Conf, context: &Context<'_, '_>, read: &LabelRead) -> bool
+    requires { IsTrue (are_sig_params_in_range read.now.params) }
+{
+    match (
+        prepare(alloc, context, &read.params),
+        conf.key(b"test-shared-secret"),
+    ) {
+        (Ok(prepared), Some(key)) => is_right_tag(&prepared, key, read.tag.bytes()),
+        _ => false,
+    }
+}
+
+fn is_signed_in(alloc: Global, conf: &Conf, view: &MessageView<'_>) -> bool {
+    let context = Context::of_message(view, conf.scheme(), conf.types());
+    match read_label(alloc, view, b"s") {
+        Ok(read) => is_signed_by(alloc, conf, &context, &read),
+        Err(_) => false,
+    }
+}
+
+fn is_signed(alloc: Global) -> bool {
+    match (conf_of(alloc, CONF), message(alloc, STANDARD)) {
+        (Some(given), Some(signed)) => is_signed_in(alloc, &given.conf, &signed.view),
+        _ => false,
+    }
+}
+
+#[test]
+fn a_tag_is_that_of_the_base_under_a_key(rt: HostRuntime) {
+    assert!(&rt; is_signed(rt.alloc()));
 }
