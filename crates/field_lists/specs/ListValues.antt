@@ -1,6 +1,6 @@
 -- What the components of a list of fields come to: by the rows of messages (RFC 9421 sections 2.1
 -- and 2.2), its pseudo-header fields in place of the start line.
-use Rattle.std.specs.Prelude.{◌≡◌, ℕ, ◌==◌, not, IsTrue, Some, List, [], ◌++◌, map, Result, Ok, Err}
+use Rattle.std.specs.Prelude.{◌≡◌, ℕ, ◌==◌, not, IsTrue, Some, List, [], ◌++◌, map, Result}
 use Rattle.std.specs.List.{list_all}
 use Rattle.std.specs.Str.{byte}
 use Rattle.sfv_text.specs.declared.pair.Pair.{Pair}
@@ -81,11 +81,3 @@ ListComesTo list types id result =
     ComponentRow (is_field_name id.name) types id (raw_lines list (side_of id.params))
     (λ derived answer. NamedRow (λ name given. PseudoRow list.fields id.params name given)
     derived answer) result
-
--- the component has the value
-abbrev pub ListHas : FieldList → KindMap → ComponentId → List ℕ → Type 0
-ListHas list types id value = ListComesTo list types id (Ok value)
-
--- the component lacks a value in this way
-abbrev pub ListLacks : FieldList → KindMap → ComponentId → Lack → Type 0
-ListLacks list types id lack = ListComesTo list types id (Err lack)

@@ -24,11 +24,7 @@ fields_judged = 5
 abbrev pub label_judged : ℕ
 label_judged = 6
 
--- and after limits
-abbrev pub limits_judged : ℕ
-limits_judged = 7
-
--- and after values: none is left
+-- and after limits and values: none is left
 abbrev pub all_judged : ℕ
 all_judged = 8
 

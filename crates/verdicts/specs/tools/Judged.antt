@@ -251,9 +251,3 @@ pub record AcceptsContent (v : Verification) (params : SigParams) (tag key : Lis
   pub mac : tag ≡ hmac key (signature_base params values)
   pub digest : IsTrue (asks_digest_of v policy) → HasDigest v.context.message params.ids
   pub room : HasRoom v.now v.seen policy params
-
--- rules 16 to 34 hold, with this `keyid`
-abbrev pub AcceptsKeyid : Verification → SigParams → List ℕ → List ℕ → Type 0
-AcceptsKeyid v params tag keyid =
-    (key : List ℕ) × (policy : Policy)
-    × HasKey v params tag keyid key policy × AcceptsContent v params tag key policy
