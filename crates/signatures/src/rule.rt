@@ -54,8 +54,8 @@ pub enum Rule {
     ExpiresAbsent,
     /// 22: it expired before now.
     Expired,
-    /// 23: `tag` isn't the one that the policy asks for, or no policy is for this `tag`, or for none
-    /// (RFC 9421 section 2.3).
+    /// 23: `tag` isn't the one that the policy asks for; or no policy is for this `tag`, or for a
+    /// signature without one (RFC 9421 section 2.3).
     TagWrong,
     /// 24: `nonce` is required and isn't there (RFC 9421 section 2.3).
     NonceAbsent,
