@@ -180,7 +180,7 @@ basis_or_first message other = elim (all_or_first (HasSameBasis message other) (
 ]
 
 -- a message has steps that make it normal
-some_normal : (to_head : Bool) (params : SigParams) (message : Message) → IsMessage to_head message
+pub some_normal : (to_head : Bool) (params : SigParams) (message : Message) → IsMessage to_head message
     → (steps : List Rewrite) × (normal : Message) × HasNormalSteps to_head params message steps normal
 some_normal to_head params message is =
     let header = makes_some Header params message.head.lines is.head.lines in

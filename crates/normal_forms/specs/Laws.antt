@@ -41,6 +41,24 @@ AreAlikeWhereAgreed =
     → HasNormalSteps to_head params other others another
     → AreAlike normal another ↔ All (AgreeOn message other) params.ids
 
+-- ---- that there is one normal form
+
+-- A message has at most one list of steps that make it normal for a signature of these parameters,
+-- and at most one normal message.
+abbrev pub HasOneNormalForm : Type 0
+HasOneNormalForm =
+    (to_head : Bool) (params : SigParams) (message : Message) (steps others : List Rewrite)
+    (normal another : Message) → HasNormalSteps to_head params message steps normal
+    → HasNormalSteps to_head params message others another
+    → (steps ≡ others) × (normal ≡ another)
+
+-- each message has them
+abbrev pub HasSomeNormalForm : Type 0
+HasSomeNormalForm =
+    (to_head : Bool) (params : SigParams) (message : Message) → IsMessage to_head message
+    → (steps : List Rewrite) × (normal : Message)
+    × HasNormalSteps to_head params message steps normal
+
 -- ---- that there is one answer
 
 -- two messages have at most one explanation for a label

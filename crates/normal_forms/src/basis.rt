@@ -6,7 +6,7 @@ ghost use Rattle.normal_forms.specs.Agreement.{fixed_name};
 use msg_head::Side;
 use std::fmt;
 
-/// A field of which no rewriting here makes another, whatever is covered.
+/// A field whose lines stay, whatever is covered.
 #[derive(Clone, Copy, Debug, PartialEq, Eq)]
 pub enum FixedName {
     /// RFC 9110 section 7.2.

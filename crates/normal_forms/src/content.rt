@@ -64,6 +64,8 @@ fn has_normal_chunks(alloc: Global, context: &Context<'_, '_>) -> Result<bool, M
     let mut line = Text::new(alloc);
     append_size(alloc, count, &mut line)?;
     match data_between(line.bytes(), sent_content(message)) {
+        // a first chunk of so many bytes has all of the content, so this never fails; it is tested
+        // since no law here says so
         Some(data) => Ok(data.len() == count),
         None => Ok(false),
     }

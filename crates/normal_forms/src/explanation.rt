@@ -100,7 +100,8 @@ fn judge(
     Ok(explained?)
 }
 
-/// How the context's messages, two records of one message, are explained for the label's signature.
+/// How the messages of the two contexts, two records of one message, are explained for the label's
+/// signature.
 pub fn explain(
     alloc: Global,
     first: &Context<'_, '_>,

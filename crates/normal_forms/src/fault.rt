@@ -11,7 +11,7 @@ pub enum NormalFault {
     /// Out of memory. It says nothing of the message.
     Memory,
     /// The component with this index covers what a field reads as (RFC 9421 sections 2.1.1 and
-    /// 2.1.2), and rewritings of it aren't listed.
+    /// 2.1.2), and no steps are listed for it.
     NotPlain(usize),
 }
 
@@ -34,7 +34,7 @@ pub enum ExplainFault {
     /// Some rule of reading fails for the label in the first message.
     Unread,
     /// The component with this index covers what a field reads as (RFC 9421 sections 2.1.1 and
-    /// 2.1.2), and rewritings of it aren't listed.
+    /// 2.1.2), and no steps are listed for it.
     NotPlain(usize),
     /// The messages are no records of one message: they differ in this.
     OtherBasis(Basis),

@@ -25,5 +25,5 @@ mod side;
 pub use basis::{Basis, FixedName};
 pub use explanation::{Explained, explain};
 pub use fault::{ExplainFault, NormalFault};
-pub use laws::{explanations_are_decided, explanations_are_sound};
+pub use laws::{a_message_has_one_normal_form, explanations_are_decided, explanations_are_sound};
 pub use normal::{Normal, normal_form};
