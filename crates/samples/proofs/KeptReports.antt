@@ -1,5 +1,5 @@
 -- The report on a sample: each hop is permitted and keeps the signature, and each message is accepted.
-use Rattle.std.proofs.Common.{◌≡◌, ◌+◌, ℕ, zero, suc, Bool, true, false, cond, Option, None, List, [], ◌∷◌, length, map, refl, sym, ap, subst, ◌∙◌, arith}
+use Rattle.std.proofs.Common.{◌≡◌, ◌+◌, ◌*◌, ℕ, zero, suc, Bool, true, false, cond, Option, None, List, [], ◌∷◌, length, map, refl, sym, ap, subst, ◌∙◌, arith}
 use Rattle.std.specs.Prelude.{count_by, unwrap_or}
 use Rattle.std.specs.List.{All, AllZip, flat_map, range_with_len}
 use Rattle.std.proofs.lemmas.List.Elements.{All-nil, All-cons}
@@ -25,6 +25,7 @@ use Rattle.samples.specs.Summary.{is_kept_line, is_ok_line, is_permitted_line}
 use Rattle.samples.specs.declared.limits.TheConstants.{MOMENT}
 use Rattle.samples.proofs.KeptHops.{HoldsSignature, fate_is, holds_after, label, lead, permitted, three}
 use Rattle.samples.proofs.FirstHeld.{holds_first}
+use Rattle.samples.proofs.StepCounts.{steps_of_hops}
 
 -- ---- the lines of a message, and of a hop
 
@@ -43,7 +44,7 @@ module _ (state : ℕ) (m : Message) (is : HoldsSignature m) (index : ℕ) where
   }
 
   permitted_hop : IsPermittedHop placed
-  permitted_hop = record { lead = lead state m is; permitted = permitted state m is }
+  permitted_hop = permitted state m is
 
   hop_lines : AreHopLines sample_configuration None placed (kept_lines index)
   hop_lines = record {
@@ -140,6 +141,7 @@ keeps_its_signature seed count chain lines summary is report numbers =
       each = subst (λ (n : ℕ). All IsPermittedHop (places_from 0 n chain.message chain.hops)) (sym is.moment) hops.each;
       lines_are = same;
       hops = numbers.hops ∙ hops.size;
+      steps = numbers.steps ∙ (steps_of_hops count seed chain.message chain.hops is.hops ∙ ap (λ (n : ℕ). 3 * n) hops.size);
       permitted = numbers.permitted ∙ (ap (count_by is_permitted_line) same ∙ counted is_permitted_line (λ index. refl) count 1);
       kept = numbers.kept ∙ (ap (count_by is_kept_line) same ∙ counted is_kept_line (λ index. refl) count 1);
       ok = omega (arith, numbers.ok, ap (count_by is_ok_line) same, all, counted is_ok_line (λ index. refl) count 1);

@@ -16,6 +16,7 @@ mod ShortLines
 pub mod Signable
 mod Signed
 pub mod SomeSample
+mod StepCounts
 mod TakenSteps
 pub mod Unsigned
 mod Valid

@@ -43,6 +43,7 @@ use Rattle.samples.specs.declared.limits.TheConstants.{MOMENT}
 use Rattle.samples.specs.declared.summary.Summary.{Summary}
 use Rattle.samples.specs.tools.Made.{AreMadeFrom, IsMade, IsTextOf, SpellsSample, items_made, made_items, recorded_hop}
 use Rattle.samples.proofs.HopSteps.{hop_short, hop_spelled}
+use Rattle.samples.proofs.StepCounts.{steps_of_hops}
 use Rattle.samples.proofs.TakenSteps.{within_limit}
 
 -- ---- as it is recorded
@@ -210,7 +211,7 @@ module _ (seed count : ℕ) (first : List ℕ) (own : SpellsSample seed first) (
   summary_fits lines summary hops steps permitted kept ok last faulty =
       let same = AllZip-long IsTextOf are.hops made are.texts in record {
         hops = hops ∙ same;
-        steps = steps ∙ ap (λ (n : ℕ). 3 * n) same;
+        steps = steps ∙ (ap (λ (n : ℕ). 3 * n) same ∙ sym (steps_of_hops count seed own.signed are.hops are.are));
         permitted = permitted;
         kept = kept;
         ok = ok;

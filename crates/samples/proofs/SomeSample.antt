@@ -1,7 +1,7 @@
 -- A seed and a number of hops have a summary.
-use Rattle.std.proofs.Common.{◌*◌, ℕ, zero, suc, false, inl, inr, List, [], ◌∷◌, None, length, refl}
+use Rattle.std.proofs.Common.{ℕ, zero, suc, false, inl, inr, List, [], ◌∷◌, None, length, refl}
 use Rattle.std.specs.Prelude.{count_by}
-use Rattle.std.specs.List.{AllZip}
+use Rattle.std.specs.List.{AllZip, flat_map}
 use Rattle.msg_body.specs.Messages.{Message, Spells, message_text}
 use Rattle.signing.specs.Signed.{IsSignedMessage}
 use Rattle.signing.proofs.SomeSigned.{signed_or_fault, verifiable_where_signed}
@@ -47,7 +47,7 @@ some_hops (suc count) state m ready =
 numbers_of : Chain → List AuditLine → ℕ → Summary
 numbers_of chain lines last = record {
   hops = length chain.hops;
-  steps = 3 * length chain.hops;
+  steps = length (flat_map (λ (hop : Hop). hop.script) chain.hops);
   permitted = count_by is_permitted_line lines;
   kept = count_by is_kept_line lines;
   ok = count_by is_ok_line lines;

@@ -1,24 +1,21 @@
 -- The message after the steps of a sample.
-use Rattle.std.proofs.Common.{◌≡◌, ◌≤◌, ℕ, false, None, List, ◌∷◌, length, Result, Ok, Err, refl, sym, ap, subst, ◌∙◌}
-use Rattle.std.specs.Prelude.{IfOk, IsTrue}
-use Rattle.std.specs.List.{list_all}
-use Rattle.std.proofs.lemmas.Bool.{and_parts}
-use Rattle.msg_body.specs.Messages.{IsMessage, Message, Spells}
-use Rattle.msg_body.specs.Views.{message_content}
+use Rattle.std.proofs.Common.{◌≡◌, ◌≤◌, ℕ, false, None, List, [], ◌∷◌, length, take, Ok, refl, sym, ap, subst, ◌∙◌}
+use Rattle.std.specs.List.{FoldsTo}
+use Rattle.msg_body.specs.Messages.{Message, Spells}
 use Rattle.msg_body.specs.WholeTexts.{IsMessageFault, IsWhole, any_message}
 use Rattle.msg_body.specs.declared.error.MessageFault.{MessageFault}
 use Rattle.msg_body.specs.declared.whole.Reading.{Reading}
 use Rattle.msg_body.proofs.WholeTexts.{no_fault_of_whole}
 use Rattle.msg_body.specs.declared.limits.TheConstants.{MAX_MESSAGE_BYTES}
-use Rattle.component_values.specs.Context.{MessageContext}
+use Rattle.component_values.specs.Context.{MessageContext, answers_head, context_with}
 use Rattle.settings.specs.Configuration.{Configuration}
-use Rattle.line_rewrites.specs.Sized.{HasNoSized, SpellsSized}
-use Rattle.rewrite_script.specs.Lines.{is_writable}
 use Rattle.rewrite_script.specs.declared.rewrite.Rewrite.{Rewrite}
-use Rattle.rewrites.specs.Steps.{IsNotApplicable, SpellsStep, Step, Steps}
-use Rattle.rewrites.proofs.StepKinds.{gives_kind}
-use Rattle.rewrites.proofs.StepLaws.{gives_one_message}
+use Rattle.rewrites.specs.Steps.{Step, Steps}
+use Rattle.rewrites.specs.Walks.{EndsAt, IsInapplicableStep, IsWatchedStep, ReportsWalk}
+use Rattle.rewrites.specs.declared.watcher.Judgement.{Judgement}
 use Rattle.verdicts.specs.Contexts.{context_for}
+use Rattle.hop_audit.specs.Hops.{IsStoppedAt}
+use Rattle.hop_audit.proofs.StepLists.{leads_or_stops}
 use Rattle.samples.specs.Chains.{sample_context}
 use Rattle.samples.specs.Requests.{sample_configuration}
 use Rattle.samples.specs.tools.Made.{LeadsTo}
@@ -31,53 +28,37 @@ within_limit text message spells = subst (λ (t : List ℕ). length t ≤ MAX_ME
 pub context_is : (context : MessageContext) (conf : Configuration) (message : Message) → context ≡ context_for conf message None → conf ≡ sample_configuration → context ≡ sample_context message
 context_is context conf message is conf_is = is ∙ ap (λ (c : Configuration). context_for c message None) conf_is
 
--- ---- one step
-
-module _ (context : MessageContext) (message : Message) (step : Rewrite) (is : context ≡ sample_context message) where
-  -- the step gives the message of the text that it makes
-  pub step_gives : (text : List ℕ) (next : Message) → SpellsStep context step text → SpellsSized false text (length (message_content message)) next → Step (sample_context message) step next
-  step_gives text next spells spelled =
-      let here = subst (λ (c : MessageContext). SpellsStep c step text) is spells in
-      (here next).1 spelled
-
-  module _ (next : Message) (gives : Step (sample_context message) step next) where
-    -- a step that gives a message is applicable
-    pub is_applicable : ¬ IsNotApplicable context step
-    is_applicable stops = subst (λ (c : MessageContext). IsNotApplicable c step) is stops next gives
-
-    -- the text that it makes is that of a message
-    pub is_spelled : (text : List ℕ) → SpellsStep context step text → ¬ HasNoSized false text (length (message_content message))
-    is_spelled text spells none =
-        let here = subst (λ (c : MessageContext). SpellsStep c step text) is spells in
-        none next ((here next).0 gives)
-
--- the first step leads to a message, and the others on from there
-module _ (message after : Message) (steps : List Rewrite) (step : Rewrite) (later : List Rewrite) (parts : steps ≡ step ∷ later) (lead : Steps Step (sample_context message) steps after) where
-  pub first_taken : (next : Message) × Step (sample_context message) step next × Steps Step (sample_context next) later after
-  first_taken = subst (λ (list : List Rewrite). Steps Step (sample_context message) list after) parts lead
-
-  pub others_taken : (next : Message) → Step (sample_context message) step next → Steps Step (sample_context next) later after
-  others_taken next gives =
-      let first = first_taken in
-      let same = gives_one_message (sample_context message) step first.0 next first.1 gives in
-      subst (λ (m : Message). Steps Step (sample_context m) later after) same first.2
-
--- what a step gives is a message
-pub gives_message : (message : Message) (step : Rewrite) (next : Message) → Step (sample_context message) step next → IsMessage false next
-gives_message message step next gives = (gives_kind (sample_context message) step next gives).0
-
-pub later_writable : (steps : List Rewrite) (step : Rewrite) (later : List Rewrite) → steps ≡ step ∷ later → IsTrue (list_all is_writable steps) → IsTrue (list_all is_writable later)
-later_writable steps step later parts all =
-    (and_parts (is_writable step) (list_all is_writable later) (subst (λ (list : List Rewrite). IsTrue (list_all is_writable list)) parts all)).1
-
 -- ---- the steps
 
--- a step, and then the others
-pub step_before : {E : Type 0} (message next : Message) (steps : List Rewrite) (step : Rewrite) (later : List Rewrite) (result : Result (List ℕ) E) → steps ≡ step ∷ later
-    → Step (sample_context message) step next → IfOk result (LeadsTo next later) → IfOk result (LeadsTo message steps)
-step_before message next steps step later (Ok text) parts takes rest =
-    rw parts (record { after = rest.after; lead = (next, takes, rest.lead); spells = rest.spells })
-step_before message next steps step later (Err e) parts takes rest = tt
+module _ {W : Type 0} (Judges : MessageContext → Rewrite → W → W → Judgement → Type 0) (context : MessageContext) where
+  -- watched or not, they lead to the same
+  walk_leads : (steps : List Rewrite) (from to : Message × W) → FoldsTo {P = Message × W} (λ at step next. IsWatchedStep Judges (context_with context at.0) at.1 step next.0 next.1) from steps to
+      → FoldsTo (λ message step next. Step (context_with context message) step next) from.0 steps to.0
+  walk_leads [] from to same = ap (λ (at : Message × W). at.0) same
+  walk_leads (step ∷ steps) from to walks = (walks.0.0, walks.1.gives, walk_leads steps walks.0 to walks.2)
+
+  module _ (message : Message) (is : context ≡ sample_context message) (steps : List Rewrite) (was now : W) where
+    -- the text at the end of a walk
+    pub walk_spells : (text : List ℕ) → ReportsWalk Judges context was steps now (Ok text) → LeadsTo message steps text
+    walk_spells text report =
+        let lead : Steps Step context steps report.0 = walk_leads steps (context.message, was) (report.0, now) report.1 in
+        record {
+          after = report.0;
+          lead = subst (λ (c : MessageContext). Steps Step c steps report.0) is lead;
+          spells = subst (λ (c : MessageContext). Spells (answers_head c.related) report.0 text) is report.2;
+        }
+
+    -- steps that lead to a message don't stop
+    pub walk_goes_on : (after : Message) → Steps Step (sample_context message) steps after → (index : ℕ) → ¬ EndsAt Judges context was steps index now IsInapplicableStep
+    walk_goes_on after lead index ends =
+        let stopped : IsStoppedAt context steps index = record {
+          met = ends.message;
+          before = walk_leads (take index steps) (context.message, was) (ends.message, ends.watcher) ends.lead;
+          step = ends.step;
+          there = ends.there;
+          stops = ends.why.1;
+        } in
+        leads_or_stops steps (sample_context message) after index lead (subst (λ (c : MessageContext). IsStoppedAt c steps index) is stopped)
 
 -- ---- the text that is read
 

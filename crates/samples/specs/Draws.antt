@@ -14,6 +14,6 @@ state_after (suc count) state = state_after count (next_state state)
 abbrev pub drawn_below : ℕ → ℕ → ℕ
 drawn_below bound state = (state / 2 ^ 33) % bound
 
--- the same of the draw of this number, counted from 1, after a state
+-- the number below a bound that the draw of this index, counted from 1, gives after a state
 abbrev pub draw : ℕ → ℕ → ℕ → ℕ
 draw state number bound = drawn_below bound (state_after number state)

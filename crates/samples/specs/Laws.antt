@@ -1,11 +1,10 @@
 -- Laws of samples.
-use Rattle.std.specs.Prelude.{◌≡◌, ℕ, ◌+◌, true, false, None, List, [], ◌∷◌, length}
+use Rattle.std.specs.Prelude.{◌≡◌, ℕ, ◌+◌, ◌*◌, true, false, None, List, [], ◌∷◌, length}
 use Rattle.std.specs.List.{All, flat_map, range_with_len}
 use Rattle.signing.specs.SignCauses.{IsSignFault}
 use Rattle.signing.specs.declared.fault.SignFault.{SignFault}
 use Rattle.msg_body.specs.Messages.{Message}
 use Rattle.verdicts.specs.declared.outcome.Verdict.TheVariants.{Ok as Accepted}
-use Rattle.rewrites.specs.Steps.{Step, Steps}
 use Rattle.hop_audit.specs.ChainValues.{Chain}
 use Rattle.hop_audit.specs.Hops.{IsPermitted, PlacedHop}
 use Rattle.hop_audit.specs.Report.{IsReport, places_of}
@@ -35,9 +34,9 @@ IsSignable = (seed : ℕ) (unsigned : Message) → IsUnsigned seed unsigned
 
 -- Each step of the hop is applicable to the message that it meets, and they lead to the message
 -- that came out; the signature in the message that a step meets permits it (RFC 9421 section 1.1).
-pub record IsPermittedHop (hop : PlacedHop) : Type 0 where
-  pub lead : Steps Step (sample_context hop.before) hop.script hop.after
-  pub permitted : IsPermitted sample_spec.label (sample_context hop.before) hop.script hop.after
+abbrev pub IsPermittedHop : PlacedHop → Type 0
+IsPermittedHop hop =
+    IsPermitted sample_spec.label (sample_context hop.before) hop.script hop.after
 
 -- the message of this index is `ok`
 abbrev pub ok_line : ℕ → AuditLine
@@ -60,6 +59,7 @@ pub record IsKeptThroughout (count : ℕ) (chain : Chain) (lines : List AuditLin
   pub each : All IsPermittedHop (places_of chain)
   pub lines_are : lines ≡ kept_report count
   pub hops : summary.hops ≡ count
+  pub steps : summary.steps ≡ 3 * count
   pub permitted : summary.permitted ≡ count
   pub kept : summary.kept ≡ count
   pub ok : summary.ok ≡ count + 1

@@ -1,5 +1,6 @@
 -- The summary of a sample's audit.
-use Rattle.std.specs.Prelude.{◌≡◌, ℕ, ◌*◌, Bool, false, List, [], ◌∷◌, ◌++◌, length, codes, count_by}
+use Rattle.std.specs.Prelude.{◌≡◌, ℕ, Bool, false, List, [], ◌∷◌, ◌++◌, length, codes, count_by}
+use Rattle.std.specs.List.{flat_map}
 use Rattle.msg_body.specs.Messages.{Message, message_text}
 use Rattle.verdicts.specs.Verdicts.{is_accepted}
 use Rattle.hop_audit.specs.ChainValues.{Chain, Hop}
@@ -45,7 +46,7 @@ summary_text summary =
 pub record IsSummaryOf (chain : Chain) (lines : List AuditLine) (summary : Summary)
     : Type 0 where
   pub hops : summary.hops ≡ length chain.hops
-  pub steps : summary.steps ≡ 3 * length chain.hops
+  pub steps : summary.steps ≡ length (flat_map (λ hop. hop.script) chain.hops)
   pub permitted : summary.permitted ≡ count_by is_permitted_line lines
   pub kept : summary.kept ≡ count_by is_kept_line lines
   pub ok : summary.ok ≡ count_by is_ok_line lines

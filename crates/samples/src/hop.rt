@@ -12,10 +12,10 @@ ghost use Rattle.samples.specs.Requests.{sample_configuration};
 ghost use Rattle.samples.specs.tools.Made.{LeadsTo};
 
 use crate::read_fault::only_memory;
-use line_rewrites::sized_message;
+use component_values::Context;
 use msg_body::{MessageView, Reading, whole_message};
 use rewrite_script::Rewrite;
-use rewrites::{ApplyFault, make};
+use rewrites::{Judgement, WalkFault, Watcher, walk};
 use settings::Conf;
 use sfv_text::{Memory, Text};
 use std::alloc::Global;
@@ -26,6 +26,26 @@ use verdicts::context_for;
 pub(crate) struct MadeHop {
     pub(crate) script: Text,
     pub(crate) message: Text,
+}
+
+/// Goes along on a walk and lets each step pass.
+#[derive(Drop)]
+struct LetsPass;
+
+impl Watcher for LetsPass {
+    ghost use Rattle.std.specs.Prelude.{◌≡◌};
+    ghost use Rattle.rewrites.specs.declared.watcher.Judgement.TheVariants.{Permitted};
+
+    ghost judges = { λ context step was now judgement. judgement ≡ Permitted };
+
+    fn meet(
+        &mut self,
+        _alloc: Global,
+        _context: &Context<'_, '_>,
+        _step: &Rewrite,
+    ) -> Result<Judgement, Memory> {
+        Ok(Judgement::Permitted)
+    }
 }
 
 /// The message after the steps.
@@ -42,20 +62,15 @@ fn after_steps<'x>(
         × Steps Step (sample_context (message_of message.now)) steps.now after }
     ensures { IfOk result (LeadsTo (message_of message.now) steps.now) }
 {
-    let Some((step, later)) = steps.split_first() else {
-        return Text::from_bytes(alloc, message.bytes());
-    };
     let context = context_for(conf, message, None);
-    let text = match make(alloc, &context, step) {
-        Ok(text) => text,
-        Err(ApplyFault::Memory) => return Err(Memory),
+    let mut watcher = LetsPass;
+    match walk(alloc, &context, steps, &mut watcher) {
+        Ok(text) => Ok(text),
+        Err(WalkFault::Memory) => Err(Memory),
         // the steps lead to a message, so each of them is applicable
-        Err(ApplyFault::NotApplicable) => unreachable!(),
-    };
-    match sized_message(alloc, text.bytes(), false, message.content_len()) {
-        Ok(next) => after_steps(alloc, conf, &next, later),
-        Err(ApplyFault::Memory) => Err(Memory),
-        Err(ApplyFault::NotApplicable) => unreachable!(),
+        Err(WalkFault::NotApplicable(_)) => unreachable!(),
+        Err(WalkFault::NotPermitted(_)) => unreachable!(),
+        Err(WalkFault::Unjudged(_)) => unreachable!(),
     }
 }
 

@@ -6,7 +6,7 @@ ghost use Rattle.msg_body.specs.WholeTexts.{out_of_memory};
 use msg_body::{MessageError, MessageFault};
 use sfv_text::Memory;
 
-/// Want of memory, which is the one fault of a text that is a message.
+/// Out of memory, which is the one fault of a text that is a message.
 pub(crate) fn only_memory(fault: MessageFault) -> Memory
     requires { ¬ (fault ≢ out_of_memory) }
 {
