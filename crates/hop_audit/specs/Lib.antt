@@ -3,6 +3,7 @@ pub mod ChainFaults
 pub mod Hops
 pub mod Fates
 pub mod Report
+pub mod Words
 pub mod Lines
 pub mod Laws
 pub mod tools

@@ -159,8 +159,8 @@ fn add_own_lines(
     add_label_lines(alloc, hop, marks, &mut before.exchange, after, lines)
 }
 
-/// The same. Of the tags of the message after the hop is known then, where it keeps a label's
-/// signature base, what was known of the label's tag.
+/// The same. Where the hop keeps the signature base of a label, what is known of the label's tag in
+/// the message before is known of it in the message after, too.
 pub(crate) fn add_hop_lines(
     alloc: Global,
     index: usize,
