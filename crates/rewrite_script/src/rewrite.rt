@@ -7,7 +7,7 @@ use sfv_text::{Sequence, Text};
 /// line's raw value, both from 0. Blanks are SP and HTAB, at most `MAX_BLANKS` of them.
 #[derive(Drop)]
 pub enum LineRewrite {
-    /// `pad`: the blanks at both ends of the raw value become these.
+    /// `pad`: the spacing at both ends of the raw value, blanks and folds, becomes these blanks.
     Pad {
         side: Side,
         index: usize,
