@@ -1,6 +1,6 @@
 //! Derived components (RFC 9421 section 2.2).
 
-ghost use Rattle.std.specs.Prelude.{◌≡◌, Ok, Err, MatchResult, codes};
+ghost use Rattle.std.specs.Prelude.{◌≡◌, Some, Ok, Err, MatchResult, IsErrOf, codes};
 ghost use Rattle.std.specs.Str.{str_to_ascii_lowercase};
 ghost use Rattle.msg_head.specs.declared.error.Side.{Side};
 ghost use Rattle.msg_body.specs.Views.{message_of, lines_on};
@@ -255,8 +255,9 @@ impl<'a, 'm> Request<'a, 'm> {
         target: &Target<'m>,
         kept: &mut Option<QueryParams>,
     ) -> Result<Parts<'m>, NoValue>
-        ensures { AnswersParts (TargetRow name self.entry.params.now (request_parts self.entry)
-            (parts_of target.now)) result }
+        ensures row { AnswersParts (TargetRow name self.entry.params.now
+            (request_parts self.entry) (parts_of target.now)) result }
+        ensures needed { IsErrOf result NoValue.Memory → name ≡ TargetName.QueryParam }
     {
         match name {
             TargetName::TargetUri => Ok(self.target_uri(target)?),
@@ -275,8 +276,9 @@ impl<'a, 'm> Request<'a, 'm> {
         name: TargetName,
         kept: &mut Option<QueryParams>,
     ) -> Result<Parts<'m>, NoValue>
-        ensures { AnswersParts (FormedRow name self.entry.params.now (request_parts self.entry))
-            result }
+        ensures row { AnswersParts (FormedRow name self.entry.params.now
+            (request_parts self.entry)) result }
+        ensures needed { IsErrOf result NoValue.Memory → name ≡ TargetName.QueryParam }
     {
         let Some(target) = cut_target(self.method, self.target) else {
             return Err(NoValue::Lacks(Lack::Underivable));
@@ -291,8 +293,10 @@ impl<'a, 'm> Request<'a, 'm> {
         derived: DerivedName,
         kept: &mut Option<QueryParams>,
     ) -> Result<Parts<'m>, NoValue>
-        ensures { AnswersParts (RequestRow derived self.entry.params.now
+        ensures row { AnswersParts (RequestRow derived self.entry.params.now
             (request_parts self.entry)) result }
+        ensures needed { IsErrOf result NoValue.Memory
+            → derived ≡ DerivedName.OfTarget TargetName.QueryParam }
     {
         match derived {
             DerivedName::Method => Ok(Parts::Bytes(self.method)),
@@ -304,12 +308,12 @@ impl<'a, 'm> Request<'a, 'm> {
 }
 
 /// A derived component of a response.
-fn response_value(derived: DerivedName, code: &[u8]) -> Result<Parts<'_>, NoValue>
-    ensures { AnswersParts (λ answer. answer ≡ response_value derived code.now) result }
+fn response_value(derived: DerivedName, code: &[u8]) -> Result<Parts<'_>, Lack>
+    ensures { GivesParts (λ answer. answer ≡ response_value derived code.now) result }
 {
     match derived {
         DerivedName::Status => Ok(Parts::Bytes(code)),
-        _ => Err(NoValue::Lacks(Lack::Underivable)),
+        _ => Err(Lack::Underivable),
     }
 }
 
@@ -321,8 +325,10 @@ fn derived_parts<'a, 'm>(
     id: &'a ComponentId,
     kept: &mut Option<QueryParams>,
 ) -> Result<Parts<'m>, NoValue>
-    ensures { AnswersParts (DerivedRow (derived_of id.now.name) id.now.params scheme
+    ensures row { AnswersParts (DerivedRow (derived_of id.now.name) id.now.params scheme
         (lines_on Side.Header (message_of message.now)) message.now.head.start) result }
+    ensures needed { IsErrOf result NoValue.Memory
+        → derived_of id.now.name ≡ Some (DerivedName.OfTarget TargetName.QueryParam) }
 {
     let Some(derived) = derived_of(id.name.bytes()) else {
         return Err(NoValue::Lacks(Lack::Underivable));
@@ -338,13 +344,13 @@ fn derived_parts<'a, 'm>(
             };
             request.value(alloc, derived, kept)
         }
-        Start::Status { code, .. } => response_value(derived, code),
+        Start::Status { code, .. } => Ok(response_value(derived, code)?),
     }
 }
 
 /// The value of a derived component of the message, or how the message lacks it (RFC 9421 section
 /// 2.2). A name that no derived component has is underivable. The parameters of the query are kept
-/// for the next component that is one of them.
+/// for the next component that is one of them; only such a component takes memory.
 pub fn derived_value_in<'m>(
     alloc: Global,
     message: &MessageView<'m>,
@@ -352,8 +358,10 @@ pub fn derived_value_in<'m>(
     id: &ComponentId,
     kept: &mut Option<QueryParams>,
 ) -> Result<Derived<'m>, NoValue>
-    ensures { AnswersRow (DerivedRow (derived_of id.now.name) id.now.params scheme
+    ensures row { AnswersRow (DerivedRow (derived_of id.now.name) id.now.params scheme
         (lines_on Side.Header (message_of message.now)) message.now.head.start) result }
+    ensures needed { IsErrOf result NoValue.Memory
+        → derived_of id.now.name ≡ Some (DerivedName.OfTarget TargetName.QueryParam) }
 {
     let parts = derived_parts(alloc, message, scheme, id, kept)?;
     Ok(Derived { parts })
@@ -366,8 +374,10 @@ pub fn derived_value<'m>(
     scheme: Scheme,
     id: &ComponentId,
 ) -> Result<Derived<'m>, NoValue>
-    ensures { AnswersRow (DerivedRow (derived_of id.now.name) id.now.params scheme
+    ensures row { AnswersRow (DerivedRow (derived_of id.now.name) id.now.params scheme
         (lines_on Side.Header (message_of message.now)) message.now.head.start) result }
+    ensures needed { IsErrOf result NoValue.Memory
+        → derived_of id.now.name ≡ Some (DerivedName.OfTarget TargetName.QueryParam) }
 {
     derived_value_in(alloc, message, scheme, id, &mut None)
 }

@@ -11,6 +11,8 @@ use Rattle.msg_head.specs.declared.error.Side.TheVariants.{Header}
 use Rattle.msg_body.specs.Views.{lines_on}
 use Rattle.derived_values.specs.Answers.{AnswersRow}
 use Rattle.derived_values.specs.Derived.{DerivedRow, derived_of}
+use Rattle.derived_values.specs.declared.derived.DerivedName.TheVariants.{OfTarget}
+use Rattle.derived_values.specs.declared.derived.TargetName.TheVariants as name
 use Rattle.derived_values.specs.declared.lack.Lack.{Lack}
 use Rattle.derived_values.specs.declared.lack.NoValue.{NoValue}
 use Rattle.derived_values.specs.declared.lack.NoValue.TheVariants.{Lacks}
@@ -89,6 +91,10 @@ front_before method target parts query spells is = elim (cases_Bool (has_path pa
 ]
 
 -- ---- the value of `@authority`
+
+-- it is no parameter of a query
+pub no_param : derived_of (codes "@authority") ≡ Some (OfTarget name.QueryParam) → ⊥
+no_param is = absurd cc
 
 pub lacks_authority : (context : MessageContext) (text : List ℕ) (params : List (Pair BareItem)) (result : Result (List ℕ) NoValue) (lack : Lack) → text ≡ codes "@authority" → params ≡ []
     → AnswersRow (DerivedRow (derived_of text) params context.scheme (lines_on Header context.message) context.message.head.start) result → result ≡ Err (Lacks lack)

@@ -155,7 +155,7 @@ fn authority_text(alloc: Global, context: &Context<'_, '_>) -> Result<Text, Appl
     match derived_value(alloc, context.message, context.scheme, &id) {
         Ok(value) => Ok(value.text(alloc)?),
         Err(NoValue::Lacks(_)) => Err(ApplyFault::NotApplicable),
-        Err(NoValue::Memory) => Err(ApplyFault::Memory),
+        Err(NoValue::Memory) => unreachable!(), // only a parameter of a query takes memory
     }
 }
 
