@@ -10,7 +10,7 @@ use Rattle.byte_grammar.proofs.CauseLaws.{first_is_one}
 use Rattle.byte_grammar.proofs.OffsetLaws.{begins_shorter}
 use Rattle.framing.specs.declared.chunk_limits.TheConstants.{MAX_CONTENT_BYTES}
 use Rattle.framing.specs.declared.chunk_error.ChunkError.{ChunkError}
-use Rattle.framing.specs.declared.chunk_error.ChunkError.TheVariants.{Memory, TooLong, Bad}
+use Rattle.framing.specs.declared.chunk_error.ChunkError.TheVariants.{TooLong, Bad}
 use Rattle.framing.specs.Chunks.{Chunk, Chunks, AreChunksText, SpellsChunks, chunk_text, chunks_text}
 use Rattle.framing.specs.ChunkCauses.{HasContentOver, BeginsChunks, IsContentTooLong, IsBadChunk, IsChunksCause, IsChunksError, AreChunksUnfinished, chunks_order}
 use Rattle.framing.specs.ChunkLaws.{OneChunks, NoChunksInPrefix, OneChunksFault, NoFaultAtChunks, NoChunksAnswerYet}
@@ -72,12 +72,10 @@ not_too_long bytes cs used s t =
     within_room cs (drop used bytes) MAX_CONTENT_BYTES (record { are = s.text.are; text = refl }) s.short (subst (HasContentOver MAX_CONTENT_BYTES) text t)
 
 pub no_fault_at_chunks : NoFaultAtChunks
-no_fault_at_chunks bytes cs used Memory s f = f.holds
 no_fault_at_chunks bytes cs used TooLong s f = not_too_long bytes cs used s f.holds
 no_fault_at_chunks bytes cs used (Bad offset) s f = no_bad_at_chunks bytes cs used offset s.text f.holds
 
 unfinished_fault : (bytes : List ℕ) → AreChunksUnfinished bytes → (fault : ChunkError) → IsChunksError bytes fault → ⊥
-unfinished_fault bytes u Memory f = f.holds
 unfinished_fault bytes u TooLong f = u.short f.holds
 unfinished_fault bytes u (Bad offset) f = f.holds.last (begins_prefix bytes (offset + 1) u.begins)
 
@@ -94,11 +92,8 @@ one_bad bytes i j a b = elim (cases_order i j) [
 ]
 
 determined : (bytes : List ℕ) → AreDetermined chunks_order (IsChunksCause bytes)
-determined bytes Memory other e a b = absurd a
-determined bytes TooLong Memory e a b = absurd b
 determined bytes TooLong TooLong e a b = refl
 determined bytes TooLong (Bad j) e a b = absurd (omega (arith, e))
-determined bytes (Bad i) Memory e a b = absurd b
 determined bytes (Bad i) TooLong e a b = absurd (omega (arith, e))
 determined bytes (Bad i) (Bad j) e a b = ap (λ (k : ℕ). Bad k) (one_bad bytes i j a b)
 

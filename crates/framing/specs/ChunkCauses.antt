@@ -5,7 +5,7 @@ use Rattle.byte_grammar.specs.Language.{Begins}
 use Rattle.byte_grammar.specs.Causes.{IsFirst}
 use Rattle.framing.specs.declared.chunk_limits.TheConstants.{MAX_CONTENT_BYTES}
 use Rattle.framing.specs.declared.chunk_error.ChunkError.{ChunkError}
-use Rattle.framing.specs.declared.chunk_error.ChunkError.TheVariants.{Memory, TooLong, Bad}
+use Rattle.framing.specs.declared.chunk_error.ChunkError.TheVariants.{TooLong, Bad}
 use Rattle.framing.specs.Chunks.{Chunk, Chunks, IsChunkLine, IsChunk, AreChunksText, chunk_text, data_of}
 
 -- some text of chunks has this prefix; no limit is set on its content
@@ -40,18 +40,16 @@ pub record IsBadChunk (bytes : List ℕ) (offset : ℕ) : Type 0 where
   pub last : ¬ BeginsChunks (take (offset + 1) bytes)
   pub no_end : NoPrefixIsChunks (take offset bytes)
 
--- the fact for which the fault is answered; being out of memory is none of them
+-- the fact for which the fault is answered
 abbrev pub IsChunksCause : List ℕ → ChunkError → Type 0
 IsChunksCause bytes TooLong = IsContentTooLong bytes
 IsChunksCause bytes (Bad offset) = IsBadChunk bytes offset
-IsChunksCause bytes Memory = ⊥
 
 -- The order in which the causes are judged. Where content is too long, what shows it begins chunks,
 -- so a bad byte comes only after it.
 abbrev pub chunks_order : ChunkError → ℕ
 chunks_order TooLong = 0
 chunks_order (Bad offset) = 1
-chunks_order Memory = 2
 
 -- the fault's cause is the first that holds
 abbrev pub IsChunksError : List ℕ → ChunkError → Type 0

@@ -3,7 +3,6 @@ use Rattle.std.specs.Prelude.{◌≡◌, ℕ, Result, Ok, Err, ⊤}
 use Rattle.framing.specs.declared.chunks.ChunksRead.{ChunksRead}
 use Rattle.framing.specs.declared.chunks.ChunksRead.TheVariants.{Whole, Partial}
 use Rattle.framing.specs.declared.chunk_error.ChunkError.{ChunkError}
-use Rattle.framing.specs.declared.chunk_error.ChunkError.TheVariants.{Memory}
 use Rattle.framing.specs.Chunks.{Chunks}
 use Rattle.framing.specs.Views.{ChunksParts, chunks_of}
 
@@ -13,8 +12,8 @@ IfWholeChunks (Ok (Whole view used)) P = P view used
 IfWholeChunks (Ok Partial) P = ⊤
 IfWholeChunks (Err _) P = ⊤
 
--- the answer is a view of these chunks, and its length, or out of memory
-abbrev pub IsChunksUnlessMemory : Result ChunksRead ChunkError → Chunks → ℕ → Type 0
-IsChunksUnlessMemory (Ok (Whole view count)) cs used = (chunks_of view ≡ cs) × (count ≡ used)
-IsChunksUnlessMemory (Ok Partial) cs used = ⊥
-IsChunksUnlessMemory (Err error) cs used = error ≡ Memory
+-- the answer is a view of these chunks, and its length
+abbrev pub IsViewOfChunks : Result ChunksRead ChunkError → Chunks → ℕ → Type 0
+IsViewOfChunks (Ok (Whole view count)) cs used = (chunks_of view ≡ cs) × (count ≡ used)
+IsViewOfChunks (Ok Partial) cs used = ⊥
+IsViewOfChunks (Err error) cs used = ⊥

@@ -7,8 +7,6 @@ use std::fmt;
 /// Why no chunks were read. Where several hold, the first in this order is answered.
 #[derive(Clone, Copy, Debug, PartialEq, Eq)]
 pub enum ChunkError {
-    /// No memory was found. Chunks are read without memory, so this is never answered.
-    Memory,
     /// The chunks whose lines are there have more data by their sizes than content may have
     /// (RFC 9112 section 7.1 asks to guard against such sizes; the limit is `MAX_CONTENT_BYTES`).
     TooLong,
@@ -26,7 +24,6 @@ impl fmt::Display for ChunkError {
 
     fn fmt<W: fmt::Write>(&self, f: &mut fmt::Formatter<W>) -> fmt::Result {
         match self {
-            ChunkError::Memory => f.write_str("out of memory"),
             ChunkError::TooLong => write!(f, "content {MAX_CONTENT_BYTES}"),
             ChunkError::Bad(offset) => write!(f, "chunk {offset}"),
         }

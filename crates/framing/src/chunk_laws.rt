@@ -9,8 +9,8 @@ pub fn bytes_begin_with_one_list_of_chunks()
     ensures prefix { NoChunksInPrefix }
 {}
 
-/// Out of memory aside, the answer to bytes is one: they begin with chunks, or the end of chunks
-/// may still come, or they have one fault.
+/// The answer to bytes is one: they begin with chunks, or the end of chunks may still come, or they
+/// have one fault.
 pub fn chunks_have_one_answer()
     ensures some { EachHasAnAnswer }
     ensures fault { OneChunksFault }

@@ -1,11 +1,10 @@
 //! Reads chunks.
 
-ghost use Rattle.std.specs.Prelude.{◌≡◌, ◌≢◌, ℕ, Ok, Err, IfOk, IfErr};
-ghost use Rattle.byte_grammar.specs.Causes.{AnswersWhere, AnswersUnlessMemory};
+ghost use Rattle.std.specs.Prelude.{◌≡◌, ◌↔◌, ℕ, Ok, Err, IfOk, IfErr};
 ghost use Rattle.framing.specs.Chunks.{Chunks, SpellsChunks};
 ghost use Rattle.framing.specs.ChunkCauses.{IsChunksError, AreChunksUnfinished};
 ghost use Rattle.framing.specs.Views.{IsChunksViewOf};
-ghost use Rattle.framing.specs.Outcome.{IfWholeChunks, IsChunksUnlessMemory};
+ghost use Rattle.framing.specs.Outcome.{IfWholeChunks, IsViewOfChunks};
 ghost use Rattle.framing.specs.tools.JudgedChunks.{IsFound, IsStop, ExplainsChunks};
 
 use crate::chunk_error::ChunkError;
@@ -13,7 +12,6 @@ use crate::chunk_limits::MAX_CONTENT_BYTES;
 use crate::line::{read_data, read_line};
 use crate::view::ChunksView;
 use byte_grammar::Left;
-use std::alloc::Global;
 
 /// What the bytes begin with.
 #[derive(Drop)]
@@ -110,19 +108,17 @@ fn judge<'m>(bytes: &'m [u8]) -> Result<ChunksRead<'m>, ChunkError>
 /// Reads the chunks that the bytes begin with, up to and with the line of the last one and its CRLF
 /// (RFC 9112 section 7.1).
 ///
-/// No memory is asked for. `TooLong` is answered as soon as the chunk line is there by whose size
+/// No memory is taken. `TooLong` is answered as soon as the chunk line is there by whose size
 /// content is too long.
-pub fn read_chunks<'m>(_alloc: Global, bytes: &'m [u8]) -> Result<ChunksRead<'m>, ChunkError>
+pub fn read_chunks(bytes: &[u8]) -> Result<ChunksRead<'_>, ChunkError>
     ensures whole { IfWholeChunks result (λ view used. IsChunksViewOf bytes.now view used) }
     ensures found { (cs : Chunks) (used : ℕ) → SpellsChunks cs used bytes.now
-        → IsChunksUnlessMemory result cs used }
+        → IsViewOfChunks result cs used }
     ensures partial { result ≡ Ok ChunksRead.Partial → AreChunksUnfinished bytes.now }
-    ensures unfinished { AreChunksUnfinished bytes.now
-        → AnswersUnlessMemory ChunkError.Memory result ChunksRead.Partial }
+    ensures unfinished { AreChunksUnfinished bytes.now → result ≡ Ok ChunksRead.Partial }
 
     // The first fault whose cause holds is answered, and no other.
-    ensures fault { (fault : ChunkError) → fault ≢ ChunkError.Memory
-        → AnswersWhere ChunkError.Memory result fault (IsChunksError bytes.now fault) }
+    ensures fault { (fault : ChunkError) → (result ≡ Err fault) ↔ IsChunksError bytes.now fault }
 {
     judge(bytes)
 }

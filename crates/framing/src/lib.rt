@@ -18,7 +18,7 @@
 //! read_framing(&head, false)  // Err(FramingError::Conflict)
 //!
 //! let bytes = b"4;a=b\r\nWiki\r\n0\r\n\r\n";
-//! match read_chunks(alloc, bytes)? {
+//! match read_chunks(bytes)? {
 //!     ChunksRead::Whole(chunks, used) => { .. } // used is 16, the content is b"Wiki"
 //!     ChunksRead::Partial => { .. }             // more bytes are wanted
 //! }

@@ -45,10 +45,9 @@ in_range start offset count short low =
     let bound : MAX_MESSAGE_BYTES ≤ 2 ^ 63 = omega arith in
     omega (arith, short, low, bound)
 
-pub chunk_offset : (start : ℕ) (bytes : List ℕ) (fault : ChunkError) → start + length bytes ≤ MAX_MESSAGE_BYTES → (fault ≢ chunk.Memory → IsChunksError bytes fault) → IsChunkOffset start fault
-chunk_offset start bytes chunk.Memory short is = tt
+pub chunk_offset : (start : ℕ) (bytes : List ℕ) (fault : ChunkError) → start + length bytes ≤ MAX_MESSAGE_BYTES → IsChunksError bytes fault → IsChunkOffset start fault
 chunk_offset start bytes chunk.TooLong short is = tt
-chunk_offset start bytes (chunk.Bad offset) short is = in_range start offset (length bytes) short (is (λ e. cc)).holds.within
+chunk_offset start bytes (chunk.Bad offset) short is = in_range start offset (length bytes) short is.holds.within
 
 naked_within : (bytes : List ℕ) (offset : ℕ) → HasTrailerNakedEnd bytes offset → offset < length bytes
 naked_within bytes offset is =
@@ -69,8 +68,8 @@ trailer_offset start bytes used head_error.BadStart short within is = tt
 trailer_offset start bytes used (head_error.TooManyLines side) short within is = tt
 trailer_offset start bytes used (head_error.BadLine side index) short within is = tt
 
-pub chunk_fault : (start : ℕ) (bytes : List ℕ) (fault : ChunkError) (told : MessageError) → told ≡ chunk_error start fault → (fault ≢ chunk.Memory → IsChunksError bytes fault) → told ≢ Memory → IsChunkedError start told bytes
-chunk_fault start bytes fault told e is own = inl (fault, is (λ m. own (e ∙ ap (chunk_error start) m)), e)
+pub chunk_fault : (start : ℕ) (bytes : List ℕ) (fault : ChunkError) (told : MessageError) → told ≡ chunk_error start fault → IsChunksError bytes fault → IsChunkedError start told bytes
+chunk_fault start bytes fault told e is = inl (fault, is, e)
 
 pub trailer_fault : (start : ℕ) (bytes : List ℕ) (chunks : ChunksParts) (used : ℕ) (fault : HeadError) (told : MessageError) → IsChunksViewOf bytes chunks used
     → told ≡ trailer_error (start + used) fault → (fault ≢ head_error.Memory → IsTrailerError (drop used bytes) fault) → told ≢ Memory → IsChunkedError start told bytes

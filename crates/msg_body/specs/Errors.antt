@@ -26,7 +26,6 @@ framing_error framing.CodingRefused = CodingRefused
 
 -- the error of a message for this error of its chunks, which begin at the offset
 abbrev pub chunk_error : ℕ → ChunkError → MessageError
-chunk_error start chunk.Memory = Memory
 chunk_error start chunk.TooLong = ContentTooLong
 chunk_error start (chunk.Bad offset) = BadChunk (start + offset)
 

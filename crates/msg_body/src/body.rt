@@ -36,7 +36,7 @@ fn read_chunked<'m>(
     requires short { start + length bytes.now ≤ MAX_MESSAGE_BYTES }
     ensures { ExplainsChunked start bytes.now result }
 {
-    let (chunks, used) = match read_chunks(alloc, bytes) {
+    let (chunks, used) = match read_chunks(bytes) {
         Ok(ChunksRead::Whole(chunks, used)) => (chunks, used),
         Ok(ChunksRead::Partial) => return Ok(BodyRead::Partial),
         Err(fault) => return Err(MessageError::of_chunks(start, fault)),

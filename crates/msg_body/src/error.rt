@@ -42,7 +42,8 @@ pub enum MessageError {
 /// Why a text isn't one whole message.
 #[derive(Clone, Copy, Debug, PartialEq, Eq)]
 pub enum MessageFault {
-    /// It begins with no message. The error is never out of memory.
+    /// It begins with no message. Where no memory was found, it is `MessageError::Memory`, which
+    /// says nothing of the text.
     Refused(MessageError),
     /// Bytes of a message are missing, and nothing in it is wrong. It has this many bytes.
     Truncated(usize),
@@ -138,7 +139,6 @@ impl MessageError {
         ensures { result ≡ chunk_error start fault }
     {
         match fault {
-            ChunkError::Memory => Self::Memory,
             ChunkError::TooLong => Self::ContentTooLong,
             ChunkError::Bad(offset) => Self::BadChunk(start + offset),
         }

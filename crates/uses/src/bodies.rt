@@ -178,8 +178,8 @@ fn are_chunks(chunks: &ChunksView<'_>, row: &Held) -> bool {
         && are_pieces(chunks.pieces(), row.content)
 }
 
-fn is_held(alloc: Global, row: &Held) -> bool {
-    match read_chunks(alloc, row.bytes) {
+fn is_held(row: &Held) -> bool {
+    match read_chunks(row.bytes) {
         Ok(ChunksRead::Whole(chunks, used)) => used == row.used && are_chunks(&chunks, row),
         _ => false,
     }
@@ -189,6 +189,6 @@ fn is_held(alloc: Global, row: &Held) -> bool {
 #[test]
 fn chunks_hold_content(rt: HostRuntime) {
     for row in &HELD {
-        assert!(rt; is_held(rt.alloc(), row));
+        assert!(rt; is_held(row));
     }
 }

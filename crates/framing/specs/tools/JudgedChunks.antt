@@ -1,5 +1,5 @@
 -- What the search for chunks gives. No public clause cites this module.
-use Rattle.std.specs.Prelude.{◌≡◌, ◌≢◌, ℕ, ◌+◌, ◌≤◌, List, ◌++◌, length, take, Result, Ok, Err}
+use Rattle.std.specs.Prelude.{◌≡◌, ℕ, ◌+◌, ◌≤◌, List, ◌++◌, length, take, Result, Ok, Err}
 use Rattle.std.specs.List.{All, flat_map}
 use Rattle.byte_grammar.specs.tools.Walks.{turns_read, with_prefix}
 use Rattle.framing.specs.declared.chunk_limits.TheConstants.{MAX_CONTENT_BYTES}
@@ -9,7 +9,6 @@ use Rattle.framing.specs.declared.chunks.Stop.TheVariants as stop
 use Rattle.framing.specs.declared.chunks.ChunksRead.{ChunksRead}
 use Rattle.framing.specs.declared.chunks.ChunksRead.TheVariants.{Whole, Partial}
 use Rattle.framing.specs.declared.chunk_error.ChunkError.{ChunkError}
-use Rattle.framing.specs.declared.chunk_error.ChunkError.TheVariants.{Memory}
 use Rattle.framing.specs.Chunks.{Chunk, IsChunk, chunk_text, data_of}
 use Rattle.framing.specs.ChunkCauses.{HasContentOver, IsContentTooLong, IsChunksError, AreChunksUnfinished}
 use Rattle.framing.specs.Views.{ChunksParts, IsChunksViewOf}
@@ -45,4 +44,4 @@ pub record Finding (bytes : List ℕ) (count : ℕ) (left : List ℕ) (room : �
 abbrev pub ExplainsChunks : List ℕ → Result ChunksRead ChunkError → Type 0
 ExplainsChunks bytes (Ok (Whole view used)) = IsChunksViewOf bytes view used
 ExplainsChunks bytes (Ok Partial) = AreChunksUnfinished bytes
-ExplainsChunks bytes (Err fault) = fault ≢ Memory → IsChunksError bytes fault
+ExplainsChunks bytes (Err fault) = IsChunksError bytes fault

@@ -69,7 +69,6 @@ ExplainsRest expect to_head bytes head start (Err fault) =
 
 -- the offset of a fault, counted from the start, is one of a message
 abbrev pub IsChunkOffset : ℕ → ChunkError → Type 0
-IsChunkOffset start chunk.Memory = ⊤
 IsChunkOffset start chunk.TooLong = ⊤
 IsChunkOffset start (chunk.Bad offset) = start + offset < 2 ^ 64
 

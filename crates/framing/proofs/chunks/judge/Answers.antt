@@ -14,6 +14,6 @@ overflow_sub-result c =
     (bad c.args.bytes.now c.in-Err-Left.left stop.0 (omega (arith, c.if-left-eq0.false))).0
 
 pub returns-else-left-eq0 : goal.returns-else-left-eq0
-returns-else-left-eq0 c own =
+returns-else-left-eq0 c =
     let stop = rw c.in-Err-Left.field-0-is at c.in-Err-Left.ensures.err in
     bad_first c.args.bytes.now _ (bad c.args.bytes.now c.in-Err-Left.left stop.0 (omega (arith, c.if-left-eq0.false))).1 stop.1

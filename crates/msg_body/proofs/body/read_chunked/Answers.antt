@@ -4,10 +4,10 @@ use Rattle.msg_body.proofs.Readings.{chunk_offset, chunk_fault, trailer_offset, 
 use Rattle.msg_body.proofs.body.read_chunked.Goals as goal
 
 pub of_chunks-requires : goal.of_chunks-requires
-of_chunks-requires c = chunk_offset c.args.start c.args.bytes.now c.in-Err.fault c.requires.short (λ own. (c.in-Err.ensures.fault c.in-Err.fault own).only refl)
+of_chunks-requires c = chunk_offset c.args.start c.args.bytes.now c.in-Err.fault c.requires.short ((c.in-Err.ensures.fault c.in-Err.fault).0 refl)
 
 pub returns-in-Err : goal.returns-in-Err
-returns-in-Err c n = chunk_fault c.args.start c.args.bytes.now c.in-Err.fault c.of_chunks.result c.of_chunks.ensures (λ own. (c.in-Err.ensures.fault c.in-Err.fault own).only refl)
+returns-in-Err c n own = chunk_fault c.args.start c.args.bytes.now c.in-Err.fault c.of_chunks.result c.of_chunks.ensures ((c.in-Err.ensures.fault c.in-Err.fault).0 refl)
 
 pub returns-in-Ok-Whole-read_trailer : goal.returns-in-Ok-Whole-read_trailer
 returns-in-Ok-Whole-read_trailer c =
