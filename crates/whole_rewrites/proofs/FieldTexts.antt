@@ -1,18 +1,19 @@
 -- The bytes that rewritings of fields write are those of what they make.
-use Rattle.std.proofs.Common.{◌≡◌, ◌+◌, ◌-◌, ℕ, Bool, true, false, not, Option, Some, Result, Ok, Err, List, [], ◌∷◌, ◌++◌, length, take, drop, codes, refl, sym, ◌∙◌, ap, inl, inr, arith, append_assoc, append-nil, subst}
+use Rattle.std.proofs.Common.{◌≡◌, ◌+◌, ◌-◌, ◌<◌, ℕ, Bool, true, false, not, Option, Some, Result, Ok, Err, List, [], ◌∷◌, ◌++◌, length, take, drop, codes, refl, sym, ◌∙◌, ap, inl, inr, arith, append_assoc, append-nil, subst}
 use Rattle.std.specs.Prelude.{IsTrue, OnOk}
 use Rattle.std.specs.List.{list_all, slice_get}
 use Rattle.std.proofs.lemmas.Bool.{cases_Bool, false≢true}
 use Rattle.std.proofs.lemmas.List.{drop_all, length-drop, take_all}
 use Rattle.byte_grammar.specs.Classes.{is_line_byte}
 use Rattle.msg_head.specs.declared.error.Side.{Side}
-use Rattle.msg_head.specs.declared.error.Side.TheVariants.{Header}
+use Rattle.msg_head.specs.declared.error.Side.TheVariants.{Header, Trailer}
 use Rattle.msg_head.specs.Lines.{FieldLine, line_text}
 use Rattle.msg_head.specs.Names.{has_name}
 use Rattle.msg_head.specs.Values.{combined_value, is_there}
 use Rattle.framing.specs.Framings.{is_request}
+use Rattle.msg_body.specs.Bodies.{Body, chunked, plain, trailers_in}
 use Rattle.msg_body.specs.Messages.{IsMessage, Message, message_text}
-use Rattle.msg_body.specs.Views.{lines_on}
+use Rattle.msg_body.specs.Views.{has_trailers, lines_on}
 use Rattle.component_ids.specs.Types.{kind_in}
 use Rattle.component_ids.specs.declared.types.FieldKind.{FieldKind}
 use Rattle.derived_values.specs.declared.lack.Lack.{Lack}
@@ -109,6 +110,15 @@ label_offered context added tag params text writable message is =
     }
 
 -- ---- the first line of a name
+
+-- a side that the message doesn't have has no line
+pub no_line_there : (side : Side) (message : Message) (index : ℕ) → has_side side message ≡ false → index < length (lines_on side message) → ⊥
+no_line_there Header message index none there = false≢true (sym none)
+no_line_there Trailer message index none there = by_body message.body none there
+  where
+    by_body : (body : Body) → has_trailers body ≡ false → index < length (trailers_in body) → ⊥
+    by_body (plain content) none there = absurd (omega (arith, there))
+    by_body (chunked chunks trailers) none there = false≢true (sym none)
 
 abbrev pub first_at : (name : List ℕ) (lines : List FieldLine) (index : ℕ) (line : FieldLine) → IsFirstAt name lines index line → FirstLine name lines
 first_at name lines index line is = record {

@@ -127,7 +127,7 @@ fn room_for(message: &MessageView<'_>, sizes: &Sizes) -> usize {
 // ---- messages
 
 /// The side of the header of the message.
-fn header_of<'a, 'm>(message: &'a MessageView<'m>) -> SideLines<'a, 'm>
+pub(crate) fn header_of<'a, 'm>(message: &'a MessageView<'m>) -> SideLines<'a, 'm>
     ensures { result ≡ side_parts Header (message_of message.now) }
 {
     match SideLines::of(message, Side::Header) {

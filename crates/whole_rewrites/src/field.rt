@@ -16,6 +16,7 @@ ghost use Rattle.line_rewrites.specs.Sides.{lines_text, text_with};
 ghost use Rattle.whole_rewrites.specs.tools.Fields.{AnswersStrict, IsFirstAt, with_text, without_name};
 ghost use Rattle.whole_rewrites.specs.tools.Judged.{Offers};
 
+use crate::content::header_of;
 use component_values::{Context, strict_answer};
 use framing::is_request;
 use line_rewrites::{ApplyFault, SideLines, append_text_line};
@@ -88,9 +89,7 @@ pub(crate) fn with_host(
     let Some(host) = first_named(message, Side::Header, b"host") else {
         return Err(ApplyFault::NotApplicable);
     };
-    let Some(lines) = SideLines::of(message, Side::Header) else {
-        return Err(ApplyFault::NotApplicable);
-    };
+    let lines = header_of(message);
     if lines.is_between(host.index + 1, lines.count(), host.line) {
         return Err(ApplyFault::NotApplicable);
     }
@@ -179,7 +178,7 @@ pub(crate) fn in_strict_form(
         return Err(ApplyFault::NotApplicable);
     };
     let Some(lines) = SideLines::of(message, side) else {
-        return Err(ApplyFault::NotApplicable);
+        unreachable!() // a line of the side was found
     };
     let strict = match strict_field(alloc, context, side, name) {
         Ok(strict) => strict,

@@ -9,9 +9,9 @@ ghost use Rattle.line_rewrites.specs.Sides.{text_with};
 ghost use Rattle.whole_rewrites.specs.Lines.{label_lines, member_line};
 ghost use Rattle.whole_rewrites.specs.tools.Judged.{Offers};
 
+use crate::content::header_of;
 use component_values::Context;
 use line_rewrites::{ApplyFault, SideLines};
-use msg_head::Side;
 use sfv_text::{Memory, Text};
 use std::alloc::Global;
 
@@ -87,9 +87,7 @@ pub(crate) fn with_label(
     requires whole { HasWholeMessage (context_of context.now) }
     ensures { Offers (context_of context.now) (AddLabel label.now tag.now params.now) result }
 {
-    let Some(lines) = SideLines::of(context.message, Side::Header) else {
-        return Err(ApplyFault::NotApplicable);
-    };
+    let lines = header_of(context.message);
     let room = context
         .message
         .bytes()

@@ -2,12 +2,16 @@ use Rattle.std.proofs.Common.{ℕ, List, ◌++◌, ◌∙◌, ap}
 use Rattle.msg_head.specs.Lines.{line_text}
 use Rattle.msg_head.specs.Views.{field_line_of}
 use Rattle.line_rewrites.specs.LineLists.{line_of}
+use Rattle.msg_body.specs.Views.{message_of}
 use Rattle.component_values.specs.Context.{context_of}
-use Rattle.whole_rewrites.proofs.FieldTexts.{no_strict_line, strict_offered}
+use Rattle.whole_rewrites.proofs.FieldTexts.{no_line_there, no_strict_line, strict_offered}
 use Rattle.whole_rewrites.proofs.field.in_strict_form.Goals as goal
 
 pub returns-in_default : goal.returns-in_default
 returns-in_default c = λ made makes message. no_strict_line (context_of c.args.context.now) c.args.side c.args.name.now c.in_default.ensures.first made makes
+
+pub unreachable-requires : goal.unreachable-requires
+unreachable-requires c = no_line_there c.args.side (message_of c.args.context.now.message.now) c.in-Some.first.index c.in_default-of.ensures c.in-Some.ensures.there
 
 pub returns : goal.returns
 returns c =
