@@ -2,25 +2,24 @@
 use Rattle.std.proofs.Common.{◌≡◌, nat_le, nat_lt, ℕ, Bool, true, false, Option, Some, None, Result, Ok, Err, IfOk, List, [], ◌∷◌, ◌++◌, length, take, drop, length-append, arith, refl, sym, subst, ap, ◌∙◌, inl, inr}
 use Rattle.std.specs.Prelude.{option_map}
 use Rattle.std.proofs.lemmas.Bool.{cases_Bool, false≢true, ltb-true}
-use Rattle.byte_grammar.specs.Causes.{AnswersWhere}
 use Rattle.msg_head.specs.declared.error.Side.{Side}
 use Rattle.msg_head.specs.declared.error.Side.TheVariants.{Header, Trailer}
 use Rattle.msg_head.specs.Lines.{FieldLine}
 use Rattle.msg_body.specs.Bodies.{Body, chunked, plain, trailers_in}
-use Rattle.msg_body.specs.Messages.{IsMessage, Message, Spells, message_text}
+use Rattle.msg_body.specs.Messages.{IsMessage, Message, message_text}
 use Rattle.msg_body.specs.Views.{lines_on, message_content}
 use Rattle.component_values.specs.Context.{MessageContext}
 use Rattle.rewrite_script.specs.Lines.{is_line_writable}
 use Rattle.rewrite_script.specs.declared.rewrite.LineRewrite.{LineRewrite}
 use Rattle.rewrite_script.specs.declared.rewrite.LineRewrite.TheVariants.{Pad, Fold, Unfold, Join, Split, Move, Case, Add, Remove}
 use Rattle.component_values.specs.Context.{answers_head}
-use Rattle.line_rewrites.specs.Steps.{HasNoLineStep, RewritesLines, LineStep, with_lines_on, with_trailers}
+use Rattle.line_rewrites.specs.Steps.{HasNoLineStep, LineStep, with_lines_on, with_trailers}
 use Rattle.line_rewrites.specs.LineLists.{line_of}
 use Rattle.line_rewrites.specs.declared.fault.ApplyFault.{ApplyFault}
 use Rattle.line_rewrites.specs.declared.fault.ApplyFault.TheVariants.{Memory, NotApplicable}
 use Rattle.line_rewrites.specs.tools.Computed.{changed, changed_side, rewritten}
-use Rattle.line_rewrites.specs.Sized.{HasNoSized, SpellsLineStep, SpellsSized}
-use Rattle.line_rewrites.specs.tools.Judged.{ExplainsStep, Makes}
+use Rattle.line_rewrites.specs.Sized.{SpellsLineStep, SpellsSized}
+use Rattle.line_rewrites.specs.tools.Judged.{Makes}
 use Rattle.line_rewrites.specs.Sides.{has_side, has_trailers, side_parts, text_with}
 use Rattle.line_rewrites.proofs.Changes.{change_is}
 use Rattle.line_rewrites.proofs.Results.{changes_step, side_sound, step_changes, step_lines}
@@ -141,11 +140,6 @@ not_spelled context step text made none = λ after gives.
     let same : text ≡ m.0 = (let e = sym made ∙ m.1 in cc) in
     none after (subst (λ t. SpellsSized (answers_head context.related) t (length (message_content context.message)) after) (sym same) m.2)
 
-pub fault_is : (context : MessageContext) (step : LineRewrite) (result : Result (List ℕ) ApplyFault) → ExplainsStep context step result → AnswersWhere Memory result NotApplicable (HasNoLineStep context step)
-fault_is context step (Ok text) is = record { only = λ e. absurd cc; there = λ none. absurd (none is.0 is.1) }
-fault_is context step (Err NotApplicable) is = record { only = λ _. is; there = λ _. inl refl }
-fault_is context step (Err Memory) is = record { only = λ e. absurd cc; there = λ _. inr refl }
-
 -- the text that is made tells what the step gives
 pub tells_step : (context : MessageContext) (step : LineRewrite) (result : Result (List ℕ) ApplyFault) → IsMessage (answers_head context.related) context.message → is_line_writable step ≡ true
     → Makes (rewritten context.message step) result → IfOk result (SpellsLineStep context step)
@@ -162,26 +156,3 @@ pub none_made : (context : MessageContext) (step : LineRewrite) (result : Result
 none_made context step (Ok text) made e = absurd cc
 none_made context step (Err NotApplicable) made e = not_made context step made
 none_made context step (Err Memory) made e = absurd cc
-
--- the answers to that text, judged by these copies of what decides
-pub spelled_is : (context : MessageContext) (step : LineRewrite) (text bytes : List ℕ) (to_head : Bool) (count : ℕ) → to_head ≡ answers_head context.related → bytes ≡ text → count ≡ length (message_content context.message)
-    → SpellsLineStep context step text → (message : Message) × SpellsSized to_head bytes count message → RewritesLines context step text
-spelled_is context step text bytes to_head count heads same sizes tells spelled =
-    let here = rw (heads, same, sizes) at spelled.1 in
-    (spelled.0, (tells spelled.0).1 here, here.spells.text)
-
-pub unspelled_is : (context : MessageContext) (step : LineRewrite) (text bytes : List ℕ) (to_head : Bool) (count : ℕ) → to_head ≡ answers_head context.related → bytes ≡ text → count ≡ length (message_content context.message)
-    → SpellsLineStep context step text → HasNoSized to_head bytes count → HasNoLineStep context step
-unspelled_is context step text bytes to_head count heads same sizes tells none = λ after gives. (rw (heads, same, sizes) at none) after ((tells after).0 gives)
-
-abbrev pub IsRefused : Result (List ℕ) ApplyFault → Type 0
-IsRefused result = result ≡ Err NotApplicable
-
-pub made_fault : (context : MessageContext) (step : LineRewrite) (fault : ApplyFault) → (IsRefused (Err fault) → HasNoLineStep context step) → ExplainsStep context step (Err fault)
-made_fault context step NotApplicable none = none refl
-made_fault context step Memory none = tt
-
--- the text that is answered is a message's
-pub is_spelled : (context : MessageContext) (step : LineRewrite) (result : Result (List ℕ) ApplyFault) → ExplainsStep context step result → IfOk result (λ text. (after : Message) × Spells (answers_head context.related) after text)
-is_spelled context step (Ok text) is = (is.0, record { is = (step_changes context step is.0 is.1).message; text = is.2 })
-is_spelled context step (Err fault) is = tt

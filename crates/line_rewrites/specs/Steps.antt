@@ -1,13 +1,13 @@
 -- The message that a rewriting of field lines gives: a row for each kind. A step that has no such
 -- message isn't applicable.
-use Rattle.std.specs.Prelude.{◌≡◌, ℕ, Bool, List}
+use Rattle.std.specs.Prelude.{◌≡◌, Bool, List}
 use Rattle.msg_head.specs.declared.error.Side.{Side}
 use Rattle.msg_head.specs.declared.error.Side.TheVariants.{Header, Trailer}
 use Rattle.msg_head.specs.Heads.{Head}
 use Rattle.msg_head.specs.Lines.{FieldLine}
 use Rattle.framing.specs.Framings.{framing_of}
 use Rattle.msg_body.specs.Bodies.{Body, plain, chunked}
-use Rattle.msg_body.specs.Messages.{Message, IsMessage, message_text}
+use Rattle.msg_body.specs.Messages.{Message, IsMessage}
 use Rattle.msg_body.specs.Views.{lines_on}
 use Rattle.component_values.specs.Context.{MessageContext, answers_head}
 use Rattle.rewrite_script.specs.declared.rewrite.LineRewrite.{LineRewrite}
@@ -75,8 +75,3 @@ LineStep context (Remove side index) result = ChangesLines context side (IsRemov
 -- the step isn't applicable
 abbrev pub HasNoLineStep : MessageContext → LineRewrite → Type 0
 HasNoLineStep context step = (after : Message) → ¬ LineStep context step after
-
--- the text is that of the message which the step gives
-abbrev pub RewritesLines : MessageContext → LineRewrite → List ℕ → Type 0
-RewritesLines context step text = (after : Message) × LineStep context step after
-    × (text ≡ message_text after)

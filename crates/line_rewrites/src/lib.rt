@@ -2,7 +2,8 @@
 //! a signature (RFC 9421 section 1.1).
 //!
 //! ```text
-//! let text = rewrite_lines(alloc, &context, &step)?;           // or it isn't applicable
+//! let text = make_lines(alloc, &context, &step)?;              // or it isn't applicable
+//! let message = sized_message(alloc, text.bytes(), ..)?;       // what the step gives
 //! let condition = line_condition(context.message, &step);      // once for all labels
 //! condition.is_met(&label_read.params)                         // the label's base stays
 //! ```
@@ -28,5 +29,5 @@ pub use line::{append_text_line, append_value};
 pub use permit::{LineCondition, has_value, line_condition, number_condition, value_condition};
 pub use raw::{is_spacing, without_first_spacing, without_last_spacing};
 pub use sides::SideLines;
-pub use sized::{is_sized_message, sized_message};
-pub use step::{make_lines, rewrite_lines};
+pub use sized::sized_message;
+pub use step::make_lines;

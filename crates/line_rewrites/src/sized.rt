@@ -1,15 +1,13 @@
 //! Texts of messages with so much content.
 
-ghost use Rattle.std.specs.Prelude.{◌≡◌, ◌≢◌, ◌==◌, ◌&&◌, length, IsTrue, IsFalse, IfOk};
+ghost use Rattle.std.specs.Prelude.{◌≡◌, ◌≢◌, ◌==◌, ◌&&◌, length, IfOk};
 ghost use Rattle.byte_grammar.specs.Causes.{AnswersWhere};
-ghost use Rattle.msg_body.specs.Messages.{Message};
 ghost use Rattle.msg_body.specs.Views.{message_content, message_of};
 ghost use Rattle.msg_body.specs.declared.error.MessageError.{MessageError};
 ghost use Rattle.line_rewrites.specs.Sized.{SpellsSized, HasNoSized};
 
 use crate::fault::ApplyFault;
 use msg_body::{Expect, MAX_MESSAGE_BYTES, MessageError, MessageRead, MessageView, read_message};
-use sfv_text::Memory;
 use std::alloc::Global;
 
 /// Whether so many bytes spell the message, and its content has so many.
@@ -54,24 +52,5 @@ pub fn sized_message<'m>(
         }
         Ok(MessageRead::Partial) => Err(ApplyFault::NotApplicable),
         Err(error) => Err(fault_of(error)),
-    }
-}
-
-/// Whether the text is that of a message whose content has so many bytes.
-pub fn is_sized_message(
-    alloc: Global,
-    text: &[u8],
-    to_head: bool,
-    count: usize,
-) -> Result<bool, Memory>
-    ensures yes { IfOk result (λ is. IsTrue is → (message : Message)
-        × SpellsSized to_head text.now count message) }
-    ensures no { IfOk result (λ is. IsFalse is → (message : Message)
-        → ¬ SpellsSized to_head text.now count message) }
-{
-    match sized_message(alloc, text, to_head, count) {
-        Ok(_) => Ok(true),
-        Err(ApplyFault::NotApplicable) => Ok(false),
-        Err(ApplyFault::Memory) => Err(Memory),
     }
 }

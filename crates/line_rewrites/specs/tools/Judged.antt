@@ -1,8 +1,5 @@
 -- What the parts of the code answer. No public clause cites this module.
 use Rattle.std.specs.Prelude.{◌≡◌, ⊤, ℕ, Option, Some, None, IsSomeAnd, Result, Ok, Err, List, ◌++◌}
-use Rattle.component_values.specs.Context.{MessageContext}
-use Rattle.rewrite_script.specs.declared.rewrite.LineRewrite.{LineRewrite}
-use Rattle.line_rewrites.specs.Steps.{HasNoLineStep, RewritesLines}
 use Rattle.line_rewrites.specs.declared.fault.ApplyFault.{ApplyFault}
 use Rattle.line_rewrites.specs.declared.fault.ApplyFault.TheVariants.{Memory, NotApplicable}
 
@@ -17,9 +14,3 @@ abbrev pub Makes : Option (List ℕ) → Result (List ℕ) ApplyFault → Type 0
 Makes made (Ok text) = made ≡ Some text
 Makes made (Err NotApplicable) = made ≡ None
 Makes made (Err Memory) = ⊤
-
--- the text is that of the message which the step gives, or the step gives none
-abbrev pub ExplainsStep : MessageContext → LineRewrite → Result (List ℕ) ApplyFault → Type 0
-ExplainsStep context step (Ok text) = RewritesLines context step text
-ExplainsStep context step (Err NotApplicable) = HasNoLineStep context step
-ExplainsStep context step (Err Memory) = ⊤
