@@ -68,8 +68,8 @@ fn prepare_components<'a, 'm>(
 }
 
 /// Prepares the components that the signature parameters cover (RFC 9421 section 2.5), over what
-/// was read of the context before. What is read now is added to it: so a structured field and a
-/// query are read once for all labels of a message.
+/// was read of the context before. What is read now is added to it: so for all labels of a message
+/// the query is read once, and a structured field once for `sf` and once for `key`.
 #[tactic(auto, using(crate::proofs::FirstLacks::lacks_are, crate::proofs::FirstLacks::index_below))]
 pub fn prepare_in<'a, 'm>(
     alloc: Global,

@@ -10,8 +10,8 @@
 //! prepared.feed(1, &mut hasher);                     // /foo
 //! ```
 //!
-//! `prepare_in` does it for several signatures of one message, and reads each structured field and
-//! the query once.
+//! `prepare_in` does it for several signatures of one message. It reads the query once, and each
+//! structured field once for `sf` and once for `key`.
 #![tactic(auto)]
 
 mod byte_sequence;

@@ -53,8 +53,9 @@ fn keep<T: Drop>(
     Ok(answers.push(FieldAnswer { field, answer })?)
 }
 
-/// What was read of a context, so that each of its structured fields and its query are read once
-/// for all labels (RFC 9421 sections 2.1.1, 2.1.2 and 2.2.8).
+/// What was read of a context, so that for all labels its query is read once, and each of its
+/// structured fields once for strict texts and once for members (RFC 9421 sections 2.1.1, 2.1.2 and
+/// 2.2.8).
 #[derive(Drop)]
 pub struct Readings {
     /// The strict texts.

@@ -53,7 +53,8 @@ fn put_together(
     Ok(text)
 }
 
-/// The values of these lines, joined. It takes memory only where they are in several pieces.
+/// The values of these lines, joined. Only values in several pieces are copied, which no clause
+/// says.
 pub fn joined_value<'m>(
     alloc: Global,
     lines: NamedFieldLines<'_, 'm>,

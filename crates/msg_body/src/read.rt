@@ -24,7 +24,7 @@ use std::alloc::Global;
 pub enum MessageRead<'m> {
     /// A message, and how many bytes spell it.
     Whole(MessageView<'m>, usize),
-    /// No end of a message is there yet, and there is room for more bytes.
+    /// No end of a message is there yet, and nothing that is there is wrong.
     Partial,
 }
 

@@ -26,7 +26,8 @@ impl<'m> LineView<'m> {
     }
 
     /// The line's value as it is in the message. None where a fold is within it, for which the
-    /// value has a space (RFC 9112 section 5.2).
+    /// value has a space (RFC 9112 section 5.2): of None a clause says only that the value isn't
+    /// visible ASCII alone.
     pub fn whole_value(self) -> Option<&'m [u8]>
         ensures some { IfSome result (λ text. text.now ≡ value self.entry.raw.now) }
         ensures none { IfNone result (IsFalse (list_all is_visible (value self.entry.raw.now))) }
