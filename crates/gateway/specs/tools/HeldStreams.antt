@@ -146,9 +146,11 @@ WritesText text before now (Err fault) = (fault ≡ Memory) × Keeps before now
 abbrev pub MeetsAndWrites : GatewayConf → HeldStream → HeldStream → PlacedItem
     → Option (List ℕ) → Option (List ℕ) → Result Bool StreamFault → Type 0
 MeetsAndWrites settings old new item taken now (Ok passes) = (answer : Option GatewayRecord)
-    × SaysItemMet settings old new item (Ok answer) × Appends taken now (records_text (added answer))
+    × SaysItemMet settings old new item (Ok answer)
+    × Appends taken now (records_text (added answer))
     × (passes ≡ list_all is_pass (added answer))
 MeetsAndWrites settings old new item taken now (Err NotWritten) = (answer : GatewayRecord)
-    × SaysItemMet settings old new item (Ok (Some answer)) × AppendsPart taken now (record_text answer)
+    × SaysItemMet settings old new item (Ok (Some answer))
+    × AppendsPart taken now (record_text answer)
 MeetsAndWrites settings old new item taken now (Err fault) =
     SaysItemMet settings old new item (Err fault) × Keeps taken now
