@@ -75,8 +75,8 @@ pub fn sampling_has_one_outcome()
 {}
 
 /// What is rewritten is the message after the steps, of the same kind. Under a label it keeps the
-/// label's verdict, at each moment and by each configuration, of the same scheme and kinds of fields
-/// where a step rests on these.
+/// label's verdict, at each moment and by each configuration, of the same scheme and kinds of
+/// fields where a step rests on these.
 pub fn what_is_rewritten_keeps_its_verdict()
     ensures message { IsMessageWhereRewritten }
     ensures verdict { HasVerdictWhereRewritten }
