@@ -4,7 +4,7 @@ ghost use Rattle.std.specs.Prelude.{IsTrue};
 ghost use Rattle.verdicts.specs.Verdicts.{is_verdict_in_range};
 
 use crate::given::{GivenConf, is_text, message};
-use commands::{base_outcome, context_for, verify_outcome};
+use commands::{Outcome, base_outcome, context_for, verify_outcome};
 use component_values::Context;
 use conf::Conf;
 use hms_io::{MemShelf, Status};
