@@ -1,22 +1,24 @@
 -- The readers of a chunk line and of data meet their texts.
-use Rattle.std.proofs.Common.{cond, not, ltb, ◌==◌, ◌≡◌, ◌⊎◌, inl, inr, ℕ, ◌-◌, ◌≤◌, ◌<◌, Bool, true, false, List, [], ◌∷◌, ◌++◌, length, take, drop, replicate, Ok, Err, refl, sym, ap, subst, ◌∙◌, append_assoc, arith, codes}
-use Rattle.std.proofs.lemmas.List.{append-nil, length-append, length-replicate, take-append-drop, length-take, length-drop, take_at, drop_at, nil_from_length}
-use Rattle.std.proofs.lemmas.Bool.{eqb-true, ltb-false, ltb-true, le-ltb}
+use Rattle.std.proofs.Common.{cond, not, ◌==◌, ◌≡◌, ◌⊎◌, inl, inr, ℕ, ◌-◌, ◌≤◌, Bool, true, false, List, [], ◌∷◌, ◌++◌, length, Ok, Err, refl, sym, ap, subst, ◌∙◌, append_assoc, arith, codes}
+use Rattle.std.proofs.lemmas.List.{nil_from_length}
+use Rattle.std.proofs.lemmas.Bool.{eqb-true, le-ltb}
 use Rattle.std.specs.Char.{is_ascii_hexdigit}
 use Rattle.std.specs.Str.{byte}
 use Rattle.std.specs.Str.Parse.{digits_value}
 use Rattle.byte_grammar.specs.Classes.{is_line_byte}
 use Rattle.byte_grammar.specs.Language.{Begins, IsRun, starts_in}
+use Rattle.byte_grammar.specs.tools.CountedTexts.{Anything, IsBytes}
 use Rattle.byte_grammar.specs.tools.Languages.{Then, Mapped, IsByte}
 use Rattle.byte_grammar.specs.Walk.{cut_at, run_length, run_read}
 use Rattle.byte_grammar.specs.tools.Walks.{left, Next}
-use Rattle.byte_grammar.proofs.Laws.{Meets, meets_then, meets_map, meets_same, any_next, next_more, ok_is, not_err, left_less}
+use Rattle.byte_grammar.proofs.Laws.{Meets, meets_then, meets_map, meets_same, any_next, next_more, not_err, left_less}
 use Rattle.byte_grammar.proofs.LeafLaws.{meets_byte, meets_run}
 use Rattle.byte_grammar.proofs.ChoiceLaws.{of_each}
+use Rattle.byte_grammar.proofs.CountedLaws.{meets_bytes}
 use Rattle.framing.specs.declared.chunk_limits.TheConstants.{MAX_SIZE_DIGITS, MAX_EXTENSION_BYTES}
 use Rattle.framing.specs.Chunks.{IsChunkLine, IsExtension, begins_extension}
-use Rattle.framing.specs.tools.ChunkWalk.{crlf_read, extension_read, line_read, bytes_read, data_read}
-use Rattle.framing.specs.tools.Turns.{Anything, IsCrlf, IsExtensionText, IsLineText, IsBytes, IsDataText}
+use Rattle.framing.specs.tools.ChunkWalk.{crlf_read, extension_read, line_read, data_read}
+use Rattle.framing.specs.tools.Turns.{IsCrlf, IsExtensionText, IsLineText, IsDataText}
 
 -- ---- CRLF
 
@@ -169,39 +171,6 @@ meets_line =
     }
 
 -- ---- data
-
-pub meets_bytes : (size : ℕ) → Meets (IsBytes size) Anything (bytes_read size)
-unfolding bytes_read
-meets_bytes size = record { ok = λ bytes v rest e. ok (ltb (length bytes) size) bytes v rest refl e; err = λ bytes n e. err (ltb (length bytes) size) bytes n refl e; only = only; far = λ x more r v h. far (ltb (length (x ++ r)) size) x more r v refl h }
-  where
-    ok : (b : Bool) (bytes v rest : List ℕ) → ltb (length bytes) size ≡ b → cond b (Err 0) (cut_at size bytes) ≡ Ok (v, rest) → (x : List ℕ) × (bytes ≡ x ++ rest) × IsBytes size x v
-    ok true bytes v rest is e = absurd cc
-    ok false bytes v rest is e =
-        let pair : (take size bytes, drop size bytes) ≡ (v, rest) = ok_is _ _ e in
-        let long : size ≤ length bytes = ltb-false _ _ is in
-        let first : take size bytes ≡ v = ap (λ (a : List ℕ × List ℕ). a.0) pair in (
-          take size bytes,
-          sym (take-append-drop size bytes) ∙ ap (λ (a : List ℕ × List ℕ). take size bytes ++ a.1) pair,
-          (first, ap (λ (y : List ℕ). length y) (sym first) ∙ omega (arith, length-take size bytes)),
-        )
-
-    err : (b : Bool) (bytes : List ℕ) (n : ℕ) → ltb (length bytes) size ≡ b → cond b (Err 0) (cut_at size bytes) ≡ Err n → (x rest : List ℕ) × (bytes ≡ x ++ rest) × (length rest ≡ n) × Begins (IsBytes size) x
-    err true bytes n is e =
-        let short : length bytes < size = ltb-true _ _ is in
-        let none : 0 ≡ n = cc in
-        let more : List ℕ = replicate (size - length bytes) 0 in
-        (bytes, [], sym (append-nil bytes), none, (more, bytes ++ more, (refl, omega (arith, length-append bytes more, length-replicate (size - length bytes) (byte "\0")))))
-    err false bytes n is e = absurd (not_err _ _ e)
-
-    only : (x r v : List ℕ) → IsBytes size x v → Next (Anything v) r → bytes_read size (x ++ r) ≡ Ok (v, r)
-    only x r v h after =
-        ap (λ (y : List ℕ). bytes_read size (y ++ r)) h.0
-        ∙ ap (λ (b : Bool). cond b (Err 0) (cut_at size (v ++ r))) (le-ltb (length (v ++ r)) size (omega (arith, h.1, length-append v r)))
-        ∙ ap (λ (a : List ℕ × List ℕ). Ok a) (λ i. (take_at v r size h.1 i, drop_at v r size h.1 i))
-
-    far : (b : Bool) (x more r v : List ℕ) → ltb (length (x ++ r)) size ≡ b → IsBytes size (x ++ more) v → left (cond b (Err 0) (cut_at size (x ++ r))) ≤ length r
-    far true x more r v is h = omega arith
-    far false x more r v is h = omega (arith, length-drop size (x ++ r), length-append x r, length-append x more, ap (λ (y : List ℕ). length y) h.0, h.1)
 
 pub meets_data : (size : ℕ) → Meets (IsDataText size) Anything (data_read size)
 unfolding data_read

@@ -9,7 +9,8 @@ use Rattle.byte_grammar.proofs.Laws.{Meets, meets_then, meets_map, meets_same, m
 use Rattle.byte_grammar.proofs.TurnLaws.{meets_turns, turns_step}
 use Rattle.framing.specs.Chunks.{Chunk, Chunks, IsChunkLine, IsChunk, AreChunksText, chunk_text}
 use Rattle.framing.specs.tools.ChunkWalk.{body_read, turn_read}
-use Rattle.framing.specs.tools.Turns.{Anything, IsLineText, IsBody, IsTurn}
+use Rattle.byte_grammar.specs.tools.CountedTexts.{Anything}
+use Rattle.framing.specs.tools.Turns.{IsLineText, IsBody, IsTurn}
 use Rattle.framing.proofs.LineLaws.{meets_line, meets_data, no_extension}
 
 meets_body : (l : List ℕ × ℕ) → Meets (IsBody l) Anything (body_read l)

@@ -6,11 +6,11 @@ ghost use Rattle.std.specs.Str.Parse.{digits_value};
 ghost use Rattle.byte_grammar.specs.Gives.{Gives};
 ghost use Rattle.byte_grammar.specs.Language.{AreBytesOf};
 ghost use Rattle.framing.specs.declared.chunk_limits.TheConstants.{MAX_SIZE_DIGITS};
-ghost use Rattle.framing.specs.tools.ChunkWalk.{crlf_read, extension_read, line_read, bytes_read, data_read};
+ghost use Rattle.framing.specs.tools.ChunkWalk.{crlf_read, extension_read, line_read, data_read};
 
 use crate::chunk_limits::{MAX_EXTENSION_BYTES, MAX_SIZE_DIGITS};
 use crate::classes::{ExtensionStart, HexDigit};
-use byte_grammar::{Byte, Class, Left, read_byte, read_run, starts_with};
+use byte_grammar::{Byte, Class, Left, read_byte, read_bytes, read_run, starts_with};
 
 /// A chunk line as it is written, without its CRLF, and the size that it says.
 #[derive(Clone, Copy)]
@@ -89,23 +89,12 @@ pub(crate) fn read_line(bytes: &[u8]) -> Result<(ChunkLine<'_>, &[u8]), Left>
     Ok((ChunkLine { text, size }, rest))
 }
 
-// Splits off so many bytes. Where there are fewer, no byte is left.
-#[tactic(auto, unfolding(crate::specs::tools::ChunkWalk::bytes_read))]
-fn split_bytes(size: usize, bytes: &[u8]) -> Result<(&[u8], &[u8]), Left>
-    ensures { Gives (λ x. (x.0.now, x.1.now)) result (bytes_read size bytes.now) }
-{
-    if bytes.len() < size {
-        return Err(Left(0));
-    }
-    Ok(bytes.split_at(size))
-}
-
 /// Reads so many bytes of data and the CRLF after them.
 #[tactic(auto, unfolding(crate::specs::tools::ChunkWalk::data_read))]
 pub(crate) fn read_data(size: usize, bytes: &[u8]) -> Result<(&[u8], &[u8]), Left>
     ensures { Gives (λ x. (x.0.now, x.1.now)) result (data_read size bytes.now) }
 {
-    let (chunk, rest) = split_bytes(size, bytes)?;
+    let (chunk, rest) = read_bytes(size, bytes)?;
     let after = read_crlf(rest)?;
     Ok((chunk, after))
 }

@@ -1,11 +1,12 @@
 -- Readers of chunks over lists, from left to right. No public clause cites this module.
-use Rattle.std.specs.Prelude.{ℕ, zero, suc, ◌==◌, nat_lt, List, ◌++◌, length, codes, Option, Some, None, Ok, Err, if◌then◌else◌}
+use Rattle.std.specs.Prelude.{ℕ, zero, suc, ◌==◌, List, ◌++◌, codes, Option, Some, None, Ok, if◌then◌else◌}
 use Rattle.std.specs.Char.{is_ascii_hexdigit}
 use Rattle.std.specs.Str.{byte}
 use Rattle.std.specs.Str.Parse.{digits_value}
 use Rattle.byte_grammar.specs.Classes.{is_line_byte}
 use Rattle.byte_grammar.specs.Language.{starts_in}
-use Rattle.byte_grammar.specs.Walk.{Reader, ◌>>=◌, byte_read, cut_at, run_read}
+use Rattle.byte_grammar.specs.Walk.{Reader, ◌>>=◌, byte_read, run_read}
+use Rattle.byte_grammar.specs.tools.CountedWalk.{bytes_read}
 use Rattle.framing.specs.declared.chunk_limits.TheConstants.{MAX_SIZE_DIGITS, MAX_EXTENSION_BYTES}
 use Rattle.framing.specs.Chunks.{Chunk, begins_extension}
 
@@ -27,9 +28,6 @@ line_read bytes = do
   e ← extension_read d.1
   c ← crlf_read e.1
   Ok ((d.0 ++ e.0, digits_value 16 d.0), c.1)
-
-unfoldable pub bytes_read : ℕ → Reader (List ℕ)
-bytes_read size bytes = if nat_lt (length bytes) size then Err 0 else cut_at size bytes
 
 -- so much data, and CRLF
 unfoldable pub data_read : ℕ → Reader (List ℕ)

@@ -1,12 +1,8 @@
 -- Chunks one after the other, as the reader takes them. No public clause cites this module.
-use Rattle.std.specs.Prelude.{◌≡◌, ℕ, zero, suc, ◌+◌, Bool, true, List, [], ◌∷◌, ◌++◌, length, codes, Option, Some, None}
+use Rattle.std.specs.Prelude.{◌≡◌, ℕ, zero, suc, ◌+◌, List, [], ◌∷◌, ◌++◌, length, codes, Option, Some, None}
 use Rattle.byte_grammar.specs.tools.Languages.{Mapped}
 use Rattle.framing.specs.Views.{ChunkSpan}
 use Rattle.framing.specs.Chunks.{Chunk, IsChunkLine, IsChunk, IsExtension, chunk_text}
-
--- any byte may come next
-abbrev pub Anything : {V : Type 0} → V → ℕ → Bool
-Anything _ c = true
 
 -- the texts of the readers, and their values
 abbrev pub IsCrlf : List ℕ → List ℕ → Type 0
@@ -17,9 +13,6 @@ IsExtensionText text v = (text ≡ v) × IsExtension v
 
 abbrev pub IsLineText : List ℕ → List ℕ × ℕ → Type 0
 IsLineText text l = (text ≡ l.0 ++ codes "\r\n") × IsChunkLine l.0 l.1
-
-abbrev pub IsBytes : ℕ → List ℕ → List ℕ → Type 0
-IsBytes size text v = (text ≡ v) × (length v ≡ size)
 
 abbrev pub IsDataText : ℕ → List ℕ → List ℕ → Type 0
 IsDataText size text v = (text ≡ v ++ codes "\r\n") × (length v ≡ size)
