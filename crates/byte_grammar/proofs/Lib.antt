@@ -16,3 +16,4 @@ pub mod Tables
 pub mod LiteralLaws
 pub mod NumberLaws
 pub mod CountedLaws
+pub mod Given

@@ -28,8 +28,8 @@
 //! - `Laws`: a reader meets a language (`Meets`) where its parts do: one after another
 //!   (`meets_then`, and `meets_then_with` over `Partly`, `partly`), or the same with other values
 //!   (`meets_map`, `meets_same`, `meets_done`); it leaves no more bytes than it had (`left_less`).
-//!   Of results and what may come next: `ok_is`, `not_err`, `bind_err`, `and_is`, `any_next`,
-//!   `next_more`.
+//!   Of results and what may come next: `the_ok`, `ok_is`, `not_err`, `bind_ok`, `bind_err`,
+//!   `as_prefix`, `and_is`, `any_next`, `next_more`.
 //! - `LeafLaws`: the readers of bytes meet theirs (`meets_byte`, `meets_run`, `meets_all`,
 //!   `meets_word`).
 //! - `LiteralLaws`, `NumberLaws`, `CountedLaws`: so do those of a given text, of a number with the
@@ -45,12 +45,14 @@
 //!   `state_cons`).
 //! - `Whole`: a reader of whole texts, after which nothing comes (`Nothing`), judges the language
 //!   and the offset of each fault (`Judges`, `judges`), of texts with bytes of a class at both ends
-//!   too (`meets_padded`); of what is judged in this way a text has one value (`one_value`).
+//!   too (`meets_padded`); of what is judged in this way a text has one value (`one_value`), and
+//!   its text is read (`whole_only`).
 //! - `OffsetLaws`: of one language and text two fault offsets are one (`one_offset`); a prefix of
 //!   what begins a text begins it too (`begins_shorter`).
 //! - `CauseLaws`: of causes that are judged in an order at most one is the first (`first_is_one`).
 //! - `AnswerLaws`: where there is at most one fault, each is answered exactly where it is one, out
-//!   of memory aside (`answers_where` over `NamesFault`, `memory_if`, `err_of`).
+//!   of memory aside (`answers_where` over `IsMemoryDecided` and `NamesFault`, `memory_if`,
+//!   `err_of`).
 //! - `ListLaws`: a test that each element passes, of lists that are joined, or parts of one
 //!   (`all_joined`, `all_parts`, `all_reverse`, `all_filter`), of another test (`all_implied`,
 //!   `all_both`), of the lists of each element (`all_flat`, `all_separated`), and of the parts
@@ -58,6 +60,8 @@
 //! - `Indices`: what holds at an index (`all_at`, `slice_get_take`), the first element that fails
 //!   (`find_failed`, `find_none`, `none_fails`), and the facts of a value that is there
 //!   (`some_and`, `some_and_at`, `some_and_parts`).
+//! - `Tables`: a table that agrees with a class on all bytes says which bytes are of it
+//!   (`from_table` over `agree_below`).
 //! - `MapLaws`: a map whose keys are owned bytes is a finite map of those bytes (`inserted`,
 //!   `looked_up`).
 #![tactic(auto)]
@@ -86,4 +90,4 @@ pub use readers::{Left, read_all, read_byte, read_run, read_word, starts_with};
 pub use sequence::Sequence;
 pub use short::IN_PLACE;
 pub use text::{Text, append_number, append_words};
-pub use texts::is_listed;
+pub use texts::{allows_all, is_listed, rest_after};

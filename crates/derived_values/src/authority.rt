@@ -7,9 +7,9 @@ ghost use Rattle.derived_values.specs.Views.{authority_parts};
 ghost use Rattle.derived_values.specs.tools.Parts.{BeginsWithHost, BeginsWithRegName, BeginsWithLiteral};
 
 use crate::feed::{feed_lowered, feed_marked};
-use crate::parts::{read_marked, rest_after};
+use crate::parts::read_marked;
 use crate::uri_byte::UriByte;
-use byte_grammar::{Class, read_all};
+use byte_grammar::{Class, read_all, rest_after};
 use sfv_text::Absorb;
 
 /// An authority without userinfo, borrowed from its text (RFC 3986 section 3.2).

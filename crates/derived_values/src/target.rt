@@ -5,9 +5,9 @@ ghost use Rattle.derived_values.specs.Targets.{TargetParts, IsOriginForm, IsAbso
 ghost use Rattle.derived_values.specs.Views.{parts_of};
 ghost use Rattle.derived_values.specs.tools.Parts.{IsPathAndQuery, BeginsWithScheme};
 
-use crate::parts::{allows_all, read_marked, rest_after};
+use crate::parts::read_marked;
 use crate::uri_byte::UriByte;
-use byte_grammar::{Byte, Class, read_all, read_word, starts_with};
+use byte_grammar::{Byte, Class, allows_all, read_all, read_word, rest_after, starts_with};
 
 /// The forms of a request target (RFC 9112 section 3.2).
 #[derive(Clone, Copy, PartialEq, Eq)]

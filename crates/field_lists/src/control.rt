@@ -13,9 +13,8 @@ ghost use Rattle.msg_head.specs.Starts.{is_code};
 ghost use Rattle.derived_values.specs.Targets.{is_scheme};
 ghost use Rattle.derived_values.specs.UriBytes.{is_scheme_byte};
 
-use crate::classes::allows_all;
 use crate::named::split_named;
-use byte_grammar::{Byte, Class, starts_with};
+use byte_grammar::{Byte, Class, allows_all, starts_with};
 use list_texts::Field;
 
 /// What the pseudo-header fields of a request say, borrowed from them (RFC 9113 section 8.3.1).

@@ -8,7 +8,6 @@
 //! ```
 #![tactic(auto)]
 
-mod classes;
 mod control;
 mod from_fault;
 mod into_list;

@@ -20,12 +20,11 @@ ghost use Rattle.field_lists.specs.tools.PartViews.{ArePartsOf, JudgesList, is_b
 ghost use Rattle.field_lists.specs.tools.Sizes.{LeavesRoom, coding_size, fixed_size, line_size, lines_size};
 ghost use Rattle.field_lists.specs.tools.Views.{control_of};
 
-use crate::classes::allows_all;
 use crate::control::{Control, split_control};
 use crate::named::{has_field, split_named};
 use crate::to_fault::{MessageLimit, ToFault};
 use crate::values::value_of_line;
-use byte_grammar::{Class, Memory};
+use byte_grammar::{Class, Memory, allows_all};
 use component_ids::{Scheme, is_field_name};
 use derived_values::scheme_text;
 use list_texts::{Field, FieldList};

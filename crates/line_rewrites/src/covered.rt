@@ -17,7 +17,7 @@ pub fn is_own_field(id: &ComponentId) -> bool
 }
 
 /// Whether the lines of the component are those of the side (RFC 9421 section 2.1.4).
-pub fn is_on(side: Side, id: &ComponentId) -> bool
+fn is_on(side: Side, id: &ComponentId) -> bool
     ensures { result ≡ is_on side id.now }
 {
     match side {
@@ -26,8 +26,18 @@ pub fn is_on(side: Side, id: &ComponentId) -> bool
     }
 }
 
+/// Whether the component is the field of the name on the side (RFC 9421 section 2.1).
+pub fn is_field_on(side: Side, name: &[u8], id: &ComponentId) -> bool
+    ensures { result ≡ is_field_on side name.now id.now }
+{
+    if !is_own_field(id) {
+        return false;
+    }
+    is_on(side, id) && id.name.bytes() == name
+}
+
 /// Whether the component is the field that the line is of, on the side.
-fn is_field_on(side: Side, line: LineView<'_>, id: &ComponentId) -> bool
+fn is_field_of(side: Side, line: LineView<'_>, id: &ComponentId) -> bool
     ensures { result ≡ is_field_on side (name_of (field_line_of line.entry)) id.now }
 {
     if !is_own_field(id) {
@@ -40,14 +50,14 @@ fn is_field_on(side: Side, line: LineView<'_>, id: &ComponentId) -> bool
 fn is_wrapped_on(side: Side, line: LineView<'_>, id: &ComponentId) -> bool
     ensures { result ≡ is_wrapped_on side (name_of (field_line_of line.entry)) id.now }
 {
-    is_field_on(side, line, id) && has_param(&id.params, b"bs")
+    is_field_of(side, line, id) && has_param(&id.params, b"bs")
 }
 
 /// Whether a component is the field that the line is of, on the side (RFC 9421 section 2.1).
 pub fn covers_field(side: Side, line: LineView<'_>, params: &SigParams) -> bool
     ensures { result ≡ covers_field side (name_of (field_line_of line.entry)) params.now }
 {
-    params.ids.iter().any(|id| is_field_on(side, line, id))
+    params.ids.iter().any(|id| is_field_of(side, line, id))
 }
 
 /// Whether a component is that field line by line (RFC 9421 section 2.1.3).

@@ -20,7 +20,7 @@ mod sized;
 mod step;
 mod write;
 
-pub use covered::{covers_field, is_on, is_own_field};
+pub use covered::{covers_field, is_field_on, is_own_field};
 pub use fault::ApplyFault;
 pub use laws::{
     a_line_step_gives_one_message, a_line_step_is_permitted_or_not, a_text_has_one_sound_message,

@@ -1,5 +1,5 @@
 -- A byte outside a class separates a text after a prefix of the class in one way, and the first offset that a search for such bytes finds is the prefix's length.
-use Rattle.std.proofs.Common.{◌≡◌, ℕ, ◌<◌, Bool, true, false, List, [], ◌∷◌, ◌++◌, length, get_or, Option, Some, None, IfSome, IfNone, MatchOption, refl, sym, ap, ◌∙◌, inl, inr, arith, length-append}
+use Rattle.std.proofs.Common.{◌≡◌, ℕ, ◌<◌, Bool, true, false, List, [], ◌∷◌, ◌++◌, length, get_or, Option, Some, None, IfSome, IfNone, refl, sym, ap, ◌∙◌, inl, inr, arith, length-append}
 use Rattle.std.specs.List.{list_all}
 use Rattle.std.proofs.Math.ListN.{get_or-append}
 use Rattle.std.proofs.Math.Seq.{get_or-append_seam}
@@ -77,14 +77,6 @@ at_end_of_prefix test end (x ∷ xs) (y ∷ ys) rest more out f o none e =
 pub given_none : {X : Type 0} {P : Type 0} (found : Option X) → P → IfNone found P
 given_none None p = p
 given_none (Some x) p = tt
-
-pub at_some : {X : Type 0} (N : Type 0) (P : X → Type 0) (found : Option X) → MatchOption found N P → IfSome found P
-at_some N P None m = tt
-at_some N P (Some x) m = m
-
-pub at_none : {X : Type 0} (N : Type 0) (P : X → Type 0) (found : Option X) → MatchOption found N P → IfNone found N
-at_none N P None m = m
-at_none N P (Some x) m = tt
 
 pub some_more : {X : Type 0} (P Q : X → Type 0) (found : Option X) → ((x : X) → P x → Q x) → IfSome found P → IfSome found Q
 some_more P Q None more p = tt

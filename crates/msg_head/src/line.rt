@@ -14,8 +14,8 @@ ghost use Rattle.msg_head.specs.tools.Sections.{IsRestOf, AreSpansOf, IsLinesFau
 
 use crate::error::{HeadError, Side};
 use crate::limits::MAX_HEAD_LINES;
-use crate::slices::{begins_with_crlf, rest_after, rest_from, split_name};
-use byte_grammar::is_blank;
+use crate::slices::{begins_with_crlf, rest_from, split_name};
+use byte_grammar::{is_blank, rest_after};
 use line_index::LineSpan;
 use memchr::memchr3_iter;
 use std::alloc::Global;

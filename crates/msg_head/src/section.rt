@@ -7,7 +7,8 @@ ghost use Rattle.msg_head.specs.tools.Texts.{EndsWithLf, IsClean};
 ghost use Rattle.msg_head.specs.tools.Judged.{IsFirstFault};
 
 use crate::error::HeadError;
-use crate::slices::{begins_with_crlf, rest_after, rest_from};
+use crate::slices::{begins_with_crlf, rest_from};
+use byte_grammar::rest_after;
 use memchr::{memchr3, memmem};
 
 /// The bytes up to and with the first CRLF CRLF.

@@ -1,6 +1,6 @@
 //! Parts of slices of bytes.
 
-ghost use Rattle.std.specs.Prelude.{◌≡◌, ◌≢◌, ◌++◌, ℕ, List, [], ◌∷◌, ◌≤◌, length, take, drop, false, IfSome, IfNone, IsTrue, IsFalse, codes};
+ghost use Rattle.std.specs.Prelude.{◌≡◌, ◌++◌, [], ◌∷◌, ◌≤◌, length, take, drop, false, IfSome, IfNone, IsTrue, IsFalse, codes};
 ghost use Rattle.std.specs.List.{list_all};
 ghost use Rattle.std.specs.Str.{byte};
 ghost use Rattle.msg_head.specs.tools.Texts.{BeginsWithCrlf};
@@ -8,7 +8,7 @@ ghost use Rattle.byte_grammar.specs.Classes.{is_tchar};
 ghost use Rattle.byte_grammar.specs.Language.{starts_in};
 ghost use Rattle.msg_head.specs.tools.Prefixes.{EndsAt, StandsBefore, NoneStandsBefore};
 
-use byte_grammar::{ByteClass, Class, read_all};
+use byte_grammar::{ByteClass, Class, read_all, rest_after};
 
 /// The first bytes, so many, or all where there are fewer.
 pub(crate) fn prefix_of(bytes: &[u8], count: usize) -> &[u8]
@@ -29,27 +29,12 @@ pub(crate) fn rest_from(bytes: &[u8], offset: usize) -> &[u8]
     &bytes[offset..]
 }
 
-/// What comes after the prefix, where the bytes begin with it.
-pub(crate) fn rest_after<'m>(prefix: &[u8], bytes: &'m [u8]) -> Option<&'m [u8]>
-    ensures some { IfSome result (λ rest. bytes.now ≡ prefix.now ++ rest.now) }
-    ensures none { IfNone result ((rest : List ℕ) → bytes.now ≢ prefix.now ++ rest) }
-{
-    bytes.strip_prefix(prefix)
-}
-
 /// Whether the bytes begin with CRLF.
 pub(crate) fn begins_with_crlf(bytes: &[u8]) -> bool
     ensures yes { IsTrue result → BeginsWithCrlf bytes.now }
     ensures not { IsFalse result → ¬ BeginsWithCrlf bytes.now }
 {
     rest_after(b"\r\n", bytes).is_some()
-}
-
-/// Whether each of the bytes is of the class.
-pub(crate) fn allows_all<C: ByteClass>(class: C, bytes: &[u8]) -> bool
-    ensures { result ≡ list_all (C.members class) bytes.now }
-{
-    bytes.iter().all(|byte| class.allows(*byte))
 }
 
 // Where the bytes of the class that are first end, if they do among these. The loop is over an

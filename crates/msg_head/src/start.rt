@@ -5,8 +5,8 @@ ghost use Rattle.msg_head.specs.Starts.{is_version, is_code};
 ghost use Rattle.msg_head.specs.Views.{start_line_of};
 ghost use Rattle.msg_head.specs.tools.Prefixes.{BeginsWithStart, BeginsWithNoStart, BeginsWithRequest, BeginsWithNoRequest, BeginsWithStatus, BeginsWithNoStatus, IsCodeAndReason, NoCodeAndReason};
 
-use crate::slices::{allows_all, prefix_before, prefix_before_crlf};
-use byte_grammar::Class;
+use crate::slices::{prefix_before, prefix_before_crlf};
+use byte_grammar::{Class, allows_all};
 
 /// A start line, borrowed from the bytes of its message (RFC 9112 section 2.1).
 #[derive(Clone, Copy)]

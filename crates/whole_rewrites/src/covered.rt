@@ -2,12 +2,11 @@
 //! 2.1 and 2.2).
 
 ghost use Rattle.std.specs.Prelude.{◌≡◌, map};
-ghost use Rattle.line_rewrites.specs.Covered.{is_field_on};
 ghost use Rattle.whole_rewrites.specs.Covered.{covers_one_of, covers_unread, is_of_other, is_own_of, is_unread_on, rests_on_label};
 
 use byte_grammar::is_listed;
 use component_ids::{ComponentId, SigParams, has_param};
-use line_rewrites::{is_on, is_own_field};
+use line_rewrites::is_field_on;
 use msg_head::Side;
 
 /// Whether the component is of the message itself, and has one of the names.
@@ -22,16 +21,6 @@ pub(crate) fn covers_one_of(names: &[&[u8]], params: &SigParams) -> bool
     ensures { result ≡ covers_one_of (map (λ name. name.now) names.now) params.now }
 {
     params.ids.iter().any(|id| is_own_of(names, id))
-}
-
-/// Whether the component is the field of the name on the side.
-fn is_field_on(side: Side, name: &[u8], id: &ComponentId) -> bool
-    ensures { result ≡ is_field_on side name.now id.now }
-{
-    if !is_own_field(id) {
-        return false;
-    }
-    is_on(side, id) && id.name.bytes() == name
 }
 
 /// Whether the component is that field, and neither its strict form nor a member of it.
